@@ -1,8 +1,8 @@
 -- Tests: where the code goes on.
-use Rattle.codegen.proofs.Names.{◌≡◌, ℕ, ◌+◌, ◌*◌, ◌%◌, ◌<◌, ◌==◌, not, [], ◌∷◌, Some, refl, sym, ap, ap₂, ◌∙◌, subst, arith, Bool, true, false, if◌then◌else◌}
-use Rattle.codegen.proofs.Names.{not-not, Flags, Word, and_of, Condition, is_met, R4, Core, Constant, Form, Calculate, instruction_of, Stands, forms_bytes}
-use Rattle.codegen.proofs.Names.{Runs, Comparison, Above, SignedAbove, CommonBit, is_true, compare_words, WordState, Behaviour, compare_form, holding, failing}
-use Rattle.codegen.proofs.Names.{jump_over, decision}
+use Rattle.codegen.proofs.Names.{form_bytes, ◌≡◌, ℕ, ◌+◌, ◌*◌, ◌%◌, ◌<◌, ◌==◌, not, [], ◌∷◌, Some, refl, sym, ap, ap₂, ◌∙◌, subst, arith, Bool, true, false}
+use Rattle.codegen.proofs.Names.{if◌then◌else◌, not-not, Flags, Word, and_of, Condition, is_met, R4, Core, Constant, Form, Calculate, instruction_of, Stands}
+use Rattle.codegen.proofs.Names.{forms_bytes, Runs, Comparison, Above, SignedAbove, CommonBit, is_true, compare_words, WordState, Behaviour, compare_form}
+use Rattle.codegen.proofs.Names.{holding, failing, jump_over, decision}
 use Rattle.msp_isa.specs.declared.instructions.Condition.TheVariants as condition
 use Rattle.msp_isa.specs.declared.instructions.TwoOp.TheVariants as op
 use Rattle.msp_isa.specs.declared.operands.Konst.TheVariants as konst
@@ -88,7 +88,7 @@ module _ (z : Setting) where
     flags : t.flags ≡ f
 
   compare_part : (c : Comparison) (pc x y : ℕ) (w : WordState) (t : Core) → z.code pc ≡ Some (instruction_of (compare_form c)) → HasTwo z pc w x y t
-      → Runs z.code [] 1 t (HasFlags (pc + 2) w (compared_flags c x y))
+      → Runs z.code [] 1 t (HasFlags (pc + form_bytes (compare_form c)) w (compared_flags c x y))
   compare_part CommonBit pc x y w t h k =
       line z (compare_form CommonBit ∷ []) 1 (pc + 2) _ k.is (tt, tt) (h, tt) ((tt, tt), tt) refl refl (omega (arith, k.is.at))
       (λ s. record { is = s; flags = ap₂ (λ p q. (and_of Word p q).1) k.held.four k.held.five })
@@ -103,7 +103,7 @@ module _ (z : Setting) where
       (λ s. record { is = s; flags = ap₂ difference_flags k.held.four k.held.five })
 
   pub compares_part : (c : Comparison) (pc x y : ℕ) (w : WordState) (t : Core) → x < 0x10000 → y < 0x10000 → z.code pc ≡ Some (instruction_of (compare_form c))
-      → HasTwo z pc w x y t → Runs z.code [] 1 t (Decided z (pc + 2) w (compare_words c x y) (holding c) (failing c))
+      → HasTwo z pc w x y t → Runs z.code [] 1 t (Decided z (pc + form_bytes (compare_form c)) w (compare_words c x y) (holding c) (failing c))
   compares_part c pc x y w t l m h k =
       so_runs (compare_part c pc x y w t h k) (λ s j.
       let met = ap (is_met (holding c)) j.flags ∙ compare_met c x y l m in

@@ -5,12 +5,11 @@ use Rattle.codegen.proofs.Names.{slice_index_or, on_ok_weaker, Word, Instr, Two,
 use Rattle.codegen.proofs.Names.{instructions-append, Comparison, PlainOperation, ArrayPlace, ListPlace, Step, Test, Program, local, set_local, update_local}
 use Rattle.codegen.proofs.Names.{versioned_read, versioned_write, versioned_update, truth, choose, repeat, holds, compares, both, either, fails, nothing, step}
 use Rattle.codegen.proofs.Names.{step_of, steps_of, test_of, StepLocalsBelow, TestLocalsBelow, LocalsBelow, Bound, Waiting, waiting_source, flushed, top_of}
-use Rattle.codegen.proofs.Names.{below_top, repeated, size, waiting_behind, step_code, steps_code}
+use Rattle.codegen.proofs.Names.{below_top, repeated, size, waiting_behind, step_code, steps_code, TwoOp}
 use Rattle.array_versions.specs.declared.program.WordStep.{WordStep, the_lemmas}
 use Rattle.array_versions.specs.declared.program.WordStep.TheVariants.{VersionedRead, VersionedWrite, VersionedUpdate, Choose}
 use Rattle.array_versions.specs.declared.program.WordTest.{WordTest}
 use Rattle.array_versions.specs.declared.program.WordTest.TheVariants.{Holds, Compares, Both, Either}
-use Rattle.msp_isa.specs.declared.instructions.TwoOp.{TwoOp}
 use Rattle.msp_isa.specs.declared.operands.Dst.{Dst}
 use Rattle.msp_isa.specs.declared.operands.Src.{Src}
 use Rattle.std.specs.Result.{OnOk}

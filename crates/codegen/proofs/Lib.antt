@@ -17,7 +17,7 @@ mod Access
 mod ListParts
 mod VersionParts
 mod UpdateBytes
-mod UpdateSides
+mod Sides
 mod VersionUpdates
 mod ShiftParts
 mod Products

@@ -2,16 +2,15 @@
 use Rattle.codegen.proofs.Names.{◌≡◌, ℕ, suc, ◌+◌, ◌-◌, ◌%◌, ◌<◌, ◌≤◌, nat_le, Bool, true, false, nat_lt, if◌then◌else◌, List, [], ◌∷◌, ◌++◌, length, get_or}
 use Rattle.codegen.proofs.Names.{drop, Option, Some, None, ◌==◌, eqb-true, refl, sym, ap, ap₂, ◌∙◌, subst, arith, append_assoc, append-nil, length-append}
 use Rattle.codegen.proofs.Names.{Flags, unwrap_or, AllByRecursion, put, Goes, IsFram, Konst, constant_value, CycleRow, cycles_of, source_cycles, to_register}
-use Rattle.codegen.proofs.Names.{to_memory, push, put_same, put_other, WorkRegister, R4, R5, work_number, Core, Source, Register, Number, Constant}
-use Rattle.codegen.proofs.Names.{source_operand, source_bytes, source_value, source_read, SourceNeeds, ToRegister, Form, Move, Calculate, Push, HasPushRoom}
-use Rattle.codegen.proofs.Names.{instruction_of, form_bytes, Stands, forms_bytes, Runs, WordState, with_stack, pushed, Waiting, number_source, waiting_source}
-use Rattle.codegen.proofs.Names.{flushed, top_of, source_from, below_top, any_held, cleared, kept, four_from, five_from, top_to_four, stays, sides}
-use Rattle.codegen.proofs.Names.{right_source, top_to_five, two_to_registers}
+use Rattle.codegen.proofs.Names.{to_memory, push, put_same, put_other, WorkRegister, R4, R5, work_number, Core, Source, Number, Constant, source_operand}
+use Rattle.codegen.proofs.Names.{source_bytes, source_value, source_read, SourceNeeds, ToRegister, Form, Move, Calculate, Push, HasPushRoom, instruction_of}
+use Rattle.codegen.proofs.Names.{form_bytes, Stands, forms_bytes, Runs, WordState, with_stack, pushed, Waiting, number_source, waiting_source, flushed, top_of}
+use Rattle.codegen.proofs.Names.{source_from, below_top, any_held, cleared, kept, four_from, five_from, top_to_four, top_to_five}
 use Rattle.msp_isa.specs.declared.instructions.TwoOp.TheVariants as op
 use Rattle.msp_isa.specs.declared.operands.Konst.TheVariants as konst
 use Rattle.codegen.specs.declared.waiting.Waiting.TheVariants as waiting
 use Rattle.codegen.proofs.Stretches.{two_parts, Setting, hop, dearer, nothing_run, so_runs}
-use Rattle.codegen.proofs.Registers.{With, HasWord, HasSides, Holds, Has, Flagged, line, no_borrow, equal_flag}
+use Rattle.codegen.proofs.Registers.{With, HasWord, Holds, Has, Flagged, line, no_borrow, equal_flag}
 use Rattle.codegen.proofs.Memory.{local_words, in_register, Memory, pop_memory, pop_needs, push_needs, push_memory}
 use Rattle.codegen.proofs.Follows.{StandsFor, stands_elsewhere, memory_as}
 
@@ -164,37 +163,6 @@ pub load_owed : (os : List Waiting) → load_cycles (top_of os) + owed (below_to
 load_owed [] = omega arith
 load_owed (o ∷ os) = omega (arith, owed_least o)
 
--- the cycles in which the right side of an operation comes to where it is read, and those in which the operation reads it, at most
-abbrev pub right_cycles : Option Waiting → ℕ
-right_cycles o = if stays o then 0 else load_cycles o
-
-abbrev pub reading_cycles : Option Waiting → ℕ
-reading_cycles o = if stays o then 3 else 1
-
-reading_by : (b : Bool) (o : Option Waiting) → stays o ≡ b
-    → source_cycles to_register (source_operand (if b then source_from o else (Register R5))) ≤ (if b then 3 else 1)
-reading_by true None e = absurd (let q = e in (cc))
-reading_by true (Some o) e = load_price (Some o)
-reading_by false o e = omega arith
-
-pub reading_price : (o : Option Waiting) → source_cycles to_register (source_operand (right_source o)) ≤ reading_cycles o
-reading_price o = reading_by (stays o) o refl
-
-right_by : (b : Bool) (os : List Waiting) → stays (top_of os) ≡ b
-    → (if b then 0 else load_cycles (top_of os)) + (if b then 3 else 1) + owed (below_top os) ≤ 3 + owed os
-right_by true [] e = absurd (let q = e in (cc))
-right_by true (o ∷ os) e = omega (arith, owed_least o)
-right_by false os e = omega (arith, load_owed os)
-
-pub right_owed : (os : List Waiting) → right_cycles (top_of os) + reading_cycles (top_of os) + owed (below_top os) ≤ 3 + owed os
-right_owed os = right_by (stays (top_of os)) os refl
-
--- what waits elsewhere than in R4 is the same where R6 is
-word_stays : (f : ℕ → ℕ) (l : ℕ → Option ℕ) (g h : ℕ → ℕ) (o : Waiting) → stays (Some o) ≡ true → g 6 ≡ h 6 → waiting_word f l g o ≡ waiting_word f l h o
-word_stays f l g h waiting.R4 e q = absurd (let k = e in (cc))
-word_stays f l g h waiting.R6 e q = q
-word_stays f l g h _ e q = refl
-
 -- ---- a word that waits, as a source
 
 pub source_still : (o : Waiting) (u : Core) → source_read (waiting_source o) u ≡ u
@@ -240,14 +208,6 @@ Waits z os pc w P = With (Describes z os pc w) P
 -- the registers are these
 abbrev pub AreThese : (ℕ → ℕ) → (ℕ → ℕ) → Type 0
 AreThese g f = f ≡ g
-
--- the left side is in R4, and the right side where an instruction reads it
-pub record LoadedSides (z : Setting) (s : Source) (os : List Waiting) (pc : ℕ) (w : WordState) (x y : ℕ) (t : Core) : Type 0 where
-  pub is : Describes z os pc w t
-  pub four : t.work 4 ≡ x
-  pub right : source_value s t ≡ y
-  pub needs : SourceNeeds s t
-  pub still : source_read s t ≡ t
 
 module _ (z : Setting) where
   pub source_word : (o : Waiting) (pc : ℕ) (w : WordState) (u : Core) → StandsFor z pc w u → IsThere z.locals w.locals o
@@ -490,7 +450,7 @@ module _ (z : Setting) where
   four_part os pc w v vs u e none h d = four_move os pc w v vs u e none h d
 
   -- code behind pushes
-  behind_cleared : (front back : List Waiting) (more : List Form) (n pc : ℕ) (w : WordState) (u : Core) (P : ℕ → Core → Type 0)
+  pub behind_cleared : (front back : List Waiting) (more : List Form) (n pc : ℕ) (w : WordState) (u : Core) (P : ℕ → Core → Type 0)
       → Describes z (front ++ back) pc w u → Stands z.code pc (cleared back ++ more)
       → (let mid = pc + forms_bytes (cleared back) in ((t : Core) → Stands z.code mid more → Describes z (front ++ kept back) mid w t
       → Runs z.code [] n t (P (mid + forms_bytes more))) → Runs z.code [] (clear_cycles back + n) u (P (pc + forms_bytes (cleared back ++ more))))
@@ -516,75 +476,6 @@ module _ (z : Setting) where
   top_to_five_part (o ∷ os) pc w v vs u e h d =
       behind_cleared (o ∷ []) os (five_from (Some o)) 3 pc w u (λ p. Waits z (kept os) p (with_stack vs w) (HasWord R5 v)) d h
       (λ t s k. only_has (five_part (o ∷ kept os) (pc + forms_bytes (cleared os)) w v vs t e s k))
-
-  two_loads : (os : List Waiting) (pc : ℕ) (w : WordState) (x y : ℕ) (vs : List ℕ) (u : Core) → w.stack ≡ y ∷ (x ∷ vs)
-      → any_held (below_top (below_top os)) ≡ false → (let ms = five_from (top_of os) ++ four_from (top_of (below_top os)) in Stands z.code pc ms
-      → Describes z os pc w u → Runs z.code [] (load_cycles (top_of os) + load_cycles (top_of (below_top os))) u
-      (Waits z (below_top (below_top os)) (pc + forms_bytes ms) (with_stack vs w) (HasSides x y)))
-  two_loads os pc w x y vs u e none h d =
-      let under = below_top os in
-      let first = five_from (top_of os) in
-      let second = four_from (top_of under) in
-      let mid = pc + forms_bytes first in
-      let left = with_stack (x ∷ vs) w in
-      two_parts z first second pc (λ n. Waits z (below_top under) n (with_stack vs w) (HasSides x y)) h (λ s. five_part os pc w y (x ∷ vs) u e s d) (λ t s k.
-      so_runs (four_part under mid left x vs t refl none s k.is)
-      (λ q j. record { is = j.is; held = record { four = j.held.value; five = j.held.others 5 (λ n. omega (arith, n)) ∙ k.held.value } }))
-
-  sides_by : (b : Bool) (os : List Waiting) (pc : ℕ) (w : WordState) (x y : ℕ) (vs : List ℕ) (u : Core) → stays (top_of os) ≡ b → w.stack ≡ y ∷ (x ∷ vs)
-      → any_held (below_top (below_top os)) ≡ false → (let under = below_top os in let first : List Form = if b then [] else five_from (top_of os) in
-      let s : Source = if b then source_from (top_of os) else (Register R5) in let ms = first ++ four_from (top_of under) in Stands z.code pc ms
-      → Describes z os pc w u → Runs z.code [] ((if b then 0 else load_cycles (top_of os)) + load_cycles (top_of under)) u
-      (LoadedSides z s (below_top under) (pc + forms_bytes ms) (with_stack vs w) x y))
-  sides_by true [] pc w x y vs u b e none h d = absurd (let q = b in (cc))
-  sides_by true (o ∷ os) pc w x y vs u b e none h d =
-      let left = with_stack (x ∷ vs) w in
-      let end = pc + forms_bytes (four_from (top_of os)) in
-      let k = drop_part o os pc w y (x ∷ vs) u e d in
-      dearer z (omega arith)
-      (so_runs (four_part os pc left x vs u refl none h k.0) (λ t j. record {
-        is = j.is;
-        four = j.held.value;
-        right = source_word o end (with_stack j.is.rest w) t j.is.is d.there.0
-            ∙ word_stays w.fram w.locals t.work u.work o b (j.held.others 6 (λ q. omega (arith, q))) ∙ k.1;
-        needs = source_needs z.locals w.locals o t d.there.0;
-        still = source_still o t;
-      }))
-  sides_by false os pc w x y vs u b e none h d =
-      let under = below_top os in
-      let end = pc + forms_bytes (five_from (top_of os) ++ four_from (top_of under)) in
-      so_runs (two_loads os pc w x y vs u e none h d) (λ t j. record { is = j.is; four = j.held.four; right = j.held.five; needs = tt; still = refl })
-
-  sides_loads : (os : List Waiting) (pc : ℕ) (w : WordState) (x y : ℕ) (vs : List ℕ) (u : Core) → w.stack ≡ y ∷ (x ∷ vs)
-      → any_held (below_top (below_top os)) ≡ false
-      → (let under = below_top os in let ms = (if stays (top_of os) then [] else five_from (top_of os)) ++ four_from (top_of under) in
-      Stands z.code pc ms → Describes z os pc w u → Runs z.code [] (right_cycles (top_of os) + load_cycles (top_of under)) u
-      (LoadedSides z (right_source (top_of os)) (below_top under) (pc + forms_bytes ms) (with_stack vs w) x y))
-  sides_loads os pc w x y vs u e none h d = sides_by (stays (top_of os)) os pc w x y vs u refl e none h d
-
-  pub sides_part : (os : List Waiting) (pc : ℕ) (w : WordState) (x y : ℕ) (vs : List ℕ) (u : Core) → w.stack ≡ y ∷ (x ∷ vs)
-      → Stands z.code pc (sides os) → Describes z os pc w u
-      → (let under = below_top os in Runs z.code [] (clear_cycles (below_top under) + (right_cycles (top_of os) + load_cycles (top_of under))) u
-      (LoadedSides z (right_source (top_of os)) (kept (below_top under)) (pc + forms_bytes (sides os)) (with_stack vs w) x y))
-  sides_part [] pc w x y vs u e h d = sides_loads [] pc w x y vs u e refl h d
-  sides_part (o ∷ []) pc w x y vs u e h d =
-      dearer z (omega arith) (sides_loads (o ∷ []) pc w x y vs u e refl h d)
-  sides_part (o ∷ (p ∷ os)) pc w x y vs u e h d =
-      let more = (if stays (Some o) then [] else five_from (Some o)) ++ four_from (Some p) in
-      behind_cleared (o ∷ (p ∷ [])) os more (right_cycles (Some o) + 3) pc w u
-      (λ n. LoadedSides z (right_source (Some o)) (kept os) n (with_stack vs w) x y) d h
-      (λ t s k. sides_loads (o ∷ (p ∷ kept os)) (pc + forms_bytes (cleared os)) w x y vs t e (none_held os) s k)
-
-  pub two_to_registers_part : (os : List Waiting) (pc : ℕ) (w : WordState) (x y : ℕ) (vs : List ℕ) (u : Core) → w.stack ≡ y ∷ (x ∷ vs)
-      → Stands z.code pc (two_to_registers os) → Describes z os pc w u
-      → (let under = below_top os in Runs z.code [] (clear_cycles (below_top under) + (load_cycles (top_of os) + load_cycles (top_of under))) u
-      (Waits z (kept (below_top under)) (pc + forms_bytes (two_to_registers os)) (with_stack vs w) (HasSides x y)))
-  two_to_registers_part [] pc w x y vs u e h d = two_loads [] pc w x y vs u e refl h d
-  two_to_registers_part (o ∷ []) pc w x y vs u e h d = two_loads (o ∷ []) pc w x y vs u e refl h d
-  two_to_registers_part (o ∷ (p ∷ os)) pc w x y vs u e h d =
-      let more = five_from (Some o) ++ four_from (Some p) in
-      behind_cleared (o ∷ (p ∷ [])) os more 6 pc w u (λ n. Waits z (kept os) n (with_stack vs w) (HasSides x y)) d h
-      (λ t s k. two_loads (o ∷ (p ∷ kept os)) (pc + forms_bytes (cleared os)) w x y vs t e (none_held os) s k)
 
   -- the top for a statement, all others being pushed
   pub below_part : (os : List Waiting) (pc : ℕ) (w : WordState) (v : ℕ) (vs : List ℕ) (u : Core) → w.stack ≡ v ∷ vs → Stands z.code pc (flushed (below_top os))

@@ -1,18 +1,18 @@
 -- Steps where words wait: values that come to wait in a register, and statements behind which none waits.
-use Rattle.codegen.proofs.Names.{◌≡◌, ℕ, ◌+◌, ◌*◌, ◌<◌, ◌≤◌, ◌-◌, ◌/◌, ◌%◌, ◌^◌, ◌==◌, ◌&&◌, Bool, true, false, nat_lt, if◌then◌else◌, List, [], ◌∷◌, ◌++◌}
-use Rattle.codegen.proofs.Names.{length, Option, Some, None, refl, sym, ap, ap₂, ◌∙◌, subst, arith, bit_and, w16, ltb-true, eqb-true, ne_eqb, le-leb, Step}
-use Rattle.codegen.proofs.Names.{and_parts, same_Some, and_mask, pow_pos, word_sum, word_product, quotient, remainder, Word, operated, cycles_of, source_cycles}
-use Rattle.codegen.proofs.Names.{to_register, Goes, unwrap_or, Take, put, IsFram, WorkRegister, R4, R5, R6, work_number, Core, Source, source_operand}
-use Rattle.codegen.proofs.Names.{source_bytes, source_value, Form, Move, Calculate, Update, Push, Ram, ToFram, sensed, flags_after, calculated, instruction_of}
-use Rattle.codegen.proofs.Names.{Stands, forms_bytes, Runs, stands_front, stands_back, forms_bytes-append, ArrayPlace, ListPlace, UnaryOperation, Negate}
-use Rattle.codegen.proofs.Names.{Complement, BinaryOperation, Multiply, Divide, Remainder, Plain, PlainOperation, And, ShiftOperation, Left, Right, unary_word}
-use Rattle.codegen.proofs.Names.{plain_word, binary_word, shift_word, keep, update, set_local, update_local, unary, binary, shift, element, emit_word}
-use Rattle.codegen.proofs.Names.{versioned_read, versioned_write, sense, WordState, Behaviour, GoesOn, goes_on, with_top, with_two, with_stack, with_local}
-use Rattle.codegen.proofs.Names.{pushed, is_place, at_place, word_stored, word_emitted, element_pushed, own_element, versioned_pushed, versioned_stored}
-use Rattle.codegen.proofs.Names.{reading_pushed, unary_cycles, binary_cycles, Bound, Waiting, local_address, local_target, flushed, top_of, source_from}
-use Rattle.codegen.proofs.Names.{below_top, any_held, cleared, kept, top_to_four, top_to_five, plain_instruction, update_code, sides, right_source, power}
-use Rattle.codegen.proofs.Names.{known_element, two_code, power_code, power_result, two_to_registers, unary_middle, binary_middle, binary_result, shift_middle}
-use Rattle.codegen.proofs.Names.{element_code, emit_code, read_code, write_code, top_number, element_at, is_inside, waiting_behind, step_code}
+use Rattle.codegen.proofs.Names.{stays, ◌≡◌, ℕ, ◌+◌, ◌*◌, ◌<◌, ◌≤◌, ◌-◌, ◌/◌, ◌%◌, ◌^◌, ◌==◌, ◌&&◌, Bool, true, false, nat_lt, if◌then◌else◌, List, [], ◌∷◌}
+use Rattle.codegen.proofs.Names.{◌++◌, length, Option, Some, None, refl, sym, ap, ◌∙◌, subst, arith, bit_and, w16, ltb-true, eqb-true, ne_eqb, le-leb, Step}
+use Rattle.codegen.proofs.Names.{and_parts, same_Some, and_mask, pow_pos, word_sum, word_product, quotient, remainder, source_cycles, to_register, unwrap_or}
+use Rattle.codegen.proofs.Names.{Take, put, IsFram, WorkRegister, R4, R5, R6, work_number, Core, Source, source_operand, Form, Move, Calculate, Update, Push}
+use Rattle.codegen.proofs.Names.{Ram, ToFram, sensed, instruction_of, Stands, forms_bytes, Runs, stands_front, stands_back, forms_bytes-append, ArrayPlace}
+use Rattle.codegen.proofs.Names.{ListPlace, UnaryOperation, Negate, Complement, BinaryOperation, Multiply, Divide, Remainder, Plain, PlainOperation, And}
+use Rattle.codegen.proofs.Names.{ShiftOperation, Left, Right, unary_word, plain_word, binary_word, shift_word, keep, update, set_local, update_local, unary}
+use Rattle.codegen.proofs.Names.{binary, shift, element, emit_word, versioned_read, versioned_write, sense, WordState, Behaviour, GoesOn, goes_on, with_top}
+use Rattle.codegen.proofs.Names.{with_two, with_stack, with_local, pushed, is_place, at_place, word_stored, word_emitted, element_pushed, own_element}
+use Rattle.codegen.proofs.Names.{versioned_pushed, versioned_stored, reading_pushed, unary_cycles, binary_cycles, Bound, Waiting, local_address, local_target}
+use Rattle.codegen.proofs.Names.{flushed, top_of, source_from, below_top, any_held, cleared, kept, top_to_four, top_to_five, plain_instruction, update_code}
+use Rattle.codegen.proofs.Names.{sides, right_source, power, known_element, two_code, power_code, power_result, two_to_registers, unary_middle, binary_middle}
+use Rattle.codegen.proofs.Names.{binary_result, shift_middle, element_code, emit_code, read_code, write_code, top_number, element_at, is_inside, waiting_behind}
+use Rattle.codegen.proofs.Names.{step_code}
 use Rattle.std.specs.Int.{trailing_zeros}
 use Rattle.code_forms.specs.Forms as forms
 use Rattle.codegen.specs.declared.waiting.Waiting.TheVariants as waiting
@@ -21,13 +21,13 @@ use Rattle.codegen.proofs.Stretches.{two_parts, Setting, hop, dearer_stall, noth
 use Rattle.codegen.proofs.Registers.{With, HasWord, HasSides, Holds, Has}
 use Rattle.codegen.proofs.Operands.{Waits, IsThere, owed_by, owed, none_held, clear_cycles, owed_kept, load_cycles, load_owed, store_cycles, store_owed}
 use Rattle.codegen.proofs.Operands.{Describes, Top, waiting_word, bare, dressed, flush_under, flush_part, clear_under, below_part, top_to_four_part}
-use Rattle.codegen.proofs.Operands.{top_to_five_part, two_to_registers_part, result_waits, waits_more, LoadedSides, right_cycles, reading_cycles, reading_price}
-use Rattle.codegen.proofs.Operands.{right_owed, sides_part, drop_part}
+use Rattle.codegen.proofs.Operands.{top_to_five_part, result_waits, waits_more, drop_part}
+use Rattle.codegen.proofs.Sides.{Aiming, is_read, side_cycles, reading_cycles, reading_price, side_owed, sides_part, two_to_registers_part}
+use Rattle.codegen.proofs.Middles.{plain_step, UnaryMiddle, BinaryMiddle, negate_middle, complement_middle}
 use Rattle.codegen.proofs.Follows.{StandsFor, stands_elsewhere, Follows, Reaches, reach_more, then_reach, reaches, reach_guarded}
 use Rattle.codegen.proofs.LoopBounds.{Bounded, top_inside, under_inside}
 use Rattle.codegen.proofs.Parts.{local_part, keep_part, set_part}
-use Rattle.codegen.proofs.Updates.{plain_needs, update_part, update_local_part}
-use Rattle.codegen.proofs.Middles.{makes, UnaryMiddle, BinaryMiddle, negate_middle, complement_middle}
+use Rattle.codegen.proofs.Updates.{update_part, update_local_part}
 use Rattle.codegen.proofs.Products.{multiply_middle}
 use Rattle.codegen.proofs.Quotients.{divide_part, remainder_part}
 use Rattle.codegen.proofs.ShiftParts.{shift_part}
@@ -311,45 +311,36 @@ module _ (z : Setting) where
   -- the instruction of an operation, on R4 and the right side where that is read
   plain_form : (o : PlainOperation) (s : Source) (c pc x y : ℕ) (ks : List Waiting) (w : WordState) (vs : List ℕ) (t : Core)
       → source_cycles to_register (source_operand s) ≤ c → x < 0x10000 → y < 0x10000 → any_held ks ≡ false → length vs < z.room
-      → (let m = Calculate (plain_instruction o) s R4 in z.code pc ≡ Some (instruction_of m) → LoadedSides z s ks pc (with_stack vs w) x y t
+      → (let m = Calculate (plain_instruction o) s R4 in z.code pc ≡ Some (instruction_of m)
+      → Waits z ks pc (with_stack vs w) (Aiming true s x y w.fram) t
       → Runs z.code [] c t (Describes z (waiting.R4 ∷ ks) (pc + forms_bytes (m ∷ [])) (with_stack (plain_word o x y ∷ vs) w)))
-  plain_form o s c pc x y ks w vs t l lx ly none room h k =
-      let m = Calculate (plain_instruction o) s R4 in
-      let price = cycles_of (instruction_of m) in
-      let v = plain_word o x y in
-      let shape : Core → Core = λ q. calculated (plain_instruction o) R4 (operated (plain_instruction o) Word (q.work 4) (source_value s t) t.flags)
-      (record q { pc = t.pc + (2 + source_bytes s) }) in
-      let does = operated (plain_instruction o) Word (t.work 4) (source_value s t) t.flags in
-      let is : does.value ≡ v = ap₂ (λ p q. (operated (plain_instruction o) Word p q t.flags).value) k.four k.right ∙ makes o x y t.flags lx ly in
-      let needs = plain_needs o in
-      let after : (ℕ → ℕ) → Core = λ f. record t { pc = t.pc + (2 + source_bytes s); flags = flags_after does.flags t.flags; work = f } in
+  plain_form o s c pc x y ks w vs t price lx ly none room h k =
+      let end = pc + forms_bytes (Calculate (plain_instruction o) s R4 ∷ []) in
       let q = k.is in
-      hop z m c t (after (put t.work 4 v)) [] price _ (ap z.code q.is.at ∙ h) (needs.0, k.needs)
-      (ap (λ a. Goes [] price (shape a)) k.still
-      ∙ ap (λ b. Goes [] price (after (if b then put t.work 4 does.value else t.work))) needs.1 ∙ ap (λ p. Goes [] price (after (put t.work 4 p))) is) l
-      (result_waits z waiting.R4 ks (pc + forms_bytes (m ∷ [])) w v vs q.rest t.work (after (put t.work 4 v)) q.stack (tt, q.there) none room refl
-      (stands_elsewhere z pc (pc + forms_bytes (m ∷ [])) (with_stack q.rest w) t (after (put t.work 4 v)) q.is (omega (arith, q.is.at))
-      refl refl refl refl refl))
+      plain_step z o s R4 c t _ lx ly price (ap z.code q.is.at ∙ h) (is_read true s R4 x y w.fram t q.is.fram k.held.four k.held.gives) (λ f.
+      result_waits z waiting.R4 ks end w (plain_word o x y) vs q.rest t.work _ q.stack (tt, q.there) none room refl
+      (stands_elsewhere z pc end (with_stack q.rest w) t _ q.is (omega (arith, q.is.at)) refl refl refl refl refl))
 
   plain_by : (o : PlainOperation) (os : List Waiting) (pc : ℕ) (w : WordState) (x y : ℕ) (rest : List ℕ) (u : Core) → w.stack ≡ y ∷ (x ∷ rest) → x < 0x10000
       → y < 0x10000 → (let ms = sides os ++ Calculate (plain_instruction o) (right_source (top_of os)) R4 ∷ [] in Stands z.code pc ms → Describes z os pc w u
       → Does (waiting.R4 ∷ kept (below_top (below_top os))) (pc + forms_bytes ms) (8 + owed os) u (goes_on [] (with_stack (plain_word o x y ∷ rest) w)))
   plain_by o os pc w x y rest u e lx ly h d =
+      let stay = stays (top_of os) in
       let s = right_source (top_of os) in
       let m = Calculate (plain_instruction o) s R4 in
       let under = below_top os in
       let ks = kept (below_top under) in
       let mid = pc + forms_bytes (sides os) in
-      let l = clear_cycles (below_top under) + (right_cycles (top_of os) + load_cycles (top_of under)) in
-      let c = reading_cycles (top_of os) in
+      let l = clear_cycles (below_top under) + (side_cycles stay (top_of os) + load_cycles (top_of under)) in
+      let c = reading_cycles stay in
       let room : length rest < z.room = omega (arith, d.fits, ap (length {A = ℕ}) e) in
       record {
         spent = l + c;
-        within = omega (arith, owed_kept (below_top under), right_owed os, load_owed under);
+        within = omega (arith, owed_kept (below_top under), side_owed stay os, load_owed under);
         runs =
             two_parts z (sides os) (m ∷ []) pc (λ p. Describes z (waiting.R4 ∷ ks) p (with_stack (plain_word o x y ∷ rest) w)) h
             (λ s. sides_part z os pc w x y rest u e s d)
-            (λ t s' k. plain_form o s c mid x y ks w rest t (reading_price (top_of os)) lx ly (none_held (below_top under)) room s'.0 k);
+            (λ t s' k. plain_form o s c mid x y ks w rest t (reading_price stay (top_of os)) lx ly (none_held (below_top under)) room s'.0 k);
       }
 
   two_part : (o : BinaryOperation) (os : List Waiting) (pc : ℕ) (w : WordState) (x y : ℕ) (rest : List ℕ) (u : Core) → w.stack ≡ y ∷ (x ∷ rest)

@@ -1,21 +1,15 @@
 -- Operations in place: on a word of FRAM, and on a local.
 use Rattle.codegen.proofs.Names.{◌≡◌, ℕ, ◌+◌, ◌<◌, Bool, true, false, nat_lt, if◌then◌else◌, List, [], ◌∷◌, Option, Some, refl, sym, ap, ap₂, ◌∙◌, subst, arith}
-use Rattle.codegen.proofs.Names.{Word, operated, writes_destination, cycles_of, Store, put, Goes, R4, R5, work_number, Core, Register, Ram, source_bytes}
-use Rattle.codegen.proofs.Names.{source_value, source_read, ToRegister, ToRam, Move, Calculate, Update, IsNotMov, Form, flags_after, instruction_of, form_bytes}
-use Rattle.codegen.proofs.Names.{Stands, forms_bytes, forms_run, Runs, stands_at, end_of, PlainOperation, Add, plain_word, WordState, goes_on, with_stack}
-use Rattle.codegen.proofs.Names.{stored, assigned, with_local, is_place, word_stored, Waiting, plain_instruction, local_register, local_address, source_from}
-use Rattle.codegen.proofs.Names.{ram_update, update_code}
+use Rattle.codegen.proofs.Names.{Word, operated, cycles_of, Store, put, Goes, R4, R5, Core, Register, Ram, source_bytes, source_value, source_read, ToRegister}
+use Rattle.codegen.proofs.Names.{ToRam, Move, Calculate, Update, Form, flags_after, instruction_of, form_bytes, Stands, forms_bytes, forms_run, Runs, stands_at}
+use Rattle.codegen.proofs.Names.{end_of, PlainOperation, plain_word, WordState, goes_on, with_stack, stored, assigned, with_local, is_place, word_stored}
+use Rattle.codegen.proofs.Names.{Waiting, plain_instruction, local_register, local_address, source_from, ram_update, update_code}
 use Rattle.codegen.proofs.Registers.{Has, HasTwo}
 use Rattle.codegen.proofs.Operands.{Top, bare, load_cycles, load_price, store_cycles, store_price, to_five_part}
 use Rattle.codegen.proofs.Stretches.{Setting, straight, hop, runs_on, dearer}
 use Rattle.codegen.proofs.Memory.{local_words, in_register, in_ram, Memory, local_needs, set_register, set_ram, place_is}
 use Rattle.codegen.proofs.Follows.{StandsFor, Follows, guarded}
-use Rattle.codegen.proofs.Middles.{makes, plain_middle}
-
--- the instruction reads its destination and writes it; of each operation alike: the first clause makes it a proof by cases
-pub plain_needs : (o : PlainOperation) → IsNotMov (plain_instruction o) × (writes_destination (plain_instruction o) ≡ true)
-plain_needs Add = (tt, refl)
-plain_needs _ = (tt, refl)
+use Rattle.codegen.proofs.Middles.{makes, plain_middle, plain_step, plain_needs}
 
 module _ (z : Setting) where
   -- what the instruction makes of the word and of the top is stored
@@ -48,23 +42,13 @@ module _ (z : Setting) where
       → Runs z.code [] (8 + load_cycles x) u (StandsFor z (pc + forms_bytes ms) (with_local n (plain_word o y v) (with_stack vs w))))
   update_register o x n y v pc vs w u b lt q l r h k =
       let s = source_from x in
-      let m = Calculate (plain_instruction o) s (local_register n) in
-      let reg = work_number (local_register n) in
       let t = source_read s u in
       let i = bare z pc (with_stack vs w) t k.left in
       let made = plain_word o y v in
       let word = in_register t.work t.ram n b ∙ i.memory.vars n y lt q in
-      let does = operated (plain_instruction o) Word (t.work reg) (source_value s u) u.flags in
-      let is : does.value ≡ made = ap₂ (λ p q. (operated (plain_instruction o) Word p q u.flags).value) word k.value ∙ makes o y v u.flags l r in
-      let to : u.pc + (2 + source_bytes s) ≡ pc + forms_bytes (m ∷ []) = omega (arith, k.at) in
-      let after : (ℕ → ℕ) → Core = λ f. record t { pc = u.pc + (2 + source_bytes s); flags = flags_after does.flags t.flags; work = f } in
-      let needs = plain_needs o in
-      let price = cycles_of (instruction_of m) in
-      hop z m (8 + load_cycles x) u (after (put t.work reg made)) [] price _ (ap z.code k.at ∙ h.0) (needs.0, k.needs)
-      (ap (λ c. Goes [] price (after (if c then put t.work reg does.value else t.work))) needs.1 ∙ ap (λ p. Goes [] price (after (put t.work reg p))) is)
-      (omega (arith, load_price x))
-      (record {
-        at = to;
+      plain_step z o s (local_register n) (8 + load_cycles x) t _ l r (omega (arith, load_price x)) (ap z.code k.at ∙ h.0)
+      (record { needs = k.needs; still = refl; left = word; right = k.value }) (λ f. record {
+        at = omega (arith, k.at);
         memory = set_register z t.sp n made t.ram t.work vs w.locals b i.memory;
         fram = i.fram;
         readings = i.readings;

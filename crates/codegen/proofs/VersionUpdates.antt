@@ -1,10 +1,10 @@
 -- Elements that are updated in place.
-use Rattle.codegen.proofs.Names.{◌≡◌, ℕ, ◌+◌, ◌-◌, ◌*◌, ◌%◌, ◌<◌, ◌≤◌, ◌==◌, not, Bool, true, false, nat_lt, nat_le, if◌then◌else◌, List, [], ◌∷◌, ◌++◌, Some}
-use Rattle.codegen.proofs.Names.{None, refl, sym, ap, ap₂, ◌∙◌, subst, arith, word_sum, Word, operated, sum16, distance, cycles_of, source_cycles, to_register}
-use Rattle.codegen.proofs.Names.{to_memory, Store, put, Goes, IsFram, R4, R6, R7, Core, Source, source_bytes, source_value, source_operand, Register, Number}
-use Rattle.codegen.proofs.Names.{Fram, Indexed, ToRegister, ToIndexed, Form, Move, Calculate, Update, Jump, flags_after, calculated, instruction_of, form_bytes}
-use Rattle.codegen.proofs.Names.{Stands, forms_bytes, Runs, stands_front, stands_back, forms_bytes-append, PlainOperation, ArrayPlace, ListPlace, plain_word}
-use Rattle.codegen.proofs.Names.{versioned_update, WordState, Behaviour, goes_on, behind_effects, with_two, with_stack, is_place, at_place, stored}
+use Rattle.codegen.proofs.Names.{rests, ◌≡◌, ℕ, ◌+◌, ◌-◌, ◌*◌, ◌%◌, ◌<◌, ◌≤◌, ◌==◌, not, Bool, true, false, nat_lt, nat_le, if◌then◌else◌, List, [], ◌∷◌, ◌++◌}
+use Rattle.codegen.proofs.Names.{Some, None, refl, sym, ap, ap₂, ◌∙◌, subst, arith, word_sum, Word, operated, sum16, distance, cycles_of, source_cycles}
+use Rattle.codegen.proofs.Names.{to_register, to_memory, Store, put, Goes, IsFram, R4, R6, R7, Core, Source, source_bytes, source_value, source_operand}
+use Rattle.codegen.proofs.Names.{Register, Number, Fram, Indexed, ToRegister, ToIndexed, Form, Move, Calculate, Update, Jump, flags_after, instruction_of}
+use Rattle.codegen.proofs.Names.{form_bytes, Stands, forms_bytes, Runs, stands_front, stands_back, forms_bytes-append, PlainOperation, ArrayPlace, ListPlace}
+use Rattle.codegen.proofs.Names.{plain_word, versioned_update, WordState, Behaviour, goes_on, behind_effects, with_two, with_stack, is_place, at_place, stored}
 use Rattle.codegen.proofs.Names.{first_stored, own_place, own_kept, own_updated, versioned_updated, plain_small, put_words, Bound, Waiting, top_of, below_top}
 use Rattle.codegen.proofs.Names.{plain_instruction, first_code, size, double, rest_source, right_to_rest, update_sides, made_code, attempt_form, first_update}
 use Rattle.codegen.proofs.Names.{by_version, inside_update, checked_update, indexed_update, known_update, update_at, is_inside}
@@ -13,7 +13,7 @@ use Rattle.msp_isa.specs.declared.instructions.TwoOp.TheVariants as op
 use Rattle.codegen.specs.declared.waiting.Waiting.TheVariants as waiting
 use Rattle.codegen.proofs.Memory.{HoldsWords, AreWords, place_is}
 use Rattle.codegen.proofs.Results.{StepDoes, alone_behind, Does}
-use Rattle.codegen.proofs.UpdateSides.{Aiming, GivesOn, Aims, reads_cycles, reads_price, writes_price, rest_owed, update_sides_part, right_part}
+use Rattle.codegen.proofs.Sides.{Aiming, GivesOn, Aims, reading_cycles, reading_price, writing_price, side_owed, update_sides_part, right_part, is_read}
 use Rattle.codegen.proofs.VersionParts.{HasNumber}
 use Rattle.codegen.proofs.Registers.{Holds, Has, Flagged, IsZero, IsCarry, line, store_line, jump_with, jump_to, equal_flag, no_borrow}
 use Rattle.codegen.proofs.Operands.{owed, load_owed, Describes, bare, drop_part}
@@ -21,8 +21,7 @@ use Rattle.codegen.proofs.Stretches.{Setting, hop, runs_on, dearer, so_runs}
 use Rattle.codegen.proofs.Follows.{StandsFor, Follows, more_cycles, then_end, ends_at, guarded, stands_elsewhere}
 use Rattle.codegen.proofs.Jumps.{whole_size, near_distance, stands_low}
 use Rattle.codegen.proofs.Access.{le_of_lt}
-use Rattle.codegen.proofs.Middles.{makes}
-use Rattle.codegen.proofs.Updates.{plain_needs}
+use Rattle.codegen.proofs.Middles.{makes, plain_step, plain_needs}
 use Rattle.codegen.proofs.LoopBounds.{Bounded, under_inside}
 use Rattle.codegen.proofs.ListParts.{first_follows}
 use Rattle.codegen.proofs.UpdateBytes.{reads_bytes, made_bytes, first_bytes, inside_bytes, near_size}
@@ -47,11 +46,11 @@ module _ (z : Setting) (o : PlainOperation) (x : Source) (r : ℕ) (reads : sour
     (list : ListPlace) where
   -- a flag says besides whether the version word is VER's
   abbrev Looked : ℕ → WordState → ℕ → ℕ → Bool → Core → Type 0
-  Looked pc w k v b = Flagged z (Aiming x k v w.fram) (IsZero b) pc w
+  Looked pc w k v b = Flagged z (Aiming false x k v w.fram) (IsZero b) pc w
 
   -- R7 holds a third word besides
   record Fetched (w : WordState) (k v y : ℕ) (g : ℕ → ℕ) : Type 0 where
-    aims : Aiming x k v w.fram g
+    aims : Aiming false x k v w.fram g
     seven : g 7 ≡ y
 
   -- R4 holds a word and R7 another
@@ -66,22 +65,9 @@ module _ (z : Setting) (o : PlainOperation) (x : Source) (r : ℕ) (reads : sour
       → (let m = Calculate (plain_instruction o) x R7 in z.code pc ≡ Some (instruction_of m) → Holds z (Fetched w k v y) pc w t
       → Runs z.code [] r t (Holds z (Made k (plain_word o y v)) (pc + form_bytes m) w))
   make_part pc k v y w t ly lv h j =
-      let m = Calculate (plain_instruction o) x R7 in
-      let price = cycles_of (instruction_of m) in
-      let made = plain_word o y v in
       let a = j.held.aims in
-      let shape : Core → Core = λ q. calculated (plain_instruction o) R7 (operated (plain_instruction o) Word (q.work 7) (source_value x t) t.flags)
-      (record q { pc = t.pc + (2 + source_bytes x) }) in
-      let does = operated (plain_instruction o) Word (t.work 7) (source_value x t) t.flags in
-      let is : does.value ≡ made = ap₂ (λ p q. (operated (plain_instruction o) Word p q t.flags).value) j.held.seven (a.gives.word t j.is.fram refl refl)
-      ∙ makes o y v t.flags ly lv in
-      let needs = plain_needs o in
-      let after : (ℕ → ℕ) → Core = λ f. record t { pc = t.pc + (2 + source_bytes x); flags = flags_after does.flags t.flags; work = f } in
-      hop z m r t (after (put t.work 7 made)) [] price _ (ap z.code j.is.at ∙ h) (needs.0, a.gives.needs t)
-      (ap (λ q. Goes [] price (shape q)) (a.gives.still t)
-      ∙ ap (λ b. Goes [] price (after (if b then put t.work 7 does.value else t.work))) needs.1 ∙ ap (λ p. Goes [] price (after (put t.work 7 p))) is) reads
-      (record {
-        is = stands_elsewhere z pc (pc + form_bytes m) w t (after (put t.work 7 made)) j.is (ap (λ p. p + (2 + source_bytes x)) j.is.at)
+      plain_step z o x R7 r t _ ly lv reads (ap z.code j.is.at ∙ h) (is_read false x R7 y v w.fram t j.is.fram j.held.seven a.gives) (λ f. record {
+        is = stands_elsewhere z pc (pc + form_bytes (Calculate (plain_instruction o) x R7)) w t _ j.is (ap (λ p. p + (2 + source_bytes x)) j.is.at)
             refl refl refl refl refl;
         held = record { four = a.four; seven = refl };
       })
@@ -281,7 +267,7 @@ module _ (z : Setting) (o : PlainOperation) (x : Source) (r : ℕ) (reads : sour
 
   compared_part : (pc i v : ℕ) (w : WordState) (t : Core) → i < 0x10000 → place.length < 0x10000
       → z.code pc ≡ Some (instruction_of (Calculate op.Cmp (Number place.length) R4)) → Aims z x pc w i v t
-      → Runs z.code [] 2 t (Flagged z (Aiming x i v w.fram) (IsCarry (nat_le place.length i)) (pc + 4) w)
+      → Runs z.code [] 2 t (Flagged z (Aiming false x i v w.fram) (IsCarry (nat_le place.length i)) (pc + 4) w)
   compared_part pc i v w t li ln h k =
       let carry = ap (λ q. nat_le 0x10000 (q + (0xFFFF - place.length) + 1)) k.held.four ∙ no_borrow i place.length li ln in
       line z (Calculate op.Cmp (Number place.length) R4 ∷ []) 2 (pc + 4) _ k.is (tt, tt) (h, tt) ((tt, tt), tt) refl refl (omega (arith, k.is.at))
@@ -333,14 +319,15 @@ module _ (z : Setting) (o : PlainOperation) (x : Source) (r : ℕ) (reads : sour
   -- a word of FRAM becomes what the operation gives of it and of the source
   place_part : (c pc v : ℕ) (w : WordState) (t : Core) → source_cycles to_memory (source_operand x) ≤ 6 → w.fram c < 0x10000 → v < 0x10000 → IsFram c
       → (let m = Update (plain_instruction o) x c in let y = plain_word o (w.fram c) v in z.code pc ≡ Some (instruction_of m) → StandsFor z pc w t
-      → GivesOn x v w.fram t.work → Runs z.code (Store c y ∷ []) 6 t (StandsFor z (pc + form_bytes m) (stored c y w)))
+      → GivesOn false x v w.fram t.work → Runs z.code (Store c y ∷ []) 6 t (StandsFor z (pc + form_bytes m) (stored c y w)))
   place_part c pc v w t writes l lv fc h i g =
       let m = Update (plain_instruction o) x c in
       let price = cycles_of (instruction_of m) in
       let y = plain_word o (w.fram c) v in
       let does = operated (plain_instruction o) Word (t.fram c) (source_value x t) t.flags in
       let is : does.value ≡ y =
-      ap₂ (λ p q. (operated (plain_instruction o) Word p q t.flags).value) (ap (λ (f : ℕ → ℕ). f c) i.fram) (g.word t i.fram refl refl) ∙ makes o (w.fram c) v t.flags l lv in
+      ap₂ (λ p q. (operated (plain_instruction o) Word p q t.flags).value) (ap (λ (f : ℕ → ℕ). f c) i.fram) (g.word t i.fram refl)
+      ∙ makes o (w.fram c) v t.flags l lv in
       let after : Core → ℕ → Core = λ s q. record s { pc = t.pc + (2 + source_bytes x + 2); flags = flags_after does.flags t.flags; fram = put t.fram c q } in
       let needs = plain_needs o in
       hop z m 6 t (after t y) (Store c y ∷ []) price _ (ap z.code i.at ∙ h) (needs.0, needs.1, g.needs t, fc)
@@ -354,7 +341,7 @@ module _ (z : Setting) (o : PlainOperation) (x : Source) (r : ℕ) (reads : sour
 
   module _ (k pc : ℕ) (writes : source_cycles to_memory (source_operand x) ≤ 6) (h : Stands z.code pc (known_update o x place list k)) (v : ℕ) (w : WordState)
       (t : Core) (wl : HoldsWords w.fram) (lv : v < 0x10000) (fv : IsFram list.ver) (fm : IsFram (2 * k + place.versions)) (i : StandsFor z pc w t)
-      (g : GivesOn x v w.fram t.work) where
+      (g : GivesOn false x v w.fram t.work) where
     abbrev offset : ℕ
     offset = word_sum k k
 
@@ -450,7 +437,7 @@ module _ (z : Setting) (o : PlainOperation) (x : Source) (r : ℕ) (reads : sour
 
   -- an update at a number that is known and below the length
   pub known_part : (k pc v : ℕ) (w : WordState) (t : Core) → source_cycles to_memory (source_operand x) ≤ 6 → HoldsWords w.fram → v < 0x10000
-      → Stands z.code pc (known_update o x place list k) → StandsFor z pc w t → GivesOn x v w.fram t.work
+      → Stands z.code pc (known_update o x place list k) → StandsFor z pc w t → GivesOn false x v w.fram t.work
       → Follows z (pc + forms_bytes (known_update o x place list k)) (78 + r) t (own_updated o place list k v w)
   known_part k pc v w t writes wl lv h i g =
       let m = 2 * k + place.versions in
@@ -470,12 +457,12 @@ module _ (z : Setting) (o : PlainOperation) (place : ArrayPlace) (list : ListPla
       let under = below_top os in
       let front = update_sides os in
       let x = rest_source (top_of os) in
-      let c = reads_cycles (top_of os) in
+      let c = reading_cycles (rests (top_of os)) in
       let mid = pc + forms_bytes front in
       let left = with_stack rest w in
       alone_behind z front (indexed_update sure o x place list) (81 + c) (86 + owed os) pc u (versioned_updated o place list i v left)
-      (omega (arith, load_owed under, rest_owed os)) h (λ s. update_sides_part z os pc w i v rest u e s d)
-      (λ t s k. indexed_part z o x c (reads_price (top_of os)) place list sure mid i v left t wl li lv small inside s k)
+      (omega (arith, load_owed under, side_owed (rests (top_of os)) os)) h (λ s. update_sides_part z os pc w i v rest u e s d)
+      (λ t s k. indexed_part z o x c (reading_price (rests (top_of os)) (top_of os)) place list sure mid i v left t wl li lv small inside s k)
 
   -- the index a number that waits, by whether it is below the length
   number_by : (b sure : Bool) (k : ℕ) (p : Waiting) (os : List Waiting) (pc : ℕ) (w : WordState) (i v : ℕ) (rest : List ℕ) (u : Core)
@@ -487,19 +474,20 @@ module _ (z : Setting) (o : PlainOperation) (place : ArrayPlace) (list : ListPla
       let ws = p ∷ (waiting.Number k ∷ os) in
       let front = right_to_rest ws in
       let x = rest_source (Some p) in
-      let c = reads_cycles (Some p) in
+      let c = reading_cycles (rests (Some p)) in
       let mid = pc + forms_bytes front in
       let end = mid + forms_bytes (known_update o x place list k) in
       let above = with_stack (i ∷ rest) w in
       let left = with_stack rest w in
       alone_behind z front (known_update o x place list k) (78 + c) (86 + owed ws) pc u (versioned_updated o place list i v left)
-      (omega (arith, rest_owed (p ∷ []))) h
+      (omega (arith, side_owed (rests (Some p)) (p ∷ []))) h
       (λ s. right_part z p (waiting.Number k) os pc w v (i ∷ rest) u e s d)
       (λ t s j.
       let q = drop_part z (waiting.Number k) [] mid above i rest t refl j.is in
       subst (λ n. Follows z end (78 + c) t (versioned_updated o place list n v left)) q.1
       (subst (λ y. Follows z end (78 + c) t (if y then own_updated o place list k v left else goes_on [] left)) (sym lt)
-      (known_part z o x c (reads_price (Some p)) place list k mid v left t (writes_price (Some p)) wl lv s (bare z mid left t q.0) j.held)))
+      (known_part z o x c (reading_price (rests (Some p)) (Some p)) place list k mid v left t (writing_price (rests (Some p)) (Some p)) wl lv s
+      (bare z mid left t q.0) j.held)))
 
   update_on : (bs : List Bound) (os : List Waiting) (pc : ℕ) (w : WordState) (i v : ℕ) (rest : List ℕ) (u : Core) → HoldsWords w.fram
       → i < 0x10000 → v < 0x10000 → w.stack ≡ v ∷ (i ∷ rest) → (is_inside bs (top_of (below_top os)) place.length ≡ true → nat_lt i place.length ≡ true)

@@ -1,39 +1,39 @@
 -- The code of a word program does what the program does, within the cycles of the way that it takes.
-use Rattle.codegen.proofs.Names.{◌≡◌, ℕ, suc, ◌+◌, ◌-◌, ◌*◌, ◌<◌, Bool, true, false, not, nat_lt, if◌then◌else◌, List, [], ◌∷◌, ◌++◌, length, All, Some, ◌≢◌}
-use Rattle.codegen.proofs.Names.{None, refl, sym, ap, subst, arith, AllByRecursion, Effect, Core, Form, form_bytes, Move, Branch, Fram, ToFram, Stands}
-use Rattle.codegen.proofs.Names.{forms_bytes, stands_front, stands_back, forms_behind, forms_bytes-append, Comparison, is_true, compare_words, Step, Test}
-use Rattle.codegen.proofs.Names.{Program, number, load, keep, update, local, set_local, update_local, unary, binary, shift, element, emit_word, list_entry}
-use Rattle.codegen.proofs.Names.{versioned_read, versioned_write, versioned_update, sense, truth, choose, repeat, store_number, move_word, jump, holds}
-use Rattle.codegen.proofs.Names.{compares, both, either, fails, nothing, step, WordState, started, End, GoesOn, Jumps, Short, Strays, Broken, Behaviour}
-use Rattle.codegen.proofs.Names.{with_stack, with_local, with_top, with_two, is_place, local_pushed, local_updated, number_pushed, way_by_top, way_by_two}
-use Rattle.codegen.proofs.Names.{step_behaviour, then_on, tested, behaviour, Place, start, assigning, Moves, EachTurn, EachStepWay, EachTestWay, EachWay}
-use Rattle.codegen.proofs.Names.{StepLocalsBelow, TestLocalsBelow, StepSpares, TestSpares, Spares, LocalsBelow, StepLoopsCount, TestLoopsCount, LoopsCount}
-use Rattle.codegen.proofs.Names.{StepOfWords, TestOfWords, OfWords, top_spent, spent_by_top, spent_by_two, step_spent, spent_on, test_spent, spent, Matches}
-use Rattle.codegen.proofs.Names.{GoesWell, matches_local, start_matches, step_well, well, whole_ends_soundly, local_words, words_step, words, Leaves, leaves}
-use Rattle.codegen.proofs.Names.{Bound, Waiting, number_source, flushed, top_of, below_top, kept, top_to_four, two_to_registers, entry_code, compare_form}
-use Rattle.codegen.proofs.Names.{holding, failing, size, pass_over, decision, holds_code, compares_code, truth_code, number_code, turns_code, waiting_behind}
-use Rattle.codegen.proofs.Names.{waiting_after, bound_of, step_code, test_code, steps_code, block_code, code_of, ComesTo, CodeDoesAsProgram}
+use Rattle.codegen.proofs.Names.{instruction_of, Condition, Runs, ◌≤◌, R4, form_small, ◌≡◌, ℕ, suc, ◌+◌, ◌-◌, ◌*◌, ◌<◌, Bool, true, false, not, nat_lt}
+use Rattle.codegen.proofs.Names.{if◌then◌else◌, List, [], ◌∷◌, ◌++◌, length, All, Some, ◌≢◌, None, refl, sym, ap, subst, arith, AllByRecursion, Effect, Core}
+use Rattle.codegen.proofs.Names.{Form, form_bytes, Move, Branch, Fram, ToFram, Stands, forms_bytes, stands_front, stands_back, forms_behind, forms_bytes-append}
+use Rattle.codegen.proofs.Names.{Comparison, is_true, compare_words, Step, Test, Program, number, load, keep, update, local, set_local, update_local, unary}
+use Rattle.codegen.proofs.Names.{binary, shift, element, emit_word, list_entry, versioned_read, versioned_write, versioned_update, sense, truth, choose, repeat}
+use Rattle.codegen.proofs.Names.{store_number, move_word, jump, holds, compares, both, either, fails, nothing, step, WordState, started, End, GoesOn, Jumps}
+use Rattle.codegen.proofs.Names.{Short, Strays, Broken, Behaviour, with_stack, with_local, with_top, with_two, is_place, local_pushed, local_updated}
+use Rattle.codegen.proofs.Names.{number_pushed, way_by_top, way_by_two, step_behaviour, then_on, tested, behaviour, Place, start, assigning, Moves, EachTurn}
+use Rattle.codegen.proofs.Names.{EachStepWay, EachTestWay, EachWay, StepLocalsBelow, TestLocalsBelow, StepSpares, TestSpares, Spares, LocalsBelow}
+use Rattle.codegen.proofs.Names.{StepLoopsCount, TestLoopsCount, LoopsCount, StepOfWords, TestOfWords, OfWords, top_spent, spent_by_top, spent_by_two}
+use Rattle.codegen.proofs.Names.{step_spent, spent_on, test_spent, spent, Matches, GoesWell, matches_local, start_matches, step_well, well, whole_ends_soundly}
+use Rattle.codegen.proofs.Names.{local_words, words_step, words, Leaves, leaves, Bound, Waiting, number_source, flushed, below_top, kept, top_to_four}
+use Rattle.codegen.proofs.Names.{two_to_registers, entry_code, compare_form, holding, failing, size, pass_over, decision, holds_code, compares_code, truth_code}
+use Rattle.codegen.proofs.Names.{number_code, turns_code, waiting_behind, waiting_after, bound_of, step_code, test_code, steps_code, block_code, code_of}
+use Rattle.codegen.proofs.Names.{ComesTo, CodeDoesAsProgram}
 use Rattle.array_versions.specs.Laws.{IsStateOfWords, EndsInWords, IsSound}
 use Rattle.msp_isa.specs.declared.instructions.Condition.TheVariants as condition
 use Rattle.msp_isa.specs.declared.operands.Konst.TheVariants as konst
 use Rattle.codegen.specs.declared.waiting.Waiting.TheVariants as waiting
+use Rattle.codegen.proofs.Registers.{Has, HasTwo, jump_to}
+use Rattle.codegen.proofs.Jumps.{Decided, whole_size, stands_low, pass_part}
 use Rattle.codegen.proofs.Memory.{AreWords, place_is, assigned_same}
 use Rattle.codegen.proofs.Results.{gathered, Does, number_part, load_part, local_by, keep_reaches, update_reaches, set_reaches, update_local_reaches}
 use Rattle.codegen.proofs.Results.{unary_part, binary_part, shift_reaches, element_reaches, emit_reaches, read_reaches, write_reaches, sense_part, alone_part}
-use Rattle.codegen.proofs.Registers.{jump_to}
-use Rattle.codegen.proofs.Operands.{owed, clear_cycles, owed_kept, load_cycles, load_owed, Describes, dressed, flush_part, top_to_four_part}
-use Rattle.codegen.proofs.Operands.{two_to_registers_part}
+use Rattle.codegen.proofs.Operands.{owed, owed_kept, load_owed, Describes, dressed, flush_part, top_to_four_part}
+use Rattle.codegen.proofs.Sides.{two_to_registers_part}
 use Rattle.codegen.proofs.Stretches.{Setting, runs_on, nothing_run}
 use Rattle.codegen.proofs.Follows.{StandsFor, Follows, FollowsEnd, OnGoesOn, more_cycles, then_hop, ends_at, guarded, reach_more, reach_way, reaches}
 use Rattle.codegen.proofs.Follows.{then_follows, reach_guarded}
 use Rattle.codegen.proofs.Parts.{constant_part, store_part, move_part, jump_part}
-use Rattle.codegen.proofs.Jumps.{whole_size, stands_low, pass_part}
 use Rattle.codegen.proofs.Choices.{Fork, fork_at, fork_turned, fork_both, fork_either, decided_follows, zero_test, holds_part, compares_part}
 use Rattle.codegen.proofs.Loops.{loop_by}
 use Rattle.codegen.proofs.Access.{entry_part}
 use Rattle.codegen.proofs.LoopBounds.{Bounded, Spared, spared_so, bounded_with, bounded_on, step_bounded}
 use Rattle.codegen.proofs.VersionUpdates.{in_place_reaches}
-use Rattle.codegen.proofs.Lengths.{compare_length}
 
 -- a state from which what follows is fit, which holds words, and in which the local of each loop around is below its number
 record Ready (bs : List Bound) (next : Place → Type 0) (w : WordState) : Type 0 where
@@ -100,6 +100,25 @@ module _ (z : Setting) where
   -- behind a program whose word or words decide
   module _ (bs : List Bound) (when : Bool) (d holds_at fails_at end : ℕ) (held failed : Place → Type 0) (ch cf : WordState → ℕ) (rh rf : WordState → Behaviour)
       (fh : WayFollows bs held holds_at end ch rh) (ff : WayFollows bs failed fails_at end cf rf) where
+    -- words in registers, an instruction that asks them, and the jump by its answer
+    by_form : {l : ℕ} (P : ℕ → Core → Type 0) (front : List Form) (form : Form) (b : Bool) (reads most pc : ℕ) (met opposite : Condition) (t : WordState)
+        (u : Core) → l + reads + 5 + (if b then ch t else cf t) ≤ most → Ready bs held t → Ready bs failed t
+        → (let all = front ++ (form ∷ decision when d met opposite) in let mid = pc + forms_bytes front in
+        Stands z.code pc all → Fork when d holds_at fails_at (pc + forms_bytes all) → (Stands z.code pc front → Runs z.code [] l u (P mid))
+        → ((q : Core) → z.code mid ≡ Some (instruction_of form) → P mid q → Runs z.code [] reads q (Decided z (mid + form_bytes form) t b met opposite))
+        → Follows z end most u (if b then rh t else rf t))
+    by_form {l} P front form b reads most pc met opposite t u le on off h fork come asks =
+        let last = decision when d met opposite in
+        let mid = pc + forms_bytes front in
+        let next = mid + form_bytes form in
+        let back = stands_back z.code pc front (form ∷ last) h in
+        let high = (z.tidy mid _ back.0).high in
+        let behind : pc + forms_bytes (front ++ (form ∷ last)) ≡ next + forms_bytes last = omega (arith, forms_bytes-append front (form ∷ last)) in
+        more_cycles z end (l + reads + 5 + (if b then ch t else cf t)) most u (if b then rh t else rf t).effects (if b then rh t else rf t).end le
+        (decided_follows z when b next d holds_at fails_at (l + reads) end (ch t) (cf t) met opposite t u (rh t) (rf t) back.1
+        (fork_at when d holds_at fails_at (pc + forms_bytes (front ++ (form ∷ last))) (next + forms_bytes last) behind fork) (omega (arith, form_small form))
+        (runs_on z (come (stands_front z.code pc front (form ∷ last) h)) (λ q k. asks q back.0 k)) (λ x j. fh t x on j) (λ x j. ff t x off j))
+
     by_top : (os : List Waiting) (pc : ℕ) (w : WordState) (u : Core) (vs : List ℕ) → Stands z.code pc (holds_code os when d)
         → Fork when d holds_at fails_at (pc + forms_bytes (holds_code os when d)) → Ready bs (Moves z.room 1 0 (λ r. held r × failed r)) w → w.stack ≡ vs
         → Describes z os pc w u → Follows z end (owed os + (8 + top_spent vs (λ v us. if is_true v then ch (with_stack us w) else cf (with_stack us w)))) u
@@ -111,23 +130,13 @@ module _ (z : Setting) where
         let left : length us + 1 ≡ length w.stack = omega (arith, ap (length {A = ℕ}) e) in
         let popped : (next : Place → Type 0) → next (record r.place { depth = r.place.depth - 1 + 0 }) → Ready bs next t =
         λ next f. ready_popped bs next r.place 1 w us f r.matches r.words_in r.bounded left words.1 in
-        let under = below_top os in
-        let front = top_to_four os ++ flushed (kept under) in
-        let last = decision when d condition.NotEqual condition.Equal in
-        let tail = zero_test z ∷ last in
+        let ks = kept (below_top os) in
+        let front = top_to_four os ++ flushed ks in
         let mid = pc + forms_bytes front in
-        let l = clear_cycles under + load_cycles (top_of os) in
-        let back = stands_back z.code pc front tail h in
-        let high = (z.tidy mid _ back.0).high in
-        let behind : pc + forms_bytes (holds_code os when d) ≡ mid + 2 + forms_bytes last = omega (arith, forms_bytes-append front tail) in
-        let b = is_true v in
-        let most = owed os + (8 + (if b then ch t else cf t)) in
-        let come = gathered z (top_to_four os) (kept under) pc (stands_front z.code pc front tail h) (λ s. top_to_four_part z os pc w v us u e s i) in
-        more_cycles z end (l + owed (kept under) + 1 + 5 + (if b then ch t else cf t)) most u (if b then rh t else rf t).effects (if b then rh t else rf t).end
-        (omega (arith, owed_kept under, load_owed os)) (decided_follows z when b (mid + 2) d holds_at fails_at (l + owed (kept under) + 1) end (ch t) (cf t)
-        condition.NotEqual condition.Equal t u (rh t) (rf t) back.1 (fork_at when d holds_at fails_at (pc + forms_bytes (holds_code os when d))
-        (mid + 2 + forms_bytes last) behind fork) (omega arith) (runs_on z come (λ x k. holds_part z mid v t x words.0 back.0 k))
-        (λ x j. fh t x (popped held r.fit.2.0) j) (λ x j. ff t x (popped failed r.fit.2.1) j))
+        let most = owed os + (8 + (if is_true v then ch t else cf t)) in
+        by_form (λ p. Has z R4 p t v) front (zero_test z) (is_true v) 1 most pc condition.NotEqual condition.Equal t u
+        (omega (arith, owed_kept (below_top os), load_owed os)) (popped held r.fit.2.0) (popped failed r.fit.2.1) h fork
+        (λ s. gathered z (top_to_four os) ks pc s (λ s. top_to_four_part z os pc w v us u e s i)) (λ q s k. holds_part z mid v t q words.0 s k)
 
     by_two : (os : List Waiting) (c : Comparison) (pc : ℕ) (w : WordState) (u : Core) (vs : List ℕ) → Stands z.code pc (compares_code os c when d)
         → Fork when d holds_at fails_at (pc + forms_bytes (compares_code os c when d)) → Ready bs (Moves z.room 2 0 (λ r. held r × failed r)) w → w.stack ≡ vs
@@ -145,24 +154,12 @@ module _ (z : Setting) where
         let under = below_top os in
         let ks = kept (below_top under) in
         let front = two_to_registers os ++ flushed ks in
-        let last = decision when d (holding c) (failing c) in
-        let tail = compare_form c ∷ last in
         let mid = pc + forms_bytes front in
-        let l = clear_cycles (below_top under) + (load_cycles (top_of os) + load_cycles (top_of under)) in
-        let back = stands_back z.code pc front tail h in
-        let next : mid + form_bytes (compare_form c) ≡ mid + 2 = omega (arith, compare_length c) in
-        let high = (z.tidy mid _ back.0).high in
-        let behind : pc + forms_bytes (compares_code os c when d) ≡ mid + 2 + forms_bytes last =
-        omega (arith, compare_length c, forms_bytes-append front tail) in
-        let b = compare_words c x y in
-        let most = owed os + (10 + (if b then ch t else cf t)) in
-        let come = gathered z (two_to_registers os) ks pc (stands_front z.code pc front tail h) (λ s. two_to_registers_part z os pc w x y us u e s i) in
-        more_cycles z end (l + owed ks + 1 + 5 + (if b then ch t else cf t)) most u (if b then rh t else rf t).effects (if b then rh t else rf t).end
-        (omega (arith, owed_kept (below_top under), load_owed os, load_owed under)) (decided_follows z when b (mid + 2) d holds_at fails_at (l + owed ks + 1)
-        end (ch t) (cf t) (holding c) (failing c) t u (rh t) (rf t) (subst (λ n. Stands z.code n last) next back.1)
-        (fork_at when d holds_at fails_at (pc + forms_bytes (compares_code os c when d)) (mid + 2 + forms_bytes last) behind fork) (omega arith)
-        (runs_on z come (λ q k. compares_part z c mid x y t q words.1.0 words.0 back.0 k)) (λ s j. fh t s (popped held r.fit.2.0) j)
-        (λ s j. ff t s (popped failed r.fit.2.1) j))
+        let most = owed os + (10 + (if compare_words c x y then ch t else cf t)) in
+        by_form (λ p. HasTwo z p t x y) front (compare_form c) (compare_words c x y) 1 most pc (holding c) (failing c) t u
+        (omega (arith, owed_kept (below_top under), load_owed os, load_owed under)) (popped held r.fit.2.0) (popped failed r.fit.2.1) h fork
+        (λ s. gathered z (two_to_registers os) ks pc s (λ s. two_to_registers_part z os pc w x y us u e s i))
+        (λ q s k. compares_part z c mid x y t q words.1.0 words.0 s k)
 
   -- behind steps with no word waiting in front of them, code that takes those that wait behind them
   leaf_follows : (bs : List Bound) (p : Program) (next : Place → Type 0) (pc end : ℕ) (cost : WordState → ℕ) (go : WordState → Behaviour) (w : WordState)
