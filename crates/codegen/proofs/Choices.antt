@@ -1,4 +1,11 @@
 -- Tests: where the code goes on.
+use Rattle.codegen.specs.Code.{is_turned, compare_source}
+use Rattle.codegen.proofs.Names.{Option, Waiting, right_source, stays, Source, Register, R5, WorkRegister, flags_after, operated, source_bytes}
+use Rattle.codegen.proofs.Names.{source_cycles, to_register, source_operand, TwoOp, IsNotMov, writes_destination, ◌≤◌}
+use Rattle.codegen.proofs.Middles.{IsRead, calculate}
+use Rattle.codegen.proofs.Follows.{stands_elsewhere}
+use Rattle.codegen.proofs.Registers.{Holds}
+use Rattle.codegen.proofs.Sides.{Aiming, is_read, reading_cycles, reading_price, compare_stays}
 use Rattle.codegen.proofs.Names.{form_bytes, ◌≡◌, ℕ, ◌+◌, ◌*◌, ◌%◌, ◌<◌, ◌==◌, not, [], ◌∷◌, Some, refl, sym, ap, ap₂, ◌∙◌, subst, arith, Bool, true, false}
 use Rattle.codegen.proofs.Names.{if◌then◌else◌, not-not, Flags, Word, and_of, Condition, is_met, R4, Core, Constant, Form, Calculate, instruction_of, Stands}
 use Rattle.codegen.proofs.Names.{forms_bytes, Runs, Comparison, Above, SignedAbove, CommonBit, is_true, compare_words, WordState, Behaviour, compare_form}
@@ -87,24 +94,42 @@ module _ (z : Setting) where
     is : StandsFor z pc w t
     flags : t.flags ≡ f
 
-  compare_part : (c : Comparison) (pc x y : ℕ) (w : WordState) (t : Core) → z.code pc ≡ Some (instruction_of (compare_form c)) → HasTwo z pc w x y t
-      → Runs z.code [] 1 t (HasFlags (pc + form_bytes (compare_form c)) w (compared_flags c x y))
-  compare_part CommonBit pc x y w t h k =
-      line z (compare_form CommonBit ∷ []) 1 (pc + 2) _ k.is (tt, tt) (h, tt) ((tt, tt), tt) refl refl (omega (arith, k.is.at))
-      (λ s. record { is = s; flags = ap₂ (λ p q. (and_of Word p q).1) k.held.four k.held.five })
-  compare_part Above pc x y w t h k =
-      line z (compare_form Above ∷ []) 1 (pc + 2) _ k.is (tt, tt) (h, tt) ((tt, tt), tt) refl refl (omega (arith, k.is.at))
-      (λ s. record { is = s; flags = ap₂ difference_flags k.held.five k.held.four })
-  compare_part SignedAbove pc x y w t h k =
-      line z (compare_form SignedAbove ∷ []) 1 (pc + 2) _ k.is (tt, tt) (h, tt) ((tt, tt), tt) refl refl (omega (arith, k.is.at))
-      (λ s. record { is = s; flags = ap₂ difference_flags k.held.five k.held.four })
-  compare_part c pc x y w t h k =
-      line z (compare_form c ∷ []) 1 (pc + 2) _ k.is (tt, tt) (h, tt) ((tt, tt), tt) refl refl (omega (arith, k.is.at))
-      (λ s. record { is = s; flags = ap₂ difference_flags k.held.four k.held.five })
+  -- an operation that writes no register leaves these flags
+  flags_part : (o : TwoOp) (x : Source) (b : WorkRegister) (c pc : ℕ) {l r : ℕ} {w : WordState} {t : Core} (f : Flags) → IsNotMov o
+      → writes_destination o ≡ false → source_cycles to_register (source_operand x) ≤ c
+      → (let m = Calculate o x b in z.code pc ≡ Some (instruction_of m) → StandsFor z pc w t → IsRead x b l r t t
+      → flags_after (operated o Word l r t.flags).flags t.flags ≡ f → Runs z.code [] c t (HasFlags (pc + form_bytes m) w f))
+  flags_part o x b c pc {l} {r} {w} {t} f reads writes price h i k made =
+      calculate z o x b c t false _ reads writes price (ap z.code i.at ∙ h) k (record {
+        is = stands_elsewhere z pc (pc + form_bytes (Calculate o x b)) w t _ i (ap (λ n. n + (2 + source_bytes x)) i.at) refl refl refl refl refl;
+        flags = made;
+      })
 
-  pub compares_part : (c : Comparison) (pc x y : ℕ) (w : WordState) (t : Core) → x < 0x10000 → y < 0x10000 → z.code pc ≡ Some (instruction_of (compare_form c))
-      → HasTwo z pc w x y t → Runs z.code [] 1 t (Decided z (pc + form_bytes (compare_form c)) w (compare_words c x y) (holding c) (failing c))
-  compares_part c pc x y w t l m h k =
-      so_runs (compare_part c pc x y w t h k) (λ s j.
+  -- R5, the right side, with R4
+  turned_part : (pc x y : ℕ) (w : WordState) (t : Core) → z.code pc ≡ Some (instruction_of (Calculate op.Cmp (Register R4) R5))
+      → Holds z (Aiming true (Register R5) x y w.fram) pc w t → Runs z.code [] 1 t (HasFlags (pc + 2) w (difference_flags y x))
+  turned_part pc x y w t h k =
+      line z (Calculate op.Cmp (Register R4) R5 ∷ []) 1 (pc + 2) _ k.is (tt, tt) (h, tt) ((tt, tt), tt) refl refl (omega (arith, k.is.at))
+      (λ s. record { is = s; flags = ap₂ difference_flags (k.held.gives.word t k.is.fram refl) k.held.four })
+
+  compare_part : (c : Comparison) (o : Option Waiting) (pc x y : ℕ) (w : WordState) (t : Core)
+      → (let s = compare_source c o in let m = compare_form c s in z.code pc ≡ Some (instruction_of m) → Holds z (Aiming true s x y w.fram) pc w t
+      → Runs z.code [] (reading_cycles (compare_stays (is_turned c) o)) t (HasFlags (pc + form_bytes m) w (compared_flags c x y)))
+  compare_part CommonBit o pc x y w t h k =
+      let s = right_source o in
+      flags_part op.Bit s R4 (reading_cycles (stays o)) pc _ tt refl (reading_price (stays o) o) h k.is
+      (is_read true s R4 x y w.fram t k.is.fram k.held.four k.held.gives) refl
+  compare_part Above o pc x y w t h k = turned_part pc x y w t h k
+  compare_part SignedAbove o pc x y w t h k = turned_part pc x y w t h k
+  compare_part c o pc x y w t h k =
+      let s = right_source o in
+      flags_part op.Cmp s R4 (reading_cycles (stays o)) pc _ tt refl (reading_price (stays o) o) h k.is
+      (is_read true s R4 x y w.fram t k.is.fram k.held.four k.held.gives) refl
+
+  pub compares_part : (c : Comparison) (o : Option Waiting) (pc x y : ℕ) (w : WordState) (t : Core) → x < 0x10000 → y < 0x10000
+      → (let s = compare_source c o in let m = compare_form c s in z.code pc ≡ Some (instruction_of m) → Holds z (Aiming true s x y w.fram) pc w t
+      → Runs z.code [] (reading_cycles (compare_stays (is_turned c) o)) t (Decided z (pc + form_bytes m) w (compare_words c x y) (holding c) (failing c)))
+  compares_part c o pc x y w t l m h k =
+      so_runs (compare_part c o pc x y w t h k) (λ s j.
       let met = ap (is_met (holding c)) j.flags ∙ compare_met c x y l m in
       record { is = j.is; holds = met; fails = failing_met c s.flags ∙ ap not met })

@@ -1,4 +1,5 @@
 -- The code of a program is instructions, whose jumps reach no further than ten bits say, and is no longer than its words say.
+use Rattle.codegen.specs.Code.{is_turned, compare_source}
 use Rattle.codegen.proofs.Names.{◌≡◌, ℕ, zero, suc, ◌+◌, ◌-◌, ◌*◌, ◌<◌, ◌≤◌, ◌==◌, List, [], ◌∷◌, ◌++◌, length, refl, arith, length-append, Bool, true, false}
 use Rattle.codegen.proofs.Names.{not, nat_le, nat_lt, Option, Some, None, ltb-true, if◌then◌else◌, nat_tests, word_sum, Condition, R4, R5, Register, Constant}
 use Rattle.codegen.proofs.Names.{Number, Ram, Source, source_bytes, ToRegister, ToRam, ToIndexed, target_bytes, Form, Move, Calculate, Update, Push, Jump, Skip}
@@ -172,13 +173,13 @@ write_takes : (b : Bool) (place : ArrayPlace) (list : ListPlace) → Takes (writ
 write_takes true place list = so_takes (stored_takes place list) (omega arith)
 write_takes false place list = so_takes (checked_takes place.length 54 (omega arith) (stored_takes place list)) (omega arith)
 
-pub compare_length : (c : Comparison) → form_bytes (compare_form c) ≡ 2
-compare_length Equal = refl
-compare_length _ = refl
+compare_length : (c : Comparison) (x : Source) → form_bytes (compare_form c x) ≤ 2 + source_bytes x
+compare_length Equal x = omega arith
+compare_length _ x = omega arith
 
-compare_is : (c : Comparison) → IsInstruction (instruction_of (compare_form c))
-compare_is Equal = tt
-compare_is _ = tt
+compare_is : (c : Comparison) (x : Source) → IsInstruction (instruction_of (compare_form c x))
+compare_is Equal x = tt
+compare_is _ x = tt
 
 -- ---- jumps
 
@@ -265,14 +266,19 @@ right_side_takes : (b : Bool) (os : List Waiting) → Takes (if b then [] else f
 right_side_takes true os = record { are = tt; bytes = omega (arith, source_short os) }
 right_side_takes false os = so_takes (five_takes os) (omega arith)
 
--- a plain operation behind what brings its sides
+-- what brings both sides, with that extension word
+sides_take : (os : List Waiting)
+    → Takes (sides os) (source_bytes (right_source (top_of os)) + kept_bytes (kept (below_top (below_top os)))) (4 + kept_bytes os)
+sides_take os =
+    let under = below_top os in
+    so_takes (behind (cleared_takes (below_top under)) (behind (right_side_takes (stays (top_of os)) os) (four_takes under))) (omega arith)
+
+-- a plain operation behind that
 plain_takes : (o : PlainOperation) (os : List Waiting) → Takes (two_code os (Plain o)) (kept_bytes (kept (below_top (below_top os))) + 2) (8 + kept_bytes os)
 plain_takes o os =
-    let under = below_top os in
     let s = right_source (top_of os) in
     let last : Takes (Calculate (plain_instruction o) s R4 ∷ []) 0 (2 + source_bytes s) = record { are = (tt, tt); bytes = omega arith } in
-    let loads = behind (right_side_takes (stays (top_of os)) os) (four_takes under) in
-    so_takes (behind (behind (cleared_takes (below_top under)) loads) last) (omega arith)
+    so_takes (behind (sides_take os) last) (omega arith)
 
 -- what an operation on two words and its result take
 abbrev OperationTakes : Waiting → List Waiting → List Form → BinaryOperation → Type 0
@@ -414,12 +420,19 @@ holds_takes os when d =
     record { are = (tt, decide.are); bytes = omega (arith, decide.bytes) } in
     so_takes (behind (behind (top_to_four_takes os) (flushed_takes (kept (below_top os)))) tail) (omega arith)
 
+-- what brings both sides of a comparison
+compare_sides_take : (turned : Bool) (os : List Waiting) → Takes (if turned then two_to_registers os else (sides os))
+    (source_bytes (if turned then Register R5 else (right_source (top_of os))) + kept_bytes (kept (below_top (below_top os)))) (4 + kept_bytes os)
+compare_sides_take true os = so_takes (two_takes os) (omega arith)
+compare_sides_take false os = sides_take os
+
 compares_takes : (os : List Waiting) (c : Comparison) (when : Bool) (d : ℕ) → Takes (compares_code os c when d) 0 (12 + kept_bytes os)
 compares_takes os c when d =
+    let x = compare_source c (top_of os) in
     let decide = decision_takes when d (holding c) (failing c) in
-    let tail : Takes (compare_form c ∷ decision when d (holding c) (failing c)) 0 8 =
-    record { are = (compare_is c, decide.are); bytes = omega (arith, decide.bytes, compare_length c) } in
-    so_takes (behind (behind (two_takes os) (flushed_takes (kept (below_top (below_top os))))) tail) (omega arith)
+    let tail : Takes (compare_form c x ∷ decision when d (holding c) (failing c)) 0 (8 + source_bytes x) =
+    record { are = (compare_is c x, decide.are); bytes = omega (arith, decide.bytes, compare_length c x) } in
+    so_takes (behind (behind (compare_sides_take (is_turned c) os) (flushed_takes (kept (below_top (below_top os))))) tail) (omega arith)
 
 mutual
   step_takes : (bs : List Bound) (s : Step) (os : List Waiting) → Takes (step_code bs os s) (kept_bytes (waiting_behind os s))

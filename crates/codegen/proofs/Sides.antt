@@ -1,4 +1,6 @@
 -- The two sides of an operation: the left one in R4, and the right one in R5, or read where it waits.
+use Rattle.codegen.specs.Code.{is_turned, compare_sides, compare_source}
+use Rattle.codegen.proofs.Names.{Comparison}
 use Rattle.codegen.proofs.Names.{Core, Form, R5, Register, Runs, Source, SourceNeeds, Stands, Waiting, WordState, WorkRegister, any_held, below_top, cleared}
 use Rattle.codegen.proofs.Names.{drop, five_from, flushed, forms_bytes, four_from, get_or, kept, rest_source, rests, right_source, right_to_rest, sides}
 use Rattle.codegen.proofs.Names.{source_cycles, source_from, source_operand, source_read, source_value, stays, to_memory, to_register, to_rest, top_of}
@@ -39,6 +41,10 @@ pub side_owed : (stay : Bool) (os : List Waiting) → side_cycles stay (top_of o
 side_owed true [] = omega arith
 side_owed true (o ∷ os) = omega (arith, owed_least o)
 side_owed false os = omega (arith, load_owed os)
+
+-- whether the right side of a comparison stays
+abbrev pub compare_stays : Bool → Option Waiting → Bool
+compare_stays turned o = if turned then false else (stays o)
 
 -- ---- a source that gives a word
 
@@ -185,6 +191,25 @@ module _ (z : Setting) where
       let more = five_from (Some o) ++ four_from (Some p) in
       behind_cleared z (o ∷ (p ∷ [])) os more 6 pc w u (λ n. Waits z (kept os) n (with_stack vs w) (HasSides x y)) d h
       (λ t s k. two_loads (o ∷ (p ∷ kept os)) (pc + forms_bytes (cleared os)) w x y vs t e (none_held os) s k)
+
+  -- both sides of a comparison: of R5, the right one, with R4, or the other way round
+  compare_by : (turned : Bool) (os : List Waiting) (pc : ℕ) (w : WordState) (x y : ℕ) (vs : List ℕ) (u : Core) → w.stack ≡ y ∷ (x ∷ vs)
+      → (let ms : List Form = if turned then two_to_registers os else (sides os) in
+      let s : Source = if turned then Register R5 else (right_source (top_of os)) in let under = below_top os in Stands z.code pc ms → Describes z os pc w u
+      → Runs z.code [] (clear_cycles (below_top under) + (side_cycles (compare_stays turned (top_of os)) (top_of os) + load_cycles (top_of under))) u
+      (Waits z (kept (below_top under)) (pc + forms_bytes ms) (with_stack vs w) (Aiming true s x y w.fram)))
+  compare_by true os pc w x y vs u e h d =
+      so_runs (two_to_registers_part os pc w x y vs u e h d) (λ t j. record {
+        is = j.is;
+        held = record { four = j.held.four; gives = five_gives true y w.fram t.work j.held.five };
+      })
+  compare_by false os pc w x y vs u e h d = sides_part os pc w x y vs u e h d
+
+  pub compare_sides_part : (c : Comparison) (os : List Waiting) (pc : ℕ) (w : WordState) (x y : ℕ) (vs : List ℕ) (u : Core) → w.stack ≡ y ∷ (x ∷ vs)
+      → Stands z.code pc (compare_sides c os) → Describes z os pc w u → (let under = below_top os in let stay = compare_stays (is_turned c) (top_of os) in
+      Runs z.code [] (clear_cycles (below_top under) + (side_cycles stay (top_of os) + load_cycles (top_of under))) u
+      (Waits z (kept (below_top under)) (pc + forms_bytes (compare_sides c os)) (with_stack vs w) (Aiming true (compare_source c (top_of os)) x y w.fram)))
+  compare_sides_part c os pc w x y vs u e h d = compare_by (is_turned c) os pc w x y vs u e h d
 
   -- ---- where all words below are pushed
 

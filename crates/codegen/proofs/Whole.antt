@@ -18,13 +18,14 @@ use Rattle.array_versions.specs.Laws.{IsStateOfWords, EndsInWords, IsSound}
 use Rattle.msp_isa.specs.declared.instructions.Condition.TheVariants as condition
 use Rattle.msp_isa.specs.declared.operands.Konst.TheVariants as konst
 use Rattle.codegen.specs.declared.waiting.Waiting.TheVariants as waiting
-use Rattle.codegen.proofs.Registers.{Has, HasTwo, jump_to}
+use Rattle.codegen.proofs.Registers.{Has, Holds, jump_to}
 use Rattle.codegen.proofs.Jumps.{Decided, whole_size, stands_low, pass_part}
 use Rattle.codegen.proofs.Memory.{AreWords, place_is, assigned_same}
 use Rattle.codegen.proofs.Results.{gathered, Does, number_part, load_part, local_by, keep_reaches, update_reaches, set_reaches, update_local_reaches}
 use Rattle.codegen.proofs.Results.{unary_part, binary_part, shift_reaches, element_reaches, emit_reaches, read_reaches, write_reaches, sense_part, alone_part}
 use Rattle.codegen.proofs.Operands.{owed, owed_kept, load_owed, Describes, dressed, flush_part, top_to_four_part}
-use Rattle.codegen.proofs.Sides.{two_to_registers_part}
+use Rattle.codegen.proofs.Sides.{Aiming, compare_sides_part, compare_stays, side_cycles, reading_cycles, side_owed}
+use Rattle.codegen.specs.Code.{is_turned, compare_sides, compare_source}
 use Rattle.codegen.proofs.Stretches.{Setting, runs_on, nothing_run}
 use Rattle.codegen.proofs.Follows.{StandsFor, Follows, FollowsEnd, OnGoesOn, more_cycles, then_hop, ends_at, guarded, reach_more, reach_way, reaches}
 use Rattle.codegen.proofs.Follows.{then_follows, reach_guarded}
@@ -153,13 +154,15 @@ module _ (z : Setting) where
         λ next f. ready_popped bs next r.place 2 w us f r.matches r.words_in r.bounded left words.1.1 in
         let under = below_top os in
         let ks = kept (below_top under) in
-        let front = two_to_registers os ++ flushed ks in
+        let stay = compare_stays (is_turned c) (top_of os) in
+        let from = compare_source c (top_of os) in
+        let front = compare_sides c os ++ flushed ks in
         let mid = pc + forms_bytes front in
         let most = owed os + (10 + (if compare_words c x y then ch t else cf t)) in
-        by_form (λ p. HasTwo z p t x y) front (compare_form c) (compare_words c x y) 1 most pc (holding c) (failing c) t u
-        (omega (arith, owed_kept (below_top under), load_owed os, load_owed under)) (popped held r.fit.2.0) (popped failed r.fit.2.1) h fork
-        (λ s. gathered z (two_to_registers os) ks pc s (λ s. two_to_registers_part z os pc w x y us u e s i))
-        (λ q s k. compares_part z c mid x y t q words.1.0 words.0 s k)
+        by_form (λ p. Holds z (Aiming true from x y w.fram) p t) front (compare_form c from) (compare_words c x y) (reading_cycles stay) most pc (holding c)
+        (failing c) t u (omega (arith, owed_kept (below_top under), side_owed stay os, load_owed under)) (popped held r.fit.2.0) (popped failed r.fit.2.1) h fork
+        (λ s. gathered z (compare_sides c os) ks pc s (λ s. compare_sides_part z c os pc w x y us u e s i))
+        (λ q s k. compares_part z c (top_of os) mid x y t q words.1.0 words.0 s k)
 
   -- behind steps with no word waiting in front of them, code that takes those that wait behind them
   leaf_follows : (bs : List Bound) (p : Program) (next : Place → Type 0) (pc end : ℕ) (cost : WordState → ℕ) (go : WordState → Behaviour) (w : WordState)

@@ -340,14 +340,20 @@ abbrev pub write_code : Bool → ArrayPlace → ListPlace → List Form
 write_code true place list = stored_code place list
 write_code false place list = check_code place.length 54 ++ stored_code place list
 
--- the flags of a comparison of R4, the left side, with R5, the right one
-abbrev pub compare_form : Comparison → Form
-compare_form Equal = Calculate op.Cmp (Register R5) R4
-compare_form Below = Calculate op.Cmp (Register R5) R4
-compare_form Above = Calculate op.Cmp (Register R4) R5
-compare_form SignedBelow = Calculate op.Cmp (Register R5) R4
-compare_form SignedAbove = Calculate op.Cmp (Register R4) R5
-compare_form CommonBit = Calculate op.Bit (Register R5) R4
+-- the flags of a comparison: of R4, the left side, with the right one, or of R5, the right side, with the left one
+abbrev pub compare_form : Comparison → Source → Form
+compare_form Equal x = Calculate op.Cmp x R4
+compare_form Below x = Calculate op.Cmp x R4
+compare_form Above x = Calculate op.Cmp (Register R4) R5
+compare_form SignedBelow x = Calculate op.Cmp x R4
+compare_form SignedAbove x = Calculate op.Cmp (Register R4) R5
+compare_form CommonBit x = Calculate op.Bit x R4
+
+-- whether it is of R5
+abbrev pub is_turned : Comparison → Bool
+is_turned Above = true
+is_turned SignedAbove = true
+is_turned _ = false
 
 -- the condition that they meet where it holds
 abbrev pub holding : Comparison → Condition
@@ -394,11 +400,6 @@ abbrev pub holds_code : List Waiting → Bool → ℕ → List Form
 holds_code os when d =
     (top_to_four os ++ flushed (kept (below_top os))) ++ (Calculate op.Cmp (Constant konst.Zero) R4 ∷ decision when d condition.NotEqual condition.Equal)
 
--- by whether the two words on top compare so
-abbrev pub compares_code : List Waiting → Comparison → Bool → ℕ → List Form
-compares_code os c when d =
-    (two_to_registers os ++ flushed (kept (below_top (below_top os)))) ++ (compare_form c ∷ decision when d (holding c) (failing c))
-
 -- 1 is pushed, and from the third word on 0
 abbrev pub truth_code : List Form
 truth_code = Push (Constant konst.One) ∷ Jump condition.Always 1 ∷ Push (Constant konst.Zero) ∷ []
@@ -438,6 +439,20 @@ sides os =
 -- the right side then
 abbrev pub right_source : Option Waiting → Source
 right_source o = if stays o then source_from o else (Register R5)
+
+-- both sides of a comparison, to where it reads them
+abbrev pub compare_sides : Comparison → List Waiting → List Form
+compare_sides c os = if is_turned c then two_to_registers os else sides os
+
+-- its right side then
+abbrev pub compare_source : Comparison → Option Waiting → Source
+compare_source c o = if is_turned c then Register R5 else right_source o
+
+-- by whether the two words on top compare so
+abbrev pub compares_code : List Waiting → Comparison → Bool → ℕ → List Form
+compares_code os c when d =
+    (compare_sides c os ++ flushed (kept (below_top (below_top os))))
+    ++ (compare_form c (compare_source c (top_of os)) ∷ decision when d (holding c) (failing c))
 
 -- the exponent of a power of two
 abbrev pub power : ℕ → Option ℕ

@@ -1,30 +1,42 @@
 //! Where code goes on.
 
-ghost use Rattle.std.specs.Prelude.{◌≡◌, ◌≤◌, ◌*◌, ◌∷◌, ◌++◌, OnOk, length};
+ghost use Rattle.std.specs.Prelude.{◌≡◌, ◌≤◌, ◌*◌, ◌∷◌, ◌++◌, OnOk, IfOk, length};
 ghost use Rattle.msp_isa.specs.declared.instructions.TwoOp.TheVariants as two_op;
 ghost use Rattle.msp_isa.specs.declared.instructions.Condition.TheVariants as conditions;
 ghost use Rattle.msp_isa.specs.declared.operands.Konst.TheVariants as constants;
 ghost use Rattle.code_forms.specs.Forms as form;
 ghost use Rattle.code_forms.specs.Placed.{instructions, words_of as instruction_words};
-ghost use Rattle.codegen.specs.Code.{compare_form, holding, failing, jump_over, pass_over, jump_back, decision, holds_code, compares_code};
+ghost use Rattle.codegen.specs.Code.{top_of, below_top, kept, compare_form, is_turned, compare_sides, compare_source, holding, failing, jump_over};
+ghost use Rattle.codegen.specs.Code.{pass_over, jump_back, decision, holds_code, compares_code};
 
 use crate::forms::{R4, R5, TO_R4, TO_R5, constant, jump, skip, two};
-use crate::waiting::{Waiting, emit_all, emit_top_to_four, emit_two_to_registers};
+use crate::waiting::{Waiting, emit_all, emit_sides, emit_top_to_four, emit_two_to_registers};
 use array_versions::Comparison;
 use msp_encode::encode;
-use msp_isa::{Condition, Instr, Konst, TwoOp};
+use msp_isa::{Condition, Instr, Konst, Src, TwoOp};
 use std::alloc::AllocError;
 
-// The comparison of R4 with R5.
-fn compare(comparison: Comparison) -> Instr
-    ensures { result ≡ form.instruction_of (compare_form comparison) }
+// Whether a comparison is of R5, the right side, with the left one.
+fn is_turned(comparison: Comparison) -> bool
+    ensures { result ≡ is_turned comparison }
+{
+    match comparison {
+        Comparison::Above | Comparison::SignedAbove => true,
+        Comparison::Equal | Comparison::Below => false,
+        Comparison::SignedBelow | Comparison::CommonBit => false,
+    }
+}
+
+// The comparison of R4 with the right side, or of R5 with R4.
+fn compare(comparison: Comparison, right: Src) -> Instr
+    ensures { (x : form.Source) → right ≡ form.source_operand x → result ≡ form.instruction_of (compare_form comparison x) }
 {
     match comparison {
         Comparison::Equal | Comparison::Below | Comparison::SignedBelow => {
-            two(TwoOp::Cmp, R5, TO_R4)
+            two(TwoOp::Cmp, right, TO_R4)
         }
         Comparison::Above | Comparison::SignedAbove => two(TwoOp::Cmp, R4, TO_R5),
-        Comparison::CommonBit => two(TwoOp::Bit, R5, TO_R4),
+        Comparison::CommonBit => two(TwoOp::Bit, right, TO_R4),
     }
 }
 
@@ -157,19 +169,38 @@ pub fn emit_holds(
     emit_zero_test(when, over, code)
 }
 
-// A comparison of R4 with R5, and what goes over so many words by it.
+// A comparison with the right side, and what goes over so many words by it.
 fn emit_comparison(
     comparison: Comparison,
+    right: Src,
     when: bool,
     over: u16,
     code: &mut Vec<Instr>,
 ) -> Result<(), AllocError>
     requires { 2 * over ≤ 0xFFFE }
-    ensures { OnOk result (code.new.items ≡ code.old.items
-        ++ instructions (compare_form comparison ∷ decision when over (holding comparison) (failing comparison))) }
+    ensures { (x : form.Source) → right ≡ form.source_operand x → OnOk result (code.new.items ≡ code.old.items
+        ++ instructions (compare_form comparison x ∷ decision when over (holding comparison) (failing comparison))) }
 {
-    code.extend_from_slice(&[compare(comparison)])?;
+    code.extend_from_slice(&[compare(comparison, right)])?;
     emit_decision(when, over, holding(comparison), failing(comparison), code)
+}
+
+// Takes both sides of a comparison to where it reads them: the right one, as a source.
+fn emit_compare_sides(
+    comparison: Comparison,
+    waiting: &mut Vec<Waiting>,
+    code: &mut Vec<Instr>,
+) -> Result<Src, AllocError>
+    ensures source { IfOk result (λ source. source ≡ form.source_operand (compare_source comparison (top_of waiting.old.items))) }
+    ensures code { OnOk result (code.new.items ≡ code.old.items ++ instructions (compare_sides comparison waiting.old.items)) }
+    ensures waiting { OnOk result (waiting.new.items ≡ kept (below_top (below_top waiting.old.items))) }
+{
+    if is_turned(comparison) {
+        emit_two_to_registers(waiting, code)?;
+        Ok(R5)
+    } else {
+        emit_sides(waiting, code)
+    }
 }
 
 /// Appends the code that goes over so many words by how the two words on top compare.
@@ -183,7 +214,7 @@ pub fn emit_compares(
     requires { 2 * over ≤ 0xFFFE }
     ensures { OnOk result (code.new.items ≡ code.old.items ++ instructions (compares_code waiting.old.items comparison when over)) }
 {
-    emit_two_to_registers(waiting, code)?;
+    let right = emit_compare_sides(comparison, waiting, code)?;
     emit_all(waiting, code)?;
-    emit_comparison(comparison, when, over, code)
+    emit_comparison(comparison, right, when, over, code)
 }
