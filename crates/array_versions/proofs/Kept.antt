@@ -32,7 +32,7 @@ binary_words_kept : (o : BinaryOperation) → binary_words o ≤ 16
 binary_words_kept Multiply = omega arith
 binary_words_kept _ = omega arith
 
-right_low : (k : ℕ) → right_words k ≤ k + 1
+pub right_low : (k : ℕ) → right_words k ≤ k + 1
 right_low zero = omega arith
 right_low (suc k) = omega arith
 
