@@ -1,6 +1,5 @@
 use Rattle.std.proofs.Common.{◌++◌, ap, ◌∙◌, append_assoc}
-use Rattle.code_forms.specs.Placed.{instructions}
-use Rattle.codegen.specs.Code.{copy_code, first_code}
+use Rattle.codegen.proofs.Names.{instructions, copy_code, first_code}
 use Rattle.codegen.proofs.versioned.emit_stored.Goals as goal
 
 pub returns : goal.returns
