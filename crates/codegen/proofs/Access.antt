@@ -1,10 +1,9 @@
 -- Elements of arrays, emits, and entries of the commit list.
-use Rattle.std.proofs.Common.{◌≡◌, ℕ, ◌+◌, ◌*◌, ◌%◌, ◌<◌, ◌==◌, not, List, [], ◌∷◌, ◌++◌, refl, sym, ap, ◌∙◌, subst, arith, Bool, true, false, ◌≤◌, nat_lt}
-use Rattle.std.proofs.Common.{nat_le, if◌then◌else◌}
-use Rattle.codegen.proofs.Names.{both_ways, nat_tests, word_sum, sum16, distance, Store, put, IsFram, R4, R5, Core, Number, Constant, ToRegister, ToIndexed}
-use Rattle.codegen.proofs.Names.{Form, Move, Calculate, Update, form_bytes, Stands, forms_bytes, Runs, stands_front, stands_back, forms_bytes-append, WordState}
-use Rattle.codegen.proofs.Names.{is_place, stored, word_emitted, entry_stored, number_source, check_code, zero_code, fetch_code, element_code, emit_code}
-use Rattle.codegen.proofs.Names.{pair_code, entry_code}
+use Rattle.codegen.proofs.Names.{◌≡◌, ℕ, ◌+◌, ◌*◌, ◌%◌, ◌<◌, ◌==◌, not, List, [], ◌∷◌, ◌++◌, refl, sym, ap, ◌∙◌, subst, arith, Bool, true, false, ◌≤◌, nat_lt}
+use Rattle.codegen.proofs.Names.{nat_le, if◌then◌else◌, both_ways, nat_tests, word_sum, sum16, distance, Store, put, IsFram, R4, R5, Core, Number, Constant}
+use Rattle.codegen.proofs.Names.{ToRegister, ToIndexed, Form, Move, Calculate, Update, form_bytes, Stands, forms_bytes, Runs, stands_front, stands_back}
+use Rattle.codegen.proofs.Names.{forms_bytes-append, WordState, is_place, stored, word_emitted, entry_stored, number_source, check_code, zero_code, fetch_code}
+use Rattle.codegen.proofs.Names.{element_code, emit_code, pair_code, entry_code}
 use Rattle.msp_isa.specs.declared.instructions.Condition.TheVariants as condition
 use Rattle.msp_isa.specs.declared.instructions.TwoOp.TheVariants as op
 use Rattle.msp_isa.specs.declared.operands.Konst.TheVariants as konst

@@ -1,5 +1,5 @@
 -- Tests: where the code goes on.
-use Rattle.std.proofs.Common.{◌≡◌, ℕ, ◌+◌, ◌*◌, ◌%◌, ◌<◌, ◌==◌, not, [], ◌∷◌, Some, refl, sym, ap, ap₂, ◌∙◌, subst, arith, Bool, true, false, if◌then◌else◌}
+use Rattle.codegen.proofs.Names.{◌≡◌, ℕ, ◌+◌, ◌*◌, ◌%◌, ◌<◌, ◌==◌, not, [], ◌∷◌, Some, refl, sym, ap, ap₂, ◌∙◌, subst, arith, Bool, true, false, if◌then◌else◌}
 use Rattle.codegen.proofs.Names.{not-not, Flags, Word, and_of, Condition, is_met, R4, Core, Constant, Form, Calculate, instruction_of, Stands, forms_bytes}
 use Rattle.codegen.proofs.Names.{Runs, Comparison, Above, SignedAbove, CommonBit, is_true, compare_words, WordState, Behaviour, compare_form, holding, failing}
 use Rattle.codegen.proofs.Names.{jump_over, decision}

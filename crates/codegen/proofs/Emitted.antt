@@ -1,11 +1,11 @@
 -- Code that is appended piece by piece.
-use Rattle.std.proofs.Common.{◌≡◌, ℕ, suc, ◌+◌, ◌-◌, ◌<◌, ◌≤◌, List, [], ◌∷◌, ◌++◌, length, drop, get_or, sym, ap, ◌∙◌, arith, append_assoc, drop-cons, refl}
-use Rattle.std.proofs.Common.{Some, ◌==◌, add-one, rules, Bool, true, false, if◌then◌else◌, Result, Ok, Err, is_ok}
-use Rattle.codegen.proofs.Names.{test_code, test_words, remove, slice_index_or, on_ok_weaker, Word, Instr, Two, Form, Push, instruction_of, instructions}
-use Rattle.codegen.proofs.Names.{instruction_words, instructions-append, Comparison, PlainOperation, ArrayPlace, ListPlace, Step, Test, Program, local}
-use Rattle.codegen.proofs.Names.{set_local, update_local, versioned_read, versioned_write, versioned_update, truth, choose, repeat, holds, compares, both}
-use Rattle.codegen.proofs.Names.{either, fails, nothing, step, step_of, steps_of, test_of, StepLocalsBelow, TestLocalsBelow, LocalsBelow, Bound, Waiting}
-use Rattle.codegen.proofs.Names.{waiting_source, flushed, top_of, below_top, repeated, size, waiting_behind, step_code, steps_code}
+use Rattle.codegen.proofs.Names.{◌≡◌, ℕ, suc, ◌+◌, ◌-◌, ◌<◌, ◌≤◌, List, [], ◌∷◌, ◌++◌, length, drop, get_or, sym, ap, ◌∙◌, arith, append_assoc, drop-cons, refl}
+use Rattle.codegen.proofs.Names.{Some, ◌==◌, add-one, rules, Bool, true, false, if◌then◌else◌, Result, Ok, Err, is_ok, test_code, test_words, remove}
+use Rattle.codegen.proofs.Names.{slice_index_or, on_ok_weaker, Word, Instr, Two, Form, Push, instruction_of, instructions, instruction_words}
+use Rattle.codegen.proofs.Names.{instructions-append, Comparison, PlainOperation, ArrayPlace, ListPlace, Step, Test, Program, local, set_local, update_local}
+use Rattle.codegen.proofs.Names.{versioned_read, versioned_write, versioned_update, truth, choose, repeat, holds, compares, both, either, fails, nothing, step}
+use Rattle.codegen.proofs.Names.{step_of, steps_of, test_of, StepLocalsBelow, TestLocalsBelow, LocalsBelow, Bound, Waiting, waiting_source, flushed, top_of}
+use Rattle.codegen.proofs.Names.{below_top, repeated, size, waiting_behind, step_code, steps_code}
 use Rattle.array_versions.specs.declared.program.WordStep.{WordStep, the_lemmas}
 use Rattle.array_versions.specs.declared.program.WordStep.TheVariants.{VersionedRead, VersionedWrite, VersionedUpdate, Choose}
 use Rattle.array_versions.specs.declared.program.WordTest.{WordTest}

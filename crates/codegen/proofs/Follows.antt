@@ -1,7 +1,7 @@
 -- What it is that a stretch of code follows a word program.
-use Rattle.std.proofs.Common.{◌≡◌, ℕ, ◌+◌, ◌≤◌, List, [], ◌++◌, refl, sym, ◌∙◌, subst, arith, append-nil, Bool, true, false, if◌then◌else◌}
-use Rattle.codegen.proofs.Names.{Effect, Core, Runs, Starves, WordState, End, GoesOn, Jumps, Short, Strays, Broken, Behaviour, behind_effects, on_end, strays}
-use Rattle.codegen.proofs.Names.{spent_on, HasJumped}
+use Rattle.codegen.proofs.Names.{◌≡◌, ℕ, ◌+◌, ◌≤◌, List, [], ◌++◌, refl, sym, ◌∙◌, subst, arith, append-nil, Bool, true, false, if◌then◌else◌, Effect, Core}
+use Rattle.codegen.proofs.Names.{Runs, Starves, WordState, End, GoesOn, Jumps, Short, Strays, Broken, Behaviour, behind_effects, on_end, strays, spent_on}
+use Rattle.codegen.proofs.Names.{HasJumped}
 use Rattle.codegen.proofs.Stretches.{Setting, runs_on, starves_on, dearer, dearer_stall, so_runs}
 use Rattle.codegen.proofs.Memory.{local_words, Memory}
 

@@ -1,8 +1,7 @@
 -- Jumps over code and back: how far each of them goes.
-use Rattle.std.proofs.Common.{◌≡◌, ℕ, ◌+◌, ◌-◌, ◌*◌, ◌/◌, ◌%◌, ◌<◌, ◌≤◌, ◌==◌, not, Bool, true, false, nat_le, if◌then◌else◌, List, [], ◌∷◌, refl, ap, ◌∙◌}
-use Rattle.std.proofs.Common.{subst, arith, eq-eqb, ne_eqb, eqb-true}
-use Rattle.codegen.proofs.Names.{nat_tests, Condition, sum16, distance, is_met, Core, Form, Jump, Skip, form_bytes, Stands, forms_bytes, Runs, form_small}
-use Rattle.codegen.proofs.Names.{WordState, size, jump_over, pass_over, jump_back}
+use Rattle.codegen.proofs.Names.{◌≡◌, ℕ, ◌+◌, ◌-◌, ◌*◌, ◌/◌, ◌%◌, ◌<◌, ◌≤◌, ◌==◌, not, Bool, true, false, nat_le, if◌then◌else◌, List, [], ◌∷◌, refl, ap, ◌∙◌}
+use Rattle.codegen.proofs.Names.{subst, arith, eq-eqb, ne_eqb, eqb-true, nat_tests, Condition, sum16, distance, is_met, Core, Form, Jump, Skip, form_bytes}
+use Rattle.codegen.proofs.Names.{Stands, forms_bytes, Runs, form_small, WordState, size, jump_over, pass_over, jump_back}
 use Rattle.msp_isa.specs.declared.instructions.Condition.TheVariants as condition
 use Rattle.codegen.proofs.Stretches.{Setting, runs_on, dearer, nothing_run}
 use Rattle.codegen.proofs.Follows.{StandsFor}

@@ -1,22 +1,21 @@
 -- The code of a program is instructions, whose jumps reach no further than ten bits say, and is no longer than its words say.
-use Rattle.std.proofs.Common.{◌≡◌, ℕ, zero, suc, ◌+◌, ◌-◌, ◌*◌, ◌<◌, ◌≤◌, ◌==◌, List, [], ◌∷◌, ◌++◌, length, refl, arith, length-append, Bool, true, false, not}
-use Rattle.std.proofs.Common.{nat_le, nat_lt, Option, Some, None, ltb-true, if◌then◌else◌}
-use Rattle.codegen.proofs.Names.{nat_tests, word_sum, Condition, R4, R5, Register, Constant, Number, Ram, Source, source_bytes, ToRegister, ToRam, ToIndexed}
-use Rattle.codegen.proofs.Names.{target_bytes, Form, Move, Calculate, Update, Push, Jump, Skip, instruction_of, form_bytes, forms_bytes, instruction_words}
-use Rattle.codegen.proofs.Names.{instructions, bytes_are, forms_bytes-append, UnaryOperation, Negate, BinaryOperation, Multiply, Divide, Remainder, Plain}
-use Rattle.codegen.proofs.Names.{PlainOperation, And, ShiftOperation, Left, Right, SignedRight, Comparison, Equal, ArrayPlace, ListPlace, Step, Test, Program}
-use Rattle.codegen.proofs.Names.{number, load, keep, update, local, set_local, update_local, unary, binary, shift, element, emit_word, list_entry}
-use Rattle.codegen.proofs.Names.{versioned_read, versioned_write, versioned_update, sense, truth, choose, repeat, store_number, move_word, jump, holds}
-use Rattle.codegen.proofs.Names.{compares, both, either, fails, nothing, step, unary_words, binary_words, right_words, shift_words, step_words, test_words}
-use Rattle.codegen.proofs.Names.{words_of, Bound, Waiting, local_register, local_address, waiting_source, flushed, top_of, source_from, below_top, any_held}
-use Rattle.codegen.proofs.Names.{cleared, kept, number_source, stays, sides, right_source, power, top_power, two_code, power_code, power_result, four_from}
-use Rattle.codegen.proofs.Names.{five_from, top_to_four, top_to_five, two_to_registers, unary_middle, binary_middle, binary_result, plain_instruction}
-use Rattle.codegen.proofs.Names.{update_code, repeated, double, halve, right_code, shift_by, shift_middle, check_code, zero_code, fetch_code, element_code}
-use Rattle.codegen.proofs.Names.{emit_code, pair_code, own_code, read_code, stored_code, write_code, compare_form, holding, failing, size, pass_over, decision}
-use Rattle.codegen.proofs.Names.{holds_code, compares_code, truth_code, number_code, turn_end, turns_code, waiting_behind, waiting_after, step_code, test_code}
-use Rattle.codegen.proofs.Names.{steps_code, top_number, element_at, bound_of, is_inside, block_code, code_of, rests, rest_source, to_rest, indexed_update}
-use Rattle.codegen.proofs.Names.{known_update, known_index, update_at, CodeHasItsBytes, CodeHasItsWords, AreInstructions, made_code, first_update, by_version}
-use Rattle.codegen.proofs.Names.{inside_update, CodeIsInstructions}
+use Rattle.codegen.proofs.Names.{◌≡◌, ℕ, zero, suc, ◌+◌, ◌-◌, ◌*◌, ◌<◌, ◌≤◌, ◌==◌, List, [], ◌∷◌, ◌++◌, length, refl, arith, length-append, Bool, true, false}
+use Rattle.codegen.proofs.Names.{not, nat_le, nat_lt, Option, Some, None, ltb-true, if◌then◌else◌, nat_tests, word_sum, Condition, R4, R5, Register, Constant}
+use Rattle.codegen.proofs.Names.{Number, Ram, Source, source_bytes, ToRegister, ToRam, ToIndexed, target_bytes, Form, Move, Calculate, Update, Push, Jump, Skip}
+use Rattle.codegen.proofs.Names.{instruction_of, form_bytes, forms_bytes, instruction_words, instructions, bytes_are, forms_bytes-append, UnaryOperation}
+use Rattle.codegen.proofs.Names.{Negate, BinaryOperation, Multiply, Divide, Remainder, Plain, PlainOperation, And, ShiftOperation, Left, Right, SignedRight}
+use Rattle.codegen.proofs.Names.{Comparison, Equal, ArrayPlace, ListPlace, Step, Test, Program, number, load, keep, update, local, set_local, update_local}
+use Rattle.codegen.proofs.Names.{unary, binary, shift, element, emit_word, list_entry, versioned_read, versioned_write, versioned_update, sense, truth, choose}
+use Rattle.codegen.proofs.Names.{repeat, store_number, move_word, jump, holds, compares, both, either, fails, nothing, step, unary_words, binary_words}
+use Rattle.codegen.proofs.Names.{right_words, shift_words, step_words, test_words, words_of, Bound, Waiting, local_register, local_address, waiting_source}
+use Rattle.codegen.proofs.Names.{flushed, top_of, source_from, below_top, any_held, cleared, kept, number_source, stays, right_source, power, top_power}
+use Rattle.codegen.proofs.Names.{two_code, power_code, power_result, four_from, five_from, top_to_four, top_to_five, two_to_registers, unary_middle}
+use Rattle.codegen.proofs.Names.{binary_middle, binary_result, plain_instruction, update_code, repeated, double, halve, right_code, shift_by, shift_middle}
+use Rattle.codegen.proofs.Names.{check_code, zero_code, fetch_code, element_code, emit_code, pair_code, own_code, read_code, stored_code, write_code}
+use Rattle.codegen.proofs.Names.{compare_form, holding, failing, size, pass_over, decision, holds_code, compares_code, truth_code, number_code, turn_end}
+use Rattle.codegen.proofs.Names.{turns_code, waiting_behind, waiting_after, step_code, test_code, steps_code, top_number, element_at, bound_of, is_inside}
+use Rattle.codegen.proofs.Names.{block_code, code_of, rests, rest_source, to_rest, indexed_update, known_update, known_index, update_at, CodeHasItsBytes}
+use Rattle.codegen.proofs.Names.{CodeHasItsWords, AreInstructions, made_code, first_update, by_version, inside_update, CodeIsInstructions}
 use Rattle.msp_isa.specs.Encoding.{encoding, IsInstruction}
 use Rattle.msp_isa.specs.declared.instructions.TwoOp.TheVariants as op
 use Rattle.msp_isa.specs.declared.instructions.Condition.TheVariants as condition
@@ -141,7 +140,8 @@ checked_takes length over l x =
 
 element_code_takes : (b : Bool) (base length : ℕ) → Takes (element_code b base length) 0 16
 element_code_takes true base length = so_takes (fetch_takes base) (omega arith)
-element_code_takes false base length = so_takes (checked_takes {n = 10} length 4 (omega arith) (so_takes (behind (fetch_takes base) zero_takes) (omega arith))) (omega arith)
+element_code_takes false base length =
+    so_takes (checked_takes {n = 10} length 4 (omega arith) (so_takes (behind (fetch_takes base) zero_takes) (omega arith))) (omega arith)
 
 emit_takes : (count buffer : ℕ) → Takes (emit_code count buffer) 0 18
 emit_takes count buffer = record { are = search arith; bytes = omega arith }
@@ -158,7 +158,9 @@ own_takes over place list l = record { are = search (arith, l); bytes = omega ar
 read_takes : (b : Bool) (place : ArrayPlace) (list : ListPlace) → Takes (read_code b place list) 0 32
 read_takes true place list = so_takes (own_takes 2 place list (omega arith)) (omega arith)
 read_takes false place list =
-    so_takes (checked_takes {n = 26} place.length 12 (omega arith) (so_takes (behind (own_takes 4 place list (omega arith)) zero_takes) (omega arith))) (omega arith)
+    so_takes
+    (checked_takes {n = 26} place.length 12 (omega arith) (so_takes (behind (own_takes 4 place list (omega arith)) zero_takes) (omega arith)))
+    (omega arith)
 
 stored_takes : (place : ArrayPlace) (list : ListPlace) → Takes (stored_code place list) 0 108
 stored_takes place list = record { are = search arith; bytes = omega arith }

@@ -1,10 +1,10 @@
 -- A word is listed: the last entry gets longer, or there is one more.
-use Rattle.std.proofs.Common.{◌≡◌, ℕ, suc, zero, ◌+◌, ◌-◌, ◌*◌, ◌%◌, ◌<◌, ◌==◌, ◌&&◌, not, List, [], ◌∷◌, Some, refl, sym, ap, ap₂, ◌∙◌, subst, arith, Bool}
-use Rattle.std.proofs.Common.{true, false, if◌then◌else◌, ne_eqb, drop}
-use Rattle.codegen.proofs.Names.{word_sum, sum16, distance, Effect, Store, put, IsFram, put_other, WorkRegister, R4, R5, R6, R7, work_number, Core, Register}
-use Rattle.codegen.proofs.Names.{Constant, Indexed, ToRegister, ToIndexed, Form, Move, Calculate, Update, Jump, instruction_of, Stands, Runs, stands_front}
-use Rattle.codegen.proofs.Names.{form_at, forms_at, forms_behind, ArrayPlace, ListPlace, WordState, Behaviour, strays, behind_effects, is_place, stored, raised}
-use Rattle.codegen.proofs.Names.{entry_stored, ends_before, listed_behind, first_stored, put_words, mark_code, next_code, word_code, first_code}
+use Rattle.codegen.proofs.Names.{◌≡◌, ℕ, suc, zero, ◌+◌, ◌-◌, ◌*◌, ◌%◌, ◌<◌, ◌==◌, ◌&&◌, not, List, [], ◌∷◌, Some, refl, sym, ap, ap₂, ◌∙◌, subst, arith, Bool}
+use Rattle.codegen.proofs.Names.{true, false, if◌then◌else◌, ne_eqb, drop, word_sum, sum16, distance, Effect, Store, put, IsFram, put_other, WorkRegister, R4}
+use Rattle.codegen.proofs.Names.{R5, R6, R7, work_number, Core, Register, Constant, Indexed, ToRegister, ToIndexed, Form, Move, Calculate, Update, Jump}
+use Rattle.codegen.proofs.Names.{instruction_of, Stands, Runs, stands_front, form_at, forms_at, forms_behind, ArrayPlace, ListPlace, WordState, Behaviour}
+use Rattle.codegen.proofs.Names.{strays, behind_effects, is_place, stored, raised, entry_stored, ends_before, listed_behind, first_stored, put_words, mark_code}
+use Rattle.codegen.proofs.Names.{next_code, word_code, first_code}
 use Rattle.msp_isa.specs.declared.instructions.Condition.TheVariants as condition
 use Rattle.msp_isa.specs.declared.instructions.TwoOp.TheVariants as op
 use Rattle.msp_isa.specs.declared.operands.Konst.TheVariants as konst
@@ -95,7 +95,8 @@ module _ (z : Setting) where
       let pa : t.work 5 + list.list ≡ a = ap (λ q. q + list.list) r.five in
       let pb : t.work 5 + word_sum list.list 2 ≡ a + 2 = ap (λ q. q + word_sum list.list 2) r.five ∙ at_offset n list.list 2 f2.high in
       let pd : t.work 5 + word_sum list.list 4 ≡ a + 4 = ap (λ q. q + word_sum list.list 4) r.five ∙ at_offset n list.list 4 f3.high in
-      let F : ℕ → ℕ = put (put (put t.fram (t.work 5 + list.list) (t.work 7)) (t.work 5 + word_sum list.list 2) (t.work 4)) (t.work 5 + word_sum list.list 4) 1 in
+      let one : ℕ → ℕ = put t.fram (t.work 5 + list.list) (t.work 7) in
+      let F : ℕ → ℕ = put (put one (t.work 5 + word_sum list.list 2) (t.work 4)) (t.work 5 + word_sum list.list 4) 1 in
       let fr : F ≡ u.fram = λ k. put (put (put (j.is.fram k) (pa k) (r.seven k)) (pb k) (r.four k)) (pd k) 1 in
       let up : (F list.cln + 1 + 0) % 0x10000 ≡ v = ap (λ q. (q list.cln + 1 + 0) % 0x10000) fr ∙ plus_none (u.fram list.cln) 1 in
       store_line z (word_code list) (Store a home ∷ Store (a + 2) copy ∷ Store (a + 4) 1 ∷ Store list.cln v ∷ []) (put u.fram list.cln v) 16 (pc + 16) _ j.is
@@ -265,7 +266,8 @@ module _ (z : Setting) where
         (at_offset (6 * n) list.list 4 f4.high) (at_offset (6 * n) list.list 2 f2.high) copy_tests j.held.four small j in
         let on : Runs z.code [] 8 t (Flagged z (Found (6 * n) home copy) (IsZero b) (pc + 58) w) =
         subst (λ c. Runs z.code [] 8 t (Flagged z (Found (6 * n) home copy) (IsZero c) (pc + 58) w)) same
-        (subst (λ p. Runs z.code [] 8 t (Flagged z (Found (6 * n) home copy) (IsZero ((2 * w.fram (a + 4) + w.fram (a + 2)) % 0x10000 == copy)) p w)) e58 tested) in
+        (subst (λ p. Runs z.code [] 8 t (Flagged z (Found (6 * n) home copy) (IsZero ((2 * w.fram (a + 4) + w.fram (a + 2)) % 0x10000 == copy)) p w))
+        e58 tested) in
         by b on
       where
         by : (c : Bool) → Runs z.code [] 8 t (Flagged z (Found (6 * n) home copy) (IsZero c) (pc + 58) w)
@@ -333,7 +335,8 @@ module _ (z : Setting) where
         then_end z (pc + 92) 43 next.effects next.end
         (jump_with z condition.Equal 27 (pc + 20) (pc + 22) false at20 (k.flag ∙ some) (omega arith) k.all) (λ u j.
         then_end z (pc + 92) 38 next.effects next.end
-        (subst (λ p. Runs z.code [] 5 u (Holds z (Found (6 * n) home copy) p w)) e32 (last_part (pc + 22) n w home copy u (omega (arith, high)) lasts j)) (λ u j.
+        (subst (λ p. Runs z.code [] 5 u (Holds z (Found (6 * n) home copy) p w)) e32 (last_part (pc + 22) n w home copy u (omega (arith, high)) lasts j))
+        (λ u j.
         then_end z (pc + 92) 30 next.effects next.end
         (subst (λ p. Runs z.code [] 8 u (Flagged z (Found (6 * n) home copy) (IsZero b) p w)) e44
         (test_part words_at list.list R7 home (pc + 32) w (6 * n) home copy (a + 4) a u wl (λ q. omega (arith, q)) f4 f1

@@ -1,9 +1,8 @@
 -- In the body of a loop the local that counts its turns is below a number, and so is an index that waits there.
-use Rattle.std.proofs.Common.{◌≡◌, ◌≢◌, ℕ, ◌<◌, ◌==◌, ◌&&◌, ◌||◌, Bool, true, false, nat_lt, nat_le, if◌then◌else◌, List, [], ◌∷◌, Option, Some, ◌≤◌, refl, sym}
-use Rattle.std.proofs.Common.{ap, ◌∙◌, subst, arith, ltb-true, lt-ltb, eqb-true, ne_eqb}
-use Rattle.codegen.proofs.Names.{and_parts, nat_tests, unwrap_or, AllByRecursion, Core, Step, Program, nothing, step, WordState, End, GoesOn, on_end}
-use Rattle.codegen.proofs.Names.{with_stack, assigned, step_behaviour, behaviour, StepSpares, Spares, Leaves, leaves, Bound, Waiting, top_of, below_top}
-use Rattle.codegen.proofs.Names.{is_bounded, is_inside}
+use Rattle.codegen.proofs.Names.{◌≡◌, ◌≢◌, ℕ, ◌<◌, ◌==◌, ◌&&◌, ◌||◌, Bool, true, false, nat_lt, nat_le, if◌then◌else◌, List, [], ◌∷◌, Option, Some, ◌≤◌, refl}
+use Rattle.codegen.proofs.Names.{sym, ap, ◌∙◌, subst, arith, ltb-true, lt-ltb, eqb-true, ne_eqb, and_parts, nat_tests, unwrap_or, AllByRecursion, Core, Step}
+use Rattle.codegen.proofs.Names.{Program, nothing, step, WordState, End, GoesOn, on_end, with_stack, assigned, step_behaviour, behaviour, StepSpares, Spares}
+use Rattle.codegen.proofs.Names.{Leaves, leaves, Bound, Waiting, top_of, below_top, is_bounded, is_inside}
 use Rattle.codegen.specs.declared.waiting.Waiting.TheVariants as waiting
 use Rattle.codegen.proofs.Stretches.{Setting}
 use Rattle.codegen.proofs.Follows.{OnGoesOn}

@@ -1,10 +1,10 @@
 -- Loops: a turn, and behind it the local decides whether there is another.
-use Rattle.std.proofs.Common.{◌≡◌, ℕ, zero, suc, ◌+◌, ◌-◌, ◌*◌, ◌%◌, ◌<◌, ◌≤◌, ◌==◌, not, Bool, true, false, nat_lt, if◌then◌else◌, List, [], ◌∷◌, ◌++◌, Some}
-use Rattle.std.proofs.Common.{refl, sym, ap, ◌∙◌, subst, arith, eq-eqb, ne_eqb}
-use Rattle.codegen.proofs.Names.{nat_tests, not-not, put, put_same, WorkRegister, R4, work_number, Core, Register, Constant, Ram, ToRegister, ToRam, Form, Move}
-use Rattle.codegen.proofs.Names.{Calculate, instruction_of, form_bytes, Stands, forms_bytes, forms_run, Runs, stands_front, stands_back, end_of, stands_at}
-use Rattle.codegen.proofs.Names.{form_at, first_forms, forms_bytes-append, WordState, End, GoesOn, Behaviour, with_local, assigned, turns, spent_on}
-use Rattle.codegen.proofs.Names.{turns_spent, local_register, local_address, number_source, number_code, size, ram_turn_end, turn_end, jump_back, turns_code}
+use Rattle.codegen.proofs.Names.{◌≡◌, ℕ, zero, suc, ◌+◌, ◌-◌, ◌*◌, ◌%◌, ◌<◌, ◌≤◌, ◌==◌, not, Bool, true, false, nat_lt, if◌then◌else◌, List, [], ◌∷◌, ◌++◌}
+use Rattle.codegen.proofs.Names.{Some, refl, sym, ap, ◌∙◌, subst, arith, eq-eqb, ne_eqb, nat_tests, not-not, put, put_same, WorkRegister, R4, work_number, Core}
+use Rattle.codegen.proofs.Names.{Register, Constant, Ram, ToRegister, ToRam, Form, Move, Calculate, instruction_of, form_bytes, Stands, forms_bytes, forms_run}
+use Rattle.codegen.proofs.Names.{Runs, stands_front, stands_back, end_of, stands_at, form_at, first_forms, forms_bytes-append, WordState, End, GoesOn}
+use Rattle.codegen.proofs.Names.{Behaviour, with_local, assigned, turns, spent_on, turns_spent, local_register, local_address, number_source, number_code, size}
+use Rattle.codegen.proofs.Names.{ram_turn_end, turn_end, jump_back, turns_code}
 use Rattle.msp_isa.specs.declared.instructions.Condition.TheVariants as condition
 use Rattle.msp_isa.specs.declared.instructions.TwoOp.TheVariants as op
 use Rattle.msp_isa.specs.declared.operands.Konst.TheVariants as konst

@@ -1,8 +1,7 @@
 -- The stack and the locals: the first eight in registers, the others in RAM.
-use Rattle.std.proofs.Common.{◌≡◌, ℕ, zero, suc, ◌+◌, ◌-◌, ◌*◌, ◌<◌, ◌≤◌, List, [], ◌∷◌, length, get_or, Option, Some, refl, sym, ap, ◌∙◌, subst, arith, Bool}
-use Rattle.std.proofs.Common.{true, false, nat_eq, nat_lt, eq-eqb, ne_eqb, if◌then◌else◌}
-use Rattle.codegen.proofs.Names.{AllByRecursion, nat_tests, same_Some, put, IsFram, IsRam, put_same, put_other, work_number, HasPushRoom, is_place, assigned}
-use Rattle.codegen.proofs.Names.{local_register, local_address}
+use Rattle.codegen.proofs.Names.{◌≡◌, ℕ, zero, suc, ◌+◌, ◌-◌, ◌*◌, ◌<◌, ◌≤◌, List, [], ◌∷◌, length, get_or, Option, Some, refl, sym, ap, ◌∙◌, subst, arith}
+use Rattle.codegen.proofs.Names.{Bool, true, false, nat_eq, nat_lt, eq-eqb, ne_eqb, if◌then◌else◌, AllByRecursion, nat_tests, same_Some, put, IsFram, IsRam}
+use Rattle.codegen.proofs.Names.{put_same, put_other, work_number, HasPushRoom, is_place, assigned, local_register, local_address}
 use Rattle.codegen.proofs.Stretches.{Setting}
 
 -- words

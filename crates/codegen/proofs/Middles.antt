@@ -1,7 +1,7 @@
 -- Operations on registers: what each leaves, and the steps that they are.
-use Rattle.std.proofs.Common.{◌≡◌, ℕ, ◌+◌, ◌-◌, ◌%◌, ◌<◌, List, [], refl, ap, ap₂, ◌∙◌, arith}
-use Rattle.codegen.proofs.Names.{Flags, Word, operated, WorkRegister, R4, R5, Core, Form, Stands, forms_bytes, Runs, Negate, Complement, PlainOperation, Add}
-use Rattle.codegen.proofs.Names.{Subtract, Plain, unary_word, plain_word, binary_word, WordState, unary_middle, plain_instruction, binary_middle}
+use Rattle.codegen.proofs.Names.{◌≡◌, ℕ, ◌+◌, ◌-◌, ◌%◌, ◌<◌, List, [], refl, ap, ap₂, ◌∙◌, arith, Flags, Word, operated, WorkRegister, R4, R5, Core, Form}
+use Rattle.codegen.proofs.Names.{Stands, forms_bytes, Runs, Negate, Complement, PlainOperation, Add, Subtract, Plain, unary_word, plain_word, binary_word}
+use Rattle.codegen.proofs.Names.{WordState, unary_middle, plain_instruction, binary_middle}
 use Rattle.codegen.proofs.Registers.{Has, HasTwo, line}
 use Rattle.codegen.proofs.Stretches.{Setting}
 

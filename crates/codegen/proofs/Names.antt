@@ -1,5 +1,9 @@
 -- The names that the proofs here share, from the rooms below and from this one's specs.
 -- std
+pub use Rattle.std.proofs.Common.{◌≡◌, ℕ, ◌+◌, ◌*◌, ◌%◌, ◌<◌, ◌==◌, not, List, [], ◌∷◌, ◌++◌, refl, sym, ap, ◌∙◌, subst, arith, Bool, true, false, ◌≤◌, nat_lt}
+pub use Rattle.std.proofs.Common.{nat_le, if◌then◌else◌, Some, ap₂, suc, ◌-◌, length, drop, get_or, append_assoc, drop-cons, add-one, rules, Result, Ok, Err}
+pub use Rattle.std.proofs.Common.{is_ok, append-nil, ◌/◌, eq-eqb, ne_eqb, eqb-true, zero, length-append, Option, None, ltb-true, ◌&&◌, ◌≢◌, ◌||◌, lt-ltb}
+pub use Rattle.std.proofs.Common.{nat_eq, suc-add, ◌^◌, bit_and, ◌⊎◌, inl, inr, ⊎_elim, w16, le-leb, le-ltb, All}
 pub use Rattle.std.proofs.Math.Bool.{not-not}
 pub use Rattle.std.proofs.lemmas.Bool.{both_ways, and_parts, cases_eq}
 pub use Rattle.std.proofs.lemmas.Bool.Decides.{nat_tests}

@@ -1,6 +1,6 @@
 -- Words that wait to be pushed: what the machine stands for where some do, how they are pushed, and how they come to registers.
-use Rattle.std.proofs.Common.{◌≡◌, ℕ, suc, ◌+◌, ◌-◌, ◌%◌, ◌<◌, ◌≤◌, nat_le, Bool, true, false, nat_lt, if◌then◌else◌, List, [], ◌∷◌, ◌++◌, length, get_or, drop}
-use Rattle.std.proofs.Common.{Option, Some, None, ◌==◌, eqb-true, refl, sym, ap, ap₂, ◌∙◌, subst, arith, append_assoc, append-nil, length-append}
+use Rattle.codegen.proofs.Names.{◌≡◌, ℕ, suc, ◌+◌, ◌-◌, ◌%◌, ◌<◌, ◌≤◌, nat_le, Bool, true, false, nat_lt, if◌then◌else◌, List, [], ◌∷◌, ◌++◌, length, get_or}
+use Rattle.codegen.proofs.Names.{drop, Option, Some, None, ◌==◌, eqb-true, refl, sym, ap, ap₂, ◌∙◌, subst, arith, append_assoc, append-nil, length-append}
 use Rattle.codegen.proofs.Names.{Flags, unwrap_or, AllByRecursion, put, Goes, IsFram, Konst, constant_value, CycleRow, cycles_of, source_cycles, to_register}
 use Rattle.codegen.proofs.Names.{to_memory, push, put_same, put_other, WorkRegister, R4, R5, work_number, Core, Source, Register, Number, Constant}
 use Rattle.codegen.proofs.Names.{source_operand, source_bytes, source_value, source_read, SourceNeeds, ToRegister, Form, Move, Calculate, Push, HasPushRoom}

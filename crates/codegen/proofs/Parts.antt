@@ -1,11 +1,10 @@
 -- The steps that are straight code: words of FRAM, locals, jumps.
-use Rattle.std.proofs.Common.{◌≡◌, ℕ, ◌+◌, ◌-◌, ◌%◌, ◌<◌, Bool, true, false, nat_lt, List, [], ◌∷◌, length, Option, Some, refl, sym, ap, ◌∙◌, subst, arith, ◌≤◌}
-use Rattle.std.proofs.Common.{eq-eqb, if◌then◌else◌}
-use Rattle.codegen.proofs.Names.{cycles_of, source_cycles, to_register, to_memory, Store, put, Goes, At, stretch, IsFram, Konst, constant_value, work_number}
-use Rattle.codegen.proofs.Names.{Core, Source, source_operand, source_bytes, source_read, Constant, Fram, Ram, ToRegister, ToFram, ToRam, Move, Push, Branch}
-use Rattle.codegen.proofs.Names.{instruction_of, Stands, forms_bytes, forms_run, Runs, stands_at, end_of, WordState, behaves, goes_on, Jumps, broken}
-use Rattle.codegen.proofs.Names.{with_stack, pushed, stored, with_local, is_place, word_stored, jumped, Waiting, HasJumped, local_register, local_address}
-use Rattle.codegen.proofs.Names.{local_target, number_source, source_from, number_code}
+use Rattle.codegen.proofs.Names.{◌≡◌, ℕ, ◌+◌, ◌-◌, ◌%◌, ◌<◌, Bool, true, false, nat_lt, List, [], ◌∷◌, length, Option, Some, refl, sym, ap, ◌∙◌, subst, arith}
+use Rattle.codegen.proofs.Names.{◌≤◌, eq-eqb, if◌then◌else◌, cycles_of, source_cycles, to_register, to_memory, Store, put, Goes, At, stretch, IsFram, Konst}
+use Rattle.codegen.proofs.Names.{constant_value, work_number, Core, Source, source_operand, source_bytes, source_read, Constant, Fram, Ram, ToRegister, ToFram}
+use Rattle.codegen.proofs.Names.{ToRam, Move, Push, Branch, instruction_of, Stands, forms_bytes, forms_run, Runs, stands_at, end_of, WordState, behaves}
+use Rattle.codegen.proofs.Names.{goes_on, Jumps, broken, with_stack, pushed, stored, with_local, is_place, word_stored, jumped, Waiting, HasJumped}
+use Rattle.codegen.proofs.Names.{local_register, local_address, local_target, number_source, source_from, number_code}
 use Rattle.codegen.proofs.Stretches.{Setting, straight, hop}
 use Rattle.codegen.proofs.Memory.{local_words, in_ram, Memory, push_needs, local_needs, push_memory, set_register, set_ram, place_is}
 use Rattle.codegen.proofs.Follows.{StandsFor, Follows, guarded}

@@ -1,9 +1,8 @@
 -- Multiplication: a turn for each bit of the right side, up to its highest.
-use Rattle.std.proofs.Common.{◌≡◌, ℕ, zero, suc, ◌+◌, ◌*◌, ◌/◌, ◌%◌, ◌^◌, ◌<◌, ◌==◌, not, List, [], ◌∷◌, Some, refl, sym, ap, ap₂, ◌∙◌, subst, arith, Bool}
-use Rattle.std.proofs.Common.{true, false, eqb-true, bit_and}
-use Rattle.codegen.proofs.Names.{nat_tests, and_mask, and_le_r, mul-mod_first, bit, sum16, distance, R4, R5, R6, Core, Register, Constant, ToRegister, Form}
-use Rattle.codegen.proofs.Names.{Move, Calculate, Modify, Jump, instruction_of, Stands, forms_bytes, Runs, form_at, forms_at, Multiply, binary_word, WordState}
-use Rattle.codegen.proofs.Names.{binary_middle, multiply_turn}
+use Rattle.codegen.proofs.Names.{◌≡◌, ℕ, zero, suc, ◌+◌, ◌*◌, ◌/◌, ◌%◌, ◌^◌, ◌<◌, ◌==◌, not, List, [], ◌∷◌, Some, refl, sym, ap, ap₂, ◌∙◌, subst, arith, Bool}
+use Rattle.codegen.proofs.Names.{true, false, eqb-true, bit_and, nat_tests, and_mask, and_le_r, mul-mod_first, bit, sum16, distance, R4, R5, R6, Core, Register}
+use Rattle.codegen.proofs.Names.{Constant, ToRegister, Form, Move, Calculate, Modify, Jump, instruction_of, Stands, forms_bytes, Runs, form_at, forms_at}
+use Rattle.codegen.proofs.Names.{Multiply, binary_word, WordState, binary_middle, multiply_turn}
 use Rattle.msp_isa.specs.declared.instructions.Condition.TheVariants as condition
 use Rattle.msp_isa.specs.declared.instructions.TwoOp.TheVariants as op
 use Rattle.msp_isa.specs.declared.operands.Konst.TheVariants as konst

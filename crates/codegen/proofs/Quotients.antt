@@ -1,9 +1,9 @@
 -- Division: sixteen turns, each with one bit of the left side.
-use Rattle.std.proofs.Common.{◌≡◌, ℕ, zero, suc, ◌+◌, ◌-◌, ◌*◌, ◌/◌, ◌%◌, ◌^◌, ◌<◌, ◌≤◌, ◌==◌, ◌⊎◌, inl, inr, ⊎_elim, not, List, [], ◌∷◌, Some, refl, sym, ap}
-use Rattle.std.proofs.Common.{ap₂, ◌∙◌, subst, arith, Bool, true, false, nat_le, eq-eqb, if◌then◌else◌}
-use Rattle.codegen.proofs.Names.{nat_tests, div-mul-add, mod-mul-add, cases_eq, bit, quotient, remainder, sum16, distance, R4, R5, R6, R7, Core, Register}
-use Rattle.codegen.proofs.Names.{Number, Constant, ToRegister, Form, Move, Calculate, Jump, instruction_of, Stands, Runs, form_at, forms_at, forms_behind}
-use Rattle.codegen.proofs.Names.{Divide, Remainder, binary_word, WordState, binary_middle, divide_middle, divide_turn}
+use Rattle.codegen.proofs.Names.{◌≡◌, ℕ, zero, suc, ◌+◌, ◌-◌, ◌*◌, ◌/◌, ◌%◌, ◌^◌, ◌<◌, ◌≤◌, ◌==◌, ◌⊎◌, inl, inr, ⊎_elim, not, List, [], ◌∷◌, Some, refl, sym}
+use Rattle.codegen.proofs.Names.{ap, ap₂, ◌∙◌, subst, arith, Bool, true, false, nat_le, eq-eqb, if◌then◌else◌, nat_tests, div-mul-add, mod-mul-add, cases_eq}
+use Rattle.codegen.proofs.Names.{bit, quotient, remainder, sum16, distance, R4, R5, R6, R7, Core, Register, Number, Constant, ToRegister, Form, Move, Calculate}
+use Rattle.codegen.proofs.Names.{Jump, instruction_of, Stands, Runs, form_at, forms_at, forms_behind, Divide, Remainder, binary_word, WordState, binary_middle}
+use Rattle.codegen.proofs.Names.{divide_middle, divide_turn}
 use Rattle.msp_isa.proofs.alp_words.Interface.{bit_below}
 use Rattle.msp_isa.specs.declared.instructions.Condition.TheVariants as condition
 use Rattle.msp_isa.specs.declared.instructions.TwoOp.TheVariants as op

@@ -1,8 +1,8 @@
 -- Registers with words, straight code on them, and jumps.
-use Rattle.std.proofs.Common.{sym, subst, ◌≡◌, ℕ, ◌+◌, ◌-◌, ◌%◌, ◌<◌, ◌==◌, List, [], ◌∷◌, Some, refl, ap, ap₂, ◌∙◌, arith, Bool, false, nat_le, if◌then◌else◌}
-use Rattle.codegen.proofs.Names.{Flags, Effect, stretch, At, FormsNeed, AreStraight, forms_run, end_of, stands_at, work_number, WorkRegister, bytes_are}
-use Rattle.codegen.proofs.Names.{nat_tests, Word, sum_of, Condition, sum16, distance, is_met, Core, Form, Jump, Skip, instruction_of, Stands, forms_bytes, Runs}
-use Rattle.codegen.proofs.Names.{WordState}
+use Rattle.codegen.proofs.Names.{sym, subst, ◌≡◌, ℕ, ◌+◌, ◌-◌, ◌%◌, ◌<◌, ◌==◌, List, [], ◌∷◌, Some, refl, ap, ap₂, ◌∙◌, arith, Bool, false, nat_le}
+use Rattle.codegen.proofs.Names.{if◌then◌else◌, Flags, Effect, stretch, At, FormsNeed, AreStraight, forms_run, end_of, stands_at, work_number, WorkRegister}
+use Rattle.codegen.proofs.Names.{bytes_are, nat_tests, Word, sum_of, Condition, sum16, distance, is_met, Core, Form, Jump, Skip, instruction_of, Stands}
+use Rattle.codegen.proofs.Names.{forms_bytes, Runs, WordState}
 use Rattle.codegen.proofs.Memory.{Memory, local_words}
 use Rattle.codegen.proofs.Stretches.{straight, hop, so_runs, Setting}
 use Rattle.codegen.proofs.Follows.{StandsFor, stands_elsewhere}

@@ -1,18 +1,18 @@
 -- Steps where words wait: values that come to wait in a register, and statements behind which none waits.
-use Rattle.std.proofs.Common.{◌≡◌, ℕ, ◌+◌, ◌*◌, ◌<◌, ◌≤◌, ◌-◌, ◌/◌, ◌%◌, ◌^◌, ◌==◌, ◌&&◌, Bool, true, false, nat_lt, if◌then◌else◌, List, [], ◌∷◌, ◌++◌, length}
-use Rattle.std.proofs.Common.{Option, Some, None, refl, sym, ap, ap₂, ◌∙◌, subst, arith, bit_and, w16, ltb-true, eqb-true, ne_eqb, le-leb}
-use Rattle.codegen.proofs.Names.{Step, and_parts, same_Some, and_mask, pow_pos, word_sum, word_product, quotient, remainder, Word, operated, cycles_of}
-use Rattle.codegen.proofs.Names.{source_cycles, to_register, Goes, unwrap_or, Take, put, IsFram, WorkRegister, R4, R5, R6, work_number, Core, Source}
-use Rattle.codegen.proofs.Names.{source_operand, source_bytes, source_value, Form, Move, Calculate, Update, Push, Ram, ToFram, sensed, flags_after, calculated}
-use Rattle.codegen.proofs.Names.{instruction_of, Stands, forms_bytes, Runs, stands_front, stands_back, forms_bytes-append, ArrayPlace, ListPlace}
-use Rattle.codegen.proofs.Names.{UnaryOperation, Negate, Complement, BinaryOperation, Multiply, Divide, Remainder, Plain, PlainOperation, And, ShiftOperation}
-use Rattle.codegen.proofs.Names.{Left, Right, unary_word, plain_word, binary_word, shift_word, keep, update, set_local, update_local, unary, binary, shift}
-use Rattle.codegen.proofs.Names.{element, emit_word, versioned_read, versioned_write, sense, WordState, Behaviour, GoesOn, goes_on, with_top, with_two}
-use Rattle.codegen.proofs.Names.{with_stack, with_local, pushed, is_place, at_place, word_stored, word_emitted, element_pushed, own_element, versioned_pushed}
-use Rattle.codegen.proofs.Names.{versioned_stored, reading_pushed, unary_cycles, binary_cycles, Bound, Waiting, local_address, local_target, flushed, top_of}
-use Rattle.codegen.proofs.Names.{source_from, below_top, any_held, cleared, kept, top_to_four, top_to_five, plain_instruction, update_code, sides, right_source}
-use Rattle.codegen.proofs.Names.{power, known_element, two_code, power_code, power_result, two_to_registers, unary_middle, binary_middle, binary_result}
-use Rattle.codegen.proofs.Names.{shift_middle, element_code, emit_code, read_code, write_code, top_number, element_at, is_inside, waiting_behind, step_code}
+use Rattle.codegen.proofs.Names.{◌≡◌, ℕ, ◌+◌, ◌*◌, ◌<◌, ◌≤◌, ◌-◌, ◌/◌, ◌%◌, ◌^◌, ◌==◌, ◌&&◌, Bool, true, false, nat_lt, if◌then◌else◌, List, [], ◌∷◌, ◌++◌}
+use Rattle.codegen.proofs.Names.{length, Option, Some, None, refl, sym, ap, ap₂, ◌∙◌, subst, arith, bit_and, w16, ltb-true, eqb-true, ne_eqb, le-leb, Step}
+use Rattle.codegen.proofs.Names.{and_parts, same_Some, and_mask, pow_pos, word_sum, word_product, quotient, remainder, Word, operated, cycles_of, source_cycles}
+use Rattle.codegen.proofs.Names.{to_register, Goes, unwrap_or, Take, put, IsFram, WorkRegister, R4, R5, R6, work_number, Core, Source, source_operand}
+use Rattle.codegen.proofs.Names.{source_bytes, source_value, Form, Move, Calculate, Update, Push, Ram, ToFram, sensed, flags_after, calculated, instruction_of}
+use Rattle.codegen.proofs.Names.{Stands, forms_bytes, Runs, stands_front, stands_back, forms_bytes-append, ArrayPlace, ListPlace, UnaryOperation, Negate}
+use Rattle.codegen.proofs.Names.{Complement, BinaryOperation, Multiply, Divide, Remainder, Plain, PlainOperation, And, ShiftOperation, Left, Right, unary_word}
+use Rattle.codegen.proofs.Names.{plain_word, binary_word, shift_word, keep, update, set_local, update_local, unary, binary, shift, element, emit_word}
+use Rattle.codegen.proofs.Names.{versioned_read, versioned_write, sense, WordState, Behaviour, GoesOn, goes_on, with_top, with_two, with_stack, with_local}
+use Rattle.codegen.proofs.Names.{pushed, is_place, at_place, word_stored, word_emitted, element_pushed, own_element, versioned_pushed, versioned_stored}
+use Rattle.codegen.proofs.Names.{reading_pushed, unary_cycles, binary_cycles, Bound, Waiting, local_address, local_target, flushed, top_of, source_from}
+use Rattle.codegen.proofs.Names.{below_top, any_held, cleared, kept, top_to_four, top_to_five, plain_instruction, update_code, sides, right_source, power}
+use Rattle.codegen.proofs.Names.{known_element, two_code, power_code, power_result, two_to_registers, unary_middle, binary_middle, binary_result, shift_middle}
+use Rattle.codegen.proofs.Names.{element_code, emit_code, read_code, write_code, top_number, element_at, is_inside, waiting_behind, step_code}
 use Rattle.std.specs.Int.{trailing_zeros}
 use Rattle.code_forms.specs.Forms as forms
 use Rattle.codegen.specs.declared.waiting.Waiting.TheVariants as waiting
@@ -346,7 +346,9 @@ module _ (z : Setting) where
       record {
         spent = l + c;
         within = omega (arith, owed_kept (below_top under), right_owed os, load_owed under);
-        runs = two_parts z (sides os) (m ∷ []) pc (λ p. Describes z (waiting.R4 ∷ ks) p (with_stack (plain_word o x y ∷ rest) w)) h (λ s. sides_part z os pc w x y rest u e s d)
+        runs =
+            two_parts z (sides os) (m ∷ []) pc (λ p. Describes z (waiting.R4 ∷ ks) p (with_stack (plain_word o x y ∷ rest) w)) h
+            (λ s. sides_part z os pc w x y rest u e s d)
             (λ t s' k. plain_form o s c mid x y ks w rest t (reading_price (top_of os)) lx ly (none_held (below_top under)) room s'.0 k);
       }
 
@@ -558,8 +560,8 @@ module _ (z : Setting) where
       → StepDoes [] os sense 6 pc w u (reading_pushed rs w)
   sense_part os pc w rs u room e h d =
       let mid = pc + forms_bytes (cleared os) in
-      does_behind (cleared os) (forms.Sense R4 ∷ []) (waiting.R4 ∷ kept os) (6 + owed (kept os)) (6 + owed os) pc u (reading_pushed rs w) (omega (arith, owed_kept os)) h
-      (clear_under z [] os pc w u d) (λ t s k. by rs t e s k.is)
+      does_behind (cleared os) (forms.Sense R4 ∷ []) (waiting.R4 ∷ kept os) (6 + owed (kept os)) (6 + owed os) pc u (reading_pushed rs w)
+      (omega (arith, owed_kept os)) h (clear_under z [] os pc w u d) (λ t s k. by rs t e s k.is)
     where
       by : (rs : List ℕ) (t : Core) → w.readings ≡ rs → Stands z.code (pc + forms_bytes (cleared os)) (forms.Sense R4 ∷ [])
           → Describes z (kept os) (pc + forms_bytes (cleared os)) w t

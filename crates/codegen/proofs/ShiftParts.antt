@@ -1,9 +1,9 @@
 -- Shifts by a count.
-use Rattle.std.proofs.Common.{◌≡◌, ℕ, zero, suc, ◌+◌, ◌-◌, ◌*◌, ◌/◌, ◌%◌, ◌^◌, ◌<◌, ◌≤◌, ◌==◌, not, List, [], ◌∷◌, ◌++◌, Some, refl, sym, ap, ◌∙◌, subst, arith}
-use Rattle.std.proofs.Common.{Bool, true, false, nat_lt, nat_le, ltb-true, if◌then◌else◌, bit_and}
-use Rattle.codegen.proofs.Names.{nat_tests, and_mask, mul-mod_first, pow-add, bit, arithmetic_shift, R4, Core, Register, Number, Constant, ToRegister, Form}
-use Rattle.codegen.proofs.Names.{Move, Calculate, Modify, instruction_of, form_bytes, Stands, forms_bytes, Runs, stands_front, stands_back, ShiftOperation}
-use Rattle.codegen.proofs.Names.{Left, Right, SignedRight, shifted_word, shift_word, WordState, repeated, right_code, shift_by, shift_middle}
+use Rattle.codegen.proofs.Names.{◌≡◌, ℕ, zero, suc, ◌+◌, ◌-◌, ◌*◌, ◌/◌, ◌%◌, ◌^◌, ◌<◌, ◌≤◌, ◌==◌, not, List, [], ◌∷◌, ◌++◌, Some, refl, sym, ap, ◌∙◌, subst}
+use Rattle.codegen.proofs.Names.{arith, Bool, true, false, nat_lt, nat_le, ltb-true, if◌then◌else◌, bit_and, nat_tests, and_mask, mul-mod_first, pow-add, bit}
+use Rattle.codegen.proofs.Names.{arithmetic_shift, R4, Core, Register, Number, Constant, ToRegister, Form, Move, Calculate, Modify, instruction_of, form_bytes}
+use Rattle.codegen.proofs.Names.{Stands, forms_bytes, Runs, stands_front, stands_back, ShiftOperation, Left, Right, SignedRight, shifted_word, shift_word}
+use Rattle.codegen.proofs.Names.{WordState, repeated, right_code, shift_by, shift_middle}
 use Rattle.std.proofs.Math.Nat.{div-div-eq-div-mul}
 use Rattle.std.proofs.lemmas.Grind.{and_high_numeral}
 use Rattle.msp_isa.specs.declared.instructions.TwoOp.TheVariants as op

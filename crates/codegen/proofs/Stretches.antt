@@ -1,7 +1,7 @@
 -- Stretches of code that stays, with room for locals and a stack.
-use Rattle.std.proofs.Common.{subst, ◌≡◌, ℕ, ◌+◌, ◌*◌, ◌≤◌, List, [], ◌++◌, Some, arith}
-use Rattle.codegen.proofs.Names.{forms_bytes, stands_front, stands_back, forms_bytes-append, Effect, Goes, Stops, At, stretch, Code, Core, Form, instruction_of}
-use Rattle.codegen.proofs.Names.{form_step, FormNeeds, Stands, AreStraight, forms_run, FormsNeed, IsTidy, Runs, Starves}
+use Rattle.codegen.proofs.Names.{subst, ◌≡◌, ℕ, ◌+◌, ◌*◌, ◌≤◌, List, [], ◌++◌, Some, arith, forms_bytes, stands_front, stands_back, forms_bytes-append, Effect}
+use Rattle.codegen.proofs.Names.{Goes, Stops, At, stretch, Code, Core, Form, instruction_of, form_step, FormNeeds, Stands, AreStraight, forms_run, FormsNeed}
+use Rattle.codegen.proofs.Names.{IsTidy, Runs, Starves}
 use Rattle.array_versions.specs.msp_step.declared.machine.Stop.TheVariants as stop
 use Rattle.code_forms.proofs.Interface as blocks
 

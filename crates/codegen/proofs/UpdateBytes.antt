@@ -1,8 +1,7 @@
 -- How long the code of an element is that is updated in place.
-use Rattle.std.proofs.Common.{◌≡◌, ℕ, ◌+◌, ◌*◌, ◌≤◌, List, [], ◌∷◌, ◌++◌, arith}
-use Rattle.codegen.proofs.Names.{word_sum, R4, R7, Source, source_bytes, Number, ToRegister, Form, Move, Calculate, Update, Jump, forms_bytes}
-use Rattle.codegen.proofs.Names.{forms_bytes-append, form_small, PlainOperation, ArrayPlace, ListPlace, plain_instruction, size, made_code, first_update}
-use Rattle.codegen.proofs.Names.{by_version, inside_update, checked_update, known_update}
+use Rattle.codegen.proofs.Names.{◌≡◌, ℕ, ◌+◌, ◌*◌, ◌≤◌, List, [], ◌∷◌, ◌++◌, arith, word_sum, R4, R7, Source, source_bytes, Number, ToRegister, Form, Move}
+use Rattle.codegen.proofs.Names.{Calculate, Update, Jump, forms_bytes, forms_bytes-append, form_small, PlainOperation, ArrayPlace, ListPlace, plain_instruction}
+use Rattle.codegen.proofs.Names.{size, made_code, first_update, by_version, inside_update, checked_update, known_update}
 use Rattle.msp_isa.specs.declared.instructions.Condition.TheVariants as condition
 use Rattle.codegen.proofs.Jumps.{whole_size}
 

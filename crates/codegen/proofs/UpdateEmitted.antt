@@ -1,7 +1,6 @@
 -- Code of updates that is appended piece by piece.
-use Rattle.std.proofs.Common.{◌≡◌, ℕ, ◌+◌, ◌≤◌, List, [], ◌∷◌, ◌++◌, length, sym, ap, ap₂, ◌∙◌, arith, append_assoc}
-use Rattle.codegen.proofs.Names.{Instr, Form, Jump, instruction_of, forms_bytes, instructions, instruction_words, forms_bytes-append, instructions-append, size}
-use Rattle.codegen.proofs.Names.{by_version}
+use Rattle.codegen.proofs.Names.{◌≡◌, ℕ, ◌+◌, ◌≤◌, List, [], ◌∷◌, ◌++◌, length, sym, ap, ap₂, ◌∙◌, arith, append_assoc, Instr, Form, Jump, instruction_of}
+use Rattle.codegen.proofs.Names.{forms_bytes, instructions, instruction_words, forms_bytes-append, instructions-append, size, by_version}
 use Rattle.msp_isa.specs.declared.instructions.Condition.TheVariants as condition
 use Rattle.codegen.proofs.Jumps.{whole_size}
 use Rattle.codegen.proofs.Emitted.{own_words}

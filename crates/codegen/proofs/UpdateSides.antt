@@ -1,9 +1,8 @@
 -- The right side of an update of an element: it is read where it waits, whatever is in the registers for work.
-use Rattle.std.proofs.Common.{◌≡◌, ℕ, ◌+◌, ◌≤◌, Bool, true, false, not, if◌then◌else◌, List, [], ◌∷◌, ◌++◌, Option, Some, None, refl, sym, ap, ◌∙◌, subst}
-use Rattle.std.proofs.Common.{arith}
-use Rattle.codegen.proofs.Names.{source_cycles, to_register, to_memory, R5, Core, Source, Register, source_operand, source_value, source_read, SourceNeeds}
-use Rattle.codegen.proofs.Names.{Form, Stands, forms_bytes, Runs, WordState, with_stack, Waiting, waiting_source, flushed, top_of, source_from, below_top}
-use Rattle.codegen.proofs.Names.{is_held, any_held, four_from, five_from, rests, rest_source, to_rest, right_to_rest, update_sides}
+use Rattle.codegen.proofs.Names.{◌≡◌, ℕ, ◌+◌, ◌≤◌, Bool, true, false, not, if◌then◌else◌, List, [], ◌∷◌, ◌++◌, Option, Some, None, refl, sym, ap, ◌∙◌, subst}
+use Rattle.codegen.proofs.Names.{arith, source_cycles, to_register, to_memory, R5, Core, Source, Register, source_operand, source_value, source_read}
+use Rattle.codegen.proofs.Names.{SourceNeeds, Form, Stands, forms_bytes, Runs, WordState, with_stack, Waiting, waiting_source, flushed, top_of, source_from}
+use Rattle.codegen.proofs.Names.{below_top, is_held, any_held, four_from, five_from, rests, rest_source, to_rest, right_to_rest, update_sides}
 use Rattle.codegen.specs.declared.waiting.Waiting.TheVariants as waiting
 use Rattle.codegen.proofs.Stretches.{two_parts, Setting, dearer, nothing_run, so_runs}
 use Rattle.codegen.proofs.Registers.{With}

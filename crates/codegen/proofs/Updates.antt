@@ -1,5 +1,5 @@
 -- Operations in place: on a word of FRAM, and on a local.
-use Rattle.std.proofs.Common.{◌≡◌, ℕ, ◌+◌, ◌<◌, Bool, true, false, nat_lt, if◌then◌else◌, List, [], ◌∷◌, Option, Some, refl, sym, ap, ap₂, ◌∙◌, subst, arith}
+use Rattle.codegen.proofs.Names.{◌≡◌, ℕ, ◌+◌, ◌<◌, Bool, true, false, nat_lt, if◌then◌else◌, List, [], ◌∷◌, Option, Some, refl, sym, ap, ap₂, ◌∙◌, subst, arith}
 use Rattle.codegen.proofs.Names.{Word, operated, writes_destination, cycles_of, Store, put, Goes, R4, R5, work_number, Core, Register, Ram, source_bytes}
 use Rattle.codegen.proofs.Names.{source_value, source_read, ToRegister, ToRam, Move, Calculate, Update, IsNotMov, Form, flags_after, instruction_of, form_bytes}
 use Rattle.codegen.proofs.Names.{Stands, forms_bytes, forms_run, Runs, stands_at, end_of, PlainOperation, Add, plain_word, WordState, goes_on, with_stack}

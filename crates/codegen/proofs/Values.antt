@@ -1,5 +1,5 @@
 -- What the flags of a comparison say.
-use Rattle.std.proofs.Common.{◌≡◌, ℕ, ◌+◌, ◌-◌, ◌%◌, ◌<◌, ◌≤◌, ◌&&◌, not, refl, sym, ap, ◌∙◌, arith, Bool, true, false, nat_lt, nat_le, le-ltb, lt-ltb}
+use Rattle.codegen.proofs.Names.{◌≡◌, ℕ, ◌+◌, ◌-◌, ◌%◌, ◌<◌, ◌≤◌, ◌&&◌, not, refl, sym, ap, ◌∙◌, arith, Bool, true, false, nat_lt, nat_le, le-ltb, lt-ltb}
 use Rattle.codegen.proofs.Names.{nat_tests, not-not, Flags, Word, biased, same, is_negative, difference_of, and_of, is_met, Comparison, Equal, Below, Above}
 use Rattle.codegen.proofs.Names.{SignedBelow, SignedAbove, CommonBit, compare_words, holding, failing}
 use Rattle.codegen.proofs.Registers.{no_borrow, equal_flag}

@@ -1,10 +1,10 @@
 -- Versioned reads and writes.
-use Rattle.std.proofs.Common.{◌≡◌, ℕ, ◌+◌, ◌-◌, ◌*◌, ◌%◌, ◌<◌, ◌==◌, not, List, [], ◌∷◌, Some, refl, sym, ap, ap₂, ◌∙◌, subst, arith, Bool, true, false, nat_lt}
-use Rattle.std.proofs.Common.{if◌then◌else◌}
-use Rattle.codegen.proofs.Names.{both_ways, sum16, distance, Store, put, IsFram, R4, R5, R6, Core, Register, Constant, Fram, Indexed, ToRegister, ToIndexed}
-use Rattle.codegen.proofs.Names.{Form, Move, Calculate, Update, Jump, instruction_of, Stands, forms_bytes, Runs, stands_front, stands_back, form_at}
-use Rattle.codegen.proofs.Names.{first_forms, forms_behind, forms_bytes-append, ArrayPlace, ListPlace, WordState, goes_on, behind_effects, is_place, stored}
-use Rattle.codegen.proofs.Names.{first_stored, own_stored, versioned_stored, put_words, check_code, own_code, read_code, first_code, stored_code, write_code}
+use Rattle.codegen.proofs.Names.{◌≡◌, ℕ, ◌+◌, ◌-◌, ◌*◌, ◌%◌, ◌<◌, ◌==◌, not, List, [], ◌∷◌, Some, refl, sym, ap, ap₂, ◌∙◌, subst, arith, Bool, true, false}
+use Rattle.codegen.proofs.Names.{nat_lt, if◌then◌else◌, both_ways, sum16, distance, Store, put, IsFram, R4, R5, R6, Core, Register, Constant, Fram, Indexed}
+use Rattle.codegen.proofs.Names.{ToRegister, ToIndexed, Form, Move, Calculate, Update, Jump, instruction_of, Stands, forms_bytes, Runs, stands_front}
+use Rattle.codegen.proofs.Names.{stands_back, form_at, first_forms, forms_behind, forms_bytes-append, ArrayPlace, ListPlace, WordState, goes_on, behind_effects}
+use Rattle.codegen.proofs.Names.{is_place, stored, first_stored, own_stored, versioned_stored, put_words, check_code, own_code, read_code, first_code}
+use Rattle.codegen.proofs.Names.{stored_code, write_code}
 use Rattle.msp_isa.specs.declared.instructions.Condition.TheVariants as condition
 use Rattle.msp_isa.specs.declared.instructions.TwoOp.TheVariants as op
 use Rattle.msp_isa.specs.declared.operands.Konst.TheVariants as konst

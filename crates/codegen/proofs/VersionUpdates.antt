@@ -1,14 +1,13 @@
 -- Elements that are updated in place.
-use Rattle.std.proofs.Common.{◌≡◌, ℕ, ◌+◌, ◌-◌, ◌*◌, ◌%◌, ◌<◌, ◌≤◌, ◌==◌, not, Bool, true, false, nat_lt, nat_le, if◌then◌else◌, List, [], ◌∷◌, ◌++◌, Some}
-use Rattle.std.proofs.Common.{None, refl, sym, ap, ap₂, ◌∙◌, subst, arith}
-use Rattle.codegen.proofs.Names.{word_sum, Word, operated, sum16, distance, cycles_of, source_cycles, to_register, to_memory, Store, put, Goes, IsFram, R4, R6}
-use Rattle.codegen.proofs.Names.{R7, Core, Source, source_bytes, source_value, source_operand, Register, Number, Fram, Indexed, ToRegister, ToIndexed, Form}
-use Rattle.codegen.proofs.Names.{Move, Calculate, Update, Jump, flags_after, calculated, instruction_of, form_bytes, Stands, forms_bytes, Runs, stands_front}
-use Rattle.codegen.proofs.Names.{stands_back, forms_bytes-append, PlainOperation, ArrayPlace, ListPlace, plain_word, versioned_update, WordState, Behaviour}
-use Rattle.codegen.proofs.Names.{goes_on, behind_effects, with_two, with_stack, is_place, at_place, stored, first_stored, own_place, own_kept, own_updated}
-use Rattle.codegen.proofs.Names.{versioned_updated, plain_small, put_words, Bound, Waiting, top_of, below_top, plain_instruction, first_code, size, double}
-use Rattle.codegen.proofs.Names.{rest_source, right_to_rest, update_sides, made_code, attempt_form, first_update, by_version, inside_update, checked_update}
-use Rattle.codegen.proofs.Names.{indexed_update, known_update, update_at, is_inside}
+use Rattle.codegen.proofs.Names.{◌≡◌, ℕ, ◌+◌, ◌-◌, ◌*◌, ◌%◌, ◌<◌, ◌≤◌, ◌==◌, not, Bool, true, false, nat_lt, nat_le, if◌then◌else◌, List, [], ◌∷◌, ◌++◌, Some}
+use Rattle.codegen.proofs.Names.{None, refl, sym, ap, ap₂, ◌∙◌, subst, arith, word_sum, Word, operated, sum16, distance, cycles_of, source_cycles, to_register}
+use Rattle.codegen.proofs.Names.{to_memory, Store, put, Goes, IsFram, R4, R6, R7, Core, Source, source_bytes, source_value, source_operand, Register, Number}
+use Rattle.codegen.proofs.Names.{Fram, Indexed, ToRegister, ToIndexed, Form, Move, Calculate, Update, Jump, flags_after, calculated, instruction_of, form_bytes}
+use Rattle.codegen.proofs.Names.{Stands, forms_bytes, Runs, stands_front, stands_back, forms_bytes-append, PlainOperation, ArrayPlace, ListPlace, plain_word}
+use Rattle.codegen.proofs.Names.{versioned_update, WordState, Behaviour, goes_on, behind_effects, with_two, with_stack, is_place, at_place, stored}
+use Rattle.codegen.proofs.Names.{first_stored, own_place, own_kept, own_updated, versioned_updated, plain_small, put_words, Bound, Waiting, top_of, below_top}
+use Rattle.codegen.proofs.Names.{plain_instruction, first_code, size, double, rest_source, right_to_rest, update_sides, made_code, attempt_form, first_update}
+use Rattle.codegen.proofs.Names.{by_version, inside_update, checked_update, indexed_update, known_update, update_at, is_inside}
 use Rattle.msp_isa.specs.declared.instructions.Condition.TheVariants as condition
 use Rattle.msp_isa.specs.declared.instructions.TwoOp.TheVariants as op
 use Rattle.codegen.specs.declared.waiting.Waiting.TheVariants as waiting
@@ -340,8 +339,8 @@ module _ (z : Setting) (o : PlainOperation) (x : Source) (r : ℕ) (reads : sour
       let price = cycles_of (instruction_of m) in
       let y = plain_word o (w.fram c) v in
       let does = operated (plain_instruction o) Word (t.fram c) (source_value x t) t.flags in
-      let is : does.value ≡ y = ap₂ (λ p q. (operated (plain_instruction o) Word p q t.flags).value) (ap (λ (f : ℕ → ℕ). f c) i.fram) (g.word t i.fram refl refl)
-      ∙ makes o (w.fram c) v t.flags l lv in
+      let is : does.value ≡ y =
+      ap₂ (λ p q. (operated (plain_instruction o) Word p q t.flags).value) (ap (λ (f : ℕ → ℕ). f c) i.fram) (g.word t i.fram refl refl) ∙ makes o (w.fram c) v t.flags l lv in
       let after : Core → ℕ → Core = λ s q. record s { pc = t.pc + (2 + source_bytes x + 2); flags = flags_after does.flags t.flags; fram = put t.fram c q } in
       let needs = plain_needs o in
       hop z m 6 t (after t y) (Store c y ∷ []) price _ (ap z.code i.at ∙ h) (needs.0, needs.1, g.needs t, fc)
@@ -493,7 +492,8 @@ module _ (z : Setting) (o : PlainOperation) (place : ArrayPlace) (list : ListPla
       let end = mid + forms_bytes (known_update o x place list k) in
       let above = with_stack (i ∷ rest) w in
       let left = with_stack rest w in
-      alone_behind z front (known_update o x place list k) (78 + c) (86 + owed ws) pc u (versioned_updated o place list i v left) (omega (arith, rest_owed (p ∷ []))) h
+      alone_behind z front (known_update o x place list k) (78 + c) (86 + owed ws) pc u (versioned_updated o place list i v left)
+      (omega (arith, rest_owed (p ∷ []))) h
       (λ s. right_part z p (waiting.Number k) os pc w v (i ∷ rest) u e s d)
       (λ t s j.
       let q = drop_part z (waiting.Number k) [] mid above i rest t refl j.is in

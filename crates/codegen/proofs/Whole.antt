@@ -1,19 +1,18 @@
 -- The code of a word program does what the program does, within the cycles of the way that it takes.
-use Rattle.std.proofs.Common.{◌≡◌, ℕ, suc, ◌+◌, ◌-◌, ◌*◌, ◌<◌, Bool, true, false, not, nat_lt, if◌then◌else◌, List, [], ◌∷◌, ◌++◌, length, All, Some, ◌≢◌, None}
-use Rattle.std.proofs.Common.{refl, sym, ap, subst, arith}
-use Rattle.codegen.proofs.Names.{AllByRecursion, Effect, Core, Form, form_bytes, Move, Branch, Fram, ToFram, Stands, forms_bytes, stands_front, stands_back}
-use Rattle.codegen.proofs.Names.{forms_behind, forms_bytes-append, Comparison, is_true, compare_words, Step, Test, Program, number, load, keep, update, local}
-use Rattle.codegen.proofs.Names.{set_local, update_local, unary, binary, shift, element, emit_word, list_entry, versioned_read, versioned_write}
-use Rattle.codegen.proofs.Names.{versioned_update, sense, truth, choose, repeat, store_number, move_word, jump, holds, compares, both, either, fails, nothing}
-use Rattle.codegen.proofs.Names.{step, WordState, started, End, GoesOn, Jumps, Short, Strays, Broken, Behaviour, with_stack, with_local, with_top, with_two}
-use Rattle.codegen.proofs.Names.{is_place, local_pushed, local_updated, number_pushed, way_by_top, way_by_two, step_behaviour, then_on, tested, behaviour}
-use Rattle.codegen.proofs.Names.{Place, start, assigning, Moves, EachTurn, EachStepWay, EachTestWay, EachWay, StepLocalsBelow, TestLocalsBelow, StepSpares}
-use Rattle.codegen.proofs.Names.{TestSpares, Spares, LocalsBelow, StepLoopsCount, TestLoopsCount, LoopsCount, StepOfWords, TestOfWords, OfWords, top_spent}
-use Rattle.codegen.proofs.Names.{spent_by_top, spent_by_two, step_spent, spent_on, test_spent, spent, Matches, GoesWell, matches_local, start_matches}
-use Rattle.codegen.proofs.Names.{step_well, well, whole_ends_soundly, local_words, words_step, words, Leaves, leaves, Bound, Waiting, number_source, flushed}
-use Rattle.codegen.proofs.Names.{top_of, below_top, kept, top_to_four, two_to_registers, entry_code, compare_form, holding, failing, size, pass_over, decision}
-use Rattle.codegen.proofs.Names.{holds_code, compares_code, truth_code, number_code, turns_code, waiting_behind, waiting_after, bound_of, step_code, test_code}
-use Rattle.codegen.proofs.Names.{steps_code, block_code, code_of, ComesTo, CodeDoesAsProgram}
+use Rattle.codegen.proofs.Names.{◌≡◌, ℕ, suc, ◌+◌, ◌-◌, ◌*◌, ◌<◌, Bool, true, false, not, nat_lt, if◌then◌else◌, List, [], ◌∷◌, ◌++◌, length, All, Some, ◌≢◌}
+use Rattle.codegen.proofs.Names.{None, refl, sym, ap, subst, arith, AllByRecursion, Effect, Core, Form, form_bytes, Move, Branch, Fram, ToFram, Stands}
+use Rattle.codegen.proofs.Names.{forms_bytes, stands_front, stands_back, forms_behind, forms_bytes-append, Comparison, is_true, compare_words, Step, Test}
+use Rattle.codegen.proofs.Names.{Program, number, load, keep, update, local, set_local, update_local, unary, binary, shift, element, emit_word, list_entry}
+use Rattle.codegen.proofs.Names.{versioned_read, versioned_write, versioned_update, sense, truth, choose, repeat, store_number, move_word, jump, holds}
+use Rattle.codegen.proofs.Names.{compares, both, either, fails, nothing, step, WordState, started, End, GoesOn, Jumps, Short, Strays, Broken, Behaviour}
+use Rattle.codegen.proofs.Names.{with_stack, with_local, with_top, with_two, is_place, local_pushed, local_updated, number_pushed, way_by_top, way_by_two}
+use Rattle.codegen.proofs.Names.{step_behaviour, then_on, tested, behaviour, Place, start, assigning, Moves, EachTurn, EachStepWay, EachTestWay, EachWay}
+use Rattle.codegen.proofs.Names.{StepLocalsBelow, TestLocalsBelow, StepSpares, TestSpares, Spares, LocalsBelow, StepLoopsCount, TestLoopsCount, LoopsCount}
+use Rattle.codegen.proofs.Names.{StepOfWords, TestOfWords, OfWords, top_spent, spent_by_top, spent_by_two, step_spent, spent_on, test_spent, spent, Matches}
+use Rattle.codegen.proofs.Names.{GoesWell, matches_local, start_matches, step_well, well, whole_ends_soundly, local_words, words_step, words, Leaves, leaves}
+use Rattle.codegen.proofs.Names.{Bound, Waiting, number_source, flushed, top_of, below_top, kept, top_to_four, two_to_registers, entry_code, compare_form}
+use Rattle.codegen.proofs.Names.{holding, failing, size, pass_over, decision, holds_code, compares_code, truth_code, number_code, turns_code, waiting_behind}
+use Rattle.codegen.proofs.Names.{waiting_after, bound_of, step_code, test_code, steps_code, block_code, code_of, ComesTo, CodeDoesAsProgram}
 use Rattle.array_versions.specs.Laws.{IsStateOfWords, EndsInWords, IsSound}
 use Rattle.msp_isa.specs.declared.instructions.Condition.TheVariants as condition
 use Rattle.msp_isa.specs.declared.operands.Konst.TheVariants as konst

@@ -1,5 +1,4 @@
-use Rattle.std.proofs.Common.{◌++◌, ◌∷◌, refl}
-use Rattle.codegen.proofs.Names.{flushed, below_top, kept, two_to_registers, compare_form, holding, failing, decision}
+use Rattle.codegen.proofs.Names.{◌++◌, ◌∷◌, refl, flushed, below_top, kept, two_to_registers, compare_form, holding, failing, decision}
 use Rattle.codegen.proofs.Emitted.{made_next, part_behind}
 use Rattle.codegen.proofs.decisions.emit_compares.Goals as goal
 

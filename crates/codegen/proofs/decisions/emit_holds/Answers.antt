@@ -1,5 +1,4 @@
-use Rattle.std.proofs.Common.{◌++◌, ◌∷◌, refl}
-use Rattle.codegen.proofs.Names.{R4, Constant, Calculate, flushed, below_top, kept, top_to_four, decision}
+use Rattle.codegen.proofs.Names.{◌++◌, ◌∷◌, refl, R4, Constant, Calculate, flushed, below_top, kept, top_to_four, decision}
 use Rattle.msp_isa.specs.declared.instructions.Condition.TheVariants as condition
 use Rattle.msp_isa.specs.declared.instructions.TwoOp.TheVariants as op
 use Rattle.msp_isa.specs.declared.operands.Konst.TheVariants as konst

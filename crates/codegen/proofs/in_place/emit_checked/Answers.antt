@@ -1,5 +1,5 @@
-use Rattle.std.proofs.Common.{◌++◌, ◌∷◌, [], refl, ap, ◌∙◌, arith}
-use Rattle.codegen.proofs.Names.{R4, Number, Calculate, Jump, instruction_of, instructions, size, rest_source, inside_update}
+use Rattle.codegen.proofs.Names.{◌++◌, ◌∷◌, [], refl, ap, ◌∙◌, arith, R4, Number, Calculate, Jump, instruction_of, instructions, size, rest_source}
+use Rattle.codegen.proofs.Names.{inside_update}
 use Rattle.msp_isa.specs.declared.instructions.Condition.TheVariants as condition
 use Rattle.msp_isa.specs.declared.instructions.TwoOp.TheVariants as op
 use Rattle.codegen.proofs.UpdateBytes.{reads_bytes, inside_bytes}

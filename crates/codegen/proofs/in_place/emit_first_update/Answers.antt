@@ -1,5 +1,4 @@
-use Rattle.std.proofs.Common.{◌++◌, ◌∷◌, [], refl, ap, ◌∙◌}
-use Rattle.codegen.proofs.Names.{instructions, rest_source, made_code, attempt_form, first_code}
+use Rattle.codegen.proofs.Names.{◌++◌, ◌∷◌, [], refl, ap, ◌∙◌, instructions, rest_source, made_code, attempt_form, first_code}
 use Rattle.codegen.proofs.Emitted.{two_behind, part_behind}
 use Rattle.codegen.proofs.in_place.emit_first_update.Goals as goal
 

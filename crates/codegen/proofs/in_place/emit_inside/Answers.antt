@@ -1,5 +1,5 @@
-use Rattle.std.proofs.Common.{◌++◌, ◌∷◌, [], refl, ap, ◌∙◌}
-use Rattle.codegen.proofs.Names.{R4, R6, Indexed, Calculate, instructions, double, rest_source, made_code, attempt_form, first_update, by_version}
+use Rattle.codegen.proofs.Names.{◌++◌, ◌∷◌, [], refl, ap, ◌∙◌, R4, R6, Indexed, Calculate, instructions, double, rest_source, made_code, attempt_form}
+use Rattle.codegen.proofs.Names.{first_update, by_version}
 use Rattle.msp_isa.specs.declared.instructions.TwoOp.TheVariants as op
 use Rattle.codegen.proofs.UpdateEmitted.{two_ways}
 use Rattle.codegen.proofs.Emitted.{cons, from_source, own_behind}

@@ -1,6 +1,5 @@
-use Rattle.std.proofs.Common.{◌++◌, ◌∷◌, [], refl, ap, ap₂, ◌∙◌}
-use Rattle.codegen.proofs.Names.{word_sum, Word, Two, R4, R6, Number, Fram, ToRegister, Move, Calculate, Update, instructions, plain_instruction, rest_source}
-use Rattle.codegen.proofs.Names.{attempt_form, first_update, by_version}
+use Rattle.codegen.proofs.Names.{◌++◌, ◌∷◌, [], refl, ap, ap₂, ◌∙◌, word_sum, Word, Two, R4, R6, Number, Fram, ToRegister, Move, Calculate, Update}
+use Rattle.codegen.proofs.Names.{instructions, plain_instruction, rest_source, attempt_form, first_update, by_version}
 use Rattle.msp_isa.specs.declared.instructions.TwoOp.TheVariants as op
 use Rattle.msp_isa.specs.declared.operands.Dst.TheVariants as dst
 use Rattle.codegen.proofs.UpdateEmitted.{two_ways}

@@ -1,5 +1,4 @@
-use Rattle.std.proofs.Common.{◌++◌, refl, ap, ap₂, ◌∙◌}
-use Rattle.codegen.proofs.Names.{on_ok_weaker, Word, Two, R7, index_of}
+use Rattle.codegen.proofs.Names.{◌++◌, refl, ap, ap₂, ◌∙◌, on_ok_weaker, Word, Two, R7, index_of}
 use Rattle.msp_isa.specs.declared.operands.Dst.TheVariants as dst
 use Rattle.msp_isa.specs.declared.registers.Reg.TheVariants as reg
 use Rattle.codegen.proofs.Emitted.{cons, from_source, on_ok_items}

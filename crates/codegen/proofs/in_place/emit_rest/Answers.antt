@@ -1,5 +1,4 @@
-use Rattle.std.proofs.Common.{refl}
-use Rattle.codegen.proofs.Names.{flushed, to_rest}
+use Rattle.codegen.proofs.Names.{refl, flushed, to_rest}
 use Rattle.codegen.proofs.Emitted.{part_behind}
 use Rattle.codegen.proofs.in_place.emit_rest.Goals as goal
 

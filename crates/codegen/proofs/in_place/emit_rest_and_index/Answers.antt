@@ -1,5 +1,4 @@
-use Rattle.std.proofs.Common.{◌++◌, ap, ◌∙◌, append_assoc}
-use Rattle.codegen.proofs.Names.{instructions, flushed, top_of, below_top, four_from, to_rest}
+use Rattle.codegen.proofs.Names.{◌++◌, ap, ◌∙◌, append_assoc, instructions, flushed, top_of, below_top, four_from, to_rest}
 use Rattle.codegen.proofs.Emitted.{two_behind, part_behind}
 use Rattle.codegen.proofs.in_place.emit_rest_and_index.Goals as goal
 

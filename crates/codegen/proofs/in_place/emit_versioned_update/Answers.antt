@@ -1,6 +1,5 @@
-use Rattle.std.proofs.Common.{◌++◌, Bool, Option, List, sym, ap, ap₂, ◌∙◌}
-use Rattle.codegen.proofs.Names.{Form, instructions, Waiting, flushed, top_of, below_top, four_from, top_number, rest_source, to_rest, right_to_rest}
-use Rattle.codegen.proofs.Names.{update_sides, indexed_update, known_update, if_below, is_inside, update_at}
+use Rattle.codegen.proofs.Names.{◌++◌, Bool, Option, List, sym, ap, ap₂, ◌∙◌, Form, instructions, Waiting, flushed, top_of, below_top, four_from, top_number}
+use Rattle.codegen.proofs.Names.{rest_source, to_rest, right_to_rest, update_sides, indexed_update, known_update, if_below, is_inside, update_at}
 use Rattle.codegen.proofs.Emitted.{part_behind}
 use Rattle.codegen.proofs.in_place.emit_versioned_update.Goals as goal
 

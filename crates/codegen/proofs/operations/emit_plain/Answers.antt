@@ -1,5 +1,5 @@
-use Rattle.std.proofs.Common.{◌++◌, ◌∷◌, [], ap, ap₂, ◌∙◌}
-use Rattle.codegen.proofs.Names.{on_ok_weaker, Word, Two, R4, index_of, Calculate, instruction_of, top_of, plain_instruction, sides, right_source}
+use Rattle.codegen.proofs.Names.{◌++◌, ◌∷◌, [], ap, ap₂, ◌∙◌, on_ok_weaker, Word, Two, R4, index_of, Calculate, instruction_of, top_of, plain_instruction}
+use Rattle.codegen.proofs.Names.{sides, right_source}
 use Rattle.msp_isa.specs.declared.operands.Dst.TheVariants as dst
 use Rattle.msp_isa.specs.declared.registers.Reg.TheVariants as reg
 use Rattle.codegen.proofs.Emitted.{two_behind}

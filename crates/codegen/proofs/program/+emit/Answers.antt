@@ -1,8 +1,7 @@
-use Rattle.std.proofs.Common.{◌+◌, ◌∷◌, ◌++◌, [], drop, not, refl, sym, ap, ◌∙◌, subst, arith, rules, append_assoc, false, true, if◌then◌else◌, lt-ltb, le-ltb}
-use Rattle.std.proofs.Common.{List, append-nil}
-use Rattle.codegen.proofs.Names.{Form, instructions, Waiting, forms_bytes-append, step_of, steps_of, test_of, StepLocalsBelow, TestLocalsBelow, LocalsBelow}
-use Rattle.codegen.proofs.Names.{OfWords, words_of, step_words, test_words, flushed, holds_code, compares_code, truth_code, size, pass_over, jump_back}
-use Rattle.codegen.proofs.Names.{number_code, turn_end, turns_code, waiting_after, step_code, test_code, steps_code, bound_of, block_code}
+use Rattle.codegen.proofs.Names.{◌+◌, ◌∷◌, ◌++◌, [], drop, not, refl, sym, ap, ◌∙◌, subst, arith, rules, append_assoc, false, true, if◌then◌else◌, lt-ltb}
+use Rattle.codegen.proofs.Names.{le-ltb, List, append-nil, Form, instructions, Waiting, forms_bytes-append, step_of, steps_of, test_of, StepLocalsBelow}
+use Rattle.codegen.proofs.Names.{TestLocalsBelow, LocalsBelow, OfWords, words_of, step_words, test_words, flushed, holds_code, compares_code, truth_code, size}
+use Rattle.codegen.proofs.Names.{pass_over, jump_back, number_code, turn_end, turns_code, waiting_after, step_code, test_code, steps_code, bound_of, block_code}
 use Rattle.array_versions.specs.declared.program.WordStep as word_step
 use Rattle.msp_isa.specs.declared.instructions.Condition.TheVariants as condition
 use Rattle.codegen.proofs.Emitted.{made_next, test_items, step_of-choose, step_of-read, step_of-write, step_of-update, test_of-holds, test_of-compares}

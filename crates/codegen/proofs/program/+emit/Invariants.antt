@@ -1,5 +1,4 @@
-use Rattle.std.proofs.Common.{◌≡◌, ◌≤◌, ◌++◌, drop}
-use Rattle.codegen.proofs.Names.{instructions, steps_of, LocalsBelow, OfWords, words_of, waiting_after, steps_code}
+use Rattle.codegen.proofs.Names.{◌≡◌, ◌≤◌, ◌++◌, drop, instructions, steps_of, LocalsBelow, OfWords, words_of, waiting_after, steps_code}
 use Rattle.codegen.proofs.program.+emit.Given as goal
 
 abbrev pub invariant-emit_steps-loop-step : goal.invariant-emit_steps-loop-step

@@ -1,5 +1,4 @@
-use Rattle.std.proofs.Common.{sym, subst, arith}
-use Rattle.codegen.proofs.Names.{steps_of, LocalsBelow}
+use Rattle.codegen.proofs.Names.{sym, subst, arith, steps_of, LocalsBelow}
 use Rattle.codegen.proofs.Emitted.{locals_up}
 use Rattle.codegen.proofs.program.emit.Goals as goal
 

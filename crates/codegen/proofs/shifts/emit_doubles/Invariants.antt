@@ -1,5 +1,4 @@
-use Rattle.std.proofs.Common.{◌≡◌, ◌-◌, ◌++◌}
-use Rattle.codegen.proofs.Names.{instructions, repeated, double}
+use Rattle.codegen.proofs.Names.{◌≡◌, ◌-◌, ◌++◌, instructions, repeated, double}
 use Rattle.codegen.proofs.shifts.emit_doubles.Given as goal
 
 abbrev pub invariant-loop-i : goal.invariant-loop-i

@@ -1,5 +1,4 @@
-use Rattle.std.proofs.Common.{◌++◌, refl}
-use Rattle.codegen.proofs.Names.{flushed, below_top, kept, top_to_five, emit_code}
+use Rattle.codegen.proofs.Names.{◌++◌, refl, flushed, below_top, kept, top_to_five, emit_code}
 use Rattle.codegen.proofs.Emitted.{made_next, part_behind}
 use Rattle.codegen.proofs.steps.emit_emit.Goals as goal
 

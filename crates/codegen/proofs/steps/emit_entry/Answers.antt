@@ -1,5 +1,4 @@
-use Rattle.std.proofs.Common.{refl}
-use Rattle.codegen.proofs.Names.{flushed, entry_code}
+use Rattle.codegen.proofs.Names.{refl, flushed, entry_code}
 use Rattle.codegen.proofs.Emitted.{part_behind}
 use Rattle.codegen.proofs.steps.emit_entry.Goals as goal
 

@@ -1,5 +1,4 @@
-use Rattle.std.proofs.Common.{refl}
-use Rattle.codegen.proofs.Names.{Move, ToFram, flushed, top_of, source_from, below_top}
+use Rattle.codegen.proofs.Names.{refl, Move, ToFram, flushed, top_of, source_from, below_top}
 use Rattle.codegen.proofs.Emitted.{one_behind, from_source}
 use Rattle.codegen.proofs.steps.emit_keep.Goals as goal
 

@@ -1,5 +1,4 @@
-use Rattle.std.proofs.Common.{ap, ◌∙◌, if◌then◌else◌, le-ltb}
-use Rattle.codegen.proofs.Names.{One, Word, Push, Ram, flushed, local_address}
+use Rattle.codegen.proofs.Names.{ap, ◌∙◌, le-ltb, One, Word, Push, Ram, flushed, local_address}
 use Rattle.msp_isa.specs.declared.instructions.OneOp.TheVariants as one
 use Rattle.msp_isa.specs.declared.operands.Operand.TheVariants as operand
 use Rattle.msp_isa.specs.declared.operands.Src.TheVariants as src

@@ -1,5 +1,4 @@
-use Rattle.std.proofs.Common.{refl}
-use Rattle.codegen.proofs.Names.{Move, Fram, ToFram, flushed}
+use Rattle.codegen.proofs.Names.{refl, Move, Fram, ToFram, flushed}
 use Rattle.codegen.proofs.Emitted.{one_behind, from_source}
 use Rattle.codegen.proofs.steps.emit_move_word.Goals as goal
 

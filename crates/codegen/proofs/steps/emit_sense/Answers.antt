@@ -1,5 +1,4 @@
-use Rattle.std.proofs.Common.{◌++◌, ◌∷◌, [], refl, ap, ◌∙◌}
-use Rattle.codegen.proofs.Names.{on_ok_weaker, R4, Sense, instruction_of, cleared}
+use Rattle.codegen.proofs.Names.{◌++◌, ◌∷◌, [], refl, ap, ◌∙◌, on_ok_weaker, R4, Sense, instruction_of, cleared}
 use Rattle.codegen.proofs.Emitted.{two_behind, from_source}
 use Rattle.codegen.proofs.steps.emit_sense.Goals as goal
 

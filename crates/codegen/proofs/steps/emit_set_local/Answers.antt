@@ -1,5 +1,4 @@
-use Rattle.std.proofs.Common.{ap₂}
-use Rattle.codegen.proofs.Names.{Word, Two, Move, flushed, top_of, source_from, below_top, local_target}
+use Rattle.codegen.proofs.Names.{ap₂, Word, Two, Move, flushed, top_of, source_from, below_top, local_target}
 use Rattle.msp_isa.specs.declared.instructions.TwoOp.TheVariants.{Mov}
 use Rattle.codegen.proofs.Emitted.{one_behind}
 use Rattle.codegen.proofs.steps.emit_set_local.Goals as goal

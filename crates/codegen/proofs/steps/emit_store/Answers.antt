@@ -1,5 +1,4 @@
-use Rattle.std.proofs.Common.{refl}
-use Rattle.codegen.proofs.Names.{Move, ToFram, number_source, flushed}
+use Rattle.codegen.proofs.Names.{refl, Move, ToFram, number_source, flushed}
 use Rattle.codegen.proofs.Emitted.{one_behind, from_source}
 use Rattle.codegen.proofs.steps.emit_store.Goals as goal
 

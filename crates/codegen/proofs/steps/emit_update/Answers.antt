@@ -1,5 +1,4 @@
-use Rattle.std.proofs.Common.{ap₂, ◌∙◌}
-use Rattle.codegen.proofs.Names.{Word, Two, Update, flushed, top_of, source_from, below_top, plain_instruction}
+use Rattle.codegen.proofs.Names.{ap₂, ◌∙◌, Word, Two, Update, flushed, top_of, source_from, below_top, plain_instruction}
 use Rattle.msp_isa.specs.declared.operands.Dst.TheVariants as dst
 use Rattle.codegen.proofs.Emitted.{one_behind}
 use Rattle.codegen.proofs.steps.emit_update.Goals as goal

@@ -1,5 +1,5 @@
-use Rattle.std.proofs.Common.{refl, ap, ap₂, ◌∙◌, if◌then◌else◌, lt-ltb, le-ltb, ◌++◌}
-use Rattle.codegen.proofs.Names.{Word, Two, Calculate, source_operand, flushed, top_of, source_from, below_top, local_register, plain_instruction, ram_update}
+use Rattle.codegen.proofs.Names.{refl, ap, ap₂, ◌∙◌, lt-ltb, le-ltb, ◌++◌, Word, Two, Calculate, source_operand, flushed, top_of, source_from}
+use Rattle.codegen.proofs.Names.{below_top, local_register, plain_instruction, ram_update}
 use Rattle.msp_isa.specs.declared.operands.Dst.TheVariants as dst
 use Rattle.msp_isa.specs.declared.registers.Reg.TheVariants as reg
 use Rattle.codegen.proofs.Emitted.{one_behind, part_behind}

@@ -1,5 +1,4 @@
-use Rattle.std.proofs.Common.{◌++◌, ap, ◌∙◌}
-use Rattle.codegen.proofs.Names.{word_sum, R4, R7, instructions, mark_code, last_code, end_test, longer_code, next_code, word_code}
+use Rattle.codegen.proofs.Names.{◌++◌, ap, ◌∙◌, word_sum, R4, R7, instructions, mark_code, last_code, end_test, longer_code, next_code, word_code}
 use Rattle.codegen.proofs.Emitted.{six_behind}
 use Rattle.codegen.proofs.versioned.emit_first.Goals as goal
 

@@ -1,5 +1,4 @@
-use Rattle.std.proofs.Common.{◌++◌, refl, ap, ◌∙◌, append_assoc}
-use Rattle.codegen.proofs.Names.{instructions, check_code, zero_code, own_code}
+use Rattle.codegen.proofs.Names.{◌++◌, refl, ap, ◌∙◌, append_assoc, instructions, check_code, zero_code, own_code}
 use Rattle.codegen.proofs.Emitted.{two_behind, part_behind}
 use Rattle.codegen.proofs.versioned.emit_read.Goals as goal
 

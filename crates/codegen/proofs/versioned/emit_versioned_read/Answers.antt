@@ -1,5 +1,4 @@
-use Rattle.std.proofs.Common.{Bool, List, ap, ◌∙◌}
-use Rattle.codegen.proofs.Names.{on_ok_weaker, Form, top_of, top_to_four, is_inside, read_code}
+use Rattle.codegen.proofs.Names.{Bool, List, ap, ◌∙◌, on_ok_weaker, Form, top_of, top_to_four, is_inside, read_code}
 use Rattle.codegen.proofs.Emitted.{made_next}
 use Rattle.codegen.proofs.versioned.emit_versioned_read.Goals as goal
 

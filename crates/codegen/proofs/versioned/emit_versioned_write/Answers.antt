@@ -1,5 +1,4 @@
-use Rattle.std.proofs.Common.{◌++◌, Bool, List, refl, ap, ◌∙◌}
-use Rattle.codegen.proofs.Names.{Form, flushed, top_of, below_top, kept, two_to_registers, is_inside, write_code}
+use Rattle.codegen.proofs.Names.{◌++◌, Bool, List, refl, ap, ◌∙◌, Form, flushed, top_of, below_top, kept, two_to_registers, is_inside, write_code}
 use Rattle.codegen.proofs.Emitted.{made_next, part_behind}
 use Rattle.codegen.proofs.versioned.emit_versioned_write.Goals as goal
 

@@ -1,5 +1,4 @@
-use Rattle.std.proofs.Common.{refl}
-use Rattle.codegen.proofs.Names.{check_code, stored_code}
+use Rattle.codegen.proofs.Names.{refl, check_code, stored_code}
 use Rattle.codegen.proofs.Emitted.{part_behind}
 use Rattle.codegen.proofs.versioned.emit_write.Goals as goal
 

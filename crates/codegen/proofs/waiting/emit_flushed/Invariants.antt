@@ -1,5 +1,4 @@
-use Rattle.std.proofs.Common.{◌≡◌, ◌-◌, ◌++◌, drop, length}
-use Rattle.codegen.proofs.Names.{instructions, flushed}
+use Rattle.codegen.proofs.Names.{◌≡◌, ◌-◌, ◌++◌, drop, length, instructions, flushed}
 use Rattle.codegen.proofs.waiting.emit_flushed.Given as goal
 
 abbrev pub invariant-loop-i : goal.invariant-loop-i

@@ -1,5 +1,4 @@
-use Rattle.std.proofs.Common.{◌++◌, refl, ap, ◌∙◌}
-use Rattle.codegen.proofs.Names.{instructions, top_of, below_top, cleared, five_from}
+use Rattle.codegen.proofs.Names.{◌++◌, refl, ap, ◌∙◌, instructions, top_of, below_top, cleared, five_from}
 use Rattle.codegen.proofs.Emitted.{part_behind}
 use Rattle.codegen.proofs.waiting.emit_top_to_five.Goals as goal
 

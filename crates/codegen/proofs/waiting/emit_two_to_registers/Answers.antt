@@ -1,5 +1,4 @@
-use Rattle.std.proofs.Common.{◌++◌, ap, ◌∙◌, append_assoc}
-use Rattle.codegen.proofs.Names.{instructions, top_of, below_top, cleared, four_from, five_from}
+use Rattle.codegen.proofs.Names.{◌++◌, ap, ◌∙◌, append_assoc, instructions, top_of, below_top, cleared, four_from, five_from}
 use Rattle.codegen.proofs.Emitted.{two_behind, part_behind}
 use Rattle.codegen.proofs.waiting.emit_two_to_registers.Goals as goal
 
