@@ -14,8 +14,8 @@ use crate::operations::{BinaryMeaning, binary_meaning, shift_operation};
 use crate::places::{TaskPlaces, array_place, local_number};
 use array_versions::{BinaryOperation, Comparison, UnaryOperation, WordProgram, WordTest};
 use memory_map::VariablePlace;
-use source_values::types::{binary_type, joined_type, literal_type, unary_type};
 use std::alloc::{AllocError, Global};
+use task_ast::types::{binary_type, joined_type, literal_type, unary_type};
 use task_ast::{Expr, ShortCircuitOperator, UnaryOperator, Variable, VariableName, WordType};
 
 /// What an expression comes to.
