@@ -14,7 +14,9 @@ use Rattle.source_values.specs.Statements as source
 use Rattle.source_values.specs.Statements.{Attempt, Outcome, goes_on, to_task, if_value, run_statement, run_choice, run_block}
 use Rattle.source_values.specs.Statements.{statement_emits, choice_emits, block_emits}
 use Rattle.cost_bound.specs.Counts.{statement_count, choice_count, block_count, is_shared, is_store_to, stores_of}
-use Rattle.source_values.proofs.Interface.{more_turns}
+use Rattle.source_values.proofs.Interface.{more_turns, assigned_word, word_as_it_is}
+use Rattle.task_ast.specs.Types.{IsOneWord}
+use Rattle.task_ast.specs.declared.names.VariableName.{VariableName}
 use Rattle.path_runs.proofs.Interface.{runs_go_on_along_paths}
 use Rattle.array_versions.specs.Program.{Program, emit_word, versioned_write, choose, repeat, nothing, joined}
 use Rattle.array_versions.specs.Behaviour as words
@@ -29,7 +31,7 @@ use Rattle.lower.specs.Spots.{listed_of}
 use Rattle.lower.specs.Agreement.{IsTarget, IsWrittenArray, IsLocal, ExpressionFits, StatementFits, ChoiceFits, BlockFits, StandsFor, at_variable}
 use Rattle.lower.specs.Agreement.{at_emit_count, in_buffer, valued, truth_of, AgreesWithValue, BlocksAgree}
 use Rattle.lower.proofs.Addresses.{fram_place, placed, spot_place}
-use Rattle.lower.proofs.Values.{holds_bit, truth_pushed, lowering_agrees, expressions_agree}
+use Rattle.lower.proofs.Values.{holds_bit, truth_pushed, fits_word, lowering_agrees, expressions_agree}
 use Rattle.lower.proofs.Emitted.{EmitsAtMost, statement_emitted, block_emitted}
 use Rattle.lower.proofs.Stored.{same_variables, same_list, same_emits, spot_list, spot_emits, scalar_set, local_holds, after_emit, emit_spots}
 use Rattle.lower.proofs.Stored.{emit_list, emitted_emits, few_entries}
@@ -90,18 +92,22 @@ module _ (z : Scene) where
       let P : List ℕ → Type 0 = λ l. AgreesWithValue w (behaviour (lowered_expression z.p e) w) (value_of e m.variables l) in
       subst P h.readings (expressions_agree z.p z.room e m.variables w z.apart z.even fits h.variables)
 
-  assignment_does : (x : Variable) (e : CheckedExpression) (m : Attempt) (listed : List Element) (w : WordState) (n : ℕ) (count most : ℕ → ℕ)
-      → ExpressionFits z.p e → IsTarget z.p z.written x
+  assignment_does : (x : VariableName) (e : CheckedExpression) (m : Attempt) (listed : List Element) (w : WordState) (n : ℕ) (count most : ℕ → ℕ)
+      → ExpressionFits z.p e → IsTarget z.p z.written x.variable → IsOneWord x.word_type
       → Begins z m listed w n count most
-      → Does z w.fram most w.stack (behaviour (assignment z.p x e) w)
-      (if_value (value_of e m.variables m.left) m (λ v s. goes_on (source.assigned s x 0 v)))
-  assignment_does x e m listed w n count most fits target h =
+      → Does z w.fram most w.stack (behaviour (assignment z.p x.variable e) w)
+      (if_value (value_of e m.variables m.left) m (λ v s. goes_on (source.assigned_value s x e v)))
+  assignment_does x e m listed w n count most fits target word h =
       let P : Behaviour → Type 0 = λ b. Does z w.fram most w.stack b
-      (if_value (value_of e m.variables m.left) m (λ v s. goes_on (source.assigned s x 0 v))) in
-      subst P (sym (joined_go_on (lowered_expression z.p e) (one (write_step z.p x)) w))
-      (does_value z most w.stack w (behaviour (lowered_expression z.p e) w) (value_of e m.variables m.left) (behaviour (one (write_step z.p x))) m
-      (λ v s. goes_on (source.assigned s x 0 v))
-      (value_agrees e m listed w fits h.stands) (λ y. write_does x m listed w n count most y.0 y.1 target h))
+      (if_value (value_of e m.variables m.left) m (λ v s. goes_on (source.assigned_value s x e v))) in
+      subst P (sym (joined_go_on (lowered_expression z.p e) (one (write_step z.p x.variable)) w))
+      (does_value z most w.stack w (behaviour (lowered_expression z.p e) w) (value_of e m.variables m.left) (behaviour (one (write_step z.p x.variable))) m
+      (λ v s. goes_on (source.assigned_value s x e v))
+      (value_agrees e m listed w fits h.stands) (λ y.
+      let behind : Attempt = record m { left = y.1 } in
+      subst (λ s. Does z w.fram most w.stack (behaviour (one (write_step z.p x.variable)) (valued w y)) (goes_on s))
+      (sym (assigned_word behind x e y.0 (fits_word z.p e fits) word))
+      (write_does x.variable m listed w n count most y.0 y.1 target h)))
 
   -- ---- stores to elements
 
@@ -121,12 +127,12 @@ module _ (z : Scene) where
       → ExpressionFits z.p index → ExpressionFits z.p e
       → Begins z m listed w 0 (λ u. if is_shared u x then 1 else 0) most
       → Does z w.fram most w.stack (behaviour (element_assignment z.p x index e) w)
-      (if_value (value_of index m.variables m.left) m (λ i s. if_value (value_of e s.variables s.left) s (λ v s. goes_on (source.assigned s x i v))))
+      (if_value (value_of index m.variables m.left) m (λ i s. if_value (value_of e s.variables s.left) s (λ v s. goes_on (source.assigned s x i (source.word_of e v)))))
   element_does x index e m listed w most array of_index of_e h =
       let first = lowered_expression z.p index in
       let second = lowered_expression z.p e in
       let last = one (store_step z.p x) in
-      let more : ℕ → Attempt → Outcome = λ i s. if_value (value_of e s.variables s.left) s (λ v s. goes_on (source.assigned s x i v)) in
+      let more : ℕ → Attempt → Outcome = λ i s. if_value (value_of e s.variables s.left) s (λ v s. goes_on (source.assigned s x i (source.word_of e v))) in
       let P : Behaviour → Type 0 = λ b. Does z w.fram most w.stack b (if_value (value_of index m.variables m.left) m more) in
       subst P (sym (ap (λ q. behaviour q w) (joined_assoc first second last) ∙ joined_go_on first (joined second last) w))
       (does_value z most w.stack w (behaviour first w) (value_of index m.variables m.left) (behaviour (joined second last)) m more
@@ -136,9 +142,13 @@ module _ (z : Scene) where
       let n : Attempt = record m { left = i.1 } in
       let Q : Behaviour → Type 0 = λ b. Does z w.fram most w.stack b (more i.0 n) in
       subst Q (sym (joined_go_on second last u))
-      (does_value z most w.stack u (behaviour second u) (value_of e n.variables n.left) (behaviour last) n (λ v s. goes_on (source.assigned s x i.0 v))
+      (does_value z most w.stack u (behaviour second u) (value_of e n.variables n.left) (behaviour last) n (λ v s. goes_on (source.assigned s x i.0 (source.word_of e v)))
       (expressions_agree z.p z.room e m.variables u z.apart z.even of_e h.stands.variables)
-      (λ v. store_step_does x i.0 v.0 m listed w v.1 most array h))))
+      (λ v.
+      let r : Attempt = record m { left = v.1 } in
+      subst (λ word. Does z w.fram most w.stack (behaviour last (record w { stack = v.0 ∷ i.0 ∷ w.stack; readings = v.1 }))
+      (goes_on (source.assigned r x i.0 word)))
+      (sym (word_as_it_is e v.0 (fits_word z.p e of_e))) (store_step_does x i.0 v.0 m listed w v.1 most array h)))))
 
   -- ---- emits
 
@@ -342,8 +352,8 @@ module _ (z : Scene) where
         → Does z w.fram most w.stack (behaviour (lowered_statement z.p s) w) (run_statement s m)
     statement_does (t.declare of x None) m listed w most fits h = record
         { stores = tt; stack_kept = refl; listed = listed; stands = h.stands; few = few_listed z m listed w _ _ most h }
-    statement_does (t.declare of x (Some e)) m listed w most fits h = assignment_does x.variable e m listed w _ _ most fits.0 fits.1 h
-    statement_does (t.assign x e) m listed w most fits h = assignment_does x.variable e m listed w _ _ most fits.0 fits.1 h
+    statement_does (t.declare of x (Some e)) m listed w most fits h = assignment_does x e m listed w _ _ most fits.0 fits.1 fits.2 h
+    statement_does (t.assign x e) m listed w most fits h = assignment_does x e m listed w _ _ most fits.0 fits.1 fits.2 h
     statement_does (t.store x index e) m listed w most fits h = element_does x.variable index e m listed w most fits.0 fits.1 fits.2 h
     statement_does (t.choose choice) m listed w most fits h = choice_does choice m listed w most fits h
     statement_does (t.loop x from tested below stepped body) m listed w most fits h =
@@ -354,8 +364,10 @@ module _ (z : Scene) where
         let P : Behaviour → Type 0 = λ b. Does z w.fram most w.stack b (run_statement (t.emit e) m) in
         subst P (sym (joined_go_on (lowered_expression z.p e) last w))
         (does_value z most w.stack w (behaviour (lowered_expression z.p e) w) (value_of e m.variables m.left) (behaviour last) m
-        (λ v s. goes_on (record s { emitted = s.emitted ++ v ∷ [] }))
-        (value_agrees e m listed w fits h.stands) (λ y. emit_does m listed w _ most y.0 y.1 h))
+        (λ v s. goes_on (record s { emitted = s.emitted ++ source.word_of e v ∷ [] }))
+        (value_agrees e m listed w fits h.stands) (λ y.
+        subst (λ word. Does z w.fram most w.stack (behaviour last (valued w y)) (goes_on (record m { emitted = m.emitted ++ word ∷ []; left = y.1 })))
+        (sym (word_as_it_is e y.0 (fits_word z.p e fits))) (emit_does m listed w _ most y.0 y.1 h)))
     statement_does (t.transition task) m listed w most fits h = transition_does task.task m listed w _ _ most h
 
     choice_does : (c : CheckedChoice) (m : Attempt) (listed : List Element) (w : WordState) (most : ℕ → ℕ) → ChoiceFits z.p z.written c

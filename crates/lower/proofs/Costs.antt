@@ -6,6 +6,7 @@ use Rattle.task_ast.specs.Tree as t
 use Rattle.task_ast.specs.Paths.{CheckedExpression, CheckedStatement, CheckedChoice, CheckedBlock}
 use Rattle.task_ast.specs.declared.names.Variable.{Variable}
 use Rattle.task_ast.specs.declared.names.Variable.TheVariants.{Shared, Local}
+use Rattle.task_ast.proofs.Interface.{width_least}
 use Rattle.cost_bound.specs.Table.{cycles_column, expression_price, statement_price, conditions_price, blocks_price, block_price}
 use Rattle.memory_map.specs.MemoryMap.{word_place}
 use Rattle.memory_map.specs.declared.words.RuntimeWord.TheVariants.{NextTask, Gate, ListLength, EmitCount, Base, SentBase}
@@ -226,7 +227,9 @@ mutual
       → Within p (statement_price cycles_column x) (behaviour (lowered_statement p x) w).end (spent (lowered_statement p x) w)
   statement_spends p (t.declare of x None) w = omega arith
   statement_spends p (t.declare of x (Some e)) w = plain p (assignment p x.variable e) _ w (assignment_cycles p x.variable e)
-  statement_spends p (t.assign x e) w = plain p (assignment p x.variable e) _ w (assignment_cycles p x.variable e)
+  statement_spends p (t.assign x e) w =
+      plain p (assignment p x.variable e) _ w
+      (omega (arith, assignment_cycles p x.variable e, width_least x.word_type 40 40 80 (omega arith) (omega arith)))
   statement_spends p (t.store x index e) w = plain p (element_assignment p x.variable index e) _ w (store_cycles p x.variable index e)
   statement_spends p (t.choose choice) w = let a = choice_spends p choice w in omega (arith, a)
   statement_spends p (t.loop x from tested below stepped body) w =

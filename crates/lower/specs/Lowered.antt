@@ -124,15 +124,17 @@ abbrev pub sides_test : ShortCircuitOperator → Test → Test → Test
 sides_test BothHold c d = both c d
 sides_test OneHolds c d = either c d
 
--- an expression: the parts from left to right, then the operation by their types
+-- An expression: the parts from left to right, then the operation by their types. Of a long number it is the low word: a source with longs is
+-- not compiled.
 abbrev pub lowering : Places → CheckedExpression → Lowering
 lowering p (t.number w) = as_word (one (number w))
+lowering p (t.long_number w) = as_word (one (number (w % 65536)))
 lowering p (t.name x) = as_word (one (read_step p x.variable))
 lowering p (t.element x index) = as_word (behind (word_program (lowering p index)) (element_step p x.variable))
 lowering p t.sense = as_word (one sense)
 lowering p (t.unary op e) = unary_lowering op (lowering p e)
 lowering p (t.binary op a b) =
-    binary_lowering (binary_meaning op (joined_type (type_of a) (type_of b))) (joined (word_program (lowering p a)) (word_program (lowering p b)))
+    binary_lowering (binary_meaning op.operator (joined_type (type_of a) (type_of b))) (joined (word_program (lowering p a)) (word_program (lowering p b)))
 lowering p (t.shift op e count) = as_word (behind (word_program (lowering p e)) (shift (shift_operation op (type_of e)) count.value))
 lowering p (t.short_circuit op a b) = as_test (sides_test op (value_test (lowering p a)) (value_test (lowering p b)))
 

@@ -1,6 +1,6 @@
 -- What the operators of a source stand for.
 use Rattle.task_ast.specs.declared.WordType.{WordType}
-use Rattle.task_ast.specs.declared.WordType.TheVariants.{Unsigned, Int}
+use Rattle.task_ast.specs.declared.WordType.TheVariants.{Unsigned, Int, Long}
 use Rattle.task_ast.specs.declared.BinaryOperator.{BinaryOperator}
 use Rattle.task_ast.specs.declared.BinaryOperator.TheVariants as operator
 use Rattle.task_ast.specs.declared.ShiftOperator.{ShiftOperator}
@@ -17,11 +17,13 @@ use Rattle.lower.specs.declared.operations.BinaryMeaning.TheVariants.{Calculates
 abbrev pub below : WordType → Comparison
 below Int = SignedBelow
 below Unsigned = Below
+below Long = Below
 
 -- the same of above
 abbrev pub above : WordType → Comparison
 above Int = SignedAbove
 above Unsigned = Above
+above Long = Above
 
 -- what an operator gives of two words of this joined type
 abbrev pub binary_meaning : BinaryOperator → WordType → BinaryMeaning
@@ -44,4 +46,5 @@ binary_meaning operator.Or t = Calculates operation.Or
 abbrev pub shift_operation : ShiftOperator → WordType → ShiftOperation
 shift_operation shift_operator.Left t = Left
 shift_operation shift_operator.Right Unsigned = Right
+shift_operation shift_operator.Right Long = Right
 shift_operation shift_operator.Right Int = SignedRight

@@ -24,7 +24,7 @@ fn below(word_type: WordType) -> Comparison
 {
     match word_type {
         WordType::Int => Comparison::SignedBelow,
-        WordType::Unsigned => Comparison::Below,
+        WordType::Unsigned | WordType::Long => Comparison::Below,
     }
 }
 
@@ -34,7 +34,7 @@ fn above(word_type: WordType) -> Comparison
 {
     match word_type {
         WordType::Int => Comparison::SignedAbove,
-        WordType::Unsigned => Comparison::Above,
+        WordType::Unsigned | WordType::Long => Comparison::Above,
     }
 }
 
@@ -66,7 +66,7 @@ pub fn shift_operation(op: ShiftOperator, word_type: WordType) -> ShiftOperation
 {
     match (op, word_type) {
         (ShiftOperator::Left, _) => ShiftOperation::Left,
-        (ShiftOperator::Right, WordType::Unsigned) => ShiftOperation::Right,
+        (ShiftOperator::Right, WordType::Unsigned | WordType::Long) => ShiftOperation::Right,
         (ShiftOperator::Right, WordType::Int) => ShiftOperation::SignedRight,
     }
 }

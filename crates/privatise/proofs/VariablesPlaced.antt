@@ -2,7 +2,7 @@
 use Rattle.std.proofs.Common.{◌≡◌, ℕ, zero, suc, ◌+◌, ◌*◌, ◌%◌, ◌<◌, ◌≤◌, Bool, true, false, List, [], ◌∷◌, ◌++◌, length, drop, map, get_or, refl, sym, ◌∙◌}
 use Rattle.std.proofs.Common.{ap, subst, arith, Some, None}
 use Rattle.std.proofs.Math.Seq.{drop-length}
-use Rattle.std.specs.Prelude.{slice_get, slice_index_or}
+use Rattle.std.specs.Prelude.{All, slice_get, slice_index_or}
 use Rattle.std.specs.List.{flat_map}
 use Rattle.std.proofs.lemmas.List.{length_push, map-append}
 use Rattle.std.proofs.lemmas.List.Concat.{flat_map-append}
@@ -17,6 +17,7 @@ use Rattle.privatise.specs.declared.variables.Free.{Free}
 use Rattle.memory_map.specs.Places.{home_region, copy_regions, version_regions, AreInOrder}
 use Rattle.privatise.specs.Sizes.{home_part, home_words, copy_part}
 use Rattle.privatise.specs.Layouts.{IsPlaceOf}
+use Rattle.task_ast.specs.Longs.{IsPlainExtent}
 use Rattle.privatise.specs.Placing.{place_at, copy_sum, version_sum, IsRoom, ArePlaced}
 use Rattle.memory_map.proofs.Interface.{in_order_append, in_order_push, in_order_higher}
 use Rattle.privatise.proofs.Sums.{sum_step}
@@ -29,24 +30,29 @@ each_push P [] y each new (suc k) x e = let no : None ≡ Some x = e in cc
 each_push P (z ∷ zs) y each new zero x e = each zero x e
 each_push P (z ∷ zs) y each new (suc k) x e = each_push (λ n. P (suc n)) zs y (λ k x h. each (suc k) x h) new k x e
 
-kind_at : (written : Bool) (e : Extent) (free : Free) → IsPlaceOf written e (place_at written e free)
-kind_at written (extent.Scalar _) free = tt
-kind_at true (extent.Array n) free = (refl, refl)
-kind_at false (extent.Array n) free = (refl, refl)
+kind_at : (written : Bool) (e : Extent) (free : Free) → IsPlainExtent e → IsPlaceOf written e (place_at written e free)
+kind_at written (extent.Scalar _) free h = tt
+kind_at written (extent.Long _) free h = absurd h
+kind_at true (extent.Array n) free h = (refl, refl)
+kind_at false (extent.Array n) free h = (refl, refl)
 
-home_at : (written : Bool) (e : Extent) (free : Free) → home_region (place_at written e free) ≡ record { address = free.home; words = home_part e }
-home_at written (extent.Scalar _) free = refl
-home_at written (extent.Array n) free = refl
+home_at : (written : Bool) (e : Extent) (free : Free) → IsPlainExtent e
+    → home_region (place_at written e free) ≡ record { address = free.home; words = home_part e }
+home_at written (extent.Scalar _) free h = refl
+home_at written (extent.Long _) free h = absurd h
+home_at written (extent.Array n) free h = refl
 
 copies_placed : (written : Bool) (e : Extent) (free : Free) (end : ℕ) → free.copy % 2 ≡ 0 → end ≡ free.copy + 2 * copy_part written e
     → AreInOrder free.copy (copy_regions (place_at written e free)) end
 copies_placed written (extent.Scalar _) free end even h = (record { from = omega arith; even = even }, omega (arith, h))
+copies_placed written (extent.Long _) free end even h = (record { from = omega arith; even = even }, omega (arith, h))
 copies_placed true (extent.Array n) free end even h = (record { from = omega arith; even = even }, omega (arith, h))
 copies_placed false (extent.Array n) free end even h = omega (arith, h)
 
 versions_placed : (written : Bool) (e : Extent) (free : Free) (end : ℕ) → free.version % 2 ≡ 0 → end ≡ free.version + 2 * version_part written e
     → AreInOrder free.version (version_regions (place_at written e free)) end
 versions_placed written (extent.Scalar _) free end even h = omega (arith, h)
+versions_placed written (extent.Long _) free end even h = omega (arith, h)
 versions_placed true (extent.Array n) free end even h = (record { from = omega arith; even = even }, omega (arith, h))
 versions_placed false (extent.Array n) free end even h = omega (arith, h)
 
@@ -83,6 +89,11 @@ none_placed shared written free room = record {
   even_copy = room.even_copy;
   even_version = room.even_version;
 }
+
+-- no variable is a long
+pub plain_at : (shared : List SharedDeclaration) (i : ℕ) (x : SharedDeclaration) → i < length shared → x ≡ get_or shared i x
+    → All (λ d. IsPlainExtent d.extent) shared → IsPlainExtent x.extent
+plain_at shared i x l is all = subst (λ d. IsPlainExtent d.extent) (sym is) (all i x l)
 
 -- the next variable fits
 pub record HasRoom (extent : Extent) (mark : Bool) (next : Free) : Type 0 where
@@ -121,9 +132,9 @@ module _ (shared : List SharedDeclaration) (written : List Bool) (free : Free) (
 
   pub one_placed : (later : Free) (place : VariablePlace) (xs ys : List VariablePlace) → place ≡ place_at mark extent next
       → later.home ≡ next.home + 2 * home_part extent → later.copy ≡ next.copy + 2 * copy_part mark extent
-      → later.version ≡ next.version + 2 * version_part mark extent → ys ≡ xs ++ place ∷ [] → PlacedBelow shared written free i next xs
+      → later.version ≡ next.version + 2 * version_part mark extent → ys ≡ xs ++ place ∷ [] → IsPlainExtent extent → PlacedBelow shared written free i next xs
       → PlacedBelow shared written free (i + 1) later ys
-  one_placed later place xs ys is home copy version e h = subst (λ zs. PlacedBelow shared written free (i + 1) later zs) (sym e) (record {
+  one_placed later place xs ys is home copy version e plain h = subst (λ zs. PlacedBelow shared written free (i + 1) later zs) (sym e) (record {
     count = length_push xs place ∙ ap (λ k. k + 1) h.count;
     each = each_push (λ k x. (d : SharedDeclaration) → slice_get shared k ≡ Some d → IsPlaceOf (slice_index_or written k false) d.extent x) xs place h.each
         (λ d found. kind d found);
@@ -148,7 +159,7 @@ module _ (shared : List SharedDeclaration) (written : List Bool) (free : Free) (
   })
     where
       home_is : home_region place ≡ record { address = next.home; words = home_part extent }
-      home_is = ap home_region is ∙ home_at mark extent next
+      home_is = ap home_region is ∙ home_at mark extent next plain
 
       kind : (d : SharedDeclaration) → slice_get shared (length xs) ≡ Some d → IsPlaceOf (slice_index_or written (length xs) false) d.extent place
       kind d found =
@@ -157,7 +168,7 @@ module _ (shared : List SharedDeclaration) (written : List Bool) (free : Free) (
           subst (λ x. IsPlaceOf (slice_index_or written (length xs) false) d.extent x) (sym is)
           (subst (λ x. IsPlaceOf (slice_index_or written (length xs) false) x (place_at mark extent next)) same
           (subst (λ m. IsPlaceOf m extent (place_at mark extent next)) (marked ∙ ap (λ k. slice_index_or written k false) (sym h.count))
-          (kind_at mark extent next)))
+          (kind_at mark extent next plain)))
 
 over : (next rest all : ℕ) → rest ≡ 0 → next + 2 * rest ≡ all → next ≤ all
 over next rest all e h = omega (arith, e, h)

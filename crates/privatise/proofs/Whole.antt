@@ -210,6 +210,7 @@ variables_are p written free places few h k = record {
 scalar_kind : (w : Bool) (e : Extent) (place : VariablePlace) → IsPlaceOf w e place → is_scalar e ≡ true → is_scalar_place place ≡ true
 scalar_kind w (extent.Scalar _) (Scalar _ _) h s = refl
 scalar_kind w (extent.Scalar _) (Array _ _ _) h s = absurd h
+scalar_kind w (extent.Long _) place h s = absurd h
 scalar_kind w (extent.Array n) place h s = cc
 
 some_scalar : (o : Option SharedDeclaration) → IsSomeAnd o (λ d. is_scalar d.extent ≡ true) → (d : SharedDeclaration) × (o ≡ Some d)

@@ -29,6 +29,7 @@ copies_where written free = if written then Some (record { copies = free.copy; v
 -- a variable at the free addresses
 abbrev pub place_at : Bool → Extent → Free → VariablePlace
 place_at written (extent.Scalar _) free = Scalar free.home free.copy
+place_at written (extent.Long _) free = Scalar free.home free.copy
 place_at written (extent.Array n) free = Array free.home n (copies_where written free)
 
 -- the words of all copies and versions, where the written arrays are marked

@@ -1,6 +1,7 @@
 //! The layout of a source.
-ghost use Rattle.std.specs.Prelude.{◌≡◌, ◌+◌, ◌*◌, ◌≤◌, IfOk, length};
+ghost use Rattle.std.specs.Prelude.{◌≡◌, ◌+◌, ◌*◌, ◌≤◌, All, IfOk, length};
 ghost use Rattle.task_ast.specs.View.{program_of};
+ghost use Rattle.task_ast.specs.Longs.{IsPlainExtent};
 ghost use Rattle.cost_bound.specs.Allowance.{IsAllowed};
 ghost use Rattle.war_analysis.specs.Plans.{IsPlan};
 ghost use Rattle.memory_map.specs.address_space.Limits.{fram_first, reset_vector};
@@ -74,6 +75,7 @@ fn layout_of(
 ) -> Result<Layout, AllocError>
     requires few { length source.now.shared.items ≤ 256 }
     requires few_tasks { length source.now.tasks.items ≤ 64 }
+    requires plain { All (λ d. IsPlainExtent d.extent) source.now.shared.items }
     requires allowed { IsAllowed (program_of source.now) allow.now }
     requires planned { IsPlan (program_of source.now) plan.now }
     ensures { IfOk result (IsLayout (program_of source.now) allow.now plan.now) }
@@ -99,7 +101,8 @@ fn layout_of(
     Ok(Layout::new(regions, variables, layouts))
 }
 
-/// Where the data and the code of a source stand; or no memory is left. The allowance and the plan are those of the source.
+/// Where the data and the code of a source without longs stand; or no memory is left. The allowance and the plan are those of
+/// the source.
 ///
 /// It takes no more than the words of the allowance, from 0x4400 up, but for the last of them, which is the word at 0xFFFE.
 pub fn layout(
@@ -108,6 +111,7 @@ pub fn layout(
     allow: &Allow,
     plan: &Plan,
 ) -> Result<Layout, AllocError>
+    requires plain { All (λ d. IsPlainExtent d.extent) checked.now.source.shared.items }
     requires allowed { IsAllowed (program_of checked.now.source) allow.now }
     requires planned { IsPlan (program_of checked.now.source) plan.now }
     ensures { IfOk result (IsLayout (program_of checked.now.source) allow.now plan.now) }

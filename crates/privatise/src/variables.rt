@@ -1,7 +1,8 @@
 //! The places of the shared variables.
-ghost use Rattle.std.specs.Prelude.{◌≡◌, ◌+◌, ◌*◌, ◌≤◌, ◌<◌, IfOk, length};
+ghost use Rattle.std.specs.Prelude.{◌≡◌, ◌+◌, ◌*◌, ◌≤◌, ◌<◌, All, IfOk, length};
 ghost use Rattle.cost_bound.specs.Allowance.{version_part};
 ghost use Rattle.privatise.specs.Sizes.{home_part, copy_part};
+ghost use Rattle.task_ast.specs.Longs.{IsPlainExtent};
 ghost use Rattle.privatise.specs.Placing.{copies_where, place_at, IsRoom, ArePlaced};
 
 use crate::sizes::{copy_part, home_part, version_part};
@@ -43,7 +44,7 @@ fn place_at(extent: Extent, written: bool, free: Free) -> VariablePlace
     ensures { result ≡ place_at written extent free }
 {
     match extent {
-        Extent::Scalar(_) => VariablePlace::Scalar {
+        Extent::Scalar(_) | Extent::Long(_) => VariablePlace::Scalar {
             home: free.home,
             copy: free.copy,
         },
@@ -78,6 +79,7 @@ pub fn place_variables(
     free: Free,
 ) -> Result<Vec<VariablePlace>, AllocError>
     requires few { length shared.now ≤ 256 }
+    requires plain { All (λ d. IsPlainExtent d.extent) shared.now }
     requires room { IsRoom shared.now written.now free }
     ensures { IfOk result (λ v. ArePlaced shared.now written.now free v.items) }
 {

@@ -23,6 +23,7 @@ pub of_kind : (b : Bool) (e : Extent) (place : VariablePlace) → IsPlaceOf b e 
 of_kind b (extent.Scalar w) (Scalar home copy) h = tt
 of_kind b (extent.Scalar w) (Array elements n copies) h = h
 of_kind b (extent.Array n) (Scalar home copy) h = h
+of_kind b (extent.Long n) place h = h
 of_kind b (extent.Array n) (Array elements m copies) h = h.0
 
 pub places_of : (shared : List SharedDeclaration) (places : List VariablePlace) → length places ≡ length shared
@@ -46,6 +47,7 @@ region_words e (Array elements m copies) n h is = subst (λ x. IsOfKind x (Array
 fits_there : (e : Extent) (place : VariablePlace) (end : ℕ) → IsOfKind e place → HasWords e → end_of (home_region place) ≤ end → end ≤ reset_vector
     → fits (home_region place).address (length_of e) ≡ true
 fits_there (extent.Scalar w) place end h words l m = refl
+fits_there (extent.Long n) place end h words l m = absurd h
 fits_there (extent.Array n) place end h words l m =
     let size = region_words (extent.Array n) place n h refl in
     some n words ((home_region place).address) (omega (arith, size, l, m))

@@ -51,6 +51,7 @@ scalar_there text d place h = by d.extent h
 
     by : (e : Extent) → is_scalar e ≡ true → (is_none (length_of e) && bytes_eq (spelled text d.name) (spelled text d.name)) ≡ true
     by (extent.Scalar w) h = same
+    by (extent.Long n) h = same
     by (extent.Array n) h = absurd (cc)
 
 none_scalar : {A : Type 0} (o : Option A) (P : A → Type 0) → o ≡ None → IsSomeAnd o P → ⊥

@@ -37,7 +37,7 @@ fn value_type_of(word_type: WordType) -> ValueType
     ensures { result ≡ maps.value_type_of word_type }
 {
     match word_type {
-        WordType::Unsigned => ValueType::Unsigned,
+        WordType::Unsigned | WordType::Long => ValueType::Unsigned,
         WordType::Int => ValueType::Int,
     }
 }
@@ -46,7 +46,7 @@ fn length_of(extent: Extent) -> Option<u16>
     ensures { result ≡ length_of extent }
 {
     match extent {
-        Extent::Scalar(_) => None,
+        Extent::Scalar(_) | Extent::Long(_) => None,
         Extent::Array(length) => Some(length),
     }
 }

@@ -2,7 +2,7 @@
 use Rattle.std.specs.Prelude.{◌≡◌, ℕ, List, [], ◌∷◌, map, Option, Some, None}
 use Rattle.source_report.specs.task_ast.declared.SharedDeclaration.{SharedDeclaration}
 use Rattle.source_report.specs.task_ast.declared.Extent.{Extent}
-use Rattle.source_report.specs.task_ast.declared.Extent.TheVariants.{Scalar, Array}
+use Rattle.source_report.specs.task_ast.declared.Extent.TheVariants.{Scalar, Long, Array}
 use Rattle.model_runs.specs.image_map.declared.parts.Variable.{Variable}
 use Rattle.model_runs.specs.image_map.MapValue.{MapValue}
 use Rattle.source_report.specs.source_values.Runs.{CheckedProgram}
@@ -11,6 +11,7 @@ use Rattle.source_report.specs.SourceReport.{spelled}
 -- the length of an array; nothing for a scalar
 abbrev pub length_of : Extent → Option ℕ
 length_of (Scalar w) = None
+length_of (Long n) = None
 length_of (Array n) = Some n
 
 -- a map's variables are these declarations', by name and length, in order

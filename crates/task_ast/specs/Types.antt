@@ -16,6 +16,12 @@ is_long Long = true
 is_long Int = false
 is_long Unsigned = false
 
+-- a number of the type has one word
+abbrev pub IsOneWord : WordType → Type 0
+IsOneWord Long = ⊥
+IsOneWord Int = Unit {0}
+IsOneWord Unsigned = Unit {0}
+
 -- one of two, by the width of a type: for one word, or for two
 abbrev pub by_width : {A : Type 0} → WordType → A → A → A
 by_width Long one two = two

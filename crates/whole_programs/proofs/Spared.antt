@@ -122,6 +122,7 @@ module _ (p : Places) (n : ℕ) where
 
   lowering_spares : (e : CheckedExpression) → LoweringSpares (lowering p e)
   lowering_spares (t.number w) = ((tt, tt), (tt, tt))
+  lowering_spares (t.long_number w) = ((tt, tt), (tt, tt))
   lowering_spares (t.name x) = let s = read_spares x.variable in ((s, tt), (s, tt))
   lowering_spares (t.element x index) =
       let last = one (element_step p x.variable) in
@@ -129,7 +130,7 @@ module _ (p : Places) (n : ℕ) where
   lowering_spares t.sense = ((tt, tt), (tt, tt))
   lowering_spares (t.unary op e) = unary_spares op (lowering p e) (lowering_spares e)
   lowering_spares (t.binary op a b) =
-      binary_spares (binary_meaning op (joined_type (type_of a) (type_of b))) (joined (lowered_expression p a) (lowered_expression p b))
+      binary_spares (binary_meaning op.operator (joined_type (type_of a) (type_of b))) (joined (lowered_expression p a) (lowered_expression p b))
       (spares_joined n (lowered_expression p a) (lowered_expression p b) (lowering_spares a).0 (lowering_spares b).0)
   lowering_spares (t.shift op e count) =
       let last = one (shift (shift_operation op (type_of e)) count.value) in

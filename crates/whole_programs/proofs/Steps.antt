@@ -173,6 +173,8 @@ module _ (p : Places) (words : PlacesOfWords p) where
 
     lowering_sound : (room beneath : ℕ) (e : CheckedExpression) → ExpressionFits room beneath e → ExpressionUses shared e → LoweringSound (lowering p e)
     lowering_sound room beneath (t.number w) f n = sound_word (one (number w)) (sound_one (number w) (tt, tt, f.1))
+    lowering_sound room beneath (t.long_number w) f n =
+        let low : w % 65536 < 65536 = omega arith in sound_word (one (number (w % 65536))) (sound_one (number (w % 65536)) (tt, tt, low))
     lowering_sound room beneath (t.name x) f n =
         sound_word (one (read_step p x.variable)) (sound_one (read_step p x.variable) (read_sound x.variable n))
     lowering_sound room beneath (t.element x index) f n =
@@ -180,7 +182,7 @@ module _ (p : Places) (words : PlacesOfWords p) where
     lowering_sound room beneath t.sense f n = sound_word (one sense) (sound_one sense (tt, tt, tt))
     lowering_sound room beneath (t.unary op e) f n = sound_unary op (lowering p e) (lowering_sound room beneath e f n)
     lowering_sound room beneath (t.binary op a b) f n =
-        sound_binary (binary_meaning op (joined_type (type_of a) (type_of b))) (joined (lowered_expression p a) (lowered_expression p b))
+        sound_binary (binary_meaning op.operator (joined_type (type_of a) (type_of b))) (joined (lowered_expression p a) (lowered_expression p b))
         (sound_joined (lowered_expression p a) (lowered_expression p b) (lowering_sound room beneath a f.0 n.0).0 (lowering_sound room _ b f.1 n.1).0)
     lowering_sound room beneath (t.shift op e count) f n =
         sound_last (lowered_expression p e) (shift (shift_operation op (type_of e)) count.value) (lowering_sound room beneath e f.0 n).0 (tt, tt, f.1)

@@ -74,6 +74,7 @@ ReadOf a (Local n) = a (n % 65536) ≡ true
 
 abbrev ReadsAssigned : (ℕ → Bool) → CheckedExpression → Type 0
 ReadsAssigned a (t.number w) = Unit {0}
+ReadsAssigned a (t.long_number w) = Unit {0}
 ReadsAssigned a (t.name x) = ReadOf a x.variable
 ReadsAssigned a (t.element x index) = ReadsAssigned a index
 ReadsAssigned a t.sense = Unit {0}
@@ -85,6 +86,7 @@ ReadsAssigned a (t.short_circuit op b c) = ReadsAssigned a b × ReadsAssigned a 
 -- an expression leaves a word
 some_room : (room d : ℕ) (e : CheckedExpression) → ExpressionFits room d e → d < room
 some_room room d (t.number w) h = h.0
+some_room room d (t.long_number w) h = h
 some_room room d (t.name x) h = h
 some_room room d (t.element x index) h = some_room room d index h
 some_room room d t.sense h = h
@@ -183,6 +185,7 @@ module _ (room : ℕ) (p : Places) where
 
   lowering_way : (d : ℕ) (a : ℕ → Bool) (e : CheckedExpression) → ExpressionFits room d e → ReadsAssigned a e → HasWays d a (lowering p e)
   lowering_way d a (t.number w) f r = by_word d a _ f.0 (λ next x. pushed d a next f.0 x)
+  lowering_way d a (t.long_number w) f r = by_word d a _ f (λ next x. pushed d a next f x)
   lowering_way d a (t.name x) f r = by_word d a _ f (λ next y. read_way d a x.variable next f r y)
   lowering_way d a (t.element x index) f r =
       let few = some_room room d index f in
@@ -194,7 +197,7 @@ module _ (room : ℕ) (p : Places) where
   lowering_way d a (t.binary op b c) f r =
       let first = lowered_expression p b in
       let second = lowered_expression p c in
-      binary_way d a (binary_meaning op (joined_type (type_of b) (type_of c))) (joined first second) (some_room room d b f.0)
+      binary_way d a (binary_meaning op.operator (joined_type (type_of b) (type_of c))) (joined first second) (some_room room d b f.0)
       (λ next x. joined_way room first second next (at d a)
       ((lowering_way d a b f.0 r.0).word (EachWay room second next) ((lowering_way (suc d) a c f.1 r.1).word next x)))
   lowering_way d a (t.shift op e count) f r =
@@ -253,6 +256,7 @@ covers_forgotten u a x c y l h = c y l (by_test (is_local y x.variable) h)
 reads_assigned : (shared : List SharedDeclaration) (u a : ℕ → Bool) (e : CheckedExpression) → Covers u a → ExpressionUses shared e → Safe u (names_read e)
     → ReadsAssigned a e
 reads_assigned shared u a (t.number w) c n s = tt
+reads_assigned shared u a (t.long_number w) c n s = tt
 reads_assigned shared u a (t.name x) c n s = by_variable x.variable n s.0
   where
     by_variable : (v : Variable) → IsWordName shared v → IsAssigned u v → ReadOf a v

@@ -18,6 +18,9 @@ regions_of-regions-requires c = sizes_fit (program_of c.args.source.now) c.args.
 pub place_variables-requires-clause-few : goal.place_variables-requires-clause-few
 place_variables-requires-clause-few c = rw c.as_slice-shared.ensures.value c.requires.few
 
+pub place_variables-requires-clause-plain : goal.place_variables-requires-clause-plain
+place_variables-requires-clause-plain c = rw c.as_slice-shared.ensures.value c.requires.plain
+
 pub place_variables-requires-clause-room : goal.place_variables-requires-clause-room
 place_variables-requires-clause-room c =
     let marks : AreWritten (program_of c.args.source.now) c.written_variables-written.result =
