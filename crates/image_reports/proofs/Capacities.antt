@@ -40,7 +40,7 @@ module _ (text : List ℕ) (p : CheckedProgram) (allow : Allow) (image : ImageVa
   l = c.layout
 
   laid : IsLaidOutText text p allow c.plans l
-  laid = record { accepted = ok; plan = c.is_plan; layout = c.is_layout }
+  laid = record { accepted = ok; plain = c.plain; plan = c.is_plan; layout = c.is_layout }
 
   pub attempts_fit : AttemptsFit p l
   attempts_fit s x readings words undecided =

@@ -56,7 +56,7 @@ module _ (text : List ℕ) (p : CheckedProgram) (allow : Allow) (image : ImageVa
   x = fresh_world image
 
   ready : IsReadyToRun p l
-  ready = sources_are_ready text p allow c.plans l (record { accepted = ok; plan = c.is_plan; layout = c.is_layout })
+  ready = sources_are_ready text p allow c.plans l (record { accepted = ok; plain = c.plain; plan = c.is_plan; layout = c.is_layout })
 
   new : IsFreshImage text p allow l image
   new = images_are_fresh text p allow image ok c

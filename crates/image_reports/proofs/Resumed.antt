@@ -74,7 +74,7 @@ module _ (text : List ℕ) (p : CheckedProgram) (allow : Allow) (image : ImageVa
   origin = origin_of l x
 
   ready : IsReadyToRun p l
-  ready = sources_are_ready text p allow c.plans l (record { accepted = ok; plan = c.is_plan; layout = c.is_layout })
+  ready = sources_are_ready text p allow c.plans l (record { accepted = ok; plain = c.plain; plan = c.is_plan; layout = c.is_layout })
 
   states : HasStates text p allow l
   states = worlds_stand text p allow image ok c

@@ -62,7 +62,7 @@ module _ (text : List ℕ) (p : CheckedProgram) (allow : Allow) (image : ImageVa
         words = refl;
         rests = maps_find_states text p allow image ok c;
       } in
-      let ready = sources_are_ready text p allow c.plans l (record { accepted = ok; plan = c.is_plan; layout = c.is_layout }) in
+      let ready = sources_are_ready text p allow c.plans l (record { accepted = ok; plain = c.plain; plan = c.is_plan; layout = c.is_layout }) in
       let new = images_are_fresh text p allow image ok c in
       let P : Option MapValue → Type 0 = λ o. IsToldBySource text p m cs b r (report_of (start_with image.words o) r) in
       subst P (sym c.map)

@@ -94,7 +94,7 @@ module _ (text : List ℕ) (p : CheckedProgram) (allow : Allow) (image : ImageVa
     allowed = ok.allowed;
     plan = c.is_plan;
     layout = c.is_layout;
-    few = privates_are_few text p allow c.plans l (record { accepted = ok; plan = c.is_plan; layout = c.is_layout });
+    few = privates_are_few text p allow c.plans l (record { accepted = ok; plain = c.plain; plan = c.is_plan; layout = c.is_layout });
   }
 
   abbrev rules : IsLaidOut l

@@ -58,7 +58,7 @@ layout_of text p allow image ok c = record {
   allowed = ok.allowed;
   plan = c.is_plan;
   layout = c.is_layout;
-  few = privates_are_few text p allow c.plans c.layout (record { accepted = ok; plan = c.is_plan; layout = c.is_layout });
+  few = privates_are_few text p allow c.plans c.layout (record { accepted = ok; plain = c.plain; plan = c.is_plan; layout = c.is_layout });
 }
 
 pub maps_find_states : MapsFindStates

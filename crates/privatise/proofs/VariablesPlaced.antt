@@ -17,7 +17,7 @@ use Rattle.privatise.specs.declared.variables.Free.{Free}
 use Rattle.memory_map.specs.Places.{home_region, copy_regions, version_regions, AreInOrder}
 use Rattle.privatise.specs.Sizes.{home_part, home_words, copy_part}
 use Rattle.privatise.specs.Layouts.{IsPlaceOf}
-use Rattle.task_ast.specs.Longs.{IsPlainExtent}
+use Rattle.task_ast.specs.Longs.{IsPlainExtent, IsPlainShared}
 use Rattle.privatise.specs.Placing.{place_at, copy_sum, version_sum, IsRoom, ArePlaced}
 use Rattle.memory_map.proofs.Interface.{in_order_append, in_order_push, in_order_higher}
 use Rattle.privatise.proofs.Sums.{sum_step}
@@ -92,8 +92,8 @@ none_placed shared written free room = record {
 
 -- no variable is a long
 pub plain_at : (shared : List SharedDeclaration) (i : ℕ) (x : SharedDeclaration) → i < length shared → x ≡ get_or shared i x
-    → All (λ d. IsPlainExtent d.extent) shared → IsPlainExtent x.extent
-plain_at shared i x l is all = subst (λ d. IsPlainExtent d.extent) (sym is) (all i x l)
+    → All IsPlainShared shared → IsPlainExtent x.extent
+plain_at shared i x l is all = (subst IsPlainShared (sym is) (all i x l)).1
 
 -- the next variable fits
 pub record HasRoom (extent : Extent) (mark : Bool) (next : Free) : Type 0 where

@@ -1,7 +1,7 @@
 //! The layout of a source.
 ghost use Rattle.std.specs.Prelude.{◌≡◌, ◌+◌, ◌*◌, ◌≤◌, All, IfOk, length};
 ghost use Rattle.task_ast.specs.View.{program_of};
-ghost use Rattle.task_ast.specs.Longs.{IsPlainExtent};
+ghost use Rattle.task_ast.specs.Longs.{IsPlainShared};
 ghost use Rattle.cost_bound.specs.Allowance.{IsAllowed};
 ghost use Rattle.war_analysis.specs.Plans.{IsPlan};
 ghost use Rattle.memory_map.specs.address_space.Limits.{fram_first, reset_vector};
@@ -75,7 +75,7 @@ fn layout_of(
 ) -> Result<Layout, AllocError>
     requires few { length source.now.shared.items ≤ 256 }
     requires few_tasks { length source.now.tasks.items ≤ 64 }
-    requires plain { All (λ d. IsPlainExtent d.extent) source.now.shared.items }
+    requires plain { All IsPlainShared source.now.shared.items }
     requires allowed { IsAllowed (program_of source.now) allow.now }
     requires planned { IsPlan (program_of source.now) plan.now }
     ensures { IfOk result (IsLayout (program_of source.now) allow.now plan.now) }
@@ -111,7 +111,7 @@ pub fn layout(
     allow: &Allow,
     plan: &Plan,
 ) -> Result<Layout, AllocError>
-    requires plain { All (λ d. IsPlainExtent d.extent) checked.now.source.shared.items }
+    requires plain { All IsPlainShared checked.now.source.shared.items }
     requires allowed { IsAllowed (program_of checked.now.source) allow.now }
     requires planned { IsPlan (program_of checked.now.source) plan.now }
     ensures { IfOk result (IsLayout (program_of checked.now.source) allow.now plan.now) }

@@ -2,7 +2,7 @@
 ghost use Rattle.std.specs.Prelude.{◌≡◌, ◌+◌, ◌*◌, ◌≤◌, ◌<◌, All, IfOk, length};
 ghost use Rattle.cost_bound.specs.Allowance.{version_part};
 ghost use Rattle.privatise.specs.Sizes.{home_part, copy_part};
-ghost use Rattle.task_ast.specs.Longs.{IsPlainExtent};
+ghost use Rattle.task_ast.specs.Longs.{IsPlainShared};
 ghost use Rattle.privatise.specs.Placing.{copies_where, place_at, IsRoom, ArePlaced};
 
 use crate::sizes::{copy_part, home_part, version_part};
@@ -79,7 +79,7 @@ pub fn place_variables(
     free: Free,
 ) -> Result<Vec<VariablePlace>, AllocError>
     requires few { length shared.now ≤ 256 }
-    requires plain { All (λ d. IsPlainExtent d.extent) shared.now }
+    requires plain { All IsPlainShared shared.now }
     requires room { IsRoom shared.now written.now free }
     ensures { IfOk result (λ v. ArePlaced shared.now written.now free v.items) }
 {

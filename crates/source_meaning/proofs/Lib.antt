@@ -6,4 +6,7 @@ mod Lines
 mod Refusals
 mod Unique
 mod OneAnswer
+mod PlainTrees
+mod PlainNames
+mod Longs
 pub mod Interface

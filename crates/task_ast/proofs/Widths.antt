@@ -10,7 +10,7 @@ use Rattle.task_ast.specs.declared.BinaryOperator.TheVariants.{Multiply, Divide,
 use Rattle.task_ast.specs.declared.names.VariableName.{VariableName}
 use Rattle.task_ast.specs.Tree as t
 use Rattle.task_ast.specs.Tree.{Expression}
-use Rattle.task_ast.specs.Longs.{IsPlainExpression}
+use Rattle.task_ast.specs.Longs.{IsPlainExpression, IsWordVariable}
 use Rattle.task_ast.specs.Types.{IsOneWord, type_of, by_width, joined_type, quotient_type, binary_type, unary_type, literal_type}
 
 -- of a type of one word it is the first of two
@@ -61,7 +61,7 @@ literal_word n = by (nat_le n 32767)
     by false = tt
 
 -- the type of an expression without longs
-pub plain_word : (e : Expression VariableName) → IsPlainExpression e → IsOneWord (type_of e)
+pub plain_word : (e : Expression VariableName) → IsPlainExpression IsWordVariable e → IsOneWord (type_of e)
 plain_word (t.number n) h = literal_word n
 plain_word (t.long_number n) h = h
 plain_word (t.name x) h = h

@@ -1,0 +1,42 @@
+-- The first long of an accepted text; a text whose tokens have none is of a source without longs.
+use Rattle.std.proofs.Common.{◌≡◌, ◌∙◌, ℕ, ◌+◌, ◌<◌, ◌≤◌, Bool, true, false, List, [], length, take, get_or, Some, sym, subst, ap}
+use Rattle.std.specs.Prelude.{All, slice_get}
+use Rattle.std.proofs.lemmas.List.{take_all}
+use Rattle.std.proofs.lemmas.List.Elements.{All-more}
+use Rattle.std.proofs.lemmas.Option.{slice_get-get_or}
+use Rattle.task_ast.specs.Tree.{Program}
+use Rattle.task_ast.specs.Longs.{IsPlain}
+use Rattle.task_ast.specs.declared.names.VariableName.{VariableName}
+use Rattle.task_ast.specs.declared.names.TaskName.{TaskName}
+use Rattle.task_lex.specs.declared.token.Token.{Token}
+use Rattle.task_lex.specs.Lex.{lexed, tokens}
+use Rattle.task_parse.specs.Grammar.{IsProgram}
+use Rattle.source_meaning.specs.Acceptance.{Checks}
+use Rattle.source_meaning.specs.Longs.{is_long_kind, NotLong, IsFirstLong}
+use Rattle.source_meaning.proofs.PlainTrees.{none_long, program_plain}
+use Rattle.source_meaning.proofs.PlainNames.{source_plain}
+use Rattle.source_meaning.proofs.Unique.{same_tokens}
+
+pub none_more : (ts : List Token) (i : ℕ) (t : Token) → i < length ts → t ≡ get_or ts i t → All NotLong (take i ts) → is_long_kind t.kind ≡ false
+    → All NotLong (take (i + 1) ts)
+none_more ts i t lt is all not = All-more NotLong ts i t lt all (subst NotLong is not)
+
+pub none_all : (ts : List Token) (i : ℕ) → length ts ≤ i → All NotLong (take i ts) → All NotLong ts
+none_all ts i h all = subst (All NotLong) (take_all i ts h) all
+
+pub long_at : (ts : List Token) (i : ℕ) (t : Token) → i < length ts → t ≡ get_or ts i t → All NotLong (take i ts) → is_long_kind t.kind ≡ true
+    → IsFirstLong ts i
+long_at ts i t lt is all long = record {
+  token = t;
+  is_token = slice_get-get_or ts i t lt ∙ ap Some (sym is);
+  is_long = long;
+  first = all;
+}
+
+-- a text whose tokens have no long is of a source without longs
+pub text_plain : (text : List ℕ) (program : Program VariableName TaskName) (words : List Token) → Checks text program → lexed text ≡ tokens words
+    → All NotLong words → IsPlain program
+text_plain text program words checks lexes none =
+    let same = same_tokens checks.parses.words words (sym checks.parses.lexes ∙ lexes) in
+    let grammar = subst (λ ts. IsProgram ts checks.tree) same checks.parses.grammar in
+    source_plain text checks.tree program checks.checks.named.looked_up (program_plain words checks.tree grammar (none_long words none))
