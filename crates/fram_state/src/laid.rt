@@ -45,6 +45,7 @@ fn initial_words(alloc: Global, extent: Extent) -> Result<Vec<u16>, AllocError>
 {
     match extent {
         Extent::Scalar(word) => vec![in alloc; word; 1],
+        Extent::Long(n) => vec![in alloc; (n % 65536) as u16, (n / 65536) as u16],
         Extent::Array(words) => vec![in alloc; 0; words as usize],
     }
 }

@@ -34,7 +34,7 @@ fn is_type(value_type: ValueType, word_type: WordType) -> bool
     ensures { IsTrue result ↔ (value_type ≡ value_type_of word_type) }
 {
     match word_type {
-        WordType::Unsigned => value_type == ValueType::Unsigned,
+        WordType::Unsigned | WordType::Long => value_type == ValueType::Unsigned,
         WordType::Int => value_type == ValueType::Int,
     }
 }
@@ -45,6 +45,7 @@ fn is_length(length: Option<u16>, extent: Extent) -> bool
 {
     match extent {
         Extent::Scalar(_) => length.is_none(),
+        Extent::Long(_) => length == Some(2),
         Extent::Array(words) => length == Some(words),
     }
 }

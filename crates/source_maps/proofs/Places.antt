@@ -6,6 +6,7 @@ use Rattle.std.proofs.lemmas.List.Elements.{All-nil, All-cons, All-head, All-tai
 use Rattle.task_ast.specs.declared.Extent.{Extent}
 use Rattle.task_ast.specs.declared.Extent.TheVariants as extent
 use Rattle.task_ast.specs.declared.SharedDeclaration.{SharedDeclaration}
+use Rattle.task_ast.specs.Longs.{IsPlainExtent}
 use Rattle.image_map.specs.MapValue.{IsFramWord, IsVariable, fits, variable_names}
 use Rattle.source_runs.specs.Naming.{length_of, AreVariablesOf}
 use Rattle.source_report.specs.SourceReport.{spelled}
@@ -90,9 +91,15 @@ names_of_variables text [] (p ∷ ps) h = absurd h
 names_of_variables text (d ∷ ds) [] h = absurd h
 names_of_variables text (d ∷ ds) (p ∷ ps) h = ap (λ l. spelled text d.name ∷ l) (names_of_variables text ds ps h.1)
 
+-- what has a place is no long
+plain_there : (e : Extent) (place : VariablePlace) → IsOfKind e place → IsPlainExtent e
+plain_there (extent.Scalar w) place h = tt
+plain_there (extent.Long n) place h = h
+plain_there (extent.Array n) place h = tt
+
 pub of_declarations : (text : List ℕ) (ds : List SharedDeclaration) (ps : List VariablePlace) → ArePlacesOf ds ps
     → AreVariablesOf text (variables_of text ds ps) ds
 of_declarations text [] [] h = tt
 of_declarations text [] (p ∷ ps) h = absurd h
 of_declarations text (d ∷ ds) [] h = absurd h
-of_declarations text (d ∷ ds) (p ∷ ps) h = (refl, refl, of_declarations text ds ps h.1)
+of_declarations text (d ∷ ds) (p ∷ ps) h = (refl, refl, plain_there d.extent p h.0, of_declarations text ds ps h.1)

@@ -46,7 +46,8 @@ fn length_of(extent: Extent) -> Option<u16>
     ensures { result ≡ length_of extent }
 {
     match extent {
-        Extent::Scalar(_) | Extent::Long(_) => None,
+        Extent::Scalar(_) => None,
+        Extent::Long(_) => Some(2),
         Extent::Array(length) => Some(length),
     }
 }
