@@ -7,6 +7,8 @@ mod Fresh
 mod Written
 mod Placing
 mod Ready
+mod Laid
+mod Uncompiled
 pub mod Interface
 pub use Rattle.memory_map.proofs as memory_map
 pub use Rattle.linked_code.proofs.fram_board as fram_board

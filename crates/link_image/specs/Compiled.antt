@@ -2,7 +2,6 @@
 use Rattle.std.specs.Prelude.{◌≡◌, ℕ, List, All, Some}
 use Rattle.linked_code.specs.cost_bound.declared.allowance.Allow.{Allow}
 use Rattle.whole_programs.specs.source_values.Runs.{CheckedProgram}
-use Rattle.task_ast.specs.Longs.{IsPlain}
 use Rattle.war_analysis.specs.PlanValue.{TaskPlanValue}
 use Rattle.war_analysis.specs.Plans.{IsPlan}
 use Rattle.memory_map.specs.MemoryMap.{MemoryMap}
@@ -11,18 +10,18 @@ use Rattle.codegen.specs.array_versions.Form.{OfWords}
 use Rattle.image_text.specs.ImageValue.{ImageValue}
 use Rattle.lower.specs.Lowered.{lowered}
 use Rattle.source_meaning.specs.Acceptance.{IsAcceptedText, IsRefusedText}
-use Rattle.source_meaning.specs.Longs.{HasLong}
+use Rattle.source_meaning.specs.Longs.{HasLong, HasNoLong}
 use Rattle.source_meaning.specs.declared.fault.SourceFault.{SourceFault}
 use Rattle.source_meaning.specs.declared.fault.SourceFault.TheVariants as source_fault
 use Rattle.link_image.specs.Words.{AreImageWords}
 use Rattle.source_maps.specs.Maps.{map_of}
 
 -- an image has the words and the map of a source's layout, of which there is one: the layout for the source's plan and its allowance; and the
--- source has no longs
+-- text has no longs
 pub record IsCompiled (text : List ℕ) (p : CheckedProgram) (allow : Allow) (image : ImageValue) : Type 0 where
   pub plans : List TaskPlanValue
   pub layout : MemoryMap
-  pub plain : IsPlain p
+  pub no_longs : HasNoLong text
   pub is_plan : IsPlan p plans
   pub is_layout : IsLayout p allow plans layout
   pub of_words : All OfWords (lowered layout p)

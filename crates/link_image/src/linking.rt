@@ -3,6 +3,7 @@ ghost use Rattle.std.specs.Prelude.{◌≡◌, ◌<◌, ◌^◌, ◌-◌, All, l
 ghost use Rattle.task_ast.specs.View.{program_of};
 ghost use Rattle.task_ast.specs.Longs.{IsPlain};
 ghost use Rattle.source_meaning.specs.Acceptance.{IsAcceptedText};
+ghost use Rattle.source_meaning.specs.Longs.{HasNoLong};
 ghost use Rattle.war_analysis.specs.Plans.{IsPlan};
 ghost use Rattle.privatise.specs.Layouts.{IsLayout};
 ghost use Rattle.link_image.specs.Needs.{IsReadyToLink};
@@ -69,7 +70,7 @@ fn image_of(alloc: Global, accepted: &Accepted, layout: &Layout) -> Result<Image
 // The image of an accepted source without longs, with a map; or no memory is left.
 fn linked(alloc: Global, accepted: &Accepted) -> Result<Image, AllocError>
     requires accepted { IsAcceptedText accepted.now.text.items (program_of accepted.now.checked.source) accepted.now.allow }
-    requires plain { IsPlain (program_of accepted.now.checked.source) }
+    requires no_longs { HasNoLong accepted.now.text.items }
     ensures { IfOk result (IsCompiled accepted.now.text.items (program_of accepted.now.checked.source) accepted.now.allow) }
 {
     let checked = accepted.checked();

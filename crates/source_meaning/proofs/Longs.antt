@@ -3,16 +3,15 @@ use Rattle.std.proofs.Common.{◌≡◌, ◌∙◌, ℕ, ◌+◌, ◌<◌, ◌�
 use Rattle.std.specs.Prelude.{All, slice_get}
 use Rattle.std.proofs.lemmas.List.{take_all}
 use Rattle.std.proofs.lemmas.List.Elements.{All-more}
-use Rattle.std.proofs.lemmas.Option.{slice_get-get_or}
+use Rattle.std.proofs.lemmas.Option.{slice_get-get_or, slice_get_within, get_or_from_slice_get}
 use Rattle.task_ast.specs.Tree.{Program}
 use Rattle.task_ast.specs.Longs.{IsPlain}
 use Rattle.task_ast.specs.declared.names.VariableName.{VariableName}
 use Rattle.task_ast.specs.declared.names.TaskName.{TaskName}
 use Rattle.task_lex.specs.declared.token.Token.{Token}
-use Rattle.task_lex.specs.Lex.{lexed, tokens}
 use Rattle.task_parse.specs.Grammar.{IsProgram}
 use Rattle.source_meaning.specs.Acceptance.{Checks}
-use Rattle.source_meaning.specs.Longs.{is_long_kind, NotLong, IsFirstLong}
+use Rattle.source_meaning.specs.Longs.{is_long_kind, NotLong, IsFirstLong, HasLong, HasNoLong}
 use Rattle.source_meaning.proofs.PlainTrees.{none_long, program_plain}
 use Rattle.source_meaning.proofs.PlainNames.{source_plain}
 use Rattle.source_meaning.proofs.Unique.{same_tokens}
@@ -34,9 +33,18 @@ long_at ts i t lt is all long = record {
 }
 
 -- a text whose tokens have no long is of a source without longs
-pub text_plain : (text : List ℕ) (program : Program VariableName TaskName) (words : List Token) → Checks text program → lexed text ≡ tokens words
-    → All NotLong words → IsPlain program
-text_plain text program words checks lexes none =
-    let same = same_tokens checks.parses.words words (sym checks.parses.lexes ∙ lexes) in
+pub text_plain : (text : List ℕ) (program : Program VariableName TaskName) → Checks text program → HasNoLong text → IsPlain program
+text_plain text program checks no =
+    let same = same_tokens checks.parses.words no.words (sym checks.parses.lexes ∙ no.lexes) in
     let grammar = subst (λ ts. IsProgram ts checks.tree) same checks.parses.grammar in
-    source_plain text checks.tree program checks.checks.named.looked_up (program_plain words checks.tree grammar (none_long words none))
+    source_plain text checks.tree program checks.checks.named.looked_up (program_plain no.words checks.tree grammar (none_long no.words no.none))
+
+-- and no text has one and none
+pub one_or_none : (text : List ℕ) (line : ℕ) → HasNoLong text → HasLong text line → ⊥
+one_or_none text line no has =
+    let same = same_tokens has.words no.words (sym has.lexes ∙ no.lexes) in
+    let there : slice_get no.words has.at ≡ Some has.is_first.token = ap (λ ws. slice_get ws has.at) (sym same) ∙ has.is_first.is_token in
+    let is : get_or no.words has.at has.is_first.token ≡ has.is_first.token = get_or_from_slice_get no.words has.at _ _ there in
+    let none = no.none has.at has.is_first.token (slice_get_within no.words has.at has.is_first.token there) in
+    let both : true ≡ false = sym has.is_first.is_long ∙ sym (ap (λ t. is_long_kind t.kind) is) ∙ none in
+    cc

@@ -1,9 +1,5 @@
--- Accepted texts with longs, which aren't compiled yet.
+-- Texts with longs, which aren't compiled yet, and those without.
 use Rattle.std.specs.Prelude.{◌≡◌, ◌<◌, ℕ, Bool, true, false, List, All, take, Option, Some, None, slice_get}
-use Rattle.task_ast.specs.Tree.{Program}
-use Rattle.task_ast.specs.Longs.{IsPlain}
-use Rattle.task_ast.specs.declared.names.VariableName.{VariableName}
-use Rattle.task_ast.specs.declared.names.TaskName.{TaskName}
 use Rattle.task_lex.specs.declared.token.Token.{Token}
 use Rattle.task_lex.specs.declared.token.Kind.{Kind}
 use Rattle.task_lex.specs.declared.token.Kind.TheVariants as k
@@ -35,7 +31,13 @@ pub record HasLong (text : List ℕ) (line : ℕ) : Type 0 where
   pub is_first : IsFirstLong words at
   pub line_is : line ≡ token_line text words at
 
--- the line of the first long of a text, of which this is the source; or the source has none
-abbrev pub FirstLong : List ℕ → Program VariableName TaskName → Option ℕ → Type 0
-FirstLong text program None = IsPlain program
-FirstLong text program (Some line) = HasLong text line
+-- the text has no such token
+pub record HasNoLong (text : List ℕ) : Type 0 where
+  pub words : List Token
+  pub lexes : lexed text ≡ tokens words
+  pub none : All NotLong words
+
+-- the line of the first long of a text, or it has none
+abbrev pub FirstLong : List ℕ → Option ℕ → Type 0
+FirstLong text None = HasNoLong text
+FirstLong text (Some line) = HasLong text line

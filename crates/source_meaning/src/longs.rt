@@ -1,7 +1,5 @@
-//! Accepted sources with longs, which aren't compiled yet.
+//! The longs of a source: a source with one isn't compiled yet.
 ghost use Rattle.std.specs.Prelude.{◌≡◌, ◌<◌, All, take, IfOk, IfNone, IfSome};
-ghost use Rattle.task_ast.specs.View.{program_of};
-ghost use Rattle.source_meaning.specs.Acceptance.{IsAcceptedText};
 ghost use Rattle.source_meaning.specs.Longs.{FirstLong, IsFirstLong, NotLong, is_long_kind};
 
 use crate::passes::Accepted;
@@ -32,8 +30,7 @@ fn first_among(tokens: &[Token]) -> Option<usize>
 
 /// The line of the first `long` or long number of an accepted source; or it has none.
 pub fn first_long(alloc: Global, accepted: &Accepted) -> Result<Option<u32>, AllocError>
-    requires { IsAcceptedText accepted.now.text.items (program_of accepted.now.checked.source) accepted.now.allow }
-    ensures { IfOk result (FirstLong accepted.now.text.items (program_of accepted.now.checked.source)) }
+    ensures { IfOk result (FirstLong accepted.now.text.items) }
 {
     let text = accepted.source();
     let Ok(tokens) = lex(alloc, text) else {

@@ -151,7 +151,10 @@ fn word_binary(op: BinaryOperator, s: WordType, t: WordType, a: u16, b: u16) -> 
     ensures word_type { number_type result ≡ binary_type op s t }
     ensures value { number_value result ≡ binary_value op (joined_type s t) a b }
 {
-    number_of(binary_type(op, s, t), binary_value(op, joined_type(s, t), a, b))
+    number_of(
+        binary_type(op, s, t),
+        binary_value(op, joined_type(s, t), a, b),
+    )
 }
 
 /// What an operator makes of two numbers.

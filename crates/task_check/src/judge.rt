@@ -220,9 +220,8 @@ fn use_fault(source: &[u8], o: Occurrence, symbol: Option<Symbol>) -> Option<Che
         Role::Target => wrong_use_if(source, o, is_no_task(symbol), kept),
         Role::Operand { refused, kept } => wrong_use_if(source, o, refused, kept),
         Role::Shared(_, Extent::Array(words)) => bad_length_if(source, o, words == 0),
-        Role::Shared(_, Extent::Scalar(_) | Extent::Long(_))
-        | Role::Task
-        | Role::Local { .. } => None,
+        Role::Shared(_, Extent::Scalar(_) | Extent::Long(_)) | Role::Task | Role::Local { .. } =>
+            None,
     }
 }
 

@@ -28,7 +28,10 @@ pub enum Role {
     Target,
     /// No name, but a part of an expression that the types of its operands may forbid, as the count of a shift: whether they do,
     /// and what the fault keeps.
-    Operand { refused: bool, kept: Kept },
+    Operand {
+        refused: bool,
+        kept: Kept,
+    },
 }
 
 /// A name, or what else can be used wrongly: its place in the text, and what it does there.

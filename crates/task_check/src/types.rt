@@ -33,7 +33,11 @@ fn table_of<'a>(
     let mut table = empty(alloc);
     for i in (0..shared.len()).rev() {
         let declared = shared[i];
-        set(&mut table, text_of(source, declared.name), declared.word_type)?;
+        set(
+            &mut table,
+            text_of(source, declared.name),
+            declared.word_type,
+        )?;
     }
     Ok(table)
 }

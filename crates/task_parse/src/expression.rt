@@ -14,9 +14,7 @@ use crate::operators::{Infix, infix_at, prefix_of};
 use crate::tokens::{after, kind_of, long_worth, place_of, take};
 use alp_text::Span;
 use std::alloc::{AllocError, Global};
-use task_ast::{
-    Expr, Literal, PlacedOperator, ShiftOperator, ShortCircuitOperator, UnaryOperator,
-};
+use task_ast::{Expr, Literal, PlacedOperator, ShiftOperator, ShortCircuitOperator, UnaryOperator};
 use task_lex::{Kind, Token};
 
 // The precedence of the operators that bind least.
