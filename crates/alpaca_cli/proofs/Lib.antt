@@ -1,6 +1,7 @@
 mod Answered
 mod AssemblyLaws
 mod AuditLaws
+mod BuildLaws
 mod FailureLaws
 mod FaultLaws
 mod GenLaws

@@ -17,6 +17,7 @@ use Rattle.board_run.specs.History.{start_of}
 use Rattle.board_run.specs.Report.{report_of}
 use Rattle.cost_bound.specs.declared.allowance.Allow.{Allow}
 use Rattle.source_meaning.specs.Acceptance.{IsAcceptedText}
+use Rattle.source_meaning.specs.Longs.{HasNoLong}
 use Rattle.link_image.specs.Compiled.{IsCompiled}
 use Rattle.image_reports.specs.ImageLaw.{IsLawful}
 use Rattle.msp_asm.specs.Assembled.{assembled}
@@ -38,7 +39,7 @@ use Rattle.alpaca_cli.specs.Refusals.{Refusal}
 use Rattle.alpaca_cli.specs.Resumed.{Resumes, SaysItsState, ResumeRefuses}
 use Rattle.alpaca_cli.specs.Migrated.{Migrates, CanBeMigrated, MigrateRefuses, editions}
 use Rattle.alpaca_cli.specs.RunReport.{IsRunReport, IsTold}
-use Rattle.alpaca_cli.specs.Sources.{IsSourceText, RefusesSource}
+use Rattle.alpaca_cli.specs.Sources.{IsSourceText, RefusesSource, RefusesBuild}
 use Rattle.alpaca_cli.specs.Saved.{Saves, SaveRefuses}
 use Rattle.alpaca_cli.specs.Texts.{RefusesTrace, RefusesImage}
 use Rattle.alpaca_cli.specs.Verdicts.{verdict_line, verdict_ending}
@@ -166,6 +167,10 @@ IsProduct call texts p = ⊥
 abbrev pub SaysSource : List ℕ → Type 0
 SaysSource text = (program : CheckedProgram) × IsSourceText text program
 
+-- a text is one of a source without longs, which is compiled
+abbrev pub SaysCompiled : List ℕ → Type 0
+SaysCompiled text = SaysSource text × HasNoLong text
+
 -- a text is a trace
 abbrev pub SaysTrace : List ℕ → Type 0
 SaysTrace text = (value : TraceValue) × (trace_of text ≡ Ok value)
@@ -183,12 +188,12 @@ SaysAssembly text = (words : List ℕ) × (assembled text ≡ Ok words)
 -- the texts of a command are accepted
 abbrev pub AreAccepted : Call → List (List ℕ) → Type 0
 AreAccepted (mean _ _) (source ∷ trace ∷ []) = SaysSource source × SaysTrace trace
-AreAccepted (try_ _ _ _) (source ∷ trace ∷ []) = SaysSource source × SaysTrace trace
-AreAccepted (build _ _) (source ∷ []) = SaysSource source
+AreAccepted (try_ _ _ _) (source ∷ trace ∷ []) = SaysCompiled source × SaysTrace trace
+AreAccepted (build _ _) (source ∷ []) = SaysCompiled source
 AreAccepted (run _ _) (image ∷ trace ∷ []) = SaysImage image × SaysTrace trace
 AreAccepted (asm _ _) (assembly ∷ []) = SaysAssembly assembly
 AreAccepted (dis _) (image ∷ []) = SaysImage image
-AreAccepted (gen number _) [] = SaysSource (generated_text number)
+AreAccepted (gen number _) [] = SaysCompiled (generated_text number)
 AreAccepted (save _ _ _) (image ∷ trace ∷ []) = SaysState image × SaysTrace trace
 AreAccepted (resume _ _ _) (image ∷ state ∷ trace ∷ []) = SaysItsState image state × SaysTrace trace
 AreAccepted (migrate _ _ _ _ _ _) (source ∷ image ∷ state ∷ new_source ∷ new_image ∷ []) =
@@ -196,10 +201,15 @@ AreAccepted (migrate _ _ _ _ _ _) (source ∷ image ∷ state ∷ new_source ∷
 AreAccepted (audit _ _ _) (source ∷ report ∷ trace ∷ []) = SaysSource source × SaysTrace trace
 AreAccepted call texts = ⊥
 
--- the text of `mean` or `try` at this place, from 0, is the first that is refused, and so
+-- the text of `mean` at this place, from 0, is the first that is refused, and so
 pub data MeanRefuses (source trace : List ℕ) : ℕ → Refusal → Type 0 where
   the_source : (r : Refusal) → RefusesSource source r → MeanRefuses source trace 0 r
   its_trace : (program : CheckedProgram) (r : Refusal) → IsSourceText source program → RefusesTrace trace r → MeanRefuses source trace 1 r
+
+-- the same of `try`, which compiles the source
+pub data TryRefuses (source trace : List ℕ) : ℕ → Refusal → Type 0 where
+  the_tried_source : (r : Refusal) → RefusesBuild source r → TryRefuses source trace 0 r
+  the_tried_trace : (program : CheckedProgram) (r : Refusal) → IsSourceText source program → RefusesTrace trace r → TryRefuses source trace 1 r
 
 -- the same of `run`
 pub data RunRefuses (image trace : List ℕ) : ℕ → Refusal → Type 0 where
@@ -214,12 +224,12 @@ pub data AuditRefuses (source trace : List ℕ) : ℕ → Refusal → Type 0 whe
 -- the text at this place, from 0, is the first that is refused, and so
 abbrev pub IsRefused : Call → List (List ℕ) → ℕ → Refusal → Type 0
 IsRefused (mean _ _) (source ∷ trace ∷ []) place r = MeanRefuses source trace place r
-IsRefused (try_ _ _ _) (source ∷ trace ∷ []) place r = MeanRefuses source trace place r
-IsRefused (build _ _) (source ∷ []) place r = RefusesSource source r × (place ≡ 0)
+IsRefused (try_ _ _ _) (source ∷ trace ∷ []) place r = TryRefuses source trace place r
+IsRefused (build _ _) (source ∷ []) place r = RefusesBuild source r × (place ≡ 0)
 IsRefused (run _ _) (image ∷ trace ∷ []) place r = RunRefuses image trace place r
 IsRefused (asm _ _) (assembly ∷ []) place r = RefusesAssembly assembly r × (place ≡ 0)
 IsRefused (dis _) (image ∷ []) place r = RefusesImage image r × (place ≡ 0)
-IsRefused (gen number _) [] place r = RefusesSource (generated_text number) r × (place ≡ 0)
+IsRefused (gen number _) [] place r = RefusesBuild (generated_text number) r × (place ≡ 0)
 IsRefused (save _ _ _) (image ∷ trace ∷ []) place r = SaveRefuses image trace place r
 IsRefused (resume _ _ _) (image ∷ state ∷ trace ∷ []) place r = ResumeRefuses image state trace place r
 IsRefused (migrate _ _ _ _ _ _) (source ∷ image ∷ state ∷ new_source ∷ new_image ∷ []) place r =

@@ -13,6 +13,7 @@ use Rattle.source_values.specs.Runs.{CheckedProgram}
 use Rattle.source_meaning.specs.declared.fault.SourceFault.{SourceFault}
 use Rattle.source_meaning.specs.declared.fault.SourceFault.TheVariants as fault
 use Rattle.source_meaning.specs.Acceptance.{IsAcceptedText, IsRefusedText}
+use Rattle.link_image.specs.Compiled.{IsUncompiled}
 use Rattle.alpaca_cli.specs.Refusals.{Refusal, number, plain, named}
 
 -- the text is accepted as this program
@@ -65,6 +66,12 @@ source_refusal text (fault.Check f) = check_refusal text f
 source_refusal text (fault.Over f) = Some (over_refusal f)
 source_refusal text (fault.NotYet line) = Some (plain line (codes "NotYet"))
 source_refusal text fault.Memory = None
+
+-- the text isn't compiled: the first pass that refuses it does so, or it has longs
+pub record RefusesBuild (text : List ℕ) (r : Refusal) : Type 0 where
+  pub cause : SourceFault
+  pub refused : IsUncompiled text cause
+  pub told : source_refusal text cause ≡ Some r
 
 -- the first pass that refuses the text does so
 pub record RefusesSource (text : List ℕ) (r : Refusal) : Type 0 where

@@ -2,17 +2,18 @@
 ghost use Rattle.std.specs.Prelude.{◌≡◌, IfOk, IfErr};
 ghost use Rattle.image_reports.specs.task_ast.View.{program_of};
 ghost use Rattle.source_meaning.specs.Acceptance.{IsAcceptedText};
-ghost use Rattle.alpaca_cli.specs.declared.failure.Failure.TheVariants.{Memory};
 ghost use Rattle.link_image.specs.Compiled.{IsCompiled};
 ghost use Rattle.alpaca_cli.specs.Products.{IsBuilt};
 ghost use Rattle.alpaca_cli.specs.RunReport.{IsToldOnTraces};
+ghost use Rattle.alpaca_cli.specs.Sources.{RefusesBuild};
+ghost use Rattle.alpaca_cli.specs.Texts.{FailsRefused};
 
-use crate::failure::Failure;
+use crate::failure::{Failure, refused_plainly};
 use fram_board::board_has_one_run;
 use image_reports::{images_are_mapped, images_are_told};
 use image_text::{Image, print_image};
 use link_image::link;
-use source_meaning::Accepted;
+use source_meaning::{Accepted, SourceFault};
 use std::alloc::{AllocError, Global};
 
 /// An image and the text that is printed of it.
@@ -32,17 +33,21 @@ fn image_is_told(source: &Accepted, image: &Image)
     images_are_told();
 }
 
-/// The image of a source and its text; `Memory` where memory was refused.
-pub fn built_of<'t>(alloc: Global, source: &Accepted) -> Result<Built, Failure<'t>>
+/// The image of the source that the text of a named file is, and the image's text.
+///
+/// # Errors
+/// `Refused` for a source with longs, which isn't compiled yet; `Memory` where memory was refused.
+pub fn built_of<'t>(alloc: Global, file: &'t str, source: &Accepted) -> Result<Built, Failure<'t>>
     requires { IsAcceptedText source.now.text.items (program_of source.now.checked.source) source.now.allow }
     ensures built { IfOk result (λ b. IsBuilt source.now.text.items (program_of source.now.checked.source) source.now.allow b.image b.text.items) }
     ensures told { IfOk result (λ b. IsToldOnTraces source.now.text.items (program_of source.now.checked.source) b.image) }
-    ensures failure { IfErr result (λ e. e ≡ Memory) }
+    ensures failure { IfErr result (FailsRefused file.now (RefusesBuild source.now.text.items)) }
 {
     images_are_mapped();
     let image = match link(alloc, source) {
         Ok(image) => image,
-        Err(AllocError) => return Err(Failure::Memory),
+        Err(SourceFault::NotYet { line }) => return Err(refused_plainly(file, line, "NotYet")),
+        Err(_) => return Err(Failure::Memory),
     };
     image_is_told(source, &image);
     match print_image(alloc, &image) {

@@ -14,7 +14,7 @@ use Rattle.task_parse.specs.Grammar.{prefix_of, infix_of, weakest, placed, long_
 use Rattle.task_parse.specs.Grammar.{joined, short_circuited, shifted}
 use Rattle.task_parse.specs.Expressions as reading
 use Rattle.task_parse.specs.Reading.{done, fault, Parser, ◌>>=◌, and_then, pure, kind_of, place_of, same_kind, token, chosen, meaning, again, over, turned}
-use Rattle.task_parse.specs.Expressions.{of_precedence, infix_at, joined_with, climb_turn, climb, up_to, element_by, named, bracketed, primary_by, primary}
+use Rattle.task_parse.specs.Expressions.{of_precedence, infix_at, joined_with, climb_on, climb_turn, climb, up_to, element_by, named, bracketed, primary_by, primary}
 use Rattle.task_parse.specs.Expressions.{unary, expression}
 use Rattle.task_parse.proofs.ExpressionSame.{unary_is, climb_suc}
 
@@ -62,7 +62,7 @@ some_at j kind op h = let same : (j == j) ≡ true = grind arith in ap (of_prece
 climb_ends : (j : ℕ) (left : Expression) (rest : List Token) → suc j < reach (kind_of rest) → climb (up_to unary j) (suc j) left rest ≡ done left rest
 unfolding climb_turn
 climb_ends j left rest h =
-    climb_suc j left rest ∙ ap (λ o. and_then (chosen o (λ op. joined_with (up_to unary j) left (place_of rest) op >>= λ whole. pure (again whole)) (pure (over left)) rest)
+    climb_suc j left rest ∙ ap (λ o. and_then (chosen o (climb_on (up_to unary j) left (place_of rest)) (pure (over left)) rest)
     (turned (climb (up_to unary j) (suc j)))) (none_past (suc j) (kind_of rest) h)
 
 climb_goes : (j : ℕ) (left whole : Expression) (t : Token) (op : Infix) (ts rest : List Token) → infix_of t.kind ≡ Some (suc j, op)
@@ -71,7 +71,7 @@ climb_goes : (j : ℕ) (left whole : Expression) (t : Token) (op : Infix) (ts re
 unfolding climb_turn
 climb_goes j left whole t op ts rest is h =
     climb_suc j left (t ∷ ts)
-    ∙ ap (λ o. and_then (chosen o (λ op. joined_with (up_to unary j) left t.span op >>= λ whole. pure (again whole)) (pure (over left)) (t ∷ ts))
+    ∙ ap (λ o. and_then (chosen o (climb_on (up_to unary j) left t.span) (pure (over left)) (t ∷ ts))
     (turned (climb (up_to unary j) (suc j)))) (some_at (suc j) t.kind op is)
     ∙ ap (λ o. and_then (and_then o (λ whole. pure (again whole))) (turned (climb (up_to unary j) (suc j)))) h
 

@@ -12,7 +12,7 @@ use Rattle.task_parse.specs.Grammar.{prefix_of, infix_of, weakest, placed, long_
 use Rattle.task_parse.specs.Grammar.{joined, short_circuited, shifted}
 use Rattle.task_parse.specs.Expressions as reading
 use Rattle.task_parse.specs.Reading.{Parser, pure, again, over}
-use Rattle.task_parse.specs.Expressions.{of_precedence, infix_at, joined_with, climb_turn, climb, up_to, element_by, named, bracketed, primary_by, primary}
+use Rattle.task_parse.specs.Expressions.{of_precedence, infix_at, joined_with, climb_on, climb_turn, climb, up_to, element_by, named, bracketed, primary_by, primary}
 use Rattle.task_parse.specs.Expressions.{unary_within}
 use Rattle.task_parse.proofs.ParserLaws.{Law, Sentence, law_pure, law_refuse, law_bind, law_by, law_accept, law_accept_at, law_take, law_map, law_weaken}
 use Rattle.task_parse.proofs.Turns.{Leads, Shrinks, law_shrinks, law_repeat}
@@ -71,7 +71,7 @@ module _ (j : ℕ) (lower : Parser Expression) (law : Law lower (IsExpression j)
 
   law_climb_turn : (left : Expression) → Law (climb_turn lower (suc j) left) (Leads (GoesOn (suc j)) left)
   unfolding climb_turn infix_at
-  law_climb_turn left = law_accept_at (infix_at (suc j)) _ (pure (over left)) (Leads (GoesOn (suc j)) left)
+  law_climb_turn left = law_accept_at (infix_at (suc j)) (climb_on lower left) (pure (over left)) (Leads (GoesOn (suc j)) left)
       (λ t op is. law_map (joined_with lower left t.span op) again (λ ys whole. GoesOn (suc j) left (t ∷ ys) whole)
       (λ ys turn. Leads (GoesOn (suc j)) left (t ∷ ys) turn)
       (law_joined_with t op left (of_precedence_some (suc j) (infix_of t.kind) op is)) (λ ys whole goes. turn_after t ys left whole goes))

@@ -10,7 +10,7 @@ use Rattle.task_parse.specs.declared.operators.Infix.{Infix}
 use Rattle.task_parse.specs.declared.operators.Infix.TheVariants.{Binary, Shift, ShortCircuit}
 use Rattle.task_parse.specs.Grammar.{prefix_of, weakest, placed, IsExpression}
 use Rattle.task_parse.specs.Reading.{Parser, and_then, pure, kind_of, again, over, turned}
-use Rattle.task_parse.specs.Expressions.{infix_at, joined_with, climb_turn, climb, up_to, element_by, named, bracketed, primary_by, primary, prefixed}
+use Rattle.task_parse.specs.Expressions.{infix_at, joined_with, climb_on, climb_turn, climb, up_to, element_by, named, bracketed, primary_by, primary, prefixed}
 use Rattle.task_parse.specs.Expressions.{unary_within, unary, expression}
 use Rattle.task_parse.proofs.ParserLaws.{Law}
 use Rattle.task_parse.proofs.SameLaws.{Same, Shortens, law_shortens, same_bind, same_take, same_accept, same_accept_at}
@@ -26,7 +26,7 @@ same_joined_with m lower lower' same left place (Shift op) ts fits = refl
 module _ (m j : ℕ) (lower lower' : Parser Expression) (same : Same m lower lower') (law : Law lower (IsExpression j)) where
   same_climb_turn : (left : Expression) → Same m (climb_turn lower (suc j) left) (climb_turn lower' (suc j) left)
   unfolding climb_turn infix_at
-  same_climb_turn left ts fits = same_accept_at m (infix_at (suc j)) _ _ (pure (over left)) (pure (over left))
+  same_climb_turn left ts fits = same_accept_at m (infix_at (suc j)) (climb_on lower left) (climb_on lower' left) (pure (over left)) (pure (over left))
       (λ place op rest le. ap (λ o. and_then o (λ whole. pure (again whole))) (same_joined_with m lower lower' same left place op rest le)) (λ rest le. refl) ts
       (omega arith)
 

@@ -26,10 +26,13 @@ joined_with tighter left place (Binary op) = tighter >>= λ right. pure (node.bi
 joined_with tighter left place (ShortCircuit op) = tighter >>= λ right. pure (node.short_circuit op left right)
 joined_with tighter left place (Shift op) = token k.Number >>= λ n. pure (node.shift op left (literal_of n))
 
+-- both sides are the left one of what goes on
+abbrev pub climb_on : Parser Expression → Expression → Span → Infix → Parser (Turn Expression Expression)
+climb_on tighter left place op = joined_with tighter left place op >>= λ whole. pure (again whole)
+
 -- goes on from the left side, with an operator of the precedence
 unfoldable pub climb_turn : Parser Expression → ℕ → Expression → Parser (Turn Expression Expression)
-climb_turn tighter j left =
-    accept_at (infix_at j) (λ place op. joined_with tighter left place op >>= λ whole. pure (again whole)) (pure (over left))
+climb_turn tighter j left = accept_at (infix_at j) (climb_on tighter left) (pure (over left))
 
 -- goes on with such operators, as long as they come: to the left
 abbrev pub climb : Parser Expression → ℕ → Expression → Parser Expression

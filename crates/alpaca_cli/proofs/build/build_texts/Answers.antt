@@ -1,17 +1,21 @@
-use Rattle.std.proofs.Common.{refl, ap}
+use Rattle.std.proofs.Common.{refl, ap, subst}
 use Rattle.alp_io.specs.Report.{bound_line}
-use Rattle.alpaca_cli.proofs.FailureLaws.{refusal_fails, memory_fails}
+use Rattle.alpaca_cli.specs.Sources.{RefusesBuild}
+use Rattle.alpaca_cli.proofs.FailureLaws.{refusal_fails}
+use Rattle.alpaca_cli.proofs.BuildLaws.{by_pass}
 use Rattle.alpaca_cli.proofs.PutLaws.{put_whole, put_breaks, put_fails, builds}
 use Rattle.alpaca_cli.proofs.UnreadFiles.{handed_on}
 use Rattle.alpaca_cli.proofs.build.build_texts.Goals as goal
 
 pub returns-in_err-source-clause-failure : goal.returns-in_err-source-clause-failure
 returns-in_err-source-clause-failure g c =
-    handed_on _ _ _ c.from_residual.ensures (refusal_fails _ _ _ _ _ 0 _ _ refl (λ r no. (no, refl)) refl refl c.in_err-source.ensures.refused)
+    handed_on _ _ _ c.from_residual.ensures (refusal_fails _ _ _ _ _ 0 _ _ refl (λ r no. (by_pass r no, refl)) refl refl c.in_err-source.ensures.refused)
 
 pub returns-in_err-built-clause-failure : goal.returns-in_err-built-clause-failure
 returns-in_err-built-clause-failure g c =
-    handed_on _ _ _ c.from_residual-in_err-built.ensures (memory_fails _ _ _ _ _ c.in_err-built.ensures.failure refl refl)
+    handed_on _ _ _ c.from_residual-in_err-built.ensures
+    (refusal_fails _ _ _ _ _ 0 _ _ refl (λ r no. (subst (λ t. RefusesBuild t r) c.in_ok-source.ensures.text no, refl)) refl refl
+    c.in_err-built.ensures.failure)
 
 pub returns-in_err-put_file-clause-failure : goal.returns-in_err-put_file-clause-failure
 returns-in_err-put_file-clause-failure g c =

@@ -1,22 +1,26 @@
-use Rattle.std.proofs.Common.{refl}
-use Rattle.alpaca_cli.specs.Products.{the_source, its_trace}
-use Rattle.alpaca_cli.proofs.FailureLaws.{refusal_fails, memory_fails}
+use Rattle.std.proofs.Common.{refl, subst}
+use Rattle.alpaca_cli.specs.Products.{the_tried_source, the_tried_trace}
+use Rattle.alpaca_cli.specs.Sources.{RefusesBuild}
+use Rattle.alpaca_cli.proofs.FailureLaws.{refusal_fails}
+use Rattle.alpaca_cli.proofs.BuildLaws.{by_pass}
 use Rattle.alpaca_cli.proofs.PutLaws.{tries}
 use Rattle.alpaca_cli.proofs.UnreadFiles.{handed_on}
 use Rattle.alpaca_cli.proofs.try_.try_texts.Goals as goal
 
 pub returns-in_err-source-clause-failure : goal.returns-in_err-source-clause-failure
 returns-in_err-source-clause-failure g c =
-    handed_on _ _ _ c.from_residual.ensures (refusal_fails _ _ _ _ _ 0 _ _ refl (λ r no. the_source r no) refl refl c.in_err-source.ensures.refused)
+    handed_on _ _ _ c.from_residual.ensures (refusal_fails _ _ _ _ _ 0 _ _ refl (λ r no. the_tried_source r (by_pass r no)) refl refl c.in_err-source.ensures.refused)
 
 pub returns-in_err-trace-clause-failure : goal.returns-in_err-trace-clause-failure
 returns-in_err-trace-clause-failure g c =
     handed_on _ _ _ c.from_residual-in_err-trace.ensures
-    (refusal_fails _ _ _ _ _ 1 _ _ refl (λ r no. its_trace _ r c.in_ok-source.ensures.said no) refl refl c.in_err-trace.ensures.refused)
+    (refusal_fails _ _ _ _ _ 1 _ _ refl (λ r no. the_tried_trace _ r c.in_ok-source.ensures.said no) refl refl c.in_err-trace.ensures.refused)
 
 pub returns-in_err-built-clause-failure : goal.returns-in_err-built-clause-failure
 returns-in_err-built-clause-failure g c =
-    handed_on _ _ _ c.from_residual-in_err-built.ensures (memory_fails _ _ _ _ _ c.in_err-built.ensures.failure refl refl)
+    handed_on _ _ _ c.from_residual-in_err-built.ensures
+    (refusal_fails _ _ _ _ _ 0 _ _ refl (λ r no. the_tried_source r (subst (λ t. RefusesBuild t r) c.in_ok-source.ensures.text no)) refl refl
+    c.in_err-built.ensures.failure)
 
 pub put_trial-requires-clause-tries : goal.put_trial-requires-clause-tries
 put_trial-requires-clause-tries g c =

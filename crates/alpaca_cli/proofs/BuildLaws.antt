@@ -1,0 +1,32 @@
+-- What keeps a text from being built.
+use Rattle.std.proofs.Common.{◌≡◌, ◌∙◌, ℕ, List, codes, Some, refl, ap, sym, subst}
+use Rattle.source_values.specs.Runs.{CheckedProgram}
+use Rattle.cost_bound.specs.declared.allowance.Allow.{Allow}
+use Rattle.source_meaning.specs.Acceptance.{IsAcceptedText}
+use Rattle.source_meaning.specs.Longs.{HasLong}
+use Rattle.source_meaning.specs.declared.fault.SourceFault.TheVariants as fault
+use Rattle.link_image.proofs.Interface.{uncompiled_by_pass}
+use Rattle.alpaca_cli.specs.declared.failure.Failure.{Failure}
+use Rattle.alpaca_cli.specs.declared.failure.Failure.TheVariants.{Refused, Put, Write, Memory}
+use Rattle.alpaca_cli.specs.Refusals.{Refusal, plain}
+use Rattle.alpaca_cli.specs.Sources.{source_refusal, RefusesSource, RefusesBuild}
+use Rattle.alpaca_cli.specs.Texts.{FailsRefused}
+use Rattle.alpaca_cli.specs.Views.{refusal_of}
+
+-- a text that a pass refuses isn't built
+pub by_pass : {text : List ℕ} (r : Refusal) → RefusesSource text r → RefusesBuild text r
+by_pass {text} r no = record { cause = no.cause; refused = uncompiled_by_pass text no.cause no.refused; told = no.told }
+
+-- and neither is an accepted one with longs
+pub by_longs : (text : List ℕ) (p : CheckedProgram) (allow : Allow) (line : ℕ) (r : Refusal) → IsAcceptedText text p allow → HasLong text line
+    → r ≡ plain line (codes "NotYet") → RefusesBuild text r
+by_longs text p allow line r accepted long is =
+    record { cause = fault.NotYet line; refused = record { program = p; allow = allow; accepted = accepted; has_long = long }; told = ap Some (sym is) }
+
+-- so with the failure that says so
+pub fails_on_longs : (name text : List ℕ) (p : CheckedProgram) (allow : Allow) (line : ℕ) (e : Failure) → IsAcceptedText text p allow → HasLong text line
+    → FailsRefused name (λ r. r ≡ plain line (codes "NotYet")) e → FailsRefused name (RefusesBuild text) e
+fails_on_longs name text p allow line (Refused file r) accepted long h = (h.0, by_longs text p allow line (refusal_of r) accepted long h.1)
+fails_on_longs name text p allow line (Put file) accepted long h = h
+fails_on_longs name text p allow line Write accepted long h = h
+fails_on_longs name text p allow line Memory accepted long h = h
