@@ -8,5 +8,5 @@ mod Unique
 mod OneAnswer
 mod PlainTrees
 mod PlainNames
-mod Longs
+mod FirstLong
 pub mod Interface

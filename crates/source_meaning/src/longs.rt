@@ -37,7 +37,7 @@ pub fn first_long(alloc: Global, accepted: &Accepted) -> Result<Option<u32>, All
         return Err(AllocError);
     };
     match first_among(&tokens) {
-        Some(at) => Ok(Some(line_at(text, tokens[at].span.from as usize))),
+        Some(at) => Ok(Some(line_at(text, tokens[at].span.from))),
         None => Ok(None),
     }
 }

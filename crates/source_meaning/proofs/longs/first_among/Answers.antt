@@ -1,5 +1,5 @@
 use Rattle.std.proofs.Common.{sym, ◌∙◌}
-use Rattle.source_meaning.proofs.Longs.{none_more, none_all, long_at}
+use Rattle.source_meaning.proofs.FirstLong.{none_more, none_all, long_at}
 use Rattle.source_meaning.proofs.longs.first_among.Goals as goal
 
 pub returns-then-is_long-clause-some : goal.returns-then-is_long-clause-some

@@ -9,7 +9,12 @@ use Rattle.task_ast.specs.Longs.{IsPlain}
 use Rattle.task_ast.specs.declared.names.VariableName.{VariableName}
 use Rattle.task_ast.specs.declared.names.TaskName.{TaskName}
 use Rattle.task_lex.specs.declared.token.Token.{Token}
+use Rattle.task_lex.specs.Lex.{lexed, tokens}
+use Rattle.task_lex.specs.Faults.{line_of}
+use Rattle.task_lex.specs.Spans.{InOrder}
+use Rattle.task_lex.proofs.Interface.{all_within}
 use Rattle.task_parse.specs.Grammar.{IsProgram}
+use Rattle.task_parse.specs.Stops.{from_of}
 use Rattle.source_meaning.specs.Acceptance.{Checks}
 use Rattle.source_meaning.specs.Longs.{is_long_kind, NotLong, IsFirstLong, HasLong, HasNoLong}
 use Rattle.source_meaning.proofs.PlainTrees.{none_long, program_plain}
@@ -31,6 +36,18 @@ long_at ts i t lt is all long = record {
   is_long = long;
   first = all;
 }
+
+-- it begins within the text, and its line is the text's
+pub starts_within : (text : List ℕ) (ts : List Token) (at : ℕ) (t : Token) → InOrder 0 (length text) ts → IsFirstLong ts at → t ≡ get_or ts at t
+    → t.span.from ≤ length text
+starts_within text ts at t order x is =
+    subst (λ u. u.span.from ≤ length text) (sym is) (all_within 0 (length text) ts order at t (slice_get_within ts at x.token x.is_token))
+
+pub has_long : (text : List ℕ) (ts : List Token) (at line : ℕ) (t : Token) → lexed text ≡ tokens ts → IsFirstLong ts at → t ≡ get_or ts at t
+    → line ≡ line_of text t.span.from → HasLong text line
+has_long text ts at line t lexes x is line_is =
+    let there : slice_get ts at ≡ Some t = slice_get-get_or ts at t (slice_get_within ts at x.token x.is_token) ∙ ap Some (sym is) in
+    record { words = ts; lexes = lexes; at = at; is_first = x; line_is = line_is ∙ ap (λ o. line_of text (from_of text o)) (sym there) }
 
 -- a text whose tokens have no long is of a source without longs
 pub text_plain : (text : List ℕ) (program : Program VariableName TaskName) → Checks text program → HasNoLong text → IsPlain program
