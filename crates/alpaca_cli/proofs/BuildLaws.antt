@@ -3,8 +3,11 @@ use Rattle.std.proofs.Common.{◌≡◌, ◌∙◌, ℕ, List, codes, Some, refl
 use Rattle.source_values.specs.Runs.{CheckedProgram}
 use Rattle.cost_bound.specs.declared.allowance.Allow.{Allow}
 use Rattle.source_meaning.specs.Acceptance.{IsAcceptedText}
-use Rattle.source_meaning.specs.Longs.{HasLong}
+use Rattle.source_meaning.specs.Longs.{HasLong, HasNoLong}
+use Rattle.source_meaning.specs.declared.fault.SourceFault.{SourceFault}
 use Rattle.source_meaning.specs.declared.fault.SourceFault.TheVariants as fault
+use Rattle.source_meaning.proofs.Interface.{one_or_none}
+use Rattle.link_image.specs.Compiled.{IsUncompiled}
 use Rattle.link_image.proofs.Interface.{uncompiled_by_pass}
 use Rattle.alpaca_cli.specs.declared.failure.Failure.{Failure}
 use Rattle.alpaca_cli.specs.declared.failure.Failure.TheVariants.{Refused, Put, Write, Memory}
@@ -17,7 +20,19 @@ use Rattle.alpaca_cli.specs.Views.{refusal_of}
 pub by_pass : {text : List ℕ} (r : Refusal) → RefusesSource text r → RefusesBuild text r
 by_pass {text} r no = record { cause = no.cause; refused = uncompiled_by_pass text no.cause no.refused; told = no.told }
 
--- and neither is an accepted one with longs
+-- where there is no long, nothing else keeps a text from it
+pub by_a_pass : (text : List ℕ) (r : Refusal) → HasNoLong text → RefusesBuild text r → RefusesSource text r
+by_a_pass text r none fails = by fails.cause fails.refused fails.told
+  where
+    by : (f : SourceFault) → IsUncompiled text f → source_refusal text f ≡ Some r → RefusesSource text r
+    by (fault.NotYet line) h told = absurd (one_or_none text line none h.has_long)
+    by (fault.Lex e) h told = record { cause = fault.Lex e; refused = h; told = told }
+    by (fault.Syntax line) h told = record { cause = fault.Syntax line; refused = h; told = told }
+    by (fault.Check e) h told = record { cause = fault.Check e; refused = h; told = told }
+    by (fault.Over e) h told = record { cause = fault.Over e; refused = h; told = told }
+    by fault.Memory h told = record { cause = fault.Memory; refused = h; told = told }
+
+-- neither is an accepted one with longs
 pub by_longs : (text : List ℕ) (p : CheckedProgram) (allow : Allow) (line : ℕ) (r : Refusal) → IsAcceptedText text p allow → HasLong text line
     → r ≡ plain line (codes "NotYet") → RefusesBuild text r
 by_longs text p allow line r accepted long is =

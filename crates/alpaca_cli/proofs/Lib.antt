@@ -6,6 +6,7 @@ mod FailureLaws
 mod FaultLaws
 mod GenLaws
 mod GenLines
+mod GenLongs
 mod LineLaws
 mod MigrateLaws
 mod NotRefused

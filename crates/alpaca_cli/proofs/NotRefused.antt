@@ -9,14 +9,11 @@ use Rattle.fram_state.specs.Laws.{AnswersAreOne, NoMigrationIsRefused}
 use Rattle.msp_asm.specs.Assembled.{assembled}
 use Rattle.source_values.specs.Runs.{CheckedProgram}
 use Rattle.source_meaning.specs.Longs.{HasNoLong}
-use Rattle.source_meaning.specs.declared.fault.SourceFault.{SourceFault}
-use Rattle.source_meaning.specs.declared.fault.SourceFault.TheVariants as fault
-use Rattle.source_meaning.proofs.Interface.{one_or_none}
-use Rattle.link_image.specs.Compiled.{IsUncompiled}
 use Rattle.alpaca_cli.specs.Assemblies.{RefusesAssembly}
 use Rattle.alpaca_cli.specs.Calls.{Call, mean, try_, build, run, asm, dis, gen, save, resume, migrate, audit}
 use Rattle.alpaca_cli.specs.Refusals.{Refusal}
-use Rattle.alpaca_cli.specs.Sources.{IsSourceText, RefusesSource, RefusesBuild, source_refusal}
+use Rattle.alpaca_cli.specs.Sources.{IsSourceText, RefusesSource, RefusesBuild}
+use Rattle.alpaca_cli.proofs.BuildLaws.{by_a_pass}
 use Rattle.alpaca_cli.specs.Texts.{RefusesTrace, RefusesImage, outside_fram, twice, no_reset, bad_map}
 use Rattle.alpaca_cli.specs.Texts.{RefusesState, bad_state_line, outside_of_state, twice_in_state, no_reset_in_state, bad_map_of_state}
 use Rattle.alpaca_cli.specs.Texts as texts
@@ -46,15 +43,7 @@ pub record TextsExclude : Type 0 where
 
 -- nor compiled and kept from it
 builds_exclude : SourcesExclude → (text : List ℕ) (p : CheckedProgram) (r : Refusal) → IsSourceText text p → HasNoLong text → RefusesBuild text r → ⊥
-builds_exclude law text p r said none fails = by fails.cause fails.refused fails.told
-  where
-    by : (f : SourceFault) → IsUncompiled text f → source_refusal text f ≡ Some r → ⊥
-    by (fault.NotYet line) h told = one_or_none text line none h.has_long
-    by (fault.Lex e) h told = law text p r said (record { cause = fault.Lex e; refused = h; told = told })
-    by (fault.Syntax line) h told = law text p r said (record { cause = fault.Syntax line; refused = h; told = told })
-    by (fault.Check e) h told = law text p r said (record { cause = fault.Check e; refused = h; told = told })
-    by (fault.Over e) h told = law text p r said (record { cause = fault.Over e; refused = h; told = told })
-    by fault.Memory h told = law text p r said (record { cause = fault.Memory; refused = h; told = told })
+builds_exclude law text p r said none fails = law text p r said (by_a_pass text r none fails)
 
 not_both : {A E : Type 0} (x : Result A E) (a : A) (e : E) → x ≡ Ok a → x ≡ Err e → ⊥
 not_both x a e p q = let g : Ok a ≡ Err e = sym p ∙ q in cc
@@ -88,7 +77,7 @@ no_mean law source trace place r said (its_trace p x other fails) = no_trace tra
 no_try : SourcesExclude → (source trace : List ℕ) (place : ℕ) (r : Refusal) → SaysCompiled source × SaysTrace trace
     → TryRefuses source trace place r → ⊥
 no_try law source trace place r ((said, none), traced) (the_tried_source x fails) = builds_exclude law source said.0 r said.1 none fails
-no_try law source trace place r (compiled, traced) (the_tried_trace p x other fails) = no_trace trace r traced fails
+no_try law source trace place r (compiled, traced) (the_tried_trace x other fails) = no_trace trace r traced fails
 
 no_run : (image trace : List ℕ) (place : ℕ) (r : Refusal) → SaysImage image × SaysTrace trace → RunRefuses image trace place r → ⊥
 no_run image trace place r said (the_image x fails) = no_image image r said.0 fails
@@ -205,7 +194,7 @@ not_refused law (asm c d) (x ∷ y ∷ more) place r a b = a
 not_refused law (dis c) [] place r a b = a
 not_refused law (dis c) (x ∷ []) place r a b = no_image x r a b.0
 not_refused law (dis c) (x ∷ y ∷ more) place r a b = a
-not_refused law (gen n i) [] place r (said, none) b = builds_exclude law.sources _ said.0 r said.1 none b.0
+not_refused law (gen n i) [] place r a b = law.sources _ a.0 r a.1 b.0
 not_refused law (gen n i) (x ∷ more) place r a b = a
 not_refused law (save c d i) [] place r a b = a
 not_refused law (save c d i) (x ∷ []) place r a b = a

@@ -193,7 +193,7 @@ AreAccepted (build _ _) (source ∷ []) = SaysCompiled source
 AreAccepted (run _ _) (image ∷ trace ∷ []) = SaysImage image × SaysTrace trace
 AreAccepted (asm _ _) (assembly ∷ []) = SaysAssembly assembly
 AreAccepted (dis _) (image ∷ []) = SaysImage image
-AreAccepted (gen number _) [] = SaysCompiled (generated_text number)
+AreAccepted (gen number _) [] = SaysSource (generated_text number)
 AreAccepted (save _ _ _) (image ∷ trace ∷ []) = SaysState image × SaysTrace trace
 AreAccepted (resume _ _ _) (image ∷ state ∷ trace ∷ []) = SaysItsState image state × SaysTrace trace
 AreAccepted (migrate _ _ _ _ _ _) (source ∷ image ∷ state ∷ new_source ∷ new_image ∷ []) =
@@ -209,7 +209,7 @@ pub data MeanRefuses (source trace : List ℕ) : ℕ → Refusal → Type 0 wher
 -- the same of `try`, which compiles the source
 pub data TryRefuses (source trace : List ℕ) : ℕ → Refusal → Type 0 where
   the_tried_source : (r : Refusal) → RefusesBuild source r → TryRefuses source trace 0 r
-  the_tried_trace : (program : CheckedProgram) (r : Refusal) → IsSourceText source program → RefusesTrace trace r → TryRefuses source trace 1 r
+  the_tried_trace : (r : Refusal) → SaysCompiled source → RefusesTrace trace r → TryRefuses source trace 1 r
 
 -- the same of `run`
 pub data RunRefuses (image trace : List ℕ) : ℕ → Refusal → Type 0 where
@@ -229,7 +229,7 @@ IsRefused (build _ _) (source ∷ []) place r = RefusesBuild source r × (place 
 IsRefused (run _ _) (image ∷ trace ∷ []) place r = RunRefuses image trace place r
 IsRefused (asm _ _) (assembly ∷ []) place r = RefusesAssembly assembly r × (place ≡ 0)
 IsRefused (dis _) (image ∷ []) place r = RefusesImage image r × (place ≡ 0)
-IsRefused (gen number _) [] place r = RefusesBuild (generated_text number) r × (place ≡ 0)
+IsRefused (gen number _) [] place r = RefusesSource (generated_text number) r × (place ≡ 0)
 IsRefused (save _ _ _) (image ∷ trace ∷ []) place r = SaveRefuses image trace place r
 IsRefused (resume _ _ _) (image ∷ state ∷ trace ∷ []) place r = ResumeRefuses image state trace place r
 IsRefused (migrate _ _ _ _ _ _) (source ∷ image ∷ state ∷ new_source ∷ new_image ∷ []) place r =

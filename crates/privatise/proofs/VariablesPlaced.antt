@@ -2,7 +2,7 @@
 use Rattle.std.proofs.Common.{◌≡◌, ℕ, zero, suc, ◌+◌, ◌*◌, ◌%◌, ◌<◌, ◌≤◌, Bool, true, false, List, [], ◌∷◌, ◌++◌, length, drop, map, get_or, refl, sym, ◌∙◌}
 use Rattle.std.proofs.Common.{ap, subst, arith, Some, None}
 use Rattle.std.proofs.Math.Seq.{drop-length}
-use Rattle.std.specs.Prelude.{All, slice_get, slice_index_or}
+use Rattle.std.specs.Prelude.{slice_get, slice_index_or}
 use Rattle.std.specs.List.{flat_map}
 use Rattle.std.proofs.lemmas.List.{length_push, map-append}
 use Rattle.std.proofs.lemmas.List.Concat.{flat_map-append}
@@ -17,9 +17,9 @@ use Rattle.privatise.specs.declared.variables.Free.{Free}
 use Rattle.memory_map.specs.Places.{home_region, copy_regions, version_regions, AreInOrder}
 use Rattle.privatise.specs.Sizes.{home_part, home_words, copy_part}
 use Rattle.privatise.specs.Layouts.{IsPlaceOf}
-use Rattle.task_ast.specs.Longs.{IsPlainExtent, IsPlainShared}
+use Rattle.task_ast.specs.Longs.{IsPlainExtent}
 use Rattle.privatise.specs.Placing.{place_at, copy_sum, version_sum, IsRoom, ArePlaced}
-use Rattle.memory_map.proofs.Interface.{in_order_append, in_order_push, in_order_higher}
+use Rattle.memory_map.proofs.Interface.{in_order_append, in_order_higher}
 use Rattle.privatise.proofs.Sums.{sum_step}
 
 -- what holds of each element, and of one more
@@ -30,17 +30,17 @@ each_push P [] y each new (suc k) x e = let no : None ≡ Some x = e in cc
 each_push P (z ∷ zs) y each new zero x e = each zero x e
 each_push P (z ∷ zs) y each new (suc k) x e = each_push (λ n. P (suc n)) zs y (λ k x h. each (suc k) x h) new k x e
 
-kind_at : (written : Bool) (e : Extent) (free : Free) → IsPlainExtent e → IsPlaceOf written e (place_at written e free)
+pub kind_at : (written : Bool) (e : Extent) (free : Free) → IsPlainExtent e → IsPlaceOf written e (place_at written e free)
 kind_at written (extent.Scalar _) free h = tt
 kind_at written (extent.Long _) free h = absurd h
 kind_at true (extent.Array n) free h = (refl, refl)
 kind_at false (extent.Array n) free h = (refl, refl)
 
-home_at : (written : Bool) (e : Extent) (free : Free) → IsPlainExtent e
-    → home_region (place_at written e free) ≡ record { address = free.home; words = home_part e }
-home_at written (extent.Scalar _) free h = refl
-home_at written (extent.Long _) free h = absurd h
-home_at written (extent.Array n) free h = refl
+home_placed : (written : Bool) (e : Extent) (free : Free) (end : ℕ) → free.home % 2 ≡ 0 → end ≡ free.home + 2 * home_part e
+    → AreInOrder free.home (home_region (place_at written e free) ∷ []) end
+home_placed written (extent.Scalar _) free end even h = (record { from = omega arith; even = even }, omega (arith, h))
+home_placed written (extent.Long _) free end even h = (record { from = omega arith; even = even }, omega (arith, h))
+home_placed written (extent.Array n) free end even h = (record { from = omega arith; even = even }, omega (arith, h))
 
 copies_placed : (written : Bool) (e : Extent) (free : Free) (end : ℕ) → free.copy % 2 ≡ 0 → end ≡ free.copy + 2 * copy_part written e
     → AreInOrder free.copy (copy_regions (place_at written e free)) end
@@ -63,7 +63,7 @@ even_behind a n b e h = omega (arith, e, h)
 pub record PlacedBelow (shared : List SharedDeclaration) (written : List Bool) (free : Free) (i : ℕ) (next : Free) (places : List VariablePlace) : Type 0 where
   pub count : length places ≡ i
   pub each : (k : ℕ) (place : VariablePlace) → slice_get places k ≡ Some place → (d : SharedDeclaration) → slice_get shared k ≡ Some d
-      → IsPlaceOf (slice_index_or written k false) d.extent place
+      → (at : Free) × (place ≡ place_at (slice_index_or written k false) d.extent at)
   pub homes : AreInOrder free.home (map home_region places) next.home
   pub copies : AreInOrder free.copy (flat_map copy_regions places) next.copy
   pub versions : AreInOrder free.version (flat_map version_regions places) next.version
@@ -89,11 +89,6 @@ none_placed shared written free room = record {
   even_copy = room.even_copy;
   even_version = room.even_version;
 }
-
--- no variable is a long
-pub plain_at : (shared : List SharedDeclaration) (i : ℕ) (x : SharedDeclaration) → i < length shared → x ≡ get_or shared i x
-    → All IsPlainShared shared → IsPlainExtent x.extent
-plain_at shared i x l is all = (subst IsPlainShared (sym is) (all i x l)).1
 
 -- the next variable fits
 pub record HasRoom (extent : Extent) (mark : Bool) (next : Free) : Type 0 where
@@ -132,15 +127,15 @@ module _ (shared : List SharedDeclaration) (written : List Bool) (free : Free) (
 
   pub one_placed : (later : Free) (place : VariablePlace) (xs ys : List VariablePlace) → place ≡ place_at mark extent next
       → later.home ≡ next.home + 2 * home_part extent → later.copy ≡ next.copy + 2 * copy_part mark extent
-      → later.version ≡ next.version + 2 * version_part mark extent → ys ≡ xs ++ place ∷ [] → IsPlainExtent extent → PlacedBelow shared written free i next xs
+      → later.version ≡ next.version + 2 * version_part mark extent → ys ≡ xs ++ place ∷ [] → PlacedBelow shared written free i next xs
       → PlacedBelow shared written free (i + 1) later ys
-  one_placed later place xs ys is home copy version e plain h = subst (λ zs. PlacedBelow shared written free (i + 1) later zs) (sym e) (record {
+  one_placed later place xs ys is home copy version e h = subst (λ zs. PlacedBelow shared written free (i + 1) later zs) (sym e) (record {
     count = length_push xs place ∙ ap (λ k. k + 1) h.count;
-    each = each_push (λ k x. (d : SharedDeclaration) → slice_get shared k ≡ Some d → IsPlaceOf (slice_index_or written k false) d.extent x) xs place h.each
-        (λ d found. kind d found);
+    each = each_push (λ k x. (d : SharedDeclaration) → slice_get shared k ≡ Some d
+        → (at : Free) × (x ≡ place_at (slice_index_or written k false) d.extent at)) xs place h.each (λ d found. kind d found);
     homes = subst (λ rs. AreInOrder free.home rs later.home) (sym (map-append home_region xs (place ∷ [])))
-        (in_order_push free.home (map home_region xs) next.home later.home (home_region place) (ap (λ r. r.address) home_is) h.even_home
-        (home ∙ ap (λ w. next.home + 2 * w) (sym (ap (λ r. r.words) home_is))) h.homes);
+        (in_order_append free.home (map home_region xs) next.home (home_region place ∷ []) later.home h.homes
+        (subst (λ p. AreInOrder next.home (home_region p ∷ []) later.home) (sym is) (home_placed mark extent next later.home h.even_home home)));
     copies = subst (λ rs. AreInOrder free.copy rs later.copy) (sym (flat_map-append copy_regions xs (place ∷ [])))
         (in_order_append free.copy (flat_map copy_regions xs) next.copy (copy_regions place ++ []) later.copy h.copies
         (in_order_append next.copy (copy_regions place) later.copy [] later.copy
@@ -158,17 +153,13 @@ module _ (shared : List SharedDeclaration) (written : List Bool) (free : Free) (
     even_version = even_behind next.version (version_part mark extent) later.version h.even_version version;
   })
     where
-      home_is : home_region place ≡ record { address = next.home; words = home_part extent }
-      home_is = ap home_region is ∙ home_at mark extent next plain
-
-      kind : (d : SharedDeclaration) → slice_get shared (length xs) ≡ Some d → IsPlaceOf (slice_index_or written (length xs) false) d.extent place
+      kind : (d : SharedDeclaration) → slice_get shared (length xs) ≡ Some d
+          → (at : Free) × (place ≡ place_at (slice_index_or written (length xs) false) d.extent at)
       kind d found =
           let there : slice_get shared i ≡ Some d = ap (λ k. slice_get shared k) (sym h.count) ∙ found in
           let same : extent ≡ d.extent = at d ∙ ap (λ x. x.extent) (get_or_from_slice_get shared i d d there) in
-          subst (λ x. IsPlaceOf (slice_index_or written (length xs) false) d.extent x) (sym is)
-          (subst (λ x. IsPlaceOf (slice_index_or written (length xs) false) x (place_at mark extent next)) same
-          (subst (λ m. IsPlaceOf m extent (place_at mark extent next)) (marked ∙ ap (λ k. slice_index_or written k false) (sym h.count))
-          (kind_at mark extent next plain)))
+          let mark_is : mark ≡ slice_index_or written (length xs) false = marked ∙ ap (λ k. slice_index_or written k false) (sym h.count) in
+          (next, is ∙ ap (λ x. place_at mark x next) same ∙ ap (λ m. place_at m d.extent next) mark_is)
 
 over : (next rest all : ℕ) → rest ≡ 0 → next + 2 * rest ≡ all → next ≤ all
 over next rest all e h = omega (arith, e, h)

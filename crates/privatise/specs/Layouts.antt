@@ -14,8 +14,8 @@ use Rattle.memory_map.specs.MemoryMap.{MemoryMap, TaskPlace}
 use Rattle.memory_map.specs.Places.{end_of, IsLaidOut}
 use Rattle.privatise.specs.Sizes.{home_words, copy_words, body_words, boot_words, commit_words}
 
--- a scalar has the place of a scalar; an array one of its length, with copies and versions exactly where some task writes it. A long has none:
--- a source with longs isn't compiled
+-- a scalar has the place of a scalar; an array one of its length, with copies and versions exactly where some task writes it. A long has none
+-- yet
 abbrev pub IsPlaceOf : Bool → Extent → VariablePlace → Type 0
 IsPlaceOf written (extent.Scalar _) (Scalar _ _) = Unit {0}
 IsPlaceOf written (extent.Array n) (Array _ length copies) = (length ≡ n) × (is_some copies ≡ written)

@@ -75,10 +75,9 @@ fn layout_of(
 ) -> Result<Layout, AllocError>
     requires few { length source.now.shared.items ≤ 256 }
     requires few_tasks { length source.now.tasks.items ≤ 64 }
-    requires plain { All IsPlainShared source.now.shared.items }
     requires allowed { IsAllowed (program_of source.now) allow.now }
     requires planned { IsPlan (program_of source.now) plan.now }
-    ensures { IfOk result (IsLayout (program_of source.now) allow.now plan.now) }
+    ensures { IfOk result (λ layout. All IsPlainShared source.now.shared.items → IsLayout (program_of source.now) allow.now plan.now layout) }
 {
     let shared = source.shared.as_slice();
     let tasks = source.tasks.as_slice();
@@ -101,8 +100,8 @@ fn layout_of(
     Ok(Layout::new(regions, variables, layouts))
 }
 
-/// Where the data and the code of a source without longs stand; or no memory is left. The allowance and the plan are those of
-/// the source.
+/// Where the data and the code of a source stand; or no memory is left. The allowance and the plan are those of the source. What is
+/// said of the places is said of a source without longs, until a place knows how wide its variable is.
 ///
 /// It takes no more than the words of the allowance, from 0x4400 up, but for the last of them, which is the word at 0xFFFE.
 pub fn layout(
@@ -111,10 +110,10 @@ pub fn layout(
     allow: &Allow,
     plan: &Plan,
 ) -> Result<Layout, AllocError>
-    requires plain { All IsPlainShared checked.now.source.shared.items }
     requires allowed { IsAllowed (program_of checked.now.source) allow.now }
     requires planned { IsPlan (program_of checked.now.source) plan.now }
-    ensures { IfOk result (IsLayout (program_of checked.now.source) allow.now plan.now) }
+    ensures { IfOk result (λ layout. All IsPlainShared checked.now.source.shared.items
+        → IsLayout (program_of checked.now.source) allow.now plan.now layout) }
 {
     let layout = layout_of(alloc, checked.source(), allow, plan)?;
     Ok(layout)

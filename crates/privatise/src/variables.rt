@@ -1,8 +1,7 @@
 //! The places of the shared variables.
-ghost use Rattle.std.specs.Prelude.{◌≡◌, ◌+◌, ◌*◌, ◌≤◌, ◌<◌, All, IfOk, length};
+ghost use Rattle.std.specs.Prelude.{◌≡◌, ◌+◌, ◌*◌, ◌≤◌, ◌<◌, IfOk, length};
 ghost use Rattle.cost_bound.specs.Allowance.{version_part};
 ghost use Rattle.privatise.specs.Sizes.{home_part, copy_part};
-ghost use Rattle.task_ast.specs.Longs.{IsPlainShared};
 ghost use Rattle.privatise.specs.Placing.{copies_where, place_at, IsRoom, ArePlaced};
 
 use crate::sizes::{copy_part, home_part, version_part};
@@ -40,6 +39,7 @@ fn copies_at(written: bool, free: Free) -> Option<ArrayCopies>
     }
 }
 
+// The place of a variable at the free addresses: a long is placed by its first word.
 fn place_at(extent: Extent, written: bool, free: Free) -> VariablePlace
     ensures { result ≡ place_at written extent free }
 {
@@ -79,7 +79,6 @@ pub fn place_variables(
     free: Free,
 ) -> Result<Vec<VariablePlace>, AllocError>
     requires few { length shared.now ≤ 256 }
-    requires plain { All IsPlainShared shared.now }
     requires room { IsRoom shared.now written.now free }
     ensures { IfOk result (λ v. ArePlaced shared.now written.now free v.items) }
 {

@@ -4,3 +4,5 @@
 pub use Rattle.task_lex.proofs.Bounds.{deep}
 -- Tokens in order begin within the text.
 pub use Rattle.task_lex.proofs.Places.{all_within}
+-- Each token's slice of the source spells it.
+pub use Rattle.task_lex.proofs.Slices.{are_slices}

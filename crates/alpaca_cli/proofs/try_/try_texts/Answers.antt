@@ -1,4 +1,5 @@
 use Rattle.std.proofs.Common.{refl, subst}
+use Rattle.source_meaning.specs.Longs.{HasNoLong}
 use Rattle.alpaca_cli.specs.Products.{the_tried_source, the_tried_trace}
 use Rattle.alpaca_cli.specs.Sources.{RefusesBuild}
 use Rattle.alpaca_cli.proofs.FailureLaws.{refusal_fails}
@@ -13,8 +14,9 @@ returns-in_err-source-clause-failure g c =
 
 pub returns-in_err-trace-clause-failure : goal.returns-in_err-trace-clause-failure
 returns-in_err-trace-clause-failure g c =
+    let none : HasNoLong _ = subst HasNoLong c.in_ok-source.ensures.text c.in_ok-built.ensures.built.compiled.no_longs in
     handed_on _ _ _ c.from_residual-in_err-trace.ensures
-    (refusal_fails _ _ _ _ _ 1 _ _ refl (λ r no. the_tried_trace _ r c.in_ok-source.ensures.said no) refl refl c.in_err-trace.ensures.refused)
+    (refusal_fails _ _ _ _ _ 1 _ _ refl (λ r no. the_tried_trace r ((_, c.in_ok-source.ensures.said), none) no) refl refl c.in_err-trace.ensures.refused)
 
 pub returns-in_err-built-clause-failure : goal.returns-in_err-built-clause-failure
 returns-in_err-built-clause-failure g c =

@@ -2,8 +2,10 @@ use Rattle.task_ast.specs.View.{program_of}
 use Rattle.source_meaning.proofs.Interface.{text_plain}
 use Rattle.link_image.proofs.linking.linked.Goals as goal
 
-pub layout-requires-clause-plain : goal.layout-requires-clause-plain
-layout-requires-clause-plain c = rw c.checked-checked.ensures (text_plain _ _ c.requires.accepted.checks c.requires.no_longs).shared
-
 pub is_ready-requires-clause-plain : goal.is_ready-requires-clause-plain
 is_ready-requires-clause-plain c = text_plain _ _ c.requires.accepted.checks c.requires.no_longs
+
+pub is_ready-requires-clause-laid_out : goal.is_ready-requires-clause-laid_out
+is_ready-requires-clause-laid_out c =
+    rw c.checked-checked.ensures at (c.in_ok-layout.ensures)
+    (rw c.checked-checked.ensures (text_plain _ _ c.requires.accepted.checks c.requires.no_longs).shared)

@@ -1,6 +1,6 @@
 use Rattle.std.proofs.Common.{sym, subst, ap, refl, arith}
 use Rattle.std.proofs.lemmas.List.{get_or_default}
-use Rattle.privatise.proofs.VariablesPlaced.{PlacedBelow, none_placed, room_for, one_placed, all_placed, plain_at}
+use Rattle.privatise.proofs.VariablesPlaced.{PlacedBelow, none_placed, room_for, one_placed, all_placed}
 use Rattle.privatise.proofs.variables.place_variables.Goals as goal
 
 pub loop-i-init : goal.loop-i-init
@@ -32,8 +32,7 @@ loop-i-preserved c =
     (λ d. ap (λ x. x.extent) (get_or_default c.args.shared.now c.loop-i.i _ d c.loop-i-test.true)) refl
     c.free_behind-next.result c.place_at.result c.loop-i.places.items c.push.new.self.items c.place_at.ensures c.free_behind-next.ensures.home
     c.free_behind-next.ensures.copy c.free_behind-next.ensures.version
-    c.in_ok-push.ensures.items
-    (plain_at c.args.shared.now c.loop-i.i _ c.loop-i-test.true c.index-shared-i.is c.requires.plain) c.loop-i.invariant
+    c.in_ok-push.ensures.items c.loop-i.invariant
 
 pub returns : goal.returns
 returns c = all_placed c.args.shared.now c.args.written.now c.args.free c.loop-i.i c.loop-i.next c.loop-i.places.items (omega arith) c.loop-i.invariant
