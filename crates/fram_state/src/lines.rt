@@ -13,9 +13,9 @@ use image_text::{Image, Map, Name, Task, Variable};
 use source_meaning::Accepted;
 use source_report::spelled;
 use std::alloc::Global;
+use task_ast::types::is_long;
 use task_ast::{
     CheckedSource, Extent, SharedDeclaration, TaskDeclaration, TaskName, VariableName, WordType,
-    is_long,
 };
 use thiserror::Error;
 use war_analysis::{Plan, TaskPlan, analyse, one_plan};

@@ -12,4 +12,4 @@ mod values;
 
 pub use laws::{readings_left_over, worked_rows};
 pub use numbers::two_words;
-pub use run::{Done, Short, SourceRun};
+pub use run::{Done, Short, SourceRun, initial_words};
