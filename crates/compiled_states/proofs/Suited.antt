@@ -17,7 +17,7 @@ use Rattle.image_reports.specs.layout_facts.privatise.Layouts.{IsTaskLayout}
 use Rattle.image_reports.specs.link_image.image_map.MapValue.{TaskValue}
 use Rattle.image_reports.specs.link_image.source_maps.Maps.{variables_of, shared_name, task_value_of, tasks_of, map_of}
 use Rattle.image_reports.specs.link_image.source_maps.Placing.{ArePlacesOf}
-use Rattle.fram_state.specs.source_meaning.proofs.Interface.{text_plain}
+use Rattle.image_reports.proofs.link_image.source_meaning.Interface.{text_plain}
 use Rattle.compiled_states.specs.Laws.{ImagesSuitTheirSources}
 use Rattle.compiled_states.proofs.States.{source_map}
 

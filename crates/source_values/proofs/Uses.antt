@@ -51,15 +51,16 @@ uses_on s o e w = uses_none goes_on s (goes_on s) refl (λ more. refl) o e
 uses_assigned : (x : Variable) (i v : ℕ) → UsesItsOwn (λ s. goes_on (assigned s x i v))
 uses_assigned x i v s o e w = uses_none (λ s. goes_on (assigned s x i v)) s (goes_on (assigned s x i v)) refl (λ more. refl) o e
 
+uses_two : (x : Variable) (low high : ℕ) → UsesItsOwn (λ s. goes_on (assigned (assigned s x 0 low) x 1 high))
+uses_two x low high s o e w = uses_none (λ s. goes_on (assigned (assigned s x 0 low) x 1 high)) s (goes_on (assigned (assigned s x 0 low) x 1 high)) refl
+    (λ more. refl) o e
+
 uses_assigned_to : (x : VariableName) (v : ℕ) → UsesItsOwn (λ s. goes_on (assigned_to s x v))
 uses_assigned_to x v = go x.word_type
   where
-    low : ℕ
-    low = v % 65536
-
-    go : (t : WordType) → UsesItsOwn (λ s. goes_on (by_width t (assigned s x.variable 0 v) (assigned (assigned s x.variable 0 low) x.variable 1 (v / 65536))))
-    go Long s o e w = uses_none (λ s. goes_on (assigned (assigned s x.variable 0 low) x.variable 1 (v / 65536))) s
-        (goes_on (assigned (assigned s x.variable 0 low) x.variable 1 (v / 65536))) refl (λ more. refl) o e
+    go : (t : WordType) → UsesItsOwn (λ s. goes_on (by_width t (assigned s x.variable 0 v)
+        (assigned (assigned s x.variable 0 (v % 65536)) x.variable 1 (v / 65536))))
+    go Long = uses_two x.variable (v % 65536) (v / 65536)
     go Int = uses_assigned x.variable 0 v
     go Unsigned = uses_assigned x.variable 0 v
 

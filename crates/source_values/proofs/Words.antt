@@ -23,15 +23,5 @@ pub assigned_word : (s : Attempt) (x : VariableName) (e : Expression VariableNam
     → assigned_value s x e w ≡ assigned s x.variable 0 w
 assigned_word s x e w h k = by_one_word x.word_type _ _ k ∙ ap (assigned s x.variable 0) (converted_word (type_of e) x.word_type w h k)
 
--- any number that becomes one word is cut in the same way
-pub cut_alike : (s t : WordType) (w : ℕ) → IsOneWord t → converted s Unsigned w ≡ converted s t w
-cut_alike Long Long w h = absurd h
-cut_alike Long Int w h = refl
-cut_alike Long Unsigned w h = refl
-cut_alike Int Long w h = absurd h
-cut_alike Int Int w h = refl
-cut_alike Int Unsigned w h = refl
-cut_alike Unsigned t w h = refl
-
 pub word_as_it_is : (e : Expression VariableName) (w : ℕ) → IsOneWord (type_of e) → word_of e w ≡ w
 word_as_it_is e w h = converted_word (type_of e) Unsigned w h tt

@@ -1,6 +1,6 @@
 //! Numbers with their types, and what operators make of them.
 
-ghost use Rattle.std.specs.Prelude.{◌≡◌};
+ghost use Rattle.std.specs.Prelude.{◌≡◌, ◌<◌};
 ghost use Rattle.task_ast.specs.declared.WordType.{WordType};
 ghost use Rattle.task_ast.specs.declared.WordType.TheVariants.{Long, Int, Unsigned};
 ghost use Rattle.alp_words.specs.Words.{bit};

@@ -1,6 +1,7 @@
 -- The tokens of a text: no more than 64 brackets are open behind any of them, and each number is a word or two.
-use Rattle.std.proofs.Common.{◌≡◌, ℕ, zero, suc, ◌+◌, ◌-◌, ◌≤◌, Bool, true, false, cond, ◌&&◌, ◌==◌, not, nat_lt, nat_le, List, [], ◌∷◌, length, drop, take}
+use Rattle.std.proofs.Common.{◌≡◌, ℕ, zero, suc, ◌+◌, ◌-◌, ◌/◌, ◌%◌, ◌≤◌, Bool, true, false, cond, ◌&&◌, ◌==◌, not, nat_lt, nat_le, List, [], ◌∷◌, length, drop, take}
 use Rattle.std.proofs.Common.{refl, subst, arith, Option, Some, None, Result, Ok, Err}
+use Rattle.std.proofs.lemmas.Bool.Decides.{nat_tests}
 use Rattle.lower.specs.alp_words.Words.{IsWord}
 use Rattle.lower.specs.alp_text.Numbers.{number_of}
 use Rattle.lower.specs.alp_text.declared.numbers.NumberFault.{NumberFault}
@@ -53,14 +54,16 @@ NumeralOfWords x = IsWord x.value × IsWord x.high
 word_of_words : (o : Option ℕ) (x : Numeral) → ((n : ℕ) → o ≡ Some n → n ≤ 65535) → word_numeral o ≡ Some x → NumeralOfWords x
 word_of_words None x most h = absurd (cc)
 word_of_words (Some n) x most h =
-    let is : record { kind = k.Number; value = n; high = 0 } ≡ x = cc in
+    let one : Numeral = record { kind = k.Number; value = n; high = 0 } in
+    let is : one ≡ x = cc in
     let within = most n refl in
     subst NumeralOfWords is (omega (arith, within), omega arith)
 
 long_of_words : (o : Option ℕ) (x : Numeral) → ((n : ℕ) → o ≡ Some n → n ≤ 4294967295) → long_numeral o ≡ Some x → NumeralOfWords x
 long_of_words None x most h = absurd (cc)
 long_of_words (Some n) x most h =
-    let is : record { kind = k.LongNumber; value = n % 65536; high = n / 65536 } ≡ x = cc in
+    let one : Numeral = record { kind = k.LongNumber; value = n % 65536; high = n / 65536 } in
+    let is : one ≡ x = cc in
     let within = most n refl in
     subst NumeralOfWords is (omega arith, omega (arith, within))
 
