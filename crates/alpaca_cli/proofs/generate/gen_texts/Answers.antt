@@ -21,5 +21,8 @@ returns-in_err-built-clause-failure g c =
     let accepted = subst (λ t. IsAcceptedText t _ _) c.requires.generated c.in_ok-source.ensures.accepted in
     handed_on _ _ _ c.from_residual-in_err-built.ensures
     (refusal_fails _ _ _ _ _ 0 _ _ refl
-    (λ r no. (by_a_pass _ r (no_longs c.args.words.0 _ _ accepted)
-    (subst (λ t. RefusesBuild t r) (c.in_ok-source.ensures.text ∙ c.requires.generated) no), refl)) refl refl c.in_err-built.ensures.failure)
+    (λ r no. (
+      by_a_pass _ r (no_longs c.args.words.0 _ _ accepted)
+          (subst (λ t. RefusesBuild t r) (c.in_ok-source.ensures.text ∙ c.requires.generated) no),
+      refl,
+    )) refl refl c.in_err-built.ensures.failure)
