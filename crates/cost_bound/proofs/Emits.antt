@@ -1,6 +1,7 @@
 -- The column that counts emits.
 use Rattle.std.proofs.Common.{◌≡◌, ◌-◌, ◌*◌, true, false, Some, None, ap, refl, arith}
-use Rattle.task_ast.specs.Tree.{Expression, number, long_number, name, element, sense, unary, binary, shift, short_circuit, Statement, declare, assign, store, choose}
+use Rattle.task_ast.specs.Tree.{Expression, number, long_number, name, element, sense, unary, binary, shift, short_circuit, Statement, declare, assign, store}
+use Rattle.task_ast.specs.Tree.{choose}
 use Rattle.task_ast.specs.Tree.{loop, emit, transition, Choice, nothing, otherwise, test, Block, end, step}
 use Rattle.task_ast.specs.declared.BinaryOperator.{BinaryOperator}
 use Rattle.task_ast.specs.declared.BinaryOperator.TheVariants.{Multiply, Divide, Remainder}

@@ -91,7 +91,8 @@ threshold = source (declared (Scalar 0) ∷ declared (Scalar 0) ∷ [])
 -- `x = x + 1; y = y + 2; transition_to(..);` and a task that senses
 abbrev pub two_sums : CheckedProgram
 two_sums = source (declared (Scalar 0) ∷ declared (Scalar 0) ∷ [])
-    (t.step (t.assign x (t.binary (here Add) (t.name x) (t.number 1))) (t.step (t.assign y (t.binary (here Add) (t.name y) (t.number 2))) (goes_to 1)) ∷ senses ∷ [])
+    (t.step (t.assign x (t.binary (here Add) (t.name x) (t.number 1))) (t.step (t.assign y (t.binary (here Add) (t.name y) (t.number 2))) (goes_to 1)) ∷
+    senses ∷ [])
 
 -- `x[0] = 1; transition_to(..);`, where x has so many elements
 abbrev pub one_store : ℕ → CheckedProgram

@@ -18,7 +18,8 @@ uncompiled_by_pass text (NotYet line) h = absurd h
 uncompiled_by_pass text Memory h = h
 
 -- or it is accepted, and has longs
-pub uncompiled_by_longs : (text own : List ℕ) (p : CheckedProgram) (allow : Allow) (f : SourceFault) → IsAcceptedText text p allow → own ≡ text → IsUnlinked own f
+pub uncompiled_by_longs : (text own : List ℕ) (p : CheckedProgram) (allow : Allow) (f : SourceFault) → IsAcceptedText text p allow → own ≡ text
+    → IsUnlinked own f
     → IsUncompiled text f
 uncompiled_by_longs text own p allow (Lex e) ok same h = absurd h
 uncompiled_by_longs text own p allow (Syntax line) ok same h = absurd h

@@ -127,7 +127,8 @@ module _ (z : Scene) where
       → ExpressionFits z.p index → ExpressionFits z.p e
       → Begins z m listed w 0 (λ u. if is_shared u x then 1 else 0) most
       → Does z w.fram most w.stack (behaviour (element_assignment z.p x index e) w)
-      (if_value (value_of index m.variables m.left) m (λ i s. if_value (value_of e s.variables s.left) s (λ v s. goes_on (source.assigned s x i (source.word_of e v)))))
+      (if_value (value_of index m.variables m.left) m
+      (λ i s. if_value (value_of e s.variables s.left) s (λ v s. goes_on (source.assigned s x i (source.word_of e v)))))
   element_does x index e m listed w most array of_index of_e h =
       let first = lowered_expression z.p index in
       let second = lowered_expression z.p e in
@@ -142,7 +143,8 @@ module _ (z : Scene) where
       let n : Attempt = record m { left = i.1 } in
       let Q : Behaviour → Type 0 = λ b. Does z w.fram most w.stack b (more i.0 n) in
       subst Q (sym (joined_go_on second last u))
-      (does_value z most w.stack u (behaviour second u) (value_of e n.variables n.left) (behaviour last) n (λ v s. goes_on (source.assigned s x i.0 (source.word_of e v)))
+      (does_value z most w.stack u (behaviour second u) (value_of e n.variables n.left) (behaviour last) n
+      (λ v s. goes_on (source.assigned s x i.0 (source.word_of e v)))
       (expressions_agree z.p z.room e m.variables u z.apart z.even of_e h.stands.variables)
       (λ v.
       let r : Attempt = record m { left = v.1 } in

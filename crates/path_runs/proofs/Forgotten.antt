@@ -1,6 +1,7 @@
 -- Where each path of a block writes a scalar before it reads it and before the transition, it makes no difference which word the scalar
 -- held: two runs from attempts that differ in this word alone read none of it while they differ, and don't end before they are one.
-use Rattle.std.proofs.Common.{◌≡◌, ℕ, zero, suc, ◌+◌, ◌-◌, ◌==◌, ◌<◌, ◌≤◌, List, [], ◌∷◌, ◌++◌, length, get_or, slice_set, Bool, true, false, ◌&&◌, ◌||◌, ◌/◌, ◌%◌, ap₂}
+use Rattle.std.proofs.Common.{◌≡◌, ℕ, zero, suc, ◌+◌, ◌-◌, ◌==◌, ◌<◌, ◌≤◌, List, [], ◌∷◌, ◌++◌, length, get_or, slice_set, Bool, true, false, ◌&&◌, ◌||◌, ◌/◌}
+use Rattle.std.proofs.Common.{◌%◌, ap₂}
 use Rattle.std.proofs.Common.{Option, Some, None, refl, sym, ap, ◌∙◌, subst, ⊎_elim, eq-eqb, arith, if◌then◌else◌}
 use Rattle.std.proofs.lemmas.Bool.{cases_Bool, cases_lt, eqb-true}
 use Rattle.std.proofs.lemmas.List.{set-set, get_or-set_same, get_or-set_other}
@@ -19,7 +20,8 @@ use Rattle.path_sums.proofs.Interface.{writes_some, private_is}
 use Rattle.source_values.specs.alp_words.Words.{bit}
 use Rattle.source_values.specs.Values.{Variables, word_at, with_word, two_words, scalar_value, by_width, converted, value_of, holds, is_settled}
 use Rattle.source_values.specs.Values.{unary_result, binary_result, shift_result, type_of, ◌>>?◌}
-use Rattle.source_values.specs.Statements.{Attempt, Outcome, goes_on, to_task, short, and_then, if_value, assigned, assigned_to, assigned_value, word_of, turns, run_statement}
+use Rattle.source_values.specs.Statements.{Attempt, Outcome, goes_on, to_task, short, and_then, if_value, assigned, assigned_to, assigned_value, word_of}
+use Rattle.source_values.specs.Statements.{turns, run_statement}
 use Rattle.source_values.specs.Statements.{run_choice, run_block}
 use Rattle.path_runs.specs.Laws.{NoStoreInStatement, NoStoreInChoice, NoStoreIn, FirstWritesForget}
 
@@ -375,7 +377,8 @@ module _ (v word : ℕ) where
       value_alike ((of_expression e).untouched && (of_write x.variable).untouched) e a (λ w s. goes_on (assigned_value s x e w)) unread
       (λ w s. alike_if (of_write x.variable).untouched ((of_expression e).untouched && (of_write x.variable).untouched) (goes_on (assigned_value s x e w))
       (goes_on (assigned_value (other_in s) x e w))
-      (λ h. both_hold (of_expression e).untouched (of_write x.variable).untouched (expression_untouched e unread) h) (assigned_alike x (converted (type_of e) x.word_type w) s))
+      (λ h. both_hold (of_expression e).untouched (of_write x.variable).untouched (expression_untouched e unread) h)
+      (assigned_alike x (converted (type_of e) x.word_type w) s))
 
   either_alike : (b c d : Bool) → b ≡ true → (o p q r : Outcome) (test : Bool) → Alike c o p → Alike d q r
       → Alike (b && (c || d)) (if test then o else q) (if test then p else r)

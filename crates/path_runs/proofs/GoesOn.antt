@@ -6,7 +6,8 @@ use Rattle.source_values.specs.task_ast.Tree as t
 use Rattle.source_values.specs.task_ast.declared.names.Variable.{Variable}
 use Rattle.source_values.specs.task_ast.Paths.{CheckedStatement, CheckedChoice, CheckedBlock}
 use Rattle.source_values.specs.Values.{value_of, holds}
-use Rattle.source_values.specs.Statements.{Attempt, Outcome, goes_on, to_task, short, and_then, if_value, assigned, assigned_value, word_of, turns, run_statement, run_choice, run_block}
+use Rattle.source_values.specs.Statements.{Attempt, Outcome, goes_on, to_task, short, and_then, if_value, assigned, assigned_value, word_of, turns}
+use Rattle.source_values.specs.Statements.{run_statement, run_choice, run_block}
 use Rattle.path_sums.specs.Reaches.{statement_falls_through, choice_falls_through, block_falls_through}
 use Rattle.path_runs.specs.Laws.{RunsGoOnAlongPaths}
 
@@ -59,7 +60,8 @@ mutual
   statement_goes (t.declare of x (Some e)) a = with_any true (value_of e a.variables a.left) a (λ w s. goes_on (assigned_value s x e w)) (λ w s. refl)
   statement_goes (t.assign x e) a = with_any true (value_of e a.variables a.left) a (λ w s. goes_on (assigned_value s x e w)) (λ w s. refl)
   statement_goes (t.store x index e) a =
-      with_any true (value_of index a.variables a.left) a (λ i s. if_value (value_of e s.variables s.left) s (λ w s. goes_on (assigned s x.variable i (word_of e w))))
+      with_any true (value_of index a.variables a.left) a
+      (λ i s. if_value (value_of e s.variables s.left) s (λ w s. goes_on (assigned s x.variable i (word_of e w))))
       (λ i s. with_any true (value_of e s.variables s.left) s (λ w s. goes_on (assigned s x.variable i (word_of e w))) (λ w s. refl))
   statement_goes (t.choose c) a = choice_goes c a
   statement_goes (t.loop x from tested below stepped body) a =

@@ -40,7 +40,7 @@ pub record AreTasks (p : CheckedProgram) (plans : List TaskPlanValue) (tasks : L
   pub each : (k : ℕ) (task : CheckedTask) (plan : TaskPlanValue) (t : TaskPlace) → slice_get p.tasks k ≡ Some task → slice_get plans k ≡ Some plan
       → slice_get tasks k ≡ Some t → IsTaskLayout p.shared task.body plan t
 
--- The layout of a source: it keeps the rules of layouts, its buffers have room for what the source's allowance says, its variables and
+-- The layout of a source, which has no longs: it keeps the rules of layouts, its buffers have room for what the source's allowance says, its variables and
 -- tasks are those of the source, and the whole takes no more words than the source has, of which the last is the one at FFFE.
 pub record IsLayout (p : CheckedProgram) (allow : Allow) (plans : List TaskPlanValue) (l : MemoryMap) : Type 0 where
   pub rules : IsLaidOut l

@@ -67,8 +67,10 @@ module _ (source : List ℕ) where
   value_silent types (Some e) behind = expression_silent types e behind
 
   mutual
-    statement_silent : (types : Span → WordType) (end : ℕ) (x : Statement Span Span) (behind : List Occurrence) → declared (statement_names types end x behind) ≡ declared behind
-    statement_silent types end (t.declare of s value) behind = in_front (value_names types value behind) s (role.Local of (length behind) end) ∙ value_silent types value behind
+    statement_silent : (types : Span → WordType) (end : ℕ) (x : Statement Span Span) (behind : List Occurrence)
+        → declared (statement_names types end x behind) ≡ declared behind
+    statement_silent types end (t.declare of s value) behind = in_front (value_names types value behind) s (role.Local of (length behind) end)
+        ∙ value_silent types value behind
     statement_silent types end (t.assign s e) behind = in_front (expression_names types e behind) s role.Scalar ∙ expression_silent types e behind
     statement_silent types end (t.store s index e) behind =
         element_silent types s index (expression_names types index (expression_names types e behind))
@@ -89,7 +91,8 @@ module _ (source : List ℕ) where
         let rest = choice_names types more behind in
         expression_silent types e (names_up_to types (length rest) b rest) ∙ block_silent types (length rest) b rest ∙ choice_silent types more behind
 
-    block_silent : (types : Span → WordType) (end : ℕ) (b : Block Span Span) (behind : List Occurrence) → declared (names_up_to types end b behind) ≡ declared behind
+    block_silent : (types : Span → WordType) (end : ℕ) (b : Block Span Span) (behind : List Occurrence)
+        → declared (names_up_to types end b behind) ≡ declared behind
     block_silent types end t.end behind = refl
     block_silent types end (t.step s more) behind = statement_silent types end s (names_up_to types end more behind) ∙ block_silent types end more behind
 

@@ -24,12 +24,15 @@ use Rattle.task_check.specs.declared.symbol.Symbol.TheVariants as symbol
 use Rattle.task_check.specs.declared.symbol.Global.{Global}
 use Rattle.task_check.specs.declared.symbol.Local.{Local}
 use Rattle.task_check.specs.declared.symbol.TypedVariable.{TypedVariable}
-use Rattle.task_check.specs.Scope.{text_of, shared_in, tasks_in, locals_in, global_with, global_in, local_with, local_in, if_named, known_local, or_global, meaning}
-use Rattle.task_check.specs.Occurrences.{and_front, element_front, expression_names, value_names, statement_names, choice_names, names_up_to, task_names, shared_names}
+use Rattle.task_check.specs.Scope.{text_of, shared_in, tasks_in, locals_in, global_with, global_in, local_with, local_in, if_named, known_local, or_global}
+use Rattle.task_check.specs.Scope.{meaning}
+use Rattle.task_check.specs.Occurrences.{and_front, element_front, expression_names, value_names, statement_names, choice_names, names_up_to, task_names}
+use Rattle.task_check.specs.Occurrences.{shared_names}
 use Rattle.task_check.specs.Occurrences.{program_names}
 use Rattle.task_check.specs.SharedTypes.{shared_type}
 use Rattle.task_check.specs.LookedUp.{expression_back, statement_back, choice_back, block_back, task_back, program_back, expression_variables, value_variables}
-use Rattle.task_check.specs.LookedUp.{statement_variables, choice_variables, block_variables, task_variables, variable_of, symbol_by, symbol_at, variable_by, variables_in}
+use Rattle.task_check.specs.LookedUp.{statement_variables, choice_variables, block_variables, task_variables, variable_of, symbol_by, symbol_at, variable_by}
+use Rattle.task_check.specs.LookedUp.{variables_in}
 use Rattle.task_check.specs.LookedUp.{behind}
 use Rattle.task_check.specs.Answers.{IsLookedUp}
 use Rattle.source_meaning.proofs.PlainTrees.{Any, IsPlainTask}
@@ -161,7 +164,8 @@ unfolding symbol_at
 symbol_plain source all o front whole here =
     let name = text_of source o.span in
     by_role o.role (locals_in front) _ here.0
-    (meant (behind all front) (local_in source name front) (global_in source name all) (local_found source name front here.1) (global_found source name all whole))
+    (meant (behind all front) (local_in source name front) (global_in source name all) (local_found source name front here.1)
+    (global_found source name all whole))
 
 variables_plain : (source : List ℕ) (all front : List Occurrence) → ArePlain all → ArePlain front → AreWordVariables (variables_in source all front)
 variables_plain source all [] whole h = tt

@@ -10,11 +10,13 @@ use Rattle.task_parse.specs.declared.operators.Infix.{Infix}
 use Rattle.task_parse.specs.declared.operators.Infix.TheVariants.{Binary, Shift, ShortCircuit}
 use Rattle.task_parse.specs.Parsed.{Expression}
 use Rattle.task_ast.specs.Tree as node
-use Rattle.task_parse.specs.Grammar.{prefix_of, infix_of, weakest, placed, long_worth, literal_of, IsExpression, number, long_number, name, element, sense, brackets, prefixed, tighter}
+use Rattle.task_parse.specs.Grammar.{prefix_of, infix_of, weakest, placed, long_worth, literal_of, IsExpression, number, long_number, name, element, sense}
+use Rattle.task_parse.specs.Grammar.{brackets, prefixed, tighter}
 use Rattle.task_parse.specs.Grammar.{joined, short_circuited, shifted}
 use Rattle.task_parse.specs.Expressions as reading
 use Rattle.task_parse.specs.Reading.{done, fault, Parser, ◌>>=◌, and_then, pure, kind_of, place_of, same_kind, token, chosen, meaning, again, over, turned}
-use Rattle.task_parse.specs.Expressions.{of_precedence, infix_at, joined_with, climb_on, climb_turn, climb, up_to, element_by, named, bracketed, primary_by, primary}
+use Rattle.task_parse.specs.Expressions.{of_precedence, infix_at, joined_with, climb_on, climb_turn, climb, up_to, element_by, named, bracketed, primary_by}
+use Rattle.task_parse.specs.Expressions.{primary}
 use Rattle.task_parse.specs.Expressions.{unary, expression}
 use Rattle.task_parse.proofs.ExpressionSame.{unary_is, climb_suc}
 
@@ -145,7 +147,8 @@ unfolding up_to
 reads_tighter j used tree r rest h = ap (λ o. and_then o (climb (up_to unary j) (suc j))) (ends j used tree r rest (omega arith))
 
 reads_joined : (j : ℕ) (t : Token) (op : Infix) (xs ys : List Token) (a whole : Expression) → Reads (suc j) xs a → infix_of t.kind ≡ Some (suc j, op)
-    → ((rest : List Token) → j < reach (kind_of rest) → joined_with (up_to unary j) a t.span op (ys ++ rest) ≡ done whole rest) → Reads (suc j) (xs ++ t ∷ ys) whole
+    → ((rest : List Token) → j < reach (kind_of rest) → joined_with (up_to unary j) a t.span op (ys ++ rest) ≡ done whole rest)
+    → Reads (suc j) (xs ++ t ∷ ys) whole
 reads_joined j t op xs ys a whole left is right rest h =
     ap (up_to unary (suc j)) (append_assoc xs (t ∷ ys) rest) ∙ left (t ∷ ys ++ rest) (let e = reach-infix t.kind (suc j, op) is in omega arith)
     ∙ climb_goes j a whole t op (ys ++ rest) rest is (right rest (omega arith))

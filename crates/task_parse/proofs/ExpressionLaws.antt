@@ -8,11 +8,13 @@ use Rattle.task_parse.specs.declared.operators.Infix.{Infix}
 use Rattle.task_parse.specs.declared.operators.Infix.TheVariants.{Binary, Shift, ShortCircuit}
 use Rattle.task_parse.specs.Parsed.{Expression}
 use Rattle.task_ast.specs.Tree as node
-use Rattle.task_parse.specs.Grammar.{prefix_of, infix_of, weakest, placed, long_worth, literal_of, IsExpression, number, long_number, name, element, sense, brackets, prefixed, tighter}
+use Rattle.task_parse.specs.Grammar.{prefix_of, infix_of, weakest, placed, long_worth, literal_of, IsExpression, number, long_number, name, element, sense}
+use Rattle.task_parse.specs.Grammar.{brackets, prefixed, tighter}
 use Rattle.task_parse.specs.Grammar.{joined, short_circuited, shifted}
 use Rattle.task_parse.specs.Expressions as reading
 use Rattle.task_parse.specs.Reading.{Parser, pure, again, over}
-use Rattle.task_parse.specs.Expressions.{of_precedence, infix_at, joined_with, climb_on, climb_turn, climb, up_to, element_by, named, bracketed, primary_by, primary}
+use Rattle.task_parse.specs.Expressions.{of_precedence, infix_at, joined_with, climb_on, climb_turn, climb, up_to, element_by, named, bracketed, primary_by}
+use Rattle.task_parse.specs.Expressions.{primary}
 use Rattle.task_parse.specs.Expressions.{unary_within}
 use Rattle.task_parse.proofs.ParserLaws.{Law, Sentence, law_pure, law_refuse, law_bind, law_by, law_accept, law_accept_at, law_take, law_map, law_weaken}
 use Rattle.task_parse.proofs.Turns.{Leads, Shrinks, law_shrinks, law_repeat}
@@ -54,7 +56,8 @@ goes_nowhere j left xs is = subst (λ x. IsExpression j x left) (sym (append-nil
 module _ (j : ℕ) (lower : Parser Expression) (law : Law lower (IsExpression j)) where
   law_joined_with : (t : Token) (op : Infix) (left : Expression) → infix_of t.kind ≡ Some (suc j, op)
       → Law (joined_with lower left t.span op) (λ ys whole. GoesOn (suc j) left (t ∷ ys) whole)
-  law_joined_with t (Binary op) left is = law_map lower (node.binary (placed op t.span) left) (IsExpression j) (λ ys whole. GoesOn (suc j) left (t ∷ ys) whole) law
+  law_joined_with t (Binary op) left is = law_map lower (node.binary (placed op t.span) left) (IsExpression j)
+      (λ ys whole. GoesOn (suc j) left (t ∷ ys) whole) law
       (λ ys right is_right xs is_left. joined j t op xs ys left right is_left is is_right)
   law_joined_with t (ShortCircuit op) left is = law_map lower (node.short_circuit op left) (IsExpression j) (λ ys whole. GoesOn (suc j) left (t ∷ ys) whole) law
       (λ ys right is_right xs is_left. short_circuited j t op xs ys left right is_left is is_right)

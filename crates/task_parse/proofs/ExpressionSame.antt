@@ -19,8 +19,10 @@ use Rattle.task_parse.proofs.ExpressionLaws.{law_up_to, law_within, shrinks_clim
 
 same_joined_with : (m : ℕ) (lower lower' : Parser Expression) → Same m lower lower' → (left : Expression) (place : Span) (op : Infix)
     → Same m (joined_with lower left place op) (joined_with lower' left place op)
-same_joined_with m lower lower' same left place (Binary op) ts fits = ap (λ o. and_then o (λ right. pure (node.binary (placed op place) left right))) (same ts fits)
-same_joined_with m lower lower' same left place (ShortCircuit op) ts fits = ap (λ o. and_then o (λ right. pure (node.short_circuit op left right))) (same ts fits)
+same_joined_with m lower lower' same left place (Binary op) ts fits =
+    ap (λ o. and_then o (λ right. pure (node.binary (placed op place) left right))) (same ts fits)
+same_joined_with m lower lower' same left place (ShortCircuit op) ts fits =
+    ap (λ o. and_then o (λ right. pure (node.short_circuit op left right))) (same ts fits)
 same_joined_with m lower lower' same left place (Shift op) ts fits = refl
 
 module _ (m j : ℕ) (lower lower' : Parser Expression) (same : Same m lower lower') (law : Law lower (IsExpression j)) where

@@ -63,7 +63,8 @@ element_none : (types : Span → WordType) (s : Span) (index : Expression Span) 
     → DeclareNone (element_front types s index behind)
 element_none types s index behind h = in_front _ s role.Element (in_front behind s _ h tt) tt
 
-expression_none : (types : Span → WordType) (e : Expression Span) (behind : List Occurrence) → DeclareNone behind → DeclareNone (expression_names types e behind)
+expression_none : (types : Span → WordType) (e : Expression Span) (behind : List Occurrence) → DeclareNone behind
+    → DeclareNone (expression_names types e behind)
 expression_none types (t.number n) behind h = h
 expression_none types (t.long_number n) behind h = h
 expression_none types (t.name s) behind h = in_front behind s role.Scalar h tt
@@ -80,8 +81,10 @@ value_none types None behind h = h
 value_none types (Some e) behind h = expression_none types e behind h
 
 mutual
-  statement_none : (types : Span → WordType) (end : ℕ) (x : Statement Span Span) (behind : List Occurrence) → DeclareNone behind → DeclareNone (statement_names types end x behind)
-  statement_none types end (t.declare of s value) behind h = in_front (value_names types value behind) s (role.Local of (length behind) end) (value_none types value behind h) tt
+  statement_none : (types : Span → WordType) (end : ℕ) (x : Statement Span Span) (behind : List Occurrence) → DeclareNone behind
+      → DeclareNone (statement_names types end x behind)
+  statement_none types end (t.declare of s value) behind h =
+      in_front (value_names types value behind) s (role.Local of (length behind) end) (value_none types value behind h) tt
   statement_none types end (t.assign s e) behind h = in_front (expression_names types e behind) s role.Scalar (expression_none types e behind h) tt
   statement_none types end (t.store s index e) behind h =
       element_none types s index (expression_names types index (expression_names types e behind))
@@ -99,7 +102,8 @@ mutual
       let rest = choice_names types more behind in
       expression_none types e (names_up_to types (length rest) b rest) (block_none types (length rest) b rest (choice_none types more behind h))
 
-  block_none : (types : Span → WordType) (end : ℕ) (b : Block Span Span) (behind : List Occurrence) → DeclareNone behind → DeclareNone (names_up_to types end b behind)
+  block_none : (types : Span → WordType) (end : ℕ) (b : Block Span Span) (behind : List Occurrence) → DeclareNone behind
+      → DeclareNone (names_up_to types end b behind)
   block_none types end t.end behind h = h
   block_none types end (t.step s more) behind h = statement_none types end s (names_up_to types end more behind) (block_none types end more behind h)
 

@@ -85,7 +85,8 @@ module _ (shared : List SharedDeclaration) where
       by (Local n) y z k none h = h
 
   mutual
-    statement_split : (types : Span → WordType) (end : ℕ) (x : CheckedStatement) (behind : List Occurrence) (vs : List TypedVariable) → ((s : Span) → BadLoopInStatement x s → ⊥)
+    statement_split : (types : Span → WordType) (end : ℕ) (x : CheckedStatement) (behind : List Occurrence) (vs : List TypedVariable)
+        → ((s : Span) → BadLoopInStatement x s → ⊥)
         → AreUsed shared (uses_in (statement_names types end (statement_back x) behind)) (statement_variables x vs)
         → StatementUses shared x × AreUsed shared (uses_in behind) vs
     statement_split types end (t.declare of v None) behind vs none h = step_front behind v.span (role.Local of (length behind) end) _ h
@@ -115,7 +116,8 @@ module _ (shared : List SharedDeclaration) where
     statement_split types end (t.transition n) behind vs none h = (tt, step_front behind n.span role.Target vs h)
 
     choice_split : (types : Span → WordType) (c : CheckedChoice) (behind : List Occurrence) (vs : List TypedVariable) → ((s : Span) → BadLoopInChoice c s → ⊥)
-        → AreUsed shared (uses_in (choice_names types (choice_back c) behind)) (choice_variables c vs) → ChoiceUses shared c × AreUsed shared (uses_in behind) vs
+        → AreUsed shared (uses_in (choice_names types (choice_back c) behind)) (choice_variables c vs) → ChoiceUses shared c
+        × AreUsed shared (uses_in behind) vs
     choice_split types t.nothing behind vs none h = (tt, h)
     choice_split types (t.otherwise b) behind vs none h = block_split types (length behind) b behind vs none h
     choice_split types (t.test e b more) behind vs none h =
@@ -126,7 +128,8 @@ module _ (shared : List SharedDeclaration) where
         ((x.0, y.0, z.0), z.1)
 
     block_split : (types : Span → WordType) (end : ℕ) (b : CheckedBlock) (behind : List Occurrence) (vs : List TypedVariable) → ((s : Span) → BadLoopIn b s → ⊥)
-        → AreUsed shared (uses_in (names_up_to types end (block_back b) behind)) (block_variables b vs) → BlockUses shared b × AreUsed shared (uses_in behind) vs
+        → AreUsed shared (uses_in (names_up_to types end (block_back b) behind)) (block_variables b vs) → BlockUses shared b
+        × AreUsed shared (uses_in behind) vs
     block_split types end t.end behind vs none h = (tt, h)
     block_split types end (t.step x more) behind vs none h =
         let a = statement_split types end x (names_up_to types end (block_back more) behind) (block_variables more vs) (λ s i. none s (inl i)) h in

@@ -10,7 +10,8 @@ use Rattle.alpaca_cli.proofs.try_.try_texts.Goals as goal
 
 pub returns-in_err-source-clause-failure : goal.returns-in_err-source-clause-failure
 returns-in_err-source-clause-failure g c =
-    handed_on _ _ _ c.from_residual.ensures (refusal_fails _ _ _ _ _ 0 _ _ refl (λ r no. the_tried_source r (by_pass r no)) refl refl c.in_err-source.ensures.refused)
+    handed_on _ _ _ c.from_residual.ensures (refusal_fails _ _ _ _ _ 0 _ _ refl (λ r no. the_tried_source r (by_pass r no)) refl refl
+    c.in_err-source.ensures.refused)
 
 pub returns-in_err-trace-clause-failure : goal.returns-in_err-trace-clause-failure
 returns-in_err-trace-clause-failure g c =
