@@ -1,1 +1,0 @@
-use Rattle.source_meaning.proofs.longs.first_long.Goals as goal
