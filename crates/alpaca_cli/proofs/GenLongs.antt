@@ -23,6 +23,7 @@ use Rattle.source_generator.proofs.Interface.{HasPlainLetters, generated_plain}
 -- ---- parts of a text
 
 later : (n : ℕ) (text : List ℕ) → HasPlainLetters text → HasPlainLetters (drop n text)
+unfolding HasPlainLetters
 later zero [] h = tt
 later zero (b ∷ bs) h = h
 later (suc n) [] h = tt
@@ -37,13 +38,14 @@ dropped (suc n) (b ∷ bs) h = dropped n bs h
 
 taken : (n i : ℕ) (bs : List ℕ) → get_or (take n bs) i 0 ≡ 85 → get_or bs i 0 ≡ 85
 taken zero i [] h = h
-taken zero i (b ∷ bs) h = absurd (omega (arith, h))
+taken zero i (b ∷ bs) h = let no : 0 ≡ 85 = h in absurd (omega (arith, no))
 taken (suc n) i [] h = h
 taken (suc n) zero (b ∷ bs) h = h
 taken (suc n) (suc i) (b ∷ bs) h = taken n i bs h
 
 no_suffix_byte : (i : ℕ) (text : List ℕ) → HasPlainLetters text → get_or text i 0 ≡ 85 → ⊥
-no_suffix_byte i [] plain h = omega (arith, h)
+unfolding HasPlainLetters
+no_suffix_byte i [] plain h = let no : 0 ≡ 85 = h in omega (arith, no)
 no_suffix_byte zero (b ∷ bs) plain h = plain.0.no_suffix h
 no_suffix_byte (suc i) (b ∷ bs) plain h = no_suffix_byte i bs plain.1 h
 
@@ -51,12 +53,12 @@ no_suffix_byte (suc i) (b ∷ bs) plain h = no_suffix_byte i bs plain.1 h
 
 -- no `long` stands in front of the text
 not_behind : (n : ℕ) (text : List ℕ) → 111 ∷ 110 ∷ 103 ∷ [] ≡ take n text → get_or text 0 0 ≡ 115 → ⊥
-not_behind zero [] is h = omega (arith, h)
+not_behind n [] is h = let no : 0 ≡ 115 = h in omega (arith, no)
 not_behind zero (b ∷ bs) is h = cc
-not_behind (suc n) [] is h = omega (arith, h)
-not_behind (suc n) (b ∷ bs) is h = let first : 111 ≡ b = cc in omega (arith, first, h)
+not_behind (suc n) (b ∷ bs) is h = let first : 111 ≡ b = cc in let second : b ≡ 115 = h in omega (arith, first, second)
 
 no_keyword : (n : ℕ) (text : List ℕ) → HasPlainLetters text → 108 ∷ 111 ∷ 110 ∷ 103 ∷ [] ≡ take n text → ⊥
+unfolding HasPlainLetters
 no_keyword zero [] plain is = cc
 no_keyword zero (b ∷ bs) plain is = cc
 no_keyword (suc n) [] plain is = cc
@@ -69,7 +71,7 @@ fixed_short : (kind : Kind) (n : ℕ) (text : List ℕ) → HasPlainLetters text
     → is_long_kind kind ≡ false
 unfolding spelling
 fixed_short k.Long n text plain some is = absurd (no_keyword n text plain is)
-fixed_short k.LongNumber n text plain some is = absurd (omega (arith, some))
+fixed_short k.LongNumber n text plain some is = let no : 0 < 0 = some in absurd (omega (arith, no))
 fixed_short _ n text plain some is = refl
 
 -- no numeral has the suffix
