@@ -7,5 +7,6 @@ is_ready-requires-clause-plain c = text_plain _ _ c.requires.accepted.checks c.r
 
 pub is_ready-requires-clause-laid_out : goal.is_ready-requires-clause-laid_out
 is_ready-requires-clause-laid_out c =
-    rw c.checked-checked.ensures at (c.in_ok-layout.ensures)
-    (rw c.checked-checked.ensures (text_plain _ _ c.requires.accepted.checks c.requires.no_longs).shared)
+    let plain = text_plain _ _ c.requires.accepted.checks c.requires.no_longs in
+    let made = c.in_ok-layout.ensures (rw c.checked-checked.ensures plain.shared) in
+    rw (c.checked-checked.ensures, c.allow.ensures) at made
