@@ -1,5 +1,5 @@
 -- An assignment in place: `x = x + e` and its like.
-use Rattle.std.proofs.Common.{◌≡◌, ℕ, List, Bool, true, false, Option, Some, None, refl, sym, ap, ◌∙◌, if◌then◌else◌}
+use Rattle.std.proofs.Common.{◌≡◌, ℕ, List, Bool, true, false, Option, Some, None, refl, sym, ap, subst, ◌∙◌, if◌then◌else◌}
 use Rattle.std.proofs.lemmas.Bool.{eqb-true}
 use Rattle.task_ast.specs.Tree as t
 use Rattle.task_ast.specs.Paths.{CheckedExpression}
@@ -9,7 +9,11 @@ use Rattle.task_ast.specs.declared.BinaryOperator.TheVariants as operator
 use Rattle.task_ast.specs.declared.names.Variable.{Variable}
 use Rattle.task_ast.specs.declared.names.Variable.TheVariants.{Shared, Local}
 use Rattle.task_ast.specs.declared.names.VariableName.{VariableName}
-use Rattle.source_values.specs.Values.{◌>>?◌, word_at, joined_type, type_of, binary_value, value_of}
+use Rattle.task_ast.specs.declared.PlacedOperator.{PlacedOperator}
+use Rattle.task_ast.specs.Types.{IsOneWord}
+use Rattle.task_ast.proofs.Interface.{by_one_word, joined_word}
+use Rattle.source_values.specs.Values.{◌>>?◌, word_at, scalar_value, joined_type, type_of, binary_value, binary_result, value_of}
+use Rattle.source_values.proofs.Interface.{scalar_word}
 use Rattle.source_values.specs.Statements.{Attempt, Outcome, goes_on, if_value, assigned}
 use Rattle.array_versions.specs.declared.operations.PlainOperation.{PlainOperation}
 use Rattle.array_versions.specs.declared.operations.PlainOperation.TheVariants as plain
@@ -51,21 +55,28 @@ plain_value operator.Or o of a b h = let e : plain.Or ≡ o = cc in ap (λ p. pl
 plain_value _ o of a b h = absurd (cc)
 
 -- with the variable on the left side, an assignment goes on with what the operation does
-updated_value : (x : Variable) (op : BinaryOperator) (o : PlainOperation) (of : WordType) (m : Attempt) (right : Option (ℕ × List ℕ))
-    → plain_operation op ≡ Some o
-    → if_value (right >>? λ y. Some (binary_value op of (word_at m.variables x 0) y.0, y.1)) m (λ v s. goes_on (assigned s x 0 v))
-    ≡ if_value right m (λ v s. goes_on (assigned s x 0 (plain_word o (word_at m.variables x 0) v)))
-updated_value x op o of m None is = refl
-updated_value x op o of m (Some y) is =
-    ap (λ v. goes_on (assigned (record m { left = y.1 }) x 0 v)) (plain_value op o of (word_at m.variables x 0) y.0 is)
+updated_value : (x : Variable) (m : Attempt) (f g : ℕ → ℕ) (right : Option (ℕ × List ℕ)) → ((v : ℕ) → f v ≡ g v)
+    → if_value (right >>? λ y. Some (f y.0, y.1)) m (λ v s. goes_on (assigned s x 0 v)) ≡ if_value right m (λ v s. goes_on (assigned s x 0 (g v)))
+updated_value x m f g None same = refl
+updated_value x m f g (Some y) same = ap (λ v. goes_on (assigned (record m { left = y.1 }) x 0 v)) (same y.0)
 
-pub update_goes_on : (x : Variable) (op : BinaryOperator) (a b : CheckedExpression) (o : PlainOperation) (m : Attempt) → IsUpdate x op a o
+pub update_goes_on : (x : Variable) (op : PlacedOperator) (a b : CheckedExpression) (o : PlainOperation) (m : Attempt) → IsUpdate x op.operator a o
+    → IsOneWord (type_of a) → IsOneWord (type_of b)
     → if_value (value_of (t.binary op a b) m.variables m.left) m (λ v s. goes_on (assigned s x 0 v))
     ≡ if_value (value_of b m.variables m.left) m (λ v s. goes_on (assigned s x 0 (plain_word o (word_at m.variables x 0) v)))
-update_goes_on x op a b o m u =
-    let of = joined_type u.name.word_type (type_of b) in
-    let right = value_of b m.variables m.left in
-    let behind : ℕ → Outcome =
-    λ n. if_value (right >>? λ y. Some (binary_value op of n y.0, y.1)) m (λ v s. goes_on (assigned s x 0 v)) in
+update_goes_on x op a b o m u of_left of_right =
     ap (λ e. if_value (value_of (t.binary op e b) m.variables m.left) m (λ v s. goes_on (assigned s x 0 v))) u.is
-    ∙ ap (λ y. behind (word_at m.variables y 0)) u.same ∙ updated_value x op o of m right u.operation
+    ∙ updated_value x m (λ v. binary_result op.operator u.name.word_type (type_of b) (scalar_value m.variables u.name) v)
+    (λ v. plain_word o (word_at m.variables x 0) v) (value_of b m.variables m.left) same
+  where
+    of : WordType
+    of = joined_type u.name.word_type (type_of b)
+
+    one : IsOneWord u.name.word_type
+    one = subst (λ e. IsOneWord (type_of e)) u.is of_left
+
+    same : (v : ℕ) → binary_result op.operator u.name.word_type (type_of b) (scalar_value m.variables u.name) v ≡ plain_word o (word_at m.variables x 0) v
+    same v =
+        by_one_word of _ _ (joined_word u.name.word_type (type_of b) one of_right)
+        ∙ ap (λ n. binary_value op.operator of n v) (scalar_word m.variables u.name one ∙ ap (λ y. word_at m.variables y 0) u.same)
+        ∙ plain_value op.operator o of (word_at m.variables x 0) v u.operation

@@ -103,6 +103,7 @@ fn is_name(variable: Variable, e: &Expr<VariableName>) -> bool
     match e {
         Expr::Name(name) => is_same(variable, name.variable),
         Expr::Number(_)
+        | Expr::LongNumber(_)
         | Expr::Element(..)
         | Expr::Sense
         | Expr::Unary(..)
@@ -139,11 +140,12 @@ fn assign(
         ≡ joined (program_of program.old) (assignment (places_in places.now) variable (expression_of e.now))) }
 {
     match e {
-        Expr::Binary(op, left, right) => match updating(variable, *op, left) {
+        Expr::Binary(op, left, right) => match updating(variable, op.operator, left) {
             Some(operation) => set_in_place(alloc, operation, variable, right, places, program),
             None => set(alloc, variable, e, places, program),
         },
         Expr::Number(_)
+        | Expr::LongNumber(_)
         | Expr::Name(_)
         | Expr::Element(..)
         | Expr::Sense

@@ -115,6 +115,7 @@ rows_count (d ∷ ds) (row ∷ rows) h =
 -- a place of the declared kind has the declared length
 pub declared_length : (written : Bool) (e : Extent) (place : VariablePlace) → IsPlaceOf written e place → place_length place ≡ length (initial_words e)
 declared_length written (extent.Scalar w) (Scalar home copy) h = refl
+declared_length written (extent.Long n) place h = absurd h
 declared_length written (extent.Array n) (Array elements len copies) h = h.0 ∙ sym (length-replicate n 0)
 declared_length written (extent.Scalar w) (Array elements len copies) h = absurd h
 declared_length written (extent.Array n) (Scalar home copy) h = absurd h

@@ -1,0 +1,67 @@
+-- The first long of an accepted text; a text whose tokens have none is of a source without longs.
+use Rattle.std.proofs.Common.{◌≡◌, ◌∙◌, ℕ, ◌+◌, ◌<◌, ◌≤◌, Bool, true, false, List, [], length, take, get_or, Some, sym, subst, ap}
+use Rattle.std.specs.Prelude.{All, slice_get}
+use Rattle.std.proofs.lemmas.List.{take_all}
+use Rattle.std.proofs.lemmas.List.Elements.{All-more}
+use Rattle.std.proofs.lemmas.Option.{slice_get-get_or, slice_get_within, get_or_from_slice_get}
+use Rattle.task_ast.specs.Tree.{Program}
+use Rattle.task_ast.specs.Longs.{IsPlain}
+use Rattle.task_ast.specs.declared.names.VariableName.{VariableName}
+use Rattle.task_ast.specs.declared.names.TaskName.{TaskName}
+use Rattle.task_lex.specs.declared.token.Token.{Token}
+use Rattle.task_lex.specs.Lex.{lexed, tokens}
+use Rattle.task_lex.specs.Faults.{line_of}
+use Rattle.task_lex.specs.Spans.{InOrder}
+use Rattle.task_lex.proofs.Interface.{all_within}
+use Rattle.task_parse.specs.Grammar.{IsProgram}
+use Rattle.task_parse.specs.Stops.{from_of}
+use Rattle.source_meaning.specs.Acceptance.{Checks}
+use Rattle.source_meaning.specs.Longs.{is_long_kind, NotLong, IsFirstLong, HasLong, HasNoLong}
+use Rattle.source_meaning.proofs.PlainTrees.{none_long, program_plain}
+use Rattle.source_meaning.proofs.PlainNames.{source_plain}
+use Rattle.source_meaning.proofs.Unique.{same_tokens}
+
+pub none_more : (ts : List Token) (i : ℕ) (t : Token) → i < length ts → t ≡ get_or ts i t → All NotLong (take i ts) → is_long_kind t.kind ≡ false
+    → All NotLong (take (i + 1) ts)
+none_more ts i t lt is all not = All-more NotLong ts i t lt all (subst NotLong is not)
+
+pub none_all : (ts : List Token) (i : ℕ) → length ts ≤ i → All NotLong (take i ts) → All NotLong ts
+none_all ts i h all = subst (All NotLong) (take_all i ts h) all
+
+pub long_at : (ts : List Token) (i : ℕ) (t : Token) → i < length ts → t ≡ get_or ts i t → All NotLong (take i ts) → is_long_kind t.kind ≡ true
+    → IsFirstLong ts i
+long_at ts i t lt is all long = record {
+  token = t;
+  is_token = slice_get-get_or ts i t lt ∙ ap Some (sym is);
+  is_long = long;
+  first = all;
+}
+
+-- it begins within the text, and its line is the text's
+pub starts_within : (text : List ℕ) (ts : List Token) (at : ℕ) (t : Token) → InOrder 0 (length text) ts → IsFirstLong ts at → t ≡ get_or ts at t
+    → t.span.from ≤ length text
+starts_within text ts at t order x is =
+    subst (λ u. u.span.from ≤ length text) (sym is) (all_within 0 (length text) ts order at t (slice_get_within ts at x.token x.is_token))
+
+pub has_long : (text : List ℕ) (ts : List Token) (at line : ℕ) (t : Token) → lexed text ≡ tokens ts → IsFirstLong ts at → t ≡ get_or ts at t
+    → line ≡ line_of text t.span.from → HasLong text line
+has_long text ts at line t lexes x is line_is =
+    let there : slice_get ts at ≡ Some t = slice_get-get_or ts at t (slice_get_within ts at x.token x.is_token) ∙ ap Some (sym is) in
+    record { words = ts; lexes = lexes; at = at; is_first = x; line_is = line_is ∙ ap (λ o. line_of text (from_of text o)) (sym there) }
+
+-- a text whose tokens have no long is of a source without longs
+pub text_plain : (text : List ℕ) (program : Program VariableName TaskName) → Checks text program → HasNoLong text → IsPlain program
+text_plain text program checks no =
+    let same = same_tokens checks.parses.words no.words (sym checks.parses.lexes ∙ no.lexes) in
+    let grammar = subst (λ ts. IsProgram ts checks.tree) same checks.parses.grammar in
+    source_plain text checks.tree program checks.checks.named.looked_up (program_plain no.words checks.tree grammar (none_long no.words no.none))
+
+-- and no text has one and none
+pub one_or_none : (text : List ℕ) (line : ℕ) → HasNoLong text → HasLong text line → ⊥
+one_or_none text line no has =
+    let same = same_tokens has.words no.words (sym has.lexes ∙ no.lexes) in
+    let there : slice_get no.words has.at ≡ Some has.is_first.token = ap (λ ws. slice_get ws has.at) (sym same) ∙ has.is_first.is_token in
+    let is : get_or no.words has.at has.is_first.token ≡ has.is_first.token = get_or_from_slice_get no.words has.at _ _ there in
+    let none = no.none has.at has.is_first.token (slice_get_within no.words has.at has.is_first.token there) in
+    let both : true ≡ false = sym has.is_first.is_long ∙ sym (ap (λ t. is_long_kind t.kind) is) ∙ none in
+    cc
