@@ -102,6 +102,7 @@ some_room room d (t.short_circuit op a b) h = some_room room d a h.0
 -- with fewer words beneath
 fits_above : (room d : ℕ) (e : CheckedExpression) → ExpressionFits room (suc d) e → ExpressionFits room d e
 fits_above room d (t.number w) h = (omega (arith, h.0), h.1)
+fits_above room d (t.long_number w) h = omega arith
 fits_above room d (t.name x) h = omega arith
 fits_above room d (t.element x index) h = fits_above room d index h
 fits_above room d t.sense h = omega arith
