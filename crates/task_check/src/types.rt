@@ -1,10 +1,9 @@
 //! The types of names, and so of expressions, as far as the uses of a source ask for them.
 
-ghost use Rattle.std.specs.Prelude.{◌≡◌, ℕ, List, IfOk};
+ghost use Rattle.std.specs.Prelude.{◌≡◌, IfOk};
 ghost use Rattle.task_ast.specs.View.{expression_of};
 ghost use Rattle.task_ast.specs.Types.{expression_type};
-ghost use Rattle.task_check.specs.Tables.{found};
-ghost use Rattle.task_check.specs.SharedTypes.{type_in};
+ghost use Rattle.task_check.specs.Tables.{HasTypes};
 ghost use Rattle.task_check.specs.Typed.{HasSharedTypes, types_of};
 
 use crate::table::{Table, empty, get, set};
@@ -28,7 +27,7 @@ fn table_of<'a>(
     source: &'a [u8],
     shared: &[SharedDeclaration],
 ) -> Result<Table<'a, WordType>, AllocError>
-    ensures { IfOk result (λ table. (q : List ℕ) → found table q ≡ type_in source.now q shared.now) }
+    ensures { IfOk result (HasTypes source.now shared.now) }
 {
     let mut table = empty(alloc);
     for i in (0..shared.len()).rev() {
