@@ -21,13 +21,19 @@ pub struct Meaning {
     pub longs: Vec<bool>,
 }
 
+fn is_long_extent(extent: Extent) -> bool
+    ensures { result ≡ is_long_extent extent }
+{
+    match extent {
+        Extent::Long(_) => true,
+        Extent::Scalar(_) | Extent::Array(_) => false,
+    }
+}
+
 fn longs_of(alloc: Global, shared: &[SharedDeclaration]) -> Result<Vec<bool>, AllocError>
     ensures { IfOk result (λ longs. longs.items ≡ map (λ d. is_long_extent d.extent) shared.now) }
 {
-    shared
-        .iter()
-        .map(|d| matches!(d.extent, Extent::Long(_)))
-        .collect(alloc)
+    shared.iter().map(|d| is_long_extent(d.extent)).collect(alloc)
 }
 
 impl Meaning {
