@@ -10,5 +10,5 @@ abbrev pub types_of : SharedTypes → Span → WordType
 types_of types = shared_type types.source.now types.shared.now
 
 -- their table is that of the shared variables
-abbrev pub HasSharedTypes : SharedTypes → Type 0
+unfoldable pub HasSharedTypes : SharedTypes → Type 0
 HasSharedTypes types = HasTypes types.source.now types.shared.now types.table

@@ -42,6 +42,7 @@ fn table_of<'a>(
 }
 
 /// The types of a source's shared variables. Fails where memory does.
+#[tactic(auto, unfolding(crate::specs::Typed::HasSharedTypes))]
 pub fn shared_types<'a>(
     alloc: Global,
     source: &'a [u8],
