@@ -1,5 +1,5 @@
 -- What each check finds wrong at a name, and the first that it finds.
-use Rattle.std.specs.Prelude.{ℕ, Bool, true, false, ◌==◌, ◌||◌, nat_lt, List, [], ◌∷◌, length, Option, Some, None, is_some}
+use Rattle.std.specs.Prelude.{ℕ, Bool, true, false, ◌==◌, ◌||◌, List, [], ◌∷◌, length, Option, Some, None, is_some}
 use Rattle.std.specs.Option.{option_or, is_none}
 use Rattle.task_ast.specs.declared.Extent.TheVariants as extent
 use Rattle.task_lex.specs.Faults.{line_of}
