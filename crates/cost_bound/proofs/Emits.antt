@@ -1,5 +1,5 @@
 -- The column that counts emits.
-use Rattle.std.proofs.Common.{◌≡◌, ◌-◌, ◌*◌, true, false, Some, None, ap, refl, arith}
+use Rattle.std.proofs.Common.{◌≡◌, ℕ, ◌-◌, ◌*◌, true, false, Some, None, ap, refl, arith}
 use Rattle.task_ast.specs.Tree.{Expression, number, long_number, name, element, sense, unary, binary, shift, short_circuit, Statement, declare, assign, store}
 use Rattle.task_ast.specs.Tree.{choose}
 use Rattle.task_ast.specs.Tree.{loop, emit, transition, Choice, nothing, otherwise, test, Block, end, step}
@@ -39,7 +39,7 @@ emits_column = record {
 }
 
 -- of each width alike
-free_width : (t : WordType) → by_width t 0 0 ≡ 0
+free_width : (t : WordType) → by_width {A = ℕ} t 0 0 ≡ 0
 free_width Long = refl
 free_width Int = refl
 free_width Unsigned = refl
