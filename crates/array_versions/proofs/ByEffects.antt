@@ -12,11 +12,11 @@ use Rattle.array_versions.specs.Operations.{plain_word, is_true, compare_words}
 use Rattle.array_versions.specs.Program.{Step, Test, Program, number, load, keep, update, local, set_local, update_local, unary, binary, shift, element}
 use Rattle.array_versions.specs.Program.{emit_word}
 use Rattle.array_versions.specs.Program.{list_entry}
-use Rattle.array_versions.specs.Program.{versioned_read, versioned_write, sense, truth, choose, repeat, store_number, move_word, jump, holds}
+use Rattle.array_versions.specs.Program.{versioned_read, versioned_write, versioned_update, sense, truth, choose, repeat, store_number, move_word, jump, holds}
 use Rattle.array_versions.specs.Program.{compares}
 use Rattle.array_versions.specs.Program.{both, either, fails, nothing, step}
 use Rattle.array_versions.specs.Behaviour.{WordState, End, GoesOn, Jumps, Short, Strays, Broken, Behaviour, behaves, goes_on, strays, broken}
-use Rattle.array_versions.specs.Behaviour.{behind_effects}
+use Rattle.array_versions.specs.Behaviour.{behind_effects, own_place, own_kept, own_updated, versioned_updated}
 use Rattle.array_versions.specs.Behaviour.{then_on, is_place, at_place, with_top, with_two, with_stack, pushed, stored, with_local, local_pushed, local_updated}
 use Rattle.array_versions.specs.Behaviour.{reading_pushed, word_stored, element_pushed, word_emitted, entry_stored, ends_before, raised}
 use Rattle.array_versions.specs.Behaviour.{listed_behind, word_listed, own_element, versioned_pushed, first_stored}
@@ -191,6 +191,20 @@ versioned_stored_by true place list i v s =
     (guarded (is_place (2 * i + place.versions)) s _ (own_stored_by (t.fram list.ver == t.fram (2 * i + place.versions)) place list i c v s)))
 versioned_stored_by false place list i v s = (refl, refl)
 
+own_kept_by : (b : Bool) (place : ArrayPlace) (list : ListPlace) (i v : ℕ) (s : WordState) → Good s (own_kept b place list i v s)
+own_kept_by b place list i v s =
+    let c = 2 * i + place.copies in guarded (is_place c) s _ (own_stored_by b place list i c v s)
+
+versioned_updated_by : (b : Bool) (op : PlainOperation) (place : ArrayPlace) (list : ListPlace) (i v : ℕ) (s : WordState)
+    → Good s (if b then own_updated op place list i v s else goes_on [] s)
+versioned_updated_by true op place list i v s =
+    let m = 2 * i + place.versions in
+    let b = s.fram list.ver == s.fram m in
+    let a = own_place b place i in
+    guarded (is_place list.ver) s _ (guarded (is_place m) s _ (guarded (is_place a) s _
+    (own_kept_by b place list i (plain_word op (s.fram a) v) s)))
+versioned_updated_by false op place list i v s = (refl, refl)
+
 -- one of two ways, behind words that are popped
 popped_by : (c : Bool) (vs : List ℕ) (s : WordState) (held failed : WordState → Behaviour) → ((v : WordState) → Good v (held v))
     → ((v : WordState) → Good v (failed v)) → Good s (if c then held (with_stack vs s) else failed (with_stack vs s))
@@ -222,6 +236,9 @@ mutual
   step_by (versioned_write place list) s =
       two_by s.stack s _ (λ i v vs. unstacked vs s (versioned_stored place list i v (with_stack vs s))
       (versioned_stored_by (nat_lt i place.length) place list i v (with_stack vs s)))
+  step_by (versioned_update op place list) s =
+      two_by s.stack s _ (λ i v vs. unstacked vs s (versioned_updated op place list i v (with_stack vs s))
+      (versioned_updated_by (nat_lt i place.length) op place list i v (with_stack vs s)))
   step_by sense s = reading_by s.readings s refl
   step_by (truth t) s = test_by t s (number_pushed 1) (number_pushed 0) (λ v. (refl, refl)) (λ v. (refl, refl))
   step_by (choose t taken otherwise) s = test_by t s (behaviour taken) (behaviour otherwise) (by_effects taken) (by_effects otherwise)

@@ -9,7 +9,7 @@ use Rattle.array_versions.specs.declared.operations.ShiftOperation.{ShiftOperati
 use Rattle.array_versions.specs.declared.operations.ShiftOperation.TheVariants.{Left, Right, SignedRight}
 use Rattle.array_versions.specs.Program.{number, load, keep, update, local, set_local, update_local, unary, binary, shift, element, emit_word, list_entry}
 use Rattle.array_versions.specs.Program.{versioned_read}
-use Rattle.array_versions.specs.Program.{versioned_write, sense, truth, choose, repeat, store_number, move_word, jump, holds, compares, both, either}
+use Rattle.array_versions.specs.Program.{versioned_write, versioned_update, sense, truth, choose, repeat, store_number, move_word, jump, holds, compares, both, either}
 use Rattle.array_versions.specs.Program.{fails}
 use Rattle.array_versions.specs.Cost.{unary_cycles, unary_words, binary_cycles, binary_words, right_words, shift_words, cycles_of}
 use Rattle.array_versions.specs.Allowance.{binary_allowance, StepsKeepToCycles, StepsKeepToWords, TestsKeepToCycles, TestsKeepToWords}
@@ -64,6 +64,7 @@ steps_keep_to_cycles (emit_word count buffer) = omega arith
 steps_keep_to_cycles (list_entry count list home copy words) = omega arith
 steps_keep_to_cycles (versioned_read place list) = omega arith
 steps_keep_to_cycles (versioned_write place list) = omega arith
+steps_keep_to_cycles (versioned_update op place list) = omega arith
 steps_keep_to_cycles sense = omega arith
 steps_keep_to_cycles (truth t) = omega arith
 steps_keep_to_cycles (choose t taken otherwise) = omega arith
@@ -94,6 +95,7 @@ steps_keep_to_words (emit_word count buffer) = omega arith
 steps_keep_to_words (list_entry count list home copy words) = entry_kept (words == 1)
 steps_keep_to_words (versioned_read place list) = omega arith
 steps_keep_to_words (versioned_write place list) = omega arith
+steps_keep_to_words (versioned_update op place list) = omega arith
 steps_keep_to_words sense = omega arith
 steps_keep_to_words (truth t) = omega arith
 steps_keep_to_words (choose t taken otherwise) = omega arith

@@ -9,12 +9,12 @@ use Rattle.array_versions.specs.Operations.{plain_word, is_true, compare_words}
 use Rattle.array_versions.specs.Program.{Step, Test, Program, number, load, keep, update, local, set_local, update_local, unary, binary, shift, element}
 use Rattle.array_versions.specs.Program.{emit_word}
 use Rattle.array_versions.specs.Program.{list_entry}
-use Rattle.array_versions.specs.Program.{versioned_read, versioned_write, sense, truth, choose, repeat, store_number, move_word, jump, holds}
+use Rattle.array_versions.specs.Program.{versioned_read, versioned_write, versioned_update, sense, truth, choose, repeat, store_number, move_word, jump, holds}
 use Rattle.array_versions.specs.Program.{compares}
 use Rattle.array_versions.specs.Program.{both, either, fails, nothing, step}
 use Rattle.array_versions.specs.Behaviour.{stored, behind_effects, WordState, assigned, End, GoesOn, Jumps, Short, Strays, Broken, Behaviour, behaves}
 use Rattle.array_versions.specs.Behaviour.{goes_on, strays, broken, on_end, is_place, at_place, with_top, with_stack, pushed, with_local}
-use Rattle.array_versions.specs.Behaviour.{local_pushed, local_updated}
+use Rattle.array_versions.specs.Behaviour.{local_pushed, local_updated, own_place, own_kept, own_updated}
 use Rattle.array_versions.specs.Behaviour.{reading_pushed, entry_stored, ends_before, raised, listed_behind, own_element, first_stored, own_stored}
 use Rattle.array_versions.specs.Behaviour.{number_pushed, way_by_top, way_by_two, turns, step_behaviour, tested, behaviour}
 use Rattle.array_versions.specs.Form.{StepSpares, TestSpares, Spares}
@@ -106,6 +106,21 @@ versioned_stored_leaves n o true place list i v s e =
     (guarded n o (is_place (2 * i + place.versions)) _ (own_stored_leaves n o (t.fram list.ver == t.fram (2 * i + place.versions)) place list i c v s e)))
 versioned_stored_leaves n o false place list i v s e = e
 
+own_kept_leaves : (n : ℕ) (o : Option ℕ) (b : Bool) (place : ArrayPlace) (list : ListPlace) (i v : ℕ) (s : WordState) → s.locals n ≡ o
+    → Leaves n o (own_kept b place list i v s).end
+own_kept_leaves n o b place list i v s e =
+    let c = 2 * i + place.copies in guarded n o (is_place c) _ (own_stored_leaves n o b place list i c v s e)
+
+versioned_updated_leaves : (n : ℕ) (o : Option ℕ) (b : Bool) (op : PlainOperation) (place : ArrayPlace) (list : ListPlace) (i v : ℕ) (s : WordState)
+    → s.locals n ≡ o → Leaves n o (if b then own_updated op place list i v s else goes_on [] s).end
+versioned_updated_leaves n o true op place list i v s e =
+    let m = 2 * i + place.versions in
+    let b = s.fram list.ver == s.fram m in
+    let a = own_place b place i in
+    guarded n o (is_place list.ver) _ (guarded n o (is_place m) _ (guarded n o (is_place a) _
+    (own_kept_leaves n o b place list i (plain_word op (s.fram a) v) s e)))
+versioned_updated_leaves n o false op place list i v s e = e
+
 either_leaves : (n : ℕ) (o : Option ℕ) (c : Bool) (a b : Behaviour) → Leaves n o a.end → Leaves n o b.end → Leaves n o (if c then a else b).end
 either_leaves n o true a b h k = h
 either_leaves n o false a b h k = k
@@ -150,6 +165,9 @@ mutual
       top_leaves n o s.stack _ (λ i vs. versioned_pushed_leaves n o (nat_lt i place.length) place list i (with_stack vs s) e)
   step_leaves n o (versioned_write place list) s h e =
       top_leaves n o s.stack _ (λ v us. top_leaves n o us _ (λ i vs. versioned_stored_leaves n o (nat_lt i place.length) place list i v (with_stack vs s) e))
+  step_leaves n o (versioned_update op place list) s h e =
+      top_leaves n o s.stack _ (λ v us. top_leaves n o us _
+      (λ i vs. versioned_updated_leaves n o (nat_lt i place.length) op place list i v (with_stack vs s) e))
   step_leaves n o sense s h e = reading_leaves n o s.readings s e
   step_leaves n o (truth t) s h e = test_leaves n o t s (number_pushed 1) (number_pushed 0) h e (λ v f. f) (λ v f. f)
   step_leaves n o (choose t taken otherwise) s h e =

@@ -4,7 +4,7 @@ use Rattle.array_versions.specs.declared.operations.Comparison.{Comparison}
 use Rattle.array_versions.specs.Operations.{is_true, compare_words}
 use Rattle.array_versions.specs.Program.{Step, Test, number, load, keep, update, local, set_local, update_local, unary, binary, shift, element, emit_word}
 use Rattle.array_versions.specs.Program.{list_entry}
-use Rattle.array_versions.specs.Program.{versioned_read, versioned_write, sense, truth, choose, repeat, store_number, move_word, jump, holds}
+use Rattle.array_versions.specs.Program.{versioned_read, versioned_write, versioned_update, sense, truth, choose, repeat, store_number, move_word, jump, holds}
 use Rattle.array_versions.specs.Program.{compares}
 use Rattle.array_versions.specs.Program.{both, either, fails, nothing, step, joined}
 use Rattle.array_versions.specs.Behaviour.{WordState, End, GoesOn, Jumps, Short, Strays, Broken, Behaviour, on_end, with_stack, with_local}
@@ -78,6 +78,7 @@ mutual
   step_most (list_entry count list home copy words) s = omega arith
   step_most (versioned_read place list) s = omega arith
   step_most (versioned_write place list) s = omega arith
+  step_most (versioned_update op place list) s = omega arith
   step_most sense s = omega arith
   step_most (store_number a w) s = omega arith
   step_most (move_word from to) s = omega arith

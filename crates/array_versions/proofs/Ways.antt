@@ -9,14 +9,14 @@ use Rattle.array_versions.specs.Operations.{plain_word, is_true, compare_words}
 use Rattle.array_versions.specs.Program.{Step, Test, Program, number, load, keep, update, local, set_local, update_local, unary, binary, shift, element}
 use Rattle.array_versions.specs.Program.{emit_word}
 use Rattle.array_versions.specs.Program.{list_entry}
-use Rattle.array_versions.specs.Program.{versioned_read, versioned_write, sense, truth, choose, repeat, store_number, move_word, jump, holds}
+use Rattle.array_versions.specs.Program.{versioned_read, versioned_write, versioned_update, sense, truth, choose, repeat, store_number, move_word, jump, holds}
 use Rattle.array_versions.specs.Program.{compares}
 use Rattle.array_versions.specs.Program.{both, either, fails, nothing, step}
 use Rattle.array_versions.specs.Behaviour.{stored, behind_effects, WordState, started, End, GoesOn, Jumps, Short, Strays, Broken, Behaviour, behaves}
 use Rattle.array_versions.specs.Behaviour.{goes_on}
 use Rattle.array_versions.specs.Behaviour.{strays, broken, on_end, then_on, is_place, at_place, with_top, with_two, with_stack, pushed, with_local}
 use Rattle.array_versions.specs.Behaviour.{local_pushed, local_updated, reading_pushed, entry_stored, raised, ends_before, listed_behind, own_element}
-use Rattle.array_versions.specs.Behaviour.{first_stored}
+use Rattle.array_versions.specs.Behaviour.{first_stored, own_place, own_kept, own_updated}
 use Rattle.array_versions.specs.Behaviour.{own_stored, number_pushed, way_by_top, way_by_two, turns, step_behaviour, tested, behaviour}
 use Rattle.array_versions.specs.Form.{Place, start, assigning, Moves, EachTurn, EachStepWay, EachTestWay, EachWay}
 use Rattle.array_versions.specs.Laws.{IsSound, WholeEndsSoundly}
@@ -189,6 +189,22 @@ versioned_stored_well true place list i v next t h =
     (guarded next (is_place (2 * i + place.versions)) _ (own_stored_well (u.fram list.ver == u.fram (2 * i + place.versions)) place list i c v next t h)))
 versioned_stored_well false place list i v next t h = h t.fram
 
+own_kept_well : (b : Bool) (place : ArrayPlace) (list : ListPlace) (i v : ℕ) (next : Place → Type 0) (t : WordState)
+    → ((f : ℕ → ℕ) → GoesWell next (GoesOn (record t { fram = f }))) → GoesWell next (own_kept b place list i v t).end
+own_kept_well b place list i v next t h =
+    let c = 2 * i + place.copies in guarded next (is_place c) _ (own_stored_well b place list i c v next t h)
+
+versioned_updated_well : (b : Bool) (op : PlainOperation) (place : ArrayPlace) (list : ListPlace) (i v : ℕ) (next : Place → Type 0) (t : WordState)
+    → ((f : ℕ → ℕ) → GoesWell next (GoesOn (record t { fram = f })))
+    → GoesWell next (if b then own_updated op place list i v t else goes_on [] t).end
+versioned_updated_well true op place list i v next t h =
+    let m = 2 * i + place.versions in
+    let b = t.fram list.ver == t.fram m in
+    let a = own_place b place i in
+    guarded next (is_place list.ver) _ (guarded next (is_place m) _ (guarded next (is_place a) _
+    (own_kept_well b place list i (plain_word op (t.fram a) v) next t h)))
+versioned_updated_well false op place list i v next t h = h t.fram
+
 -- two words less
 pop_two_well : (room : ℕ) (next : Place → Type 0) (q : Place) (s t : WordState) → Moves room 2 0 next q → Matches q s → length t.stack + 2 ≡ length s.stack
     → t.locals ≡ s.locals → GoesWell next (GoesOn t)
@@ -277,6 +293,9 @@ mutual
   step_well room (versioned_write place list) next q s h m =
       two_well next s.stack _ (omega (arith, h.0, m.depth))
       (λ i v vs e. versioned_stored_well (nat_lt i place.length) place list i v next (with_stack vs s) (λ f. pop_two_well room next q s _ h m e refl))
+  step_well room (versioned_update op place list) next q s h m =
+      two_well next s.stack _ (omega (arith, h.0, m.depth))
+      (λ i v vs e. versioned_updated_well (nat_lt i place.length) op place list i v next (with_stack vs s) (λ f. pop_two_well room next q s _ h m e refl))
   step_well room sense next q s h m = reading_well room s.readings next q s h m
   step_well room (truth t) next q s h m =
       test_well room t (Moves room 0 1 next) (Moves room 0 1 next) next (number_pushed 1) (number_pushed 0) q s h m

@@ -24,13 +24,13 @@ use Rattle.array_versions.specs.declared.program.ListPlace.{ListPlace}
 use Rattle.array_versions.specs.Program.{Step, Test, Program, number, load, keep, update, local, set_local, update_local, unary, binary, shift, element}
 use Rattle.array_versions.specs.Program.{emit_word}
 use Rattle.array_versions.specs.Program.{list_entry}
-use Rattle.array_versions.specs.Program.{versioned_read, versioned_write, sense, truth, choose, repeat, store_number, move_word, jump, holds}
+use Rattle.array_versions.specs.Program.{versioned_read, versioned_write, versioned_update, sense, truth, choose, repeat, store_number, move_word, jump, holds}
 use Rattle.array_versions.specs.Program.{compares}
 use Rattle.array_versions.specs.Program.{both, either, fails, nothing, step}
 use Rattle.array_versions.specs.Behaviour.{WordState, End, GoesOn, Jumps, Short, Strays, Broken, Behaviour, behaves, goes_on, strays, broken, on_end}
 use Rattle.array_versions.specs.Behaviour.{is_place}
 use Rattle.array_versions.specs.Behaviour.{at_place, with_top, with_stack, pushed, stored, with_local, local_pushed, local_updated, reading_pushed}
-use Rattle.array_versions.specs.Behaviour.{entry_stored}
+use Rattle.array_versions.specs.Behaviour.{entry_stored, own_place, own_kept, own_updated}
 use Rattle.array_versions.specs.Behaviour.{ends_before, raised, listed_behind}
 use Rattle.array_versions.specs.Behaviour.{behind_effects, own_element, first_stored, own_stored, number_pushed, way_by_top, way_by_two, turns}
 use Rattle.array_versions.specs.Behaviour.{step_behaviour}
@@ -213,6 +213,21 @@ versioned_stored_words true place list i v s l w =
     (λ g. own_stored_words (t.fram list.ver == t.fram (2 * i + place.versions)) place list i v s l (place_high c e) w)))
 versioned_stored_words false place list i v s l w = w
 
+own_kept_words : (b : Bool) (place : ArrayPlace) (list : ListPlace) (i v : ℕ) (s : WordState) → v < 0x10000 → IsStateOfWords s
+    → EndsInWords (own_kept b place list i v s).end
+own_kept_words b place list i v s l w =
+    let c = 2 * i + place.copies in guarded (is_place c) _ (λ e. own_stored_words b place list i v s l (place_high c e) w)
+
+versioned_updated_words : (b : Bool) (op : PlainOperation) (place : ArrayPlace) (list : ListPlace) (i v : ℕ) (s : WordState) → v < 0x10000
+    → IsStateOfWords s → EndsInWords (if b then own_updated op place list i v s else goes_on [] s).end
+versioned_updated_words true op place list i v s l w =
+    let m = 2 * i + place.versions in
+    let b = s.fram list.ver == s.fram m in
+    let a = own_place b place i in
+    guarded (is_place list.ver) _ (λ e. guarded (is_place m) _ (λ f. guarded (is_place a) _
+    (λ g. own_kept_words b place list i (plain_word op (s.fram a) v) s (plain_small op (s.fram a) v (w.fram a) l) w)))
+versioned_updated_words false op place list i v s l w = w
+
 either_words : (c : Bool) (a b : Behaviour) → EndsInWords a.end → EndsInWords b.end → EndsInWords (if c then a else b).end
 either_words true a b h k = h
 either_words false a b h k = k
@@ -271,6 +286,9 @@ mutual
   step_words (versioned_write place list) s h w =
       top_words s.stack _ w.stack (λ v us l m. top_words us _ m
       (λ i vs k j. versioned_stored_words (nat_lt i place.length) place list i v (with_stack vs s) l (stack_words s vs w j)))
+  step_words (versioned_update op place list) s h w =
+      top_words s.stack _ w.stack (λ v us l m. top_words us _ m
+      (λ i vs k j. versioned_updated_words (nat_lt i place.length) op place list i v (with_stack vs s) l (stack_words s vs w j)))
   step_words sense s h w = reading_words s.readings s w.readings w
   step_words (truth t) s h w =
       test_words t s (number_pushed 1) (number_pushed 0) h w (λ v x. pushed_words v 1 x (omega arith)) (λ v x. pushed_words v 0 x (omega arith))

@@ -4,7 +4,7 @@ use Rattle.array_versions.specs.declared.operations.BinaryOperation.{BinaryOpera
 use Rattle.array_versions.specs.declared.operations.BinaryOperation.TheVariants.{Multiply, Divide, Remainder}
 use Rattle.array_versions.specs.Program.{Step, Test, number, load, keep, update, local, set_local, update_local, unary, binary, shift, element, emit_word}
 use Rattle.array_versions.specs.Program.{list_entry}
-use Rattle.array_versions.specs.Program.{versioned_read, versioned_write, sense, truth, choose, repeat, store_number, move_word, jump, holds}
+use Rattle.array_versions.specs.Program.{versioned_read, versioned_write, versioned_update, sense, truth, choose, repeat, store_number, move_word, jump, holds}
 use Rattle.array_versions.specs.Program.{compares}
 use Rattle.array_versions.specs.Program.{both, either, fails}
 use Rattle.array_versions.specs.Cost.{step_cycles, test_cycles, cycles_of, step_words, test_words, words_of}
@@ -34,6 +34,7 @@ allowed_cycles (emit_word count buffer) = 60
 allowed_cycles (list_entry count list home copy words) = 40
 allowed_cycles (versioned_read place list) = 60
 allowed_cycles (versioned_write place list) = 120
+allowed_cycles (versioned_update op place list) = 220
 allowed_cycles sense = 40
 allowed_cycles (truth t) = 40 + test_cycles t
 allowed_cycles (choose t taken otherwise) = 40 + test_cycles t + max (cycles_of taken) (cycles_of otherwise)
@@ -63,6 +64,7 @@ allowed_words (emit_word count buffer) = 24
 allowed_words (list_entry count list home copy words) = entry_allowance words
 allowed_words (versioned_read place list) = 24
 allowed_words (versioned_write place list) = 60
+allowed_words (versioned_update op place list) = 100
 allowed_words sense = 16
 allowed_words (truth t) = 16 + test_words t
 allowed_words (choose t taken otherwise) = 24 + test_words t + words_of taken + words_of otherwise

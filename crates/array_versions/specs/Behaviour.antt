@@ -12,7 +12,7 @@ use Rattle.array_versions.specs.Operations.{unary_word, plain_word, binary_word,
 use Rattle.array_versions.specs.Program.{Step, Test, Program, number, load, keep, update, local, set_local, update_local, unary, binary, shift, element}
 use Rattle.array_versions.specs.Program.{emit_word}
 use Rattle.array_versions.specs.Program.{list_entry}
-use Rattle.array_versions.specs.Program.{versioned_read, versioned_write, sense, truth, choose, repeat, store_number, move_word, jump, holds}
+use Rattle.array_versions.specs.Program.{versioned_read, versioned_write, versioned_update, sense, truth, choose, repeat, store_number, move_word, jump, holds}
 use Rattle.array_versions.specs.Program.{compares}
 use Rattle.array_versions.specs.Program.{both, either, fails, nothing, step}
 
@@ -206,6 +206,29 @@ own_stored place list i v s =
 abbrev pub versioned_stored : ArrayPlace → ListPlace → ℕ → ℕ → WordState → Behaviour
 versioned_stored place list i v s = if nat_lt i place.length then own_stored place list i v s else goes_on [] s
 
+-- where this attempt has an element: in its copy, where the version word is the attempt's number
+abbrev pub own_place : Bool → ArrayPlace → ℕ → ℕ
+own_place b place i = if b then 2 * i + place.copies else (2 * i + place.elements)
+
+-- stores a word in an element's copy, by whether the version word was the attempt's number in front of it; where it wasn't, it is the first store
+abbrev pub own_kept : Bool → ArrayPlace → ListPlace → ℕ → ℕ → WordState → Behaviour
+own_kept b place list i v s =
+    let c = 2 * i + place.copies in
+    let t = stored c v s in
+    at_place c (if b then goes_on (Store c v ∷ []) t else behind_effects (Store c v ∷ []) (first_stored place list i t))
+
+-- stores in an element's copy what an operation gives of the element as this attempt has it and of a word
+abbrev pub own_updated : PlainOperation → ArrayPlace → ListPlace → ℕ → ℕ → WordState → Behaviour
+own_updated op place list i v s =
+    let m = 2 * i + place.versions in
+    let b = s.fram list.ver == s.fram m in
+    let a = own_place b place i in
+    at_place list.ver (at_place m (at_place a (own_kept b place list i (plain_word op (s.fram a) v) s)))
+
+-- the same of a versioned array: nothing past its end
+abbrev pub versioned_updated : PlainOperation → ArrayPlace → ListPlace → ℕ → ℕ → WordState → Behaviour
+versioned_updated op place list i v s = if nat_lt i place.length then own_updated op place list i v s else goes_on [] s
+
 -- pushes a number
 abbrev pub number_pushed : ℕ → WordState → Behaviour
 number_pushed n s = goes_on [] (pushed n s)
@@ -246,6 +269,7 @@ abbrev mutual
   step_behaviour (list_entry count list home copy words) s = entry_stored count list home copy words s
   step_behaviour (versioned_read place list) s = with_top s.stack (λ i vs. versioned_pushed place list i (with_stack vs s))
   step_behaviour (versioned_write place list) s = with_two s.stack (λ i v vs. versioned_stored place list i v (with_stack vs s))
+  step_behaviour (versioned_update op place list) s = with_two s.stack (λ i v vs. versioned_updated op place list i v (with_stack vs s))
   step_behaviour sense s = reading_pushed s.readings s
   step_behaviour (truth t) s = tested t (number_pushed 1) (number_pushed 0) s
   step_behaviour (choose t taken otherwise) s = tested t (behaviour taken) (behaviour otherwise) s

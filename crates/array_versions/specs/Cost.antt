@@ -11,7 +11,7 @@ use Rattle.array_versions.specs.Operations.{is_true, compare_words}
 use Rattle.array_versions.specs.Program.{Step, Test, Program, number, load, keep, update, local, set_local, update_local, unary, binary, shift, element}
 use Rattle.array_versions.specs.Program.{emit_word}
 use Rattle.array_versions.specs.Program.{list_entry}
-use Rattle.array_versions.specs.Program.{versioned_read, versioned_write, sense, truth, choose, repeat, store_number, move_word, jump, holds}
+use Rattle.array_versions.specs.Program.{versioned_read, versioned_write, versioned_update, sense, truth, choose, repeat, store_number, move_word, jump, holds}
 use Rattle.array_versions.specs.Program.{compares}
 use Rattle.array_versions.specs.Program.{both, either, fails, nothing, step}
 use Rattle.array_versions.specs.Behaviour.{WordState, End, GoesOn, Jumps, Short, Strays, Broken, Behaviour, with_stack, with_local, step_behaviour}
@@ -74,6 +74,7 @@ abbrev mutual
   step_cycles (list_entry count list home copy words) = 26
   step_cycles (versioned_read place list) = 23
   step_cycles (versioned_write place list) = 79
+  step_cycles (versioned_update op place list) = 86
   step_cycles sense = 6
   step_cycles (truth t) = test_cycles t + 5
   step_cycles (choose t taken otherwise) = test_cycles t + max (cycles_of taken + 3) (cycles_of otherwise)
@@ -113,6 +114,7 @@ abbrev mutual
   step_words (list_entry count list home copy words) = entry_words words
   step_words (versioned_read place list) = 18
   step_words (versioned_write place list) = 59
+  step_words (versioned_update op place list) = 70
   step_words sense = 3
   step_words (truth t) = test_words t + 3
   step_words (choose t taken otherwise) = test_words t + 2 + words_of taken + words_of otherwise
@@ -182,6 +184,7 @@ abbrev mutual
   step_spent (list_entry count list home copy words) s = step_cycles (list_entry count list home copy words)
   step_spent (versioned_read place list) s = step_cycles (versioned_read place list)
   step_spent (versioned_write place list) s = step_cycles (versioned_write place list)
+  step_spent (versioned_update op place list) s = step_cycles (versioned_update op place list)
   step_spent sense s = step_cycles sense
   step_spent (store_number a w) s = step_cycles (store_number a w)
   step_spent (move_word from to) s = step_cycles (move_word from to)

@@ -7,7 +7,7 @@ use Rattle.array_versions.specs.declared.program.ListPlace.{ListPlace}
 use Rattle.array_versions.specs.Program.{Step, Test, Program, number, load, keep, update, local, set_local, update_local, unary, binary, shift, element}
 use Rattle.array_versions.specs.Program.{emit_word}
 use Rattle.array_versions.specs.Program.{list_entry}
-use Rattle.array_versions.specs.Program.{versioned_read, versioned_write, sense, truth, choose, repeat, store_number, move_word, jump, holds}
+use Rattle.array_versions.specs.Program.{versioned_read, versioned_write, versioned_update, sense, truth, choose, repeat, store_number, move_word, jump, holds}
 use Rattle.array_versions.specs.Program.{compares}
 use Rattle.array_versions.specs.Program.{both, either, fails, nothing, step}
 
@@ -52,6 +52,7 @@ abbrev mutual
   EachStepWay room (list_entry count list home copy words) next p = next p
   EachStepWay room (versioned_read place list) next p = Moves room 1 1 next p
   EachStepWay room (versioned_write place list) next p = Moves room 2 0 next p
+  EachStepWay room (versioned_update op place list) next p = Moves room 2 0 next p
   EachStepWay room sense next p = Moves room 0 1 next p
   EachStepWay room (truth t) next p = EachTestWay room t (Moves room 0 1 next) (Moves room 0 1 next) p
   EachStepWay room (choose t taken otherwise) next p = EachTestWay room t (EachWay room taken next) (EachWay room otherwise next) p
@@ -167,6 +168,7 @@ abbrev mutual
   StepOfWords (list_entry count list home copy words) = IsWord count × IsWord list × IsWord home × IsWord copy × IsWord words
   StepOfWords (versioned_read place list) = ArrayOfWords place × ListOfWords list
   StepOfWords (versioned_write place list) = ArrayOfWords place × ListOfWords list
+  StepOfWords (versioned_update op place list) = ArrayOfWords place × ListOfWords list
   StepOfWords sense = Unit {0}
   StepOfWords (truth t) = TestOfWords t
   StepOfWords (choose t taken otherwise) = TestOfWords t × OfWords taken × OfWords otherwise

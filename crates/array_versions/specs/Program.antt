@@ -26,6 +26,7 @@ mutual
     list_entry : (count list home copy words : ℕ) → Step
     versioned_read : (place : ArrayPlace) → (list : ListPlace) → Step
     versioned_write : (place : ArrayPlace) → (list : ListPlace) → Step
+    versioned_update : (operation : PlainOperation) → (place : ArrayPlace) → (list : ListPlace) → Step
     sense : Step
     truth : (test : Test) → Step
     choose : (test : Test) → (taken otherwise : Program) → Step

@@ -29,6 +29,7 @@ step_layer (WordStep-F.EmitWord count buffer) = steps.emit_word count buffer
 step_layer (WordStep-F.ListEntry count list home copy words) = steps.list_entry count list home copy words
 step_layer (WordStep-F.VersionedRead place list) = steps.versioned_read place list
 step_layer (WordStep-F.VersionedWrite place list) = steps.versioned_write place list
+step_layer (WordStep-F.VersionedUpdate op place list) = steps.versioned_update op place list
 step_layer WordStep-F.Sense = steps.sense
 step_layer (WordStep-F.Truth t) = steps.truth t
 step_layer (WordStep-F.Choose t a b) = steps.choose t (steps_in_order a.items) (steps_in_order b.items)

@@ -77,6 +77,10 @@ pub enum WordStep {
     /// entry end right before the element and its copy, the entry's words go up by one; else there is an entry of one word
     /// more. Nothing is stored where the index isn't below the length.
     VersionedWrite(ArrayPlace, ListPlace),
+    /// Pops a word and the index below it, and stores in the element's copy what an operation gives of the element, as this
+    /// attempt has it, and of that word; the first time in the attempt with what a `VersionedWrite` then stores. Nothing is
+    /// stored where the index isn't below the length.
+    VersionedUpdate(PlainOperation, ArrayPlace, ListPlace),
     /// Takes the next reading and pushes it.
     Sense,
     /// Pushes 1 where a test holds, else 0.
@@ -328,6 +332,22 @@ impl WordProgram {
         ensures err { OnErr result (program_of self.new ≡ program_of self.old) }
     {
         self.push(WordStep::VersionedWrite(*place, *list))
+    }
+
+    /// Pops a word and the index below it, and stores in the element's copy what the operation gives of the element and of that
+    /// word. The element is its copy where its version word is the word at `list.ver`; where it isn't, that word is stored there
+    /// then, and the element is listed, as under `versioned_write`. Nothing is stored where the index isn't below the length.
+    pub fn versioned_update(
+        &mut self,
+        operation: PlainOperation,
+        place: &ArrayPlace,
+        list: &ListPlace,
+    ) -> Result<(), AllocError>
+        ensures ok { OnOk result
+            (program_of self.new ≡ behind (program_of self.old) (value.versioned_update operation place.now list.now)) }
+        ensures err { OnErr result (program_of self.new ≡ program_of self.old) }
+    {
+        self.push(WordStep::VersionedUpdate(operation, *place, *list))
     }
 
     /// Takes the next reading and pushes it.

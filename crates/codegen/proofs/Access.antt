@@ -1,7 +1,7 @@
 -- Elements of arrays, emits, and entries of the commit list.
-use Rattle.std.proofs.Common.{◌≡◌, ℕ, ◌+◌, ◌-◌, ◌*◌, ◌%◌, ◌<◌, ◌==◌, not, List, [], ◌∷◌, ◌++◌, Some, refl, sym, ap, ◌∙◌, subst, arith, Bool, true, false}
-use Rattle.std.proofs.Common.{nat_lt, nat_le}
-use Rattle.std.proofs.Common.{if◌then◌else◌}
+use Rattle.std.proofs.Common.{◌≡◌, ℕ, ◌+◌, ◌*◌, ◌%◌, ◌<◌, ◌==◌, not, List, [], ◌∷◌, ◌++◌, refl, sym, ap, ◌∙◌, subst, arith, Bool, true, false}
+use Rattle.std.proofs.Common.{◌≤◌, nat_lt, nat_le, if◌then◌else◌}
+use Rattle.std.proofs.lemmas.Bool.{both_ways}
 use Rattle.std.proofs.lemmas.Bool.Decides.{nat_tests}
 use Rattle.msp_isa.specs.alp_words.Words.{word_sum}
 use Rattle.msp_isa.specs.declared.instructions.Condition.TheVariants as condition
@@ -12,17 +12,20 @@ use Rattle.array_versions.specs.fram_board.Effects.{Effect, Store}
 use Rattle.array_versions.specs.machine_effects.World.{put}
 use Rattle.array_versions.specs.machine_effects.Going.{At, stretch}
 use Rattle.array_versions.specs.machine_effects.Machine.{IsFram}
-use Rattle.code_forms.specs.Forms.{WorkRegister, R4, R5, Core, CoreStretch, Register, Number, Constant, Indexed, ToRegister, ToIndexed, Move, Calculate, Update}
-use Rattle.code_forms.specs.Forms.{Jump, instruction_of, form_bytes}
+use Rattle.code_forms.specs.Forms.{R4, R5, Core, CoreStretch, Number, Constant, ToRegister, ToIndexed, Form, Move, Calculate, Update}
+use Rattle.code_forms.specs.Forms.{form_bytes}
 use Rattle.code_forms.specs.Code.{Stands, forms_bytes, forms_run, Runs}
-use Rattle.code_forms.proofs.Interface.{stands_at, stands_front, stands_back, form_at, forms_at, end_of}
+use Rattle.code_forms.proofs.Interface.{stands_at, stands_front, stands_back, end_of, forms_bytes-append}
 use Rattle.array_versions.specs.Behaviour.{WordState, is_place, stored, word_emitted, entry_stored}
-use Rattle.codegen.specs.Code.{element_code, emit_code, pair_code, entry_code}
-use Rattle.codegen.proofs.Stretches.{Setting, straight, runs_on, dearer}
+use Rattle.codegen.specs.Code.{number_source, check_code, zero_code, fetch_code, element_code, emit_code, pair_code, entry_code}
+use Rattle.codegen.proofs.Stretches.{Setting, straight, runs_on, dearer, so_runs}
 use Rattle.codegen.proofs.Memory.{place_is}
 use Rattle.codegen.proofs.Follows.{StandsFor, Follows, ends_at, guarded, stands_elsewhere}
 use Rattle.codegen.proofs.ListParts.{sixfold, six_times, at_offset, plus_none}
-use Rattle.codegen.proofs.Registers.{Has, middle, jump_has, no_borrow}
+use Rattle.codegen.proofs.Registers.{Has, middle, jump_has}
+use Rattle.codegen.proofs.Jumps.{near_distance}
+use Rattle.codegen.proofs.Products.{jump_exact}
+use Rattle.codegen.proofs.Operands.{Compared, Flushed, compare_number}
 
 twice : (n : ℕ) → n + n < 0x10000 → (n + n + 0) % 0x10000 ≡ n + n
 twice n h = omega arith
@@ -30,72 +33,124 @@ twice n h = omega arith
 is_one : (n : ℕ) → (n == 1) ≡ true → 1 ≡ n
 is_one n e = grind (arith, nat_tests)
 
+-- the ways of a test that is turned round
+turned : {A : Type 0} (b : Bool) (x y : A) → (if not b then x else y) ≡ (if b then y else x)
+turned true x y = refl
+turned false x y = refl
+
 module _ (z : Setting) where
-  abbrev pub HasIn : WorkRegister → ℕ → WordState → ℕ → Core → Type 0
-  HasIn b pc w v t = Has z b pc w v t
-
-  pub record Compared (pc : ℕ) (w : WordState) (i : ℕ) (b : Bool) (t : Core) : Type 0 where
-    pub has : HasIn R4 pc w i t
-    pub flag : t.flags.c ≡ b
-
-  pub compare_part : (pc i size : ℕ) (w : WordState) (t : Core) → i < 0x10000 → size < 0x10000
-      → z.code pc ≡ Some (instruction_of (Calculate op.Cmp (Number size) R4)) → HasIn R4 pc w i t → Runs z.code [] 2 t (Compared (pc + 4) w i (nat_le size i))
-  compare_part pc i size w t a b h k =
-      let ms = Calculate op.Cmp (Number size) R4 ∷ [] in
-      straight z ms 2 t (end_of t (forms_run ms t).status) [] 2 _ (tt, tt) (stands_at z.code pc ms t (h, tt) k.is.at) ((tt, tt), tt) refl (omega arith)
-      (record {
-        has = record { is = stands_elsewhere z pc (pc + 4) w t _ k.is (omega (arith, k.is.at)) refl refl refl refl refl; value = k.value };
-        flag = ap (λ v. nat_le 0x10000 (v + (0xFFFF - size) + 1)) k.value ∙ no_borrow i size a b;
-      })
+  -- ---- the check of an index
 
   pub le_of_lt : (i size : ℕ) (b : Bool) → nat_lt i size ≡ b → nat_le size i ≡ not b
   le_of_lt i size true e = grind (arith, nat_tests)
   le_of_lt i size false e = grind (arith, nat_tests)
 
-  -- an element, where its code stands
-  module _ (base size pc : ℕ) (l : size < 0x10000) (h : Stands z.code pc (element_code base size)) where
-    at4 : z.code (pc + 4) ≡ Some (instruction_of (Jump condition.Carry 4))
-    at4 = form_at z.code pc 1 (element_code base size) (Jump condition.Carry 4) h refl
+  -- it goes on where the index in R4 is below the length, else over so many words
+  pub check_part : (b : Bool) (size over pc to i : ℕ) (w : WordState) (t : Core) → nat_lt i size ≡ b → size < 0x10000 → i < 0x10000
+      → Stands z.code pc (check_code size over)
+      → (let behind = pc + forms_bytes (check_code size over) in (if b then behind else sum16 behind (distance over)) ≡ to)
+      → t.work 4 ≡ i → StandsFor z pc w t → Runs z.code [] 4 t (Flushed z to w t.work)
+  check_part b size over pc to i w t lt l r h e v k =
+      let m = Calculate op.Cmp (number_source size) R4 in
+      let mid = pc + form_bytes m in
+      let behind = pc + forms_bytes (check_code size over) in
+      let same : mid + 2 ≡ behind = omega arith in
+      runs_on z 2 2 t (Compared z mid w t.work i size) _ [] [] (compare_number z R4 pc i size w t r l v k h.0) (λ u j.
+      let at : u.pc + 2 ≡ behind = ap (λ n. n + 2) j.is.at ∙ same in
+      jump_exact z condition.Carry over to (not b) u _ (ap z.code j.is.at ∙ h.1.0) (j.carry ∙ le_of_lt i size b lt)
+      (ap (λ n. if not b then sum16 n (distance over) else n) at ∙ turned b (sum16 behind (distance over)) behind ∙ e)
+      (record { is = stands_elsewhere z mid to w u _ j.is refl refl refl refl refl refl; work = j.work }))
 
-    at12 : z.code (pc + 12) ≡ Some (instruction_of (Jump condition.Always 1))
-    at12 = form_at z.code pc 4 (element_code base size) (Jump condition.Always 1) h refl
+  -- ---- code behind the check, and what gives 0 where the index isn't below the length
+
+  module _ (size over pc : ℕ) (ms : List Form) (l : size < 0x10000) (h : Stands z.code pc (check_code size over ++ (ms ++ zero_code))) where
+    abbrev pub within : ℕ
+    within = pc + forms_bytes (check_code size over)
+
+    abbrev pub beyond : ℕ
+    beyond = within + forms_bytes ms
+
+    check_stands : Stands z.code pc (check_code size over)
+    check_stands = stands_front z.code pc (check_code size over) (ms ++ zero_code) h
+
+    behind_check : Stands z.code within (ms ++ zero_code)
+    behind_check = stands_back z.code pc (check_code size over) (ms ++ zero_code) h
+
+    pub within_stands : Stands z.code within ms
+    within_stands = stands_front z.code within ms zero_code behind_check
+
+    pub zero_stands : Stands z.code beyond zero_code
+    zero_stands = stands_back z.code within ms zero_code behind_check
+
+    pub checked_end : beyond + 4 ≡ pc + forms_bytes (check_code size over ++ (ms ++ zero_code))
+    checked_end = omega (arith, forms_bytes-append (check_code size over) (ms ++ zero_code), forms_bytes-append ms zero_code)
 
     -- the index is not below the length
-    pub past_end : (i : ℕ) (w : WordState) (t : Core) → nat_lt i size ≡ false → i < 0x10000 → HasIn R4 pc w i t
-        → Runs z.code [] 10 t (HasIn R4 (pc + 16) w 0)
-    past_end i w t lt r k =
-        let high = (z.tidy (pc + 12) _ at12).high in
-        let to : sum16 (pc + 4 + 2) (distance 4) ≡ pc + 14 = omega arith in
+    pub checked_past : (i : ℕ) (w : WordState) (t : Core) → forms_bytes ms + 2 ≡ 2 * over → over ≤ 511 → nat_lt i size ≡ false → i < 0x10000
+        → Has z R4 pc w i t → Runs z.code [] 5 t (Has z R4 (beyond + 4) w 0)
+    checked_past i w t far near lt r k =
+        let high = (z.tidy (beyond + 2) _ zero_stands.1.0).high in
+        let to : sum16 within (distance over) ≡ beyond + 2 = ap (sum16 within) (near_distance over near) ∙ omega (arith, far) in
         let zeroed = Move (Constant konst.Zero) (ToRegister R4) ∷ [] in
-        let at14 : Stands z.code (pc + 14) zeroed = forms_at z.code pc 5 1 (element_code base size) h in
-        dearer z [] 5 10 t _ (omega arith)
-        (runs_on z 2 3 t _ _ [] [] (compare_part pc i size w t r l h.0 k) (λ t j.
-        runs_on z 2 1 t _ _ [] [] (jump_has z condition.Carry 4 (pc + 4) (pc + 14) true R4 i w t at4 (j.flag ∙ le_of_lt i size false lt) to j.has) (λ t j.
-        middle z zeroed 1 (pc + 14) (pc + 16) 0 R4 w t (end_of t (forms_run zeroed t).status) j.is (tt, tt) at14
-        ((tt, tt), tt) refl (omega (arith, j.is.at)) refl refl refl refl refl refl)))
+        runs_on z 4 1 t (Flushed z (beyond + 2) w t.work) _ [] [] (check_part false size over pc (beyond + 2) i w t lt l r check_stands to k.value k.is)
+        (λ u j.
+        middle z zeroed 1 (beyond + 2) (beyond + 4) 0 R4 w u (end_of u (forms_run zeroed u).status) j.is (tt, tt) zero_stands.1
+        ((tt, tt), tt) refl (omega (arith, j.is.at)) refl refl refl refl refl refl)
 
-    -- it is, and the element is a word of FRAM
-    pub before_end : (i : ℕ) (w : WordState) (t : Core) → nat_lt i size ≡ true → i < 0x10000 → IsFram (2 * i + base) → HasIn R4 pc w i t
-        → Runs z.code [] 10 t (HasIn R4 (pc + 16) w (w.fram (2 * i + base)))
-    before_end i w t lt r f k =
-        let a = 2 * i + base in
-        let fh = f.high in
-        let small : (i + i + 0) % 0x10000 ≡ 2 * i = omega arith in
-        let high = (z.tidy (pc + 12) _ at12).high in
-        let to : sum16 (pc + 12 + 2) (distance 1) ≡ pc + 16 = omega arith in
-        let ms = Calculate op.Add (Register R4) R4 ∷ Move (Indexed R4 base) (ToRegister R4) ∷ [] in
-        let at6 : Stands z.code (pc + 6) ms = forms_at z.code pc 2 2 (element_code base size) h in
-        runs_on z 2 8 t _ _ [] [] (compare_part pc i size w t r l h.0 k) (λ t j.
-        runs_on z 2 6 t _ _ [] [] (jump_has z condition.Carry 4 (pc + 4) (pc + 6) false R4 i w t at4 (j.flag ∙ le_of_lt i size true lt) (omega arith) j.has)
-        (λ t j.
-        let q : (t.work 4 + t.work 4 + 0) % 0x10000 ≡ 2 * i = ap (λ v. (v + v + 0) % 0x10000) j.value ∙ small in
-        runs_on z 4 2 t _ _ [] [] (middle z ms 4 (pc + 6) (pc + 12) (w.fram a) R4 w t (end_of t (forms_run ms t).status) j.is (tt, (tt, tt)) at6
-        ((tt, tt), ((subst (λ v. IsFram (v + base)) (sym q) f, tt), tt)) refl (omega (arith, j.is.at)) refl refl refl refl refl
-        (ap (λ v. t.fram (v + base)) q ∙ ap (λ y. y a) j.is.fram)) (λ t j.
-        jump_has z condition.Always 1 (pc + 12) (pc + 16) true R4 (w.fram a) w t at12 refl to j)))
+    -- it is
+    pub checked_within : (i : ℕ) (w : WordState) (t : Core) → nat_lt i size ≡ true → i < 0x10000 → Has z R4 pc w i t
+        → Runs z.code [] 4 t (Has z R4 within w i)
+    checked_within i w t lt r k =
+        so_runs z [] 4 t (Flushed z within w t.work) _ (λ u j. record { is = j.is; value = ap (λ (f : ℕ → ℕ). f 4) j.work ∙ k.value })
+        (check_part true size over pc within i w t lt l r check_stands refl k.value k.is)
+
+    -- what the code has made goes over the 0
+    pub over_zero : (v : ℕ) (w : WordState) (t : Core) → Has z R4 beyond w v t → Runs z.code [] 2 t (Has z R4 (beyond + 4) w v)
+    over_zero v w t k =
+        let high = (z.tidy (beyond + 2) _ zero_stands.1.0).high in
+        let to : sum16 (beyond + 2) (distance 1) ≡ beyond + 4 = omega arith in
+        jump_has z condition.Always 1 beyond (beyond + 4) true R4 v w t zero_stands.0 refl to k
+
+  -- ---- an element
+
+  -- at an index below the length it is a word of FRAM
+  fetch_part : (base pc i : ℕ) (w : WordState) (t : Core) → IsFram (2 * i + base) → Stands z.code pc (fetch_code base) → Has z R4 pc w i t
+      → Runs z.code [] 4 t (Has z R4 (pc + 6) w (w.fram (2 * i + base)))
+  fetch_part base pc i w t f h k =
+      let a = 2 * i + base in
+      let fh = f.high in
+      let small : (i + i + 0) % 0x10000 ≡ 2 * i = omega arith in
+      let ms = fetch_code base in
+      let q : (t.work 4 + t.work 4 + 0) % 0x10000 ≡ 2 * i = ap (λ v. (v + v + 0) % 0x10000) k.value ∙ small in
+      middle z ms 4 pc (pc + 6) (w.fram a) R4 w t (end_of t (forms_run ms t).status) k.is (tt, (tt, tt)) h
+      ((tt, tt), ((subst (λ v. IsFram (v + base)) (sym q) f, tt), tt)) refl (omega (arith, k.is.at)) refl refl refl refl refl
+      (ap (λ v. t.fram (v + base)) q ∙ ap (λ y. y a) k.is.fram)
+
+  -- by whether the index is surely below the length
+  pub past_end : (b : Bool) (base size pc : ℕ) → size < 0x10000 → Stands z.code pc (element_code b base size) → (i : ℕ) (w : WordState) (t : Core)
+      → (b ≡ true → nat_lt i size ≡ true) → nat_lt i size ≡ false → i < 0x10000 → Has z R4 pc w i t
+      → Runs z.code [] 10 t (Has z R4 (pc + forms_bytes (element_code b base size)) w 0)
+  past_end true base size pc l h i w t sure below r k = absurd (both_ways (nat_lt i size) below (sure refl))
+  past_end false base size pc l h i w t sure below r k =
+      let ms = fetch_code base in
+      dearer z [] 5 10 t _ (omega arith)
+      (subst (λ p. Runs z.code [] 5 t (Has z R4 p w 0)) (checked_end size 4 pc ms l h) (checked_past size 4 pc ms l h i w t refl (omega arith) below r k))
+
+  pub before_end : (b : Bool) (base size pc : ℕ) → size < 0x10000 → Stands z.code pc (element_code b base size) → (i : ℕ) (w : WordState) (t : Core)
+      → nat_lt i size ≡ true → i < 0x10000 → IsFram (2 * i + base) → Has z R4 pc w i t
+      → Runs z.code [] 10 t (Has z R4 (pc + forms_bytes (element_code b base size)) w (w.fram (2 * i + base)))
+  before_end true base size pc l h i w t lt r f k = dearer z [] 4 10 t _ (omega arith) (fetch_part base pc i w t f h k)
+  before_end false base size pc l h i w t lt r f k =
+      let v = w.fram (2 * i + base) in
+      let ms = fetch_code base in
+      let at = within size 4 pc ms l h in
+      subst (λ p. Runs z.code [] 10 t (Has z R4 p w v)) (checked_end size 4 pc ms l h)
+      (runs_on z 4 6 t (Has z R4 at w i) _ [] [] (checked_within size 4 pc ms l h i w t lt r k) (λ u j.
+      runs_on z 4 2 u (Has z R4 (at + 6) w v) _ [] [] (fetch_part base at i w u f (within_stands size 4 pc ms l h) j) (λ q n.
+      over_zero size 4 pc ms l h v w q n)))
 
   -- the word in R5
-  pub emit_part : (count buffer pc v : ℕ) (w : WordState) (u : Core) → Stands z.code pc (emit_code count buffer) → HasIn R5 pc w v u
+  pub emit_part : (count buffer pc v : ℕ) (w : WordState) (u : Core) → Stands z.code pc (emit_code count buffer) → Has z R5 pc w v u
       → Follows z (pc + 18) 14 u (word_emitted count buffer v w)
   emit_part count buffer pc v w u h k =
       let i = k.is in

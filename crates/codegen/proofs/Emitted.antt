@@ -19,20 +19,22 @@ use Rattle.std.specs.declared.alloc.Global.{Global}
 use Rattle.std.specs.declared.boxed.Box.{Box}
 use Rattle.std.specs.declared.vec.Vec.{Vec}
 use Rattle.array_versions.specs.declared.operations.Comparison.{Comparison}
+use Rattle.array_versions.specs.declared.operations.PlainOperation.{PlainOperation}
 use Rattle.array_versions.specs.declared.program.ArrayPlace.{ArrayPlace}
 use Rattle.array_versions.specs.declared.program.ListPlace.{ListPlace}
 use Rattle.array_versions.specs.declared.program.WordStep.{WordStep, the_lemmas}
-use Rattle.array_versions.specs.declared.program.WordStep.TheVariants.{VersionedRead, VersionedWrite, Choose}
+use Rattle.array_versions.specs.declared.program.WordStep.TheVariants.{VersionedRead, VersionedWrite, VersionedUpdate, Choose}
 use Rattle.array_versions.specs.declared.program.WordTest.{WordTest}
 use Rattle.array_versions.specs.declared.program.WordTest.TheVariants.{Holds, Compares, Both, Either}
 use Rattle.array_versions.specs.Program.{Step, Test, Program, number, load, keep, update, local, set_local, update_local, unary, binary, shift, element}
 use Rattle.array_versions.specs.Program.{emit_word}
 use Rattle.array_versions.specs.Program.{list_entry}
-use Rattle.array_versions.specs.Program.{versioned_read, versioned_write, sense, truth, choose, repeat, store_number, move_word, jump, holds}
+use Rattle.array_versions.specs.Program.{versioned_read, versioned_write, versioned_update, sense, truth, choose, repeat, store_number, move_word, jump, holds}
 use Rattle.array_versions.specs.Program.{compares}
 use Rattle.array_versions.specs.Program.{both, either, fails, nothing, step}
 use Rattle.array_versions.specs.View.{step_of, steps_of, test_of}
 use Rattle.array_versions.specs.Form.{StepLocalsBelow, TestLocalsBelow, LocalsBelow}
+use Rattle.codegen.specs.declared.bounds.Bound.{Bound}
 use Rattle.codegen.specs.declared.waiting.Waiting.{Waiting}
 use Rattle.codegen.specs.Code.{waiting_source, flushed, top_of, below_top, is_held, any_held, repeated, size, waiting_behind, step_code, steps_code}
 
@@ -43,6 +45,9 @@ step_of-read place list = search (rules, the_lemmas)
 
 pub step_of-write : (place : ArrayPlace) (list : ListPlace) → step_of (VersionedWrite place list) ≡ versioned_write place list
 step_of-write place list = search (rules, the_lemmas)
+
+pub step_of-update : (o : PlainOperation) (place : ArrayPlace) (list : ListPlace) → step_of (VersionedUpdate o place list) ≡ versioned_update o place list
+step_of-update o place list = search (rules, the_lemmas)
 
 pub step_of-choose : (t : WordTest) (p q : Vec WordStep Global) → step_of (Choose t p q) ≡ choose (test_of t) (steps_of p.items) (steps_of q.items)
 step_of-choose t p q = search (rules, the_lemmas)
@@ -68,13 +73,14 @@ left_front xs i x l e =
     ap steps_of (drop-cons xs i x l) ∙ ap (λ y. steps_of (y ∷ drop (suc i) xs)) (sym e) ∙ ap (λ j. steps_of (x ∷ drop j xs)) (sym (add-one i))
 
 -- one more step of what is owed
-pub step_owed : (s : Step) (more : Program) (os os' : List Waiting) (code new all : List Instr) → new ≡ code ++ instructions (step_code os s)
-    → os' ≡ waiting_behind os s → code ++ instructions (steps_code os (step s more)) ≡ all → new ++ instructions (steps_code os' more) ≡ all
-step_owed s more os os' code new all e q h =
-    let rest = steps_code (waiting_behind os s) more in
-    ap (λ ws. new ++ instructions (steps_code ws more)) q ∙ ap (λ l. l ++ instructions rest) e
-    ∙ append_assoc code (instructions (step_code os s)) (instructions rest)
-    ∙ ap (λ l. code ++ l) (sym (instructions-append (step_code os s) rest)) ∙ h
+pub step_owed : (bs : List Bound) (s : Step) (more : Program) (os os' : List Waiting) (code new all : List Instr)
+    → new ≡ code ++ instructions (step_code bs os s) → os' ≡ waiting_behind os s → code ++ instructions (steps_code bs os (step s more)) ≡ all
+    → new ++ instructions (steps_code bs os' more) ≡ all
+step_owed bs s more os os' code new all e q h =
+    let rest = steps_code bs (waiting_behind os s) more in
+    ap (λ ws. new ++ instructions (steps_code bs ws more)) q ∙ ap (λ l. l ++ instructions rest) e
+    ∙ append_assoc code (instructions (step_code bs os s)) (instructions rest)
+    ∙ ap (λ l. code ++ l) (sym (instructions-append (step_code bs os s) rest)) ∙ h
 
 -- two parts, one behind the other
 pub two_behind : (code : List Instr) (a b : List Form) → (code ++ instructions a) ++ instructions b ≡ code ++ instructions (a ++ b)
@@ -194,6 +200,7 @@ mutual
   step_locals_up a b (list_entry c w x y k) l h = tt
   step_locals_up a b (versioned_read p q) l h = tt
   step_locals_up a b (versioned_write p q) l h = tt
+  step_locals_up a b (versioned_update o p q) l h = tt
   step_locals_up a b sense l h = tt
   step_locals_up a b (store_number w x) l h = tt
   step_locals_up a b (move_word w x) l h = tt

@@ -22,7 +22,7 @@ near_is : (d : ℕ) → nat_le d 511 ≡ true → d ≤ 511
 near_is d e = grind (arith, nat_tests)
 
 -- a jump on, by up to 511 words
-near_distance : (d : ℕ) → d ≤ 511 → distance d ≡ 2 * d
+pub near_distance : (d : ℕ) → d ≤ 511 → distance d ≡ 2 * d
 near_distance d l = ap (λ b. (2 * d + (if b then 0 else 0x10000 - 0x800)) % 0x10000) (eq-eqb (d / 0x200) 0 (omega arith)) ∙ omega arith
 
 -- and back

@@ -4,6 +4,7 @@ mod Follows
 mod Parts
 mod Registers
 mod Operands
+mod LoopBounds
 mod Results
 mod Jumps
 mod Choices
@@ -14,10 +15,14 @@ mod Updates
 mod Access
 mod ListParts
 mod VersionParts
+mod UpdateBytes
+mod UpdateSides
+mod VersionUpdates
 mod ShiftParts
 mod Products
 mod Quotients
 mod Emitted
+mod UpdateEmitted
 mod Prefixes
 mod Lengths
 mod Whole

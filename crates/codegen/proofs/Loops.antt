@@ -8,17 +8,19 @@ use Rattle.msp_isa.specs.declared.instructions.TwoOp.TheVariants as op
 use Rattle.msp_isa.specs.declared.operands.Konst.TheVariants as konst
 use Rattle.array_versions.specs.machine_effects.World.{put}
 use Rattle.array_versions.proofs.machine_effects.Interface.{put_same}
-use Rattle.code_forms.specs.Forms.{work_number, Core, Number, Constant, Form, Calculate}
+use Rattle.code_forms.specs.Forms.{WorkRegister, R4, work_number, Core, Register, Constant, Ram, ToRegister, ToRam, Form, Move, Calculate, instruction_of}
+use Rattle.code_forms.specs.Forms.{form_bytes}
 use Rattle.code_forms.specs.Code.{Stands, forms_bytes, forms_run, Runs}
-use Rattle.code_forms.proofs.Interface.{stands_front, stands_back, end_of, stands_at, forms_bytes-append}
+use Rattle.code_forms.proofs.Interface.{stands_front, stands_back, end_of, stands_at, form_at, first_forms, forms_bytes-append}
 use Rattle.array_versions.specs.Behaviour.{WordState, End, GoesOn, Jumps, Short, Strays, Broken, Behaviour, with_local, assigned, turns}
 use Rattle.array_versions.specs.Cost.{spent_on, turns_spent}
-use Rattle.codegen.specs.Code.{local_register, local_address, number_code, size, ram_turn_end, turn_end, jump_back, turns_code}
-use Rattle.codegen.proofs.Stretches.{Setting, straight, runs_on}
+use Rattle.codegen.specs.Code.{local_register, local_address, number_source, number_code, size, ram_turn_end, turn_end, jump_back, turns_code}
+use Rattle.codegen.proofs.Stretches.{Setting, straight, runs_on, dearer, so_runs}
 use Rattle.codegen.proofs.Memory.{local_words, in_register, in_ram, Memory, local_needs, set_register, set_ram}
 use Rattle.codegen.proofs.Follows.{StandsFor, Follows, OnGoesOn, more_cycles, then_end, then_way, ends_at}
 use Rattle.codegen.proofs.Parts.{local_number}
-use Rattle.codegen.proofs.Registers.{equal_flag}
+use Rattle.codegen.proofs.Registers.{Has}
+use Rattle.codegen.proofs.Operands.{Compared, compare_number}
 use Rattle.codegen.proofs.Jumps.{whole_size, Decided, back_part}
 
 -- what is spent behind a turn, with the turn's own part in front
@@ -34,22 +36,31 @@ module _ (z : Setting) where
   abbrev pub Raised : ℕ → ℕ → ℕ → ℕ → WordState → Core → Type 0
   Raised pc n k below w t = Decided z pc (with_local n k w) (not (k == below)) condition.NotEqual condition.Equal t
 
+  -- behind the addition the local is compared
+  compare_raised : (r : WorkRegister) (pc n k below : ℕ) (w : WordState) (t : Core) → k < 0x10000 → below < 0x10000
+      → (let m = Calculate op.Cmp (number_source below) r in z.code pc ≡ Some (instruction_of m) → Has z r pc (with_local n k w) k t
+      → Runs z.code [] 2 t (Raised (pc + form_bytes m) n k below w))
+  compare_raised r pc n k below w t l lb h i =
+      let end = pc + form_bytes (Calculate op.Cmp (number_source below) r) in
+      so_runs z [] 2 t (Compared z end (with_local n k w) t.work k below) _
+      (λ u j. record { is = j.is; holds = ap not j.zero; fails = j.zero ∙ sym (not-not (k == below)) })
+      (compare_number z r pc k below (with_local n k w) t l lb i.value i.is h)
+
   raise_by : (b : Bool) (pc n k below : ℕ) (w : WordState) (u : Core) → nat_lt n 8 ≡ b → n < z.locals → w.locals n ≡ Some k → k + 1 < 0x10000
       → below < 0x10000
-      → (let ms : List Form = if b then Calculate op.Add (Constant konst.One) (local_register n) ∷ Calculate op.Cmp (Number below) (local_register n) ∷ []
-      else (ram_turn_end n below) in
+      → (let ms : List Form = if b then Calculate op.Add (Constant konst.One) (local_register n) ∷ Calculate op.Cmp (number_source below) (local_register n)
+      ∷ [] else (ram_turn_end n below) in
       Stands z.code pc ms → StandsFor z pc w u → Runs z.code [] 10 u (Raised (pc + forms_bytes ms) n (k + 1) below w))
   raise_by true pc n k below w u b lt q l lb h i =
-      let r = work_number (local_register n) in
-      let ms = Calculate op.Add (Constant konst.One) (local_register n) ∷ Calculate op.Cmp (Number below) (local_register n) ∷ [] in
+      let to = local_register n in
+      let r = work_number to in
+      let ms = Calculate op.Add (Constant konst.One) to ∷ [] in
+      let last = Calculate op.Cmp (number_source below) to in
       let word = in_register u.work u.ram n b ∙ i.memory.vars n k lt q in
       let next : (u.work r + 1 + 0) % 0x10000 ≡ k + 1 = omega (arith, word) in
-      let made : ℕ → ℕ = put u.work r ((u.work r + 1 + 0) % 0x10000) in
-      let there : made r ≡ k + 1 = put_same u.work r ((u.work r + 1 + 0) % 0x10000) ∙ next in
-      let flag : ((made r + (0xFFFF - below) + 1) % 0x10000 == 0) ≡ ((k + 1) == below) =
-      ap (λ x. (x + (0xFFFF - below) + 1) % 0x10000 == 0) there ∙ equal_flag (k + 1) below l lb in
-      straight z ms 10 u (end_of u (forms_run ms u).status) [] 3 _ (tt, (tt, tt)) (stands_at z.code pc ms u h i.at) ((tt, tt), ((tt, tt), tt)) refl
-      (omega arith)
+      let end : pc + 2 + form_bytes last ≡ pc + forms_bytes (Calculate op.Add (Constant konst.One) to ∷ last ∷ []) = omega arith in
+      let added = straight z ms 1 u (end_of u (forms_run ms u).status) [] 1 (Has z to (pc + 2) (with_local n (k + 1) w) (k + 1)) (tt, tt)
+      (stands_at z.code pc ms u (h.0, tt) i.at) ((tt, tt), tt) refl (omega arith)
       (record {
         is =
             record {
@@ -60,19 +71,22 @@ module _ (z : Setting) where
               fram = i.fram;
               readings = i.readings;
             };
-        holds = ap not flag;
-        fails = flag ∙ sym (not-not ((k + 1) == below));
-      })
+        value = put_same u.work r ((u.work r + 1 + 0) % 0x10000) ∙ next;
+      }) in
+      subst (λ p. Runs z.code [] 10 u (Raised p n (k + 1) below w)) end
+      (dearer z [] 3 10 u _ (omega arith) (runs_on z 1 2 u (Has z to (pc + 2) (with_local n (k + 1) w) (k + 1)) _ [] [] added
+      (λ t j. compare_raised to (pc + 2) n (k + 1) below w t l lb h.1.0 j)))
   raise_by false pc n k below w u b lt q l lb h i =
       let a = local_address n in
-      let ms = ram_turn_end n below in
+      let ms = Move (Ram a) (ToRegister R4) ∷ Calculate op.Add (Constant konst.One) R4 ∷ Move (Register R4) (ToRam a) ∷ [] in
+      let last = Calculate op.Cmp (number_source below) R4 in
+      let all = ram_turn_end n below in
       let word = in_ram (local_words u.work) u.ram n b ∙ i.memory.vars n k lt q in
       let next : (u.ram a + 1 + 0) % 0x10000 ≡ k + 1 = omega (arith, word) in
-      let flag : (((u.ram a + 1 + 0) % 0x10000 + (0xFFFF - below) + 1) % 0x10000 == 0) ≡ ((k + 1) == below) =
-      ap (λ x. (x + (0xFFFF - below) + 1) % 0x10000 == 0) next ∙ equal_flag (k + 1) below l lb in
       let needs = local_needs z n lt in
-      straight z ms 10 u (end_of u (forms_run ms u).status) [] 10 _ (tt, (tt, (tt, (tt, tt)))) (stands_at z.code pc ms u h i.at)
-      ((needs, tt), ((tt, tt), ((tt, needs), ((tt, tt), tt)))) refl (omega arith)
+      let end : pc + 10 + form_bytes last ≡ pc + forms_bytes all = omega arith in
+      let added = straight z ms 8 u (end_of u (forms_run ms u).status) [] 8 (Has z R4 (pc + 10) (with_local n (k + 1) w) (k + 1)) (tt, (tt, (tt, tt)))
+      (stands_at z.code pc ms u (first_forms z.code pc 3 all h) i.at) ((needs, tt), ((tt, tt), ((tt, needs), tt))) refl (omega arith)
       (record {
         is =
             record {
@@ -83,9 +97,11 @@ module _ (z : Setting) where
               fram = i.fram;
               readings = i.readings;
             };
-        holds = ap not flag;
-        fails = flag ∙ sym (not-not ((k + 1) == below));
-      })
+        value = next;
+      }) in
+      subst (λ p. Runs z.code [] 10 u (Raised p n (k + 1) below w)) end
+      (runs_on z 8 2 u (Has z R4 (pc + 10) (with_local n (k + 1) w) (k + 1)) _ [] [] added
+      (λ t j. compare_raised R4 (pc + 10) n (k + 1) below w t l lb (form_at z.code pc 3 all last h refl) j))
 
   raise_part : (pc n k below : ℕ) (w : WordState) (u : Core) → n < z.locals → w.locals n ≡ Some k → k + 1 < 0x10000 → below < 0x10000
       → Stands z.code pc (turn_end n below) → StandsFor z pc w u → Runs z.code [] 10 u (Raised (pc + forms_bytes (turn_end n below)) n (k + 1) below w)

@@ -1,26 +1,33 @@
 -- Words that wait to be pushed: what the machine stands for where some do, how they are pushed, and how they come to registers.
-use Rattle.std.proofs.Common.{◌≡◌, ℕ, suc, ◌+◌, ◌-◌, ◌<◌, ◌≤◌, Bool, true, false, nat_lt, if◌then◌else◌, List, [], ◌∷◌, ◌++◌, length, get_or, drop}
-use Rattle.std.proofs.Common.{Option, Some, None, refl, sym, ap, ap₂, ◌∙◌, subst, arith, append_assoc, append-nil, length-append}
+use Rattle.std.proofs.Common.{◌≡◌, ℕ, suc, ◌+◌, ◌-◌, ◌%◌, ◌<◌, ◌≤◌, nat_le, Bool, true, false, nat_lt, if◌then◌else◌, List, [], ◌∷◌, ◌++◌, length, get_or, drop}
+use Rattle.std.proofs.Common.{Option, Some, None, ◌==◌, eqb-true, refl, sym, ap, ap₂, ◌∙◌, subst, arith, append_assoc, append-nil, length-append}
 use Rattle.std.specs.Option.{unwrap_or}
 use Rattle.std.specs.List.{AllByRecursion}
 use Rattle.array_versions.specs.machine_effects.World.{put}
 use Rattle.array_versions.specs.machine_effects.Going.{Goes}
 use Rattle.array_versions.specs.machine_effects.Machine.{IsFram}
-use Rattle.array_versions.specs.machine_effects.msp_cycles.Cycles.{cycles_of, source_cycles, to_register, to_memory}
+use Rattle.msp_isa.specs.declared.instructions.TwoOp.TheVariants as op
+use Rattle.msp_isa.specs.declared.operands.Konst.{Konst}
+use Rattle.msp_isa.specs.declared.operands.Konst.TheVariants as konst
+use Rattle.msp_isa.specs.Constant.{constant_value}
+use Rattle.array_versions.specs.machine_effects.msp_cycles.Cycles.{CycleRow, cycles_of, source_cycles, to_register, to_memory, push}
 use Rattle.array_versions.proofs.machine_effects.Interface.{put_same, put_other}
-use Rattle.code_forms.specs.Forms.{WorkRegister, R4, R5, work_number, Core, Source, source_operand, source_bytes, source_value, source_read, SourceNeeds, ToRegister, Form}
-use Rattle.code_forms.specs.Forms.{Move, Push, HasPushRoom, instruction_of, form_bytes}
-use Rattle.code_forms.specs.Code.{Stands, forms_bytes, Runs}
-use Rattle.code_forms.proofs.Interface.{stands_front, stands_back, forms_bytes-append}
+use Rattle.code_forms.specs.Forms.{WorkRegister, R4, R5, work_number, Core, Source, Register, Number, Constant, source_operand, source_bytes, source_value}
+use Rattle.code_forms.specs.Forms.{source_read, SourceNeeds, ToRegister, Form}
+use Rattle.code_forms.specs.Forms.{Move, Calculate, Push, HasPushRoom, instruction_of, form_bytes}
+use Rattle.code_forms.specs.Code.{Stands, forms_bytes, forms_run, Runs}
+use Rattle.code_forms.proofs.Interface.{stands_at, stands_front, stands_back, end_of, forms_bytes-append}
 use Rattle.array_versions.specs.Behaviour.{WordState, with_stack, pushed}
 use Rattle.codegen.specs.declared.waiting.Waiting.{Waiting}
 use Rattle.codegen.specs.declared.waiting.Waiting.TheVariants as waiting
-use Rattle.codegen.specs.Code.{waiting_source, flushed, top_of, source_from, below_top, any_held, cleared, kept, four_from, five_from, top_to_four}
+use Rattle.codegen.specs.Code.{number_source, waiting_source, flushed, top_of, source_from, below_top, any_held, cleared, kept, four_from, five_from}
+use Rattle.codegen.specs.Code.{top_to_four}
+use Rattle.codegen.specs.Code.{stays, sides, right_source}
 use Rattle.codegen.specs.Code.{top_to_five, two_to_registers}
-use Rattle.codegen.proofs.Stretches.{Setting, hop, runs_on, dearer, nothing_run, so_runs}
+use Rattle.codegen.proofs.Stretches.{Setting, straight, hop, runs_on, dearer, nothing_run, so_runs}
 use Rattle.codegen.proofs.Memory.{local_words, in_register, Memory, pop_memory, pop_needs, push_needs, push_memory}
 use Rattle.codegen.proofs.Follows.{StandsFor, stands_elsewhere, memory_as}
-use Rattle.codegen.proofs.Registers.{Has}
+use Rattle.codegen.proofs.Registers.{no_borrow, equal_flag, Has}
 
 -- ---- what a word that waits is, and what it has paid for
 
@@ -63,7 +70,21 @@ abbrev pub owed : List Waiting → ℕ
 owed [] = 0
 owed (o ∷ os) = owed os + owed_by o
 
-owed_least : (o : Waiting) → 3 ≤ owed_by o
+-- what holds of an immediate number and of the constants holds of a number as a source
+pick : (P : Source → Type 0) (b : Bool) (x y : Source) → (b ≡ true → P x) → P y → P (if b then x else y)
+pick P true x y f p = f refl
+pick P false x y f p = p
+
+pub number_cases : (P : Source → Type 0) (n : ℕ) → P (Number n) → ((k : Konst) → constant_value k ≡ n → P (Constant k)) → P (number_source n)
+number_cases P n p f =
+    pick P (n == 0) _ _ (λ e. f konst.Zero (sym (eqb-true n 0 e))) (pick P (n == 1) _ _ (λ e. f konst.One (sym (eqb-true n 1 e)))
+    (pick P (n == 2) _ _ (λ e. f konst.Two (sym (eqb-true n 2 e))) (pick P (n == 4) _ _ (λ e. f konst.Four (sym (eqb-true n 4 e)))
+    (pick P (n == 8) _ _ (λ e. f konst.Eight (sym (eqb-true n 8 e))) (pick P (n == 0xFFFF) _ _ (λ e. f konst.MinusOne (sym (eqb-true n 0xFFFF e))) p)))))
+
+pub number_price : (row : CycleRow) (n most : ℕ) → row.immediate ≤ most → row.register ≤ most → source_cycles row (source_operand (number_source n)) ≤ most
+number_price row n most a b = number_cases (λ s. source_cycles row (source_operand s) ≤ most) n a (λ k e. b)
+
+pub owed_least : (o : Waiting) → 3 ≤ owed_by o
 owed_least (waiting.Number n) = omega arith
 owed_least (waiting.Fram a) = omega arith
 owed_least (waiting.Local n) = omega arith
@@ -71,7 +92,7 @@ owed_least waiting.R4 = omega arith
 owed_least waiting.R6 = omega arith
 
 push_cycles : (o : Waiting) → cycles_of (instruction_of (Push (waiting_source o))) ≤ owed_by o
-push_cycles (waiting.Number n) = omega arith
+push_cycles (waiting.Number n) = number_price push n 4 (omega arith) (omega arith)
 push_cycles (waiting.Fram a) = omega arith
 push_cycles (waiting.Local n) = omega arith
 push_cycles waiting.R4 = omega arith
@@ -145,7 +166,7 @@ load_cycles (Some o) = 3
 
 pub load_price : (o : Option Waiting) → source_cycles to_register (source_operand (source_from o)) ≤ load_cycles o
 load_price None = omega arith
-load_price (Some (waiting.Number n)) = omega arith
+load_price (Some (waiting.Number n)) = number_price to_register n 3 (omega arith) (omega arith)
 load_price (Some (waiting.Fram a)) = omega arith
 load_price (Some (waiting.Local n)) = omega arith
 load_price (Some waiting.R4) = omega arith
@@ -162,7 +183,7 @@ load_less (Some o) = omega arith
 
 pub store_price : (o : Option Waiting) → source_cycles to_memory (source_operand (source_from o)) ≤ store_cycles o
 store_price None = omega arith
-store_price (Some (waiting.Number n)) = omega arith
+store_price (Some (waiting.Number n)) = number_price to_memory n 6 (omega arith) (omega arith)
 store_price (Some (waiting.Fram a)) = omega arith
 store_price (Some (waiting.Local n)) = omega arith
 store_price (Some waiting.R4) = omega arith
@@ -176,21 +197,61 @@ pub load_owed : (os : List Waiting) → load_cycles (top_of os) + owed (below_to
 load_owed [] = omega arith
 load_owed (o ∷ os) = omega (arith, owed_least o)
 
+-- the cycles in which the right side of an operation comes to where it is read, and those in which the operation reads it, at most
+abbrev pub right_cycles : Option Waiting → ℕ
+right_cycles o = if stays o then 0 else load_cycles o
+
+abbrev pub reading_cycles : Option Waiting → ℕ
+reading_cycles o = if stays o then 3 else 1
+
+reading_by : (b : Bool) (o : Option Waiting) → stays o ≡ b
+    → source_cycles to_register (source_operand (if b then source_from o else (Register R5))) ≤ (if b then 3 else 1)
+reading_by true None e = absurd (let q = e in (cc))
+reading_by true (Some o) e = load_price (Some o)
+reading_by false o e = omega arith
+
+pub reading_price : (o : Option Waiting) → source_cycles to_register (source_operand (right_source o)) ≤ reading_cycles o
+reading_price o = reading_by (stays o) o refl
+
+right_by : (b : Bool) (os : List Waiting) → stays (top_of os) ≡ b
+    → (if b then 0 else load_cycles (top_of os)) + (if b then 3 else 1) + owed (below_top os) ≤ 3 + owed os
+right_by true [] e = absurd (let q = e in (cc))
+right_by true (o ∷ os) e = omega (arith, owed_least o)
+right_by false os e = omega (arith, load_owed os)
+
+pub right_owed : (os : List Waiting) → right_cycles (top_of os) + reading_cycles (top_of os) + owed (below_top os) ≤ 3 + owed os
+right_owed os = right_by (stays (top_of os)) os refl
+
+-- what waits elsewhere than in R4 is the same where R6 is
+word_stays : (f : ℕ → ℕ) (l : ℕ → Option ℕ) (g h : ℕ → ℕ) (o : Waiting) → stays (Some o) ≡ true → g 6 ≡ h 6 → waiting_word f l g o ≡ waiting_word f l h o
+word_stays f l g h (waiting.Number n) e q = refl
+word_stays f l g h (waiting.Fram a) e q = refl
+word_stays f l g h (waiting.Local n) e q = refl
+word_stays f l g h waiting.R4 e q = absurd (let k = e in (cc))
+word_stays f l g h waiting.R6 e q = q
+
 -- ---- a word that waits, as a source
 
-source_still : (o : Waiting) (u : Core) → source_read (waiting_source o) u ≡ u
-source_still (waiting.Number n) u = refl
+pub source_still : (o : Waiting) (u : Core) → source_read (waiting_source o) u ≡ u
+source_still (waiting.Number n) u = number_cases (λ s. source_read s u ≡ u) n refl (λ k e. refl)
 source_still (waiting.Fram a) u = refl
 source_still (waiting.Local n) u = refl
 source_still waiting.R4 u = refl
 source_still waiting.R6 u = refl
 
-source_needs : (most : ℕ) (locals : ℕ → Option ℕ) (o : Waiting) (u : Core) → IsThere most locals o → SourceNeeds (waiting_source o) u
-source_needs most locals (waiting.Number n) u h = tt
+pub source_needs : (most : ℕ) (locals : ℕ → Option ℕ) (o : Waiting) (u : Core) → IsThere most locals o → SourceNeeds (waiting_source o) u
+source_needs most locals (waiting.Number n) u h = number_cases (λ s. SourceNeeds s u) n tt (λ k e. tt)
 source_needs most locals (waiting.Fram a) u h = h
 source_needs most locals (waiting.Local n) u h = tt
 source_needs most locals waiting.R4 u h = tt
 source_needs most locals waiting.R6 u h = tt
+
+-- a register is compared with a number, and is as it was
+pub record Compared (z : Setting) (pc : ℕ) (w : WordState) (g : ℕ → ℕ) (x k : ℕ) (t : Core) : Type 0 where
+  pub is : StandsFor z pc w t
+  pub work : t.work ≡ g
+  pub zero : t.flags.z ≡ (x == k)
+  pub carry : t.flags.c ≡ nat_le k x
 
 -- the machine at this place stands for what the program works on, where these words wait: the stack is their words, and below them the words that are pushed
 pub record Describes (z : Setting) (os : List Waiting) (pc : ℕ) (w : WordState) (u : Core) : Type 0 where
@@ -236,10 +297,18 @@ pub record LoadedTwo (z : Setting) (os : List Waiting) (pc : ℕ) (w : WordState
   pub four : t.work 4 ≡ x
   pub five : t.work 5 ≡ y
 
+-- the left side is in R4, and the right side where an instruction reads it
+pub record LoadedSides (z : Setting) (s : Source) (os : List Waiting) (pc : ℕ) (w : WordState) (x y : ℕ) (t : Core) : Type 0 where
+  pub is : Describes z os pc w t
+  pub four : t.work 4 ≡ x
+  pub right : source_value s t ≡ y
+  pub needs : SourceNeeds s t
+  pub still : source_read s t ≡ t
+
 module _ (z : Setting) where
-  source_word : (o : Waiting) (pc : ℕ) (w : WordState) (u : Core) → StandsFor z pc w u → IsThere z.locals w.locals o
+  pub source_word : (o : Waiting) (pc : ℕ) (w : WordState) (u : Core) → StandsFor z pc w u → IsThere z.locals w.locals o
       → source_value (waiting_source o) u ≡ waiting_word w.fram w.locals u.work o
-  source_word (waiting.Number n) pc w u i h = refl
+  source_word (waiting.Number n) pc w u i h = number_cases (λ s. source_value s u ≡ n) n refl (λ k e. e)
   source_word (waiting.Fram a) pc w u i h = ap (λ f. f a) i.fram
   source_word (waiting.Local n) pc w u i h =
       in_register u.work u.ram n h.in_register ∙ i.memory.vars n h.word h.below h.assigned ∙ sym (ap (λ x. unwrap_or x 0) h.assigned)
@@ -399,6 +468,28 @@ module _ (z : Setting) where
         same = ap (λ (t : Core). t.work) still;
       }
 
+  -- a number by itself is read as a top would be
+  pub number_top : (k pc : ℕ) (w : WordState) (u : Core) → StandsFor z pc w u → Top z (number_source k) [] pc w k w.stack u
+  number_top k pc w u i =
+      let still = source_still (waiting.Number k) u in
+      record {
+        at = i.at;
+        fram = i.fram;
+        value = source_word (waiting.Number k) pc w u i tt;
+        needs = source_needs z.locals w.locals (waiting.Number k) u tt;
+        left = subst (λ t. Describes z [] pc w t) (sym still) (dressed pc w u i);
+        same = ap (λ (t : Core). t.work) still;
+      }
+
+  -- the top waits: its word, and what waits behind it
+  pub drop_part : (o : Waiting) (os : List Waiting) (pc : ℕ) (w : WordState) (v : ℕ) (vs : List ℕ) (u : Core) → w.stack ≡ v ∷ vs → Describes z (o ∷ os) pc w u
+      → Describes z os pc (with_stack vs w) u × (waiting_word w.fram w.locals u.work o ≡ v)
+  drop_part o os pc w v vs u e d =
+      let q = sym e ∙ d.stack in (
+        record { rest = d.rest; is = d.is; stack = tail_is q; there = d.there.1; fits = omega (arith, d.fits, ap (length {A = ℕ}) e) },
+        sym (head_is q),
+      )
+
   -- a word comes to a register in which none of the others waits
   move_part : (b : WorkRegister) (o : Option Waiting) (os : List Waiting) (pc : ℕ) (w : WordState) (v : ℕ) (vs : List ℕ) (u : Core)
       → ((f : ℕ → ℕ) (y : ℕ) → local_words (put f (work_number b) y) ≡ local_words f)
@@ -527,6 +618,58 @@ module _ (z : Setting) where
       })
       (four_part under mid left x vs t refl none (stands_back z.code pc first second h) k.is))
 
+  sides_by : (b : Bool) (os : List Waiting) (pc : ℕ) (w : WordState) (x y : ℕ) (vs : List ℕ) (u : Core) → stays (top_of os) ≡ b → w.stack ≡ y ∷ (x ∷ vs)
+      → any_held (below_top (below_top os)) ≡ false
+      → (let under = below_top os in
+      let first : List Form = if b then [] else five_from (top_of os) in
+      let s : Source = if b then source_from (top_of os) else (Register R5) in
+      let ms = first ++ four_from (top_of under) in Stands z.code pc ms → Describes z os pc w u
+      → Runs z.code [] ((if b then 0 else load_cycles (top_of os)) + load_cycles (top_of under)) u
+      (LoadedSides z s (below_top under) (pc + forms_bytes ms) (with_stack vs w) x y))
+  sides_by true [] pc w x y vs u b e none h d = absurd (let q = b in (cc))
+  sides_by true (o ∷ os) pc w x y vs u b e none h d =
+      let left = with_stack (x ∷ vs) w in
+      let end = pc + forms_bytes (four_from (top_of os)) in
+      let k = drop_part o os pc w y (x ∷ vs) u e d in
+      dearer z [] (load_cycles (top_of os)) (0 + load_cycles (top_of os)) u _ (omega arith)
+      (so_runs z [] (load_cycles (top_of os)) u (Loaded z R4 (below_top os) end (with_stack vs w) x u.work) _
+      (λ t j. record {
+        is = j.is;
+        four = j.value;
+        right = source_word o end (with_stack j.is.rest w) t j.is.is d.there.0
+            ∙ word_stays w.fram w.locals t.work u.work o b (j.others 6 (λ q. omega (arith, q))) ∙ k.1;
+        needs = source_needs z.locals w.locals o t d.there.0;
+        still = source_still o t;
+      })
+      (four_part os pc left x vs u refl none h k.0))
+  sides_by false os pc w x y vs u b e none h d =
+      let under = below_top os in
+      let end = pc + forms_bytes (five_from (top_of os) ++ four_from (top_of under)) in
+      so_runs z [] (load_cycles (top_of os) + load_cycles (top_of under)) u (LoadedTwo z (below_top under) end (with_stack vs w) x y) _
+      (λ t j. record { is = j.is; four = j.four; right = j.five; needs = tt; still = refl })
+      (two_loads os pc w x y vs u e none h d)
+
+  sides_loads : (os : List Waiting) (pc : ℕ) (w : WordState) (x y : ℕ) (vs : List ℕ) (u : Core) → w.stack ≡ y ∷ (x ∷ vs)
+      → any_held (below_top (below_top os)) ≡ false
+      → (let under = below_top os in let ms = (if stays (top_of os) then [] else five_from (top_of os)) ++ four_from (top_of under) in
+      Stands z.code pc ms → Describes z os pc w u → Runs z.code [] (right_cycles (top_of os) + load_cycles (top_of under)) u
+      (LoadedSides z (right_source (top_of os)) (below_top under) (pc + forms_bytes ms) (with_stack vs w) x y))
+  sides_loads os pc w x y vs u e none h d = sides_by (stays (top_of os)) os pc w x y vs u refl e none h d
+
+  pub sides_part : (os : List Waiting) (pc : ℕ) (w : WordState) (x y : ℕ) (vs : List ℕ) (u : Core) → w.stack ≡ y ∷ (x ∷ vs)
+      → Stands z.code pc (sides os) → Describes z os pc w u
+      → (let under = below_top os in Runs z.code [] (clear_cycles (below_top under) + (right_cycles (top_of os) + load_cycles (top_of under))) u
+      (LoadedSides z (right_source (top_of os)) (kept (below_top under)) (pc + forms_bytes (sides os)) (with_stack vs w) x y))
+  sides_part [] pc w x y vs u e h d = sides_loads [] pc w x y vs u e refl h d
+  sides_part (o ∷ []) pc w x y vs u e h d =
+      dearer z [] (right_cycles (Some o) + 2) (0 + (right_cycles (Some o) + 2)) u _ (omega arith) (sides_loads (o ∷ []) pc w x y vs u e refl h d)
+  sides_part (o ∷ (p ∷ os)) pc w x y vs u e h d =
+      let more = (if stays (Some o) then [] else five_from (Some o)) ++ four_from (Some p) in
+      behind_cleared os (o ∷ (p ∷ kept os)) more (right_cycles (Some o) + 3) pc w u
+      (λ n. LoadedSides z (right_source (Some o)) (kept os) n (with_stack vs w) x y)
+      (clear_under (o ∷ (p ∷ [])) os pc w u d (stands_front z.code pc (cleared os) more h)) (λ t k.
+      sides_loads (o ∷ (p ∷ kept os)) (pc + forms_bytes (cleared os)) w x y vs t e (none_held os) (stands_back z.code pc (cleared os) more h) k)
+
   pub two_to_registers_part : (os : List Waiting) (pc : ℕ) (w : WordState) (x y : ℕ) (vs : List ℕ) (u : Core) → w.stack ≡ y ∷ (x ∷ vs)
       → Stands z.code pc (two_to_registers os) → Describes z os pc w u
       → (let under = below_top os in Runs z.code [] (clear_cycles (below_top under) + (load_cycles (top_of os) + load_cycles (top_of under))) u
@@ -576,3 +719,28 @@ module _ (z : Setting) where
         there = (there, d.there);
         fits = omega (arith, room);
       }
+
+  -- ---- a comparison with a number
+
+  pub compare_number : (b : WorkRegister) (pc x k : ℕ) (w : WordState) (t : Core) → x < 0x10000 → k < 0x10000 → t.work (work_number b) ≡ x
+      → StandsFor z pc w t → (let m = Calculate op.Cmp (number_source k) b in z.code pc ≡ Some (instruction_of m)
+      → Runs z.code [] 2 t (Compared z (pc + form_bytes m) w t.work x k))
+  compare_number b pc x k w t l r v i =
+      let zero = ap (λ y. (y + (0xFFFF - k) + 1) % 0x10000 == 0) v ∙ equal_flag x k l r in
+      let carry = ap (λ y. nat_le 0x10000 (y + (0xFFFF - k) + 1)) v ∙ no_borrow x k l r in
+      let P : Source → Type 0 = λ s. let m = Calculate op.Cmp s b in z.code pc ≡ Some (instruction_of m)
+      → Runs z.code [] 2 t (Compared z (pc + form_bytes m) w t.work x k) in
+      number_cases P k
+      (λ h.
+      let ms = Calculate op.Cmp (Number k) b ∷ [] in
+      straight z ms 2 t (end_of t (forms_run ms t).status) [] 2 _ (tt, tt) (stands_at z.code pc ms t (h, tt) i.at) ((tt, tt), tt) refl (omega arith)
+      (record { is = stands_elsewhere z pc (pc + 4) w t _ i (omega (arith, i.at)) refl refl refl refl refl; work = refl; zero = zero; carry = carry }))
+      (λ c e h.
+      let ms = Calculate op.Cmp (Constant c) b ∷ [] in
+      straight z ms 2 t (end_of t (forms_run ms t).status) [] 1 _ (tt, tt) (stands_at z.code pc ms t (h, tt) i.at) ((tt, tt), tt) refl (omega arith)
+      (record {
+        is = stands_elsewhere z pc (pc + 2) w t _ i (omega (arith, i.at)) refl refl refl refl refl;
+        work = refl;
+        zero = ap (λ n. (t.work (work_number b) + (0xFFFF - n) + 1) % 0x10000 == 0) e ∙ zero;
+        carry = ap (λ n. nat_le 0x10000 (t.work (work_number b) + (0xFFFF - n) + 1)) e ∙ carry;
+      }))

@@ -1,25 +1,26 @@
 -- The steps that are straight code: words of FRAM, locals, jumps.
 use Rattle.std.proofs.Common.{◌≡◌, ℕ, ◌+◌, ◌-◌, ◌%◌, ◌<◌, Bool, true, false, nat_lt, List, [], ◌∷◌, length, Option, Some, refl, sym, ap, ◌∙◌, subst, arith}
-use Rattle.std.proofs.Common.{eq-eqb, if◌then◌else◌}
-use Rattle.array_versions.specs.machine_effects.msp_cycles.Cycles.{cycles_of}
+use Rattle.std.proofs.Common.{◌≤◌, eq-eqb, if◌then◌else◌}
+use Rattle.array_versions.specs.machine_effects.msp_cycles.Cycles.{cycles_of, source_cycles, to_register, to_memory}
 use Rattle.array_versions.specs.fram_board.Effects.{Store}
 use Rattle.array_versions.specs.machine_effects.World.{put}
 use Rattle.array_versions.specs.machine_effects.Going.{Goes, At, stretch}
 use Rattle.array_versions.specs.machine_effects.Machine.{IsFram}
 use Rattle.msp_isa.specs.declared.operands.Konst.{Konst}
 use Rattle.msp_isa.specs.Constant.{constant_value}
-use Rattle.code_forms.specs.Forms.{work_number, Core, source_bytes, source_read, Number, Constant, Fram, Ram, ToRegister, ToFram, ToRam, Move, Push, Branch}
+use Rattle.code_forms.specs.Forms.{work_number, Core, Source, source_operand, source_bytes, source_read, Constant, Fram, Ram, ToRegister, ToFram, ToRam}
+use Rattle.code_forms.specs.Forms.{Move, Push, Branch}
 use Rattle.code_forms.specs.Forms.{instruction_of}
 use Rattle.code_forms.specs.Code.{Stands, forms_bytes, forms_run, Runs}
 use Rattle.code_forms.proofs.Interface.{stands_at, end_of}
 use Rattle.array_versions.specs.Behaviour.{WordState, behaves, goes_on, Jumps, broken, with_stack, pushed, stored, with_local, is_place, word_stored, jumped}
 use Rattle.codegen.specs.declared.waiting.Waiting.{Waiting}
 use Rattle.codegen.specs.Laws.{HasJumped}
-use Rattle.codegen.specs.Code.{local_register, local_address, local_target, source_from, number_code}
+use Rattle.codegen.specs.Code.{local_register, local_address, local_target, number_source, source_from, number_code}
 use Rattle.codegen.proofs.Stretches.{Setting, straight, hop}
 use Rattle.codegen.proofs.Memory.{local_words, in_ram, Memory, push_needs, local_needs, push_memory, set_register, set_ram, place_is}
 use Rattle.codegen.proofs.Follows.{StandsFor, Follows, guarded}
-use Rattle.codegen.proofs.Operands.{Top, bare, load_price, load_less, store_cycles, store_price}
+use Rattle.codegen.proofs.Operands.{number_price, Top, bare, number_top, load_price, load_less, store_cycles, store_price}
 
 module _ (z : Setting) where
   pub constant_part : (k : Konst) (pc : ℕ) (w : WordState) (u : Core) → length w.stack < z.room → Stands z.code pc (Push (Constant k) ∷ [])
@@ -51,11 +52,11 @@ module _ (z : Setting) where
         readings = i.readings;
       })
 
-  pub keep_part : (x : Option Waiting) (a pc v : ℕ) (vs : List ℕ) (w : WordState) (u : Core)
-      → (let ms = Move (source_from x) (ToFram a) ∷ [] in Stands z.code pc ms → Top z (source_from x) [] pc w v vs u
-      → Follows z (pc + forms_bytes ms) (store_cycles x) u (word_stored a v (with_stack vs w)))
-  keep_part x a pc v vs w u h k =
-      let s = source_from x in
+  -- a word that a source gives is stored
+  keep_from : (s : Source) (most a pc v : ℕ) (vs : List ℕ) (w : WordState) (u : Core) → source_cycles to_memory (source_operand s) ≤ most
+      → (let ms = Move s (ToFram a) ∷ [] in Stands z.code pc ms → Top z s [] pc w v vs u
+      → Follows z (pc + forms_bytes ms) most u (word_stored a v (with_stack vs w)))
+  keep_from s most a pc v vs w u l h k =
       let m = Move s (ToFram a) in
       let end = pc + forms_bytes (m ∷ []) in
       let t = source_read s u in
@@ -63,18 +64,29 @@ module _ (z : Setting) where
       let to : u.pc + (2 + source_bytes s + 2) ≡ end = omega (arith, k.at) in
       let price = cycles_of (instruction_of m) in
       let after : ℕ → Core = λ y. record t { pc = u.pc + (2 + source_bytes s + 2); fram = put t.fram a y } in
-      guarded z (is_place a) end (store_cycles x) u (goes_on (Store a v ∷ []) (stored a v (with_stack vs w))) (λ g.
-      hop z m (store_cycles x) u (after v) (Store a v ∷ []) price _ (ap z.code k.at ∙ h.0) (k.needs, place_is a g)
-      (ap (λ y. Goes (Store a y ∷ []) price (after y)) k.value) (store_price x)
+      guarded z (is_place a) end most u (goes_on (Store a v ∷ []) (stored a v (with_stack vs w))) (λ g.
+      hop z m most u (after v) (Store a v ∷ []) price _ (ap z.code k.at ∙ h.0) (k.needs, place_is a g)
+      (ap (λ y. Goes (Store a y ∷ []) price (after y)) k.value) l
       (record { at = to; memory = i.memory; fram = ap (λ f. put f a v) i.fram; readings = i.readings }))
 
-  -- by where the local stands
-  set_by : (b : Bool) (x : Option Waiting) (n v pc : ℕ) (vs : List ℕ) (w : WordState) (u : Core) → nat_lt n 8 ≡ b → n < z.locals
-      → (let ms = Move (source_from x) (if b then ToRegister (local_register n) else ToRam (local_address n)) ∷ [] in Stands z.code pc ms
-      → Top z (source_from x) [] pc w v vs u
-      → Runs z.code [] (store_cycles x) u (StandsFor z (pc + forms_bytes ms) (with_local n v (with_stack vs w))))
-  set_by true x n v pc vs w u e lt h k =
-      let s = source_from x in
+  pub keep_part : (x : Option Waiting) (a pc v : ℕ) (vs : List ℕ) (w : WordState) (u : Core)
+      → (let ms = Move (source_from x) (ToFram a) ∷ [] in Stands z.code pc ms → Top z (source_from x) [] pc w v vs u
+      → Follows z (pc + forms_bytes ms) (store_cycles x) u (word_stored a v (with_stack vs w)))
+  keep_part x a pc v vs w u h k = keep_from (source_from x) (store_cycles x) a pc v vs w u (store_price x) h k
+
+  -- a number is
+  pub store_part : (a v pc : ℕ) (w : WordState) (u : Core)
+      → (let ms = Move (number_source v) (ToFram a) ∷ [] in Stands z.code pc ms → StandsFor z pc w u → Follows z (pc + forms_bytes ms) 5 u (word_stored a v w))
+  store_part a v pc w u h i =
+      keep_from (number_source v) 5 a pc v w.stack w u (number_price to_memory v 5 (omega arith) (omega arith)) h (number_top z v pc w u i)
+
+  -- a local becomes a word that a source gives, by where it stands
+  set_by : (b : Bool) (s : Source) (most n v pc : ℕ) (vs : List ℕ) (w : WordState) (u : Core) → nat_lt n 8 ≡ b → n < z.locals
+      → source_cycles to_register (source_operand s) ≤ most → source_cycles to_memory (source_operand s) ≤ most
+      → (let ms = Move s (if b then ToRegister (local_register n) else ToRam (local_address n)) ∷ [] in Stands z.code pc ms
+      → Top z s [] pc w v vs u
+      → Runs z.code [] most u (StandsFor z (pc + forms_bytes ms) (with_local n v (with_stack vs w))))
+  set_by true s most n v pc vs w u e lt p q h k =
       let m = Move s (ToRegister (local_register n)) in
       let t = source_read s u in
       let i = bare z pc (with_stack vs w) t k.left in
@@ -82,61 +94,30 @@ module _ (z : Setting) where
       let price = cycles_of (instruction_of m) in
       let to : u.pc + (2 + source_bytes s + 0) ≡ pc + forms_bytes (m ∷ []) = omega (arith, k.at) in
       let after : ℕ → Core = λ y. record t { pc = u.pc + (2 + source_bytes s + 0); work = put t.work r y } in
-      hop z m (store_cycles x) u (after v) [] price _ (ap z.code k.at ∙ h.0) (k.needs, tt) (ap (λ y. Goes [] price (after y)) k.value)
-      (omega (arith, load_price x, load_less x))
+      hop z m most u (after v) [] price _ (ap z.code k.at ∙ h.0) (k.needs, tt) (ap (λ y. Goes [] price (after y)) k.value) p
       (record { at = to; memory = set_register z t.sp n v t.ram t.work vs w.locals e i.memory; fram = i.fram; readings = i.readings })
-  set_by false x n v pc vs w u e lt h k =
-      let s = source_from x in
+  set_by false s most n v pc vs w u e lt p q h k =
       let m = Move s (ToRam (local_address n)) in
       let t = source_read s u in
       let i = bare z pc (with_stack vs w) t k.left in
       let price = cycles_of (instruction_of m) in
       let to : u.pc + (2 + source_bytes s + 2) ≡ pc + forms_bytes (m ∷ []) = omega (arith, k.at) in
       let after : ℕ → Core = λ y. record t { pc = u.pc + (2 + source_bytes s + 2); ram = put t.ram (local_address n) y } in
-      hop z m (store_cycles x) u (after v) [] price _ (ap z.code k.at ∙ h.0) (k.needs, local_needs z n lt) (ap (λ y. Goes [] price (after y)) k.value)
-      (store_price x)
+      hop z m most u (after v) [] price _ (ap z.code k.at ∙ h.0) (k.needs, local_needs z n lt) (ap (λ y. Goes [] price (after y)) k.value) q
       (record { at = to; memory = set_ram z t.sp n v t.ram (local_words t.work) vs w.locals e lt i.memory; fram = i.fram; readings = i.readings })
 
   pub set_part : (x : Option Waiting) (n v pc : ℕ) (vs : List ℕ) (w : WordState) (u : Core) → n < z.locals
       → (let ms = Move (source_from x) (local_target n) ∷ [] in Stands z.code pc ms → Top z (source_from x) [] pc w v vs u
       → Runs z.code [] (store_cycles x) u (StandsFor z (pc + forms_bytes ms) (with_local n v (with_stack vs w))))
-  set_part x n v pc vs w u lt h k = set_by (nat_lt n 8) x n v pc vs w u refl lt h k
+  set_part x n v pc vs w u lt h k =
+      set_by (nat_lt n 8) (source_from x) (store_cycles x) n v pc vs w u refl lt (omega (arith, load_price x, load_less x)) (store_price x) h k
 
   -- a local's first number
-  number_by : (b : Bool) (n k pc : ℕ) (w : WordState) (u : Core) → nat_lt n 8 ≡ b → n < z.locals
-      → (let ms = Move (Number k) (if b then ToRegister (local_register n) else ToRam (local_address n)) ∷ [] in Stands z.code pc ms → StandsFor z pc w u
-      → Runs z.code [] 5 u (StandsFor z (pc + forms_bytes ms) (with_local n k w)))
-  number_by true n k pc w u e lt h i =
-      let ms = Move (Number k) (ToRegister (local_register n)) ∷ [] in
-      straight z ms 5 u (end_of u (forms_run ms u).status) [] 2 _ (tt, tt) (stands_at z.code pc ms u h i.at) ((tt, tt), tt) refl (omega arith)
-      (record {
-        at = omega (arith, i.at);
-        memory = set_register z u.sp n k u.ram u.work w.stack w.locals e i.memory;
-        fram = i.fram;
-        readings = i.readings;
-      })
-  number_by false n k pc w u e lt h i =
-      let ms = Move (Number k) (ToRam (local_address n)) ∷ [] in
-      straight z ms 5 u (end_of u (forms_run ms u).status) [] 5 _ (tt, tt) (stands_at z.code pc ms u h i.at) ((tt, local_needs z n lt), tt) refl (omega arith)
-      (record {
-        at = omega (arith, i.at);
-        memory = set_ram z u.sp n k u.ram (local_words u.work) w.stack w.locals e lt i.memory;
-        fram = i.fram;
-        readings = i.readings;
-      })
-
   pub local_number : (n k pc : ℕ) (w : WordState) (u : Core) → n < z.locals → Stands z.code pc (number_code n k) → StandsFor z pc w u
       → Runs z.code [] 5 u (StandsFor z (pc + forms_bytes (number_code n k)) (with_local n k w))
-  local_number n k pc w u lt h i = number_by (nat_lt n 8) n k pc w u refl lt h i
-
-  pub store_part : (a v pc : ℕ) (w : WordState) (u : Core) → Stands z.code pc (Move (Number v) (ToFram a) ∷ []) → StandsFor z pc w u
-      → Follows z (pc + 6) 5 u (word_stored a v w)
-  store_part a v pc w u h i =
-      let ms = Move (Number v) (ToFram a) ∷ [] in
-      guarded z (is_place a) (pc + 6) 5 u (goes_on (Store a v ∷ []) (stored a v w)) (λ g.
-      straight z ms 5 u (end_of u (forms_run ms u).status) (Store a v ∷ []) 5 _ (tt, tt) (stands_at z.code pc ms u h i.at) ((tt, place_is a g), tt) refl
-      (omega arith)
-      (record { at = omega (arith, i.at); memory = i.memory; fram = ap (λ f. put f a v) i.fram; readings = i.readings }))
+  local_number n k pc w u lt h i =
+      set_by (nat_lt n 8) (number_source k) 5 n k pc w.stack w u refl lt (number_price to_register k 5 (omega arith) (omega arith))
+      (number_price to_memory k 5 (omega arith) (omega arith)) h (number_top z k pc w u i)
 
   pub move_part : (from to pc : ℕ) (w : WordState) (u : Core) → IsFram from → Stands z.code pc (Move (Fram from) (ToFram to) ∷ []) → StandsFor z pc w u
       → Follows z (pc + 6) 6 u (word_stored to (w.fram from) w)

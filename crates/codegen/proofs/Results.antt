@@ -1,13 +1,24 @@
 -- Steps where words wait: values that come to wait in a register, and statements behind which none waits.
-use Rattle.std.proofs.Common.{◌≡◌, ℕ, ◌+◌, ◌*◌, ◌<◌, ◌≤◌, ◌==◌, Bool, true, false, nat_lt, if◌then◌else◌, List, [], ◌∷◌, ◌++◌, length, Some, refl}
-use Rattle.std.proofs.Common.{ap, ◌∙◌, subst, arith}
+use Rattle.std.proofs.Common.{◌≡◌, ℕ, ◌+◌, ◌*◌, ◌<◌, ◌≤◌, ◌-◌, ◌/◌, ◌%◌, ◌^◌, ◌==◌, ◌&&◌, Bool, true, false, nat_lt, if◌then◌else◌, List, [], ◌∷◌, ◌++◌}
+use Rattle.std.proofs.Common.{length, Option, Some, None}
+use Rattle.std.proofs.Common.{refl, sym, ap, ap₂, ◌∙◌, subst, arith, bit_and, w16, ltb-true, eqb-true, ne_eqb, le-leb}
+use Rattle.std.specs.Int.{trailing_zeros}
+use Rattle.std.proofs.lemmas.Bool.{and_parts}
+use Rattle.std.proofs.lemmas.Option.{same_Some}
+use Rattle.std.proofs.lemmas.Nat.{and_mask, pow_pos}
+use Rattle.msp_isa.specs.alp_words.Words.{word_sum, word_product, quotient, remainder}
+use Rattle.msp_isa.specs.alp_words.declared.Width.TheVariants.{Word}
+use Rattle.array_versions.specs.msp_step.Effect.{operated}
+use Rattle.array_versions.specs.machine_effects.msp_cycles.Cycles.{cycles_of, source_cycles, to_register}
+use Rattle.array_versions.specs.machine_effects.Going.{Goes}
 use Rattle.std.specs.Option.{unwrap_or}
 use Rattle.std.specs.List.{AllByRecursion}
 use Rattle.array_versions.specs.fram_board.Effects.{Take}
 use Rattle.array_versions.specs.machine_effects.World.{put}
 use Rattle.array_versions.specs.machine_effects.Machine.{IsFram}
 use Rattle.code_forms.specs.Forms as forms
-use Rattle.code_forms.specs.Forms.{WorkRegister, R4, R5, R6, work_number, Core, Form, Move, Update, Push, Ram, ToFram, sensed}
+use Rattle.code_forms.specs.Forms.{WorkRegister, R4, R5, R6, work_number, Core, Source, Register, source_operand, source_bytes, source_value, Form, Move}
+use Rattle.code_forms.specs.Forms.{Calculate, Update, Push, Ram, ToFram, sensed, flags_after, calculated, instruction_of, form_bytes}
 use Rattle.code_forms.specs.Code.{Stands, forms_bytes, Runs}
 use Rattle.code_forms.proofs.Interface.{stands_front, stands_back, forms_bytes-append}
 use Rattle.array_versions.specs.declared.program.ArrayPlace.{ArrayPlace}
@@ -17,29 +28,35 @@ use Rattle.array_versions.specs.declared.operations.UnaryOperation.TheVariants.{
 use Rattle.array_versions.specs.declared.operations.BinaryOperation.{BinaryOperation}
 use Rattle.array_versions.specs.declared.operations.BinaryOperation.TheVariants.{Multiply, Divide, Remainder, Plain}
 use Rattle.array_versions.specs.declared.operations.PlainOperation.{PlainOperation}
+use Rattle.array_versions.specs.declared.operations.PlainOperation.TheVariants.{And}
 use Rattle.array_versions.specs.declared.operations.ShiftOperation.{ShiftOperation}
+use Rattle.array_versions.specs.declared.operations.ShiftOperation.TheVariants.{Left, Right}
 use Rattle.array_versions.specs.Operations.{unary_word, plain_word, binary_word, shift_word}
 use Rattle.array_versions.specs.Program.{keep, update, set_local, update_local, unary, binary, shift, element, emit_word, versioned_read, versioned_write}
 use Rattle.array_versions.specs.Program.{sense}
-use Rattle.array_versions.specs.Behaviour.{WordState, Behaviour, goes_on, with_top, with_two, with_stack, with_local, pushed, is_place, at_place, word_stored}
+use Rattle.array_versions.specs.Behaviour.{WordState, Behaviour, GoesOn, goes_on, with_top, with_two, with_stack, with_local, pushed, is_place, at_place}
+use Rattle.array_versions.specs.Behaviour.{word_stored}
 use Rattle.array_versions.specs.Behaviour.{word_emitted, element_pushed, own_element, versioned_pushed, versioned_stored, reading_pushed}
 use Rattle.array_versions.specs.Cost.{unary_cycles, binary_cycles}
+use Rattle.codegen.specs.declared.bounds.Bound.{Bound}
 use Rattle.codegen.specs.declared.waiting.Waiting.{Waiting}
 use Rattle.codegen.specs.declared.waiting.Waiting.TheVariants as waiting
 use Rattle.codegen.specs.Code.{local_address, local_target, flushed, top_of, source_from, below_top, any_held, cleared, kept, top_to_four, top_to_five}
-use Rattle.codegen.specs.Code.{plain_instruction, update_code}
+use Rattle.codegen.specs.Code.{plain_instruction, update_code, sides, right_source, power, known_element, two_code, power_code, power_result}
 use Rattle.codegen.specs.Code.{two_to_registers, unary_middle, binary_middle, binary_result, shift_middle, element_code, emit_code, read_code, write_code}
-use Rattle.codegen.specs.Code.{waiting_behind, step_code}
+use Rattle.codegen.specs.Code.{top_number, element_at, is_inside, waiting_behind, step_code}
 use Rattle.codegen.proofs.Stretches.{Setting, hop, runs_on, dearer_stall, nothing_run, so_runs, starved}
 use Rattle.codegen.proofs.Memory.{place_is}
-use Rattle.codegen.proofs.Follows.{StandsFor, Follows, Reaches, reach_more, then_reach, reaches, reach_guarded}
+use Rattle.codegen.proofs.Follows.{StandsFor, stands_elsewhere, Follows, Reaches, reach_more, then_reach, reaches, reach_guarded}
 use Rattle.codegen.proofs.Registers.{Has, HasTwo}
 use Rattle.codegen.proofs.Operands.{IsThere, owed_by, owed, none_held, clear_cycles, owed_kept, load_cycles, load_owed, store_cycles, store_owed, Describes}
 use Rattle.codegen.proofs.Operands.{Top, Waits, InRegister, LoadedTwo, waiting_word, bare, dressed, flush_under, flush_part, clear_under, below_part}
 use Rattle.codegen.proofs.Operands.{top_to_four_part, top_to_five_part, two_to_registers_part, result_waits, waits_more}
+use Rattle.codegen.proofs.Operands.{LoadedSides, right_cycles, reading_cycles, reading_price, right_owed, sides_part, drop_part}
+use Rattle.codegen.proofs.LoopBounds.{Bounded, top_inside, under_inside}
 use Rattle.codegen.proofs.Parts.{local_part, keep_part, set_part}
-use Rattle.codegen.proofs.Updates.{update_part, update_local_part}
-use Rattle.codegen.proofs.Middles.{UnaryMiddle, BinaryMiddle, plain_middle, negate_middle, complement_middle}
+use Rattle.codegen.proofs.Updates.{plain_needs, update_part, update_local_part}
+use Rattle.codegen.proofs.Middles.{makes, UnaryMiddle, BinaryMiddle, negate_middle, complement_middle}
 use Rattle.codegen.proofs.Products.{multiply_middle}
 use Rattle.codegen.proofs.Quotients.{divide_part, remainder_part}
 use Rattle.codegen.proofs.ShiftParts.{shift_part}
@@ -49,6 +66,29 @@ use Rattle.codegen.proofs.VersionParts.{past_read, own_copy, own_home, write_par
 unary_price : (o : UnaryOperation) → unary_cycles o ≡ 7
 unary_price Negate = refl
 unary_price Complement = refl
+
+-- a power of two
+power_cases : (b : Bool) (k n : ℕ) (j : ℕ) → (nat_lt k 16 && (n == 2 ^ k)) ≡ b → (if b then Some k else None) ≡ Some j → (j < 16) × (n ≡ 2 ^ j)
+power_cases true k n j e q =
+    let same = same_Some k j q in
+    let both = and_parts (nat_lt k 16) (n == 2 ^ k) e in
+    subst (λ m. (m < 16) × (n ≡ 2 ^ m)) same (ltb-true k 16 both.0, eqb-true n (2 ^ k) both.1)
+power_cases false k n j e q = absurd (let r = q in (cc))
+
+power_is : (n k : ℕ) → power n ≡ Some k → (k < 16) × (n ≡ 2 ^ k)
+power_is n k q = let t = trailing_zeros w16 n in power_cases (nat_lt t 16 && (n == 2 ^ t)) t n k refl q
+
+shift_left : (x k : ℕ) → k < 16 → shift_word Left x k ≡ word_product x (2 ^ k)
+shift_left x k l = ap (λ b. if b then word_product x (2 ^ k) else 0) (le-leb k 15 (omega arith))
+
+shift_right : (x k : ℕ) → k < 16 → shift_word Right x k ≡ quotient x (2 ^ k)
+shift_right x k l =
+    ap (λ b. if b then x / 2 ^ k else 0) (le-leb k 15 (omega arith))
+    ∙ sym (ap (λ b. if b then 0xFFFF else x / 2 ^ k) (ne_eqb (2 ^ k) 0 (λ e. let p = pow_pos k in omega arith)))
+
+mask_rest : (x k : ℕ) → bit_and x (2 ^ k - 1) ≡ remainder x (2 ^ k)
+mask_rest x k =
+    and_mask x k ∙ sym (ap (λ b. if b then x else x % 2 ^ k) (ne_eqb (2 ^ k) 0 (λ e. let p = pow_pos k in omega arith)))
 
 module _ (z : Setting) where
   -- what code does, and the words that wait behind it
@@ -110,8 +150,8 @@ module _ (z : Setting) where
   unary_middles Complement = complement_middle z
 
   pub unary_part : (o : UnaryOperation) (os : List Waiting) (pc : ℕ) (w : WordState) (vs : List ℕ) (u : Core) → w.stack ≡ vs
-      → AllByRecursion (λ v. v < 0x10000) vs → Stands z.code pc (step_code os (unary o)) → Describes z os pc w u
-      → Does (waiting_behind os (unary o)) (pc + forms_bytes (step_code os (unary o))) (unary_cycles o + owed os) u
+      → AllByRecursion (λ v. v < 0x10000) vs → Stands z.code pc (step_code [] os (unary o)) → Describes z os pc w u
+      → Does (waiting_behind os (unary o)) (pc + forms_bytes (step_code [] os (unary o))) (unary_cycles o + owed os) u
       (with_top vs (λ v us. goes_on [] (with_stack (unary_word o v ∷ us) w)))
   unary_part o os pc w [] u e l h d = tt
   unary_part o os pc w (y ∷ rest) u e l h d =
@@ -123,8 +163,8 @@ module _ (z : Setting) where
       (λ xs t k. unary_middles o (pc + forms_bytes front) y (with_stack xs w) t l.0 back k)
 
   pub shift_reaches : (o : ShiftOperation) (n : ℕ) (os : List Waiting) (pc : ℕ) (w : WordState) (vs : List ℕ) (u : Core) → w.stack ≡ vs
-      → AllByRecursion (λ v. v < 0x10000) vs → Stands z.code pc (step_code os (shift o n)) → Describes z os pc w u
-      → Does (waiting_behind os (shift o n)) (pc + forms_bytes (step_code os (shift o n))) (15 + owed os) u
+      → AllByRecursion (λ v. v < 0x10000) vs → Stands z.code pc (step_code [] os (shift o n)) → Describes z os pc w u
+      → Does (waiting_behind os (shift o n)) (pc + forms_bytes (step_code [] os (shift o n))) (15 + owed os) u
       (with_top vs (λ v us. goes_on [] (with_stack (shift_word o v n ∷ us) w)))
   shift_reaches o n os pc w [] u e l h d = tt
   shift_reaches o n os pc w (y ∷ rest) u e l h d =
@@ -134,136 +174,6 @@ module _ (z : Setting) where
       value_part R4 front ms 10 15 os pc w y (shift_word o y n) rest u (omega arith) e d
       (top_to_four_part z os pc w y rest u e (stands_front z.code pc front ms h) d)
       (λ xs t k. shift_part z o n (pc + forms_bytes front) y (with_stack xs w) t l.0 back k)
-
-  -- an element, by whether the index is below the length
-  element_by : (b : Bool) (base size : ℕ) (os : List Waiting) (pc : ℕ) (w : WordState) (i : ℕ) (rest : List ℕ) (u : Core) → nat_lt i size ≡ b
-      → size < 0x10000 → i < 0x10000 → w.stack ≡ i ∷ rest → Stands z.code pc (step_code os (element base size)) → Describes z os pc w u
-      → (let a = 2 * i + base in
-      let x : Behaviour = if b then at_place a (goes_on [] (with_stack (w.fram a ∷ rest) w)) else goes_on [] (with_stack (0 ∷ rest) w) in
-      Does (waiting_behind os (element base size)) (pc + forms_bytes (step_code os (element base size))) (15 + owed os) u x)
-  element_by false base size os pc w i rest u lt s r e h d =
-      let front = top_to_four os in
-      let ms = element_code base size in
-      let mid = pc + forms_bytes front in
-      let back = stands_back z.code pc front ms h in
-      value_part R4 front ms 10 15 os pc w i 0 rest u (omega arith) e d
-      (top_to_four_part z os pc w i rest u e (stands_front z.code pc front ms h) d)
-      (λ xs t k. past_end z base size mid s back i (with_stack xs w) t lt r k)
-  element_by true base size os pc w i rest u lt s r e h d =
-      let front = top_to_four os in
-      let ms = element_code base size in
-      let mid = pc + forms_bytes front in
-      let back = stands_back z.code pc front ms h in
-      let a = 2 * i + base in
-      let after = waiting_behind os (element base size) in
-      let end = pc + forms_bytes (front ++ ms) in
-      reach_guarded z (is_place a) (owed after) (Describes z after end) (15 + owed os) u (goes_on [] (with_stack (w.fram a ∷ rest) w)) (λ g.
-      value_part R4 front ms 10 15 os pc w i (w.fram a) rest u (omega arith) e d
-      (top_to_four_part z os pc w i rest u e (stands_front z.code pc front ms h) d)
-      (λ xs t k. before_end z base size mid s back i (with_stack xs w) t lt r (place_is a g) k))
-
-  pub element_reaches : (base size : ℕ) (os : List Waiting) (pc : ℕ) (w : WordState) (vs : List ℕ) (u : Core) → size < 0x10000 → w.stack ≡ vs
-      → AllByRecursion (λ v. v < 0x10000) vs → Stands z.code pc (step_code os (element base size)) → Describes z os pc w u
-      → Does (waiting_behind os (element base size)) (pc + forms_bytes (step_code os (element base size))) (15 + owed os) u
-      (with_top vs (λ i us. element_pushed base size i (with_stack us w)))
-  element_reaches base size os pc w [] u s e l h d = tt
-  element_reaches base size os pc w (i ∷ rest) u s e l h d = element_by (nat_lt i size) base size os pc w i rest u refl s l.0 e h d
-
-  -- ---- versioned reads, where their code stands
-
-  module _ (place : ArrayPlace) (list : ListPlace) (os : List Waiting) (pc : ℕ) (small : place.length < 0x10000)
-      (h : Stands z.code pc (step_code os (versioned_read place list))) (w : WordState) (i : ℕ) (rest : List ℕ) (u : Core) (wl : (a : ℕ) → w.fram a < 0x10000)
-      (r : i < 0x10000) (e : w.stack ≡ i ∷ rest) (d : Describes z os pc w u) where
-    abbrev after_read : List Waiting
-    after_read = waiting_behind os (versioned_read place list)
-
-    abbrev read_end : ℕ
-    read_end = pc + forms_bytes (step_code os (versioned_read place list))
-
-    abbrev read_mid : ℕ
-    read_mid = pc + forms_bytes (top_to_four os)
-
-    -- a word that its code gives
-    read_gives : (v : ℕ) → ((xs : List ℕ) (t : Core) → Stands z.code read_mid (read_code place list) → Has z R4 read_mid (with_stack xs w) i t
-        → Runs z.code [] 18 t (Has z R4 (read_mid + 32) (with_stack xs w) v)) → Does after_read read_end (23 + owed os) u (goes_on [] (with_stack (v ∷ rest) w))
-    read_gives v f =
-        let front = top_to_four os in
-        let ms = read_code place list in
-        value_part R4 front ms 18 23 os pc w i v rest u (omega arith) e d
-        (top_to_four_part z os pc w i rest u e (stands_front z.code pc front ms h) d)
-        (λ xs t k. f xs t (stands_back z.code pc front ms h) k)
-
-    -- by whether the version word is the attempt's number
-    own_by : (b : Bool) → (w.fram list.ver == w.fram (2 * i + place.versions)) ≡ b → nat_lt i place.length ≡ true → IsFram list.ver
-        → IsFram (2 * i + place.versions)
-        → (let c = 2 * i + place.copies in let a = 2 * i + place.elements in
-        let x : Behaviour = if b then at_place c (goes_on [] (with_stack (w.fram c ∷ rest) w)) else at_place a (goes_on [] (with_stack (w.fram a ∷ rest) w)) in
-        Does after_read read_end (23 + owed os) u x)
-    own_by true q lt f g =
-        let c = 2 * i + place.copies in
-        reach_guarded z (is_place c) (owed after_read) (Describes z after_read read_end) (23 + owed os) u (goes_on [] (with_stack (w.fram c ∷ rest) w)) (λ p.
-        read_gives (w.fram c) (λ xs t s k. own_copy z place list read_mid small s i (with_stack xs w) t wl lt r f g q (place_is c p) k))
-    own_by false q lt f g =
-        let a = 2 * i + place.elements in
-        reach_guarded z (is_place a) (owed after_read) (Describes z after_read read_end) (23 + owed os) u (goes_on [] (with_stack (w.fram a ∷ rest) w)) (λ p.
-        read_gives (w.fram a) (λ xs t s k. own_home z place list read_mid small s i (with_stack xs w) t wl lt r f g q (place_is a p) k))
-
-    -- by whether the index is below the length
-    read_by : (b : Bool) → nat_lt i place.length ≡ b
-        → (let x : Behaviour = if b then own_element place list i (with_stack rest w) else goes_on [] (with_stack (0 ∷ rest) w) in
-        Does after_read read_end (23 + owed os) u x)
-    read_by false lt = read_gives 0 (λ xs t s k. past_read z place list read_mid small s i (with_stack xs w) t lt r k)
-    read_by true lt =
-        let m = 2 * i + place.versions in
-        reach_guarded z (is_place list.ver) (owed after_read) (Describes z after_read read_end) (23 + owed os) u _ (λ f.
-        reach_guarded z (is_place m) (owed after_read) (Describes z after_read read_end) (23 + owed os) u _ (λ g.
-        own_by (w.fram list.ver == w.fram m) refl lt (place_is list.ver f) (place_is m g)))
-
-  pub read_reaches : (place : ArrayPlace) (list : ListPlace) (os : List Waiting) (pc : ℕ) (w : WordState) (vs : List ℕ) (u : Core) → place.length < 0x10000
-      → ((a : ℕ) → w.fram a < 0x10000) → w.stack ≡ vs → AllByRecursion (λ v. v < 0x10000) vs → Stands z.code pc (step_code os (versioned_read place list))
-      → Describes z os pc w u → Does (waiting_behind os (versioned_read place list)) (pc + forms_bytes (step_code os (versioned_read place list)))
-      (23 + owed os) u (with_top vs (λ i us. versioned_pushed place list i (with_stack us w)))
-  read_reaches place list os pc w [] u s wl e l h d = tt
-  read_reaches place list os pc w (i ∷ rest) u s wl e l h d = read_by place list os pc s h w i rest u wl l.0 e d (nat_lt i place.length) refl
-
-  -- ---- operations on two words
-
-  binary_by : (o : BinaryOperation) (hand : WorkRegister) (c : ℕ) (os : List Waiting) (pc : ℕ) (w : WordState) (vs : List ℕ) (u : Core)
-      → BinaryMiddle z (binary_middle o) hand c (binary_word o) → IsThere z.locals w.locals (binary_result o) → owed_by (binary_result o) ≡ 3
-      → ((f : ℕ → ℕ) → waiting_word w.fram w.locals f (binary_result o) ≡ f (work_number hand)) → w.stack ≡ vs → AllByRecursion (λ v. v < 0x10000) vs
-      → Stands z.code pc (step_code os (binary o)) → Describes z os pc w u
-      → Does (waiting_behind os (binary o)) (pc + forms_bytes (step_code os (binary o))) (7 + c + owed os) u
-      (with_two vs (λ x y us. goes_on [] (with_stack (binary_word o x y ∷ us) w)))
-  binary_by o hand c os pc w [] u m there three word e l h d = tt
-  binary_by o hand c os pc w (y ∷ []) u m there three word e l h d = tt
-  binary_by o hand c os pc w (y ∷ (x ∷ rest)) u m there three word e l h d =
-      let front = two_to_registers os in
-      let ms = binary_middle o in
-      let r = binary_result o in
-      let first = top_of os in
-      let under = below_top os in
-      let ks = kept (below_top under) in
-      let mid = pc + forms_bytes front in
-      let v = binary_word o x y in
-      let end : mid + forms_bytes ms ≡ pc + forms_bytes (front ++ ms) = omega (arith, forms_bytes-append front ms) in
-      let room : length rest < z.room = omega (arith, d.fits, ap (length {A = ℕ}) e) in
-      let paid : clear_cycles (below_top under) + (load_cycles first + load_cycles (top_of under)) + c + (owed ks + owed_by r) ≤ 7 + c + owed os =
-      omega (arith, three, owed_kept (below_top under), load_owed os, load_owed under) in
-      let back = stands_back z.code pc front ms h in
-      subst (λ p. Does (r ∷ ks) p (7 + c + owed os) u (goes_on [] (with_stack (v ∷ rest) w))) end
-      (after_two hand r ks (clear_cycles (below_top under) + (load_cycles first + load_cycles (top_of under))) c (7 + c + owed os) mid (mid + forms_bytes ms)
-      w x y v rest u (none_held (below_top under)) there room paid word
-      (two_to_registers_part z os pc w x y rest u e (stands_front z.code pc front ms h) d)
-      (λ xs t k. m mid x y (with_stack xs w) t l.1.0 l.0 back k))
-
-  pub binary_part : (o : BinaryOperation) (os : List Waiting) (pc : ℕ) (w : WordState) (vs : List ℕ) (u : Core) → w.stack ≡ vs
-      → AllByRecursion (λ v. v < 0x10000) vs → Stands z.code pc (step_code os (binary o)) → Describes z os pc w u
-      → Does (waiting_behind os (binary o)) (pc + forms_bytes (step_code os (binary o))) (binary_cycles o + owed os) u
-      (with_two vs (λ x y us. goes_on [] (with_stack (binary_word o x y ∷ us) w)))
-  binary_part Multiply os pc w vs u e l h d = binary_by Multiply R6 145 os pc w vs u (multiply_middle z) tt refl (λ f. refl) e l h d
-  binary_part Divide os pc w vs u e l h d = binary_by Divide R4 195 os pc w vs u (divide_part z) tt refl (λ f. refl) e l h d
-  binary_part Remainder os pc w vs u e l h d = binary_by Remainder R6 195 os pc w vs u (remainder_part z) tt refl (λ f. refl) e l h d
-  binary_part (Plain o) os pc w vs u e l h d = binary_by (Plain o) R4 1 os pc w vs u (plain_middle z o) tt refl (λ f. refl) e l h d
 
   -- ---- words that no code brings anywhere
 
@@ -285,6 +195,314 @@ module _ (z : Setting) where
   pub load_part : (a : ℕ) (os : List Waiting) (pc : ℕ) (w : WordState) (u : Core) → length w.stack < z.room → IsFram a → Describes z os pc w u
       → Does (waiting.Fram a ∷ os) (pc + 0) (5 + owed os) u (goes_on [] (pushed (w.fram a) w))
   load_part a os pc w u room f d = waits_part (waiting.Fram a) os pc w (w.fram a) 5 u f refl (omega arith) room d
+
+  -- ---- elements
+
+  -- what an element gives: 0 where the index isn't below the length, else a word of FRAM
+  by_length : (b : Bool) (base size : ℕ) (after : List Waiting) (end most : ℕ) (w : WordState) (i : ℕ) (rest : List ℕ) (u : Core) → nat_lt i size ≡ b
+      → (nat_lt i size ≡ false → Does after end most u (goes_on [] (with_stack (0 ∷ rest) w)))
+      → (nat_lt i size ≡ true → IsFram (2 * i + base) → Does after end most u (goes_on [] (with_stack (w.fram (2 * i + base) ∷ rest) w)))
+      → (let a = 2 * i + base in
+      let x : Behaviour = if b then at_place a (goes_on [] (with_stack (w.fram a ∷ rest) w)) else goes_on [] (with_stack (0 ∷ rest) w) in
+      Does after end most u x)
+  by_length false base size after end most w i rest u lt none there = none lt
+  by_length true base size after end most w i rest u lt none there =
+      let a = 2 * i + base in
+      reach_guarded z (is_place a) (owed after) (Describes z after end) most u (goes_on [] (with_stack (w.fram a ∷ rest) w)) (λ g. there lt (place_is a g))
+
+  -- an element, by whether the index is below the length; whether it surely is decides what its code is
+  element_by : (b : Bool) (base size : ℕ) (os : List Waiting) (pc : ℕ) (w : WordState) (i : ℕ) (rest : List ℕ) (u : Core) → size < 0x10000 → i < 0x10000
+      → (b ≡ true → nat_lt i size ≡ true) → w.stack ≡ i ∷ rest
+      → (let ms = top_to_four os ++ element_code b base size in Stands z.code pc ms → Describes z os pc w u
+      → Does (waiting.R4 ∷ kept (below_top os)) (pc + forms_bytes ms) (15 + owed os) u (element_pushed base size i (with_stack rest w)))
+  element_by b base size os pc w i rest u s r sure e h d =
+      let a = 2 * i + base in
+      let front = top_to_four os in
+      let ms = element_code b base size in
+      let mid = pc + forms_bytes front in
+      let after = waiting.R4 ∷ kept (below_top os) in
+      let end = pc + forms_bytes (front ++ ms) in
+      let back = stands_back z.code pc front ms h in
+      let come = top_to_four_part z os pc w i rest u e (stands_front z.code pc front ms h) d in
+      let none : nat_lt i size ≡ false → Does after end (15 + owed os) u (goes_on [] (with_stack (0 ∷ rest) w)) =
+      λ no. value_part R4 front ms 10 15 os pc w i 0 rest u (omega arith) e d come
+      (λ xs t k. past_end z b base size mid s back i (with_stack xs w) t sure no r k) in
+      let there : nat_lt i size ≡ true → IsFram a → Does after end (15 + owed os) u (goes_on [] (with_stack (w.fram a ∷ rest) w)) =
+      λ yes f. value_part R4 front ms 10 15 os pc w i (w.fram a) rest u (omega arith) e d come
+      (λ xs t k. before_end z b base size mid s back i (with_stack xs w) t yes r f k) in
+      by_length (nat_lt i size) base size after end (15 + owed os) w i rest u refl none there
+
+  -- an element at a number that waits
+  known_by : (base size k : ℕ) (os : List Waiting) (pc : ℕ) (w : WordState) (i : ℕ) (rest : List ℕ) (u : Core) → w.stack ≡ i ∷ rest
+      → Describes z (waiting.Number k ∷ os) pc w u
+      → Does (known_element base size k ∷ os) (pc + 0) (15 + (owed os + 4)) u (element_pushed base size i (with_stack rest w))
+  known_by base size k os pc w i rest u e d =
+      let at = 2 * i + base in
+      let left = with_stack rest w in
+      let x = drop_part z (waiting.Number k) os pc w i rest u e d in
+      let room : length rest < z.room = omega (arith, d.fits, ap (length {A = ℕ}) e) in
+      let one : (o : Waiting) (v : ℕ) → IsThere z.locals w.locals o → waiting_word w.fram w.locals u.work o ≡ v → owed_by o ≤ 5
+      → Does (o ∷ os) (pc + 0) (15 + (owed os + 4)) u (goes_on [] (pushed v left)) =
+      λ o v there word less. reach_more z (owed (o ∷ os)) (Describes z (o ∷ os) (pc + 0)) (5 + owed os) (15 + (owed os + 4)) u [] (GoesOn (pushed v left))
+      (omega arith) (waits_part o os pc left v 5 u there word less room x.0) in
+      let none : nat_lt i size ≡ false → Does (known_element base size k ∷ os) (pc + 0) (15 + (owed os + 4)) u (goes_on [] (with_stack (0 ∷ rest) w)) =
+      λ no. subst (λ c. Does ((if c then waiting.Fram (word_sum base (word_sum k k)) else (waiting.Number 0)) ∷ os) (pc + 0) (15 + (owed os + 4)) u
+      (goes_on [] (with_stack (0 ∷ rest) w))) (sym (ap (λ n. nat_lt n size) x.1 ∙ no)) (one (waiting.Number 0) 0 tt refl (omega arith)) in
+      let there : nat_lt i size ≡ true → IsFram at
+      → Does (known_element base size k ∷ os) (pc + 0) (15 + (owed os + 4)) u (goes_on [] (with_stack (w.fram at ∷ rest) w)) =
+      λ yes f. let high = f.high in
+      let there : word_sum base (word_sum k k) ≡ at = omega (arith, x.1) in
+      subst (λ c. Does ((if c then waiting.Fram (word_sum base (word_sum k k)) else (waiting.Number 0)) ∷ os) (pc + 0) (15 + (owed os + 4)) u
+      (goes_on [] (with_stack (w.fram at ∷ rest) w))) (sym (ap (λ n. nat_lt n size) x.1 ∙ yes))
+      (one (waiting.Fram (word_sum base (word_sum k k))) (w.fram at) (subst IsFram (sym there) f) (ap w.fram there) (omega arith)) in
+      by_length (nat_lt i size) base size (known_element base size k ∷ os) (pc + 0) (15 + (owed os + 4)) w i rest u refl none there
+
+  element_on : (b : Bool) (base size : ℕ) (os : List Waiting) (pc : ℕ) (w : WordState) (i : ℕ) (rest : List ℕ) (u : Core) → size < 0x10000 → i < 0x10000
+      → (b ≡ true → nat_lt i size ≡ true) → w.stack ≡ i ∷ rest
+      → (let ms = element_at b (top_number (top_of os)) os base size in Stands z.code pc ms → Describes z os pc w u
+      → Does (waiting_behind os (element base size)) (pc + forms_bytes ms) (15 + owed os) u (element_pushed base size i (with_stack rest w)))
+  element_on b base size [] pc w i rest u s r sure e h d = element_by b base size [] pc w i rest u s r sure e h d
+  element_on b base size (waiting.Number k ∷ os) pc w i rest u s r sure e h d = known_by base size k os pc w i rest u e d
+  element_on b base size (waiting.Fram a ∷ os) pc w i rest u s r sure e h d = element_by b base size (waiting.Fram a ∷ os) pc w i rest u s r sure e h d
+  element_on b base size (waiting.Local n ∷ os) pc w i rest u s r sure e h d = element_by b base size (waiting.Local n ∷ os) pc w i rest u s r sure e h d
+  element_on b base size (waiting.R4 ∷ os) pc w i rest u s r sure e h d = element_by b base size (waiting.R4 ∷ os) pc w i rest u s r sure e h d
+  element_on b base size (waiting.R6 ∷ os) pc w i rest u s r sure e h d = element_by b base size (waiting.R6 ∷ os) pc w i rest u s r sure e h d
+
+  pub element_reaches : (bs : List Bound) (base size : ℕ) (os : List Waiting) (pc : ℕ) (w : WordState) (vs : List ℕ) (u : Core) → size < 0x10000
+      → Bounded bs w.locals → w.stack ≡ vs → AllByRecursion (λ v. v < 0x10000) vs → Stands z.code pc (step_code bs os (element base size))
+      → Describes z os pc w u
+      → Does (waiting_behind os (element base size)) (pc + forms_bytes (step_code bs os (element base size))) (15 + owed os) u
+      (with_top vs (λ i us. element_pushed base size i (with_stack us w)))
+  element_reaches bs base size os pc w [] u s lb e l h d = tt
+  element_reaches bs base size os pc w (i ∷ rest) u s lb e l h d =
+      element_on (is_inside bs (top_of os) size) base size os pc w i rest u s l.0 (top_inside z bs pc u size os w i rest lb e d) e h d
+
+  -- ---- versioned reads, where their code stands
+
+  module _ (sure : Bool) (place : ArrayPlace) (list : ListPlace) (os : List Waiting) (pc : ℕ) (small : place.length < 0x10000)
+      (h : Stands z.code pc (top_to_four os ++ read_code sure place list)) (w : WordState) (i : ℕ) (rest : List ℕ) (u : Core)
+      (wl : (a : ℕ) → w.fram a < 0x10000) (r : i < 0x10000) (is : sure ≡ true → nat_lt i place.length ≡ true) (e : w.stack ≡ i ∷ rest)
+      (d : Describes z os pc w u) where
+    abbrev after_read : List Waiting
+    after_read = waiting_behind os (versioned_read place list)
+
+    abbrev read_end : ℕ
+    read_end = pc + forms_bytes (top_to_four os ++ read_code sure place list)
+
+    abbrev read_mid : ℕ
+    read_mid = pc + forms_bytes (top_to_four os)
+
+    -- a word that its code gives
+    read_gives : (v : ℕ) → ((xs : List ℕ) (t : Core) → Stands z.code read_mid (read_code sure place list) → Has z R4 read_mid (with_stack xs w) i t
+        → Runs z.code [] 18 t (Has z R4 (read_mid + forms_bytes (read_code sure place list)) (with_stack xs w) v))
+        → Does after_read read_end (23 + owed os) u (goes_on [] (with_stack (v ∷ rest) w))
+    read_gives v f =
+        let front = top_to_four os in
+        let ms = read_code sure place list in
+        value_part R4 front ms 18 23 os pc w i v rest u (omega arith) e d
+        (top_to_four_part z os pc w i rest u e (stands_front z.code pc front ms h) d)
+        (λ xs t k. f xs t (stands_back z.code pc front ms h) k)
+
+    -- by whether the version word is the attempt's number
+    own_by : (b : Bool) → (w.fram list.ver == w.fram (2 * i + place.versions)) ≡ b → nat_lt i place.length ≡ true → IsFram list.ver
+        → IsFram (2 * i + place.versions)
+        → (let c = 2 * i + place.copies in let a = 2 * i + place.elements in
+        let x : Behaviour = if b then at_place c (goes_on [] (with_stack (w.fram c ∷ rest) w)) else at_place a (goes_on [] (with_stack (w.fram a ∷ rest) w)) in
+        Does after_read read_end (23 + owed os) u x)
+    own_by true q lt f g =
+        let c = 2 * i + place.copies in
+        reach_guarded z (is_place c) (owed after_read) (Describes z after_read read_end) (23 + owed os) u (goes_on [] (with_stack (w.fram c ∷ rest) w)) (λ p.
+        read_gives (w.fram c) (λ xs t s k. own_copy z sure place list read_mid small s i (with_stack xs w) t wl lt r f g q (place_is c p) k))
+    own_by false q lt f g =
+        let a = 2 * i + place.elements in
+        reach_guarded z (is_place a) (owed after_read) (Describes z after_read read_end) (23 + owed os) u (goes_on [] (with_stack (w.fram a ∷ rest) w)) (λ p.
+        read_gives (w.fram a) (λ xs t s k. own_home z sure place list read_mid small s i (with_stack xs w) t wl lt r f g q (place_is a p) k))
+
+    -- by whether the index is below the length
+    read_by : (b : Bool) → nat_lt i place.length ≡ b
+        → (let x : Behaviour = if b then own_element place list i (with_stack rest w) else goes_on [] (with_stack (0 ∷ rest) w) in
+        Does after_read read_end (23 + owed os) u x)
+    read_by false lt = read_gives 0 (λ xs t s k. past_read z sure place list read_mid small s i (with_stack xs w) t is lt r k)
+    read_by true lt =
+        let m = 2 * i + place.versions in
+        reach_guarded z (is_place list.ver) (owed after_read) (Describes z after_read read_end) (23 + owed os) u _ (λ f.
+        reach_guarded z (is_place m) (owed after_read) (Describes z after_read read_end) (23 + owed os) u _ (λ g.
+        own_by (w.fram list.ver == w.fram m) refl lt (place_is list.ver f) (place_is m g)))
+
+  pub read_reaches : (bs : List Bound) (place : ArrayPlace) (list : ListPlace) (os : List Waiting) (pc : ℕ) (w : WordState) (vs : List ℕ) (u : Core)
+      → place.length < 0x10000 → ((a : ℕ) → w.fram a < 0x10000) → Bounded bs w.locals → w.stack ≡ vs → AllByRecursion (λ v. v < 0x10000) vs
+      → Stands z.code pc (step_code bs os (versioned_read place list)) → Describes z os pc w u
+      → Does (waiting_behind os (versioned_read place list)) (pc + forms_bytes (step_code bs os (versioned_read place list)))
+      (23 + owed os) u (with_top vs (λ i us. versioned_pushed place list i (with_stack us w)))
+  read_reaches bs place list os pc w [] u s wl lb e l h d = tt
+  read_reaches bs place list os pc w (i ∷ rest) u s wl lb e l h d =
+      let n = place.length in
+      read_by (is_inside bs (top_of os) n) place list os pc s h w i rest u wl l.0 (top_inside z bs pc u n os w i rest lb e d) e d (nat_lt i n) refl
+
+  -- ---- operations on two words
+
+  binary_by : (o : BinaryOperation) (hand : WorkRegister) (c : ℕ) (os : List Waiting) (pc : ℕ) (w : WordState) (x y : ℕ) (rest : List ℕ) (u : Core)
+      → BinaryMiddle z (binary_middle o) hand c (binary_word o) → IsThere z.locals w.locals (binary_result o) → owed_by (binary_result o) ≡ 3
+      → ((f : ℕ → ℕ) → waiting_word w.fram w.locals f (binary_result o) ≡ f (work_number hand)) → w.stack ≡ y ∷ (x ∷ rest) → x < 0x10000 → y < 0x10000
+      → (let ms = two_to_registers os ++ binary_middle o in Stands z.code pc ms → Describes z os pc w u
+      → Does (binary_result o ∷ kept (below_top (below_top os))) (pc + forms_bytes ms) (7 + c + owed os) u
+      (goes_on [] (with_stack (binary_word o x y ∷ rest) w)))
+  binary_by o hand c os pc w x y rest u m there three word e lx ly h d =
+      let front = two_to_registers os in
+      let ms = binary_middle o in
+      let r = binary_result o in
+      let first = top_of os in
+      let under = below_top os in
+      let ks = kept (below_top under) in
+      let mid = pc + forms_bytes front in
+      let v = binary_word o x y in
+      let end : mid + forms_bytes ms ≡ pc + forms_bytes (front ++ ms) = omega (arith, forms_bytes-append front ms) in
+      let room : length rest < z.room = omega (arith, d.fits, ap (length {A = ℕ}) e) in
+      let paid : clear_cycles (below_top under) + (load_cycles first + load_cycles (top_of under)) + c + (owed ks + owed_by r) ≤ 7 + c + owed os =
+      omega (arith, three, owed_kept (below_top under), load_owed os, load_owed under) in
+      let back = stands_back z.code pc front ms h in
+      subst (λ p. Does (r ∷ ks) p (7 + c + owed os) u (goes_on [] (with_stack (v ∷ rest) w))) end
+      (after_two hand r ks (clear_cycles (below_top under) + (load_cycles first + load_cycles (top_of under))) c (7 + c + owed os) mid (mid + forms_bytes ms)
+      w x y v rest u (none_held (below_top under)) there room paid word
+      (two_to_registers_part z os pc w x y rest u e (stands_front z.code pc front ms h) d)
+      (λ xs t k. m mid x y (with_stack xs w) t lx ly back k))
+
+  -- the instruction of an operation, on R4 and the right side where that is read
+  plain_form : (o : PlainOperation) (s : Source) (c pc x y : ℕ) (ks : List Waiting) (w : WordState) (vs : List ℕ) (t : Core)
+      → source_cycles to_register (source_operand s) ≤ c → x < 0x10000 → y < 0x10000 → any_held ks ≡ false → length vs < z.room
+      → (let m = Calculate (plain_instruction o) s R4 in z.code pc ≡ Some (instruction_of m) → LoadedSides z s ks pc (with_stack vs w) x y t
+      → Runs z.code [] c t (Describes z (waiting.R4 ∷ ks) (pc + form_bytes m) (with_stack (plain_word o x y ∷ vs) w)))
+  plain_form o s c pc x y ks w vs t l lx ly none room h k =
+      let m = Calculate (plain_instruction o) s R4 in
+      let price = cycles_of (instruction_of m) in
+      let v = plain_word o x y in
+      let shape : Core → Core = λ q. calculated (plain_instruction o) R4 (operated (plain_instruction o) Word (q.work 4) (source_value s t) t.flags)
+      (record q { pc = t.pc + (2 + source_bytes s) }) in
+      let does = operated (plain_instruction o) Word (t.work 4) (source_value s t) t.flags in
+      let is : does.value ≡ v = ap₂ (λ p q. (operated (plain_instruction o) Word p q t.flags).value) k.four k.right ∙ makes o x y t.flags lx ly in
+      let needs = plain_needs o in
+      let after : (ℕ → ℕ) → Core = λ f. record t { pc = t.pc + (2 + source_bytes s); flags = flags_after does.flags t.flags; work = f } in
+      let q = k.is in
+      hop z m c t (after (put t.work 4 v)) [] price _ (ap z.code q.is.at ∙ h) (needs.0, k.needs)
+      (ap (λ a. Goes [] price (shape a)) k.still
+      ∙ ap (λ b. Goes [] price (after (if b then put t.work 4 does.value else t.work))) needs.1 ∙ ap (λ p. Goes [] price (after (put t.work 4 p))) is) l
+      (result_waits z waiting.R4 ks (pc + form_bytes m) w v vs q.rest t.work (after (put t.work 4 v)) q.stack (tt, q.there) none room refl
+      (stands_elsewhere z pc (pc + form_bytes m) (with_stack q.rest w) t (after (put t.work 4 v)) q.is (ap (λ p. p + (2 + source_bytes s)) q.is.at)
+      refl refl refl refl refl))
+
+  plain_by : (o : PlainOperation) (os : List Waiting) (pc : ℕ) (w : WordState) (x y : ℕ) (rest : List ℕ) (u : Core) → w.stack ≡ y ∷ (x ∷ rest)
+      → x < 0x10000 → y < 0x10000
+      → (let ms = sides os ++ Calculate (plain_instruction o) (right_source (top_of os)) R4 ∷ [] in Stands z.code pc ms → Describes z os pc w u
+      → Does (waiting.R4 ∷ kept (below_top (below_top os))) (pc + forms_bytes ms) (8 + owed os) u (goes_on [] (with_stack (plain_word o x y ∷ rest) w)))
+  plain_by o os pc w x y rest u e lx ly h d =
+      let front = sides os in
+      let s = right_source (top_of os) in
+      let m = Calculate (plain_instruction o) s R4 in
+      let under = below_top os in
+      let ks = kept (below_top under) in
+      let mid = pc + forms_bytes front in
+      let v = plain_word o x y in
+      let l = clear_cycles (below_top under) + (right_cycles (top_of os) + load_cycles (top_of under)) in
+      let c = reading_cycles (top_of os) in
+      let end : mid + form_bytes m ≡ pc + forms_bytes (front ++ m ∷ []) = omega (arith, forms_bytes-append front (m ∷ [])) in
+      let room : length rest < z.room = omega (arith, d.fits, ap (length {A = ℕ}) e) in
+      let back = stands_back z.code pc front (m ∷ []) h in
+      subst (λ p. Does (waiting.R4 ∷ ks) p (8 + owed os) u (goes_on [] (with_stack (v ∷ rest) w))) end
+      (record {
+        spent = l + c;
+        within = omega (arith, owed_kept (below_top under), right_owed os, load_owed under);
+        runs = runs_on z l c u (LoadedSides z s ks mid (with_stack rest w) x y) _ [] []
+            (sides_part z os pc w x y rest u e (stands_front z.code pc front (m ∷ []) h) d)
+            (λ t k. plain_form o s c mid x y ks w rest t (reading_price (top_of os)) lx ly (none_held (below_top under)) room back.0 k);
+      })
+
+  two_part : (o : BinaryOperation) (os : List Waiting) (pc : ℕ) (w : WordState) (x y : ℕ) (rest : List ℕ) (u : Core) → w.stack ≡ y ∷ (x ∷ rest)
+      → x < 0x10000 → y < 0x10000 → Stands z.code pc (two_code os o) → Describes z os pc w u
+      → Does (binary_result o ∷ kept (below_top (below_top os))) (pc + forms_bytes (two_code os o)) (binary_cycles o + owed os) u
+      (goes_on [] (with_stack (binary_word o x y ∷ rest) w))
+  two_part Multiply os pc w x y rest u e lx ly h d = binary_by Multiply R6 145 os pc w x y rest u (multiply_middle z) tt refl (λ f. refl) e lx ly h d
+  two_part Divide os pc w x y rest u e lx ly h d = binary_by Divide R4 195 os pc w x y rest u (divide_part z) tt refl (λ f. refl) e lx ly h d
+  two_part Remainder os pc w x y rest u e lx ly h d = binary_by Remainder R6 195 os pc w x y rest u (remainder_part z) tt refl (λ f. refl) e lx ly h d
+  two_part (Plain o) os pc w x y rest u e lx ly h d = plain_by o os pc w x y rest u e lx ly h d
+
+  -- by a power of two: the number that waits on top is no more than known
+  by_shift : (o : ShiftOperation) (n k most v : ℕ) (os : List Waiting) (pc : ℕ) (w : WordState) (x : ℕ) (rest : List ℕ) (u : Core) → 15 ≤ most
+      → shift_word o x k ≡ v → x < 0x10000 → w.stack ≡ n ∷ (x ∷ rest)
+      → (let ms = top_to_four os ++ shift_middle o k in Stands z.code pc ms → Describes z (waiting.Number n ∷ os) pc w u
+      → Does (waiting.R4 ∷ kept (below_top os)) (pc + forms_bytes ms) (most + (owed os + 4)) u (goes_on [] (with_stack (v ∷ rest) w)))
+  by_shift o n k most v os pc w x rest u l is lx e h d =
+      let left = with_stack (x ∷ rest) w in
+      let after = waiting.R4 ∷ kept (below_top os) in
+      let front = top_to_four os in
+      let ms = shift_middle o k in
+      let end = pc + forms_bytes (front ++ ms) in
+      let t = (drop_part z (waiting.Number n) os pc w n (x ∷ rest) u e d).0 in
+      let back = stands_back z.code pc front ms h in
+      subst (λ r. Does after end (most + (owed os + 4)) u (goes_on [] (with_stack (r ∷ rest) w))) is
+      (reach_more z (owed after) (Describes z after end) (15 + owed os) (most + (owed os + 4)) u [] (GoesOn (with_stack (shift_word o x k ∷ rest) w))
+      (omega (arith, l))
+      (value_part R4 front ms 10 15 os pc left x (shift_word o x k) rest u (omega arith) refl t
+      (top_to_four_part z os pc left x rest u refl (stands_front z.code pc front ms h) t)
+      (λ xs q j. shift_part z o k (pc + forms_bytes front) x (with_stack xs w) q lx back j)))
+
+  by_mask : (n m most v : ℕ) (os : List Waiting) (pc : ℕ) (w : WordState) (x : ℕ) (rest : List ℕ) (u : Core) → 8 ≤ most → m < 0x10000
+      → bit_and x m ≡ v → x < 0x10000 → w.stack ≡ n ∷ (x ∷ rest)
+      → (let ms = two_code (waiting.Number m ∷ os) (Plain And) in Stands z.code pc ms → Describes z (waiting.Number n ∷ os) pc w u
+      → Does (waiting.R4 ∷ kept (below_top os)) (pc + forms_bytes ms) (most + (owed os + 4)) u (goes_on [] (with_stack (v ∷ rest) w)))
+  by_mask n m most v os pc w x rest u l lm is lx e h d =
+      let left = with_stack (x ∷ rest) w in
+      let after = waiting.R4 ∷ kept (below_top os) in
+      let end = pc + forms_bytes (two_code (waiting.Number m ∷ os) (Plain And)) in
+      let room : length (x ∷ rest) < z.room = omega (arith, d.fits, ap (length {A = ℕ}) e) in
+      let t = waits_more z (waiting.Number m) os pc left m u tt refl room (drop_part z (waiting.Number n) os pc w n (x ∷ rest) u e d).0 in
+      subst (λ r. Does after end (most + (owed os + 4)) u (goes_on [] (with_stack (r ∷ rest) w))) is
+      (reach_more z (owed after) (Describes z after end) (8 + (owed os + 4)) (most + (owed os + 4)) u [] (GoesOn (with_stack (bit_and x m ∷ rest) w))
+      (omega (arith, l))
+      (plain_by And (waiting.Number m ∷ os) pc (with_stack (m ∷ (x ∷ rest)) w) x m rest u refl lx lm h t))
+
+  -- by whether the number is a power of two
+  power_by : (p : Option ℕ) (o : BinaryOperation) (n : ℕ) (os : List Waiting) (pc : ℕ) (w : WordState) (x y : ℕ) (rest : List ℕ) (u : Core) → power n ≡ p
+      → w.stack ≡ y ∷ (x ∷ rest) → x < 0x10000 → y < 0x10000 → Stands z.code pc (power_code p (waiting.Number n ∷ os) o)
+      → Describes z (waiting.Number n ∷ os) pc w u
+      → Does (power_result p o ∷ kept (below_top os)) (pc + forms_bytes (power_code p (waiting.Number n ∷ os) o)) (binary_cycles o + (owed os + 4)) u
+      (goes_on [] (with_stack (binary_word o x y ∷ rest) w))
+  power_by None o n os pc w x y rest u q e lx ly h d = two_part o (waiting.Number n ∷ os) pc w x y rest u e lx ly h d
+  power_by (Some k) Multiply n os pc w x y rest u q e lx ly h d =
+      let is = (drop_part z (waiting.Number n) os pc w y (x ∷ rest) u e d).1 in
+      let of = power_is n k q in
+      by_shift Left n k 152 (word_product x y) os pc w x rest u (omega arith) (shift_left x k of.0 ∙ ap (word_product x) (sym of.1 ∙ is)) lx
+      (e ∙ ap (λ v. v ∷ (x ∷ rest)) (sym is)) h d
+  power_by (Some k) Divide n os pc w x y rest u q e lx ly h d =
+      let is = (drop_part z (waiting.Number n) os pc w y (x ∷ rest) u e d).1 in
+      let of = power_is n k q in
+      by_shift Right n k 202 (quotient x y) os pc w x rest u (omega arith) (shift_right x k of.0 ∙ ap (quotient x) (sym of.1 ∙ is)) lx
+      (e ∙ ap (λ v. v ∷ (x ∷ rest)) (sym is)) h d
+  power_by (Some k) Remainder n os pc w x y rest u q e lx ly h d =
+      let is = (drop_part z (waiting.Number n) os pc w y (x ∷ rest) u e d).1 in
+      let of = power_is n k q in
+      by_mask n (n - 1) 202 (remainder x y) os pc w x rest u (omega arith) (omega (arith, is, ly))
+      (ap (λ p. bit_and x (p - 1)) of.1 ∙ mask_rest x k ∙ ap (remainder x) (sym of.1 ∙ is)) lx
+      (e ∙ ap (λ v. v ∷ (x ∷ rest)) (sym is)) h d
+  power_by (Some k) (Plain o) n os pc w x y rest u q e lx ly h d = two_part (Plain o) (waiting.Number n ∷ os) pc w x y rest u e lx ly h d
+
+  binary_on : (o : BinaryOperation) (os : List Waiting) (pc : ℕ) (w : WordState) (x y : ℕ) (rest : List ℕ) (u : Core) → w.stack ≡ y ∷ (x ∷ rest)
+      → x < 0x10000 → y < 0x10000 → Stands z.code pc (step_code [] os (binary o)) → Describes z os pc w u
+      → Does (waiting_behind os (binary o)) (pc + forms_bytes (step_code [] os (binary o))) (binary_cycles o + owed os) u
+      (goes_on [] (with_stack (binary_word o x y ∷ rest) w))
+  binary_on o [] pc w x y rest u e lx ly h d = two_part o [] pc w x y rest u e lx ly h d
+  binary_on o (waiting.Number n ∷ os) pc w x y rest u e lx ly h d = power_by (power n) o n os pc w x y rest u refl e lx ly h d
+  binary_on o (waiting.Fram a ∷ os) pc w x y rest u e lx ly h d = two_part o (waiting.Fram a ∷ os) pc w x y rest u e lx ly h d
+  binary_on o (waiting.Local n ∷ os) pc w x y rest u e lx ly h d = two_part o (waiting.Local n ∷ os) pc w x y rest u e lx ly h d
+  binary_on o (waiting.R4 ∷ os) pc w x y rest u e lx ly h d = two_part o (waiting.R4 ∷ os) pc w x y rest u e lx ly h d
+  binary_on o (waiting.R6 ∷ os) pc w x y rest u e lx ly h d = two_part o (waiting.R6 ∷ os) pc w x y rest u e lx ly h d
+
+  pub binary_part : (o : BinaryOperation) (os : List Waiting) (pc : ℕ) (w : WordState) (vs : List ℕ) (u : Core) → w.stack ≡ vs
+      → AllByRecursion (λ v. v < 0x10000) vs → Stands z.code pc (step_code [] os (binary o)) → Describes z os pc w u
+      → Does (waiting_behind os (binary o)) (pc + forms_bytes (step_code [] os (binary o))) (binary_cycles o + owed os) u
+      (with_two vs (λ x y us. goes_on [] (with_stack (binary_word o x y ∷ us) w)))
+  binary_part o os pc w [] u e l h d = tt
+  binary_part o os pc w (y ∷ []) u e l h d = tt
+  binary_part o os pc w (y ∷ (x ∷ rest)) u e l h d = binary_on o os pc w x y rest u e l.1.0 l.0 h d
 
   -- ---- statements
 
@@ -323,8 +541,8 @@ module _ (z : Setting) where
       (below_part z os pc w v vs u e (stands_front z.code pc front ms h) d) (λ t k.
       reaches z (Describes z [] (mid + forms_bytes ms)) (mid + forms_bytes ms) c t b.effects b.end (dressed z (mid + forms_bytes ms)) (f t back k))))
 
-  pub keep_reaches : (a : ℕ) (os : List Waiting) (pc : ℕ) (w : WordState) (vs : List ℕ) (u : Core) → w.stack ≡ vs → Stands z.code pc (step_code os (keep a))
-      → Describes z os pc w u → Does [] (pc + forms_bytes (step_code os (keep a))) (5 + owed os) u
+  pub keep_reaches : (a : ℕ) (os : List Waiting) (pc : ℕ) (w : WordState) (vs : List ℕ) (u : Core) → w.stack ≡ vs → Stands z.code pc (step_code [] os (keep a))
+      → Describes z os pc w u → Does [] (pc + forms_bytes (step_code [] os (keep a))) (5 + owed os) u
       (with_top vs (λ v us. word_stored a v (with_stack us w)))
   keep_reaches a os pc w [] u e h d = tt
   keep_reaches a os pc w (v ∷ us) u e h d =
@@ -333,8 +551,8 @@ module _ (z : Setting) where
       (word_stored a v (with_stack us w)) (omega (arith, store_owed os)) e h d (λ t s k. keep_part z (top_of os) a mid v us w t s k)
 
   pub update_reaches : (o : PlainOperation) (a : ℕ) (os : List Waiting) (pc : ℕ) (w : WordState) (vs : List ℕ) (u : Core) → w.fram a < 0x10000 → w.stack ≡ vs
-      → AllByRecursion (λ v. v < 0x10000) vs → Stands z.code pc (step_code os (update o a)) → Describes z os pc w u
-      → Does [] (pc + forms_bytes (step_code os (update o a))) (5 + owed os) u
+      → AllByRecursion (λ v. v < 0x10000) vs → Stands z.code pc (step_code [] os (update o a)) → Describes z os pc w u
+      → Does [] (pc + forms_bytes (step_code [] os (update o a))) (5 + owed os) u
       (with_top vs (λ v us. word_stored a (plain_word o (w.fram a) v) (with_stack us w)))
   update_reaches o a os pc w [] u f e l h d = tt
   update_reaches o a os pc w (v ∷ us) u f e l h d =
@@ -344,8 +562,8 @@ module _ (z : Setting) where
       (λ t s k. update_part z o (top_of os) a mid v us w t f l.0 s k)
 
   pub set_reaches : (n : ℕ) (os : List Waiting) (pc : ℕ) (w : WordState) (vs : List ℕ) (u : Core) → n < z.locals → w.stack ≡ vs
-      → Stands z.code pc (step_code os (set_local n)) → Describes z os pc w u
-      → Does [] (pc + forms_bytes (step_code os (set_local n))) (5 + owed os) u (with_top vs (λ v us. goes_on [] (with_local n v (with_stack us w))))
+      → Stands z.code pc (step_code [] os (set_local n)) → Describes z os pc w u
+      → Does [] (pc + forms_bytes (step_code [] os (set_local n))) (5 + owed os) u (with_top vs (λ v us. goes_on [] (with_local n v (with_stack us w))))
   set_reaches n os pc w [] u l e h d = tt
   set_reaches n os pc w (v ∷ us) u l e h d =
       let mid = pc + forms_bytes (flushed (below_top os)) in
@@ -353,8 +571,8 @@ module _ (z : Setting) where
       (goes_on [] (with_local n v (with_stack us w))) (omega (arith, store_owed os)) e h d (λ t s k. set_part z (top_of os) n v mid us w t l s k)
 
   pub update_local_reaches : (o : PlainOperation) (n x : ℕ) (os : List Waiting) (pc : ℕ) (w : WordState) (vs : List ℕ) (u : Core) → n < z.locals
-      → w.locals n ≡ Some x → x < 0x10000 → w.stack ≡ vs → AllByRecursion (λ v. v < 0x10000) vs → Stands z.code pc (step_code os (update_local o n))
-      → Describes z os pc w u → Does [] (pc + forms_bytes (step_code os (update_local o n))) (10 + owed os) u
+      → w.locals n ≡ Some x → x < 0x10000 → w.stack ≡ vs → AllByRecursion (λ v. v < 0x10000) vs → Stands z.code pc (step_code [] os (update_local o n))
+      → Describes z os pc w u → Does [] (pc + forms_bytes (step_code [] os (update_local o n))) (10 + owed os) u
       (with_top vs (λ v us. goes_on [] (with_local n (plain_word o x v) (with_stack us w))))
   update_local_reaches o n x os pc w [] u l q f e k h d = tt
   update_local_reaches o n x os pc w (v ∷ us) u l q f e k h d =
@@ -399,8 +617,8 @@ module _ (z : Setting) where
 
   -- a word that is emitted
   emit_by : (count buffer : ℕ) (os : List Waiting) (pc : ℕ) (w : WordState) (v : ℕ) (rest : List ℕ) (u : Core) → w.stack ≡ v ∷ rest
-      → Stands z.code pc (step_code os (emit_word count buffer)) → Describes z os pc w u
-      → Does [] (pc + forms_bytes (step_code os (emit_word count buffer))) (16 + owed os) u (word_emitted count buffer v (with_stack rest w))
+      → Stands z.code pc (step_code [] os (emit_word count buffer)) → Describes z os pc w u
+      → Does [] (pc + forms_bytes (step_code [] os (emit_word count buffer))) (16 + owed os) u (word_emitted count buffer v (with_stack rest w))
   emit_by count buffer os pc w v rest u e h d =
       let under = below_top os in
       let front = top_to_five os in
@@ -425,49 +643,53 @@ module _ (z : Setting) where
       reaches z (Describes z [] (mid + 18)) (mid + 18) 14 t b.effects b.end (dressed z (mid + 18)) (emit_part z count buffer mid v left t back k))))
 
   pub emit_reaches : (count buffer : ℕ) (os : List Waiting) (pc : ℕ) (w : WordState) (vs : List ℕ) (u : Core) → w.stack ≡ vs
-      → Stands z.code pc (step_code os (emit_word count buffer)) → Describes z os pc w u
-      → Does [] (pc + forms_bytes (step_code os (emit_word count buffer))) (16 + owed os) u
+      → Stands z.code pc (step_code [] os (emit_word count buffer)) → Describes z os pc w u
+      → Does [] (pc + forms_bytes (step_code [] os (emit_word count buffer))) (16 + owed os) u
       (with_top vs (λ v us. word_emitted count buffer v (with_stack us w)))
   emit_reaches count buffer os pc w [] u e h d = tt
   emit_reaches count buffer os pc w (v ∷ rest) u e h d = emit_by count buffer os pc w v rest u e h d
 
   -- a versioned write
-  write_by : (place : ArrayPlace) (list : ListPlace) (os : List Waiting) (pc : ℕ) (w : WordState) (i v : ℕ) (rest : List ℕ) (u : Core)
-      → place.length < 0x10000 → ((a : ℕ) → w.fram a < 0x10000) → i < 0x10000 → v < 0x10000 → w.stack ≡ v ∷ (i ∷ rest)
-      → Stands z.code pc (step_code os (versioned_write place list)) → Describes z os pc w u
-      → Does [] (pc + forms_bytes (step_code os (versioned_write place list))) (79 + owed os) u (versioned_stored place list i v (with_stack rest w))
-  write_by place list os pc w i v rest u small wl r s e h d =
+  write_by : (b : Bool) (place : ArrayPlace) (list : ListPlace) (os : List Waiting) (pc : ℕ) (w : WordState) (i v : ℕ) (rest : List ℕ) (u : Core)
+      → place.length < 0x10000 → ((a : ℕ) → w.fram a < 0x10000) → (b ≡ true → nat_lt i place.length ≡ true) → i < 0x10000 → v < 0x10000
+      → w.stack ≡ v ∷ (i ∷ rest)
+      → (let ms = (two_to_registers os ++ flushed (kept (below_top (below_top os)))) ++ write_code b place list in Stands z.code pc ms → Describes z os pc w u
+      → Does [] (pc + forms_bytes ms) (79 + owed os) u (versioned_stored place list i v (with_stack rest w)))
+  write_by sure place list os pc w i v rest u small wl is r s e h d =
       let under = below_top os in
       let ks = kept (below_top under) in
       let front = two_to_registers os in
       let pushes = flushed ks in
-      let ms = write_code place list in
+      let ms = write_code sure place list in
       let first = pc + forms_bytes front in
       let mid = first + forms_bytes pushes in
+      let last = mid + forms_bytes ms in
       let left = with_stack rest w in
       let b = versioned_stored place list i v left in
       let l = clear_cycles (below_top under) + (load_cycles (top_of os) + load_cycles (top_of under)) in
       let there = stands_front z.code pc (front ++ pushes) ms h in
       let here : pc + forms_bytes (front ++ pushes) ≡ mid = omega (arith, forms_bytes-append front pushes) in
       let back = subst (λ p. Stands z.code p ms) here (stands_back z.code pc (front ++ pushes) ms h) in
-      let end : mid + 114 ≡ pc + forms_bytes ((front ++ pushes) ++ ms) = omega (arith, here, forms_bytes-append (front ++ pushes) ms) in
+      let end : last ≡ pc + forms_bytes ((front ++ pushes) ++ ms) = omega (arith, here, forms_bytes-append (front ++ pushes) ms) in
       let come = runs_on z l (owed ks) u (LoadedTwo z ks first left i v) (HasTwo z mid left i v) [] []
       (two_to_registers_part z os pc w i v rest u e (stands_front z.code pc front pushes there) d)
       (λ t k. push_under_two ks first left i v t (stands_back z.code pc front pushes there) k) in
       subst (λ p. Does [] p (79 + owed os) u b) end
-      (reach_more z 0 (Describes z [] (mid + 114)) (l + owed ks + 75) (79 + owed os) u b.effects b.end
+      (reach_more z 0 (Describes z [] last) (l + owed ks + 75) (79 + owed os) u b.effects b.end
       (omega (arith, owed_kept (below_top under), load_owed os, load_owed under))
-      (then_reach z 0 (Describes z [] (mid + 114)) (l + owed ks) 75 u (HasTwo z mid left i v) [] b.effects b.end come (λ t k.
-      reaches z (Describes z [] (mid + 114)) (mid + 114) 75 t b.effects b.end (dressed z (mid + 114))
-      (write_part z place list mid small back i v left t wl r s k))))
+      (then_reach z 0 (Describes z [] last) (l + owed ks) 75 u (HasTwo z mid left i v) [] b.effects b.end come (λ t k.
+      reaches z (Describes z [] last) last 75 t b.effects b.end (dressed z last) (write_part z sure place list mid small back i v left t is wl r s k))))
 
-  pub write_reaches : (place : ArrayPlace) (list : ListPlace) (os : List Waiting) (pc : ℕ) (w : WordState) (vs : List ℕ) (u : Core) → place.length < 0x10000
-      → ((a : ℕ) → w.fram a < 0x10000) → w.stack ≡ vs → AllByRecursion (λ v. v < 0x10000) vs → Stands z.code pc (step_code os (versioned_write place list))
-      → Describes z os pc w u → Does [] (pc + forms_bytes (step_code os (versioned_write place list))) (79 + owed os) u
+  pub write_reaches : (bs : List Bound) (place : ArrayPlace) (list : ListPlace) (os : List Waiting) (pc : ℕ) (w : WordState) (vs : List ℕ) (u : Core)
+      → place.length < 0x10000 → ((a : ℕ) → w.fram a < 0x10000) → Bounded bs w.locals → w.stack ≡ vs → AllByRecursion (λ v. v < 0x10000) vs
+      → Stands z.code pc (step_code bs os (versioned_write place list)) → Describes z os pc w u
+      → Does [] (pc + forms_bytes (step_code bs os (versioned_write place list))) (79 + owed os) u
       (with_two vs (λ i v us. versioned_stored place list i v (with_stack us w)))
-  write_reaches place list os pc w [] u s wl e l h d = tt
-  write_reaches place list os pc w (v ∷ []) u s wl e l h d = tt
-  write_reaches place list os pc w (v ∷ (i ∷ rest)) u s wl e l h d = write_by place list os pc w i v rest u s wl l.1.0 l.0 e h d
+  write_reaches bs place list os pc w [] u s wl lb e l h d = tt
+  write_reaches bs place list os pc w (v ∷ []) u s wl lb e l h d = tt
+  write_reaches bs place list os pc w (v ∷ (i ∷ rest)) u s wl lb e l h d =
+      let n = place.length in
+      write_by (is_inside bs (top_of (below_top os)) n) place list os pc w i v rest u s wl (under_inside z bs pc u n os w i v rest lb e d) l.1.0 l.0 e h d
 
   -- ---- a reading
 
@@ -482,8 +704,8 @@ module _ (z : Setting) where
       (record { at = omega (arith, d.is.at); memory = d.is.memory; fram = d.is.fram; readings = refl }))
 
   pub sense_part : (os : List Waiting) (pc : ℕ) (w : WordState) (rs : List ℕ) (u : Core) → length w.stack < z.room → w.readings ≡ rs
-      → Stands z.code pc (step_code os sense) → Describes z os pc w u
-      → Does (waiting_behind os sense) (pc + forms_bytes (step_code os sense)) (6 + owed os) u (reading_pushed rs w)
+      → Stands z.code pc (step_code [] os sense) → Describes z os pc w u
+      → Does (waiting_behind os sense) (pc + forms_bytes (step_code [] os sense)) (6 + owed os) u (reading_pushed rs w)
   sense_part os pc w rs u room e h d =
       let front = cleared os in
       let ms = forms.Sense R4 ∷ [] in

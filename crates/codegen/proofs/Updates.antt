@@ -24,7 +24,7 @@ use Rattle.codegen.proofs.Operands.{Top, bare, load_cycles, load_price, store_cy
 use Rattle.codegen.proofs.Middles.{makes, plain_middle}
 
 -- the instruction reads its destination and writes it; of each operation alike: the first clause makes it a proof by cases
-plain_needs : (o : PlainOperation) → IsNotMov (plain_instruction o) × (writes_destination (plain_instruction o) ≡ true)
+pub plain_needs : (o : PlainOperation) → IsNotMov (plain_instruction o) × (writes_destination (plain_instruction o) ≡ true)
 plain_needs Add = (tt, refl)
 plain_needs _ = (tt, refl)
 

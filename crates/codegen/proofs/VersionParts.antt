@@ -1,6 +1,7 @@
 -- Versioned reads and writes.
 use Rattle.std.proofs.Common.{◌≡◌, ℕ, ◌+◌, ◌-◌, ◌*◌, ◌%◌, ◌<◌, ◌==◌, not, List, [], ◌∷◌, Some, refl, sym, ap, ap₂, ◌∙◌, subst, arith, Bool, true, false}
-use Rattle.std.proofs.Common.{nat_lt, nat_le, if◌then◌else◌}
+use Rattle.std.proofs.Common.{nat_lt, if◌then◌else◌}
+use Rattle.std.proofs.lemmas.Bool.{both_ways}
 use Rattle.msp_isa.specs.declared.instructions.Condition.TheVariants as condition
 use Rattle.msp_isa.specs.declared.instructions.TwoOp.TheVariants as op
 use Rattle.msp_isa.specs.declared.operands.Konst.TheVariants as konst
@@ -8,21 +9,22 @@ use Rattle.array_versions.specs.msp_step.Effect.{sum16, distance}
 use Rattle.array_versions.specs.fram_board.Effects.{Store}
 use Rattle.array_versions.specs.machine_effects.World.{put}
 use Rattle.array_versions.specs.machine_effects.Machine.{IsFram}
-use Rattle.code_forms.specs.Forms.{R4, R5, R6, Core, Register, Number, Constant, Fram, Indexed, ToRegister, ToIndexed, Form, Move, Calculate, Update, Jump}
+use Rattle.code_forms.specs.Forms.{R4, R5, R6, Core, Register, Constant, Fram, Indexed, ToRegister, ToIndexed, Form, Move, Calculate, Update, Jump}
 use Rattle.code_forms.specs.Forms.{instruction_of}
-use Rattle.code_forms.specs.Code.{Stands, forms_run, Runs}
-use Rattle.code_forms.proofs.Interface.{stands_at, form_at, forms_at, forms_behind, end_of}
+use Rattle.code_forms.specs.Code.{Stands, forms_bytes, forms_run, Runs}
+use Rattle.code_forms.proofs.Interface.{stands_at, stands_front, stands_back, form_at, first_forms, forms_behind, end_of, forms_bytes-append}
 use Rattle.array_versions.specs.declared.program.ArrayPlace.{ArrayPlace}
 use Rattle.array_versions.specs.declared.program.ListPlace.{ListPlace}
 use Rattle.array_versions.specs.Behaviour.{WordState, goes_on, behind_effects, is_place, stored, first_stored, own_stored, versioned_stored}
 use Rattle.array_versions.proofs.Interface.{put_words}
-use Rattle.codegen.specs.Code.{read_code, first_code, write_code}
-use Rattle.codegen.proofs.Stretches.{Setting, straight, runs_on, dearer}
+use Rattle.codegen.specs.Code.{check_code, own_code, read_code, first_code, stored_code, write_code}
+use Rattle.codegen.proofs.Stretches.{Setting, straight, runs_on, dearer, so_runs}
 use Rattle.codegen.proofs.Memory.{place_is}
-use Rattle.codegen.proofs.Follows.{StandsFor, Follows, then_end, guarded, stands_elsewhere}
-use Rattle.codegen.proofs.Registers.{equal_flag, Has, HasTwo, middle, jump_to, jump_has, no_borrow}
+use Rattle.codegen.proofs.Follows.{StandsFor, Follows, more_cycles, then_end, ends_at, guarded, stands_elsewhere}
+use Rattle.codegen.proofs.Registers.{equal_flag, Has, HasTwo, middle, jump_to, jump_has}
 use Rattle.codegen.proofs.Products.{jump_exact}
-use Rattle.codegen.proofs.Access.{compare_part, le_of_lt}
+use Rattle.codegen.proofs.Operands.{Flushed}
+use Rattle.codegen.proofs.Access.{check_part, within, beyond, within_stands, zero_stands, checked_end, checked_past, checked_within, over_zero}
 use Rattle.codegen.proofs.ListParts.{first_follows}
 
 twice : (n base : ℕ) → 2 * n + base < 0x10000 → (n + n + 0) % 0x10000 ≡ 2 * n
@@ -53,95 +55,106 @@ module _ (z : Setting) where
             ∙ equal_flag (w.fram list.ver) (w.fram (2 * i + place.versions)) (l list.ver) (l (2 * i + place.versions));
       })
 
-  -- a read, where its code stands
-  module _ (place : ArrayPlace) (list : ListPlace) (pc : ℕ) (l : place.length < 0x10000) (h : Stands z.code pc (read_code place list)) where
-    at4 : z.code (pc + 4) ≡ Some (instruction_of (Jump condition.Carry 12))
-    at4 = form_at z.code pc 1 (read_code place list) (Jump condition.Carry 12) h refl
+  -- a read at an index below the length, where its code stands
+  module _ (over : ℕ) (place : ArrayPlace) (list : ListPlace) (pc : ℕ) (h : Stands z.code pc (own_code over place list)) where
+    at10 : z.code (pc + 10) ≡ Some (instruction_of (Jump condition.NotEqual 3))
+    at10 = form_at z.code pc 3 (own_code over place list) (Jump condition.NotEqual 3) h refl
 
-    at16 : z.code (pc + 16) ≡ Some (instruction_of (Jump condition.NotEqual 3))
-    at16 = form_at z.code pc 5 (read_code place list) (Jump condition.NotEqual 3) h refl
+    at12 : z.code (pc + 12) ≡ Some (instruction_of (Move (Indexed R4 place.copies) (ToRegister R4)))
+    at12 = form_at z.code pc 4 (own_code over place list) (Move (Indexed R4 place.copies) (ToRegister R4)) h refl
 
-    at28 : z.code (pc + 28) ≡ Some (instruction_of (Jump condition.Always 1))
-    at28 = form_at z.code pc 9 (read_code place list) (Jump condition.Always 1) h refl
+    at16 : z.code (pc + 16) ≡ Some (instruction_of (Jump condition.Always over))
+    at16 = form_at z.code pc 5 (own_code over place list) (Jump condition.Always over) h refl
 
-    -- the word is read from the copies or the elements
-    fetch_part : (base from o i : ℕ) (w : WordState) (t : Core) → IsFram (2 * i + base) → sum16 (from + 4 + 2) (distance o) ≡ pc + 32
-        → z.code from ≡ Some (instruction_of (Move (Indexed R4 base) (ToRegister R4))) → z.code (from + 4) ≡ Some (instruction_of (Jump condition.Always o))
-        → Has z R4 from w (2 * i) t → Runs z.code [] 5 t (Has z R4 (pc + 32) w (w.fram (2 * i + base)))
-    fetch_part base from o i w t f d a b k =
+    pub at18 : z.code (pc + 18) ≡ Some (instruction_of (Move (Indexed R4 place.elements) (ToRegister R4)))
+    at18 = form_at z.code pc 6 (own_code over place list) (Move (Indexed R4 place.elements) (ToRegister R4)) h refl
+
+    -- a word is read
+    word_part : (base from to i : ℕ) (w : WordState) (t : Core) → IsFram (2 * i + base) → from + 4 ≡ to
+        → z.code from ≡ Some (instruction_of (Move (Indexed R4 base) (ToRegister R4))) → Has z R4 from w (2 * i) t
+        → Runs z.code [] 3 t (Has z R4 to w (w.fram (2 * i + base)))
+    word_part base from to i w t f e a k =
         let ms = Move (Indexed R4 base) (ToRegister R4) ∷ [] in
-        runs_on z 3 2 t _ _ [] [] (middle z ms 3 from (from + 4) (w.fram (2 * i + base)) R4 w t (end_of t (forms_run ms t).status) k.is (tt, tt) (a, tt)
-        ((subst (λ v. IsFram (v + base)) (sym k.value) f, tt), tt) refl (omega (arith, k.is.at)) refl refl refl refl refl
-        (ap (λ v. t.fram (v + base)) k.value ∙ ap (λ q. q (2 * i + base)) k.is.fram)) (λ u j.
-        jump_has z condition.Always o (from + 4) (pc + 32) true R4 (w.fram (2 * i + base)) w u b refl d j)
+        middle z ms 3 from to (w.fram (2 * i + base)) R4 w t (end_of t (forms_run ms t).status) k.is (tt, tt) (a, tt)
+        ((subst (λ v. IsFram (v + base)) (sym k.value) f, tt), tt) refl (omega (arith, k.is.at, e)) refl refl refl refl refl
+        (ap (λ v. t.fram (v + base)) k.value ∙ ap (λ q. q (2 * i + base)) k.is.fram)
 
-    -- the copy, where the version words are equal
-    copy_read : (i : ℕ) (w : WordState) (t : Core) → IsFram (2 * i + place.copies) → Marked (pc + 16) w i true t
-        → Runs z.code [] 7 t (Has z R4 (pc + 32) w (w.fram (2 * i + place.copies)))
-    copy_read i w t f m =
-        let high = (z.tidy (pc + 28) _ at28).high in
-        let to : sum16 (pc + 18 + 4 + 2) (distance 4) ≡ pc + 32 = omega arith in
-        let leaves = Jump condition.Always 4 in
-        let at22 : z.code (pc + 22) ≡ Some (instruction_of leaves) = form_at z.code pc 7 (read_code place list) leaves h refl in
-        let e22 : pc + 22 ≡ pc + 18 + 4 = omega arith in
-        runs_on z 2 5 t _ _ [] [] (jump_has z condition.NotEqual 3 (pc + 16) (pc + 18) false R4 (2 * i) w t at16 (ap not m.flag) (omega arith) m.has) (λ u j.
-        fetch_part place.copies (pc + 18) 4 i w u f to
-        (form_at z.code pc 6 (read_code place list) (Move (Indexed R4 place.copies) (ToRegister R4)) h refl)
-        (subst (λ n. z.code n ≡ Some (instruction_of leaves)) e22 at22) j)
+    -- by whether the version word is the attempt's number
+    marked_part : (b : Bool) (i : ℕ) (w : WordState) (t : Core) → ((a : ℕ) → w.fram a < 0x10000) → IsFram list.ver → IsFram (2 * i + place.versions)
+        → (w.fram list.ver == w.fram (2 * i + place.versions)) ≡ b → Has z R4 pc w i t → Runs z.code [] 7 t (Marked (pc + 10) w i b)
+    marked_part b i w t wl f g e k =
+        subst (λ c. Runs z.code [] 7 t (Marked (pc + 10) w i c)) e
+        (mark_part place list pc i w t wl f g (first_forms z.code pc 3 (own_code over place list) h) k)
 
-    -- the element, where they are not
-    home_read : (i : ℕ) (w : WordState) (t : Core) → IsFram (2 * i + place.elements) → Marked (pc + 16) w i false t
-        → Runs z.code [] 7 t (Has z R4 (pc + 32) w (w.fram (2 * i + place.elements)))
-    home_read i w t f m =
-        let high = (z.tidy (pc + 28) _ at28).high in
-        let to : sum16 (pc + 16 + 2) (distance 3) ≡ pc + 24 = omega arith in
-        let back : sum16 (pc + 24 + 4 + 2) (distance 1) ≡ pc + 32 = omega arith in
-        let leaves = Jump condition.Always 1 in
-        let e28 : pc + 28 ≡ pc + 24 + 4 = omega arith in
-        runs_on z 2 5 t _ _ [] [] (jump_has z condition.NotEqual 3 (pc + 16) (pc + 24) true R4 (2 * i) w t at16 (ap not m.flag) to m.has) (λ u j.
-        fetch_part place.elements (pc + 24) 1 i w u f back
-        (form_at z.code pc 8 (read_code place list) (Move (Indexed R4 place.elements) (ToRegister R4)) h refl)
-        (subst (λ n. z.code n ≡ Some (instruction_of leaves)) e28 at28) j)
+    -- where it is, the copy is read, and the jump goes on
+    copy_read : (to i : ℕ) (w : WordState) (t : Core) → ((a : ℕ) → w.fram a < 0x10000) → IsFram list.ver → IsFram (2 * i + place.versions)
+        → (w.fram list.ver == w.fram (2 * i + place.versions)) ≡ true → IsFram (2 * i + place.copies) → sum16 (pc + 16 + 2) (distance over) ≡ to
+        → Has z R4 pc w i t → Runs z.code [] 14 t (Has z R4 to w (w.fram (2 * i + place.copies)))
+    copy_read to i w t wl f g e c d k =
+        let v = w.fram (2 * i + place.copies) in
+        runs_on z 7 7 t (Marked (pc + 10) w i true) _ [] [] (marked_part true i w t wl f g e k) (λ u m.
+        runs_on z 2 5 u (Has z R4 (pc + 12) w (2 * i)) _ [] []
+        (jump_has z condition.NotEqual 3 (pc + 10) (pc + 12) false R4 (2 * i) w u at10 (ap not m.flag) (omega arith) m.has) (λ q j.
+        runs_on z 3 2 q (Has z R4 (pc + 16) w v) _ [] [] (word_part place.copies (pc + 12) (pc + 16) i w q c (omega arith) at12 j) (λ r n.
+        jump_has z condition.Always over (pc + 16) to true R4 v w r at16 refl d n)))
 
-    -- the index is not below the length
-    pub past_read : (i : ℕ) (w : WordState) (t : Core) → nat_lt i place.length ≡ false → i < 0x10000 → Has z R4 pc w i t
-        → Runs z.code [] 18 t (Has z R4 (pc + 32) w 0)
-    past_read i w t lt r k =
-        let high = (z.tidy (pc + 28) _ at28).high in
-        let to : sum16 (pc + 4 + 2) (distance 12) ≡ pc + 30 = omega arith in
-        let zeroed = Move (Constant konst.Zero) (ToRegister R4) ∷ [] in
-        let at30 : Stands z.code (pc + 30) zeroed = forms_at z.code pc 10 1 (read_code place list) h in
-        dearer z [] 5 18 t _ (omega arith)
-        (runs_on z 2 3 t _ _ [] [] (compare_part z pc i place.length w t r l h.0 k) (λ t j.
-        runs_on z 2 1 t _ _ [] [] (jump_has z condition.Carry 12 (pc + 4) (pc + 30) true R4 i w t at4 (j.flag ∙ le_of_lt z i place.length false lt) to j.has)
-        (λ t j.
-        middle z zeroed 1 (pc + 30) (pc + 32) 0 R4 w t (end_of t (forms_run zeroed t).status) j.is (tt, tt) at30 ((tt, tt), tt) refl
-        (omega (arith, j.is.at)) refl refl refl refl refl refl)))
+    -- where it isn't, the element
+    home_read : (i : ℕ) (w : WordState) (t : Core) → ((a : ℕ) → w.fram a < 0x10000) → IsFram list.ver → IsFram (2 * i + place.versions)
+        → (w.fram list.ver == w.fram (2 * i + place.versions)) ≡ false → IsFram (2 * i + place.elements) → Has z R4 pc w i t
+        → Runs z.code [] 12 t (Has z R4 (pc + 22) w (w.fram (2 * i + place.elements)))
+    home_read i w t wl f g e c k =
+        let high = (z.tidy (pc + 18) _ at18).high in
+        let to : sum16 (pc + 10 + 2) (distance 3) ≡ pc + 18 = omega arith in
+        runs_on z 7 5 t (Marked (pc + 10) w i false) _ [] [] (marked_part false i w t wl f g e k) (λ u m.
+        runs_on z 2 3 u (Has z R4 (pc + 18) w (2 * i)) _ [] []
+        (jump_has z condition.NotEqual 3 (pc + 10) (pc + 18) true R4 (2 * i) w u at10 (ap not m.flag) to m.has) (λ q j.
+        word_part place.elements (pc + 18) (pc + 22) i w q c (omega arith) at18 j))
 
-    -- it is: by whether the version word is the attempt's number
-    marked_part : (i : ℕ) (w : WordState) (t : Core) → ((a : ℕ) → w.fram a < 0x10000) → nat_lt i place.length ≡ true → i < 0x10000 → IsFram list.ver
-        → IsFram (2 * i + place.versions) → Has z R4 pc w i t
-        → Runs z.code [] 11 t (Marked (pc + 16) w i (w.fram list.ver == w.fram (2 * i + place.versions)))
-    marked_part i w t wl lt r f g k =
-        let marks : Stands z.code (pc + 6) (marking place list) = forms_at z.code pc 2 3 (read_code place list) h in
-        let e16 : pc + 6 + 10 ≡ pc + 16 = omega arith in
-        let same = w.fram list.ver == w.fram (2 * i + place.versions) in
-        runs_on z 4 7 t (Has z R4 (pc + 6) w i) (Marked (pc + 16) w i same) [] []
-        (runs_on z 2 2 t _ _ [] [] (compare_part z pc i place.length w t r l h.0 k) (λ t j.
-        jump_has z condition.Carry 12 (pc + 4) (pc + 6) false R4 i w t at4 (j.flag ∙ le_of_lt z i place.length true lt) (omega arith) j.has))
-        (λ t j. subst (λ n. Runs z.code [] 7 t (Marked n w i same)) e16 (mark_part place list (pc + 6) i w t wl f g marks j))
+  -- a read, where its code stands, by whether the index is surely below the length
+  pub past_read : (b : Bool) (place : ArrayPlace) (list : ListPlace) (pc : ℕ) → place.length < 0x10000 → Stands z.code pc (read_code b place list)
+      → (i : ℕ) (w : WordState) (t : Core) → (b ≡ true → nat_lt i place.length ≡ true) → nat_lt i place.length ≡ false → i < 0x10000 → Has z R4 pc w i t
+      → Runs z.code [] 18 t (Has z R4 (pc + forms_bytes (read_code b place list)) w 0)
+  past_read true place list pc l h i w t sure below r k = absurd (both_ways (nat_lt i place.length) below (sure refl))
+  past_read false place list pc l h i w t sure below r k =
+      let ms = own_code 4 place list in
+      let n = place.length in
+      dearer z [] 5 18 t _ (omega arith)
+      (subst (λ p. Runs z.code [] 5 t (Has z R4 p w 0)) (checked_end z n 12 pc ms l h) (checked_past z n 12 pc ms l h i w t refl (omega arith) below r k))
 
-    pub own_copy : (i : ℕ) (w : WordState) (t : Core) → ((a : ℕ) → w.fram a < 0x10000) → nat_lt i place.length ≡ true → i < 0x10000 → IsFram list.ver
-        → IsFram (2 * i + place.versions) → (w.fram list.ver == w.fram (2 * i + place.versions)) ≡ true → IsFram (2 * i + place.copies) → Has z R4 pc w i t
-        → Runs z.code [] 18 t (Has z R4 (pc + 32) w (w.fram (2 * i + place.copies)))
-    own_copy i w t wl lt r f g e c k =
-        runs_on z 11 7 t _ _ [] [] (marked_part i w t wl lt r f g k) (λ u j. copy_read i w u c (subst (λ b. Marked (pc + 16) w i b u) e j))
+  pub own_copy : (b : Bool) (place : ArrayPlace) (list : ListPlace) (pc : ℕ) → place.length < 0x10000 → Stands z.code pc (read_code b place list)
+      → (i : ℕ) (w : WordState) (t : Core) → ((a : ℕ) → w.fram a < 0x10000) → nat_lt i place.length ≡ true → i < 0x10000 → IsFram list.ver
+      → IsFram (2 * i + place.versions) → (w.fram list.ver == w.fram (2 * i + place.versions)) ≡ true → IsFram (2 * i + place.copies) → Has z R4 pc w i t
+      → Runs z.code [] 18 t (Has z R4 (pc + forms_bytes (read_code b place list)) w (w.fram (2 * i + place.copies)))
+  own_copy true place list pc l h i w t wl lt r f g e c k =
+      let high = (z.tidy (pc + 18) _ (at18 2 place list pc h)).high in
+      let to : sum16 (pc + 16 + 2) (distance 2) ≡ pc + 22 = omega arith in
+      dearer z [] 14 18 t _ (omega arith) (copy_read 2 place list pc h (pc + 22) i w t wl f g e c to k)
+  own_copy false place list pc l h i w t wl lt r f g e c k =
+      let ms = own_code 4 place list in
+      let n = place.length in
+      let at = within z n 12 pc ms l h in
+      let end = beyond z n 12 pc ms l h + 4 in
+      let v = w.fram (2 * i + place.copies) in
+      let high = (z.tidy (beyond z n 12 pc ms l h + 2) _ (zero_stands z n 12 pc ms l h).1.0).high in
+      let to : sum16 (at + 16 + 2) (distance 4) ≡ end = omega arith in
+      subst (λ p. Runs z.code [] 18 t (Has z R4 p w v)) (checked_end z n 12 pc ms l h)
+      (runs_on z 4 14 t (Has z R4 at w i) _ [] [] (checked_within z n 12 pc ms l h i w t lt r k) (λ u j.
+      copy_read 4 place list at (within_stands z n 12 pc ms l h) end i w u wl f g e c to j))
 
-    pub own_home : (i : ℕ) (w : WordState) (t : Core) → ((a : ℕ) → w.fram a < 0x10000) → nat_lt i place.length ≡ true → i < 0x10000 → IsFram list.ver
-        → IsFram (2 * i + place.versions) → (w.fram list.ver == w.fram (2 * i + place.versions)) ≡ false → IsFram (2 * i + place.elements)
-        → Has z R4 pc w i t → Runs z.code [] 18 t (Has z R4 (pc + 32) w (w.fram (2 * i + place.elements)))
-    own_home i w t wl lt r f g e c k =
-        runs_on z 11 7 t _ _ [] [] (marked_part i w t wl lt r f g k) (λ u j. home_read i w u c (subst (λ b. Marked (pc + 16) w i b u) e j))
+  pub own_home : (b : Bool) (place : ArrayPlace) (list : ListPlace) (pc : ℕ) → place.length < 0x10000 → Stands z.code pc (read_code b place list)
+      → (i : ℕ) (w : WordState) (t : Core) → ((a : ℕ) → w.fram a < 0x10000) → nat_lt i place.length ≡ true → i < 0x10000 → IsFram list.ver
+      → IsFram (2 * i + place.versions) → (w.fram list.ver == w.fram (2 * i + place.versions)) ≡ false → IsFram (2 * i + place.elements)
+      → Has z R4 pc w i t → Runs z.code [] 18 t (Has z R4 (pc + forms_bytes (read_code b place list)) w (w.fram (2 * i + place.elements)))
+  own_home true place list pc l h i w t wl lt r f g e c k = dearer z [] 12 18 t _ (omega arith) (home_read 2 place list pc h i w t wl f g e c k)
+  own_home false place list pc l h i w t wl lt r f g e c k =
+      let ms = own_code 4 place list in
+      let n = place.length in
+      let at = within z n 12 pc ms l h in
+      let v = w.fram (2 * i + place.elements) in
+      subst (λ p. Runs z.code [] 18 t (Has z R4 p w v)) (checked_end z n 12 pc ms l h)
+      (runs_on z 4 14 t (Has z R4 at w i) _ [] [] (checked_within z n 12 pc ms l h i w t lt r k) (λ u j.
+      runs_on z 12 2 u (Has z R4 (at + 22) w v) _ [] [] (home_read 4 place list at (within_stands z n 12 pc ms l h) i w u wl f g e c j) (λ q m.
+      over_zero z n 12 pc ms l h v w q m)))
 
   -- R4 holds twice the index, R6 the attempt's number, and a flag says whether the version word is that
   record Copied (pc : ℕ) (w : WordState) (i n : ℕ) (b : Bool) (t : Core) : Type 0 where
@@ -185,101 +198,91 @@ module _ (z : Setting) where
               ∙ equal_flag (y.fram list.ver) (y.fram m) (yl list.ver) (yl m);
         }))
 
-  record ComparedTwo (pc : ℕ) (w : WordState) (i v : ℕ) (b : Bool) (t : Core) : Type 0 where
-    two : HasTwo z pc w i v t
-    flag : t.flags.c ≡ b
+  -- a write at an index below the length, where its code stands
+  module _ (place : ArrayPlace) (list : ListPlace) (pc : ℕ) (h : Stands z.code pc (stored_code place list)) where
+    copies : Stands z.code pc (copying place list)
+    copies = first_forms z.code pc 4 (stored_code place list) h
 
-  compare_two : (pc i v size : ℕ) (w : WordState) (t : Core) → i < 0x10000 → size < 0x10000
-      → z.code pc ≡ Some (instruction_of (Calculate op.Cmp (Number size) R4)) → HasTwo z pc w i v t
-      → Runs z.code [] 2 t (ComparedTwo (pc + 4) w i v (nat_le size i))
-  compare_two pc i v size w t a b h k =
-      let ms = Calculate op.Cmp (Number size) R4 ∷ [] in
-      straight z ms 2 t (end_of t (forms_run ms t).status) [] 2 _ (tt, tt) (stands_at z.code pc ms t (h, tt) k.is.at) ((tt, tt), tt) refl (omega arith)
-      (record {
-        two = record { is = stands_elsewhere z pc (pc + 4) w t _ k.is (omega (arith, k.is.at)) refl refl refl refl refl; four = k.four; five = k.five };
-        flag = ap (λ q. nat_le 0x10000 (q + (0xFFFF - size) + 1)) k.four ∙ no_borrow i size a b;
-      })
+    at14 : z.code (pc + 14) ≡ Some (instruction_of (Jump condition.Equal 46))
+    at14 = form_at z.code pc 4 (stored_code place list) (Jump condition.Equal 46) h refl
 
-  -- a write, where its code stands
-  module _ (place : ArrayPlace) (list : ListPlace) (pc : ℕ) (l : place.length < 0x10000) (h : Stands z.code pc (write_code place list)) where
-    at0 : z.code pc ≡ Some (instruction_of (Calculate op.Cmp (Number place.length) R4))
-    at0 = h.0
+    behind : Stands z.code (pc + 16) (first_code place list)
+    behind = forms_behind z.code pc 5 (stored_code place list) h
 
-    jump4 : z.code (pc + 4) ≡ Some (instruction_of (Jump condition.Carry 54))
-    jump4 = form_at z.code pc 1 (write_code place list) (Jump condition.Carry 54) h refl
-
-    copies : Stands z.code (pc + 6) (copying place list)
-    copies = forms_at z.code pc 2 4 (write_code place list) h
-
-    at20 : z.code (pc + 20) ≡ Some (instruction_of (Jump condition.Equal 46))
-    at20 = form_at z.code pc 6 (write_code place list) (Jump condition.Equal 46) h refl
-
-    behind : Stands z.code (pc + 22) (first_code place list)
-    behind = forms_behind z.code pc 7 (write_code place list) h
-
-    at110 : z.code (pc + 110) ≡ Some (instruction_of (Update op.Add (Constant konst.One) list.cln))
-    at110 = form_at z.code pc 37 (write_code place list) (Update op.Add (Constant konst.One) list.cln) h refl
+    at104 : z.code (pc + 104) ≡ Some (instruction_of (Update op.Add (Constant konst.One) list.cln))
+    at104 = form_at z.code pc 35 (stored_code place list) (Update op.Add (Constant konst.One) list.cln) h refl
 
     -- by whether the version word is the attempt's number
     own_stored_part : (b : Bool) (i v : ℕ) (w : WordState) (t : Core) → ((a : ℕ) → w.fram a < 0x10000) → v < 0x10000
         → IsFram (2 * i + place.copies) → IsFram list.ver → IsFram (2 * i + place.versions)
         → (let y = stored (2 * i + place.copies) v w in
-        (y.fram list.ver == y.fram (2 * i + place.versions)) ≡ b → HasTwo z (pc + 6) w i v t
-        → Follows z (pc + 114) 71 t (if b then goes_on (Store (2 * i + place.copies) v ∷ []) y else behind_effects (Store (2 * i + place.copies) v ∷ [])
+        (y.fram list.ver == y.fram (2 * i + place.versions)) ≡ b → HasTwo z pc w i v t
+        → Follows z (pc + 108) 71 t (if b then goes_on (Store (2 * i + place.copies) v ∷ []) y else behind_effects (Store (2 * i + place.copies) v ∷ [])
         (first_stored place list i y)))
     own_stored_part true i v w t wl lv fc fv fm e j =
         let c = 2 * i + place.copies in
         let y = stored c v w in
-        let high = (z.tidy (pc + 110) _ at110).high in
-        let to : sum16 (pc + 20 + 2) (distance 46) ≡ pc + 114 = omega arith in
-        let e20 : pc + 6 + 14 ≡ pc + 20 = omega arith in
-        runs_on z 11 60 t _ _ (Store c v ∷ []) [] (copy_part place list (pc + 6) i v w t wl lv fc fv fm copies j) (λ u k.
-        let k20 = subst (λ n. StandsFor z n y u) e20 k.is in
-        dearer z [] 2 60 u _ (omega arith) (jump_to z condition.Equal 46 (pc + 20) (pc + 114) true y u at20 (k.flag ∙ e) to k20))
+        let high = (z.tidy (pc + 104) _ at104).high in
+        let to : sum16 (pc + 14 + 2) (distance 46) ≡ pc + 108 = omega arith in
+        runs_on z 11 60 t _ _ (Store c v ∷ []) [] (copy_part place list pc i v w t wl lv fc fv fm copies j) (λ u k.
+        dearer z [] 2 60 u _ (omega arith) (jump_to z condition.Equal 46 (pc + 14) (pc + 108) true y u at14 (k.flag ∙ e) to k.is))
     own_stored_part false i v w t wl lv fc fv fm e j =
         let c = 2 * i + place.copies in
         let y = stored c v w in
         let yl = put_words w.fram c v wl lv in
-        let e20 : pc + 6 + 14 ≡ pc + 20 = omega arith in
-        let e114 : pc + 22 + 92 ≡ pc + 114 = omega arith in
-        subst (λ n. Follows z n 71 t (behind_effects (Store c v ∷ []) (first_stored place list i y))) e114
-        (then_end z (pc + 22 + 92) 11 60 t _ (Store c v ∷ []) (first_stored place list i y).effects (first_stored place list i y).end
-        (copy_part place list (pc + 6) i v w t wl lv fc fv fm copies j) (λ u k.
-        let p20 : u.pc ≡ pc + 20 = k.is.at ∙ e20 in
-        then_end z (pc + 22 + 92) 2 58 u (Copied (pc + 22) y i (y.fram list.ver) false) [] (first_stored place list i y).effects
+        let e108 : pc + 16 + 92 ≡ pc + 108 = omega arith in
+        subst (λ n. Follows z n 71 t (behind_effects (Store c v ∷ []) (first_stored place list i y))) e108
+        (then_end z (pc + 16 + 92) 11 60 t _ (Store c v ∷ []) (first_stored place list i y).effects (first_stored place list i y).end
+        (copy_part place list pc i v w t wl lv fc fv fm copies j) (λ u k.
+        then_end z (pc + 16 + 92) 2 58 u (Copied (pc + 16) y i (y.fram list.ver) false) [] (first_stored place list i y).effects
         (first_stored place list i y).end
-        (jump_exact z condition.Equal 46 (pc + 22) false u _ (ap z.code p20 ∙ at20) (k.flag ∙ e) (omega (arith, p20))
-        (record { is = stands_elsewhere z (pc + 6 + 14) (pc + 22) y u _ k.is refl refl refl refl refl refl; four = k.four; six = k.six; flag = k.flag ∙ e }))
-        (λ u' k'. first_follows z place list (pc + 22) behind i y u' yl fc fm k'.is k'.four k'.six)))
+        (jump_exact z condition.Equal 46 (pc + 16) false u _ (ap z.code k.is.at ∙ at14) (k.flag ∙ e) (omega (arith, k.is.at))
+        (record { is = stands_elsewhere z (pc + 14) (pc + 16) y u _ k.is refl refl refl refl refl refl; four = k.four; six = k.six; flag = k.flag ∙ e }))
+        (λ u' k'. first_follows z place list (pc + 16) behind i y u' yl fc fm k'.is k'.four k'.six)))
 
-    -- a word is written at an index that is not below the length
-    past_write : (i v : ℕ) (w : WordState) (t : Core) → nat_lt i place.length ≡ false → i < 0x10000 → HasTwo z pc w i v t
-        → Runs z.code [] 75 t (StandsFor z (pc + 114) w)
-    past_write i v w t lt r k =
-        let high = (z.tidy (pc + 110) _ at110).high in
-        let to : sum16 (pc + 4 + 2) (distance 54) ≡ pc + 114 = omega arith in
-        dearer z [] 4 75 t _ (omega arith)
-        (runs_on z 2 2 t _ _ [] [] (compare_two pc i v place.length w t r l at0 k) (λ t q.
-        jump_to z condition.Carry 54 (pc + 4) (pc + 114) true w t jump4 (q.flag ∙ le_of_lt z i place.length false lt) to q.two.is))
-
-    write_by : (b : Bool) (i v : ℕ) (w : WordState) (t : Core) → ((a : ℕ) → w.fram a < 0x10000)
-        → nat_lt i place.length ≡ b → i < 0x10000 → v < 0x10000 → HasTwo z pc w i v t
-        → Follows z (pc + 114) 75 t (if b then own_stored place list i v w else goes_on [] w)
-    write_by false i v w t wl lt r s k = past_write i v w t lt r k
-    write_by true i v w t wl lt r s k =
+    stored_part : (i v : ℕ) (w : WordState) (t : Core) → ((a : ℕ) → w.fram a < 0x10000) → v < 0x10000 → HasTwo z pc w i v t
+        → Follows z (pc + 108) 71 t (own_stored place list i v w)
+    stored_part i v w t wl s k =
         let c = 2 * i + place.copies in
+        let m = 2 * i + place.versions in
         let y = stored c v w in
-        guarded z (is_place c) (pc + 114) 75 t _ (λ g1. guarded z (is_place list.ver) (pc + 114) 75 t _
-        (λ g2. guarded z (is_place (2 * i + place.versions)) (pc + 114) 75 t _ (λ g3.
-        then_end z (pc + 114) 4 71 t (HasTwo z (pc + 6) w i v) [] _ _
-        (runs_on z 2 2 t _ _ [] [] (compare_two pc i v place.length w t r l at0 k) (λ t q.
-        let p4 : t.pc ≡ pc + 4 = q.two.is.at in
-        jump_exact z condition.Carry 54 (pc + 6) false t _ (ap z.code p4 ∙ jump4) (q.flag ∙ le_of_lt z i place.length true lt) (omega (arith, p4))
-        (record { is = stands_elsewhere z (pc + 4) (pc + 6) w t _ q.two.is refl refl refl refl refl refl; four = q.two.four; five = q.two.five })))
-        (λ t j. own_stored_part (y.fram list.ver == y.fram (2 * i + place.versions)) i v w t wl s (place_is c g1) (place_is list.ver g2)
-        (place_is (2 * i + place.versions) g3) refl j))))
+        guarded z (is_place c) (pc + 108) 71 t _ (λ g1. guarded z (is_place list.ver) (pc + 108) 71 t _
+        (λ g2. guarded z (is_place m) (pc + 108) 71 t _ (λ g3.
+        own_stored_part (y.fram list.ver == y.fram m) i v w t wl s (place_is c g1) (place_is list.ver g2) (place_is m g3) refl k)))
 
-    -- a word in R5 is written at an index in R4, if that is below the length
-    pub write_part : (i v : ℕ) (w : WordState) (t : Core) → ((a : ℕ) → w.fram a < 0x10000) → i < 0x10000 → v < 0x10000 → HasTwo z pc w i v t
-        → Follows z (pc + 114) 75 t (versioned_stored place list i v w)
-    write_part i v w t wl r s k = write_by (nat_lt i place.length) i v w t wl refl r s k
+  -- behind the check, by whether the index is below the length
+  write_by : (b : Bool) (place : ArrayPlace) (list : ListPlace) (pc : ℕ) → place.length < 0x10000 → Stands z.code pc (write_code false place list)
+      → (i v : ℕ) (w : WordState) (t : Core) → ((a : ℕ) → w.fram a < 0x10000) → nat_lt i place.length ≡ b → i < 0x10000 → v < 0x10000
+      → HasTwo z pc w i v t
+      → Follows z (pc + forms_bytes (write_code false place list)) 75 t (if b then own_stored place list i v w else goes_on [] w)
+  write_by false place list pc l h i v w t wl lt r s k =
+      let check = check_code place.length 54 in
+      let at = pc + forms_bytes check in
+      let front = stands_front z.code pc check (stored_code place list) h in
+      let back = stands_back z.code pc check (stored_code place list) h in
+      let high = (z.tidy (at + 104) _ (at104 place list at back)).high in
+      let to : sum16 at (distance 54) ≡ pc + forms_bytes (write_code false place list) = omega (arith, forms_bytes-append check (stored_code place list)) in
+      dearer z [] 4 75 t _ (omega arith)
+      (so_runs z [] 4 t (Flushed z (pc + forms_bytes (write_code false place list)) w t.work) _ (λ u j. j.is)
+      (check_part z false place.length 54 pc _ i w t lt l r front to k.four k.is))
+  write_by true place list pc l h i v w t wl lt r s k =
+      let check = check_code place.length 54 in
+      let at = pc + forms_bytes check in
+      let front = stands_front z.code pc check (stored_code place list) h in
+      let back = stands_back z.code pc check (stored_code place list) h in
+      let b = own_stored place list i v w in
+      let end : at + 108 ≡ pc + forms_bytes (write_code false place list) = omega (arith, forms_bytes-append check (stored_code place list)) in
+      ends_at z (at + 108) _ 75 t b end
+      (then_end z (at + 108) 4 71 t (Flushed z at w t.work) [] b.effects b.end (check_part z true place.length 54 pc at i w t lt l r front refl k.four k.is)
+      (λ u j. stored_part place list at back i v w u wl s
+      (record { is = j.is; four = ap (λ (f : ℕ → ℕ). f 4) j.work ∙ k.four; five = ap (λ (f : ℕ → ℕ). f 5) j.work ∙ k.five })))
+
+  -- a word in R5 is written at an index in R4, by whether that is surely below the length
+  pub write_part : (b : Bool) (place : ArrayPlace) (list : ListPlace) (pc : ℕ) → place.length < 0x10000 → Stands z.code pc (write_code b place list)
+      → (i v : ℕ) (w : WordState) (t : Core) → (b ≡ true → nat_lt i place.length ≡ true) → ((a : ℕ) → w.fram a < 0x10000) → i < 0x10000 → v < 0x10000
+      → HasTwo z pc w i v t → Follows z (pc + forms_bytes (write_code b place list)) 75 t (versioned_stored place list i v w)
+  write_part true place list pc l h i v w t sure wl r s k =
+      let b = own_stored place list i v w in
+      subst (λ c. Follows z (pc + 108) 75 t (if c then b else goes_on [] w)) (sym (sure refl))
+      (more_cycles z (pc + 108) 71 75 t b.effects b.end (omega arith) (stored_part place list pc h i v w t wl s k))
+  write_part false place list pc l h i v w t sure wl r s k = write_by (nat_lt i place.length) place list pc l h i v w t wl refl r s k

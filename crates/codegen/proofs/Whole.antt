@@ -1,11 +1,11 @@
 -- The code of a word program does what the program does, within the cycles of the way that it takes.
 use Rattle.std.proofs.Common.{◌≡◌, ℕ, suc, ◌+◌, ◌-◌, ◌*◌, ◌<◌, Bool, true, false, not, nat_lt, if◌then◌else◌, List, [], ◌∷◌, ◌++◌, length, All, Some}
-use Rattle.std.proofs.Common.{None, refl, sym, ap, subst, arith}
+use Rattle.std.proofs.Common.{◌≢◌, None, refl, sym, ap, subst, arith}
 use Rattle.std.specs.List.{AllByRecursion}
 use Rattle.array_versions.specs.fram_board.Effects.{Effect}
 use Rattle.msp_isa.specs.declared.instructions.Condition.TheVariants as condition
 use Rattle.msp_isa.specs.declared.operands.Konst.TheVariants as konst
-use Rattle.code_forms.specs.Forms.{R4, Core, Form, form_bytes, Move, Branch, Number, Fram, ToFram}
+use Rattle.code_forms.specs.Forms.{R4, Core, Form, form_bytes, Move, Branch, Fram, ToFram}
 use Rattle.code_forms.specs.Code.{Stands, forms_bytes}
 use Rattle.code_forms.proofs.Interface.{stands_front, stands_back, forms_behind, forms_bytes-append}
 use Rattle.array_versions.specs.declared.operations.Comparison.{Comparison}
@@ -13,25 +13,30 @@ use Rattle.array_versions.specs.Operations.{is_true, compare_words}
 use Rattle.array_versions.specs.Program.{Step, Test, Program, number, load, keep, update, local, set_local, update_local, unary, binary, shift, element}
 use Rattle.array_versions.specs.Program.{emit_word}
 use Rattle.array_versions.specs.Program.{list_entry}
-use Rattle.array_versions.specs.Program.{versioned_read, versioned_write, sense, truth, choose, repeat, store_number, move_word, jump, holds}
+use Rattle.array_versions.specs.Program.{versioned_read, versioned_write, versioned_update, sense, truth, choose, repeat, store_number, move_word, jump, holds}
 use Rattle.array_versions.specs.Program.{compares}
 use Rattle.array_versions.specs.Program.{both, either, fails, nothing, step}
 use Rattle.array_versions.specs.Behaviour.{WordState, started, End, GoesOn, Jumps, Short, Strays, Broken, Behaviour, with_stack, with_local}
-use Rattle.array_versions.specs.Behaviour.{with_top, with_two, is_place, local_pushed, local_updated, number_pushed, way_by_top, way_by_two, step_behaviour, then_on}
+use Rattle.array_versions.specs.Behaviour.{with_top, with_two, is_place, local_pushed, local_updated, number_pushed, way_by_top, way_by_two, step_behaviour}
+use Rattle.array_versions.specs.Behaviour.{then_on}
 use Rattle.array_versions.specs.Behaviour.{tested}
 use Rattle.array_versions.specs.Behaviour.{behaviour}
 use Rattle.array_versions.specs.Form.{Place, start, assigning, Moves, EachTurn, EachStepWay, EachTestWay, EachWay, StepLocalsBelow, TestLocalsBelow}
-use Rattle.array_versions.specs.Form.{LocalsBelow, StepLoopsCount, TestLoopsCount, LoopsCount, StepOfWords, TestOfWords, OfWords}
+use Rattle.array_versions.specs.Form.{StepSpares, TestSpares, Spares, LocalsBelow, StepLoopsCount, TestLoopsCount, LoopsCount, StepOfWords, TestOfWords}
+use Rattle.array_versions.specs.Form.{OfWords}
 use Rattle.array_versions.specs.Cost.{top_spent, spent_by_top, spent_by_two, step_spent, spent_on}
 use Rattle.array_versions.specs.Cost.{test_spent}
 use Rattle.array_versions.specs.Cost.{spent}
 use Rattle.array_versions.specs.Laws.{IsStateOfWords, EndsInWords, IsSound}
 use Rattle.array_versions.proofs.Interface.{Matches, GoesWell, matches_local, start_matches, step_well, well, whole_ends_soundly, local_words}
 use Rattle.array_versions.proofs.Interface.{step_words as words_step, words, Leaves, leaves}
+use Rattle.codegen.specs.declared.bounds.Bound.{Bound}
 use Rattle.codegen.specs.declared.waiting.Waiting.{Waiting}
 use Rattle.codegen.specs.declared.waiting.Waiting.TheVariants as waiting
-use Rattle.codegen.specs.Code.{flushed, top_of, below_top, kept, top_to_four, two_to_registers, entry_code, compare_form, holding, failing, size, pass_over, decision, holds_code, compares_code, truth_code}
-use Rattle.codegen.specs.Code.{number_code, turns_code, waiting_behind, waiting_after, step_code, test_code, steps_code, code_of}
+use Rattle.codegen.specs.Code.{number_source, flushed, top_of, below_top, kept, top_to_four, two_to_registers, entry_code, compare_form, holding, failing, size}
+use Rattle.codegen.specs.Code.{pass_over}
+use Rattle.codegen.specs.Code.{decision, holds_code, compares_code, truth_code}
+use Rattle.codegen.specs.Code.{number_code, turns_code, waiting_behind, waiting_after, bound_of, step_code, test_code, steps_code, block_code, code_of}
 use Rattle.codegen.specs.Laws.{ComesTo, CodeDoesAsProgram}
 use Rattle.codegen.proofs.Stretches.{Setting, runs_on, nothing_run}
 use Rattle.codegen.proofs.Memory.{place_is, assigned_same}
@@ -45,42 +50,62 @@ use Rattle.codegen.proofs.Loops.{loop_by}
 use Rattle.codegen.proofs.Access.{entry_part}
 use Rattle.codegen.proofs.Operands.{owed, clear_cycles, owed_kept, load_cycles, load_owed, Describes, InRegister, LoadedTwo, dressed, flush_part}
 use Rattle.codegen.proofs.Operands.{top_to_four_part, two_to_registers_part}
-use Rattle.codegen.proofs.Results.{Does, number_part, load_part, local_by, keep_reaches, update_reaches, set_reaches, update_local_reaches, unary_part, binary_part}
-use Rattle.codegen.proofs.Results.{shift_reaches, element_reaches, emit_reaches, read_reaches, write_reaches, sense_part, alone_part, push_under, push_under_two}
+use Rattle.codegen.proofs.LoopBounds.{Bounded, Spared, spared_so, bounded_with, bounded_on, step_bounded}
+use Rattle.codegen.proofs.Results.{Does, number_part, load_part, local_by, keep_reaches, update_reaches, set_reaches, update_local_reaches, unary_part}
+use Rattle.codegen.proofs.Results.{binary_part}
+use Rattle.codegen.proofs.Results.{shift_reaches, element_reaches, emit_reaches, read_reaches, write_reaches, sense_part, alone_part, push_under}
+use Rattle.codegen.proofs.Results.{push_under_two}
+use Rattle.codegen.proofs.VersionUpdates.{in_place_reaches}
 use Rattle.codegen.proofs.Lengths.{compare_length}
 
--- a state from which what follows is fit, and which holds words
-record Ready (next : Place → Type 0) (w : WordState) : Type 0 where
+-- a state from which what follows is fit, which holds words, and in which the local of each loop around is below its number
+record Ready (bs : List Bound) (next : Place → Type 0) (w : WordState) : Type 0 where
   place : Place
   fit : next place
   matches : Matches place w
   words_in : IsStateOfWords w
+  bounded : Bounded bs w.locals
 
-ready_on : (next : Place → Type 0) (e : End) → GoesWell next e → EndsInWords e → OnGoesOn (Ready next) e
-ready_on next (GoesOn w) g h = record { place = g.0; fit = g.1; matches = g.2; words_in = h }
-ready_on next (Jumps to w) g h = tt
-ready_on next Short g h = tt
-ready_on next Strays g h = tt
-ready_on next Broken g h = tt
+ready_on : (bs : List Bound) (next : Place → Type 0) (e : End) → GoesWell next e → EndsInWords e → OnGoesOn (λ v. Bounded bs v.locals) e
+    → OnGoesOn (Ready bs next) e
+ready_on bs next (GoesOn w) g h b = record { place = g.0; fit = g.1; matches = g.2; words_in = h; bounded = b }
+ready_on bs next (Jumps to w) g h b = tt
+ready_on bs next Short g h b = tt
+ready_on bs next Strays g h b = tt
+ready_on bs next Broken g h b = tt
 
 -- the same with the word of a local
-ready_with : (next : Place → Type 0) (n k : ℕ) (e : End) → GoesWell next e → EndsInWords e → Leaves n (Some k) e
-    → OnGoesOn (λ v. Ready next v × (v.locals n ≡ Some k)) e
-ready_with next n k (GoesOn w) g h l = (record { place = g.0; fit = g.1; matches = g.2; words_in = h }, l)
-ready_with next n k (Jumps to w) g h l = tt
-ready_with next n k Short g h l = tt
-ready_with next n k Strays g h l = tt
-ready_with next n k Broken g h l = tt
+ready_with : (bs : List Bound) (next : Place → Type 0) (n k : ℕ) (e : End) → GoesWell next e → EndsInWords e → OnGoesOn (λ v. Bounded bs v.locals) e
+    → Leaves n (Some k) e → OnGoesOn (λ v. Ready bs next v × (v.locals n ≡ Some k)) e
+ready_with bs next n k (GoesOn w) g h b l = (record { place = g.0; fit = g.1; matches = g.2; words_in = h; bounded = b }, l)
+ready_with bs next n k (Jumps to w) g h b l = tt
+ready_with bs next n k Short g h b l = tt
+ready_with bs next n k Strays g h b l = tt
+ready_with bs next n k Broken g h b l = tt
 
 -- what is left where so many words are taken
-ready_popped : (next : Place → Type 0) (q : Place) (n : ℕ) (w : WordState) (us : List ℕ) → next (record q { depth = q.depth - n + 0 }) → Matches q w
-    → IsStateOfWords w → length us + n ≡ length w.stack → AllByRecursion (λ x. x < 0x10000) us → Ready next (with_stack us w)
-ready_popped next q n w us f m h e l =
+ready_popped : (bs : List Bound) (next : Place → Type 0) (q : Place) (n : ℕ) (w : WordState) (us : List ℕ) → next (record q { depth = q.depth - n + 0 })
+    → Matches q w → IsStateOfWords w → Bounded bs w.locals → length us + n ≡ length w.stack → AllByRecursion (λ x. x < 0x10000) us
+    → Ready bs next (with_stack us w)
+ready_popped bs next q n w us f m h b e l =
     record {
       place = record q { depth = q.depth - n + 0 };
       fit = f;
       matches = record { depth = omega (arith, e, m.depth); assigned = m.assigned };
       words_in = record { stack = l; locals = h.locals; fram = h.fram; readings = h.readings };
+      bounded = b;
+    }
+
+-- a turn of a loop begins: its local has this word, which is below its number
+turn_ready : (bs : List Bound) (next : Place → Type 0) (n k below : ℕ) (w : WordState) (q : Place) → next (assigning n q) → Matches q w → IsStateOfWords w
+    → Bounded bs w.locals → Spared bs (λ m. n ≢ m) → k < 0x10000 → k < below → Ready (bound_of n below ∷ bs) next (with_local n k w)
+turn_ready bs next n k below w q f m h b spared small less =
+    record {
+      place = assigning n q;
+      fit = f;
+      matches = matches_local q w n k m;
+      words_in = local_words w n k h small;
+      bounded = (record { word = k; has = assigned_same w.locals n k; less = less }, bounded_with bs w.locals n k spared b);
     }
 
 module _ (z : Setting) where
@@ -100,15 +125,15 @@ module _ (z : Setting) where
       (constant_part z konst.Zero (pc + 4) w u l (forms_behind z.code pc 2 truth_code h) i)
 
   -- from states from which what follows is fit, code follows a way
-  abbrev WayFollows : (Place → Type 0) → ℕ → ℕ → (WordState → ℕ) → (WordState → Behaviour) → Type 0
-  WayFollows next at end cost run = (v : WordState) (x : Core) → Ready next v → StandsFor z at v x → Follows z end (cost v) x (run v)
+  abbrev WayFollows : List Bound → (Place → Type 0) → ℕ → ℕ → (WordState → ℕ) → (WordState → Behaviour) → Type 0
+  WayFollows bs next at end cost run = (v : WordState) (x : Core) → Ready bs next v → StandsFor z at v x → Follows z end (cost v) x (run v)
 
   -- behind a program whose word or words decide
-  module _ (when : Bool) (d holds_at fails_at end : ℕ) (held failed : Place → Type 0) (ch cf : WordState → ℕ) (rh rf : WordState → Behaviour)
-      (fh : WayFollows held holds_at end ch rh) (ff : WayFollows failed fails_at end cf rf) where
+  module _ (bs : List Bound) (when : Bool) (d holds_at fails_at end : ℕ) (held failed : Place → Type 0) (ch cf : WordState → ℕ) (rh rf : WordState → Behaviour)
+      (fh : WayFollows bs held holds_at end ch rh) (ff : WayFollows bs failed fails_at end cf rf) where
     by_top : (os : List Waiting) (pc : ℕ) (w : WordState) (u : Core) (vs : List ℕ) → Stands z.code pc (holds_code os when d)
         → Fork when d holds_at fails_at (pc + forms_bytes (holds_code os when d))
-        → Ready (Moves z.room 1 0 (λ r. held r × failed r)) w → w.stack ≡ vs → Describes z os pc w u
+        → Ready bs (Moves z.room 1 0 (λ r. held r × failed r)) w → w.stack ≡ vs → Describes z os pc w u
         → Follows z end (owed os + (8 + top_spent vs (λ v us. if is_true v then ch (with_stack us w) else cf (with_stack us w)))) u
         (with_top vs (λ v us. if is_true v then rh (with_stack us w) else rf (with_stack us w)))
     by_top os pc w u [] h fork r e i = tt
@@ -116,8 +141,8 @@ module _ (z : Setting) where
         let t = with_stack us w in
         let words = subst (AllByRecursion (λ x. x < 0x10000)) e r.words_in.stack in
         let left : length us + 1 ≡ length w.stack = omega (arith, ap (length {A = ℕ}) e) in
-        let popped : (next : Place → Type 0) → next (record r.place { depth = r.place.depth - 1 + 0 }) → Ready next t =
-        λ next f. ready_popped next r.place 1 w us f r.matches r.words_in left words.1 in
+        let popped : (next : Place → Type 0) → next (record r.place { depth = r.place.depth - 1 + 0 }) → Ready bs next t =
+        λ next f. ready_popped bs next r.place 1 w us f r.matches r.words_in r.bounded left words.1 in
         let under = below_top os in
         let load = top_to_four os in
         let pushes = flushed (kept under) in
@@ -138,14 +163,15 @@ module _ (z : Setting) where
         (λ x k. push_under z R4 (kept under) first t v x (stands_back z.code pc load pushes there) k) in
         more_cycles z end (l + owed (kept under) + 1 + 5 + (if b then ch t else cf t)) most u (if b then rh t else rf t).effects (if b then rh t else rf t).end
         (omega (arith, owed_kept under, load_owed os))
-        (decided_follows z when b (mid + 2) d holds_at fails_at (l + owed (kept under) + 1) end (ch t) (cf t) condition.NotEqual condition.Equal t u (rh t) (rf t)
+        (decided_follows z when b (mid + 2) d holds_at fails_at (l + owed (kept under) + 1) end (ch t) (cf t) condition.NotEqual condition.Equal t u (rh t)
+        (rf t)
         back.1 (fork_at when d holds_at fails_at (pc + forms_bytes (holds_code os when d)) (mid + 2 + forms_bytes last) behind fork) (omega arith)
         (runs_on z (l + owed (kept under)) 1 u (Has z R4 mid t v) _ [] [] come (λ x k. holds_part z mid v t x words.0 back.0 k))
         (λ x j. fh t x (popped held r.fit.2.0) j) (λ x j. ff t x (popped failed r.fit.2.1) j))
 
     by_two : (os : List Waiting) (c : Comparison) (pc : ℕ) (w : WordState) (u : Core) (vs : List ℕ) → Stands z.code pc (compares_code os c when d)
         → Fork when d holds_at fails_at (pc + forms_bytes (compares_code os c when d))
-        → Ready (Moves z.room 2 0 (λ r. held r × failed r)) w → w.stack ≡ vs → Describes z os pc w u
+        → Ready bs (Moves z.room 2 0 (λ r. held r × failed r)) w → w.stack ≡ vs → Describes z os pc w u
         → Follows z end
         (owed os + (10 + top_spent vs (λ y xs. top_spent xs (λ x us. if compare_words c x y then ch (with_stack us w) else cf (with_stack us w))))) u
         (with_two vs (λ x y us. if compare_words c x y then rh (with_stack us w) else rf (with_stack us w)))
@@ -155,8 +181,8 @@ module _ (z : Setting) where
         let t = with_stack us w in
         let words = subst (AllByRecursion (λ x. x < 0x10000)) e r.words_in.stack in
         let left : length us + 2 ≡ length w.stack = omega (arith, ap (length {A = ℕ}) e) in
-        let popped : (next : Place → Type 0) → next (record r.place { depth = r.place.depth - 2 + 0 }) → Ready next t =
-        λ next f. ready_popped next r.place 2 w us f r.matches r.words_in left words.1.1 in
+        let popped : (next : Place → Type 0) → next (record r.place { depth = r.place.depth - 2 + 0 }) → Ready bs next t =
+        λ next f. ready_popped bs next r.place 2 w us f r.matches r.words_in r.bounded left words.1.1 in
         let under = below_top os in
         let ks = kept (below_top under) in
         let load = two_to_registers os in
@@ -187,78 +213,83 @@ module _ (z : Setting) where
         (λ s j. fh t s (popped held r.fit.2.0) j) (λ s j. ff t s (popped failed r.fit.2.1) j))
 
   -- behind steps with no word waiting in front of them, code that takes those that wait behind them
-  leaf_follows : (p : Program) (next : Place → Type 0) (pc end : ℕ) (cost : WordState → ℕ) (go : WordState → Behaviour) (w : WordState) (u : Core)
-      → (let os = waiting_after [] p in let at = pc + forms_bytes (steps_code [] p) in let b = behaviour p w in
-      Does z os at (spent p w + 0) u b → OnGoesOn (Ready next) b.end
-      → ((x : Core) (v : WordState) → Ready next v → Describes z os at v x → Follows z end (owed os + cost v) x (go v))
+  leaf_follows : (bs : List Bound) (p : Program) (next : Place → Type 0) (pc end : ℕ) (cost : WordState → ℕ) (go : WordState → Behaviour) (w : WordState)
+      (u : Core)
+      → (let os = waiting_after [] p in let at = pc + forms_bytes (steps_code bs [] p) in let b = behaviour p w in
+      Does z os at (spent p w + 0) u b → OnGoesOn (Ready bs next) b.end
+      → ((x : Core) (v : WordState) → Ready bs next v → Describes z os at v x → Follows z end (owed os + cost v) x (go v))
       → Follows z end (spent p w + spent_on b.end cost) u (then_on b go))
-  leaf_follows p next pc end cost go w u a r f =
+  leaf_follows bs p next pc end cost go w u a r f =
       let os = waiting_after [] p in
-      let at = pc + forms_bytes (steps_code [] p) in
+      let at = pc + forms_bytes (steps_code bs [] p) in
       let b = behaviour p w in
       let all = then_on b go in
       let most = spent p w + 0 + spent_on b.end cost in
       more_cycles z end most (spent p w + spent_on b.end cost) u all.effects all.end (omega arith)
       (then_follows z 0 end most (StandsFor z end) u all.effects all.end
-      (reach_way z (owed os) 0 (Describes z os at) (StandsFor z end) (spent p w + 0) cost u (Ready next) b.effects b.end go a r
+      (reach_way z (owed os) 0 (Describes z os at) (StandsFor z end) (spent p w + 0) cost u (Ready bs next) b.effects b.end go a r
       (λ x v q d. reaches z (StandsFor z end) end (owed os + cost v) x (go v).effects (go v).end (λ s t i. i) (f x v q d)))
       (λ t s i. nothing_run z t (StandsFor z end s) i))
 
   -- steps with no word waiting in front of them, and then those that wait behind them are pushed
-  block_follows : (p : Program) (pc : ℕ) (w : WordState) (u : Core) → Stands z.code pc (code_of p)
-      → (Stands z.code pc (steps_code [] p) → Does z (waiting_after [] p) (pc + forms_bytes (steps_code [] p)) (spent p w + 0) u (behaviour p w))
-      → Follows z (pc + forms_bytes (code_of p)) (spent p w) u (behaviour p w)
-  block_follows p pc w u h f =
-      let a = steps_code [] p in
+  block_follows : (bs : List Bound) (p : Program) (pc : ℕ) (w : WordState) (u : Core) → Stands z.code pc (block_code bs p)
+      → (Stands z.code pc (steps_code bs [] p) → Does z (waiting_after [] p) (pc + forms_bytes (steps_code bs [] p)) (spent p w + 0) u (behaviour p w))
+      → Follows z (pc + forms_bytes (block_code bs p)) (spent p w) u (behaviour p w)
+  block_follows bs p pc w u h f =
+      let a = steps_code bs [] p in
       let os = waiting_after [] p in
       let mid = pc + forms_bytes a in
       let b = behaviour p w in
-      ends_at z (mid + forms_bytes (flushed os)) (pc + forms_bytes (code_of p)) (spent p w) u b (omega (arith, forms_bytes-append a (flushed os)))
+      ends_at z (mid + forms_bytes (flushed os)) (pc + forms_bytes (block_code bs p)) (spent p w) u b (omega (arith, forms_bytes-append a (flushed os)))
       (then_follows z (owed os) (mid + forms_bytes (flushed os)) (spent p w) (Describes z os mid) u b.effects b.end
       (reach_more z (owed os) (Describes z os mid) (spent p w + 0) (spent p w) u b.effects b.end (omega arith)
       (f (stands_front z.code pc a (flushed os) h)))
       (λ t v d. flush_part z os mid v t d (stands_back z.code pc a (flushed os) h)))
 
   mutual
-    step_follows : (first : Step) (next : Place → Type 0) (os : List Waiting) (pc : ℕ) (w : WordState) (u : Core) → Ready (EachStepWay z.room first next) w
-        → StepOfWords first → StepLocalsBelow z.locals first → StepLoopsCount first
-        → Stands z.code pc (step_code os first) → Describes z os pc w u
-        → Does z (waiting_behind os first) (pc + forms_bytes (step_code os first)) (step_spent first w + owed os) u (step_behaviour first w)
-    step_follows (number v) next os pc w u r o l c h d = number_part z v os pc w u (omega (arith, r.fit.1, r.matches.depth)) d
-    step_follows (load a) next os pc w u r o l c h d =
+    step_follows : (bs : List Bound) (first : Step) (next : Place → Type 0) (os : List Waiting) (pc : ℕ) (w : WordState) (u : Core)
+        → Ready bs (EachStepWay z.room first next) w → StepOfWords first → StepLocalsBelow z.locals first → StepLoopsCount first
+        → Spared bs (λ n. StepSpares n first)
+        → Stands z.code pc (step_code bs os first) → Describes z os pc w u
+        → Does z (waiting_behind os first) (pc + forms_bytes (step_code bs os first)) (step_spent first w + owed os) u (step_behaviour first w)
+    step_follows bs (number v) next os pc w u r o l c spared h d = number_part z v os pc w u (omega (arith, r.fit.1, r.matches.depth)) d
+    step_follows bs (load a) next os pc w u r o l c spared h d =
         let after = waiting.Fram a ∷ os in
         reach_guarded z (is_place a) (owed after) (Describes z after (pc + 0)) (5 + owed os) u _
         (λ e. load_part z a os pc w u (omega (arith, r.fit.1, r.matches.depth)) (place_is a e) d)
-    step_follows (keep a) next os pc w u r o l c h d = keep_reaches z a os pc w w.stack u refl h d
-    step_follows (update op a) next os pc w u r o l c h d = update_reaches z op a os pc w w.stack u (r.words_in.fram a) refl r.words_in.stack h d
-    step_follows (local n) next os pc w u r o l c h d =
+    step_follows bs (keep a) next os pc w u r o l c spared h d = keep_reaches z a os pc w w.stack u refl h d
+    step_follows bs (update op a) next os pc w u r o l c spared h d = update_reaches z op a os pc w w.stack u (r.words_in.fram a) refl r.words_in.stack h d
+    step_follows bs (local n) next os pc w u r o l c spared h d =
         let x = r.matches.assigned n r.fit.0 in
         let f = r.fit.1 in
         let after = waiting_behind os (local n) in
-        let end = pc + forms_bytes (step_code os (local n)) in
+        let end = pc + forms_bytes (step_code bs os (local n)) in
         subst (λ v. Does z after end (5 + owed os) u (local_pushed v w)) (sym x.is)
         (local_by z (nat_lt n 8) n x.word os pc w u refl (omega (arith, f.1, r.matches.depth)) l x.is h d)
-    step_follows (set_local n) next os pc w u r o l c h d = set_reaches z n os pc w w.stack u l refl h d
-    step_follows (update_local op n) next os pc w u r o l c h d =
+    step_follows bs (set_local n) next os pc w u r o l c spared h d = set_reaches z n os pc w w.stack u l refl h d
+    step_follows bs (update_local op n) next os pc w u r o l c spared h d =
         let x = r.matches.assigned n r.fit.0 in
-        let end = pc + forms_bytes (step_code os (update_local op n)) in
+        let end = pc + forms_bytes (step_code bs os (update_local op n)) in
         subst (λ v. Does z [] end (10 + owed os) u (with_top w.stack (λ y us. local_updated op n y v (with_stack us w)))) (sym x.is)
         (update_local_reaches z op n x.word os pc w w.stack u l x.is (r.words_in.locals n x.word x.is) refl r.words_in.stack h d)
-    step_follows (unary op) next os pc w u r o l c h d = unary_part z op os pc w w.stack u refl r.words_in.stack h d
-    step_follows (binary op) next os pc w u r o l c h d = binary_part z op os pc w w.stack u refl r.words_in.stack h d
-    step_follows (shift op k) next os pc w u r o l c h d = shift_reaches z op k os pc w w.stack u refl r.words_in.stack h d
-    step_follows (element base size) next os pc w u r o l c h d = element_reaches z base size os pc w w.stack u o.1 refl r.words_in.stack h d
-    step_follows (emit_word count buffer) next os pc w u r o l c h d = emit_reaches z count buffer os pc w w.stack u refl h d
-    step_follows (list_entry count list home copy n) next os pc w u r o l c h d =
+    step_follows bs (unary op) next os pc w u r o l c spared h d = unary_part z op os pc w w.stack u refl r.words_in.stack h d
+    step_follows bs (binary op) next os pc w u r o l c spared h d = binary_part z op os pc w w.stack u refl r.words_in.stack h d
+    step_follows bs (shift op k) next os pc w u r o l c spared h d = shift_reaches z op k os pc w w.stack u refl r.words_in.stack h d
+    step_follows bs (element base size) next os pc w u r o l c spared h d =
+        element_reaches z bs base size os pc w w.stack u o.1 r.bounded refl r.words_in.stack h d
+    step_follows bs (emit_word count buffer) next os pc w u r o l c spared h d = emit_reaches z count buffer os pc w w.stack u refl h d
+    step_follows bs (list_entry count list home copy n) next os pc w u r o l c spared h d =
         alone_part z os (entry_code count list home copy n) 26 pc w u (step_behaviour (list_entry count list home copy n) w) h d
         (λ t s i. entry_part z count list home copy n (pc + forms_bytes (flushed os)) w t s i)
-    step_follows (versioned_read place list) next os pc w u r o l c h d =
-        read_reaches z place list os pc w w.stack u o.0.3 r.words_in.fram refl r.words_in.stack h d
-    step_follows (versioned_write place list) next os pc w u r o l c h d =
-        write_reaches z place list os pc w w.stack u o.0.3 r.words_in.fram refl r.words_in.stack h d
-    step_follows sense next os pc w u r o l c h d = sense_part z os pc w w.readings u (omega (arith, r.fit.1, r.matches.depth)) refl h d
-    step_follows (truth t) next os pc w u r o l c h d =
-        let a = test_code t false 2 in
+    step_follows bs (versioned_read place list) next os pc w u r o l c spared h d =
+        read_reaches z bs place list os pc w w.stack u o.0.3 r.words_in.fram r.bounded refl r.words_in.stack h d
+    step_follows bs (versioned_write place list) next os pc w u r o l c spared h d =
+        write_reaches z bs place list os pc w w.stack u o.0.3 r.words_in.fram r.bounded refl r.words_in.stack h d
+    step_follows bs (versioned_update op place list) next os pc w u r o l c spared h d =
+        in_place_reaches z op place list o.0.3 bs os pc w w.stack u r.words_in.fram r.bounded refl r.words_in.stack h d
+    step_follows bs sense next os pc w u r o l c spared h d = sense_part z os pc w w.readings u (omega (arith, r.fit.1, r.matches.depth)) refl h d
+    step_follows bs (truth t) next os pc w u r o l c spared h d =
+        let a = test_code bs t false 2 in
         let at = pc + forms_bytes (flushed os) in
         let inside = at + forms_bytes a in
         let pushes = Moves z.room 0 1 next in
@@ -268,16 +299,16 @@ module _ (z : Setting) where
         let fork : Fork false 2 inside (inside + 4) inside = record { holds = refl; fails = refl; room = λ low. omega arith } in
         ends_at z (inside + 6) (at + forms_bytes (a ++ truth_code)) (step_spent (truth t) w) x (step_behaviour (truth t) w)
         (omega (arith, forms_bytes-append a truth_code))
-        (test_follows t false 2 inside (inside + 4) at (inside + 6) pushes pushes (λ v. 5) (λ v. 3) (number_pushed 1) (number_pushed 0) w x r o l c
+        (test_follows bs t false 2 inside (inside + 4) at (inside + 6) pushes pushes (λ v. 5) (λ v. 3) (number_pushed 1) (number_pushed 0) w x r o l c spared
         (stands_front z.code at a truth_code s) fork
         (λ v y q j. one_pushed inside v y ha (omega (arith, q.fit.1, q.matches.depth)) j)
         (λ v y q j. zero_pushed inside v y ha (omega (arith, q.fit.1, q.matches.depth)) j) i))
-    step_follows (choose t taken otherwise) next os pc w u r o l c h d =
-        let b = code_of taken in
-        let other = code_of otherwise in
+    step_follows bs (choose t taken otherwise) next os pc w u r o l c spared h d =
+        let b = block_code bs taken in
+        let other = block_code bs otherwise in
         let over = pass_over (size other) in
         let first = b ++ over in
-        let a = test_code t false (size first) in
+        let a = test_code bs t false (size first) in
         let at = pc + forms_bytes (flushed os) in
         let inside = at + forms_bytes a in
         let middle = inside + forms_bytes first in
@@ -293,78 +324,85 @@ module _ (z : Setting) where
         } in
         ends_at z end (at + forms_bytes (a ++ (first ++ other))) (step_spent (choose t taken otherwise) w) x
         (step_behaviour (choose t taken otherwise) w) (omega (arith, forms_bytes-append a (first ++ other), forms_bytes-append first other))
-        (test_follows t false (size first) inside middle at end (EachWay z.room taken next) (EachWay z.room otherwise next) (λ v. spent taken v + 3)
-        (spent otherwise) (behaviour taken) (behaviour otherwise) w x r o.0 l.0 c.0 (stands_front z.code at a (first ++ other) s) fork
+        (test_follows bs t false (size first) inside middle at end (EachWay z.room taken next) (EachWay z.room otherwise next) (λ v. spent taken v + 3)
+        (spent otherwise) (behaviour taken) (behaviour otherwise) w x r o.0 l.0 c.0
+        (spared_so bs (λ m. StepSpares m (choose t taken otherwise)) (λ m. TestSpares m t) (λ m q. q.0) spared)
+        (stands_front z.code at a (first ++ other) s) fork
         (λ v y q j. then_hop z (inside + forms_bytes b) end (spent taken v) 3 y (behaviour taken v).effects (behaviour taken v).end
-        (block_follows taken inside v y (stands_front z.code inside b over hf)
-        (λ hs. steps_follow taken next [] inside v y q o.1 l.1 c.1 hs (dressed z inside v y j)))
+        (block_follows bs taken inside v y (stands_front z.code inside b over hf)
+        (λ hs. steps_follow bs taken next [] inside v y q o.1 l.1 c.1
+        (spared_so bs (λ m. StepSpares m (choose t taken otherwise)) (λ m. Spares m taken) (λ m k. k.1) spared) hs (dressed z inside v y j)))
         (λ s' y' k. pass_part z (inside + forms_bytes b) (size other) end y' s' (stands_back z.code inside b over hf)
         (omega (arith, whole_size other, forms_bytes-append b over))
         (λ low. stands_low z middle other ho (omega (arith, low, forms_bytes-append b over))) k))
-        (λ v y q j. block_follows otherwise middle v y ho (λ hs. steps_follow otherwise next [] middle v y q o.2 l.2 c.2 hs (dressed z middle v y j))) i))
-    step_follows (repeat n from below body) next os pc w u r o l c h d =
+        (λ v y q j. block_follows bs otherwise middle v y ho (λ hs. steps_follow bs otherwise next [] middle v y q o.2 l.2 c.2
+        (spared_so bs (λ m. StepSpares m (choose t taken otherwise)) (λ m. Spares m otherwise) (λ m k. k.2) spared) hs (dressed z middle v y j))) i))
+    step_follows bs (repeat n from below body) next os pc w u r o l c spared h d =
+        let inner = bound_of n below ∷ bs in
         let start = number_code n from in
-        let made = code_of body in
+        let made = block_code inner body in
         let at = pc + forms_bytes (flushed os) in
+        let top = at + forms_bytes start in
         let turn : ℕ → Place → Type 0 = λ m. EachTurn m n (EachWay z.room body) next in
         let rest : List Form = if nat_lt from below then turns_code n below made else [] in
+        let others = spared_so bs (λ m. StepSpares m (repeat n from below body)) (λ m. n ≢ m) (λ m q. q.0) spared in
+        let around = spared_so bs (λ m. StepSpares m (repeat n from below body)) (λ m. Spares m body) (λ m q. q.1) spared in
         alone_part z os (start ++ rest) (step_spent (repeat n from below body) w) pc w u (step_behaviour (repeat n from below body) w) h d (λ x hs i.
-        loop_by z (nat_lt from below) made at n from below (spent body) (behaviour body) (λ m s. Ready (turn m) s) w x refl l.0 o.2 hs i r
-        (λ stands m k s t p less j. block_follows body (at + forms_bytes start) (with_local n k s) t stands (λ hb.
-        steps_follow body (turn m) [] (at + forms_bytes start) (with_local n k s) t
-        (record {
-          place = assigning n p.place;
-          fit = p.fit;
-          matches = matches_local p.place s n k p.matches;
-          words_in = local_words s n k p.words_in (let x = o.2 in omega arith);
-        }) o.3 l.1 c.1 hb (dressed z (at + forms_bytes start) (with_local n k s) t j)))
-        (λ m k s p less. ready_with (turn m) n k (behaviour body (with_local n k s)).end
+        loop_by z (nat_lt from below) made at n from below (spent body) (behaviour body) (λ m s. Ready bs (turn m) s) w x refl l.0 o.2 hs i r
+        (λ stands m k s t p less j. block_follows inner body top (with_local n k s) t stands (λ hb.
+        steps_follow inner body (turn m) [] top (with_local n k s) t
+        (turn_ready bs (EachWay z.room body (turn m)) n k below s p.place p.fit p.matches p.words_in p.bounded others (let x = o.2 in omega arith) less)
+        o.3 l.1 c.1 (c.0, around) hb (dressed z top (with_local n k s) t j)))
+        (λ m k s p less. ready_with bs (turn m) n k (behaviour body (with_local n k s)).end
         (well z.room body (turn m) (assigning n p.place) (with_local n k s) p.fit (matches_local p.place s n k p.matches))
         (words body (with_local n k s) o.3 (local_words s n k p.words_in (let x = o.2 in omega arith)))
+        (bounded_on bs body (with_local n k s) around (bounded_with bs s.locals n k others p.bounded))
         (leaves n (Some k) body (with_local n k s) c.0 (assigned_same s.locals n k))))
-    step_follows (store_number a v) next os pc w u r o l c h d =
-        alone_part z os (Move (Number v) (ToFram a) ∷ []) 5 pc w u (step_behaviour (store_number a v) w) h d
+    step_follows bs (store_number a v) next os pc w u r o l c spared h d =
+        alone_part z os (Move (number_source v) (ToFram a) ∷ []) 5 pc w u (step_behaviour (store_number a v) w) h d
         (λ t s i. store_part z a v (pc + forms_bytes (flushed os)) w t s i)
-    step_follows (move_word from to) next os pc w u r o l c h d =
+    step_follows bs (move_word from to) next os pc w u r o l c spared h d =
         let at = pc + forms_bytes (flushed os) in
         alone_part z os (Move (Fram from) (ToFram to) ∷ []) 6 pc w u (step_behaviour (move_word from to) w) h d
         (λ t s i. guarded z (is_place from) (at + 6) 6 t _ (λ e. move_part z from to at w t (place_is from e) s i))
-    step_follows (jump to) next os pc w u r o l c h d =
+    step_follows bs (jump to) next os pc w u r o l c spared h d =
         alone_part z os (Branch to ∷ []) 3 pc w u (step_behaviour (jump to) w) h d
         (λ t s i. jump_part z to (pc + forms_bytes (flushed os)) w t r.fit s i)
 
-    test_follows : (t : Test) (when : Bool) (d holds_at fails_at pc end : ℕ) (held failed : Place → Type 0) (ch cf : WordState → ℕ)
-        (rh rf : WordState → Behaviour) (w : WordState) (u : Core) → Ready (EachTestWay z.room t held failed) w → TestOfWords t
-        → TestLocalsBelow z.locals t → TestLoopsCount t
-        → Stands z.code pc (test_code t when d) → Fork when d holds_at fails_at (pc + forms_bytes (test_code t when d))
-        → WayFollows held holds_at end ch rh → WayFollows failed fails_at end cf rf → StandsFor z pc w u
+    test_follows : (bs : List Bound) (t : Test) (when : Bool) (d holds_at fails_at pc end : ℕ) (held failed : Place → Type 0) (ch cf : WordState → ℕ)
+        (rh rf : WordState → Behaviour) (w : WordState) (u : Core) → Ready bs (EachTestWay z.room t held failed) w → TestOfWords t
+        → TestLocalsBelow z.locals t → TestLoopsCount t → Spared bs (λ n. TestSpares n t)
+        → Stands z.code pc (test_code bs t when d) → Fork when d holds_at fails_at (pc + forms_bytes (test_code bs t when d))
+        → WayFollows bs held holds_at end ch rh → WayFollows bs failed fails_at end cf rf → StandsFor z pc w u
         → Follows z end (test_spent t ch cf w) u (tested t rh rf w)
-    test_follows (holds p) when d holds_at fails_at pc end held failed ch cf rh rf w u r o l c h fork fh ff i =
-        let a = steps_code [] p in
+    test_follows bs (holds p) when d holds_at fails_at pc end held failed ch cf rh rf w u r o l c spared h fork fh ff i =
+        let a = steps_code bs [] p in
         let os = waiting_after [] p in
         let at = pc + forms_bytes a in
         let last = holds_code os when d in
         let next = Moves z.room 1 0 (λ s. held s × failed s) in
-        leaf_follows p next pc end (λ v. 8 + spent_by_top ch cf v) (way_by_top rh rf) w u
-        (steps_follow p next [] pc w u r o l c (stands_front z.code pc a last h) (dressed z pc w u i))
-        (ready_on next (behaviour p w).end (well z.room p next r.place w r.fit r.matches) (words p w o r.words_in))
-        (λ x v q j. by_top when d holds_at fails_at end held failed ch cf rh rf fh ff os at v x v.stack (stands_back z.code pc a last h)
+        leaf_follows bs p next pc end (λ v. 8 + spent_by_top ch cf v) (way_by_top rh rf) w u
+        (steps_follow bs p next [] pc w u r o l c spared (stands_front z.code pc a last h) (dressed z pc w u i))
+        (ready_on bs next (behaviour p w).end (well z.room p next r.place w r.fit r.matches) (words p w o r.words_in)
+        (bounded_on bs p w spared r.bounded))
+        (λ x v q j. by_top bs when d holds_at fails_at end held failed ch cf rh rf fh ff os at v x v.stack (stands_back z.code pc a last h)
         (fork_at when d holds_at fails_at (pc + forms_bytes (a ++ last)) (at + forms_bytes last) (omega (arith, forms_bytes-append a last)) fork) q refl j)
-    test_follows (compares e p) when d holds_at fails_at pc end held failed ch cf rh rf w u r o l c h fork fh ff i =
-        let a = steps_code [] p in
+    test_follows bs (compares e p) when d holds_at fails_at pc end held failed ch cf rh rf w u r o l c spared h fork fh ff i =
+        let a = steps_code bs [] p in
         let os = waiting_after [] p in
         let at = pc + forms_bytes a in
         let last = compares_code os e when d in
         let next = Moves z.room 2 0 (λ s. held s × failed s) in
-        leaf_follows p next pc end (λ v. 10 + spent_by_two e ch cf v) (way_by_two e rh rf) w u
-        (steps_follow p next [] pc w u r o l c (stands_front z.code pc a last h) (dressed z pc w u i))
-        (ready_on next (behaviour p w).end (well z.room p next r.place w r.fit r.matches) (words p w o r.words_in))
-        (λ x v q j. by_two when d holds_at fails_at end held failed ch cf rh rf fh ff os e at v x v.stack (stands_back z.code pc a last h)
+        leaf_follows bs p next pc end (λ v. 10 + spent_by_two e ch cf v) (way_by_two e rh rf) w u
+        (steps_follow bs p next [] pc w u r o l c spared (stands_front z.code pc a last h) (dressed z pc w u i))
+        (ready_on bs next (behaviour p w).end (well z.room p next r.place w r.fit r.matches) (words p w o r.words_in)
+        (bounded_on bs p w spared r.bounded))
+        (λ x v q j. by_two bs when d holds_at fails_at end held failed ch cf rh rf fh ff os e at v x v.stack (stands_back z.code pc a last h)
         (fork_at when d holds_at fails_at (pc + forms_bytes (a ++ last)) (at + forms_bytes last) (omega (arith, forms_bytes-append a last)) fork) q refl j)
-    test_follows (both t e) when d holds_at fails_at pc end held failed ch cf rh rf w u r o l c h fork fh ff i =
-        let second = test_code e when d in
+    test_follows bs (both t e) when d holds_at fails_at pc end held failed ch cf rh rf w u r o l c spared h fork fh ff i =
+        let second = test_code bs e when d in
         let over = size second + (if not when then d else 0) in
-        let first = test_code t false over in
+        let first = test_code bs t false over in
         let middle = pc + forms_bytes first in
         let behind = pc + forms_bytes (first ++ second) in
         let front = stands_front z.code pc first second h in
@@ -374,13 +412,15 @@ module _ (z : Setting) where
         let last = fork_at when d holds_at fails_at behind (middle + forms_bytes second) (omega (arith, forms_bytes-append first second)) fork in
         let low : middle < 0x10000 → middle + 2 * size second < 0x10000 =
         λ less. omega (arith, stands_low z middle second back less, whole_size second) in
-        test_follows t false over middle fails_at pc end (EachTestWay z.room e held failed) failed (test_spent e ch cf) cf (tested e rh rf) rf w u
-        r o.0 l.0 c.0 front (fork_both when d (size second) holds_at fails_at middle low counted)
-        (λ v x q j. test_follows e when d holds_at fails_at middle end held failed ch cf rh rf v x q o.1 l.1 c.1 back last fh ff j) ff i
-    test_follows (either t e) when d holds_at fails_at pc end held failed ch cf rh rf w u r o l c h fork fh ff i =
-        let second = test_code e when d in
+        test_follows bs t false over middle fails_at pc end (EachTestWay z.room e held failed) failed (test_spent e ch cf) cf (tested e rh rf) rf w u
+        r o.0 l.0 c.0 (spared_so bs (λ n. TestSpares n (both t e)) (λ n. TestSpares n t) (λ n q. q.0) spared) front
+        (fork_both when d (size second) holds_at fails_at middle low counted)
+        (λ v x q j. test_follows bs e when d holds_at fails_at middle end held failed ch cf rh rf v x q o.1 l.1 c.1
+        (spared_so bs (λ n. TestSpares n (both t e)) (λ n. TestSpares n e) (λ n k. k.1) spared) back last fh ff j) ff i
+    test_follows bs (either t e) when d holds_at fails_at pc end held failed ch cf rh rf w u r o l c spared h fork fh ff i =
+        let second = test_code bs e when d in
         let over = size second + (if when then d else 0) in
-        let first = test_code t true over in
+        let first = test_code bs t true over in
         let middle = pc + forms_bytes first in
         let behind = pc + forms_bytes (first ++ second) in
         let front = stands_front z.code pc first second h in
@@ -390,40 +430,45 @@ module _ (z : Setting) where
         let last = fork_at when d holds_at fails_at behind (middle + forms_bytes second) (omega (arith, forms_bytes-append first second)) fork in
         let low : middle < 0x10000 → middle + 2 * size second < 0x10000 =
         λ less. omega (arith, stands_low z middle second back less, whole_size second) in
-        test_follows t true over holds_at middle pc end held (EachTestWay z.room e held failed) ch (test_spent e ch cf) rh (tested e rh rf) w u
-        r o.0 l.0 c.0 front (fork_either when d (size second) holds_at fails_at middle low counted) fh
-        (λ v x q j. test_follows e when d holds_at fails_at middle end held failed ch cf rh rf v x q o.1 l.1 c.1 back last fh ff j) i
-    test_follows (fails t) when d holds_at fails_at pc end held failed ch cf rh rf w u r o l c h fork fh ff i =
-        test_follows t (not when) d fails_at holds_at pc end failed held cf ch rf rh w u r o l c h (fork_turned when d holds_at fails_at _ fork) ff fh i
+        test_follows bs t true over holds_at middle pc end held (EachTestWay z.room e held failed) ch (test_spent e ch cf) rh (tested e rh rf) w u
+        r o.0 l.0 c.0 (spared_so bs (λ n. TestSpares n (either t e)) (λ n. TestSpares n t) (λ n q. q.0) spared) front
+        (fork_either when d (size second) holds_at fails_at middle low counted) fh
+        (λ v x q j. test_follows bs e when d holds_at fails_at middle end held failed ch cf rh rf v x q o.1 l.1 c.1
+        (spared_so bs (λ n. TestSpares n (either t e)) (λ n. TestSpares n e) (λ n k. k.1) spared) back last fh ff j) i
+    test_follows bs (fails t) when d holds_at fails_at pc end held failed ch cf rh rf w u r o l c spared h fork fh ff i =
+        test_follows bs t (not when) d fails_at holds_at pc end failed held cf ch rf rh w u r o l c spared h
+        (fork_turned when d holds_at fails_at _ fork) ff fh i
 
-    steps_follow : (p : Program) (next : Place → Type 0) (os : List Waiting) (pc : ℕ) (w : WordState) (u : Core) → Ready (EachWay z.room p next) w → OfWords p
-        → LocalsBelow z.locals p → LoopsCount p
-        → Stands z.code pc (steps_code os p) → Describes z os pc w u
-        → Does z (waiting_after os p) (pc + forms_bytes (steps_code os p)) (spent p w + owed os) u (behaviour p w)
-    steps_follow nothing next os pc w u r o l c h d =
+    steps_follow : (bs : List Bound) (p : Program) (next : Place → Type 0) (os : List Waiting) (pc : ℕ) (w : WordState) (u : Core)
+        → Ready bs (EachWay z.room p next) w → OfWords p → LocalsBelow z.locals p → LoopsCount p → Spared bs (λ n. Spares n p)
+        → Stands z.code pc (steps_code bs os p) → Describes z os pc w u
+        → Does z (waiting_after os p) (pc + forms_bytes (steps_code bs os p)) (spent p w + owed os) u (behaviour p w)
+    steps_follow bs nothing next os pc w u r o l c spared h d =
         let e : pc ≡ pc + 0 = omega arith in
         record { spent = 0; within = omega arith; runs = nothing_run z u (Describes z os (pc + 0) w) (subst (λ n. Describes z os n w u) e d) }
-    steps_follow (step first more) next os pc w u r o l c h d =
-        let a = step_code os first in
+    steps_follow bs (step first more) next os pc w u r o l c spared h d =
+        let a = step_code bs os first in
         let mid = waiting_behind os first in
-        let rest = steps_code mid more in
+        let rest = steps_code bs mid more in
         let b = step_behaviour first w in
         let pc' = pc + forms_bytes a in
         let end = pc' + forms_bytes rest in
         let after = waiting_after mid more in
         let all = behaviour (step first more) w in
+        let first_spared = spared_so bs (λ n. Spares n (step first more)) (λ n. StepSpares n first) (λ n k. k.0) spared in
         let there : end ≡ pc + forms_bytes (a ++ rest) = omega (arith, forms_bytes-append a rest) in
         subst (λ p. Does z after p (spent (step first more) w + owed os) u all) there
         (reach_more z (owed after) (Describes z after end) (step_spent first w + owed os + spent_on b.end (spent more)) (spent (step first more) w + owed os) u
         all.effects all.end (omega arith)
         (reach_way z (owed mid) (owed after) (Describes z mid pc') (Describes z after end) (step_spent first w + owed os) (spent more) u
-        (Ready (EachWay z.room more next)) b.effects b.end (behaviour more)
-        (step_follows first (EachWay z.room more next) os pc w u r o.0 l.0 c.0 (stands_front z.code pc a rest h) d)
-        (ready_on (EachWay z.room more next) b.end (step_well z.room first (EachWay z.room more next) r.place w r.fit r.matches)
-        (words_step first w o.0 r.words_in))
+        (Ready bs (EachWay z.room more next)) b.effects b.end (behaviour more)
+        (step_follows bs first (EachWay z.room more next) os pc w u r o.0 l.0 c.0 first_spared (stands_front z.code pc a rest h) d)
+        (ready_on bs (EachWay z.room more next) b.end (step_well z.room first (EachWay z.room more next) r.place w r.fit r.matches)
+        (words_step first w o.0 r.words_in) (step_bounded bs first w first_spared r.bounded))
         (λ t v q j. reach_more z (owed after) (Describes z after end) (spent more v + owed mid) (owed mid + spent more v) t (behaviour more v).effects
         (behaviour more v).end (omega arith)
-        (steps_follow more next mid pc' v t q o.1 l.1 c.1 (stands_back z.code pc a rest h) j))))
+        (steps_follow bs more next mid pc' v t q o.1 l.1 c.1 (spared_so bs (λ n. Spares n (step first more)) (λ n. Spares n more) (λ n k. k.1) spared)
+        (stands_back z.code pc a rest h) j))))
 
 -- each of a list by its head and its tail
 all_by_recursion : (vs : List ℕ) → All (λ r. r < 0x10000) vs → AllByRecursion (λ r. r < 0x10000) vs
@@ -445,15 +490,16 @@ code_does_as_program code at p u tidy h whole o entry =
       fram = refl;
       readings = refl;
     } in
-    let r : Ready (EachWay whole.room p (λ q. ⊥)) s = record {
+    let r : Ready [] (EachWay whole.room p (λ q. ⊥)) s = record {
       place = start;
       fit = whole.ways;
       matches = start_matches u.fram u.readings_left;
       words_in =
           record { stack = tt; locals = λ n v q. absurd (let q' = q in (cc)); fram = entry.fram; readings = all_by_recursion u.readings_left entry.readings };
+      bounded = tt;
     } in
     by_end z (spent p s) b.effects b.end
-    (block_follows z p at s u h (λ hs. steps_follow z p (λ q. ⊥) [] at s u r o whole.low_locals whole.loops_count hs (dressed z at s u i)))
+    (block_follows z [] p at s u h (λ hs. steps_follow z [] p (λ q. ⊥) [] at s u r o whole.low_locals whole.loops_count tt hs (dressed z at s u i)))
     (whole_ends_soundly p u.fram u.readings_left whole)
   where
     by_end : (z : Setting) (most : ℕ) (es : List Effect) (e : End) → FollowsEnd z (at + forms_bytes (code_of p)) most u es e

@@ -1,7 +1,8 @@
 -- The code of a word program, which does the same wherever it stands: the stack is at SP, its top first, below the words that wait to be pushed; the
 -- locals stand in R8 to R15 and, from the ninth on, in RAM; R4 to R7 are for work.
 use Rattle.std.specs.Prelude.{ℕ, zero, suc, ◌+◌, ◌-◌, ◌*◌, ◌/◌, Bool, true, false, not, List, [], ◌∷◌, ◌++◌, get_or, ◌==◌, if◌then◌else◌, nat_le, nat_lt}
-use Rattle.std.specs.Prelude.{◌||◌, Option, Some, None}
+use Rattle.std.specs.Prelude.{◌||◌, ◌&&◌, ◌^◌, Option, Some, None}
+use Rattle.std.specs.Int.{w16, trailing_zeros}
 use Rattle.msp_isa.specs.declared.instructions.TwoOp.{TwoOp}
 use Rattle.msp_isa.specs.declared.instructions.TwoOp.TheVariants as op
 use Rattle.msp_isa.specs.declared.registers.SourceRegister.TheVariants as source_register
@@ -17,6 +18,7 @@ use Rattle.code_forms.specs.Forms.{WorkRegister, R4, R5, R6, R7, R8, R9, R10, R1
 use Rattle.code_forms.specs.Forms.{Popped, Source, ToRegister, ToFram, ToRam, ToIndexed, Target, Form, Move, Calculate, Update, Push, Modify, Jump, Skip}
 use Rattle.code_forms.specs.Forms.{Branch}
 use Rattle.code_forms.specs.Code.{forms_bytes}
+use Rattle.codegen.specs.declared.bounds.Bound.{Bound}
 use Rattle.codegen.specs.declared.waiting.Waiting.{Waiting}
 use Rattle.codegen.specs.declared.waiting.Waiting.TheVariants as waiting
 use Rattle.array_versions.specs.declared.operations.UnaryOperation.{UnaryOperation}
@@ -34,7 +36,7 @@ use Rattle.array_versions.specs.declared.program.ListPlace.{ListPlace}
 use Rattle.array_versions.specs.Program.{Step, Test, Program, number, load, keep, update, local, set_local, update_local, unary, binary, shift, element}
 use Rattle.array_versions.specs.Program.{emit_word}
 use Rattle.array_versions.specs.Program.{list_entry}
-use Rattle.array_versions.specs.Program.{versioned_read, versioned_write, sense, truth, choose, repeat, store_number, move_word, jump, holds}
+use Rattle.array_versions.specs.Program.{versioned_read, versioned_write, versioned_update, sense, truth, choose, repeat, store_number, move_word, jump, holds}
 use Rattle.array_versions.specs.Program.{compares}
 use Rattle.array_versions.specs.Program.{both, either, fails, nothing, step}
 
@@ -66,9 +68,15 @@ pop_to b = Move Popped (ToRegister b)
 abbrev pub push_from : WorkRegister → Form
 push_from b = Push (Register b)
 
+-- a number as a source: some take no word of their own
+abbrev pub number_source : ℕ → Source
+number_source n =
+    if n == 0 then Constant konst.Zero else if n == 1 then Constant konst.One else if n == 2 then Constant konst.Two else if n == 4 then Constant konst.Four
+    else if n == 8 then Constant konst.Eight else if n == 0xFFFF then Constant konst.MinusOne else (Number n)
+
 -- a word that waits to be pushed, as a source: what an instruction names in its place
 abbrev pub waiting_source : Waiting → Source
-waiting_source (waiting.Number n) = Number n
+waiting_source (waiting.Number n) = number_source n
 waiting_source (waiting.Fram a) = Fram a
 waiting_source (waiting.Local n) = Register (local_register n)
 waiting_source waiting.R4 = Register R4
@@ -223,11 +231,22 @@ shift_by SignedRight k = if nat_lt k 8 then repeated k halve else (Modify change
 abbrev pub shift_middle : ShiftOperation → ℕ → List Form
 shift_middle operation k = if nat_le k 15 then shift_by operation k else (Move (Constant konst.Zero) (ToRegister R4) ∷ [])
 
--- the index in R4 is compared with the length; below it, twice the index is an offset in the array, and R4 becomes the element, else 0
-abbrev pub element_code : ℕ → ℕ → List Form
-element_code base length =
-    Calculate op.Cmp (Number length) R4 ∷ Jump condition.Carry 4 ∷ Calculate op.Add (Register R4) R4
-    ∷ Move (Indexed R4 base) (ToRegister R4) ∷ Jump condition.Always 1 ∷ Move (Constant konst.Zero) (ToRegister R4) ∷ []
+-- the index in R4 is compared with a length: where it isn't below it, over so many words
+abbrev pub check_code : ℕ → ℕ → List Form
+check_code length over = Calculate op.Cmp (number_source length) R4 ∷ Jump condition.Carry over ∷ []
+
+-- what the check of an index goes to: R4 becomes 0; the code in front of it goes over that
+abbrev pub zero_code : List Form
+zero_code = Jump condition.Always 1 ∷ Move (Constant konst.Zero) (ToRegister R4) ∷ []
+
+-- twice the index in R4 is an offset in an array, and R4 becomes the element
+abbrev pub fetch_code : ℕ → List Form
+fetch_code base = double ∷ Move (Indexed R4 base) (ToRegister R4) ∷ []
+
+-- an element, by whether the index is surely below the length; else it is 0 where the index isn't
+abbrev pub element_code : Bool → ℕ → ℕ → List Form
+element_code true base length = fetch_code base
+element_code false base length = check_code length 4 ++ (fetch_code base ++ zero_code)
 
 -- the word in R5, then the count
 abbrev pub emit_code : ℕ → ℕ → List Form
@@ -251,14 +270,17 @@ entry_code count list home copy words =
     pair_code count list home copy
     ++ (Move (words_source words) (ToIndexed R4 (word_sum list 4)) ∷ Update op.Add (Constant konst.One) count ∷ [])
 
--- a versioned read at the index in R4: below the length, the version word is compared with the attempt's number; then R4 becomes the copy or the
--- element, else 0
-abbrev pub read_code : ArrayPlace → ListPlace → List Form
-read_code place list =
-    Calculate op.Cmp (Number place.length) R4 ∷ Jump condition.Carry 12 ∷ double ∷ Move (Fram list.ver) (ToRegister R5)
-    ∷ Calculate op.Cmp (Indexed R4 place.versions) R5 ∷ Jump condition.NotEqual 3 ∷ Move (Indexed R4 place.copies) (ToRegister R4)
-    ∷ Jump condition.Always 4 ∷ Move (Indexed R4 place.elements) (ToRegister R4) ∷ Jump condition.Always 1 ∷ Move (Constant konst.Zero) (ToRegister R4)
-    ∷ []
+-- a versioned read at an index in R4 that is below the length: the version word is compared with the attempt's number; then R4 becomes the copy, and
+-- the code goes over so many words, or the element
+abbrev pub own_code : ℕ → ArrayPlace → ListPlace → List Form
+own_code over place list =
+    double ∷ Move (Fram list.ver) (ToRegister R5) ∷ Calculate op.Cmp (Indexed R4 place.versions) R5 ∷ Jump condition.NotEqual 3
+    ∷ Move (Indexed R4 place.copies) (ToRegister R4) ∷ Jump condition.Always over ∷ Move (Indexed R4 place.elements) (ToRegister R4) ∷ []
+
+-- a versioned read, by whether the index is surely below the length; else it gives 0 where the index isn't
+abbrev pub read_code : Bool → ArrayPlace → ListPlace → List Form
+read_code true place list = own_code 2 place list
+read_code false place list = check_code place.length 12 ++ (own_code 4 place list ++ zero_code)
 
 -- R6 is where the run of the last entry ends, the words of its entry being at one address from R5 on and where it begins at another;
 -- where that isn't what this register holds, a jump
@@ -306,12 +328,17 @@ first_code place list =
 -- the store to the copy, of the word in R5 at the index in R4; where the version word is the attempt's number, all that follows it is passed over
 abbrev pub copy_code : ArrayPlace → ListPlace → List Form
 copy_code place list =
-    Calculate op.Cmp (Number place.length) R4 ∷ Jump condition.Carry 54 ∷ double ∷ Move (Register R5) (ToIndexed R4 place.copies)
-    ∷ Move (Fram list.ver) (ToRegister R6) ∷ Calculate op.Cmp (Indexed R4 place.versions) R6 ∷ Jump condition.Equal 46 ∷ []
+    double ∷ Move (Register R5) (ToIndexed R4 place.copies) ∷ Move (Fram list.ver) (ToRegister R6) ∷ Calculate op.Cmp (Indexed R4 place.versions) R6
+    ∷ Jump condition.Equal 46 ∷ []
 
--- a versioned write
-abbrev pub write_code : ArrayPlace → ListPlace → List Form
-write_code place list = copy_code place list ++ first_code place list
+-- a versioned write at an index that is below the length
+abbrev pub stored_code : ArrayPlace → ListPlace → List Form
+stored_code place list = copy_code place list ++ first_code place list
+
+-- a versioned write, by whether the index is surely below the length; else nothing is stored where the index isn't
+abbrev pub write_code : Bool → ArrayPlace → ListPlace → List Form
+write_code true place list = stored_code place list
+write_code false place list = check_code place.length 54 ++ stored_code place list
 
 -- the flags of a comparison of R4, the left side, with R5, the right one
 abbrev pub compare_form : Comparison → Form
@@ -378,23 +405,184 @@ truth_code = Push (Constant konst.One) ∷ Jump condition.Always 1 ∷ Push (Con
 
 -- a local becomes a number
 abbrev pub number_code : ℕ → ℕ → List Form
-number_code n k = Move (Number k) (local_target n) ∷ []
+number_code n k = Move (number_source k) (local_target n) ∷ []
 
 -- the end of a turn for a local in RAM: it goes up by one, and is compared with a number
 abbrev pub ram_turn_end : ℕ → ℕ → List Form
 ram_turn_end n below =
     Move (Ram (local_address n)) (ToRegister R4) ∷ Calculate op.Add (Constant konst.One) R4 ∷ Move (Register R4) (ToRam (local_address n))
-    ∷ Calculate op.Cmp (Number below) R4 ∷ []
+    ∷ Calculate op.Cmp (number_source below) R4 ∷ []
 
 -- the same for any local
 abbrev pub turn_end : ℕ → ℕ → List Form
 turn_end n below =
-    if nat_lt n 8 then Calculate op.Add (Constant konst.One) (local_register n) ∷ Calculate op.Cmp (Number below) (local_register n) ∷ []
+    if nat_lt n 8 then Calculate op.Add (Constant konst.One) (local_register n) ∷ Calculate op.Cmp (number_source below) (local_register n) ∷ []
     else (ram_turn_end n below)
 
 -- turns of a body until the local has come to a number: there is one at least, since the local is looked at behind each
 abbrev pub turns_code : ℕ → ℕ → List Form → List Form
 turns_code n below body = let turn = body ++ turn_end n below in turn ++ jump_back condition.NotEqual condition.Equal (size turn)
+
+-- the right side of an operation stays where it waits, but for R4
+abbrev pub stays : Option Waiting → Bool
+stays None = false
+stays (Some waiting.R4) = false
+stays (Some _) = true
+
+-- the right side, which is the top, to where an instruction reads it, and the left one to R4
+abbrev pub sides : List Waiting → List Form
+sides os =
+    let under = below_top os in
+    cleared (below_top under) ++ ((if stays (top_of os) then [] else five_from (top_of os)) ++ four_from (top_of under))
+
+-- the right side then
+abbrev pub right_source : Option Waiting → Source
+right_source o = if stays o then source_from o else (Register R5)
+
+-- the exponent of a power of two
+abbrev pub power : ℕ → Option ℕ
+power n = let k = trailing_zeros w16 n in if nat_lt k 16 && (n == 2 ^ k) then Some k else None
+
+-- that of the number that waits on top
+abbrev pub top_power : Option Waiting → Option ℕ
+top_power (Some (waiting.Number n)) = power n
+top_power _ = None
+
+-- that number less one
+abbrev pub top_mask : Option Waiting → ℕ
+top_mask (Some (waiting.Number n)) = n - 1
+top_mask _ = 0
+
+-- the element of an array at a number is a word of FRAM, or 0
+abbrev pub known_element : ℕ → ℕ → ℕ → Waiting
+known_element base length k = if nat_lt k length then waiting.Fram (word_sum base (word_sum k k)) else (waiting.Number 0)
+
+-- the number that waits on top
+abbrev pub top_number : Option Waiting → Option ℕ
+top_number (Some (waiting.Number n)) = Some n
+top_number _ = None
+
+-- what waits behind an element of an array, whose index is a number that is known or not, and its code
+abbrev pub element_behind : Option ℕ → List Waiting → ℕ → ℕ → List Waiting
+element_behind (Some k) os base length = known_element base length k ∷ below_top os
+element_behind None os base length = waiting.R4 ∷ kept (below_top os)
+
+abbrev pub element_at : Bool → Option ℕ → List Waiting → ℕ → ℕ → List Form
+element_at inside (Some k) os base length = []
+element_at inside None os base length = top_to_four os ++ element_code inside base length
+
+-- a local is below a number in the body of its loop
+abbrev pub bound_of : ℕ → ℕ → Bound
+bound_of n below = record { local = n; below = below }
+
+-- a local is surely below a length: a loop around the code ends its turns there or before
+abbrev pub is_bounded : List Bound → ℕ → ℕ → Bool
+is_bounded [] n length = false
+is_bounded (b ∷ bs) n length = ((b.local == n) && nat_le b.below length) || is_bounded bs n length
+
+-- so is an index that waits: a number that is, or such a local
+abbrev pub is_inside : List Bound → Option Waiting → ℕ → Bool
+is_inside bs (Some (waiting.Number k)) length = nat_lt k length
+is_inside bs (Some (waiting.Local n)) length = is_bounded bs n length
+is_inside bs _ length = false
+
+-- an operation on two words, where the right side is no power of two that is known: what brings them to R4 and R5 or elsewhere, and the operation
+abbrev pub two_code : List Waiting → BinaryOperation → List Form
+two_code os (Plain o) = sides os ++ Calculate (plain_instruction o) (right_source (top_of os)) R4 ∷ []
+two_code os Multiply = two_to_registers os ++ binary_middle Multiply
+two_code os Divide = two_to_registers os ++ binary_middle Divide
+two_code os Remainder = two_to_registers os ++ binary_middle Remainder
+
+-- a product, quotient or rest by a power of two, with the words that wait below it: a shift, or what AND leaves
+abbrev pub power_code : Option ℕ → List Waiting → BinaryOperation → List Form
+power_code None os operation = two_code os operation
+power_code (Some k) os Multiply = top_to_four (below_top os) ++ shift_middle Left k
+power_code (Some k) os Divide = top_to_four (below_top os) ++ shift_middle Right k
+power_code (Some k) os Remainder = two_code (waiting.Number (top_mask (top_of os)) ∷ below_top os) (Plain And)
+power_code (Some k) os (Plain o) = two_code os (Plain o)
+
+-- where its result waits
+abbrev pub power_result : Option ℕ → BinaryOperation → Waiting
+power_result None operation = binary_result operation
+power_result (Some k) operation = waiting.R4
+
+-- ---- an element that is updated in place
+
+-- the right side stays where it waits, but for registers for work
+abbrev pub rests : Option Waiting → Bool
+rests None = false
+rests (Some o) = not (is_held o)
+
+-- the right side then
+abbrev pub rest_source : Option Waiting → Source
+rest_source o = if rests o then source_from o else (Register R5)
+
+-- what brings it there
+abbrev pub to_rest : Option Waiting → List Form
+to_rest o = if rests o then [] else five_from o
+
+-- the same, all words below the two being pushed, where the index is a number that is known
+abbrev pub right_to_rest : List Waiting → List Form
+right_to_rest os = flushed (below_top (below_top os)) ++ to_rest (top_of os)
+
+-- and with the index to R4
+abbrev pub update_sides : List Waiting → List Form
+update_sides os = flushed (below_top (below_top os)) ++ (to_rest (top_of os) ++ four_from (top_of (below_top os)))
+
+-- a copy becomes what an operation gives of a word and of a source; R4 is the offset of both in their arrays
+abbrev pub made_code : PlainOperation → Source → ℕ → ℕ → List Form
+made_code o x from copies =
+    Move (Indexed R4 from) (ToRegister R7) ∷ Calculate (plain_instruction o) x R7 ∷ Move (Register R7) (ToIndexed R4 copies) ∷ []
+
+-- VER's word to R6
+abbrev pub attempt_form : ListPlace → Form
+attempt_form list = Move (Fram list.ver) (ToRegister R6)
+
+-- the first update of an element in an attempt, R4 being its offset. VER's word is read anew, since it could be the copy that has been stored
+abbrev pub first_update : PlainOperation → Source → ArrayPlace → ListPlace → List Form
+first_update o x place list = made_code o x place.elements place.copies ++ (attempt_form list ∷ first_code place list)
+
+-- one way or the other by the flags of the version word and VER's word: where they are equal, the one that is first here, with a jump over the other
+abbrev pub by_version : List Form → List Form → List Form
+by_version again first =
+    let next = again ++ Jump condition.Always (size first) ∷ [] in Jump condition.NotEqual (size next) ∷ (next ++ first)
+
+-- an update at the index in R4, which is below the length
+abbrev pub inside_update : PlainOperation → Source → ArrayPlace → ListPlace → List Form
+inside_update o x place list =
+    double ∷ attempt_form list ∷ Calculate op.Cmp (Indexed R4 place.versions) R6
+    ∷ by_version (made_code o x place.copies place.copies) (first_update o x place list)
+
+-- at any index in R4
+abbrev pub checked_update : PlainOperation → Source → ArrayPlace → ListPlace → List Form
+checked_update o x place list =
+    let inside = inside_update o x place list in
+    Calculate op.Cmp (Number place.length) R4 ∷ Jump condition.Carry (size inside) ∷ inside
+
+-- at any index in R4, by whether it is surely below the length
+abbrev pub indexed_update : Bool → PlainOperation → Source → ArrayPlace → ListPlace → List Form
+indexed_update sure o x place list = if sure then inside_update o x place list else (checked_update o x place list)
+
+-- at a number that is known and below the length: its copy is updated by one instruction
+abbrev pub known_update : PlainOperation → Source → ArrayPlace → ListPlace → ℕ → List Form
+known_update o x place list k =
+    let offset = word_sum k k in
+    attempt_form list ∷ Calculate op.Cmp (Fram (word_sum place.versions offset)) R6
+    ∷ by_version (Update (plain_instruction o) x (word_sum place.copies offset) ∷ []) (Move (Number offset) (ToRegister R4) ∷ first_update o x place list)
+
+-- a number below a length
+abbrev pub if_below : ℕ → Option ℕ → Option ℕ
+if_below length None = None
+if_below length (Some k) = if nat_lt k length then Some k else None
+
+-- the number below a length that waits under the top
+abbrev pub known_index : List Waiting → ℕ → Option ℕ
+known_index os length = if_below length (top_number (top_of (below_top os)))
+
+-- an update, whose index is such a number or is not known, but may be surely below the length
+abbrev pub update_at : Option ℕ → Bool → List Waiting → PlainOperation → ArrayPlace → ListPlace → List Form
+update_at (Some k) sure os o place list = right_to_rest os ++ known_update o (rest_source (top_of os)) place list k
+update_at None sure os o place list = update_sides os ++ indexed_update sure o (rest_source (top_of os)) place list
 
 -- a local is pushed where it stands in RAM
 abbrev pub local_code : List Waiting → ℕ → List Form
@@ -406,9 +594,9 @@ waiting_behind os (number w) = waiting.Number w ∷ os
 waiting_behind os (load a) = waiting.Fram a ∷ os
 waiting_behind os (local n) = if nat_lt n 8 then waiting.Local n ∷ os else []
 waiting_behind os (unary operation) = waiting.R4 ∷ kept (below_top os)
-waiting_behind os (binary operation) = binary_result operation ∷ kept (below_top (below_top os))
+waiting_behind os (binary operation) = power_result (top_power (top_of os)) operation ∷ kept (below_top (below_top os))
 waiting_behind os (shift operation k) = waiting.R4 ∷ kept (below_top os)
-waiting_behind os (element base length) = waiting.R4 ∷ kept (below_top os)
+waiting_behind os (element base length) = element_behind (top_number (top_of os)) os base length
 waiting_behind os (versioned_read place list) = waiting.R4 ∷ kept (below_top os)
 waiting_behind os sense = waiting.R4 ∷ kept os
 waiting_behind os _ = []
@@ -419,53 +607,62 @@ waiting_after os nothing = os
 waiting_after os (step first more) = waiting_after (waiting_behind os first) more
 
 abbrev mutual
-  -- the code of a step, where these words wait
-  pub step_code : List Waiting → Step → List Form
-  step_code os (number w) = []
-  step_code os (load a) = []
-  step_code os (keep a) = flushed (below_top os) ++ Move (source_from (top_of os)) (ToFram a) ∷ []
-  step_code os (update o a) = flushed (below_top os) ++ Update (plain_instruction o) (source_from (top_of os)) a ∷ []
-  step_code os (local n) = local_code os n
-  step_code os (set_local n) = flushed (below_top os) ++ Move (source_from (top_of os)) (local_target n) ∷ []
-  step_code os (update_local o n) = flushed (below_top os) ++ update_code o n (source_from (top_of os))
-  step_code os (unary operation) = top_to_five os ++ unary_middle operation
-  step_code os (binary operation) = two_to_registers os ++ binary_middle operation
-  step_code os (shift operation k) = top_to_four os ++ shift_middle operation k
-  step_code os (element base length) = top_to_four os ++ element_code base length
-  step_code os (emit_word count buffer) = (top_to_five os ++ flushed (kept (below_top os))) ++ emit_code count buffer
-  step_code os (list_entry count list home copy words) = flushed os ++ entry_code count list home copy words
-  step_code os (versioned_read place list) = top_to_four os ++ read_code place list
-  step_code os (versioned_write place list) = (two_to_registers os ++ flushed (kept (below_top (below_top os)))) ++ write_code place list
-  step_code os sense = cleared os ++ forms.Sense R4 ∷ []
-  step_code os (truth t) = flushed os ++ (test_code t false 2 ++ truth_code)
-  step_code os (choose t taken otherwise) =
-      let other = steps_code [] otherwise ++ flushed (waiting_after [] otherwise) in
-      let first = (steps_code [] taken ++ flushed (waiting_after [] taken)) ++ pass_over (size other) in
-      flushed os ++ (test_code t false (size first) ++ (first ++ other))
-  step_code os (repeat n from below body) =
-      let block = steps_code [] body ++ flushed (waiting_after [] body) in
+  -- the code of a step in the bodies of loops with these bounds, where these words wait
+  pub step_code : List Bound → List Waiting → Step → List Form
+  step_code bs os (number w) = []
+  step_code bs os (load a) = []
+  step_code bs os (keep a) = flushed (below_top os) ++ Move (source_from (top_of os)) (ToFram a) ∷ []
+  step_code bs os (update o a) = flushed (below_top os) ++ Update (plain_instruction o) (source_from (top_of os)) a ∷ []
+  step_code bs os (local n) = local_code os n
+  step_code bs os (set_local n) = flushed (below_top os) ++ Move (source_from (top_of os)) (local_target n) ∷ []
+  step_code bs os (update_local o n) = flushed (below_top os) ++ update_code o n (source_from (top_of os))
+  step_code bs os (unary operation) = top_to_five os ++ unary_middle operation
+  step_code bs os (binary operation) = power_code (top_power (top_of os)) os operation
+  step_code bs os (shift operation k) = top_to_four os ++ shift_middle operation k
+  step_code bs os (element base length) =
+      element_at (is_inside bs (top_of os) length) (top_number (top_of os)) os base length
+  step_code bs os (emit_word count buffer) = (top_to_five os ++ flushed (kept (below_top os))) ++ emit_code count buffer
+  step_code bs os (list_entry count list home copy words) = flushed os ++ entry_code count list home copy words
+  step_code bs os (versioned_read place list) =
+      top_to_four os ++ read_code (is_inside bs (top_of os) place.length) place list
+  step_code bs os (versioned_write place list) =
+      (two_to_registers os ++ flushed (kept (below_top (below_top os)))) ++ write_code (is_inside bs (top_of (below_top os)) place.length) place list
+  step_code bs os (versioned_update o place list) =
+      update_at (known_index os place.length) (is_inside bs (top_of (below_top os)) place.length) os o place list
+  step_code bs os sense = cleared os ++ forms.Sense R4 ∷ []
+  step_code bs os (truth t) = flushed os ++ (test_code bs t false 2 ++ truth_code)
+  step_code bs os (choose t taken otherwise) =
+      let other = steps_code bs [] otherwise ++ flushed (waiting_after [] otherwise) in
+      let first = (steps_code bs [] taken ++ flushed (waiting_after [] taken)) ++ pass_over (size other) in
+      flushed os ++ (test_code bs t false (size first) ++ (first ++ other))
+  step_code bs os (repeat n from below body) =
+      let block = steps_code (bound_of n below ∷ bs) [] body ++ flushed (waiting_after [] body) in
       flushed os ++ (number_code n from ++ (if nat_lt from below then turns_code n below block else []))
-  step_code os (store_number a w) = flushed os ++ Move (Number w) (ToFram a) ∷ []
-  step_code os (move_word from to) = flushed os ++ Move (Fram from) (ToFram to) ∷ []
-  step_code os (jump to) = flushed os ++ Branch to ∷ []
+  step_code bs os (store_number a w) = flushed os ++ Move (number_source w) (ToFram a) ∷ []
+  step_code bs os (move_word from to) = flushed os ++ Move (Fram from) (ToFram to) ∷ []
+  step_code bs os (jump to) = flushed os ++ Branch to ∷ []
 
   -- the code of a test: it goes over so many words behind it where the test's truth is this one, else on
-  pub test_code : Test → Bool → ℕ → List Form
-  test_code (holds p) when d = steps_code [] p ++ holds_code (waiting_after [] p) when d
-  test_code (compares c p) when d = steps_code [] p ++ compares_code (waiting_after [] p) c when d
-  test_code (both t u) when d =
-      let second = test_code u when d in
-      test_code t false (size second + (if not when then d else 0)) ++ second
-  test_code (either t u) when d =
-      let second = test_code u when d in
-      test_code t true (size second + (if when then d else 0)) ++ second
-  test_code (fails t) when d = test_code t (not when) d
+  pub test_code : List Bound → Test → Bool → ℕ → List Form
+  test_code bs (holds p) when d = steps_code bs [] p ++ holds_code (waiting_after [] p) when d
+  test_code bs (compares c p) when d = steps_code bs [] p ++ compares_code (waiting_after [] p) c when d
+  test_code bs (both t u) when d =
+      let second = test_code bs u when d in
+      test_code bs t false (size second + (if not when then d else 0)) ++ second
+  test_code bs (either t u) when d =
+      let second = test_code bs u when d in
+      test_code bs t true (size second + (if when then d else 0)) ++ second
+  test_code bs (fails t) when d = test_code bs t (not when) d
 
   -- the code of steps, one after another
-  pub steps_code : List Waiting → Program → List Form
-  steps_code os nothing = []
-  steps_code os (step first more) = step_code os first ++ steps_code (waiting_behind os first) more
+  pub steps_code : List Bound → List Waiting → Program → List Form
+  steps_code bs os nothing = []
+  steps_code bs os (step first more) = step_code bs os first ++ steps_code bs (waiting_behind os first) more
 
--- the code of a program, behind which no word waits
+-- the same with no word waiting in front of the steps or behind them
+abbrev pub block_code : List Bound → Program → List Form
+block_code bs p = steps_code bs [] p ++ flushed (waiting_after [] p)
+
+-- the code of a program
 abbrev pub code_of : Program → List Form
-code_of p = steps_code [] p ++ flushed (waiting_after [] p)
+code_of p = block_code [] p

@@ -58,6 +58,21 @@ pub fn constant(k: Konst) -> Src
     Src::Constant(k)
 }
 
+/// A number as a source: some take no word of their own.
+pub fn number_source(number: u16) -> Src
+    ensures { result ≡ source_operand (place.number_source number) }
+{
+    match number {
+        0 => constant(Konst::Zero),
+        1 => constant(Konst::One),
+        2 => constant(Konst::Two),
+        4 => constant(Konst::Four),
+        8 => constant(Konst::Eight),
+        0xffff => constant(Konst::MinusOne),
+        number => Src::Immediate(number),
+    }
+}
+
 /// The word at an address.
 pub fn absolute(address: u16) -> Src
     ensures { result ≡ Srcs.Operand (Operands.Absolute address) }

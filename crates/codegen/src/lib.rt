@@ -1,8 +1,10 @@
 //! Code for word programs: the instructions that do what a program does, on a stack in RAM, and locals in registers and RAM.
 #![tactic(auto)]
 
+mod bounds;
 mod decisions;
 mod forms;
+mod in_place;
 pub mod laws;
 mod operations;
 mod program;

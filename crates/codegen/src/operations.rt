@@ -1,15 +1,20 @@
 //! The code of the operations.
 
-ghost use Rattle.std.specs.Prelude.{◌≡◌, [], ◌∷◌, ◌++◌, OnOk};
+ghost use Rattle.std.specs.Prelude.{◌≡◌, [], ◌∷◌, ◌++◌, OnOk, Some};
 ghost use Rattle.code_forms.specs.Forms as form;
 ghost use Rattle.code_forms.specs.Placed.{instructions};
 ghost use Rattle.array_versions.specs.declared.operations.BinaryOperation.TheVariants as binary_op;
 ghost use Rattle.array_versions.specs.Program as value;
 ghost use Rattle.codegen.specs.Code.{unary_middle, binary_middle, binary_result, divide_middle, plain_instruction, step_code, waiting_behind};
+ghost use Rattle.codegen.specs.Code.{below_top, kept, two_to_registers, two_code, power_code};
+ghost use Rattle.codegen.specs.declared.waiting.Waiting.TheVariants as words;
 
 use crate::forms::{R4, R5, R6, TO_R4, TO_R5, TO_R6, TO_R7, constant, jump, two};
-use crate::waiting::{Waiting, emit_top_to_five, emit_two_to_registers, wait};
-use array_versions::{BinaryOperation, PlainOperation, UnaryOperation};
+use crate::shifts::emit_shift;
+use crate::waiting::{
+    Waiting, emit_sides, emit_top_to_five, emit_two_to_registers, mask_top, take, top_power, wait,
+};
+use array_versions::{BinaryOperation, PlainOperation, ShiftOperation, UnaryOperation};
 use msp_isa::{
     Condition, IndexRegister, Instr, Konst, OneOp, Operand, SourceRegister, Src, TwoOp, Width,
 };
@@ -38,7 +43,7 @@ pub fn emit_unary(
     code: &mut Vec<Instr>,
 ) -> Result<(), AllocError>
     ensures code { OnOk result (code.new.items
-        ≡ code.old.items ++ instructions (step_code waiting.old.items (value.unary operation))) }
+        ≡ code.old.items ++ instructions (step_code [] waiting.old.items (value.unary operation))) }
     ensures waiting { OnOk result (waiting.new.items ≡ waiting_behind waiting.old.items (value.unary operation)) }
 {
     emit_top_to_five(waiting, code)?;
@@ -96,26 +101,85 @@ fn emit_divide(code: &mut Vec<Instr>) -> Result<(), AllocError>
     ])
 }
 
-// An operation on the left side in R4 and the right one in R5.
-fn emit_binary_middle(operation: BinaryOperation, code: &mut Vec<Instr>) -> Result<(), AllocError>
-    ensures { OnOk result (code.new.items ≡ code.old.items ++ instructions (binary_middle operation)) }
+// An operation on two words that the machine has an instruction for.
+fn emit_plain(
+    operation: PlainOperation,
+    waiting: &mut Vec<Waiting>,
+    code: &mut Vec<Instr>,
+) -> Result<(), AllocError>
+    ensures code { OnOk result (code.new.items ≡ code.old.items ++ instructions (two_code waiting.old.items (binary_op.Plain operation))) }
+    ensures waiting { OnOk result (waiting.new.items ≡ words.R4 ∷ kept (below_top (below_top waiting.old.items))) }
+{
+    let source = emit_sides(waiting, code)?;
+    code.extend_from_slice(&[two(plain_instruction(operation), source, TO_R4)])?;
+    wait(Waiting::R4, waiting)
+}
+
+// A product.
+fn emit_product(waiting: &mut Vec<Waiting>, code: &mut Vec<Instr>) -> Result<(), AllocError>
+    ensures code { OnOk result (code.new.items ≡ code.old.items ++ instructions (two_code waiting.old.items binary_op.Multiply)) }
+    ensures waiting { OnOk result (waiting.new.items ≡ words.R6 ∷ kept (below_top (below_top waiting.old.items))) }
+{
+    emit_two_to_registers(waiting, code)?;
+    emit_multiply(code)?;
+    wait(Waiting::R6, waiting)
+}
+
+// A division, whose quotient is in R4 and whose rest is in R6.
+fn emit_division(
+    quantity: Waiting,
+    waiting: &mut Vec<Waiting>,
+    code: &mut Vec<Instr>,
+) -> Result<(), AllocError>
+    ensures code { OnOk result (code.new.items ≡ code.old.items ++ instructions (two_to_registers waiting.old.items ++ divide_middle)) }
+    ensures waiting { OnOk result (waiting.new.items ≡ quantity ∷ kept (below_top (below_top waiting.old.items))) }
+{
+    emit_two_to_registers(waiting, code)?;
+    emit_divide(code)?;
+    wait(quantity, waiting)
+}
+
+// An operation whose right side is no power of two that is known.
+fn emit_two(
+    operation: BinaryOperation,
+    waiting: &mut Vec<Waiting>,
+    code: &mut Vec<Instr>,
+) -> Result<(), AllocError>
+    ensures code { OnOk result (code.new.items ≡ code.old.items ++ instructions (two_code waiting.old.items operation)) }
+    ensures waiting { OnOk result (waiting.new.items ≡ binary_result operation ∷ kept (below_top (below_top waiting.old.items))) }
 {
     match operation {
-        BinaryOperation::Plain(operation) => {
-            code.extend_from_slice(&[two(plain_instruction(operation), R5, TO_R4)])
-        }
-        BinaryOperation::Multiply => emit_multiply(code),
-        BinaryOperation::Divide | BinaryOperation::Remainder => emit_divide(code),
+        BinaryOperation::Plain(operation) => emit_plain(operation, waiting, code),
+        BinaryOperation::Multiply => emit_product(waiting, code),
+        BinaryOperation::Divide => emit_division(Waiting::R4, waiting, code),
+        BinaryOperation::Remainder => emit_division(Waiting::R6, waiting, code),
     }
 }
 
-// Where its result waits.
-fn binary_result(operation: BinaryOperation) -> Waiting
-    ensures { result ≡ binary_result operation }
+// An operation by the number on top, a power of two of this exponent.
+fn emit_by_power(
+    operation: BinaryOperation,
+    count: u16,
+    waiting: &mut Vec<Waiting>,
+    code: &mut Vec<Instr>,
+) -> Result<(), AllocError>
+    ensures code { OnOk result (code.new.items ≡ code.old.items ++ instructions (power_code (Some count) waiting.old.items operation)) }
+    ensures waiting { OnOk result (waiting.new.items ≡ words.R4 ∷ kept (below_top (below_top waiting.old.items))) }
 {
     match operation {
-        BinaryOperation::Multiply | BinaryOperation::Remainder => Waiting::R6,
-        BinaryOperation::Divide | BinaryOperation::Plain(_) => Waiting::R4,
+        BinaryOperation::Plain(operation) => emit_plain(operation, waiting, code),
+        BinaryOperation::Multiply => {
+            take(waiting);
+            emit_shift(ShiftOperation::Left, count, waiting, code)
+        }
+        BinaryOperation::Divide => {
+            take(waiting);
+            emit_shift(ShiftOperation::Right, count, waiting, code)
+        }
+        BinaryOperation::Remainder => {
+            mask_top(waiting)?;
+            emit_plain(PlainOperation::And, waiting, code)
+        }
     }
 }
 
@@ -126,10 +190,11 @@ pub fn emit_binary(
     code: &mut Vec<Instr>,
 ) -> Result<(), AllocError>
     ensures code { OnOk result (code.new.items
-        ≡ code.old.items ++ instructions (step_code waiting.old.items (value.binary operation))) }
+        ≡ code.old.items ++ instructions (step_code [] waiting.old.items (value.binary operation))) }
     ensures waiting { OnOk result (waiting.new.items ≡ waiting_behind waiting.old.items (value.binary operation)) }
 {
-    emit_two_to_registers(waiting, code)?;
-    emit_binary_middle(operation, code)?;
-    wait(binary_result(operation), waiting)
+    match top_power(waiting) {
+        Some(count) => emit_by_power(operation, count, waiting, code),
+        None => emit_two(operation, waiting, code),
+    }
 }

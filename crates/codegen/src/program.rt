@@ -6,10 +6,12 @@ ghost use Rattle.array_versions.specs.Program as value;
 ghost use Rattle.array_versions.specs.View.{program_of, steps_of, step_of, test_of};
 ghost use Rattle.array_versions.specs.Form.{IsWhole, LocalsBelow, StepLocalsBelow, TestLocalsBelow, OfWords, StepOfWords, TestOfWords};
 ghost use Rattle.array_versions.specs.Cost.{words_of, step_words, test_words};
-ghost use Rattle.codegen.specs.Code.{code_of, step_code, steps_code, test_code, truth_code, waiting_behind, waiting_after};
+ghost use Rattle.codegen.specs.Code.{block_code, code_of, step_code, steps_code, test_code, truth_code, waiting_behind, waiting_after};
 
+use crate::bounds::{Bound, bounds_within};
 use crate::decisions::{code_words, emit_compares, emit_holds, emit_jump_back, emit_pass_over};
 use crate::forms::{constant, jump, push};
+use crate::in_place::emit_versioned_update;
 use crate::operations::{emit_binary, emit_unary};
 use crate::shifts::emit_shift;
 use crate::steps::{
@@ -45,6 +47,7 @@ fn words_if(flag: bool, words: u16) -> u16
 #[cycle(emit)]
 fn emit_test(
     alloc: Global,
+    bounds: &[Bound],
     test: &WordTest,
     when: bool,
     over: u16,
@@ -53,35 +56,35 @@ fn emit_test(
     requires room { over + test_words (test_of test.now) ≤ 0x7FFF }
     requires locals { TestLocalsBelow 1008 (test_of test.now) }
     ensures code { OnOk result (code.new.items
-        ≡ code.old.items ++ instructions (test_code (test_of test.now) when over)) }
+        ≡ code.old.items ++ instructions (test_code bounds.now (test_of test.now) when over)) }
     ensures of_words { OnOk result (TestOfWords (test_of test.now)) }
 {
     match test {
         WordTest::Holds(steps) => {
             let mut waiting = Vec::new(alloc);
-            emit_steps(alloc, steps, &mut waiting, code)?;
+            emit_steps(alloc, bounds, steps, &mut waiting, code)?;
             emit_holds(when, over, &mut waiting, code)
         }
         WordTest::Compares(comparison, steps) => {
             let mut waiting = Vec::new(alloc);
-            emit_steps(alloc, steps, &mut waiting, code)?;
+            emit_steps(alloc, bounds, steps, &mut waiting, code)?;
             emit_compares(*comparison, when, over, &mut waiting, code)
         }
         WordTest::Both(first, second) => {
             let mut behind = Vec::new(alloc);
-            emit_test(alloc, second, when, over, &mut behind)?;
+            emit_test(alloc, bounds, second, when, over, &mut behind)?;
             let further = code_words(&behind) + words_if(!when, over);
-            emit_test(alloc, first, false, further, code)?;
+            emit_test(alloc, bounds, first, false, further, code)?;
             code.extend_from_slice(&behind)
         }
         WordTest::Either(first, second) => {
             let mut behind = Vec::new(alloc);
-            emit_test(alloc, second, when, over, &mut behind)?;
+            emit_test(alloc, bounds, second, when, over, &mut behind)?;
             let further = code_words(&behind) + words_if(when, over);
-            emit_test(alloc, first, true, further, code)?;
+            emit_test(alloc, bounds, first, true, further, code)?;
             code.extend_from_slice(&behind)
         }
-        WordTest::Fails(test) => emit_test(alloc, test, !when, over, code),
+        WordTest::Fails(test) => emit_test(alloc, bounds, test, !when, over, code),
     }
 }
 
@@ -89,6 +92,7 @@ fn emit_test(
 #[cycle(emit)]
 fn emit_truth(
     alloc: Global,
+    bounds: &[Bound],
     test: &WordTest,
     waiting: &mut Vec<Waiting>,
     code: &mut Vec<Instr>,
@@ -96,12 +100,12 @@ fn emit_truth(
     requires room { step_words (value.truth (test_of test.now)) ≤ 0x7FFF }
     requires locals { TestLocalsBelow 1008 (test_of test.now) }
     ensures code { OnOk result (code.new.items
-        ≡ code.old.items ++ instructions (step_code waiting.old.items (value.truth (test_of test.now)))) }
+        ≡ code.old.items ++ instructions (step_code bounds.now waiting.old.items (value.truth (test_of test.now)))) }
     ensures waiting { OnOk result (waiting.new.items ≡ []) }
     ensures of_words { OnOk result (TestOfWords (test_of test.now)) }
 {
     emit_all(waiting, code)?;
-    emit_test(alloc, test, false, 2, code)?;
+    emit_test(alloc, bounds, test, false, 2, code)?;
     emit_truth_code(code)
 }
 
@@ -109,6 +113,7 @@ fn emit_truth(
 #[cycle(emit)]
 fn emit_loop(
     alloc: Global,
+    bounds: &[Bound],
     n: u16,
     from: u16,
     below: u16,
@@ -120,13 +125,14 @@ fn emit_loop(
     requires low { n < 1008 }
     requires locals { LocalsBelow 1008 (steps_of body.now) }
     ensures code { OnOk result (code.new.items
-        ≡ code.old.items ++ instructions (step_code waiting.old.items (value.repeat n from below (steps_of body.now)))) }
+        ≡ code.old.items ++ instructions (step_code bounds.now waiting.old.items (value.repeat n from below (steps_of body.now)))) }
     ensures waiting { OnOk result (waiting.new.items ≡ []) }
     ensures of_words { OnOk result (OfWords (steps_of body.now)) }
 {
     emit_all(waiting, code)?;
+    let inner = bounds_within(alloc, n, below, bounds)?;
     let mut turn = Vec::new(alloc);
-    emit_block(alloc, body, &mut turn)?;
+    emit_block(alloc, &inner, body, &mut turn)?;
     emit_turn_end(n, below, &mut turn)?;
     emit_number(n, from, code)?;
     if from < below {
@@ -142,13 +148,14 @@ fn emit_loop(
 #[cycle(emit)]
 fn emit_step(
     alloc: Global,
+    bounds: &[Bound],
     step: &WordStep,
     waiting: &mut Vec<Waiting>,
     code: &mut Vec<Instr>,
 ) -> Result<(), AllocError>
     requires room { step_words (step_of step.now) ≤ 0x7FFF }
     requires locals { StepLocalsBelow 1008 (step_of step.now) }
-    ensures code { OnOk result (code.new.items ≡ code.old.items ++ instructions (step_code waiting.old.items (step_of step.now))) }
+    ensures code { OnOk result (code.new.items ≡ code.old.items ++ instructions (step_code bounds.now waiting.old.items (step_of step.now))) }
     ensures waiting { OnOk result (waiting.new.items ≡ waiting_behind waiting.old.items (step_of step.now)) }
     ensures of_words { OnOk result (StepOfWords (step_of step.now)) }
 {
@@ -163,10 +170,17 @@ fn emit_step(
         WordStep::Unary(operation) => emit_unary(*operation, waiting, code),
         WordStep::Binary(operation) => emit_binary(*operation, waiting, code),
         WordStep::Shift(operation, count) => emit_shift(*operation, *count, waiting, code),
-        WordStep::Element { base, length } => emit_element(*base, *length, waiting, code),
+        WordStep::Element { base, length } => emit_element(bounds, *base, *length, waiting, code),
         WordStep::EmitWord { count, buffer } => emit_emit(*count, *buffer, waiting, code),
-        WordStep::VersionedRead(place, list) => emit_versioned_read(*place, *list, waiting, code),
-        WordStep::VersionedWrite(place, list) => emit_versioned_write(*place, *list, waiting, code),
+        WordStep::VersionedRead(place, list) => {
+            emit_versioned_read(bounds, *place, *list, waiting, code)
+        }
+        WordStep::VersionedWrite(place, list) => {
+            emit_versioned_write(bounds, *place, *list, waiting, code)
+        }
+        WordStep::VersionedUpdate(operation, place, list) => {
+            emit_versioned_update(alloc, bounds, *operation, *place, *list, waiting, code)
+        }
         WordStep::Sense => emit_sense(waiting, code),
         WordStep::ListEntry {
             count,
@@ -175,15 +189,15 @@ fn emit_step(
             copy,
             words,
         } => emit_entry(*count, *list, *home, *copy, *words, waiting, code),
-        WordStep::Truth(test) => emit_truth(alloc, test, waiting, code),
+        WordStep::Truth(test) => emit_truth(alloc, bounds, test, waiting, code),
         WordStep::Choose(test, taken, otherwise) => {
             emit_all(waiting, code)?;
             let mut other = Vec::new(alloc);
-            emit_block(alloc, otherwise, &mut other)?;
+            emit_block(alloc, bounds, otherwise, &mut other)?;
             let mut first = Vec::new(alloc);
-            emit_block(alloc, taken, &mut first)?;
+            emit_block(alloc, bounds, taken, &mut first)?;
             emit_pass_over(code_words(&other), &mut first)?;
-            emit_test(alloc, test, false, code_words(&first), code)?;
+            emit_test(alloc, bounds, test, false, code_words(&first), code)?;
             code.extend_from_slice(&first)?;
             code.extend_from_slice(&other)
         }
@@ -192,7 +206,7 @@ fn emit_step(
             from,
             below,
             body,
-        } => emit_loop(alloc, *local, *from, *below, body, waiting, code),
+        } => emit_loop(alloc, bounds, *local, *from, *below, body, waiting, code),
         WordStep::StoreNumber { address, word } => emit_store(*address, *word, waiting, code),
         WordStep::MoveWord { from, to } => emit_move_word(*from, *to, waiting, code),
         WordStep::Jump(to) => emit_jump(*to, waiting, code),
@@ -203,32 +217,38 @@ fn emit_step(
 #[cycle(emit)]
 fn emit_steps(
     alloc: Global,
+    bounds: &[Bound],
     steps: &[WordStep],
     waiting: &mut Vec<Waiting>,
     code: &mut Vec<Instr>,
 ) -> Result<(), AllocError>
     requires room { words_of (steps_of steps.now) ≤ 0x7FFF }
     requires locals { LocalsBelow 1008 (steps_of steps.now) }
-    ensures code { OnOk result (code.new.items ≡ code.old.items ++ instructions (steps_code waiting.old.items (steps_of steps.now))) }
+    ensures code { OnOk result (code.new.items ≡ code.old.items ++ instructions (steps_code bounds.now waiting.old.items (steps_of steps.now))) }
     ensures waiting { OnOk result (waiting.new.items ≡ waiting_after waiting.old.items (steps_of steps.now)) }
     ensures of_words { OnOk result (OfWords (steps_of steps.now)) }
 {
     for step in steps {
-        emit_step(alloc, step, waiting, code)?;
+        emit_step(alloc, bounds, step, waiting, code)?;
     }
     Ok(())
 }
 
 // Steps with no word waiting in front of them or behind them.
 #[cycle(emit)]
-fn emit_block(alloc: Global, steps: &[WordStep], code: &mut Vec<Instr>) -> Result<(), AllocError>
+fn emit_block(
+    alloc: Global,
+    bounds: &[Bound],
+    steps: &[WordStep],
+    code: &mut Vec<Instr>,
+) -> Result<(), AllocError>
     requires room { words_of (steps_of steps.now) ≤ 0x7FFF }
     requires locals { LocalsBelow 1008 (steps_of steps.now) }
-    ensures code { OnOk result (code.new.items ≡ code.old.items ++ instructions (code_of (steps_of steps.now))) }
+    ensures code { OnOk result (code.new.items ≡ code.old.items ++ instructions (block_code bounds.now (steps_of steps.now))) }
     ensures of_words { OnOk result (OfWords (steps_of steps.now)) }
 {
     let mut waiting = Vec::new(alloc);
-    emit_steps(alloc, steps, &mut waiting, code)?;
+    emit_steps(alloc, bounds, steps, &mut waiting, code)?;
     emit_flushed(&waiting, code)
 }
 
@@ -243,6 +263,6 @@ pub fn emit(alloc: Global, program: &WordProgram, code: &mut Vec<Instr>) -> Resu
     ensures err { OnErr result (code.new.items ≡ code.old.items) }
 {
     let mut own = Vec::new(alloc);
-    emit_block(alloc, &program.steps, &mut own)?;
+    emit_block(alloc, &[], &program.steps, &mut own)?;
     code.extend_from_slice(&own)
 }

@@ -115,7 +115,7 @@ pub fn emit_shift(
     code: &mut Vec<Instr>,
 ) -> Result<(), AllocError>
     ensures code { OnOk result (code.new.items
-        ≡ code.old.items ++ instructions (step_code waiting.old.items (value.shift operation count))) }
+        ≡ code.old.items ++ instructions (step_code [] waiting.old.items (value.shift operation count))) }
     ensures waiting { OnOk result (waiting.new.items ≡ waiting_behind waiting.old.items (value.shift operation count)) }
 {
     emit_top_to_four(waiting, code)?;

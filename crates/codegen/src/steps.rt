@@ -6,52 +6,90 @@ ghost use Rattle.msp_isa.specs.alp_words.declared.Width.TheVariants.{Word};
 ghost use Rattle.msp_isa.specs.declared.instructions.TwoOp.TheVariants as two_op;
 ghost use Rattle.code_forms.specs.Placed.{instructions};
 ghost use Rattle.array_versions.specs.Program as value;
-ghost use Rattle.codegen.specs.Code.{element_code, emit_code, words_source, entry_code, number_code, plain_instruction, ram_update, turn_end, step_code, waiting_behind};
+ghost use Rattle.codegen.specs.Code.{known_element, fetch_code, element_code, emit_code, words_source, entry_code, number_code, plain_instruction, ram_update};
+ghost use Rattle.codegen.specs.Code.{turn_end};
+ghost use Rattle.codegen.specs.Code.{step_code, waiting_behind};
 
+use crate::bounds::{Bound, emit_check, emit_zero, is_inside};
 use crate::forms::{
     R4, R5, R6, TO_R4, TO_R5, TO_R6, absolute, branch, constant, jump, local_address,
-    local_register, local_target, push, two,
+    local_register, local_target, number_source, push, two,
 };
 use crate::operations::plain_instruction;
 use crate::waiting::{
-    Waiting, emit_all, emit_below, emit_cleared, emit_top_to_five, emit_top_to_four, wait,
+    Waiting, emit_all, emit_below, emit_cleared, emit_top_to_five, emit_top_to_four, take, top,
+    top_number, wait,
 };
 use array_versions::PlainOperation;
 use msp_isa::{Condition, Dst, IndexRegister, Instr, Konst, Operand, Reg, Src, TwoOp};
 use std::alloc::AllocError;
 
-// The element at the index in R4.
-fn emit_fetch(base: u16, length: u16, code: &mut Vec<Instr>) -> Result<(), AllocError>
-    ensures { OnOk result (code.new.items ≡ code.old.items ++ instructions (element_code base length)) }
+// The element at the index in R4, which is below the length.
+fn emit_fetch(base: u16, code: &mut Vec<Instr>) -> Result<(), AllocError>
+    ensures { OnOk result (code.new.items ≡ code.old.items ++ instructions (fetch_code base)) }
 {
     code.extend_from_slice(&[
-        two(TwoOp::Cmp, Src::Immediate(length), TO_R4),
-        jump(Condition::Carry, 4),
         two(TwoOp::Add, R4, TO_R4),
         two(
             TwoOp::Mov,
             Src::Operand(Operand::Indexed(IndexRegister::R4, base)),
             TO_R4,
         ),
-        jump(Condition::Always, 1),
-        two(TwoOp::Mov, constant(Konst::Zero), TO_R4),
     ])
+}
+
+// An element, by whether the index in R4 is surely below the length.
+fn emit_indexed(
+    inside: bool,
+    base: u16,
+    length: u16,
+    code: &mut Vec<Instr>,
+) -> Result<(), AllocError>
+    ensures { OnOk result (code.new.items ≡ code.old.items ++ instructions (element_code inside base length)) }
+{
+    if inside {
+        return emit_fetch(base, code);
+    }
+    emit_check(length, 4, code)?;
+    emit_fetch(base, code)?;
+    emit_zero(code)
+}
+
+// The element of an array at a number is a word of FRAM, or 0.
+fn known_element(base: u16, length: u16, index: u16) -> Waiting
+    ensures { result ≡ known_element base length index }
+{
+    if index < length {
+        Waiting::Fram(base.wrapping_add(index.wrapping_add(index)))
+    } else {
+        Waiting::Number(0)
+    }
 }
 
 /// Appends the code of an element of an array.
 pub fn emit_element(
+    bounds: &[Bound],
     base: u16,
     length: u16,
     waiting: &mut Vec<Waiting>,
     code: &mut Vec<Instr>,
 ) -> Result<(), AllocError>
     ensures code { OnOk result (code.new.items
-        ≡ code.old.items ++ instructions (step_code waiting.old.items (value.element base length))) }
+        ≡ code.old.items ++ instructions (step_code bounds.now waiting.old.items (value.element base length))) }
     ensures waiting { OnOk result (waiting.new.items ≡ waiting_behind waiting.old.items (value.element base length)) }
 {
-    emit_top_to_four(waiting, code)?;
-    emit_fetch(base, length, code)?;
-    wait(Waiting::R4, waiting)
+    let inside = is_inside(bounds, top(waiting), length);
+    match top_number(waiting) {
+        Some(index) => {
+            take(waiting);
+            wait(known_element(base, length, index), waiting)
+        }
+        None => {
+            emit_top_to_four(waiting, code)?;
+            emit_indexed(inside, base, length, code)?;
+            wait(Waiting::R4, waiting)
+        }
+    }
 }
 
 // The word in R5 behind those that are counted, then the count.
@@ -76,7 +114,7 @@ pub fn emit_emit(
     code: &mut Vec<Instr>,
 ) -> Result<(), AllocError>
     ensures code { OnOk result (code.new.items
-        ≡ code.old.items ++ instructions (step_code waiting.old.items (value.emit_word count buffer))) }
+        ≡ code.old.items ++ instructions (step_code [] waiting.old.items (value.emit_word count buffer))) }
     ensures waiting { OnOk result (waiting.new.items ≡ []) }
 {
     emit_top_to_five(waiting, code)?;
@@ -143,7 +181,7 @@ pub fn emit_entry(
     code: &mut Vec<Instr>,
 ) -> Result<(), AllocError>
     ensures code { OnOk result (code.new.items
-        ≡ code.old.items ++ instructions (step_code waiting.old.items (value.list_entry count list home copy words))) }
+        ≡ code.old.items ++ instructions (step_code [] waiting.old.items (value.list_entry count list home copy words))) }
     ensures waiting { OnOk result (waiting.new.items ≡ []) }
 {
     emit_all(waiting, code)?;
@@ -155,7 +193,7 @@ pub fn emit_number(n: u16, number: u16, code: &mut Vec<Instr>) -> Result<(), All
     requires { n < 1008 }
     ensures { OnOk result (code.new.items ≡ code.old.items ++ instructions (number_code n number)) }
 {
-    code.extend_from_slice(&[two(TwoOp::Mov, Src::Immediate(number), local_target(n))])
+    code.extend_from_slice(&[two(TwoOp::Mov, number_source(number), local_target(n))])
 }
 
 /// Appends the end of a turn: the local goes up by one, and is compared with a number.
@@ -167,7 +205,7 @@ pub fn emit_turn_end(n: u16, below: u16, code: &mut Vec<Instr>) -> Result<(), Al
         let local = Dst::Reg(Reg::Index(local_register(n)));
         code.extend_from_slice(&[
             two(TwoOp::Add, constant(Konst::One), local),
-            two(TwoOp::Cmp, Src::Immediate(below), local),
+            two(TwoOp::Cmp, number_source(below), local),
         ])
     } else {
         let place = local_address(n);
@@ -175,7 +213,7 @@ pub fn emit_turn_end(n: u16, below: u16, code: &mut Vec<Instr>) -> Result<(), Al
             two(TwoOp::Mov, absolute(place), TO_R4),
             two(TwoOp::Add, constant(Konst::One), TO_R4),
             two(TwoOp::Mov, R4, Dst::Absolute(place)),
-            two(TwoOp::Cmp, Src::Immediate(below), TO_R4),
+            two(TwoOp::Cmp, number_source(below), TO_R4),
         ])
     }
 }
@@ -202,7 +240,7 @@ pub fn emit_local(
 ) -> Result<(), AllocError>
     requires { n < 1008 }
     ensures code { OnOk result (code.new.items
-        ≡ code.old.items ++ instructions (step_code waiting.old.items (value.local n))) }
+        ≡ code.old.items ++ instructions (step_code [] waiting.old.items (value.local n))) }
     ensures waiting { OnOk result (waiting.new.items ≡ waiting_behind waiting.old.items (value.local n)) }
 {
     if n < 8 {
@@ -219,7 +257,7 @@ pub fn emit_keep(
     code: &mut Vec<Instr>,
 ) -> Result<(), AllocError>
     ensures code { OnOk result (code.new.items
-        ≡ code.old.items ++ instructions (step_code waiting.old.items (value.keep address))) }
+        ≡ code.old.items ++ instructions (step_code [] waiting.old.items (value.keep address))) }
     ensures waiting { OnOk result (waiting.new.items ≡ []) }
 {
     let source = emit_below(waiting, code)?;
@@ -234,7 +272,7 @@ pub fn emit_update(
     code: &mut Vec<Instr>,
 ) -> Result<(), AllocError>
     ensures code { OnOk result (code.new.items
-        ≡ code.old.items ++ instructions (step_code waiting.old.items (value.update operation address))) }
+        ≡ code.old.items ++ instructions (step_code [] waiting.old.items (value.update operation address))) }
     ensures waiting { OnOk result (waiting.new.items ≡ []) }
 {
     let source = emit_below(waiting, code)?;
@@ -250,7 +288,7 @@ pub fn emit_set_local(
 ) -> Result<(), AllocError>
     requires { n < 1008 }
     ensures code { OnOk result (code.new.items
-        ≡ code.old.items ++ instructions (step_code waiting.old.items (value.set_local n))) }
+        ≡ code.old.items ++ instructions (step_code [] waiting.old.items (value.set_local n))) }
     ensures waiting { OnOk result (waiting.new.items ≡ []) }
 {
     let source = emit_below(waiting, code)?;
@@ -281,7 +319,7 @@ pub fn emit_update_local(
 ) -> Result<(), AllocError>
     requires { n < 1008 }
     ensures code { OnOk result (code.new.items
-        ≡ code.old.items ++ instructions (step_code waiting.old.items (value.update_local operation n))) }
+        ≡ code.old.items ++ instructions (step_code [] waiting.old.items (value.update_local operation n))) }
     ensures waiting { OnOk result (waiting.new.items ≡ []) }
 {
     let source = emit_below(waiting, code)?;
@@ -298,7 +336,7 @@ pub fn emit_update_local(
 
 /// Appends the code that takes the next reading.
 pub fn emit_sense(waiting: &mut Vec<Waiting>, code: &mut Vec<Instr>) -> Result<(), AllocError>
-    ensures code { OnOk result (code.new.items ≡ code.old.items ++ instructions (step_code waiting.old.items value.sense)) }
+    ensures code { OnOk result (code.new.items ≡ code.old.items ++ instructions (step_code [] waiting.old.items value.sense)) }
     ensures waiting { OnOk result (waiting.new.items ≡ waiting_behind waiting.old.items value.sense) }
 {
     emit_cleared(waiting, code)?;
@@ -314,11 +352,11 @@ pub fn emit_store(
     code: &mut Vec<Instr>,
 ) -> Result<(), AllocError>
     ensures code { OnOk result (code.new.items
-        ≡ code.old.items ++ instructions (step_code waiting.old.items (value.store_number address word))) }
+        ≡ code.old.items ++ instructions (step_code [] waiting.old.items (value.store_number address word))) }
     ensures waiting { OnOk result (waiting.new.items ≡ []) }
 {
     emit_all(waiting, code)?;
-    emit_move(Src::Immediate(word), Dst::Absolute(address), code)
+    emit_move(number_source(word), Dst::Absolute(address), code)
 }
 
 /// Appends the code that copies a word of FRAM.
@@ -329,7 +367,7 @@ pub fn emit_move_word(
     code: &mut Vec<Instr>,
 ) -> Result<(), AllocError>
     ensures code { OnOk result (code.new.items
-        ≡ code.old.items ++ instructions (step_code waiting.old.items (value.move_word from to))) }
+        ≡ code.old.items ++ instructions (step_code [] waiting.old.items (value.move_word from to))) }
     ensures waiting { OnOk result (waiting.new.items ≡ []) }
 {
     emit_all(waiting, code)?;
@@ -343,7 +381,7 @@ pub fn emit_jump(
     code: &mut Vec<Instr>,
 ) -> Result<(), AllocError>
     ensures code { OnOk result (code.new.items
-        ≡ code.old.items ++ instructions (step_code waiting.old.items (value.jump to))) }
+        ≡ code.old.items ++ instructions (step_code [] waiting.old.items (value.jump to))) }
     ensures waiting { OnOk result (waiting.new.items ≡ []) }
 {
     emit_all(waiting, code)?;

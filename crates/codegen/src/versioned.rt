@@ -1,6 +1,6 @@
 //! The code of versioned accesses.
 
-ghost use Rattle.std.specs.Prelude.{◌≡◌, [], ◌++◌, OnOk};
+ghost use Rattle.std.specs.Prelude.{◌≡◌, [], ◌++◌, ◌<◌, OnOk};
 ghost use Rattle.msp_isa.specs.declared.operands.Src.TheVariants as Srcs;
 ghost use Rattle.msp_isa.specs.declared.operands.Operand.TheVariants as Operands;
 ghost use Rattle.msp_isa.specs.declared.registers.IndexRegister.TheVariants as index;
@@ -8,17 +8,22 @@ ghost use Rattle.array_versions.specs.Form.{ArrayOfWords, ListOfWords};
 ghost use Rattle.code_forms.specs.Placed.{instructions};
 ghost use Rattle.msp_isa.specs.alp_words.Words.{word_sum};
 ghost use Rattle.code_forms.specs.Forms as form;
-ghost use Rattle.codegen.specs.Code.{read_code, mark_code, last_code, end_test, longer_code, next_code, word_code, first_code, copy_code, write_code, step_code, waiting_behind};
+ghost use Rattle.codegen.specs.Code.{own_code, read_code, mark_code, last_code, end_test, longer_code, next_code, word_code, first_code, copy_code};
+ghost use Rattle.codegen.specs.Code.{stored_code, write_code};
+ghost use Rattle.codegen.specs.Code.{step_code, waiting_behind};
 ghost use Rattle.array_versions.specs.Program as value;
 
+use crate::bounds::{Bound, emit_check, emit_zero, is_inside};
 use crate::forms::{R4, R5, R6, R7, TO_R4, TO_R5, TO_R6, TO_R7, absolute, constant, jump, two};
-use crate::waiting::{Waiting, emit_all, emit_top_to_four, emit_two_to_registers, wait};
+use crate::waiting::{
+    Waiting, emit_all, emit_top_to_four, emit_two_to_registers, top, under_top, wait,
+};
 use array_versions::{ArrayPlace, ListPlace};
 use msp_isa::{Condition, Dst, IndexRegister, Instr, Konst, Operand, Src, TwoOp};
 use std::alloc::AllocError;
 
-// The word at R4's address plus an address.
-fn at_r4(base: u16) -> Src
+/// The word at R4's address plus an address.
+pub fn at_r4(base: u16) -> Src
     ensures { result ≡ Srcs.Operand (Operands.Indexed index.R4 base) }
 {
     Src::Operand(Operand::Indexed(IndexRegister::R4, base))
@@ -31,41 +36,62 @@ fn at_r5(base: u16) -> Src
     Src::Operand(Operand::Indexed(IndexRegister::R5, base))
 }
 
-// A versioned read at the index in R4.
-fn emit_read(place: ArrayPlace, list: ListPlace, code: &mut Vec<Instr>) -> Result<(), AllocError>
-    ensures code { OnOk result (code.new.items ≡ code.old.items ++ instructions (read_code place list)) }
-    ensures of_words { OnOk result (ArrayOfWords place × ListOfWords list) }
+// A versioned read at the index in R4, which is below the length; from the copy it goes over so many words.
+fn emit_own(
+    over: u16,
+    place: ArrayPlace,
+    list: ListPlace,
+    code: &mut Vec<Instr>,
+) -> Result<(), AllocError>
+    requires { over < 0x400 }
+    ensures { OnOk result (code.new.items ≡ code.old.items ++ instructions (own_code over place list)) }
 {
     code.extend_from_slice(&[
-        two(TwoOp::Cmp, Src::Immediate(place.length), TO_R4),
-        jump(Condition::Carry, 12),
         two(TwoOp::Add, R4, TO_R4),
         two(TwoOp::Mov, absolute(list.ver), TO_R5),
         two(TwoOp::Cmp, at_r4(place.versions), TO_R5),
         jump(Condition::NotEqual, 3),
         two(TwoOp::Mov, at_r4(place.copies), TO_R4),
-        jump(Condition::Always, 4),
+        jump(Condition::Always, over),
         two(TwoOp::Mov, at_r4(place.elements), TO_R4),
-        jump(Condition::Always, 1),
-        two(TwoOp::Mov, constant(Konst::Zero), TO_R4),
     ])?;
     Ok(())
 }
 
+// A versioned read, by whether the index in R4 is surely below the length.
+fn emit_read(
+    inside: bool,
+    place: ArrayPlace,
+    list: ListPlace,
+    code: &mut Vec<Instr>,
+) -> Result<(), AllocError>
+    ensures code { OnOk result (code.new.items ≡ code.old.items ++ instructions (read_code inside place list)) }
+    ensures of_words { OnOk result (ArrayOfWords place × ListOfWords list) }
+{
+    if inside {
+        return emit_own(2, place, list, code);
+    }
+    emit_check(place.length, 12, code)?;
+    emit_own(4, place, list, code)?;
+    emit_zero(code)
+}
+
 /// Appends the code of a versioned read.
 pub fn emit_versioned_read(
+    bounds: &[Bound],
     place: ArrayPlace,
     list: ListPlace,
     waiting: &mut Vec<Waiting>,
     code: &mut Vec<Instr>,
 ) -> Result<(), AllocError>
     ensures code { OnOk result (code.new.items
-        ≡ code.old.items ++ instructions (step_code waiting.old.items (value.versioned_read place list))) }
+        ≡ code.old.items ++ instructions (step_code bounds.now waiting.old.items (value.versioned_read place list))) }
     ensures waiting { OnOk result (waiting.new.items ≡ waiting_behind waiting.old.items (value.versioned_read place list)) }
     ensures of_words { OnOk result (ArrayOfWords place × ListOfWords list) }
 {
+    let inside = is_inside(bounds, top(waiting), place.length);
     emit_top_to_four(waiting, code)?;
-    emit_read(place, list, code)?;
+    emit_read(inside, place, list, code)?;
     wait(Waiting::R4, waiting)
 }
 
@@ -166,8 +192,12 @@ fn emit_word(list: ListPlace, code: &mut Vec<Instr>) -> Result<(), AllocError>
     Ok(())
 }
 
-// What follows the first store to a copy.
-fn emit_first(place: ArrayPlace, list: ListPlace, code: &mut Vec<Instr>) -> Result<(), AllocError>
+/// Appends what follows the first store to a copy.
+pub fn emit_first(
+    place: ArrayPlace,
+    list: ListPlace,
+    code: &mut Vec<Instr>,
+) -> Result<(), AllocError>
     ensures { OnOk result (code.new.items ≡ code.old.items ++ instructions (first_code place list)) }
 {
     emit_mark(place, list, code)?;
@@ -184,8 +214,6 @@ fn emit_copy(place: ArrayPlace, list: ListPlace, code: &mut Vec<Instr>) -> Resul
     ensures { OnOk result (code.new.items ≡ code.old.items ++ instructions (copy_code place list)) }
 {
     code.extend_from_slice(&[
-        two(TwoOp::Cmp, Src::Immediate(place.length), TO_R4),
-        jump(Condition::Carry, 54),
         two(TwoOp::Add, R4, TO_R4),
         two(
             TwoOp::Mov,
@@ -199,29 +227,47 @@ fn emit_copy(place: ArrayPlace, list: ListPlace, code: &mut Vec<Instr>) -> Resul
     Ok(())
 }
 
-// A versioned write of the word in R5 at the index in R4.
-fn emit_write(place: ArrayPlace, list: ListPlace, code: &mut Vec<Instr>) -> Result<(), AllocError>
-    ensures code { OnOk result (code.new.items ≡ code.old.items ++ instructions (write_code place list)) }
-    ensures of_words { OnOk result (ArrayOfWords place × ListOfWords list) }
+// A versioned write of the word in R5 at the index in R4, which is below the length.
+fn emit_stored(place: ArrayPlace, list: ListPlace, code: &mut Vec<Instr>) -> Result<(), AllocError>
+    ensures { OnOk result (code.new.items ≡ code.old.items ++ instructions (stored_code place list)) }
 {
     emit_copy(place, list, code)?;
     emit_first(place, list, code)?;
     Ok(())
 }
 
+// A versioned write, by whether the index in R4 is surely below the length.
+fn emit_write(
+    inside: bool,
+    place: ArrayPlace,
+    list: ListPlace,
+    code: &mut Vec<Instr>,
+) -> Result<(), AllocError>
+    ensures code { OnOk result (code.new.items ≡ code.old.items ++ instructions (write_code inside place list)) }
+    ensures of_words { OnOk result (ArrayOfWords place × ListOfWords list) }
+{
+    if inside {
+        return emit_stored(place, list, code);
+    }
+    emit_check(place.length, 54, code)?;
+    emit_stored(place, list, code)
+}
+
 /// Appends the code of a versioned write.
 pub fn emit_versioned_write(
+    bounds: &[Bound],
     place: ArrayPlace,
     list: ListPlace,
     waiting: &mut Vec<Waiting>,
     code: &mut Vec<Instr>,
 ) -> Result<(), AllocError>
     ensures code { OnOk result (code.new.items
-        ≡ code.old.items ++ instructions (step_code waiting.old.items (value.versioned_write place list))) }
+        ≡ code.old.items ++ instructions (step_code bounds.now waiting.old.items (value.versioned_write place list))) }
     ensures waiting { OnOk result (waiting.new.items ≡ []) }
     ensures of_words { OnOk result (ArrayOfWords place × ListOfWords list) }
 {
+    let inside = is_inside(bounds, under_top(waiting), place.length);
     emit_two_to_registers(waiting, code)?;
     emit_all(waiting, code)?;
-    emit_write(place, list, code)
+    emit_write(inside, place, list, code)
 }

@@ -1,12 +1,16 @@
 //! Words that wait to be pushed: what an instruction names in place of the words on top of the stack, the top first.
 
-ghost use Rattle.std.specs.Prelude.{◌≡◌, [], ◌∷◌, ◌++◌, ◌-◌, Bool, OnOk, IfOk};
+ghost use Rattle.std.specs.Prelude.{◌≡◌, [], ◌∷◌, ◌++◌, if◌then◌else◌, OnOk, IfOk};
+ghost use Rattle.codegen.specs.declared.waiting.Waiting.TheVariants as words;
 ghost use Rattle.code_forms.specs.Forms.{source_operand};
 ghost use Rattle.code_forms.specs.Placed.{instructions};
 ghost use Rattle.codegen.specs.Code as made;
-ghost use Rattle.codegen.specs.Code.{flushed, top_of, below_top, is_held, any_held, cleared, kept, four_from, five_from, top_to_four, top_to_five, two_to_registers};
+ghost use Rattle.codegen.specs.Code.{flushed, top_of, below_top, is_held, any_held, cleared, kept, four_from, five_from, top_to_four, top_to_five};
+ghost use Rattle.codegen.specs.Code.{two_to_registers, stays, right_source, sides, power, top_number, top_power, top_mask, rests, rest_source, to_rest};
 
-use crate::forms::{POPPED, R4, R6, TO_R4, TO_R5, absolute, local_register, push, two};
+use crate::forms::{
+    POPPED, R4, R5, R6, TO_R4, TO_R5, absolute, local_register, number_source, push, two,
+};
 use msp_isa::{Instr, Operand, SourceRegister, Src, TwoOp};
 use std::alloc::AllocError;
 
@@ -29,7 +33,7 @@ fn waiting_source(word: Waiting) -> Src
     ensures { result ≡ source_operand (made.waiting_source word) }
 {
     match word {
-        Waiting::Number(number) => Src::Immediate(number),
+        Waiting::Number(number) => number_source(number),
         Waiting::Fram(address) => absolute(address),
         Waiting::Local(n) => Src::Operand(Operand::Reg(SourceRegister::Index(local_register(n)))),
         Waiting::R4 => R4,
@@ -47,8 +51,8 @@ fn source_from(top: Option<Waiting>) -> Src
     }
 }
 
-// Takes the top, where it waits.
-fn take(waiting: &mut Vec<Waiting>) -> Option<Waiting>
+/// Takes the top, where it waits.
+pub fn take(waiting: &mut Vec<Waiting>) -> Option<Waiting>
     ensures top { result ≡ top_of waiting.old.items }
     ensures below { waiting.new.items ≡ below_top waiting.old.items }
 {
@@ -122,8 +126,8 @@ pub fn emit_cleared(waiting: &mut Vec<Waiting>, code: &mut Vec<Instr>) -> Result
     }
 }
 
-// The top, which is taken, to R4.
-fn emit_to_four(top: Option<Waiting>, code: &mut Vec<Instr>) -> Result<(), AllocError>
+/// Appends what brings the top, which is taken, to R4.
+pub fn emit_to_four(top: Option<Waiting>, code: &mut Vec<Instr>) -> Result<(), AllocError>
     ensures { OnOk result (code.new.items ≡ code.old.items ++ instructions (four_from top)) }
 {
     match top {
@@ -138,6 +142,140 @@ fn emit_to_five(top: Option<Waiting>, code: &mut Vec<Instr>) -> Result<(), Alloc
     ensures { OnOk result (code.new.items ≡ code.old.items ++ instructions (five_from top)) }
 {
     code.extend_from_slice(&[two(TwoOp::Mov, source_from(top), TO_R5)])
+}
+
+// The right side of an operation stays where it waits, but for R4.
+fn stays(right: Option<Waiting>) -> bool
+    ensures { result ≡ stays right }
+{
+    match right {
+        None | Some(Waiting::R4) => false,
+        Some(Waiting::Number(_) | Waiting::Fram(_) | Waiting::Local(_) | Waiting::R6) => true,
+    }
+}
+
+// The right side of an operation, which is taken, to where an instruction reads it.
+fn emit_right(right: Option<Waiting>, code: &mut Vec<Instr>) -> Result<Src, AllocError>
+    ensures source { IfOk result (λ source. source ≡ source_operand (right_source right)) }
+    ensures code { OnOk result (code.new.items ≡ code.old.items ++ instructions (if stays right then [] else (five_from right))) }
+{
+    if stays(right) {
+        return Ok(source_from(right));
+    }
+    emit_to_five(right, code)?;
+    Ok(R5)
+}
+
+/// Takes the right side of an operation, which is the top, as a source, and the left one to R4.
+pub fn emit_sides(waiting: &mut Vec<Waiting>, code: &mut Vec<Instr>) -> Result<Src, AllocError>
+    ensures source { IfOk result (λ source. source ≡ source_operand (right_source (top_of waiting.old.items))) }
+    ensures code { OnOk result (code.new.items ≡ code.old.items ++ instructions (sides waiting.old.items)) }
+    ensures waiting { OnOk result (waiting.new.items ≡ kept (below_top (below_top waiting.old.items))) }
+{
+    let right = take(waiting);
+    let left = take(waiting);
+    emit_cleared(waiting, code)?;
+    let source = emit_right(right, code)?;
+    emit_to_four(left, code)?;
+    Ok(source)
+}
+
+// The right side of an update stays where it waits, but for registers for work.
+fn rests(right: Option<Waiting>) -> bool
+    ensures { result ≡ rests right }
+{
+    match right {
+        None => false,
+        Some(word) => !is_held(word),
+    }
+}
+
+/// The right side of an update as a source.
+pub fn rest_source(right: Option<Waiting>) -> Src
+    ensures { result ≡ source_operand (rest_source right) }
+{
+    if rests(right) { source_from(right) } else { R5 }
+}
+
+/// Appends what brings it there.
+pub fn emit_to_rest(right: Option<Waiting>, code: &mut Vec<Instr>) -> Result<(), AllocError>
+    ensures { OnOk result (code.new.items ≡ code.old.items ++ instructions (to_rest right)) }
+{
+    if rests(right) {
+        Ok(())
+    } else {
+        emit_to_five(right, code)
+    }
+}
+
+// The exponent of a power of two.
+fn power(number: u16) -> Option<u16>
+    ensures { result ≡ power number }
+{
+    let count = number.trailing_zeros();
+    if count < 16 && number == 1 << count {
+        Some(count as u16)
+    } else {
+        None
+    }
+}
+
+/// The top, where it waits; it stays.
+pub fn top(waiting: &[Waiting]) -> Option<Waiting>
+    ensures { result ≡ top_of waiting.now }
+{
+    match waiting.first() {
+        Some(word) => Some(*word),
+        None => None,
+    }
+}
+
+/// The word below the top, where both wait.
+pub fn under_top(waiting: &[Waiting]) -> Option<Waiting>
+    ensures { result ≡ top_of (below_top waiting.now) }
+{
+    match waiting.get(1) {
+        Some(word) => Some(*word),
+        None => None,
+    }
+}
+
+/// The number that waits on top.
+pub fn top_number(waiting: &[Waiting]) -> Option<u16>
+    ensures { result ≡ top_number (top_of waiting.now) }
+{
+    match waiting.first() {
+        Some(Waiting::Number(number)) => Some(*number),
+        _ => None,
+    }
+}
+
+/// The exponent of the number that waits on top, where that is a power of two.
+pub fn top_power(waiting: &[Waiting]) -> Option<u16>
+    ensures { result ≡ top_power (top_of waiting.now) }
+{
+    match waiting.first() {
+        Some(Waiting::Number(number)) => power(*number),
+        _ => None,
+    }
+}
+
+// The number that waits on top, less one.
+fn top_mask(top: Option<Waiting>) -> u16
+    ensures { result ≡ top_mask top }
+{
+    match top {
+        Some(Waiting::Number(number)) => number.saturating_sub(1),
+        _ => 0,
+    }
+}
+
+/// A number less one waits on top in place of the number.
+pub fn mask_top(waiting: &mut Vec<Waiting>) -> Result<(), AllocError>
+    ensures { OnOk result (waiting.new.items ≡ words.Number (top_mask (top_of waiting.old.items)) ∷ below_top waiting.old.items) }
+{
+    let top = take(waiting);
+    wait(Waiting::Number(top_mask(top)), waiting)
 }
 
 /// Takes the top, as a source; the others that wait are pushed.

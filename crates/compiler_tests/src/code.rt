@@ -4,7 +4,7 @@ ghost use Rattle.std.specs.Prelude.{◌≡◌, IfOk};
 ghost use Rattle.codegen.specs.array_versions.View.{program_of};
 ghost use Rattle.compiler_tests.specs.Sample.{sample_steps, looping_steps};
 
-use codegen::{WordProgram, emit};
+use codegen::{WordProgram, WordTest, emit};
 use msp_encode::encode;
 use std::alloc::{AllocError, Global};
 
@@ -43,7 +43,7 @@ fn looping(alloc: Global) -> Result<WordProgram, AllocError>
     otherwise.number(9)?;
     otherwise.keep(0x4410)?;
     let mut turn = WordProgram::new(alloc);
-    turn.choose(codegen::WordTest::holds(asked), taken, otherwise)?;
+    turn.choose(WordTest::holds(asked), taken, otherwise)?;
     let mut program = WordProgram::new(alloc);
     program.number(5)?;
     program.set_local(8)?;
@@ -52,10 +52,10 @@ fn looping(alloc: Global) -> Result<WordProgram, AllocError>
     Ok(program)
 }
 
-// The words of the store of 5; of the loop's start; of the test; of what is done where it holds; of what is done where it fails; of
+// The words of 5 that is stored; of the loop's start; of the test; of what is done where it holds; of what is done where it fails; of
 // the turn's end; and of the jump out.
-const LOOPING: [u16; 22] = [
-    0x40b2, 5, 0x1c30, 0x4038, 0, 0x1212, 0x1c30, 0x4134, 0x9304, 0x2403, 0x4882, 0x4410, 0x3c03,
+const LOOPING: [u16; 21] = [
+    0x40b2, 5, 0x1c30, 0x4308, 0x1212, 0x1c30, 0x4134, 0x9304, 0x2403, 0x4882, 0x4410, 0x3c03,
     0x40b2, 9, 0x4410, 0x5318, 0x9038, 3, 0x23f1, 0x4030, 0x4400,
 ];
 

@@ -21,21 +21,22 @@ use Rattle.task_ast.specs.declared.names.VariableName.{VariableName}
 use Rattle.path_runs.proofs.Interface.{runs_go_on_along_paths}
 use Rattle.array_versions.specs.declared.operations.PlainOperation.{PlainOperation}
 use Rattle.array_versions.specs.Operations.{plain_word}
-use Rattle.array_versions.specs.Program.{Program, emit_word, versioned_write, choose, repeat, nothing, joined}
+use Rattle.array_versions.specs.Program.{Program, emit_word, versioned_write, versioned_update, choose, repeat, nothing, joined}
 use Rattle.array_versions.specs.Behaviour as words
 use Rattle.array_versions.specs.Behaviour.{WordState, Behaviour, then_on}
 use Rattle.array_versions.specs.Behaviour.{local_updated, is_place, at_place, stored, with_local, word_emitted, way_by_top, tested}
 use Rattle.array_versions.specs.Behaviour.{behaviour}
 use Rattle.array_versions.proofs.Interface.{joined_go_on, joined_assoc, decided_by_truth}
 use Rattle.lower.specs.Lowered.{update_step, setting, updating, sides_set}
-use Rattle.lower.specs.Lowered.{one, write_step, written_array, list_place, store_step, loop_local, assignment, element_assignment}
+use Rattle.lower.specs.Lowered.{one, write_step, written_array, list_place, store_step, update_element_step, loop_local, assignment}
+use Rattle.lower.specs.Lowered.{index_and_value, element_setting, element_updating, element_sides_set, element_assignment}
 use Rattle.lower.specs.Lowered.{lowered_transition, lowered_expression, lowered_test}
 use Rattle.lower.specs.Lowered.{lowered_statement, lowered_choice, lowered_block, lowered_task, lowered_tasks}
 use Rattle.lower.specs.Spots.{listed_of}
 use Rattle.lower.specs.Agreement.{IsTarget, IsWrittenArray, IsLocal, ExpressionFits, StatementFits, ChoiceFits, BlockFits, StandsFor, at_variable}
 use Rattle.lower.specs.Agreement.{at_emit_count, in_buffer, valued, truth_of, AgreesWithValue, BlocksAgree}
 use Rattle.lower.proofs.Addresses.{fram_place, placed, spot_place}
-use Rattle.lower.proofs.Updates.{is_update, update_goes_on}
+use Rattle.lower.proofs.Updates.{is_update, update_goes_on, is_element_update, stored_value, element_update_goes_on}
 use Rattle.lower.proofs.Values.{small_modulo, holds_bit, truth_pushed, fits_word, lowering_agrees, expressions_agree}
 use Rattle.lower.proofs.Emitted.{EmitsAtMost, statement_emitted, block_emitted}
 use Rattle.lower.proofs.Stored.{same_variables, same_list, same_emits, spot_list, spot_emits, scalar_set, local_holds, after_emit, emit_spots}
@@ -43,7 +44,7 @@ use Rattle.lower.proofs.Stored.{emit_list, emitted_emits, few_entries}
 use Rattle.lower.proofs.Neighbours.{runs_are_few}
 use Rattle.lower.proofs.Transitions.{transition_behaves}
 use Rattle.lower.proofs.Ends.{Scene, Does, does_then, does_alone, does_value}
-use Rattle.lower.proofs.Elements.{Begins, few_listed, list_fits, few_emitted, store_does}
+use Rattle.lower.proofs.Elements.{Begins, few_listed, list_fits, few_emitted, store_does, element_update_does}
 use Rattle.memory_map.specs.MemoryMap.{MemoryMap, TaskPlace, word_place}
 use Rattle.memory_map.specs.declared.words.RuntimeWord.TheVariants.{ListLength, EmitCount, Version}
 use Rattle.memory_map.specs.declared.place.VariablePlace.{VariablePlace}
@@ -193,34 +194,109 @@ module _ (z : Scene) where
       subst P (sym k.3.place) (store_does z n i v k.0 k.1 k.2 w m listed left most k.3 h)
   store_step_does (Local n) i v m listed w left most k h = absurd k
 
-  element_does : (x : Variable) (index e : CheckedExpression) (m : Attempt) (listed : List Element) (w : WordState) (most : ℕ → ℕ) → IsWrittenArray z.p x
-      → ExpressionFits z.p index → ExpressionFits z.p e
-      → Begins z m listed w 0 (λ u. if is_shared u x then 1 else 0) most
-      → Does z w.fram most w.stack (behaviour (element_assignment z.p x index e) w)
-      (if_value (value_of index m.variables m.left) m
-      (λ i s. if_value (value_of e s.variables s.left) s (λ v s. goes_on (source.assigned s x i (source.word_of e v)))))
-  element_does x index e m listed w most array of_index of_e h =
+  update_step_does : (op : PlainOperation) (x : Variable) (i v : ℕ) (m : Attempt) (listed : List Element) (w : WordState) (left : List ℕ) (most : ℕ → ℕ)
+      → IsWrittenArray z.p x → Begins z m listed w 0 (λ u. if is_shared u x then 1 else 0) most
+      → Does z w.fram most w.stack (behaviour (one (update_element_step z.p op x)) (record w { stack = v ∷ i ∷ w.stack; readings = left }))
+      (goes_on (source.assigned (record m { left = left }) x i (plain_word op (word_at m.variables x i) v)))
+  update_step_does op (Shared n) i v m listed w left most k h =
+      let u = plain_word op (word_at m.variables (Shared n) i) v in
+      let P : Option VariablePlace → Type 0 =
+      λ o. Does z w.fram most w.stack
+      (behaviour (one (versioned_update op (written_array o) (list_place z.p))) (record w { stack = v ∷ i ∷ w.stack; readings = left }))
+      (goes_on (source.assigned (record m { left = left }) (Shared n) i u)) in
+      subst P (sym k.3.place) (element_update_does z n i u k.0 k.1 k.2 w m listed left most k.3 h op v refl)
+  update_step_does op (Local n) i v m listed w left most k h = absurd k
+
+  -- an index and a value, and what a step does with both
+  index_and_value_do : (index e : CheckedExpression) (last : Program) (given : ℕ → ℕ → Attempt → Outcome) (m : Attempt) (listed : List Element) (w : WordState)
+      (most : ℕ → ℕ) → ExpressionFits z.p index → ExpressionFits z.p e → StandsFor z.p m listed w
+      → ((i v : ℕ) (left : List ℕ) → Does z w.fram most w.stack (behaviour last (record w { stack = v ∷ i ∷ w.stack; readings = left }))
+      (given i v (record m { left = left })))
+      → Does z w.fram most w.stack (behaviour (joined (index_and_value z.p index e) last) w)
+      (if_value (value_of index m.variables m.left) m (λ i s. if_value (value_of e s.variables s.left) s (given i)))
+  index_and_value_do index e last given m listed w most of_index of_e h k =
       let first = lowered_expression z.p index in
       let second = lowered_expression z.p e in
-      let last = one (store_step z.p x) in
-      let more : ℕ → Attempt → Outcome = λ i s. if_value (value_of e s.variables s.left) s (λ v s. goes_on (source.assigned s x i (source.word_of e v))) in
+      let more : ℕ → Attempt → Outcome = λ i s. if_value (value_of e s.variables s.left) s (given i) in
       let P : Behaviour → Type 0 = λ b. Does z w.fram most w.stack b (if_value (value_of index m.variables m.left) m more) in
       subst P (sym (ap (λ q. behaviour q w) (joined_assoc first second last) ∙ joined_go_on first (joined second last) w))
       (does_value z most w.stack w (behaviour first w) (value_of index m.variables m.left) (behaviour (joined second last)) m more
-      (value_agrees index m listed w of_index h.stands)
+      (value_agrees index m listed w of_index h)
       (λ i.
       let u : WordState = valued w i in
       let n : Attempt = record m { left = i.1 } in
       let Q : Behaviour → Type 0 = λ b. Does z w.fram most w.stack b (more i.0 n) in
       subst Q (sym (joined_go_on second last u))
-      (does_value z most w.stack u (behaviour second u) (value_of e n.variables n.left) (behaviour last) n
-      (λ v s. goes_on (source.assigned s x i.0 (source.word_of e v)))
-      (expressions_agree z.p z.room e m.variables u z.apart z.even of_e h.stands.variables)
-      (λ v.
-      let r : Attempt = record m { left = v.1 } in
-      subst (λ word. Does z w.fram most w.stack (behaviour last (record w { stack = v.0 ∷ i.0 ∷ w.stack; readings = v.1 }))
-      (goes_on (source.assigned r x i.0 word)))
-      (sym (word_as_it_is e v.0 (fits_word z.p e of_e))) (store_step_does x i.0 v.0 m listed w v.1 most array h)))))
+      (does_value z most w.stack u (behaviour second u) (value_of e n.variables n.left) (behaviour last) n (given i.0)
+      (expressions_agree z.p z.room e m.variables u z.apart z.even of_e h.variables)
+      (λ v. k i.0 v.0 v.1))))
+
+  -- an assignment to an element does what the source's does
+  abbrev AssignsElement : Variable → CheckedExpression → CheckedExpression → Attempt → WordState → (ℕ → ℕ) → Program → Type 0
+  AssignsElement x index e m w most q =
+      Does z w.fram most w.stack (behaviour q w) (if_value (value_of index m.variables m.left) m (stored_value x e))
+
+  element_setting_does : (x : Variable) (index e : CheckedExpression) (m : Attempt) (listed : List Element) (w : WordState) (most : ℕ → ℕ)
+      → IsWrittenArray z.p x → ExpressionFits z.p index → ExpressionFits z.p e
+      → Begins z m listed w 0 (λ u. if is_shared u x then 1 else 0) most
+      → AssignsElement x index e m w most (element_setting z.p x index e)
+  element_setting_does x index e m listed w most array of_index of_e h =
+      index_and_value_do index e (one (store_step z.p x)) (λ i v s. goes_on (source.assigned s x i v)) m listed w most of_index of_e h.stands
+      (λ i v left. store_step_does x i v m listed w left most array h)
+
+  element_sides_do : (x : Variable) (index : CheckedExpression) (op : PlacedOperator) (a b : CheckedExpression) (o : Option PlainOperation) (m : Attempt)
+      (listed : List Element) (w : WordState) (most : ℕ → ℕ) → element_updating x index op.operator a ≡ o
+      → IsWrittenArray z.p x → ExpressionFits z.p index → ExpressionFits z.p (t.binary op a b)
+      → Begins z m listed w 0 (λ u. if is_shared u x then 1 else 0) most
+      → AssignsElement x index (t.binary op a b) m w most (element_sides_set z.p x index op a b o)
+  element_sides_do x index op a b None m listed w most is array of_index of_e h =
+      element_setting_does x index (t.binary op a b) m listed w most array of_index of_e h
+  element_sides_do x index op a b (Some o) m listed w most is array of_index of_e h =
+      let u = is_element_update x index op.operator a o is in
+      let element = subst (ExpressionFits z.p) u.is of_e.0 in
+      subst (Does z w.fram most w.stack (behaviour (element_sides_set z.p x index op a b (Some o)) w))
+      (sym (element_update_goes_on x index op a b o m u (record {
+        index = fits_word z.p index of_index;
+        other = fits_word z.p u.other element.1;
+        left = fits_word z.p a of_e.0;
+        right = fits_word z.p b of_e.1;
+      })))
+      (index_and_value_do index b (one (update_element_step z.p o x))
+      (λ i v s. goes_on (source.assigned s x i (plain_word o (word_at m.variables x i) v))) m listed w most of_index of_e.1 h.stands
+      (λ i v left. update_step_does o x i v m listed w left most array h))
+
+  -- by the kind of the expression: the first clause makes it a proof by cases
+  element_does : (x : Variable) (index e : CheckedExpression) (m : Attempt) (listed : List Element) (w : WordState) (most : ℕ → ℕ) → IsWrittenArray z.p x
+      → ExpressionFits z.p index → ExpressionFits z.p e
+      → Begins z m listed w 0 (λ u. if is_shared u x then 1 else 0) most
+      → AssignsElement x index e m w most (element_assignment z.p x index e)
+  element_does x index (t.binary op a b) m listed w most array of_index of_e h =
+      element_sides_do x index op a b (element_updating x index op.operator a) m listed w most refl array of_index of_e h
+  element_does x index e m listed w most array of_index of_e h = element_setting_does x index e m listed w most array of_index of_e h
+
+  -- an element is set to a value of one word as it is
+  value_as_it_is : (x : Variable) (i : ℕ) (e : CheckedExpression) (s : Attempt) (o : Option (ℕ × List ℕ)) → IsOneWord (type_of e)
+      → if_value o s (λ v s. goes_on (source.assigned s x i (source.word_of e v))) ≡ if_value o s (λ v s. goes_on (source.assigned s x i v))
+  value_as_it_is x i e s None of_value = refl
+  value_as_it_is x i e s (Some y) of_value =
+      ap (λ v. goes_on (source.assigned (record s { left = y.1 }) x i v)) (word_as_it_is e y.0 of_value)
+
+  stored_as_it_is : (x : Variable) (e : CheckedExpression) (m : Attempt) (o : Option (ℕ × List ℕ)) → IsOneWord (type_of e)
+      → if_value o m (λ i s. if_value (value_of e s.variables s.left) s (λ v s. goes_on (source.assigned s x i (source.word_of e v))))
+      ≡ if_value o m (stored_value x e)
+  stored_as_it_is x e m None of_value = refl
+  stored_as_it_is x e m (Some y) of_value = value_as_it_is x y.0 e (record m { left = y.1 }) (value_of e m.variables y.1) of_value
+
+  element_store_does : (x : Variable) (index e : CheckedExpression) (m : Attempt) (listed : List Element) (w : WordState) (most : ℕ → ℕ) → IsWrittenArray z.p x
+      → ExpressionFits z.p index → ExpressionFits z.p e
+      → Begins z m listed w 0 (λ u. if is_shared u x then 1 else 0) most
+      → Does z w.fram most w.stack (behaviour (element_assignment z.p x index e) w)
+      (if_value (value_of index m.variables m.left) m
+      (λ i s. if_value (value_of e s.variables s.left) s (λ v s. goes_on (source.assigned s x i (source.word_of e v)))))
+  element_store_does x index e m listed w most array of_index of_e h =
+      subst (Does z w.fram most w.stack (behaviour (element_assignment z.p x index e) w))
+      (sym (stored_as_it_is x e m (value_of index m.variables m.left) (fits_word z.p e of_e)))
+      (element_does x index e m listed w most array of_index of_e h)
 
   -- ---- emits
 
@@ -426,7 +502,7 @@ module _ (z : Scene) where
         { stores = tt; stack_kept = refl; listed = listed; stands = h.stands; few = few_listed z m listed w _ _ most h }
     statement_does (t.declare of x (Some e)) m listed w most fits h = set_does x e m listed w _ _ most fits.0 fits.1 fits.2 h
     statement_does (t.assign x e) m listed w most fits h = set_does x e m listed w _ _ most fits.0 fits.1 fits.2 h
-    statement_does (t.store x index e) m listed w most fits h = element_does x.variable index e m listed w most fits.0 fits.1 fits.2 h
+    statement_does (t.store x index e) m listed w most fits h = element_store_does x.variable index e m listed w most fits.0 fits.1 fits.2 h
     statement_does (t.choose choice) m listed w most fits h = choice_does choice m listed w most fits h
     statement_does (t.loop x from tested below stepped body) m listed w most fits h =
         loop_does x.variable from below (lowered_block z.p body) (run_block body) (block_emits body) (λ v. block_count (is_store_to v) body) fits.0

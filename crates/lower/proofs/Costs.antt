@@ -27,6 +27,7 @@ use Rattle.array_versions.specs.Cost.{test_spent, spent}
 use Rattle.array_versions.proofs.Interface.{joined_go_on, joined_cycles, joined_spend, ways_keep_to_cycles}
 use Rattle.memory_map.specs.Spots.{Places}
 use Rattle.lower.specs.Lowered.{update_step, setting, updating, sides_set}
+use Rattle.lower.specs.Lowered.{update_element_step, index_and_value, element_setting, element_updating, element_sides_set}
 use Rattle.lower.specs.Lowered.{one, write_step, store_step, assignment, element_assignment, entries, lowered_transition, loop_local}
 use Rattle.lower.specs.Lowered.{lowered_expression}
 use Rattle.lower.specs.Lowered.{lowered_test, lowered_statement, lowered_choice, lowered_block}
@@ -230,16 +231,28 @@ assignment_cycles : (p : Places) (x : Variable) (e : CheckedExpression) → cycl
 assignment_cycles p x (t.binary op a b) = sides_set_cycles p x op a b (updating x op.operator a)
 assignment_cycles p x e = setting_cycles p x e
 
-store_cycles : (p : Places) (x : Variable) (index e : CheckedExpression)
-    → cycles_of (element_assignment p x index e) ≤ 120 + expression_price cycles_column index + expression_price cycles_column e
-store_cycles p x index e =
+-- the cycles of an assignment to an element are within its row and those of its parts
+abbrev ElementCycles : CheckedExpression → CheckedExpression → Program → Type 0
+ElementCycles index e q = cycles_of q ≤ 120 + expression_price cycles_column index + expression_price cycles_column e
+
+element_setting_cycles : (p : Places) (x : Variable) (index e : CheckedExpression) → ElementCycles index e (element_setting p x index e)
+element_setting_cycles p x index e =
     let l = joined_cycles (lowered_expression p index) (lowered_expression p e) in
-    let m = joined_cycles (joined (lowered_expression p index) (lowered_expression p e)) (one (store_step p x)) in
-    omega (arith, l, m, step_price x, expression_cycles p index, expression_cycles p e)
-  where
-    step_price : (x : Variable) → step_cycles (store_step p x) ≤ 79
-    step_price (Shared v) = omega arith
-    step_price (Local n) = omega arith
+    let m = joined_cycles (index_and_value p index e) (one (store_step p x)) in
+    omega (arith, l, m, expression_cycles p index, expression_cycles p e)
+
+element_sides_cycles : (p : Places) (x : Variable) (index : CheckedExpression) (op : PlacedOperator) (a b : CheckedExpression) (o : Option PlainOperation)
+    → ElementCycles index (t.binary op a b) (element_sides_set p x index op a b o)
+element_sides_cycles p x index op a b None = element_setting_cycles p x index (t.binary op a b)
+element_sides_cycles p x index op a b (Some o) =
+    let l = joined_cycles (lowered_expression p index) (lowered_expression p b) in
+    let m = joined_cycles (index_and_value p index b) (one (update_element_step p o x)) in
+    omega (arith, l, m, expression_cycles p index, expression_cycles p b)
+
+-- the first clause makes it a proof by cases
+element_cycles : (p : Places) (x : Variable) (index e : CheckedExpression) → ElementCycles index e (element_assignment p x index e)
+element_cycles p x index (t.binary op a b) = element_sides_cycles p x index op a b (element_updating x index op.operator a)
+element_cycles p x index e = element_setting_cycles p x index e
 
 mutual
   statement_spends : (p : Places) (x : CheckedStatement) (w : WordState)
@@ -249,7 +262,7 @@ mutual
   statement_spends p (t.assign x e) w =
       plain p (assignment p x.variable e) _ w
       (omega (arith, assignment_cycles p x.variable e, width_least x.word_type 40 40 80 (omega arith) (omega arith)))
-  statement_spends p (t.store x index e) w = plain p (element_assignment p x.variable index e) _ w (store_cycles p x.variable index e)
+  statement_spends p (t.store x index e) w = plain p (element_assignment p x.variable index e) _ w (element_cycles p x.variable index e)
   statement_spends p (t.choose choice) w = let a = choice_spends p choice w in omega (arith, a)
   statement_spends p (t.loop x from tested below stepped body) w =
       let n = loop_local x.variable in

@@ -1,6 +1,6 @@
 -- A store to an element, as the step of a task.
-use Rattle.std.proofs.Common.{◌≡◌, ℕ, ◌+◌, ◌*◌, ◌==◌, ◌<◌, ◌≤◌, List, [], ◌∷◌, ◌++◌, length, map, get_or, Option, Some, Contains, true, refl, sym, ap, ◌∙◌}
-use Rattle.std.proofs.Common.{subst, arith, ⊎_elim, length-append, append-nil, if◌then◌else◌}
+use Rattle.std.proofs.Common.{◌≡◌, ℕ, ◌+◌, ◌*◌, ◌==◌, ◌<◌, ◌≤◌, List, [], ◌∷◌, ◌++◌, length, map, get_or, Option, Some, Contains, Bool, true, false, refl}
+use Rattle.std.proofs.Common.{sym, ap, ◌∙◌, subst, arith, ⊎_elim, length-append, append-nil, if◌then◌else◌}
 use Rattle.std.proofs.lemmas.Bool.{cases_eq, cases_lt}
 use Rattle.std.proofs.lemmas.List.{length-map}
 use Rattle.std.proofs.lemmas.List.Elements.{All-same}
@@ -8,25 +8,30 @@ use Rattle.array_versions.specs.fram_board.Effects.{Effect, Store}
 use Rattle.array_versions.specs.machine_effects.World.{put}
 use Rattle.array_versions.proofs.machine_effects.Interface.{put_other}
 use Rattle.task_ast.specs.declared.names.Variable.TheVariants.{Shared}
-use Rattle.source_values.specs.Values.{Variables, with_word}
+use Rattle.source_values.specs.Values.{Variables, word_at, with_word}
 use Rattle.source_values.specs.Statements.{Attempt, goes_on}
+use Rattle.array_versions.specs.declared.operations.PlainOperation.{PlainOperation}
+use Rattle.array_versions.specs.Operations.{plain_word}
 use Rattle.array_versions.specs.Behaviour.{WordState, Behaviour, goes_on as going_on, then_on, is_place, word_listed, versioned_stored, behaviour}
+use Rattle.array_versions.specs.Behaviour.{own_place, versioned_updated}
 use Rattle.array_versions.specs.Program.{nothing}
 use Rattle.array_versions.specs.declared.program.ArrayPlace.{ArrayPlace}
 use Rattle.memory_map.specs.MemoryMap.{word_place}
 use Rattle.memory_map.specs.declared.words.RuntimeWord.TheVariants.{Version}
 use Rattle.memory_map.specs.declared.place.ArrayCopies.{ArrayCopies}
+use Rattle.memory_map.specs.declared.place.VariablePlace.{VariablePlace}
 use Rattle.memory_map.specs.declared.place.VariablePlace.TheVariants.{Array}
 use Rattle.memory_map.proofs.Interface.{word_even}
 use Rattle.memory_map.specs.Spots.{Places, IsArrayAt, Element, IsCopied, element, copy, version, element_address, copy_address, version_address}
 use Rattle.lower.specs.Lowered.{array_place, list_place}
 use Rattle.lower.specs.Spots.{listed_of}
-use Rattle.lower.specs.Agreement.{element_pair, at_copy, at_version, HoldVariables, StandsFor, WentOn}
+use Rattle.lower.specs.Agreement.{own_word, element_pair, at_copy, at_version, HoldVariables, StandsFor, WentOn}
 use Rattle.lower.proofs.Addresses.{fram_place, spot_place, element_is, copy_is, version_is, has_element}
 use Rattle.lower.proofs.Stored.{word_past, set_holds, same_list, same_emits, spot_emits}
 use Rattle.lower.proofs.Lists.{HasNext, lists_word}
 use Rattle.runtime_effects.specs.Places.{CopyPair}
-use Rattle.lower.proofs.Versioned.{stores_again, stores_first, stores_nothing, element_set, again_stored, again_list, after_mark, mark_keeps_pairs}
+use Rattle.lower.proofs.Versioned.{stores_again, stores_first, stores_nothing, update_stores, updates_nothing}
+use Rattle.lower.proofs.Versioned.{element_set, again_stored, again_list, after_mark, mark_keeps_pairs}
 use Rattle.lower.proofs.Versioned.{mark_keeps_words, elements_have_next, first_stored_at, first_emits, first_list, pushed_of, push_listed}
 use Rattle.lower.proofs.Ends.{Scene, bounds, Does}
 
@@ -100,6 +105,22 @@ module _ (z : Scene) (n i v elements len : ℕ) (c : ArrayCopies) (w : WordState
   here_number = let apart = z.apart in fram_place (word_place z.p.map Version) (word_even z.p.map Version z.even.row) (omega (arith, apart))
       (omega (arith, apart))
 
+  -- a store of the copy leaves VER and the version word
+  number_stays : i < len → put w.fram (2 * i + c.copies) v (word_place z.p.map Version) ≡ w.fram (word_place z.p.map Version)
+  number_stays l =
+      let apart = z.apart in
+      let Behind : ℕ → Type 0 = λ a. z.p.map.emits.address + 2 * z.room.emits ≤ a in
+      let far = subst Behind (copy_is z.p x elements len c at) (apart.spots (copy x) (is_copied l)) in
+      put_other w.fram (2 * i + c.copies) v (word_place z.p.map Version) (λ e. omega (arith, e, far, apart))
+
+  mark_stays : i < len → put w.fram (2 * i + c.copies) v (2 * i + c.versions) ≡ w.fram (version_address z.p x)
+  mark_stays l =
+      let n = version_address z.p x in
+      let is = is_copied l in
+      sym (ap (put w.fram (2 * i + c.copies) v) (version_is z.p x elements len c at))
+      ∙ sym (ap (λ a. put w.fram a v n) (copy_is z.p x elements len c at))
+      ∙ put_other w.fram (copy_address z.p x) v n (λ e. let d = z.apart.distinct (version x) (copy x) is is e in cc)
+
   past : len ≤ i → Result (versioned_stored place (list_place z.p) i v from)
   past l =
       subst Result (sym (stores_nothing place (list_place z.p) i v from l)) (record {
@@ -163,13 +184,6 @@ module _ (z : Scene) (n i v elements len : ℕ) (c : ArrayCopies) (w : WordState
       let at_c = copy_is p x elements len c at in
       let at_n = version_is p x elements len c at in
       let at_e = element_is p x elements len (Some c) at in
-      let Behind : ℕ → Type 0 = λ a. p.map.emits.address + 2 * z.room.emits ≤ a in
-      let far_c = subst Behind at_c (apart.spots (copy x) is) in
-      let kept : put f (2 * i + c.copies) v (word_place p.map Version) ≡ f (word_place p.map Version) =
-      put_other f (2 * i + c.copies) v (word_place p.map Version) (λ e. omega (arith, e, far_c, apart)) in
-      let mark : put f (2 * i + c.copies) v (2 * i + c.versions) ≡ f (version_address p x) =
-      sym (ap (put f (2 * i + c.copies) v) at_n) ∙ sym (ap (λ a. put f a v (version_address p x)) at_c)
-      ∙ put_other f (copy_address p x) v (version_address p x) (λ e. let d = apart.distinct (version x) (copy x) is is e in cc) in
       let w2 : WordState = record from { fram = after_mark p x v f } in
       let shorter : length listed ≤ z.room.list = omega (arith, fits) in
       let pairs = mark_keeps_pairs p z.room listed x v f apart is shorter h.stands.list in
@@ -202,9 +216,43 @@ module _ (z : Scene) (n i v elements len : ℕ) (c : ArrayCopies) (w : WordState
         few = λ u. subst (λ a. a ≤ most u) (sym (pushed_of u listed x)) (h.lists u);
       } in
       subst Result (sym (stores_first place list i v from lists.effects g l (here_copy l) here_number (here_version l) (here_element l)
-      (λ e. unmarked (sym kept ∙ e ∙ mark)) kept does))
+      (λ e. unmarked (sym (number_stays l) ∙ e ∙ mark_stays l)) (number_stays l) does))
       (subst (λ b. P (lists.effects ++ []) (2 * i + c.copies) b) at_n (subst (λ a. P (lists.effects ++ []) a (version_address p x)) at_c
       (subst (λ es. P es (copy_address p x) (version_address p x)) (sym (append-nil lists.effects)) went)))
 
   pub store_does : Result (versioned_stored place (list_place z.p) i v from)
   store_does = ⊎_elim (λ l. ⊎_elim (again l) (first l) (cases_eq (w.fram (word_place z.p.map Version)) (w.fram (version_address z.p x)))) past (cases_lt i len)
+
+  -- where this attempt has the element
+  abbrev own : ℕ
+  own = own_place (w.fram (word_place z.p.map Version) == w.fram (2 * i + c.versions)) place i
+
+  own_here : i < len → IsHere own
+  own_here l = by (w.fram (word_place z.p.map Version) == w.fram (2 * i + c.versions))
+    where
+      by : (b : Bool) → IsHere (own_place b place i)
+      by true = here_copy l
+      by false = here_element l
+
+  own_is : i < len → w.fram own ≡ word_at m.variables (Shared n) i
+  own_is l =
+      let P : Option VariablePlace → Type 0 = λ o. own_word z.p w.fram o i ≡ word_at m.variables (Shared n) i in
+      by (w.fram (word_place z.p.map Version) == w.fram (2 * i + c.versions))
+      ∙ subst P at.place (h.stands.variables.elements x (has_element z.p x (is_copied l)))
+    where
+      by : (b : Bool) → w.fram (own_place b place i) ≡ (if b then w.fram (2 * i + c.copies) else w.fram (2 * i + elements))
+      by true = refl
+      by false = refl
+
+  -- where the word is what an operation gives of the element and of another, an update is this store
+  is_store : (op : PlainOperation) (y : ℕ) → plain_word op (word_at m.variables (Shared n) i) y ≡ v
+      → versioned_updated op place (list_place z.p) i y from ≡ versioned_stored place (list_place z.p) i v from
+  is_store op y given =
+      ⊎_elim
+      (λ l. update_stores op place (list_place z.p) i y v from l here_number (here_version l) (own_here l) (number_stays l)
+      (mark_stays l ∙ ap w.fram (version_is z.p x elements len c at)) (ap (λ u. plain_word op u y) (own_is l) ∙ given))
+      (λ l. updates_nothing op place (list_place z.p) i y v from l) (cases_lt i len)
+
+  pub element_update_does : (op : PlainOperation) (y : ℕ) → plain_word op (word_at m.variables (Shared n) i) y ≡ v
+      → Result (versioned_updated op place (list_place z.p) i y from)
+  element_update_does op y given = subst Result (sym (is_store op y given)) store_does

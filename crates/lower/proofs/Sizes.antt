@@ -22,7 +22,7 @@ use Rattle.array_versions.specs.declared.operations.UnaryOperation.TheVariants.{
 use Rattle.array_versions.specs.declared.operations.BinaryOperation.TheVariants.{Plain}
 use Rattle.array_versions.specs.declared.operations.PlainOperation.{PlainOperation}
 use Rattle.array_versions.specs.declared.operations.PlainOperation.TheVariants.{And}
-use Rattle.array_versions.specs.Program.{Test, Program, unary, binary, shift, choose, emit_word, store_number, move_word, jump, step, joined}
+use Rattle.array_versions.specs.Program.{Test, Program, unary, binary, shift, emit_word, store_number, move_word, jump, step, joined}
 use Rattle.array_versions.specs.Cost.{binary_cycles, step_cycles, test_cycles, cycles_of, entry_words, step_words, test_words, words_of}
 use Rattle.array_versions.proofs.Interface.{joined_cycles, joined_words, steps_keep_to_words}
 use Rattle.memory_map.specs.MemoryMap.{word_place}
@@ -40,6 +40,7 @@ use Rattle.lower.specs.Sizes.{BlocksKeepToWords}
 use Rattle.lower.specs.Lowered.{one, read_step, write_step, element_read, element_step, store_step, Lowering, as_word, as_test, word_program}
 use Rattle.lower.specs.Lowered.{value_test, unary_lowering}
 use Rattle.lower.specs.Lowered.{update_step, setting, updating, sides_set}
+use Rattle.lower.specs.Lowered.{index_and_value, element_setting, update_element_step, element_updating, element_sides_set}
 use Rattle.lower.specs.Lowered.{binary_lowering, sides_test, lowering, assignment, element_assignment, entries, lowered_transition}
 use Rattle.lower.specs.Lowered.{lowered_expression}
 use Rattle.lower.specs.Lowered.{lowered_test, lowered_statement, lowered_choice, lowered_block}
@@ -198,17 +199,29 @@ assignment_words : (p : Places) (s : ℕ) (x : Variable) (e : CheckedExpression)
 assignment_words p s x (t.binary op a b) = sides_set_words p s x op a b (updating x op.operator a)
 assignment_words p s x e = setting_words p s x e
 
-store_words : (p : Places) (x : Variable) → step_words (store_step p x) ≡ 59
-store_words p (Shared v) = refl
-store_words p (Local n) = refl
+-- the words of an assignment to an element are within its row and those of its parts
+abbrev ElementWords : ℕ → CheckedExpression → CheckedExpression → Program → Type 0
+ElementWords s index e q = words_of q ≤ 60 + expression_price (words_column s) index + expression_price (words_column s) e
 
-element_assignment_words : (p : Places) (s : ℕ) (x : Variable) (index e : CheckedExpression)
-    → words_of (element_assignment p x index e) ≤ 60 + expression_price (words_column s) index + expression_price (words_column s) e
-element_assignment_words p s x index e =
-    let a = store_words p x in
+element_setting_words : (p : Places) (s : ℕ) (x : Variable) (index e : CheckedExpression) → ElementWords s index e (element_setting p x index e)
+element_setting_words p s x index e =
     let l = joined_words (lowered_expression p index) (lowered_expression p e) in
-    let m = joined_words (joined (lowered_expression p index) (lowered_expression p e)) (one (store_step p x)) in
-    omega (arith, a, l, m, expression_words p s index, expression_words p s e)
+    let m = joined_words (index_and_value p index e) (one (store_step p x)) in
+    omega (arith, l, m, expression_words p s index, expression_words p s e)
+
+element_sides_words : (p : Places) (s : ℕ) (x : Variable) (index : CheckedExpression) (op : PlacedOperator) (a b : CheckedExpression)
+    (o : Option PlainOperation) → ElementWords s index (t.binary op a b) (element_sides_set p x index op a b o)
+element_sides_words p s x index op a b None = element_setting_words p s x index (t.binary op a b)
+element_sides_words p s x index op a b (Some o) =
+    let row = operator_words s op.operator (joined_type (type_of a) (type_of b)) in
+    let l = joined_words (lowered_expression p index) (lowered_expression p b) in
+    let m = joined_words (index_and_value p index b) (one (update_element_step p o x)) in
+    omega (arith, row, l, m, expression_words p s index, expression_words p s b)
+
+-- the first clause makes it a proof by cases
+element_assignment_words : (p : Places) (s : ℕ) (x : Variable) (index e : CheckedExpression) → ElementWords s index e (element_assignment p x index e)
+element_assignment_words p s x index (t.binary op a b) = element_sides_words p s x index op a b (element_updating x index op.operator a)
+element_assignment_words p s x index e = element_setting_words p s x index e
 
 mutual
   pub statement_words : (p : Places) (s : ℕ) → length p.privates ≤ s → (x : CheckedStatement)

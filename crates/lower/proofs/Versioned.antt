@@ -1,6 +1,6 @@
 -- A store to an element: to its copy, and the first time in an attempt to its version word and to the commit list.
 use Rattle.std.proofs.Common.{◌≡◌, ℕ, zero, suc, ◌+◌, ◌*◌, ◌==◌, ◌<◌, ◌≤◌, List, [], ◌∷◌, ◌++◌, length, map, slice_get, Option, Some, Contains, All, true}
-use Rattle.std.proofs.Common.{refl, sym, ap, ◌∙◌, subst, arith, eq-eqb, ne_eqb, lt-ltb, le-ltb, ⊎_elim, if◌then◌else◌}
+use Rattle.std.proofs.Common.{Bool, refl, sym, ap, ◌∙◌, subst, arith, eq-eqb, ne_eqb, lt-ltb, le-ltb, ⊎_elim, if◌then◌else◌}
 use Rattle.std.proofs.lemmas.List.{map-append}
 use Rattle.std.proofs.lemmas.List.Elements.{All-append, All-map, All-weaker, Contains-append_left, Contains-append_right, Contains-append_cases}
 use Rattle.std.proofs.lemmas.List.Elements.{Contains-get_or}
@@ -10,10 +10,12 @@ use Rattle.array_versions.specs.machine_effects.World.{put}
 use Rattle.array_versions.proofs.machine_effects.Interface.{put_at, put_other}
 use Rattle.task_ast.specs.declared.names.Variable.TheVariants.{Shared}
 use Rattle.source_values.specs.Values.{Variables, word_at, with_word}
+use Rattle.array_versions.specs.declared.operations.PlainOperation.{PlainOperation}
+use Rattle.array_versions.specs.Operations.{plain_word}
 use Rattle.array_versions.specs.declared.program.ArrayPlace.{ArrayPlace}
 use Rattle.array_versions.specs.declared.program.ListPlace.{ListPlace}
 use Rattle.array_versions.specs.Behaviour.{WordState, Behaviour, goes_on, behind_effects, is_place, at_place, stored, word_listed, first_stored, own_stored}
-use Rattle.array_versions.specs.Behaviour.{versioned_stored}
+use Rattle.array_versions.specs.Behaviour.{versioned_stored, own_place, own_kept, own_updated, versioned_updated}
 use Rattle.lower.specs.Spots.{Room, AreApart, AreDifferent, AreListed, listed_of}
 use Rattle.lower.specs.Agreement.{own_word, HoldVariables, element_pair, HoldList}
 use Rattle.lower.proofs.Addresses.{placed, has_element, copy_is, version_is, no_scalar, same_element, same_or_not}
@@ -71,6 +73,34 @@ stores_first place list i v s es g below is_c is_ver is_n is_e differ kept lists
 -- past the end nothing is stored
 pub stores_nothing : (place : ArrayPlace) (list : ListPlace) (i v : ℕ) (s : WordState) → place.length ≤ i → versioned_stored place list i v s ≡ goes_on [] s
 stores_nothing place list i v s past = ap (λ z. if z then own_stored place list i v s else goes_on [] s) (le-ltb i place.length past)
+
+-- an update is the store of what the operation gives, where a store of the copy leaves VER and the version word
+pub update_stores : (op : PlainOperation) (place : ArrayPlace) (list : ListPlace) (i v u : ℕ) (s : WordState)
+    → let c = 2 * i + place.copies in let n = 2 * i + place.versions in let a = own_place (s.fram list.ver == s.fram n) place i in
+    i < place.length → is_place list.ver ≡ true → is_place n ≡ true → is_place a ≡ true
+    → put s.fram c u list.ver ≡ s.fram list.ver → put s.fram c u n ≡ s.fram n → plain_word op (s.fram a) v ≡ u
+    → versioned_updated op place list i v s ≡ versioned_stored place list i u s
+update_stores op place list i v u s below is_ver is_n is_a number mark given =
+    let c = 2 * i + place.copies in
+    let n = 2 * i + place.versions in
+    let t : WordState = stored c u s in
+    let b = s.fram list.ver == s.fram n in
+    let a = own_place b place i in
+    let by_mark : Bool → Behaviour = λ z. if z then goes_on (Store c u ∷ []) t else behind_effects (Store c u ∷ []) (first_stored place list i t) in
+    let last = by_mark (t.fram list.ver == t.fram n) in
+    let kept = own_kept b place list i (plain_word op (s.fram a) v) s in
+    ap (λ z. if z then own_updated op place list i v s else goes_on [] s) (lt-ltb i place.length below)
+    ∙ placed list.ver (at_place n (at_place a kept)) is_ver ∙ placed n (at_place a kept) is_n ∙ placed a kept is_a
+    ∙ ap (λ w. own_kept b place list i w s) given
+    ∙ sym (λ j. at_place c (by_mark (number j == mark j)))
+    ∙ sym (ap (at_place c) (placed list.ver (at_place n last) is_ver ∙ placed n last is_n))
+    ∙ sym (ap (λ z. if z then own_stored place list i u s else goes_on [] s) (lt-ltb i place.length below))
+
+-- past the end too: nothing is stored
+pub updates_nothing : (op : PlainOperation) (place : ArrayPlace) (list : ListPlace) (i v u : ℕ) (s : WordState) → place.length ≤ i
+    → versioned_updated op place list i v s ≡ versioned_stored place list i u s
+updates_nothing op place list i v u s past =
+    ap (λ z. if z then own_updated op place list i v s else goes_on [] s) (le-ltb i place.length past) ∙ sym (stores_nothing place list i u s past)
 
 -- ---- an element stored
 

@@ -1,5 +1,5 @@
 -- The word programs of expressions, statements and tasks.
-use Rattle.std.specs.Prelude.{ℕ, ◌%◌, ◌==◌, Bool, false, if◌then◌else◌, List, [], ◌∷◌, Option, Some, None, slice_get}
+use Rattle.std.specs.Prelude.{ℕ, ◌%◌, ◌==◌, ◌&&◌, Bool, false, if◌then◌else◌, List, [], ◌∷◌, Option, Some, None, slice_get}
 use Rattle.task_ast.specs.Tree as t
 use Rattle.task_ast.specs.Tree.{Task}
 use Rattle.task_ast.specs.Paths.{CheckedExpression, CheckedStatement, CheckedChoice, CheckedBlock}
@@ -23,8 +23,8 @@ use Rattle.array_versions.specs.declared.operations.Comparison.TheVariants.{Comm
 use Rattle.array_versions.specs.Program.{Step, Test, Program, number, load, keep, update, local, set_local, update_local, unary, binary, shift, element}
 use Rattle.array_versions.specs.Program.{emit_word}
 use Rattle.array_versions.specs.Program.{list_entry, sense}
-use Rattle.array_versions.specs.Program.{truth, choose, repeat, versioned_read, versioned_write, store_number, move_word, jump, holds, compares}
-use Rattle.array_versions.specs.Program.{both, either}
+use Rattle.array_versions.specs.Program.{truth, choose, repeat, versioned_read, versioned_write, versioned_update, store_number, move_word, jump, holds}
+use Rattle.array_versions.specs.Program.{compares, both, either}
 use Rattle.array_versions.specs.Program.{fails, nothing, step, joined, behind}
 use Rattle.array_versions.specs.declared.program.ArrayPlace.{ArrayPlace}
 use Rattle.array_versions.specs.declared.program.ListPlace.{ListPlace}
@@ -92,10 +92,18 @@ written_array (Some (Array elements length None)) = no_array
 written_array (Some (Scalar home copy)) = no_array
 written_array None = no_array
 
+-- the same by its variable
+abbrev pub stored_array : Places → Variable → ArrayPlace
+stored_array p (Shared v) = written_array (slice_get p.map.variables v)
+stored_array p (Local n) = no_array
+
 -- pops a word and an index, and stores the word in the copy of an element
 abbrev pub store_step : Places → Variable → Step
-store_step p (Shared v) = versioned_write (written_array (slice_get p.map.variables v)) (list_place p)
-store_step p (Local n) = versioned_write no_array (list_place p)
+store_step p x = versioned_write (stored_array p x) (list_place p)
+
+-- pops a word and an index, and stores in the copy of an element what an operation gives of the element and of that word
+abbrev pub update_element_step : Places → PlainOperation → Variable → Step
+update_element_step p op x = versioned_update op (stored_array p x) (list_place p)
 
 -- what an expression comes to: a program that leaves its value on top of the stack; a test, its value being 1 where the test holds and else
 -- 0; or a program that leaves two words, its value being the bits that are 1 in both
@@ -185,9 +193,43 @@ abbrev pub assignment : Places → Variable → CheckedExpression → Program
 assignment p x (t.binary op a b) = sides_set p x op a b (updating x op.operator a)
 assignment p x e = setting p x e
 
--- stores an expression's value in an element: the index is evaluated first
+-- an index and an expression's value, on top of the stack: the index is evaluated first
+abbrev pub index_and_value : Places → CheckedExpression → CheckedExpression → Program
+index_and_value p index e = joined (lowered_expression p index) (lowered_expression p e)
+
+-- sets an element to an expression's value
+abbrev pub element_setting : Places → Variable → CheckedExpression → CheckedExpression → Program
+element_setting p x index e = behind (index_and_value p index e) (store_step p x)
+
+-- whether an expression is this number
+abbrev pub is_number : ℕ → CheckedExpression → Bool
+is_number n (t.number m) = n == m
+is_number n _ = false
+
+-- whether two expressions are one number or one variable alone
+abbrev pub are_alike : CheckedExpression → CheckedExpression → Bool
+are_alike (t.number n) e = is_number n e
+are_alike (t.name x) e = is_name x.variable e
+are_alike _ e = false
+
+-- whether an expression is the element of a variable at an index that is a number or a variable alone
+abbrev pub is_element : Variable → CheckedExpression → CheckedExpression → Bool
+is_element x index (t.element y other) = is_same x y.variable && are_alike index other
+is_element x index _ = false
+
+-- the operation that sets an element to what an operator gives of it, on the left, and of another side
+abbrev pub element_updating : Variable → CheckedExpression → BinaryOperator → CheckedExpression → Option PlainOperation
+element_updating x index op a = if is_element x index a then plain_operation op else None
+
+-- sets an element to what an operator gives of two sides: in place, where an operation does
+abbrev pub element_sides_set : Places → Variable → CheckedExpression → PlacedOperator → CheckedExpression → CheckedExpression → Option PlainOperation → Program
+element_sides_set p x index op a b None = element_setting p x index (t.binary op a b)
+element_sides_set p x index op a b (Some o) = behind (index_and_value p index b) (update_element_step p o x)
+
+-- an assignment to an element; `a[i] = a[i] + e` and its like are in place, since `e` leaves the element and its index
 abbrev pub element_assignment : Places → Variable → CheckedExpression → CheckedExpression → Program
-element_assignment p x index e = behind (joined (lowered_expression p index) (lowered_expression p e)) (store_step p x)
+element_assignment p x index (t.binary op a b) = element_sides_set p x index op a b (element_updating x index op.operator a)
+element_assignment p x index e = element_setting p x index e
 
 -- a declaration without a value has no steps
 abbrev pub declaration : Places → Variable → Option CheckedExpression → Program

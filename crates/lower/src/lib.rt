@@ -8,6 +8,7 @@
 #![tactic(auto)]
 
 mod expressions;
+mod in_place;
 pub mod laws;
 mod lowering;
 mod operations;

@@ -5,6 +5,7 @@ ghost use Rattle.lower.specs.Lowered.{array_place, no_array, written_array};
 
 use array_versions::{ArrayPlace, ListPlace};
 use memory_map::{ArrayCopies, Layout, PrivateScalar, RuntimeWord, VariablePlace};
+use task_ast::Variable;
 
 /// The places that a task's program works on: those of the layout, the variables as the task sees them, and the scalars that
 /// are private in the task.
@@ -52,8 +53,8 @@ pub fn array_place(elements: u16, length: u16, copies: ArrayCopies) -> ArrayPlac
     }
 }
 
-/// An array of no elements.
-pub fn no_array() -> ArrayPlace
+// An array of no elements.
+fn no_array() -> ArrayPlace
     ensures { result ≡ no_array }
 {
     ArrayPlace {
@@ -64,8 +65,8 @@ pub fn no_array() -> ArrayPlace
     }
 }
 
-/// The array of a number that a task may write; one of no elements where there is none.
-pub fn written_array(variables: &[VariablePlace], number: u32) -> ArrayPlace
+// The array of a number that a task may write; one of no elements where there is none.
+fn written_array(variables: &[VariablePlace], number: u32) -> ArrayPlace
     ensures { result ≡ written_array (slice_get variables.now number) }
 {
     match variables.get(number as usize) {
@@ -83,7 +84,7 @@ pub fn written_array(variables: &[VariablePlace], number: u32) -> ArrayPlace
 
 impl<'l> TaskPlaces<'l> {
     ghost use Rattle.memory_map.specs.Spots.{address_of};
-    ghost use Rattle.lower.specs.Lowered.{list_place};
+    ghost use Rattle.lower.specs.Lowered.{list_place, stored_array};
     ghost use Rattle.lower.specs.View.{places_in};
 
     /// The address of a shared variable in the task: that of its copy where it is private there, else that of its word.
@@ -93,6 +94,16 @@ impl<'l> TaskPlaces<'l> {
         match copy_among(self.privates, number) {
             Some(copy) => copy,
             None => home_of(self.variables, number),
+        }
+    }
+
+    /// The array of a variable that the task may write. The checks refuse an index on anything but an array.
+    pub fn stored_array(&self, variable: Variable) -> ArrayPlace
+        ensures { result ≡ stored_array (places_in self.now) variable }
+    {
+        match variable {
+            Variable::Shared(number) => written_array(self.variables, number),
+            Variable::Local(_) => no_array(),
         }
     }
 

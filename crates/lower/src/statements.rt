@@ -8,18 +8,18 @@ ghost use Rattle.task_ast.specs.View.{expression_of, statement_of, tested_of, bl
 ghost use Rattle.task_ast.specs.declared.names.VariableName.{VariableName};
 ghost use Rattle.task_ast.specs.declared.names.TaskName.{TaskName};
 ghost use Rattle.lower.specs.View.{places_in};
-ghost use Rattle.lower.specs.Lowered.{one, write_step, update_step, loop_local, lowered_test, store_step, setting, is_same, is_name, updating, assignment};
-ghost use Rattle.lower.specs.Lowered.{element_assignment, declaration, emission};
+ghost use Rattle.lower.specs.Lowered.{one, write_step, update_step, update_element_step, loop_local, lowered_test, setting, assignment};
+ghost use Rattle.lower.specs.Lowered.{index_and_value, element_setting, element_assignment, declaration, emission};
 ghost use Rattle.lower.specs.Lowered.{lowered_expression, lowered_transition, lowered_statement, lowered_choice, lowered_block};
 
 use crate::expressions::{append, lower_expression, lower_test};
-use crate::operations::plain_operation;
-use crate::places::{TaskPlaces, local_number, no_array, written_array};
+use crate::in_place::{element_updating, updating};
+use crate::places::{TaskPlaces, local_number};
 use crate::runs::list_entries;
 use array_versions::{PlainOperation, WordProgram};
 use memory_map::RuntimeWord;
 use std::alloc::{AllocError, Global};
-use task_ast::{Arm, BinaryOperator, Expr, Stmt, TaskName, Variable, VariableName};
+use task_ast::{Arm, Expr, Stmt, TaskName, Variable, VariableName};
 
 fn write(
     variable: Variable,
@@ -84,50 +84,6 @@ fn set_in_place(
     update(operation, variable, places, program)
 }
 
-// Whether two variables are one.
-fn is_same(first: Variable, second: Variable) -> bool
-    ensures { result ≡ is_same first second }
-{
-    match (first, second) {
-        (Variable::Shared(v), Variable::Shared(w)) => v == w,
-        (Variable::Local(m), Variable::Local(n)) => m == n,
-        (Variable::Shared(_), Variable::Local(_)) | (Variable::Local(_), Variable::Shared(_)) =>
-            false,
-    }
-}
-
-// Whether an expression is a variable alone.
-fn is_name(variable: Variable, e: &Expr<VariableName>) -> bool
-    ensures { result ≡ is_name variable (expression_of e.now) }
-{
-    match e {
-        Expr::Name(name) => is_same(variable, name.variable),
-        Expr::Number(_)
-        | Expr::LongNumber(_)
-        | Expr::Element(..)
-        | Expr::Sense
-        | Expr::Unary(..)
-        | Expr::Binary(..)
-        | Expr::Shift(..)
-        | Expr::ShortCircuit(..) => false,
-    }
-}
-
-// The operation that sets a variable to what an operator gives of it, on the left, and of another side.
-fn updating(
-    variable: Variable,
-    op: BinaryOperator,
-    left: &Expr<VariableName>,
-) -> Option<PlainOperation>
-    ensures { result ≡ updating variable op (expression_of left.now) }
-{
-    if is_name(variable, left) {
-        plain_operation(op)
-    } else {
-        None
-    }
-}
-
 // `x = x + e` and its like are in place.
 fn assign(
     alloc: Global,
@@ -155,25 +111,63 @@ fn assign(
     }
 }
 
-// Pops a word and an index, and stores the word in the copy of an element. The checks refuse an index on anything but an
-// array.
-fn store_element(
-    variable: Variable,
+// The index is evaluated first.
+#[tactic(auto, using(array_versions::proofs::Interface::joined_assoc))]
+fn index_and_value(
+    alloc: Global,
+    index: &Expr<VariableName>,
+    e: &Expr<VariableName>,
     places: &TaskPlaces<'_>,
     program: &mut WordProgram,
 ) -> Result<(), AllocError>
-    ensures { OnOk result (program_of program.new
-        ≡ behind (program_of program.old) (store_step (places_in places.now) variable)) }
+    ensures { OnOk result (program_of program.new ≡ joined (program_of program.old)
+        (index_and_value (places_in places.now) (expression_of index.now) (expression_of e.now))) }
 {
-    let array = match variable {
-        Variable::Shared(number) => written_array(places.variables, number),
-        Variable::Local(_) => no_array(),
-    };
-    program.versioned_write(&array, &places.list_place())
+    append(program, lower_expression(alloc, index, places)?)?;
+    append(program, lower_expression(alloc, e, places)?)
 }
 
-// The index is evaluated first.
+// Sets an element to an expression's value.
 #[tactic(auto, using(array_versions::proofs::Interface::joined_assoc))]
+fn set_element(
+    alloc: Global,
+    variable: Variable,
+    index: &Expr<VariableName>,
+    e: &Expr<VariableName>,
+    places: &TaskPlaces<'_>,
+    program: &mut WordProgram,
+) -> Result<(), AllocError>
+    ensures { OnOk result (program_of program.new ≡ joined (program_of program.old)
+        (element_setting (places_in places.now) variable (expression_of index.now) (expression_of e.now))) }
+{
+    index_and_value(alloc, index, e, places, program)?;
+    program.versioned_write(&places.stored_array(variable), &places.list_place())
+}
+
+// Sets an element to what an operation gives of it and of an expression's value.
+#[tactic(auto, using(array_versions::proofs::Interface::joined_assoc))]
+fn set_element_in_place(
+    alloc: Global,
+    operation: PlainOperation,
+    variable: Variable,
+    index: &Expr<VariableName>,
+    e: &Expr<VariableName>,
+    places: &TaskPlaces<'_>,
+    program: &mut WordProgram,
+) -> Result<(), AllocError>
+    ensures { OnOk result (program_of program.new ≡ joined (program_of program.old)
+        (behind (index_and_value (places_in places.now) (expression_of index.now) (expression_of e.now))
+        (update_element_step (places_in places.now) operation variable))) }
+{
+    index_and_value(alloc, index, e, places, program)?;
+    program.versioned_update(
+        operation,
+        &places.stored_array(variable),
+        &places.list_place(),
+    )
+}
+
+// `a[i] = a[i] + e` and its like are in place.
 fn store(
     alloc: Global,
     variable: Variable,
@@ -185,9 +179,22 @@ fn store(
     ensures { OnOk result (program_of program.new ≡ joined (program_of program.old)
         (element_assignment (places_in places.now) variable (expression_of index.now) (expression_of e.now))) }
 {
-    append(program, lower_expression(alloc, index, places)?)?;
-    append(program, lower_expression(alloc, e, places)?)?;
-    store_element(variable, places, program)
+    match e {
+        Expr::Binary(op, left, right) => match element_updating(variable, index, op.operator, left) {
+            Some(operation) => set_element_in_place(
+                alloc, operation, variable, index, right, places, program,
+            ),
+            None => set_element(alloc, variable, index, e, places, program),
+        },
+        Expr::Number(_)
+        | Expr::LongNumber(_)
+        | Expr::Name(_)
+        | Expr::Element(..)
+        | Expr::Sense
+        | Expr::Unary(..)
+        | Expr::Shift(..)
+        | Expr::ShortCircuit(..) => set_element(alloc, variable, index, e, places, program),
+    }
 }
 
 // A declaration without a value has no steps.

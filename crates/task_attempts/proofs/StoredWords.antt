@@ -9,18 +9,19 @@ use Rattle.layout_facts.proofs.machine_effects.Interface.{each_store-append}
 use Rattle.layout_facts.specs.array_versions.declared.program.ArrayPlace.{ArrayPlace}
 use Rattle.layout_facts.specs.array_versions.declared.program.ListPlace.{ListPlace}
 use Rattle.layout_facts.specs.array_versions.declared.operations.PlainOperation.{PlainOperation}
-use Rattle.layout_facts.specs.array_versions.Operations.{is_true, compare_words}
+use Rattle.layout_facts.specs.array_versions.Operations.{plain_word, is_true, compare_words}
 use Rattle.layout_facts.specs.array_versions.Program.{Step, Test, Program, number, load, keep, update, local, set_local, update_local, unary, binary, shift}
 use Rattle.layout_facts.specs.array_versions.Program.{element}
 use Rattle.layout_facts.specs.array_versions.Program.{emit_word}
-use Rattle.layout_facts.specs.array_versions.Program.{list_entry, versioned_read, versioned_write, sense, truth, choose, repeat, store_number}
-use Rattle.layout_facts.specs.array_versions.Program.{move_word}
+use Rattle.layout_facts.specs.array_versions.Program.{list_entry, versioned_read, versioned_write, versioned_update, sense, truth, choose, repeat}
+use Rattle.layout_facts.specs.array_versions.Program.{store_number, move_word}
 use Rattle.layout_facts.specs.array_versions.Program.{jump, holds, compares, both, either, fails, nothing, step}
 use Rattle.layout_facts.specs.array_versions.Behaviour.{WordState, End, GoesOn, Jumps, Short, Strays, Broken, Behaviour, behaves, goes_on, strays}
 use Rattle.layout_facts.specs.array_versions.Behaviour.{broken, on_end, then_on}
 use Rattle.layout_facts.specs.array_versions.Behaviour.{is_place, at_place, with_top, with_stack, pushed, stored, with_local, local_pushed, local_updated}
 use Rattle.layout_facts.specs.array_versions.Behaviour.{reading_pushed, raised, entry_stored, ends_before}
 use Rattle.layout_facts.specs.array_versions.Behaviour.{listed_behind, behind_effects, own_element, first_stored, own_stored, number_pushed}
+use Rattle.layout_facts.specs.array_versions.Behaviour.{own_place, own_kept, own_updated}
 use Rattle.layout_facts.specs.array_versions.Behaviour.{way_by_top}
 use Rattle.layout_facts.specs.array_versions.Behaviour.{way_by_two, turns, step_behaviour, tested, behaviour}
 use Rattle.layout_facts.specs.array_versions.Form.{StepOfWords, TestOfWords, OfWords}
@@ -132,6 +133,21 @@ versioned_stored_stores true place list i v s l w =
     (λ g. own_stored_stores (t.fram list.ver == t.fram (2 * i + place.versions)) place list i v s l (place_high c e) w)))
 versioned_stored_stores false place list i v s l w = tt
 
+own_kept_stores : (b : Bool) (place : ArrayPlace) (list : ListPlace) (i v : ℕ) (s : WordState) → v < 0x10000 → IsStateOfWords s
+    → StoresWords (own_kept b place list i v s).effects
+own_kept_stores b place list i v s l w =
+    let c = 2 * i + place.copies in guarded (is_place c) _ (λ e. own_stored_stores b place list i v s l (place_high c e) w)
+
+versioned_updated_stores : (b : Bool) (op : PlainOperation) (place : ArrayPlace) (list : ListPlace) (i v : ℕ) (s : WordState) → v < 0x10000
+    → IsStateOfWords s → StoresWords (if b then own_updated op place list i v s else goes_on [] s).effects
+versioned_updated_stores true op place list i v s l w =
+    let m = 2 * i + place.versions in
+    let b = s.fram list.ver == s.fram m in
+    let a = own_place b place i in
+    guarded (is_place list.ver) _ (λ e. guarded (is_place m) _ (λ f. guarded (is_place a) _
+    (λ g. own_kept_stores b place list i (plain_word op (s.fram a) v) s (plain_small op (s.fram a) v (w.fram a) l) w)))
+versioned_updated_stores false op place list i v s l w = tt
+
 updated_stores : (op : PlainOperation) (n v : ℕ) (o : Option ℕ) (s : WordState) → StoresWords (local_updated op n v o s).effects
 updated_stores op n v None s = tt
 updated_stores op n v (Some u) s = tt
@@ -188,6 +204,9 @@ mutual
   step_stores (versioned_write place list) s h w =
       top_stores s.stack _ w.stack (λ v us l m. top_stores us _ m
       (λ i vs k j. versioned_stored_stores (nat_lt i place.length) place list i v (with_stack vs s) l (stack_words s vs w j)))
+  step_stores (versioned_update op place list) s h w =
+      top_stores s.stack _ w.stack (λ v us l m. top_stores us _ m
+      (λ i vs k j. versioned_updated_stores (nat_lt i place.length) op place list i v (with_stack vs s) l (stack_words s vs w j)))
   step_stores sense s h w = reading_stores s.readings s
   step_stores (truth c) s h w = test_stores c s (number_pushed 1) (number_pushed 0) h w (λ v x. tt) (λ v x. tt)
   step_stores (choose c taken otherwise) s h w =

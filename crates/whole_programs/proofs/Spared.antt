@@ -23,7 +23,7 @@ use Rattle.lower.specs.array_versions.declared.operations.UnaryOperation.TheVari
 use Rattle.lower.specs.array_versions.declared.operations.BinaryOperation.TheVariants.{Plain}
 use Rattle.lower.specs.array_versions.declared.operations.PlainOperation.{PlainOperation}
 use Rattle.lower.specs.array_versions.declared.operations.PlainOperation.TheVariants.{And}
-use Rattle.lower.specs.array_versions.Program.{Test, Program, unary, binary, shift, emit_word, choose, store_number, move_word, jump, nothing, step}
+use Rattle.lower.specs.array_versions.Program.{Step, Test, Program, unary, binary, shift, emit_word, store_number, move_word, jump, nothing, step}
 use Rattle.lower.specs.array_versions.Program.{joined}
 use Rattle.lower.specs.array_versions.Form.{StepSpares, TestSpares, Spares}
 use Rattle.lower.specs.memory_map.MemoryMap.{word_place}
@@ -39,6 +39,7 @@ use Rattle.lower.specs.Operations.{binary_meaning, shift_operation}
 use Rattle.lower.specs.Lowered.{one, read_step, write_step, element_read, element_step, store_step, Lowering, word_program}
 use Rattle.lower.specs.Lowered.{value_test}
 use Rattle.lower.specs.Lowered.{update_step, setting, updating, sides_set}
+use Rattle.lower.specs.Lowered.{update_element_step, index_and_value, element_updating, element_sides_set, element_assignment}
 use Rattle.lower.specs.Lowered.{unary_lowering, binary_lowering, sides_test, lowering, lowered_expression, lowered_test, assignment, loop_local}
 use Rattle.lower.specs.Lowered.{entries}
 use Rattle.lower.specs.Lowered.{lowered_transition, lowered_statement, lowered_choice, lowered_block}
@@ -99,10 +100,6 @@ module _ (p : Places) (n : ℕ) where
       by_place (Some (Array elements length (Some c))) = tt
   element_spares (Local m) = tt
 
-  store_spares : (x : Variable) → StepSpares n (store_step p x)
-  store_spares (Shared v) = tt
-  store_spares (Local m) = tt
-
   -- so does what an expression comes to, as a program and as a test
   abbrev LoweringSpares : Lowering → Type 0
   LoweringSpares l = Spares n (word_program l) × TestSpares n (value_test l)
@@ -144,6 +141,22 @@ module _ (p : Places) (n : ℕ) where
 
   expression_spares : (e : CheckedExpression) → Spares n (lowered_expression p e)
   expression_spares e = (lowering_spares e).0
+
+  -- a step behind an index and a value
+  index_and_value_spare : (index e : CheckedExpression) (s : Step) → StepSpares n s → Spares n (joined (index_and_value p index e) (one s))
+  index_and_value_spare index e s h =
+      spares_joined n (index_and_value p index e) (one s)
+      (spares_joined n (lowered_expression p index) (lowered_expression p e) (expression_spares index) (expression_spares e)) (h, tt)
+
+  element_sides_spare : (x : Variable) (index : CheckedExpression) (op : BinaryOperator) (a b : CheckedExpression) (o : Option PlainOperation)
+      → Spares n (element_sides_set p x index op a b o)
+  element_sides_spare x index op a b None = index_and_value_spare index (t.binary op a b) (store_step p x) tt
+  element_sides_spare x index op a b (Some o) = index_and_value_spare index b (update_element_step p o x) tt
+
+  -- the first clause makes it a proof by cases
+  element_assignment_spares : (x : Variable) (index e : CheckedExpression) → Spares n (element_assignment p x index e)
+  element_assignment_spares x index (t.binary op a b) = element_sides_spare x index op a b (element_updating x index op a)
+  element_assignment_spares x index e = index_and_value_spare index e (store_step p x) tt
 
   entries_spare : (count list : ℕ) (runs : List Run) → Spares n (entries count list runs)
   entries_spare count list [] = tt
@@ -205,11 +218,7 @@ module _ (p : Places) (shared : List SharedDeclaration) (y : ℕ) (low : y < 256
     statement_spares (t.declare of x None) h n g = tt
     statement_spares (t.declare of x (Some e)) h n g = assignment_spares x.variable e (local_word shared x.variable n.0) h
     statement_spares (t.assign x e) h n g = assignment_spares x.variable e n.0 h
-    statement_spares (t.store x index e) h n g =
-        spares_joined (y % 65536) (joined (lowered_expression p index) (lowered_expression p e)) (one (store_step p x.variable))
-        (spares_joined (y % 65536) (lowered_expression p index) (lowered_expression p e)
-        (expression_spares p (y % 65536) index) (expression_spares p (y % 65536) e))
-        (store_spares p (y % 65536) x.variable, tt)
+    statement_spares (t.store x index e) h n g = element_assignment_spares p (y % 65536) x.variable index e
     statement_spares (t.choose choice) h n g = choice_spares choice h n g
     statement_spares (t.loop a from b below c body) h n g =
         let others = is_same_local b.variable (Local y) || is_same_local c.variable (Local y) in

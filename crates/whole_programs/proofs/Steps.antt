@@ -41,6 +41,7 @@ use Rattle.lower.specs.Lowered.{one, read_step, write_step, list_place, written_
 use Rattle.lower.specs.Lowered.{as_test}
 use Rattle.lower.specs.Lowered.{word_program, value_test, unary_lowering, binary_lowering, sides_test, lowering, lowered_expression, lowered_test}
 use Rattle.lower.specs.Lowered.{update_step, setting, updating, sides_set, assignment}
+use Rattle.lower.specs.Lowered.{stored_array, update_element_step, index_and_value, element_setting, element_updating, element_sides_set, element_assignment}
 use Rattle.lower.specs.Lowered.{loop_local, entries, lowered_transition, lowered_statement, lowered_choice, lowered_block}
 use Rattle.whole_programs.specs.Needs.{ExpressionFits, StatementFits, ChoiceFits, BlockFits}
 use Rattle.whole_programs.specs.Uses.{IsWordName, IsLocalName, ExpressionUses, StatementUses, ChoiceUses, BlockUses}
@@ -160,9 +161,15 @@ module _ (p : Places) (words : PlacesOfWords p) where
   element_sound (Shared v) = element_read_sound (slice_get p.map.variables v) (words.places v)
   element_sound (Local n) = (tt, tt, (zero_is_word, zero_is_word))
 
+  stored_of_words : (x : Variable) → ArrayOfWords (stored_array p x)
+  stored_of_words (Shared v) = written_of_words (slice_get p.map.variables v) (words.places v)
+  stored_of_words (Local n) = (zero_is_word, zero_is_word, zero_is_word, zero_is_word)
+
   store_sound : (x : Variable) → StepSound (store_step p x)
-  store_sound (Shared v) = (tt, tt, (written_of_words (slice_get p.map.variables v) (words.places v), list_of_words))
-  store_sound (Local n) = (tt, tt, ((zero_is_word, zero_is_word, zero_is_word, zero_is_word), list_of_words))
+  store_sound x = (tt, tt, (stored_of_words x, list_of_words))
+
+  update_element_sound : (o : PlainOperation) (x : Variable) → StepSound (update_element_step p o x)
+  update_element_sound o x = (tt, tt, (stored_of_words x, list_of_words))
 
   module _ (shared : List SharedDeclaration) where
     read_sound : (x : Variable) → IsWordName shared x → StepSound (read_step p x)
@@ -237,6 +244,31 @@ module _ (p : Places) (words : PlacesOfWords p) where
     assignment_sound room x (t.binary op a b) w f n = sides_set_sound room x op a b (updating x op.operator a) w f n
     assignment_sound room x e w f n = setting_sound room x e w f n
 
+    -- a step behind an index and a value
+    index_and_value_sound : (index e : CheckedExpression) (s : Step) → Sound (lowered_expression p index) → Sound (lowered_expression p e) → StepSound s
+        → Sound (joined (index_and_value p index e) (one s))
+    index_and_value_sound index e s h k l =
+        sound_behind (index_and_value p index e) s (sound_joined (lowered_expression p index) (lowered_expression p e) h k) l
+
+    element_setting_sound : (room : ℕ) (x : Variable) (index e : CheckedExpression) → ExpressionFits room 0 index → ExpressionFits room 1 e
+        → ExpressionUses shared index → ExpressionUses shared e → Sound (element_setting p x index e)
+    element_setting_sound room x index e f g m n =
+        index_and_value_sound index e (store_step p x) (expression_sound room 0 index f m) (expression_sound room 1 e g n) (store_sound x)
+
+    element_sides_sound : (room : ℕ) (x : Variable) (index : CheckedExpression) (op : BinaryOperator) (a b : CheckedExpression) (o : Option PlainOperation)
+        → ExpressionFits room 0 index → ExpressionFits room 1 (t.binary op a b) → ExpressionUses shared index → ExpressionUses shared (t.binary op a b)
+        → Sound (element_sides_set p x index op a b o)
+    element_sides_sound room x index op a b None f g m n = element_setting_sound room x index (t.binary op a b) f g m n
+    element_sides_sound room x index op a b (Some o) f g m n =
+        index_and_value_sound index b (update_element_step p o x) (expression_sound room 0 index f m) (expression_sound room 2 b g.1 n.1)
+        (update_element_sound o x)
+
+    -- the first clause makes it a proof by cases
+    element_assignment_sound : (room : ℕ) (x : Variable) (index e : CheckedExpression) → ExpressionFits room 0 index → ExpressionFits room 1 e
+        → ExpressionUses shared index → ExpressionUses shared e → Sound (element_assignment p x index e)
+    element_assignment_sound room x index (t.binary op a b) f g m n = element_sides_sound room x index op a b (element_updating x index op a) f g m n
+    element_assignment_sound room x index e f g m n = element_setting_sound room x index e f g m n
+
     -- a loop by its local
     loop_sound : (v : Variable) (from below : ℕ) (body : CheckedBlock) → IsGood v body → IsLocalName v → BlockUses shared body → GoodBlock body
         → IsWord from → IsWord below → Sound (lowered_block p body)
@@ -259,10 +291,7 @@ module _ (p : Places) (words : PlacesOfWords p) where
       statement_sound room (t.declare of x None) f n g = (tt, tt, tt)
       statement_sound room (t.declare of x (Some e)) f n g = assignment_sound room x.variable e (local_word shared x.variable n.0) f n.1
       statement_sound room (t.assign x e) f n g = assignment_sound room x.variable e n.0 f n.1
-      statement_sound room (t.store x index e) f n g =
-          sound_behind (joined (lowered_expression p index) (lowered_expression p e)) (store_step p x.variable)
-          (sound_joined (lowered_expression p index) (lowered_expression p e) (expression_sound room 0 index f.0 n.1) (expression_sound room 1 e f.1 n.2))
-          (store_sound x.variable)
+      statement_sound room (t.store x index e) f n g = element_assignment_sound room x.variable index e f.0 f.1 n.1 n.2
       statement_sound room (t.choose choice) f n g = choice_sound room choice f n g
       statement_sound room (t.loop a from b below c body) f n g =
           let inner : GoodBlock body = λ at bad. g at (inr bad) in

@@ -23,7 +23,7 @@ use Rattle.lower.specs.array_versions.declared.operations.BinaryOperation.{Binar
 use Rattle.lower.specs.array_versions.declared.operations.BinaryOperation.TheVariants.{Plain}
 use Rattle.lower.specs.array_versions.declared.operations.PlainOperation.{PlainOperation}
 use Rattle.lower.specs.array_versions.declared.operations.PlainOperation.TheVariants.{And}
-use Rattle.lower.specs.array_versions.Program.{Step, Test, Program, unary, binary, shift, emit_word, choose, store_number, move_word, jump, nothing}
+use Rattle.lower.specs.array_versions.Program.{Step, Test, Program, unary, binary, shift, emit_word, store_number, move_word, jump, nothing}
 use Rattle.lower.specs.array_versions.Program.{step, joined}
 use Rattle.lower.specs.array_versions.Form.{Place, start, assigning, Moves, EachTurn, EachStepWay, EachTestWay, EachWay}
 use Rattle.lower.specs.memory_map.MemoryMap.{word_place}
@@ -40,7 +40,7 @@ use Rattle.lower.specs.Lowered.{one, read_step, write_step, element_read, elemen
 use Rattle.lower.specs.Lowered.{value_test}
 use Rattle.lower.specs.Lowered.{unary_lowering, binary_lowering, sides_test, lowering, lowered_expression, lowered_test, assignment}
 use Rattle.lower.specs.Lowered.{update_step, setting, updating, sides_set}
-use Rattle.lower.specs.Lowered.{element_assignment}
+use Rattle.lower.specs.Lowered.{update_element_step, index_and_value, element_updating, element_sides_set, element_assignment}
 use Rattle.lower.specs.Lowered.{loop_local, entries, lowered_transition, lowered_statement, lowered_choice, lowered_block}
 use Rattle.whole_programs.specs.Needs.{ExpressionFits, StatementFits, ChoiceFits, BlockFits}
 use Rattle.whole_programs.specs.Uses.{IsWordName, IsArrayName, ExpressionUses, StatementUses, ChoiceUses, BlockUses}
@@ -392,6 +392,31 @@ module _ (room : ℕ) (p : Places) (shared : List SharedDeclaration) (even : p.m
       joined_way room (entries (word_place p.map ListLength) p.map.list.address (runs_of p.privates)) close next o
       (entries_way (word_place p.map ListLength) p.map.list.address (runs_of p.privates) (EachWay room close next) o even)
 
+  -- an index and a value, and a step behind both
+  index_and_value_way : (a : ℕ → Bool) (index e : CheckedExpression) (s : Step) (next : Place → Type 0) → ExpressionFits room 0 index
+      → ExpressionFits room 1 e → ReadsAssigned a index → ReadsAssigned a e → EachStepWay room s next (at 2 a)
+      → EachWay room (joined (index_and_value p index e) (one s)) next (at 0 a)
+  index_and_value_way a index e s next f g q r h =
+      joined_way room (index_and_value p index e) (one s) next (at 0 a)
+      (joined_way room (lowered_expression p index) (lowered_expression p e) (EachWay room (one s) next) (at 0 a)
+      (expression_way room p 0 a index _ f q (expression_way room p 1 a e _ g r h)))
+
+  element_sides_way : (a : ℕ → Bool) (x : Variable) (index : CheckedExpression) (op : BinaryOperator) (b e : CheckedExpression) (o : Option PlainOperation)
+      (next : Place → Type 0) → ExpressionFits room 0 index → ExpressionFits room 1 (t.binary op b e)
+      → ReadsAssigned a index → ReadsAssigned a (t.binary op b e) → Moves room 2 0 next (at 2 a)
+      → EachWay room (element_sides_set p x index op b e o) next (at 0 a)
+  element_sides_way a x index op b e None next f g q r h = index_and_value_way a index (t.binary op b e) (store_step p x) next f g q r h
+  element_sides_way a x index op b e (Some o) next f g q r h =
+      index_and_value_way a index e (update_element_step p o x) next f (fits_above room 1 e g.1) q r.1 h
+
+  -- the first clause makes it a proof by cases
+  element_assignment_way : (a : ℕ → Bool) (x : Variable) (index e : CheckedExpression) (next : Place → Type 0) → ExpressionFits room 0 index
+      → ExpressionFits room 1 e → ReadsAssigned a index → ReadsAssigned a e → Moves room 2 0 next (at 2 a)
+      → EachWay room (element_assignment p x index e) next (at 0 a)
+  element_assignment_way a x index (t.binary op b e) next f g q r h =
+      element_sides_way a x index op b e (element_updating x index op b) next f g q r h
+  element_assignment_way a x index e next f g q r h = index_and_value_way a index e (store_step p x) next f g q r h
+
   -- of an index and a value
   element_assigned_way : (u a : ℕ → Bool) (x : VariableName) (index e : CheckedExpression) (next : Place → Type 0) → ExpressionFits room 0 index
       → ExpressionFits room 1 e
@@ -402,17 +427,15 @@ module _ (room : ℕ) (p : Places) (shared : List SharedDeclaration) (even : p.m
   element_assigned_way u a x index e next f g array m n c s h =
       let first = safe_expression u index (names_read e ++ write x ∷ []) s in
       let second = safe_expression u e (write x ∷ []) first.1 in
-      joined_way room (joined (lowered_expression p index) (lowered_expression p e)) (one (store_step p x.variable)) next (at 0 a)
-      (joined_way room (lowered_expression p index) (lowered_expression p e) (EachWay room (one (store_step p x.variable)) next) (at 0 a)
-      (expression_way room p 0 a index _ f (reads_assigned shared u a index c m first.0)
-      (expression_way room p 1 a e _ g (reads_assigned shared u a e c n second.0) (by_variable x.variable refl array))))
+      element_assignment_way a x.variable index e next f g (reads_assigned shared u a index c m first.0) (reads_assigned shared u a e c n second.0)
+      (by_variable x.variable refl array)
     where
       reaches : (v : ℕ) → x.variable ≡ Shared v → Covers (behind u (names_read index ++ (names_read e ++ write x ∷ []))) a
       reaches v is =
           subst (λ w. Covers w a) (sym (behind_expression u index (names_read e ++ write x ∷ []) ∙ behind_expression u e (write x ∷ [])))
           (covers_shared u a x v is c)
 
-      by_variable : (v : Variable) → x.variable ≡ v → IsArrayName shared v → EachStepWay room (store_step p v) next (at 2 a)
+      by_variable : (v : Variable) → x.variable ≡ v → IsArrayName shared v → Moves room 2 0 next (at 2 a)
       by_variable (Shared v) is k = moves room 2 0 2 0 a next (omega arith) (omega arith) (omega arith) (h a (reaches v is))
       by_variable (Local v) is k = absurd k
 

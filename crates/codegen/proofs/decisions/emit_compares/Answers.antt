@@ -11,6 +11,8 @@ returns c =
     let front = two_to_registers os in
     let ks = kept (below_top (below_top os)) in
     let tail = compare_form c.args.comparison ∷ decision c.args.when c.args.over (holding c.args.comparison) (failing c.args.comparison) in
-    let first = c.in_ok-emit_all.ensures.code ∙ ap (λ ws. c.emit_two_to_registers.new.code.items ++ instructions (flushed ws)) c.in_ok-emit_two_to_registers.ensures.waiting
+    let first = c.in_ok-emit_all.ensures.code ∙ ap (λ ws. c.emit_two_to_registers.new.code.items ++ instructions (flushed ws))
+    c.in_ok-emit_two_to_registers.ensures.waiting
     ∙ ap (λ l. l ++ instructions (flushed ks)) c.in_ok-emit_two_to_registers.ensures.code ∙ two_behind old front (flushed ks) in
-    part_behind c.emit_comparison.result old c.emit_all.new.code.items c.emit_comparison.new.code.items (front ++ flushed ks) tail tail _ first refl refl c.emit_comparison.ensures
+    part_behind c.emit_comparison.result old c.emit_all.new.code.items c.emit_comparison.new.code.items (front ++ flushed ks) tail tail _ first refl refl
+    c.emit_comparison.ensures

@@ -15,6 +15,8 @@ returns c =
     let front = top_to_four os in
     let ks = kept (below_top os) in
     let tail = Calculate op.Cmp (Constant konst.Zero) R4 ∷ decision c.args.when c.args.over condition.NotEqual condition.Equal in
-    let first = c.in_ok-emit_all.ensures.code ∙ ap (λ ws. c.emit_top_to_four.new.code.items ++ instructions (flushed ws)) c.in_ok-emit_top_to_four.ensures.waiting
+    let first = c.in_ok-emit_all.ensures.code ∙ ap (λ ws. c.emit_top_to_four.new.code.items ++ instructions (flushed ws))
+    c.in_ok-emit_top_to_four.ensures.waiting
     ∙ ap (λ l. l ++ instructions (flushed ks)) c.in_ok-emit_top_to_four.ensures.code ∙ two_behind old front (flushed ks) in
-    part_behind c.emit_zero_test.result old c.emit_all.new.code.items c.emit_zero_test.new.code.items (front ++ flushed ks) tail tail _ first refl refl c.emit_zero_test.ensures
+    part_behind c.emit_zero_test.result old c.emit_all.new.code.items c.emit_zero_test.new.code.items (front ++ flushed ks) tail tail _ first refl refl
+    c.emit_zero_test.ensures

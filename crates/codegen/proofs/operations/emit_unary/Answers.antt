@@ -10,4 +10,5 @@ returns-clause-code c =
     let old = c.args.code.now.items in
     let front = top_to_five c.args.waiting.now.items in
     let ms = unary_middle c.args.operation in
-    on_ok_weaker c.wait.result (λ w. c.in_ok-emit_unary_middle.ensures ∙ ap (λ l. l ++ instructions ms) c.in_ok-emit_top_to_five.ensures.code ∙ two_behind old front ms) c.wait.ensures
+    on_ok_weaker c.wait.result (λ w. c.in_ok-emit_unary_middle.ensures ∙ ap (λ l. l ++ instructions ms) c.in_ok-emit_top_to_five.ensures.code
+    ∙ two_behind old front ms) c.wait.ensures

@@ -1,4 +1,4 @@
-use Rattle.std.proofs.Common.{◌≡◌, ◌+◌, ◌++◌, [], drop, not, refl, sym, ap, ◌∙◌, subst, arith, rules, append_assoc, false, true}
+use Rattle.std.proofs.Common.{◌≡◌, ◌+◌, ◌∷◌, ◌++◌, [], drop, not, refl, sym, ap, ◌∙◌, subst, arith, rules, append_assoc, false, true}
 use Rattle.std.proofs.Common.{if◌then◌else◌, lt-ltb, le-ltb, List, append-nil}
 use Rattle.std.specs.Result.{OnOk}
 use Rattle.code_forms.specs.Forms.{Form}
@@ -11,14 +11,15 @@ use Rattle.array_versions.specs.Form.{StepLocalsBelow, TestLocalsBelow, LocalsBe
 use Rattle.array_versions.specs.Cost.{words_of, step_words, test_words}
 use Rattle.msp_isa.specs.declared.instructions.Condition.TheVariants as condition
 use Rattle.codegen.specs.Code.{flushed, holds_code, compares_code, truth_code, size, pass_over, jump_back, number_code, turn_end, turns_code, waiting_behind}
-use Rattle.codegen.specs.Code.{waiting_after, step_code, test_code, steps_code, code_of}
-use Rattle.codegen.proofs.Emitted.{step_of-choose, step_of-read, step_of-write, test_of-holds, test_of-compares, test_of-both, test_of-either}
+use Rattle.codegen.specs.Code.{waiting_after, step_code, test_code, steps_code, bound_of, block_code}
+use Rattle.codegen.proofs.Emitted.{step_of-choose, step_of-read, step_of-write, step_of-update, test_of-holds, test_of-compares, test_of-both, test_of-either}
 use Rattle.codegen.proofs.Emitted.{part_behind, two_behind, own_behind, on_ok_items, words_at_most, own_words, step_owed, left_front}
-use Rattle.codegen.proofs.Lengths.{pass_short, turn_end_short, test_short, code_short}
+use Rattle.codegen.proofs.Lengths.{pass_short, turn_end_short, test_short, inner_short}
 use Rattle.codegen.proofs.program.+emit.Goals as goal
 
 pub emit_steps-loop-step-preserved : goal.emit_steps-loop-step-preserved
 emit_steps-loop-step-preserved t c =
+    let bs = c.args.bounds.now in
     let x = c.step-item.result in
     let code = c.loop-step.code.items in
     let os = c.loop-step.waiting.items in
@@ -27,8 +28,8 @@ emit_steps-loop-step-preserved t c =
     let known = c.loop-step.invariant in
     let behind = c.in_ok-emit_step.ensures.waiting in
     record {
-      owed = step_owed (step_of x) more os c.emit_step.new.waiting.items code c.emit_step.new.code.items _ c.in_ok-emit_step.ensures.code behind
-          (ap (λ p. code ++ instructions (steps_code os p)) (sym e) ∙ known.owed);
+      owed = step_owed bs (step_of x) more os c.emit_step.new.waiting.items code c.emit_step.new.code.items _ c.in_ok-emit_step.ensures.code behind
+          (ap (λ p. code ++ instructions (steps_code bs os p)) (sym e) ∙ known.owed);
       after = ap (λ ws. waiting_after ws more) behind ∙ ap (λ p. waiting_after os p) (sym e) ∙ known.after;
       room = omega (arith, ap words_of e, known.room);
       locals = (subst (LocalsBelow 1008) e known.locals).1;
@@ -37,17 +38,19 @@ emit_steps-loop-step-preserved t c =
 
 pub emit_block-returns-clause-code : goal.emit_block-returns-clause-code
 emit_block-returns-clause-code t c =
+    let bs = c.args.bounds.now in
     let old = c.args.code.now.items in
     let p = steps_of c.args.steps.now in
-    let a = steps_code [] p in
+    let a = steps_code bs [] p in
     let os = waiting_after [] p in
-    let first = c.in_ok-emit_steps.ensures.code ∙ ap (λ ws. old ++ instructions (steps_code ws p)) c.new-waiting.ensures.items in
+    let first = c.in_ok-emit_steps.ensures.code ∙ ap (λ ws. old ++ instructions (steps_code bs ws p)) c.new-waiting.ensures.items in
     let after = c.deref.ensures.value ∙ c.in_ok-emit_steps.ensures.waiting ∙ ap (λ ws. waiting_after ws p) c.new-waiting.ensures.items in
     part_behind c.emit_flushed.result old c.emit_steps.new.code.items c.emit_flushed.new.code.items a (flushed c.deref.result.now) (flushed os) _
     first (ap flushed after) refl c.emit_flushed.ensures
 
 pub emit_test-returns-in_ok-emit_steps-in-Holds-clause-code : goal.emit_test-returns-in_ok-emit_steps-in-Holds-clause-code
 emit_test-returns-in_ok-emit_steps-in-Holds-clause-code t c =
+    let bs = c.args.bounds.now in
     let old = c.args.code.now.items in
     let p = steps_of c.in-Holds.steps.items in
     let os = waiting_after [] p in
@@ -55,15 +58,17 @@ emit_test-returns-in_ok-emit_steps-in-Holds-clause-code t c =
     let none = c.new-waiting.ensures.items in
     let same = c.deref.ensures.value in
     let made = c.in_ok-emit_steps-in-Holds.ensures in
-    let first = made.code ∙ ap (λ ws. old ++ instructions (steps_code ws (steps_of c.deref.result.now))) none
-    ∙ ap (λ s. old ++ instructions (steps_code [] (steps_of s))) same in
+    let first = made.code ∙ ap (λ ws. old ++ instructions (steps_code bs ws (steps_of c.deref.result.now))) none
+    ∙ ap (λ s. old ++ instructions (steps_code bs [] (steps_of s))) same in
     let after = made.waiting ∙ ap (λ ws. waiting_after ws (steps_of c.deref.result.now)) none ∙ ap (λ s. waiting_after [] (steps_of s)) same in
     let is = ap test_of c.in-Holds.is ∙ test_of-holds c.in-Holds.steps in
-    part_behind c.emit_holds.result old c.emit_steps.new.code.items c.emit_holds.new.code.items (steps_code [] p) (last c.emit_steps.new.waiting.items) (last os) _
-    first (ap last after) (ap (λ q. test_code q c.args.when c.args.over) (sym is)) c.emit_holds.ensures
+    part_behind c.emit_holds.result old c.emit_steps.new.code.items c.emit_holds.new.code.items (steps_code bs [] p) (last c.emit_steps.new.waiting.items)
+    (last os) _
+    first (ap last after) (ap (λ q. test_code bs q c.args.when c.args.over) (sym is)) c.emit_holds.ensures
 
 pub emit_test-returns-in_ok-emit_steps-in-Compares-clause-code : goal.emit_test-returns-in_ok-emit_steps-in-Compares-clause-code
 emit_test-returns-in_ok-emit_steps-in-Compares-clause-code t c =
+    let bs = c.args.bounds.now in
     let old = c.args.code.now.items in
     let p = steps_of c.in-Compares.steps.items in
     let os = waiting_after [] p in
@@ -71,27 +76,30 @@ emit_test-returns-in_ok-emit_steps-in-Compares-clause-code t c =
     let none = c.new-waiting-in-Compares.ensures.items in
     let same = c.deref-in-Compares.ensures.value in
     let made = c.in_ok-emit_steps-in-Compares.ensures in
-    let first = made.code ∙ ap (λ ws. old ++ instructions (steps_code ws (steps_of c.deref-in-Compares.result.now))) none
-    ∙ ap (λ s. old ++ instructions (steps_code [] (steps_of s))) same in
+    let first = made.code ∙ ap (λ ws. old ++ instructions (steps_code bs ws (steps_of c.deref-in-Compares.result.now))) none
+    ∙ ap (λ s. old ++ instructions (steps_code bs [] (steps_of s))) same in
     let after = made.waiting ∙ ap (λ ws. waiting_after ws (steps_of c.deref-in-Compares.result.now)) none ∙ ap (λ s. waiting_after [] (steps_of s)) same in
     let is = ap test_of c.in-Compares.is ∙ test_of-compares c.in-Compares.comparison c.in-Compares.steps in
-    part_behind c.emit_compares.result old c.emit_steps-in-Compares.new.code.items c.emit_compares.new.code.items (steps_code [] p) (last c.emit_steps-in-Compares.new.waiting.items) (last os) _
-    first (ap last after) (ap (λ q. test_code q c.args.when c.args.over) (sym is)) c.emit_compares.ensures
+    part_behind c.emit_compares.result old c.emit_steps-in-Compares.new.code.items c.emit_compares.new.code.items (steps_code bs [] p)
+    (last c.emit_steps-in-Compares.new.waiting.items) (last os) _
+    first (ap last after) (ap (λ q. test_code bs q c.args.when c.args.over) (sym is)) c.emit_compares.ensures
 
 pub emit_truth-returns-clause-code : goal.emit_truth-returns-clause-code
 emit_truth-returns-clause-code t c =
+    let bs = c.args.bounds.now in
     let old = c.args.code.now.items in
     let pushes = flushed c.args.waiting.now.items in
-    let test = test_code (test_of c.args.test.now) false 2 in
+    let test = test_code bs (test_of c.args.test.now) false 2 in
     let first = c.in_ok-emit_test.ensures.code ∙ ap (λ l. l ++ instructions test) c.in_ok-emit_all.ensures.code ∙ two_behind old pushes test in
     part_behind c.emit_truth_code.result old c.emit_test.new.code.items c.emit_truth_code.new.code.items
     (pushes ++ test) truth_code truth_code _ first refl (append_assoc pushes test truth_code) c.emit_truth_code.ensures
 
 pub emit_step-returns-in-VersionedRead-clause-code : goal.emit_step-returns-in-VersionedRead-clause-code
 emit_step-returns-in-VersionedRead-clause-code t c =
+    let bs = c.args.bounds.now in
     let is = ap step_of c.in-VersionedRead.is ∙ step_of-read c.in-VersionedRead.place c.in-VersionedRead.list in
     subst (λ s. OnOk c.emit_versioned_read.result
-    (c.emit_versioned_read.new.code.items ≡ c.args.code.now.items ++ instructions (step_code c.args.waiting.now.items s))) (sym is)
+    (c.emit_versioned_read.new.code.items ≡ c.args.code.now.items ++ instructions (step_code bs c.args.waiting.now.items s))) (sym is)
     c.emit_versioned_read.ensures.code
 
 pub emit_step-returns-in-VersionedRead-clause-waiting : goal.emit_step-returns-in-VersionedRead-clause-waiting
@@ -107,9 +115,10 @@ emit_step-returns-in-VersionedRead-clause-of_words t c =
 
 pub emit_step-returns-in-VersionedWrite-clause-code : goal.emit_step-returns-in-VersionedWrite-clause-code
 emit_step-returns-in-VersionedWrite-clause-code t c =
+    let bs = c.args.bounds.now in
     let is = ap step_of c.in-VersionedWrite.is ∙ step_of-write c.in-VersionedWrite.place c.in-VersionedWrite.list in
     subst (λ s. OnOk c.emit_versioned_write.result
-    (c.emit_versioned_write.new.code.items ≡ c.args.code.now.items ++ instructions (step_code c.args.waiting.now.items s))) (sym is)
+    (c.emit_versioned_write.new.code.items ≡ c.args.code.now.items ++ instructions (step_code bs c.args.waiting.now.items s))) (sym is)
     c.emit_versioned_write.ensures.code
 
 pub emit_step-returns-in-VersionedWrite-clause-waiting : goal.emit_step-returns-in-VersionedWrite-clause-waiting
@@ -123,165 +132,241 @@ emit_step-returns-in-VersionedWrite-clause-of_words t c =
     let is = ap step_of c.in-VersionedWrite.is ∙ step_of-write c.in-VersionedWrite.place c.in-VersionedWrite.list in
     subst (λ s. OnOk c.emit_versioned_write.result (StepOfWords s)) (sym is) c.emit_versioned_write.ensures.of_words
 
+pub emit_step-returns-in-VersionedUpdate-clause-code : goal.emit_step-returns-in-VersionedUpdate-clause-code
+emit_step-returns-in-VersionedUpdate-clause-code t c =
+    let is = ap step_of c.in-VersionedUpdate.is ∙ step_of-update c.in-VersionedUpdate.operation c.in-VersionedUpdate.place c.in-VersionedUpdate.list in
+    subst (λ s. OnOk c.emit_versioned_update.result
+    (c.emit_versioned_update.new.code.items ≡ c.args.code.now.items ++ instructions (step_code c.args.bounds.now c.args.waiting.now.items s))) (sym is)
+    c.emit_versioned_update.ensures.code
+
+pub emit_step-returns-in-VersionedUpdate-clause-waiting : goal.emit_step-returns-in-VersionedUpdate-clause-waiting
+emit_step-returns-in-VersionedUpdate-clause-waiting t c =
+    let is = ap step_of c.in-VersionedUpdate.is ∙ step_of-update c.in-VersionedUpdate.operation c.in-VersionedUpdate.place c.in-VersionedUpdate.list in
+    subst (λ s. OnOk c.emit_versioned_update.result (c.emit_versioned_update.new.waiting.items ≡ waiting_behind c.args.waiting.now.items s)) (sym is)
+    c.emit_versioned_update.ensures.waiting
+
+pub emit_step-returns-in-VersionedUpdate-clause-of_words : goal.emit_step-returns-in-VersionedUpdate-clause-of_words
+emit_step-returns-in-VersionedUpdate-clause-of_words t c =
+    let is = ap step_of c.in-VersionedUpdate.is ∙ step_of-update c.in-VersionedUpdate.operation c.in-VersionedUpdate.place c.in-VersionedUpdate.list in
+    subst (λ s. OnOk c.emit_versioned_update.result (StepOfWords s)) (sym is) c.emit_versioned_update.ensures.of_words
+
 pub emit_test-code_words-requires : goal.emit_test-code_words-requires
 emit_test-code_words-requires t c =
+    let bs = c.args.bounds.now in
     let when = c.args.when in
     let over = c.args.over in
     let a = test_of c.in-Both.first.value in
     let u = test_of c.in-Both.second.value in
-    let second = test_code u when over in
+    let second = test_code bs u when over in
     let is = ap test_of c.in-Both.is ∙ test_of-both c.in-Both.first c.in-Both.second in
-    let own = c.in_ok-emit_test-in-Both.ensures.code ∙ ap (λ x. c.new-behind.result.items ++ instructions (test_code (test_of x) when over)) c.deref-in-Both.ensures
+    let own = c.in_ok-emit_test-in-Both.ensures.code ∙ ap (λ x. c.new-behind.result.items ++ instructions (test_code bs (test_of x) when over))
+    c.deref-in-Both.ensures
     ∙ ap (λ l. l ++ instructions second) c.new-behind.ensures.items in
     let words = own_words c.deref-in-Both-2.result.now second (c.deref-in-Both-2.ensures.value ∙ own) in
-    omega (arith, words, test_short u when over, ap test_words is, c.requires.room)
+    omega (arith, words, test_short bs u when over, ap test_words is, c.requires.room)
 
 pub emit_test-overflow_add-further : goal.emit_test-overflow_add-further
 emit_test-overflow_add-further t c =
+    let bs = c.args.bounds.now in
     let when = c.args.when in
     let over = c.args.over in
     let a = test_of c.in-Both.first.value in
     let u = test_of c.in-Both.second.value in
-    let second = test_code u when over in
+    let second = test_code bs u when over in
     let is = ap test_of c.in-Both.is ∙ test_of-both c.in-Both.first c.in-Both.second in
-    let own = c.in_ok-emit_test-in-Both.ensures.code ∙ ap (λ x. c.new-behind.result.items ++ instructions (test_code (test_of x) when over)) c.deref-in-Both.ensures
+    let own = c.in_ok-emit_test-in-Both.ensures.code ∙ ap (λ x. c.new-behind.result.items ++ instructions (test_code bs (test_of x) when over))
+    c.deref-in-Both.ensures
     ∙ ap (λ l. l ++ instructions second) c.new-behind.ensures.items in
     let words = own_words c.deref-in-Both-2.result.now second (c.deref-in-Both-2.ensures.value ∙ own) in
-    omega (arith, words, test_short u when over, ap test_words is, c.requires.room, c.code_words.ensures, c.words_if.ensures, words_at_most (not when) over)
+    omega (arith, words, test_short bs u when over, ap test_words is, c.requires.room, c.code_words.ensures, c.words_if.ensures, words_at_most (not when) over)
 
 pub emit_test-emit_test-requires-in-Both : goal.emit_test-emit_test-requires-in-Both
 emit_test-emit_test-requires-in-Both t c =
+    let bs = c.args.bounds.now in
     let when = c.args.when in
     let over = c.args.over in
     let a = test_of c.in-Both.first.value in
     let u = test_of c.in-Both.second.value in
-    let second = test_code u when over in
+    let second = test_code bs u when over in
     let is = ap test_of c.in-Both.is ∙ test_of-both c.in-Both.first c.in-Both.second in
-    let own = c.in_ok-emit_test-in-Both.ensures.code ∙ ap (λ x. c.new-behind.result.items ++ instructions (test_code (test_of x) when over)) c.deref-in-Both.ensures
+    let own = c.in_ok-emit_test-in-Both.ensures.code ∙ ap (λ x. c.new-behind.result.items ++ instructions (test_code bs (test_of x) when over))
+    c.deref-in-Both.ensures
     ∙ ap (λ l. l ++ instructions second) c.new-behind.ensures.items in
     let words = own_words c.deref-in-Both-2.result.now second (c.deref-in-Both-2.ensures.value ∙ own) in (
       search (rules, word_step.the_lemmas),
       (
-        omega (arith, words, test_short u when over, ap test_words is, c.requires.room, c.code_words.ensures, c.words_if.ensures, words_at_most (not when) over, ap (λ x. test_words (test_of x)) c.deref-in-Both-3.ensures),
+        omega (
+          arith,
+          words,
+          test_short bs u when over,
+          ap test_words is,
+          c.requires.room,
+          c.code_words.ensures,
+          c.words_if.ensures,
+          words_at_most (not when) over,
+          ap (λ x. test_words (test_of x)) c.deref-in-Both-3.ensures,
+        ),
         subst (λ x. TestLocalsBelow 1008 (test_of x)) (sym c.deref-in-Both-3.ensures) (subst (TestLocalsBelow 1008) is c.requires.locals).0,
       ),
     )
 
 pub emit_test-returns-in_ok-emit_test-in-Both-2-clause-code : goal.emit_test-returns-in_ok-emit_test-in-Both-2-clause-code
 emit_test-returns-in_ok-emit_test-in-Both-2-clause-code t c =
+    let bs = c.args.bounds.now in
     let when = c.args.when in
     let over = c.args.over in
     let a = test_of c.in-Both.first.value in
     let u = test_of c.in-Both.second.value in
-    let second = test_code u when over in
+    let second = test_code bs u when over in
     let is = ap test_of c.in-Both.is ∙ test_of-both c.in-Both.first c.in-Both.second in
-    let own = c.in_ok-emit_test-in-Both.ensures.code ∙ ap (λ x. c.new-behind.result.items ++ instructions (test_code (test_of x) when over)) c.deref-in-Both.ensures
+    let own = c.in_ok-emit_test-in-Both.ensures.code ∙ ap (λ x. c.new-behind.result.items ++ instructions (test_code bs (test_of x) when over))
+    c.deref-in-Both.ensures
     ∙ ap (λ l. l ++ instructions second) c.new-behind.ensures.items in
     let words = own_words c.deref-in-Both-2.result.now second (c.deref-in-Both-2.ensures.value ∙ own) in
     let old = c.args.code.now.items in
     let counted = ap (λ n. n + c.words_if.result) (c.code_words.ensures ∙ words) ∙ ap (λ n. size second + n) c.words_if.ensures in
-    let tested = c.in_ok-emit_test-in-Both-2.ensures.code ∙ ap (λ x. old ++ instructions (test_code (test_of x) false (c.code_words.result + c.words_if.result))) c.deref-in-Both-3.ensures
-    ∙ ap (λ n. old ++ instructions (test_code a false n)) counted in
-    own_behind c.extend_from_slice.result old c.emit_test-in-Both.new.code.items c.deref-in-Both-4.result.now _ (test_code a false (size second + (if not when then over else 0))) second _
-    tested (c.deref-in-Both-4.ensures.value ∙ own) (ap (λ q. test_code q when over) (sym is)) (on_ok_items c.extend_from_slice.result _ _ _ c.extend_from_slice.ensures.items)
+    let tested = c.in_ok-emit_test-in-Both-2.ensures.code
+    ∙ ap (λ x. old ++ instructions (test_code bs (test_of x) false (c.code_words.result + c.words_if.result))) c.deref-in-Both-3.ensures
+    ∙ ap (λ n. old ++ instructions (test_code bs a false n)) counted in
+    own_behind c.extend_from_slice.result old c.emit_test-in-Both.new.code.items c.deref-in-Both-4.result.now _
+    (test_code bs a false (size second + (if not when then over else 0))) second _
+    tested (c.deref-in-Both-4.ensures.value ∙ own) (ap (λ q. test_code bs q when over) (sym is))
+    (on_ok_items c.extend_from_slice.result _ _ _ c.extend_from_slice.ensures.items)
 
 pub emit_test-code_words-requires-in-Either : goal.emit_test-code_words-requires-in-Either
 emit_test-code_words-requires-in-Either t c =
+    let bs = c.args.bounds.now in
     let when = c.args.when in
     let over = c.args.over in
     let a = test_of c.in-Either.first.value in
     let u = test_of c.in-Either.second.value in
-    let second = test_code u when over in
+    let second = test_code bs u when over in
     let is = ap test_of c.in-Either.is ∙ test_of-either c.in-Either.first c.in-Either.second in
-    let own = c.in_ok-emit_test-in-Either.ensures.code ∙ ap (λ x. c.new-behind-in-Either.result.items ++ instructions (test_code (test_of x) when over)) c.deref-in-Either.ensures
+    let own = c.in_ok-emit_test-in-Either.ensures.code ∙ ap (λ x. c.new-behind-in-Either.result.items ++ instructions (test_code bs (test_of x) when over))
+    c.deref-in-Either.ensures
     ∙ ap (λ l. l ++ instructions second) c.new-behind-in-Either.ensures.items in
     let words = own_words c.deref-in-Either-2.result.now second (c.deref-in-Either-2.ensures.value ∙ own) in
-    omega (arith, words, test_short u when over, ap test_words is, c.requires.room)
+    omega (arith, words, test_short bs u when over, ap test_words is, c.requires.room)
 
 pub emit_test-overflow_add-further-in-Either : goal.emit_test-overflow_add-further-in-Either
 emit_test-overflow_add-further-in-Either t c =
+    let bs = c.args.bounds.now in
     let when = c.args.when in
     let over = c.args.over in
     let a = test_of c.in-Either.first.value in
     let u = test_of c.in-Either.second.value in
-    let second = test_code u when over in
+    let second = test_code bs u when over in
     let is = ap test_of c.in-Either.is ∙ test_of-either c.in-Either.first c.in-Either.second in
-    let own = c.in_ok-emit_test-in-Either.ensures.code ∙ ap (λ x. c.new-behind-in-Either.result.items ++ instructions (test_code (test_of x) when over)) c.deref-in-Either.ensures
+    let own = c.in_ok-emit_test-in-Either.ensures.code ∙ ap (λ x. c.new-behind-in-Either.result.items ++ instructions (test_code bs (test_of x) when over))
+    c.deref-in-Either.ensures
     ∙ ap (λ l. l ++ instructions second) c.new-behind-in-Either.ensures.items in
     let words = own_words c.deref-in-Either-2.result.now second (c.deref-in-Either-2.ensures.value ∙ own) in
-    omega (arith, words, test_short u when over, ap test_words is, c.requires.room, c.code_words-in-Either.ensures, c.words_if-in-Either.ensures, words_at_most (when) over)
+    omega (
+      arith,
+      words,
+      test_short bs u when over,
+      ap test_words is,
+      c.requires.room,
+      c.code_words-in-Either.ensures,
+      c.words_if-in-Either.ensures,
+      words_at_most (when) over,
+    )
 
 pub emit_test-emit_test-requires-in-Either-2 : goal.emit_test-emit_test-requires-in-Either-2
 emit_test-emit_test-requires-in-Either-2 t c =
+    let bs = c.args.bounds.now in
     let when = c.args.when in
     let over = c.args.over in
     let a = test_of c.in-Either.first.value in
     let u = test_of c.in-Either.second.value in
-    let second = test_code u when over in
+    let second = test_code bs u when over in
     let is = ap test_of c.in-Either.is ∙ test_of-either c.in-Either.first c.in-Either.second in
-    let own = c.in_ok-emit_test-in-Either.ensures.code ∙ ap (λ x. c.new-behind-in-Either.result.items ++ instructions (test_code (test_of x) when over)) c.deref-in-Either.ensures
+    let own = c.in_ok-emit_test-in-Either.ensures.code ∙ ap (λ x. c.new-behind-in-Either.result.items ++ instructions (test_code bs (test_of x) when over))
+    c.deref-in-Either.ensures
     ∙ ap (λ l. l ++ instructions second) c.new-behind-in-Either.ensures.items in
     let words = own_words c.deref-in-Either-2.result.now second (c.deref-in-Either-2.ensures.value ∙ own) in (
       search (rules, word_step.the_lemmas),
       (
-        omega (arith, words, test_short u when over, ap test_words is, c.requires.room, c.code_words-in-Either.ensures, c.words_if-in-Either.ensures, words_at_most (when) over, ap (λ x. test_words (test_of x)) c.deref-in-Either-3.ensures),
+        omega (
+          arith,
+          words,
+          test_short bs u when over,
+          ap test_words is,
+          c.requires.room,
+          c.code_words-in-Either.ensures,
+          c.words_if-in-Either.ensures,
+          words_at_most (when) over,
+          ap (λ x. test_words (test_of x)) c.deref-in-Either-3.ensures,
+        ),
         subst (λ x. TestLocalsBelow 1008 (test_of x)) (sym c.deref-in-Either-3.ensures) (subst (TestLocalsBelow 1008) is c.requires.locals).0,
       ),
     )
 
 pub emit_test-returns-in_ok-emit_test-in-Either-2-clause-code : goal.emit_test-returns-in_ok-emit_test-in-Either-2-clause-code
 emit_test-returns-in_ok-emit_test-in-Either-2-clause-code t c =
+    let bs = c.args.bounds.now in
     let when = c.args.when in
     let over = c.args.over in
     let a = test_of c.in-Either.first.value in
     let u = test_of c.in-Either.second.value in
-    let second = test_code u when over in
+    let second = test_code bs u when over in
     let is = ap test_of c.in-Either.is ∙ test_of-either c.in-Either.first c.in-Either.second in
-    let own = c.in_ok-emit_test-in-Either.ensures.code ∙ ap (λ x. c.new-behind-in-Either.result.items ++ instructions (test_code (test_of x) when over)) c.deref-in-Either.ensures
+    let own = c.in_ok-emit_test-in-Either.ensures.code ∙ ap (λ x. c.new-behind-in-Either.result.items ++ instructions (test_code bs (test_of x) when over))
+    c.deref-in-Either.ensures
     ∙ ap (λ l. l ++ instructions second) c.new-behind-in-Either.ensures.items in
     let words = own_words c.deref-in-Either-2.result.now second (c.deref-in-Either-2.ensures.value ∙ own) in
     let old = c.args.code.now.items in
     let counted = ap (λ n. n + c.words_if-in-Either.result) (c.code_words-in-Either.ensures ∙ words) ∙ ap (λ n. size second + n) c.words_if-in-Either.ensures in
-    let tested = c.in_ok-emit_test-in-Either-2.ensures.code ∙ ap (λ x. old ++ instructions (test_code (test_of x) true (c.code_words-in-Either.result + c.words_if-in-Either.result))) c.deref-in-Either-3.ensures
-    ∙ ap (λ n. old ++ instructions (test_code a true n)) counted in
-    own_behind c.extend_from_slice-in-Either.result old c.emit_test-in-Either-2.new.code.items c.deref-in-Either-4.result.now _ (test_code a true (size second + (if when then over else 0))) second _
-    tested (c.deref-in-Either-4.ensures.value ∙ own) (ap (λ q. test_code q when over) (sym is)) (on_ok_items c.extend_from_slice-in-Either.result _ _ _ c.extend_from_slice-in-Either.ensures.items)
+    let tested = c.in_ok-emit_test-in-Either-2.ensures.code
+    ∙ ap (λ x. old ++ instructions (test_code bs (test_of x) true (c.code_words-in-Either.result + c.words_if-in-Either.result))) c.deref-in-Either-3.ensures
+    ∙ ap (λ n. old ++ instructions (test_code bs a true n)) counted in
+    own_behind c.extend_from_slice-in-Either.result old c.emit_test-in-Either-2.new.code.items c.deref-in-Either-4.result.now _
+    (test_code bs a true (size second + (if when then over else 0))) second _
+    tested (c.deref-in-Either-4.ensures.value ∙ own) (ap (λ q. test_code bs q when over) (sym is))
+    (on_ok_items c.extend_from_slice-in-Either.result _ _ _ c.extend_from_slice-in-Either.ensures.items)
 
 pub emit_loop-code_words-over-requires : goal.emit_loop-code_words-over-requires
 emit_loop-code_words-over-requires t c =
+    let inner = bound_of c.args.n c.args.below ∷ c.args.bounds.now in
     let body = steps_of c.args.body.now in
     let n = c.args.n in
-    let made = code_of body in
+    let made = block_code inner body in
     let end = turn_end n c.args.below in
     let turn = c.in_ok-emit_turn_end.ensures ∙ ap (λ l. l ++ instructions end)
-    (c.in_ok-emit_block.ensures.code ∙ ap (λ l. l ++ instructions made) c.new-turn.ensures.items) ∙ sym (instructions-append made end) in
-    let words = own_words c.deref-then-from-below.result.now (made ++ end) (c.deref-then-from-below.ensures.value ∙ turn) in
-    omega (arith, words, forms_bytes-append made end, code_short body, turn_end_short n c.args.below, c.requires.room)
+    (c.in_ok-emit_block.ensures.code ∙ ap (λ ws. c.new-turn.result.items ++ instructions (block_code ws (steps_of c.args.body.now)))
+    (c.deref.ensures.value ∙ c.in_ok-inner.ensures) ∙ ap (λ l. l ++ instructions made) c.new-turn.ensures.items) ∙ sym (instructions-append made end) in
+    let words = own_words c.deref-then-from-below-2.result.now (made ++ end) (c.deref-then-from-below-2.ensures.value ∙ turn) in
+    omega (arith, words, forms_bytes-append made end, inner_short inner body, turn_end_short n c.args.below, c.requires.room)
 
 pub emit_loop-emit_jump_back-requires : goal.emit_loop-emit_jump_back-requires
 emit_loop-emit_jump_back-requires t c =
+    let inner = bound_of c.args.n c.args.below ∷ c.args.bounds.now in
     let body = steps_of c.args.body.now in
     let n = c.args.n in
-    let made = code_of body in
+    let made = block_code inner body in
     let end = turn_end n c.args.below in
     let turn = c.in_ok-emit_turn_end.ensures ∙ ap (λ l. l ++ instructions end)
-    (c.in_ok-emit_block.ensures.code ∙ ap (λ l. l ++ instructions made) c.new-turn.ensures.items) ∙ sym (instructions-append made end) in
-    let words = own_words c.deref-then-from-below.result.now (made ++ end) (c.deref-then-from-below.ensures.value ∙ turn) in
-    omega (arith, words, forms_bytes-append made end, code_short body, turn_end_short n c.args.below, c.requires.room, c.code_words-over.ensures)
+    (c.in_ok-emit_block.ensures.code ∙ ap (λ ws. c.new-turn.result.items ++ instructions (block_code ws (steps_of c.args.body.now)))
+    (c.deref.ensures.value ∙ c.in_ok-inner.ensures) ∙ ap (λ l. l ++ instructions made) c.new-turn.ensures.items) ∙ sym (instructions-append made end) in
+    let words = own_words c.deref-then-from-below-2.result.now (made ++ end) (c.deref-then-from-below-2.ensures.value ∙ turn) in
+    omega (arith, words, forms_bytes-append made end, inner_short inner body, turn_end_short n c.args.below, c.requires.room, c.code_words-over.ensures)
 
 pub emit_loop-returns-then-from-below-clause-code : goal.emit_loop-returns-then-from-below-clause-code
 emit_loop-returns-then-from-below-clause-code t c =
+    let inner = bound_of c.args.n c.args.below ∷ c.args.bounds.now in
     let old = c.args.code.now.items in
     let below = c.args.below in
-    let made = code_of (steps_of c.args.body.now) in
+    let made = block_code inner (steps_of c.args.body.now) in
     let pushes = flushed c.args.waiting.now.items in
     let start = number_code c.args.n c.args.from in
     let turn = made ++ turn_end c.args.n below in
     let back = jump_back condition.NotEqual condition.Equal in
     let own = c.in_ok-emit_turn_end.ensures ∙ ap (λ l. l ++ instructions (turn_end c.args.n below))
-    (c.in_ok-emit_block.ensures.code ∙ ap (λ l. l ++ instructions made) c.new-turn.ensures.items) ∙ sym (instructions-append made (turn_end c.args.n below)) in
-    let words = own_words c.deref-then-from-below.result.now turn (c.deref-then-from-below.ensures.value ∙ own) in
-    let first = c.in_ok-extend_from_slice.ensures.items ∙ ap (λ l. c.emit_number.new.code.items ++ l) (c.deref.ensures.value ∙ own)
+    (c.in_ok-emit_block.ensures.code ∙ ap (λ ws. c.new-turn.result.items ++ instructions (block_code ws (steps_of c.args.body.now)))
+    (c.deref.ensures.value ∙ c.in_ok-inner.ensures) ∙ ap (λ l. l ++ instructions made) c.new-turn.ensures.items)
+    ∙ sym (instructions-append made (turn_end c.args.n below)) in
+    let words = own_words c.deref-then-from-below-2.result.now turn (c.deref-then-from-below-2.ensures.value ∙ own) in
+    let first = c.in_ok-extend_from_slice.ensures.items ∙ ap (λ l. c.emit_number.new.code.items ++ l) (c.deref-then-from-below.ensures.value ∙ own)
     ∙ ap (λ l. l ++ instructions turn) c.in_ok-emit_number.ensures ∙ two_behind c.emit_all.new.code.items start turn
     ∙ ap (λ l. l ++ instructions (start ++ turn)) c.in_ok-emit_all.ensures.code ∙ two_behind old pushes (start ++ turn) in
     part_behind c.emit_jump_back.result old c.extend_from_slice.new.self.items c.emit_jump_back.new.code.items (pushes ++ (start ++ turn))
@@ -292,55 +377,65 @@ emit_loop-returns-then-from-below-clause-code t c =
 
 pub emit_step-code_words-requires : goal.emit_step-code_words-requires
 emit_step-code_words-requires t c =
+    let bs = c.args.bounds.now in
     let of = c.in-Choose in
     let is = ap step_of of.is ∙ step_of-choose of.test of.taken of.otherwise in
-    let b = code_of (steps_of of.taken.items) in
-    let other = code_of (steps_of of.otherwise.items) in
-    let otherwise = c.in_ok-emit_block-in-Choose.ensures.code ∙ ap (λ s. c.new-other.result.items ++ instructions (code_of (steps_of s))) c.deref.ensures.value
+    let b = block_code bs (steps_of of.taken.items) in
+    let other = block_code bs (steps_of of.otherwise.items) in
+    let otherwise = c.in_ok-emit_block-in-Choose.ensures.code ∙ ap (λ s. c.new-other.result.items ++ instructions (block_code bs (steps_of s)))
+    c.deref.ensures.value
     ∙ ap (λ l. l ++ instructions other) c.new-other.ensures.items in
     let behind = own_words c.deref-in-Choose-2.result.now other (c.deref-in-Choose-2.ensures.value ∙ otherwise) in
-    omega (arith, behind, code_short (steps_of of.otherwise.items), ap step_words is, c.requires.room)
+    omega (arith, behind, inner_short bs (steps_of of.otherwise.items), ap step_words is, c.requires.room)
 
 pub emit_step-emit_pass_over-requires : goal.emit_step-emit_pass_over-requires
 emit_step-emit_pass_over-requires t c =
+    let bs = c.args.bounds.now in
     let of = c.in-Choose in
     let is = ap step_of of.is ∙ step_of-choose of.test of.taken of.otherwise in
-    let b = code_of (steps_of of.taken.items) in
-    let other = code_of (steps_of of.otherwise.items) in
-    let otherwise = c.in_ok-emit_block-in-Choose.ensures.code ∙ ap (λ s. c.new-other.result.items ++ instructions (code_of (steps_of s))) c.deref.ensures.value
+    let b = block_code bs (steps_of of.taken.items) in
+    let other = block_code bs (steps_of of.otherwise.items) in
+    let otherwise = c.in_ok-emit_block-in-Choose.ensures.code ∙ ap (λ s. c.new-other.result.items ++ instructions (block_code bs (steps_of s)))
+    c.deref.ensures.value
     ∙ ap (λ l. l ++ instructions other) c.new-other.ensures.items in
     let behind = own_words c.deref-in-Choose-2.result.now other (c.deref-in-Choose-2.ensures.value ∙ otherwise) in
-    omega (arith, behind, code_short (steps_of of.otherwise.items), ap step_words is, c.requires.room, c.code_words.ensures)
+    omega (arith, behind, inner_short bs (steps_of of.otherwise.items), ap step_words is, c.requires.room, c.code_words.ensures)
 
 pub emit_step-code_words-requires-in-Choose : goal.emit_step-code_words-requires-in-Choose
 emit_step-code_words-requires-in-Choose t c =
+    let bs = c.args.bounds.now in
     let of = c.in-Choose in
     let is = ap step_of of.is ∙ step_of-choose of.test of.taken of.otherwise in
-    let b = code_of (steps_of of.taken.items) in
-    let other = code_of (steps_of of.otherwise.items) in
+    let b = block_code bs (steps_of of.taken.items) in
+    let other = block_code bs (steps_of of.otherwise.items) in
     let over = pass_over (size other) in
-    let otherwise = c.in_ok-emit_block-in-Choose.ensures.code ∙ ap (λ s. c.new-other.result.items ++ instructions (code_of (steps_of s))) c.deref.ensures.value
+    let otherwise = c.in_ok-emit_block-in-Choose.ensures.code ∙ ap (λ s. c.new-other.result.items ++ instructions (block_code bs (steps_of s)))
+    c.deref.ensures.value
     ∙ ap (λ l. l ++ instructions other) c.new-other.ensures.items in
     let behind = own_words c.deref-in-Choose-2.result.now other (c.deref-in-Choose-2.ensures.value ∙ otherwise) in
-    let taken = c.in_ok-emit_block-in-Choose-2.ensures.code ∙ ap (λ s. c.new-first.result.items ++ instructions (code_of (steps_of s))) c.deref-in-Choose.ensures.value
+    let taken = c.in_ok-emit_block-in-Choose-2.ensures.code ∙ ap (λ s. c.new-first.result.items ++ instructions (block_code bs (steps_of s)))
+    c.deref-in-Choose.ensures.value
     ∙ ap (λ l. l ++ instructions b) c.new-first.ensures.items in
     let first = c.in_ok-emit_pass_over-in-Choose.ensures
     ∙ ap (λ n. c.emit_block-in-Choose.new.code.items ++ instructions (pass_over n)) (c.code_words.ensures ∙ behind)
     ∙ ap (λ l. l ++ instructions over) taken ∙ sym (instructions-append b over) in
     let words = own_words c.deref-in-Choose-3.result.now (b ++ over) (c.deref-in-Choose-3.ensures.value ∙ first) in
-    omega (arith, words, forms_bytes-append b over, code_short (steps_of of.taken.items), pass_short (size other), ap step_words is, c.requires.room)
+    omega (arith, words, forms_bytes-append b over, inner_short bs (steps_of of.taken.items), pass_short (size other), ap step_words is, c.requires.room)
 
 pub emit_step-emit_test-requires : goal.emit_step-emit_test-requires
 emit_step-emit_test-requires t c =
+    let bs = c.args.bounds.now in
     let of = c.in-Choose in
     let is = ap step_of of.is ∙ step_of-choose of.test of.taken of.otherwise in
-    let b = code_of (steps_of of.taken.items) in
-    let other = code_of (steps_of of.otherwise.items) in
+    let b = block_code bs (steps_of of.taken.items) in
+    let other = block_code bs (steps_of of.otherwise.items) in
     let over = pass_over (size other) in
-    let otherwise = c.in_ok-emit_block-in-Choose.ensures.code ∙ ap (λ s. c.new-other.result.items ++ instructions (code_of (steps_of s))) c.deref.ensures.value
+    let otherwise = c.in_ok-emit_block-in-Choose.ensures.code ∙ ap (λ s. c.new-other.result.items ++ instructions (block_code bs (steps_of s)))
+    c.deref.ensures.value
     ∙ ap (λ l. l ++ instructions other) c.new-other.ensures.items in
     let behind = own_words c.deref-in-Choose-2.result.now other (c.deref-in-Choose-2.ensures.value ∙ otherwise) in
-    let taken = c.in_ok-emit_block-in-Choose-2.ensures.code ∙ ap (λ s. c.new-first.result.items ++ instructions (code_of (steps_of s))) c.deref-in-Choose.ensures.value
+    let taken = c.in_ok-emit_block-in-Choose-2.ensures.code ∙ ap (λ s. c.new-first.result.items ++ instructions (block_code bs (steps_of s)))
+    c.deref-in-Choose.ensures.value
     ∙ ap (λ l. l ++ instructions b) c.new-first.ensures.items in
     let first = c.in_ok-emit_pass_over-in-Choose.ensures
     ∙ ap (λ n. c.emit_block-in-Choose.new.code.items ++ instructions (pass_over n)) (c.code_words.ensures ∙ behind)
@@ -348,46 +443,59 @@ emit_step-emit_test-requires t c =
     let words = own_words c.deref-in-Choose-3.result.now (b ++ over) (c.deref-in-Choose-3.ensures.value ∙ first) in (
       search (rules, word_step.the_lemmas),
       (
-        omega (arith, words, forms_bytes-append b over, code_short (steps_of of.taken.items), pass_short (size other), ap step_words is, c.requires.room, c.code_words-in-Choose.ensures),
+        omega (
+          arith,
+          words,
+          forms_bytes-append b over,
+          inner_short bs (steps_of of.taken.items),
+          pass_short (size other),
+          ap step_words is,
+          c.requires.room,
+          c.code_words-in-Choose.ensures,
+        ),
         (subst (StepLocalsBelow 1008) is c.requires.locals).0,
       ),
     )
 
 pub emit_step-returns-in_ok-extend_from_slice-in-Choose-clause-code : goal.emit_step-returns-in_ok-extend_from_slice-in-Choose-clause-code
 emit_step-returns-in_ok-extend_from_slice-in-Choose-clause-code t c =
+    let bs = c.args.bounds.now in
     let of = c.in-Choose in
     let is = ap step_of of.is ∙ step_of-choose of.test of.taken of.otherwise in
-    let b = code_of (steps_of of.taken.items) in
-    let other = code_of (steps_of of.otherwise.items) in
+    let b = block_code bs (steps_of of.taken.items) in
+    let other = block_code bs (steps_of of.otherwise.items) in
     let over = pass_over (size other) in
-    let otherwise = c.in_ok-emit_block-in-Choose.ensures.code ∙ ap (λ s. c.new-other.result.items ++ instructions (code_of (steps_of s))) c.deref.ensures.value
+    let otherwise = c.in_ok-emit_block-in-Choose.ensures.code ∙ ap (λ s. c.new-other.result.items ++ instructions (block_code bs (steps_of s)))
+    c.deref.ensures.value
     ∙ ap (λ l. l ++ instructions other) c.new-other.ensures.items in
     let behind = own_words c.deref-in-Choose-2.result.now other (c.deref-in-Choose-2.ensures.value ∙ otherwise) in
-    let taken = c.in_ok-emit_block-in-Choose-2.ensures.code ∙ ap (λ s. c.new-first.result.items ++ instructions (code_of (steps_of s))) c.deref-in-Choose.ensures.value
+    let taken = c.in_ok-emit_block-in-Choose-2.ensures.code ∙ ap (λ s. c.new-first.result.items ++ instructions (block_code bs (steps_of s)))
+    c.deref-in-Choose.ensures.value
     ∙ ap (λ l. l ++ instructions b) c.new-first.ensures.items in
     let first = c.in_ok-emit_pass_over-in-Choose.ensures
     ∙ ap (λ n. c.emit_block-in-Choose.new.code.items ++ instructions (pass_over n)) (c.code_words.ensures ∙ behind)
     ∙ ap (λ l. l ++ instructions over) taken ∙ sym (instructions-append b over) in
     let words = own_words c.deref-in-Choose-3.result.now (b ++ over) (c.deref-in-Choose-3.ensures.value ∙ first) in
     let old = c.args.code.now.items in
-    let test = test_code (test_of of.test) false (size (b ++ over)) in
+    let test = test_code bs (test_of of.test) false (size (b ++ over)) in
     let pushes = flushed c.args.waiting.now.items in
     let tested = c.in_ok-emit_test-in-Choose.ensures.code
-    ∙ ap (λ n. c.emit_all.new.code.items ++ instructions (test_code (test_of of.test) false n)) (c.code_words-in-Choose.ensures ∙ words)
+    ∙ ap (λ n. c.emit_all.new.code.items ++ instructions (test_code bs (test_of of.test) false n)) (c.code_words-in-Choose.ensures ∙ words)
     ∙ ap (λ l. l ++ instructions test) c.in_ok-emit_all-in-Choose.ensures.code ∙ two_behind old pushes test in
     let added = c.in_ok-extend_from_slice-in-Choose.ensures.items ∙ ap (λ l. c.emit_test.new.code.items ++ l) (c.deref-in-Choose-4.ensures.value ∙ first)
     ∙ ap (λ l. l ++ instructions (b ++ over)) tested ∙ two_behind old (pushes ++ test) (b ++ over) in
     own_behind c.extend_from_slice-in-Choose.result old _ c.deref-in-Choose-5.result.now _ ((pushes ++ test) ++ (b ++ over)) other _ added
     (c.deref-in-Choose-5.ensures.value ∙ otherwise)
-    (append_assoc (pushes ++ test) (b ++ over) other ∙ append_assoc pushes test ((b ++ over) ++ other) ∙ ap (step_code c.args.waiting.now.items) (sym is))
+    (append_assoc (pushes ++ test) (b ++ over) other ∙ append_assoc pushes test ((b ++ over) ++ other) ∙ ap (step_code bs c.args.waiting.now.items) (sym is))
     (on_ok_items c.extend_from_slice-in-Choose.result _ _ _ c.extend_from_slice-in-Choose.ensures.items)
 
 pub emit_loop-returns-clause-code : goal.emit_loop-returns-clause-code
 emit_loop-returns-clause-code t c =
+    let inner = bound_of c.args.n c.args.below ∷ c.args.bounds.now in
     let old = c.args.code.now.items in
     let pushes = flushed c.args.waiting.now.items in
     let start = number_code c.args.n c.args.from in
-    let turns = turns_code c.args.n c.args.below (code_of (steps_of c.args.body.now)) in
+    let turns = turns_code c.args.n c.args.below (block_code inner (steps_of c.args.body.now)) in
     c.in_ok-emit_number.ensures ∙ ap (λ l. l ++ instructions start) c.in_ok-emit_all.ensures.code ∙ two_behind old pushes start
     ∙ ap (λ l. old ++ instructions (pushes ++ l)) (sym (append-nil start))
     ∙ ap (λ b. old ++ instructions (pushes ++ (start ++ (if b then turns else [])))) (sym (le-ltb c.args.from c.args.below c.if-from-below.false))

@@ -10,4 +10,5 @@ returns-clause-code c =
     let old = c.args.code.now.items in
     let front = top_to_four c.args.waiting.now.items in
     let ms = shift_middle c.args.operation c.args.count in
-    on_ok_weaker c.wait.result (λ w. c.in_ok-emit_shift_middle.ensures ∙ ap (λ l. l ++ instructions ms) c.in_ok-emit_top_to_four.ensures.code ∙ two_behind old front ms) c.wait.ensures
+    on_ok_weaker c.wait.result (λ w. c.in_ok-emit_shift_middle.ensures ∙ ap (λ l. l ++ instructions ms) c.in_ok-emit_top_to_four.ensures.code
+    ∙ two_behind old front ms) c.wait.ensures

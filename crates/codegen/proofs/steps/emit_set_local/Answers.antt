@@ -12,4 +12,5 @@ returns-clause-code c =
     let os = c.args.waiting.now.items in
     let x = source_from (top_of os) in
     one_behind c.emit_move.result c.args.code.now.items c.emit_below.new.code.items c.emit_move.new.code.items (flushed (below_top os))
-    (Move x (local_target c.args.n)) _ c.in_ok-source.ensures.code (ap₂ (λ s d. Two Mov Word s d) c.in_ok-source.ensures.source c.local_target.ensures) c.emit_move.ensures
+    (Move x (local_target c.args.n)) _ c.in_ok-source.ensures.code (ap₂ (λ s d. Two Mov Word s d) c.in_ok-source.ensures.source c.local_target.ensures)
+    c.emit_move.ensures

@@ -12,4 +12,5 @@ returns-clause-code c =
     let os = c.args.waiting.now.items in
     let x = source_from (top_of os) in
     one_behind c.emit_one.result c.args.code.now.items c.emit_below.new.code.items c.emit_one.new.code.items (flushed (below_top os))
-    (Update (plain_instruction c.args.operation) x c.args.address) _ c.in_ok-source.ensures.code (c.two.ensures ∙ ap₂ (λ o s. Two o Word s (dst.Absolute c.args.address)) c.plain_instruction-op.ensures c.in_ok-source.ensures.source) c.emit_one.ensures
+    (Update (plain_instruction c.args.operation) x c.args.address) _ c.in_ok-source.ensures.code
+    (c.two.ensures ∙ ap₂ (λ o s. Two o Word s (dst.Absolute c.args.address)) c.plain_instruction-op.ensures c.in_ok-source.ensures.source) c.emit_one.ensures

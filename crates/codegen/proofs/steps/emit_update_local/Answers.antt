@@ -18,7 +18,8 @@ returns-then-n-lt8-clause-code c =
     let x = source_from (top_of os) in
     let below = flushed (below_top os) in
     let m = Calculate (plain_instruction c.args.operation) x (local_register c.args.n) in
-    subst (λ b. OnOk c.emit_one.result (c.emit_one.new.code.items ≡ old ++ instructions (below ++ (if b then m ∷ [] else (ram_update c.args.operation c.args.n x)))))
+    subst (λ b. OnOk c.emit_one.result (c.emit_one.new.code.items ≡ old
+    ++ instructions (below ++ (if b then m ∷ [] else (ram_update c.args.operation c.args.n x)))))
     (sym (lt-ltb c.args.n 8 c.if-n-lt8.true))
     (one_behind c.emit_one.result old c.emit_below.new.code.items c.emit_one.new.code.items below m _ c.in_ok-source.ensures.code
     (c.two.ensures ∙ ap₂ (λ o s. Two o Word s (dst.Reg (reg.Index c.local_register.result))) c.plain_instruction-op.ensures c.in_ok-source.ensures.source

@@ -1,0 +1,37 @@
+-- Code of updates that is appended piece by piece.
+use Rattle.std.proofs.Common.{◌≡◌, ℕ, ◌+◌, ◌≤◌, List, [], ◌∷◌, ◌++◌, length, sym, ap, ap₂, ◌∙◌, arith, append_assoc}
+use Rattle.msp_isa.specs.declared.instructions.Condition.TheVariants as condition
+use Rattle.msp_isa.specs.declared.instructions.Instr.{Instr}
+use Rattle.code_forms.specs.Forms.{Form, Jump, instruction_of}
+use Rattle.code_forms.specs.Code.{forms_bytes}
+use Rattle.code_forms.specs.Placed.{instructions, words_of as instruction_words}
+use Rattle.code_forms.proofs.Interface.{forms_bytes-append, instructions-append}
+use Rattle.codegen.specs.Code.{size, by_version}
+use Rattle.codegen.proofs.Jumps.{whole_size}
+use Rattle.codegen.proofs.Emitted.{own_words}
+
+-- the words of a piece that was made by itself
+pub few_words : (own : List Instr) (ms : List Form) → own ≡ instructions ms → forms_bytes ms ≤ 1000 → length (instruction_words own) ≤ 500
+few_words own ms e l = omega (arith, own_words own ms e, l, whole_size ms)
+
+-- two ways that were made by themselves
+pub two_ways : (xs ys : List Instr) (again first : List Form) → xs ≡ instructions again → ys ≡ instructions first
+    → (instruction_of (Jump condition.NotEqual (length (instruction_words xs) + 1))
+    ∷ (xs ++ (instruction_of (Jump condition.Always (length (instruction_words ys))) ∷ ys))) ≡ instructions (by_version again first)
+two_ways xs ys again first e f =
+    let leave = Jump condition.Always (size first) ∷ [] in
+    let next = again ++ leave in
+    let from : ℕ → Instr = λ n. instruction_of (Jump condition.NotEqual n) in
+    let over : ℕ → Instr = λ n. instruction_of (Jump condition.Always n) in
+    let here : length (instruction_words xs) + 1 ≡ size next =
+    omega (arith, own_words xs again e, forms_bytes-append again leave, whole_size again, whole_size next) in
+    let there : length (instruction_words ys) ≡ size first = own_words ys first f in
+    let split : instructions (next ++ first) ≡ instructions again ++ (over (size first) ∷ instructions first) =
+    instructions-append next first ∙ ap (λ l. l ++ instructions first) (instructions-append again leave)
+    ∙ append_assoc (instructions again) (over (size first) ∷ []) (instructions first) in
+    ap (λ n. from n ∷ (xs ++ (over (length (instruction_words ys)) ∷ ys))) here ∙ ap (λ n. from (size next) ∷ (xs ++ (over n ∷ ys))) there
+    ∙ ap₂ (λ a b. from (size next) ∷ (a ++ (over (size first) ∷ b))) e f ∙ ap (λ l. from (size next) ∷ l) (sym split)
+
+-- four pieces, each behind what is there
+pub four_behind : (l a b c d : List Instr) → (((l ++ a) ++ b) ++ c) ++ d ≡ l ++ (a ++ (b ++ (c ++ d)))
+four_behind l a b c d = append_assoc ((l ++ a) ++ b) c d ∙ append_assoc (l ++ a) b (c ++ d) ∙ append_assoc l a (b ++ (c ++ d))

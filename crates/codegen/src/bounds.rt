@@ -1,0 +1,76 @@
+//! Indices of arrays: whether one is surely below a length, since a loop around the code ends before, and the check of any other.
+
+ghost use Rattle.std.specs.Prelude.{◌≡◌, ◌∷◌, ◌++◌, ◌<◌, OnOk, IfOk};
+ghost use Rattle.code_forms.specs.Placed.{instructions};
+ghost use Rattle.codegen.specs.Code.{check_code, zero_code, bound_of, is_bounded, is_inside};
+
+use crate::forms::{TO_R4, constant, jump, number_source, two};
+use crate::waiting::Waiting;
+use msp_isa::{Condition, Instr, Konst, TwoOp};
+use std::alloc::{AllocError, Global};
+
+/// A local is below a number in the body of its loop.
+#[derive(Clone, Copy, Debug, PartialEq, Eq)]
+pub struct Bound {
+    pub local: u16,
+    pub below: u16,
+}
+
+/// The bounds in a loop's body: its own in front of those around it.
+pub fn bounds_within(
+    alloc: Global,
+    local: u16,
+    below: u16,
+    around: &[Bound],
+) -> Result<Vec<Bound>, AllocError>
+    ensures { IfOk result (λ bounds. bounds.items ≡ bound_of local below ∷ around.now) }
+{
+    let mut bounds = Vec::new(alloc);
+    bounds.push(Bound { local, below })?;
+    bounds.extend_from_slice(around)?;
+    Ok(bounds)
+}
+
+// A local is surely below a length: a loop around the code ends its turns there or before.
+fn is_bounded(bounds: &[Bound], n: u16, length: u16) -> bool
+    ensures { result ≡ is_bounded bounds.now n length }
+{
+    for bound in bounds {
+        if bound.local == n && bound.below <= length {
+            return true;
+        }
+    }
+    false
+}
+
+/// An index that waits is surely below a length: a number that is, or such a local.
+pub fn is_inside(bounds: &[Bound], index: Option<Waiting>, length: u16) -> bool
+    ensures { result ≡ is_inside bounds.now index length }
+{
+    match index {
+        Some(Waiting::Number(number)) => number < length,
+        Some(Waiting::Local(n)) => is_bounded(bounds, n, length),
+        Some(Waiting::Fram(_) | Waiting::R4 | Waiting::R6) | None => false,
+    }
+}
+
+/// Appends the check of the index in R4: where it isn't below a length, over so many words.
+pub fn emit_check(length: u16, over: u16, code: &mut Vec<Instr>) -> Result<(), AllocError>
+    requires { over < 0x400 }
+    ensures { OnOk result (code.new.items ≡ code.old.items ++ instructions (check_code length over)) }
+{
+    code.extend_from_slice(&[
+        two(TwoOp::Cmp, number_source(length), TO_R4),
+        jump(Condition::Carry, over),
+    ])
+}
+
+/// Appends what the check goes to: R4 becomes 0; the code in front of it goes over that.
+pub fn emit_zero(code: &mut Vec<Instr>) -> Result<(), AllocError>
+    ensures { OnOk result (code.new.items ≡ code.old.items ++ instructions zero_code) }
+{
+    code.extend_from_slice(&[
+        jump(Condition::Always, 1),
+        two(TwoOp::Mov, constant(Konst::Zero), TO_R4),
+    ])
+}

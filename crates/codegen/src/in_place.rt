@@ -1,0 +1,241 @@
+//! The code of elements that are updated in place.
+
+ghost use Rattle.std.specs.Prelude.{◌≡◌, [], ◌∷◌, ◌++◌, ◌+◌, ◌<◌, OnOk, length};
+ghost use Rattle.code_forms.specs.Forms as form;
+ghost use Rattle.code_forms.specs.Placed.{instructions, words_of as instruction_words};
+ghost use Rattle.msp_isa.specs.declared.instructions.Condition.TheVariants as conditions;
+ghost use Rattle.array_versions.specs.Form.{ArrayOfWords, ListOfWords};
+ghost use Rattle.array_versions.specs.Program as value;
+ghost use Rattle.codegen.specs.Code.{flushed, top_of, below_top, four_from, top_number, rest_source, to_rest, made_code, attempt_form};
+ghost use Rattle.codegen.specs.Code.{first_update, inside_update, checked_update, indexed_update, known_update, if_below, step_code};
+
+use crate::bounds::{Bound, is_inside};
+use crate::decisions::code_words;
+use crate::forms::{R4, R7, TO_R4, TO_R6, TO_R7, absolute, jump, two};
+use crate::operations::plain_instruction;
+use crate::versioned::{at_r4, emit_first};
+use crate::waiting::{
+    Waiting, emit_all, emit_to_four, emit_to_rest, rest_source, take, top_number, under_top,
+};
+use array_versions::{ArrayPlace, ListPlace, PlainOperation};
+use msp_isa::{Condition, Dst, IndexRegister, Instr, Src, TwoOp};
+use std::alloc::{AllocError, Global};
+
+// A copy becomes what an operation gives of a word and of the right side; R4 is the offset of both in their arrays.
+fn emit_made(
+    operation: PlainOperation,
+    right: Option<Waiting>,
+    from: u16,
+    copies: u16,
+    code: &mut Vec<Instr>,
+) -> Result<(), AllocError>
+    ensures { OnOk result (code.new.items ≡ code.old.items ++ instructions (made_code operation (rest_source right) from copies)) }
+{
+    code.extend_from_slice(&[
+        two(TwoOp::Mov, at_r4(from), TO_R7),
+        two(plain_instruction(operation), rest_source(right), TO_R7),
+        two(TwoOp::Mov, R7, Dst::Indexed(IndexRegister::R4, copies)),
+    ])
+}
+
+// VER's word to R6.
+fn attempt_number(list: ListPlace) -> Instr
+    ensures { result ≡ form.instruction_of (attempt_form list) }
+{
+    two(TwoOp::Mov, absolute(list.ver), TO_R6)
+}
+
+// The first update of an element in an attempt.
+fn emit_first_update(
+    operation: PlainOperation,
+    right: Option<Waiting>,
+    place: ArrayPlace,
+    list: ListPlace,
+    code: &mut Vec<Instr>,
+) -> Result<(), AllocError>
+    ensures { OnOk result (code.new.items ≡ code.old.items ++ instructions (first_update operation (rest_source right) place list)) }
+{
+    emit_made(operation, right, place.elements, place.copies, code)?;
+    code.extend_from_slice(&[attempt_number(list)])?;
+    emit_first(place, list, code)
+}
+
+// Behind a comparison of the version word with VER's: one way where they are equal, else the other.
+fn emit_by_version(
+    again: &[Instr],
+    first: &[Instr],
+    code: &mut Vec<Instr>,
+) -> Result<(), AllocError>
+    requires again { length (instruction_words again.now) + 1 < 0x400 }
+    requires first { length (instruction_words first.now) < 0x400 }
+    ensures { OnOk result (code.new.items ≡ code.old.items
+        ++ (form.instruction_of (form.Jump conditions.NotEqual (length (instruction_words again.now) + 1))
+        ∷ (again.now ++ (form.instruction_of (form.Jump conditions.Always (length (instruction_words first.now))) ∷ first.now)))) }
+{
+    code.extend_from_slice(&[jump(Condition::NotEqual, code_words(again) + 1)])?;
+    code.extend_from_slice(again)?;
+    code.extend_from_slice(&[jump(Condition::Always, code_words(first))])?;
+    code.extend_from_slice(first)
+}
+
+// An update at the index in R4, which is below the length.
+fn emit_inside(
+    alloc: Global,
+    operation: PlainOperation,
+    right: Option<Waiting>,
+    place: ArrayPlace,
+    list: ListPlace,
+    code: &mut Vec<Instr>,
+) -> Result<(), AllocError>
+    ensures { OnOk result (code.new.items ≡ code.old.items ++ instructions (inside_update operation (rest_source right) place list)) }
+{
+    let mut again = Vec::new(alloc);
+    emit_made(operation, right, place.copies, place.copies, &mut again)?;
+    let mut first = Vec::new(alloc);
+    emit_first_update(operation, right, place, list, &mut first)?;
+    code.extend_from_slice(&[
+        two(TwoOp::Add, R4, TO_R4),
+        attempt_number(list),
+        two(TwoOp::Cmp, at_r4(place.versions), TO_R6),
+    ])?;
+    emit_by_version(&again, &first, code)
+}
+
+// At any index in R4.
+fn emit_checked(
+    alloc: Global,
+    operation: PlainOperation,
+    right: Option<Waiting>,
+    place: ArrayPlace,
+    list: ListPlace,
+    code: &mut Vec<Instr>,
+) -> Result<(), AllocError>
+    ensures { OnOk result (code.new.items ≡ code.old.items ++ instructions (checked_update operation (rest_source right) place list)) }
+{
+    let mut inside = Vec::new(alloc);
+    emit_inside(alloc, operation, right, place, list, &mut inside)?;
+    code.extend_from_slice(&[
+        two(TwoOp::Cmp, Src::Immediate(place.length), TO_R4),
+        jump(Condition::Carry, code_words(&inside)),
+    ])?;
+    code.extend_from_slice(&inside)
+}
+
+// At any index in R4, which may be surely below the length.
+fn emit_indexed_update(
+    alloc: Global,
+    sure: bool,
+    operation: PlainOperation,
+    right: Option<Waiting>,
+    place: ArrayPlace,
+    list: ListPlace,
+    code: &mut Vec<Instr>,
+) -> Result<(), AllocError>
+    ensures { OnOk result (code.new.items
+        ≡ code.old.items ++ instructions (indexed_update sure operation (rest_source right) place list)) }
+{
+    if sure {
+        emit_inside(alloc, operation, right, place, list, code)
+    } else {
+        emit_checked(alloc, operation, right, place, list, code)
+    }
+}
+
+// At a number that is known and below the length.
+fn emit_known(
+    alloc: Global,
+    operation: PlainOperation,
+    right: Option<Waiting>,
+    place: ArrayPlace,
+    list: ListPlace,
+    index: u16,
+    code: &mut Vec<Instr>,
+) -> Result<(), AllocError>
+    ensures { OnOk result (code.new.items ≡ code.old.items ++ instructions (known_update operation (rest_source right) place list index)) }
+{
+    let offset = index.wrapping_add(index);
+    let copy = place.copies.wrapping_add(offset);
+    let version = place.versions.wrapping_add(offset);
+    let again = [two(
+        plain_instruction(operation),
+        rest_source(right),
+        Dst::Absolute(copy),
+    )];
+    let mut first = Vec::new(alloc);
+    first.extend_from_slice(&[two(TwoOp::Mov, Src::Immediate(offset), TO_R4)])?;
+    emit_first_update(operation, right, place, list, &mut first)?;
+    code.extend_from_slice(&[
+        attempt_number(list),
+        two(TwoOp::Cmp, absolute(version), TO_R6),
+    ])?;
+    emit_by_version(&again, &first, code)
+}
+
+// The number on top, where it waits and is below a length.
+fn number_below(length: u16, waiting: &[Waiting]) -> Option<u16>
+    ensures { result ≡ if_below length (top_number (top_of waiting.now)) }
+{
+    match top_number(waiting) {
+        Some(number) => { if number < length { Some(number) } else { None } }
+        None => None,
+    }
+}
+
+// Brings the right side, which is taken, to where it is read; all words that wait are pushed.
+fn emit_rest(
+    right: Option<Waiting>,
+    waiting: &mut Vec<Waiting>,
+    code: &mut Vec<Instr>,
+) -> Result<(), AllocError>
+    ensures code { OnOk result (code.new.items ≡ code.old.items ++ instructions (flushed waiting.old.items ++ to_rest right)) }
+    ensures waiting { OnOk result (waiting.new.items ≡ []) }
+{
+    emit_all(waiting, code)?;
+    emit_to_rest(right, code)
+}
+
+// The same, and takes the index, which is the top, to R4.
+fn emit_rest_and_index(
+    right: Option<Waiting>,
+    waiting: &mut Vec<Waiting>,
+    code: &mut Vec<Instr>,
+) -> Result<(), AllocError>
+    ensures code { OnOk result (code.new.items ≡ code.old.items
+        ++ instructions (flushed (below_top waiting.old.items) ++ (to_rest right ++ four_from (top_of waiting.old.items)))) }
+    ensures waiting { OnOk result (waiting.new.items ≡ []) }
+{
+    let index = take(waiting);
+    emit_all(waiting, code)?;
+    emit_to_rest(right, code)?;
+    emit_to_four(index, code)
+}
+
+/// Appends the code of an element that is updated in place.
+pub fn emit_versioned_update(
+    alloc: Global,
+    bounds: &[Bound],
+    operation: PlainOperation,
+    place: ArrayPlace,
+    list: ListPlace,
+    waiting: &mut Vec<Waiting>,
+    code: &mut Vec<Instr>,
+) -> Result<(), AllocError>
+    ensures code { OnOk result (code.new.items
+        ≡ code.old.items ++ instructions (step_code bounds.now waiting.old.items (value.versioned_update operation place list))) }
+    ensures waiting { OnOk result (waiting.new.items ≡ []) }
+    ensures of_words { OnOk result (ArrayOfWords place × ListOfWords list) }
+{
+    let sure = is_inside(bounds, under_top(waiting), place.length);
+    let right = take(waiting);
+    match number_below(place.length, waiting) {
+        Some(index) => {
+            take(waiting);
+            emit_rest(right, waiting, code)?;
+            emit_known(alloc, operation, right, place, list, index, code)
+        }
+        None => {
+            emit_rest_and_index(right, waiting, code)?;
+            emit_indexed_update(alloc, sure, operation, right, place, list, code)
+        }
+    }
+}

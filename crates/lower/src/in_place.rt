@@ -1,0 +1,120 @@
+//! What an assignment in place does: where the left side of its operator is what is assigned.
+ghost use Rattle.std.specs.Prelude.{◌≡◌};
+ghost use Rattle.task_ast.specs.View.{expression_of};
+ghost use Rattle.lower.specs.Lowered.{is_same, is_name, updating, is_number, are_alike, is_element, element_updating};
+
+use crate::operations::plain_operation;
+use array_versions::PlainOperation;
+use task_ast::{BinaryOperator, Expr, Variable, VariableName};
+
+// Whether two variables are one.
+fn is_same(first: Variable, second: Variable) -> bool
+    ensures { result ≡ is_same first second }
+{
+    match (first, second) {
+        (Variable::Shared(v), Variable::Shared(w)) => v == w,
+        (Variable::Local(m), Variable::Local(n)) => m == n,
+        (Variable::Shared(_), Variable::Local(_)) | (Variable::Local(_), Variable::Shared(_)) =>
+            false,
+    }
+}
+
+// Whether an expression is a variable alone.
+fn is_name(variable: Variable, e: &Expr<VariableName>) -> bool
+    ensures { result ≡ is_name variable (expression_of e.now) }
+{
+    match e {
+        Expr::Name(name) => is_same(variable, name.variable),
+        Expr::Number(_)
+        | Expr::LongNumber(_)
+        | Expr::Element(..)
+        | Expr::Sense
+        | Expr::Unary(..)
+        | Expr::Binary(..)
+        | Expr::Shift(..)
+        | Expr::ShortCircuit(..) => false,
+    }
+}
+
+/// The operation that sets a variable to what an operator gives of it, on the left, and of another side.
+pub fn updating(
+    variable: Variable,
+    op: BinaryOperator,
+    left: &Expr<VariableName>,
+) -> Option<PlainOperation>
+    ensures { result ≡ updating variable op (expression_of left.now) }
+{
+    if is_name(variable, left) {
+        plain_operation(op)
+    } else {
+        None
+    }
+}
+
+// Whether an expression is this number.
+fn is_number(n: u16, e: &Expr<VariableName>) -> bool
+    ensures { result ≡ is_number n (expression_of e.now) }
+{
+    match e {
+        Expr::Number(m) => n == *m,
+        Expr::LongNumber(_)
+        | Expr::Name(_)
+        | Expr::Element(..)
+        | Expr::Sense
+        | Expr::Unary(..)
+        | Expr::Binary(..)
+        | Expr::Shift(..)
+        | Expr::ShortCircuit(..) => false,
+    }
+}
+
+// Whether two expressions are one number or one variable alone.
+fn are_alike(first: &Expr<VariableName>, second: &Expr<VariableName>) -> bool
+    ensures { result ≡ are_alike (expression_of first.now) (expression_of second.now) }
+{
+    match first {
+        Expr::Number(n) => is_number(*n, second),
+        Expr::Name(name) => is_name(name.variable, second),
+        Expr::LongNumber(_)
+        | Expr::Element(..)
+        | Expr::Sense
+        | Expr::Unary(..)
+        | Expr::Binary(..)
+        | Expr::Shift(..)
+        | Expr::ShortCircuit(..) => false,
+    }
+}
+
+// Whether an expression is the element of a variable at an index that is a number or a variable alone.
+fn is_element(variable: Variable, index: &Expr<VariableName>, e: &Expr<VariableName>) -> bool
+    ensures { result ≡ is_element variable (expression_of index.now) (expression_of e.now) }
+{
+    match e {
+        Expr::Element(x, other) => is_same(variable, x.variable) && are_alike(index, other),
+        Expr::Number(_)
+        | Expr::LongNumber(_)
+        | Expr::Name(_)
+        | Expr::Sense
+        | Expr::Unary(..)
+        | Expr::Binary(..)
+        | Expr::Shift(..)
+        | Expr::ShortCircuit(..) => false,
+    }
+}
+
+/// The operation that sets an element to what an operator gives of it, on the left, and of another side. Both indexes are one
+/// number or one variable alone, so that it is one element.
+pub fn element_updating(
+    variable: Variable,
+    index: &Expr<VariableName>,
+    op: BinaryOperator,
+    left: &Expr<VariableName>,
+) -> Option<PlainOperation>
+    ensures { result ≡ element_updating variable (expression_of index.now) op (expression_of left.now) }
+{
+    if is_element(variable, index, left) {
+        plain_operation(op)
+    } else {
+        None
+    }
+}
