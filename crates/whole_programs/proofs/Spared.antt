@@ -148,14 +148,14 @@ module _ (p : Places) (n : ℕ) where
       spares_joined n (index_and_value p index e) (one s)
       (spares_joined n (lowered_expression p index) (lowered_expression p e) (expression_spares index) (expression_spares e)) (h, tt)
 
-  element_sides_spare : (x : Variable) (index : CheckedExpression) (op : BinaryOperator) (a b : CheckedExpression) (o : Option PlainOperation)
+  element_sides_spare : (x : Variable) (index : CheckedExpression) (op : PlacedOperator) (a b : CheckedExpression) (o : Option PlainOperation)
       → Spares n (element_sides_set p x index op a b o)
   element_sides_spare x index op a b None = index_and_value_spare index (t.binary op a b) (store_step p x) tt
   element_sides_spare x index op a b (Some o) = index_and_value_spare index b (update_element_step p o x) tt
 
   -- the first clause makes it a proof by cases
   element_assignment_spares : (x : Variable) (index e : CheckedExpression) → Spares n (element_assignment p x index e)
-  element_assignment_spares x index (t.binary op a b) = element_sides_spare x index op a b (element_updating x index op a)
+  element_assignment_spares x index (t.binary op a b) = element_sides_spare x index op a b (element_updating x index op.operator a)
   element_assignment_spares x index e = index_and_value_spare index e (store_step p x) tt
 
   entries_spare : (count list : ℕ) (runs : List Run) → Spares n (entries count list runs)

@@ -255,7 +255,7 @@ module _ (p : Places) (words : PlacesOfWords p) where
     element_setting_sound room x index e f g m n =
         index_and_value_sound index e (store_step p x) (expression_sound room 0 index f m) (expression_sound room 1 e g n) (store_sound x)
 
-    element_sides_sound : (room : ℕ) (x : Variable) (index : CheckedExpression) (op : BinaryOperator) (a b : CheckedExpression) (o : Option PlainOperation)
+    element_sides_sound : (room : ℕ) (x : Variable) (index : CheckedExpression) (op : PlacedOperator) (a b : CheckedExpression) (o : Option PlainOperation)
         → ExpressionFits room 0 index → ExpressionFits room 1 (t.binary op a b) → ExpressionUses shared index → ExpressionUses shared (t.binary op a b)
         → Sound (element_sides_set p x index op a b o)
     element_sides_sound room x index op a b None f g m n = element_setting_sound room x index (t.binary op a b) f g m n
@@ -266,7 +266,7 @@ module _ (p : Places) (words : PlacesOfWords p) where
     -- the first clause makes it a proof by cases
     element_assignment_sound : (room : ℕ) (x : Variable) (index e : CheckedExpression) → ExpressionFits room 0 index → ExpressionFits room 1 e
         → ExpressionUses shared index → ExpressionUses shared e → Sound (element_assignment p x index e)
-    element_assignment_sound room x index (t.binary op a b) f g m n = element_sides_sound room x index op a b (element_updating x index op a) f g m n
+    element_assignment_sound room x index (t.binary op a b) f g m n = element_sides_sound room x index op a b (element_updating x index op.operator a) f g m n
     element_assignment_sound room x index e f g m n = element_setting_sound room x index e f g m n
 
     -- a loop by its local

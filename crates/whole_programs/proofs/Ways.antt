@@ -401,7 +401,7 @@ module _ (room : ℕ) (p : Places) (shared : List SharedDeclaration) (even : p.m
       (joined_way room (lowered_expression p index) (lowered_expression p e) (EachWay room (one s) next) (at 0 a)
       (expression_way room p 0 a index _ f q (expression_way room p 1 a e _ g r h)))
 
-  element_sides_way : (a : ℕ → Bool) (x : Variable) (index : CheckedExpression) (op : BinaryOperator) (b e : CheckedExpression) (o : Option PlainOperation)
+  element_sides_way : (a : ℕ → Bool) (x : Variable) (index : CheckedExpression) (op : PlacedOperator) (b e : CheckedExpression) (o : Option PlainOperation)
       (next : Place → Type 0) → ExpressionFits room 0 index → ExpressionFits room 1 (t.binary op b e)
       → ReadsAssigned a index → ReadsAssigned a (t.binary op b e) → Moves room 2 0 next (at 2 a)
       → EachWay room (element_sides_set p x index op b e o) next (at 0 a)
@@ -414,7 +414,7 @@ module _ (room : ℕ) (p : Places) (shared : List SharedDeclaration) (even : p.m
       → ExpressionFits room 1 e → ReadsAssigned a index → ReadsAssigned a e → Moves room 2 0 next (at 2 a)
       → EachWay room (element_assignment p x index e) next (at 0 a)
   element_assignment_way a x index (t.binary op b e) next f g q r h =
-      element_sides_way a x index op b e (element_updating x index op b) next f g q r h
+      element_sides_way a x index op b e (element_updating x index op.operator b) next f g q r h
   element_assignment_way a x index e next f g q r h = index_and_value_way a index e (store_step p x) next f g q r h
 
   -- of an index and a value
