@@ -107,5 +107,6 @@ pub fn compile(alloc: Global, text: &[u8]) -> Result<Image, SourceFault>
     ensures refused { IfErr result (IsUncompiled text.now) }
 {
     let accepted = accept(alloc, text)?;
-    link(alloc, &accepted)
+    let image = link(alloc, &accepted)?;
+    Ok(image)
 }
