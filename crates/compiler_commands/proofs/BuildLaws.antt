@@ -1,5 +1,5 @@
 -- What keeps a text from being built.
-use Rattle.std.proofs.Common.{◌≡◌, ◌∙◌, ℕ, List, codes, Some, refl, ap, sym, subst}
+use Rattle.std.proofs.Common.{◌≡◌, ℕ, List, codes, Some, ap, sym}
 use Rattle.plain_commands.specs.source_values.Runs.{CheckedProgram}
 use Rattle.plain_commands.specs.cost_bound.declared.allowance.Allow.{Allow}
 use Rattle.plain_commands.specs.source_meaning.Acceptance.{IsAcceptedText}

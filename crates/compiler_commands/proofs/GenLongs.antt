@@ -1,15 +1,12 @@
 -- A generated source has no long: its letters leave neither the keyword nor a long number.
 use Rattle.std.proofs.Common.{◌≡◌, ◌-◌, ◌<◌, ℕ, zero, suc, Bool, true, false, cond, List, [], ◌∷◌, codes, length, take, drop, get_or, Option, Some, None}
 use Rattle.std.proofs.Common.{refl, sym, ap, subst, arith}
-use Rattle.std.specs.Prelude.{All}
-use Rattle.std.specs.Str.{bytes_eq}
 use Rattle.std.proofs.lemmas.List.Elements.{All-weaker}
 use Rattle.std.proofs.lemmas.Slice.Eq.{bytes_eq-Decides}
 use Rattle.link_image.specs.task_lex.declared.token.Token.{Token}
 use Rattle.link_image.specs.task_lex.declared.token.Kind.{Kind}
 use Rattle.link_image.specs.task_lex.declared.token.Kind.TheVariants as k
 use Rattle.link_image.specs.task_lex.declared.piece.Numeral.{Numeral}
-use Rattle.link_image.specs.task_lex.Lex.{lexed, tokens}
 use Rattle.link_image.specs.task_lex.Pieces.{spelling, has_suffix, number_to, word_numeral, long_numeral, numeral}
 use Rattle.link_image.specs.task_lex.Slices.{Spells, fixed, name, worth, IsSlice}
 use Rattle.link_image.proofs.task_lex.Interface.{are_slices}

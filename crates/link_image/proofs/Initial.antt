@@ -10,7 +10,7 @@ use Rattle.task_ast.specs.declared.Extent.{Extent}
 use Rattle.task_ast.specs.declared.Extent.TheVariants as extent
 use Rattle.linked_code.specs.task_lex.declared.token.Token.{Token}
 use Rattle.linked_code.specs.task_lex.Lex.{depth_after}
-use Rattle.whole_programs.specs.task_parse.Grammar.{Row, IsExtent, IsWorth, IsLongExtent, IsShared, IsProgram, negated, long_negated, long_worth}
+use Rattle.whole_programs.specs.task_parse.Grammar.{Row, IsExtent, IsWorth, IsLongExtent, IsShared, IsProgram, negated}
 use Rattle.whole_programs.specs.task_parse.Parsed.{Program}
 use Rattle.whole_programs.specs.task_parse.Grammar as grammar
 use Rattle.whole_programs.specs.source_values.Runs.{CheckedProgram, initial_words, initial_rows}

@@ -7,7 +7,7 @@ use Rattle.std.specs.Prelude.{flat_map, ◌==◌}
 use Rattle.std.proofs.lemmas.Bool.{eqb-true, eqb-false}
 use Rattle.std.proofs.lemmas.Fmt.{decimal_by_steps}
 use Rattle.source_generator.specs.Draws.{next, drawn, draws, behind}
-use Rattle.source_generator.specs.Source.{texts, template, letter_text, filled, statement_text, scalar_text, scalar_texts, task_head, task_end, task_text}
+use Rattle.source_generator.specs.Source.{template, letter_text, filled, statement_text, scalar_text, scalar_texts, task_head, task_end, task_text}
 use Rattle.source_generator.specs.Source.{task_texts, generated_text}
 use Rattle.source_generator.proofs.Lengths.{drawn_small}
 

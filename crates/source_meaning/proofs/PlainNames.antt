@@ -1,12 +1,11 @@
 -- The names of a source without longs are looked up as variables of one word.
-use Rattle.std.proofs.Common.{◌≡◌, ◌∙◌, ℕ, Bool, true, false, List, [], ◌∷◌, ◌++◌, length, map, Option, Some, None, ap, sym, subst}
+use Rattle.std.proofs.Common.{ℕ, Bool, true, false, List, [], ◌∷◌, ◌++◌, length, map, Option, Some, None, sym, subst}
 use Rattle.std.specs.Prelude.{All, nat_le, nat_lt, ◌&&◌, cond}
 use Rattle.std.specs.Option.{option_or}
 use Rattle.std.specs.Str.{bytes_eq}
 use Rattle.std.proofs.lemmas.List.Elements.{All-nil, All-cons, All-head, All-tail}
 use Rattle.source_values.specs.alp_text.declared.lines.Span.{Span}
 use Rattle.task_ast.specs.declared.WordType.{WordType}
-use Rattle.task_ast.specs.declared.Extent.{Extent}
 use Rattle.task_ast.specs.declared.Extent.TheVariants as extent
 use Rattle.task_ast.specs.declared.SharedDeclaration.{SharedDeclaration}
 use Rattle.task_ast.specs.declared.names.VariableName.{VariableName}
@@ -14,7 +13,7 @@ use Rattle.task_ast.specs.declared.names.TaskName.{TaskName}
 use Rattle.task_ast.specs.Tree.{Expression, Statement, Choice, Block, Task, Program}
 use Rattle.task_ast.specs.Tree as t
 use Rattle.task_ast.specs.Types.{IsOneWord}
-use Rattle.task_ast.specs.Longs.{IsPlainShared, IsPlainExpression, IsPlainValue, IsPlainStatement, IsPlainChoice, IsPlainBlock, IsPlainProgram, IsWordVariable}
+use Rattle.task_ast.specs.Longs.{IsPlainShared, IsPlainExpression, IsPlainStatement, IsPlainChoice, IsPlainBlock, IsPlainProgram, IsWordVariable}
 use Rattle.task_ast.specs.Longs.{IsPlain}
 use Rattle.task_check.specs.declared.occurrence.Role.{Role}
 use Rattle.task_check.specs.declared.occurrence.Role.TheVariants as role
@@ -24,13 +23,13 @@ use Rattle.task_check.specs.declared.symbol.Symbol.TheVariants as symbol
 use Rattle.task_check.specs.declared.symbol.Global.{Global}
 use Rattle.task_check.specs.declared.symbol.Local.{Local}
 use Rattle.task_check.specs.declared.symbol.TypedVariable.{TypedVariable}
-use Rattle.task_check.specs.Scope.{text_of, shared_in, tasks_in, locals_in, global_with, global_in, local_with, local_in, if_named, known_local, or_global}
+use Rattle.task_check.specs.Scope.{text_of, shared_in, tasks_in, locals_in, global_with, global_in, local_with, local_in, if_named, or_global}
 use Rattle.task_check.specs.Scope.{meaning}
 use Rattle.task_check.specs.Occurrences.{and_front, element_front, expression_names, value_names, statement_names, choice_names, names_up_to, task_names}
 use Rattle.task_check.specs.Occurrences.{shared_names}
 use Rattle.task_check.specs.Occurrences.{program_names}
 use Rattle.task_check.specs.SharedTypes.{shared_type}
-use Rattle.task_check.specs.LookedUp.{expression_back, statement_back, choice_back, block_back, task_back, program_back, expression_variables, value_variables}
+use Rattle.task_check.specs.LookedUp.{expression_back, statement_back, choice_back, block_back, task_back, expression_variables}
 use Rattle.task_check.specs.LookedUp.{statement_variables, choice_variables, block_variables, task_variables, variable_of, symbol_by, symbol_at, variable_by}
 use Rattle.task_check.specs.LookedUp.{variables_in}
 use Rattle.task_check.specs.LookedUp.{behind}

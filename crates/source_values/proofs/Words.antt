@@ -7,7 +7,7 @@ use Rattle.task_ast.specs.Tree.{Expression}
 use Rattle.task_ast.specs.Types.{IsOneWord}
 use Rattle.task_ast.proofs.Interface.{by_one_word}
 use Rattle.source_values.specs.Values.{Variables, word_at, scalar_value, converted, type_of}
-use Rattle.source_values.specs.Statements.{Attempt, assigned, assigned_to, assigned_value, word_of}
+use Rattle.source_values.specs.Statements.{Attempt, assigned, assigned_value, word_of}
 
 pub scalar_word : (m : Variables) (x : VariableName) → IsOneWord x.word_type → scalar_value m x ≡ word_at m x.variable 0
 scalar_word m x h = by_one_word x.word_type _ _ h

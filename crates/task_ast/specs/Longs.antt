@@ -1,5 +1,5 @@
 -- Sources without longs.
-use Rattle.std.specs.Prelude.{List, All, Option, Some, None}
+use Rattle.std.specs.Prelude.{All, Option, Some, None}
 use Rattle.task_ast.specs.Tree as t
 use Rattle.task_ast.specs.Tree.{Expression, Statement, Choice, Block, Program}
 use Rattle.task_ast.specs.Types.{IsOneWord}

@@ -3,7 +3,6 @@ use Rattle.std.proofs.Common.{◌≡◌, ℕ, zero, suc, ◌+◌, ◌-◌, ◌�
 use Rattle.std.proofs.Common.{subst, arith, Option, Some, None}
 use Rattle.task_lex.specs.declared.token.Token.{Token}
 use Rattle.task_lex.specs.declared.token.Kind.{Kind}
-use Rattle.task_lex.specs.declared.token.Kind.TheVariants as k
 use Rattle.task_lex.specs.declared.piece.Piece.{Piece}
 use Rattle.task_lex.specs.declared.piece.Piece.TheVariants as piece
 use Rattle.task_lex.specs.declared.piece.Numeral.{Numeral}

@@ -6,7 +6,6 @@ use Rattle.std.proofs.lemmas.List.{take-append-drop, drop-drop, drop_all}
 use Rattle.std.proofs.Math.Seq.{take-add}
 use Rattle.task_lex.specs.declared.token.Token.{Token}
 use Rattle.task_lex.specs.declared.token.Kind.{Kind}
-use Rattle.task_lex.specs.declared.token.Kind.TheVariants as k
 use Rattle.task_lex.specs.declared.piece.Piece.{Piece}
 use Rattle.task_lex.specs.declared.piece.Piece.TheVariants as piece
 use Rattle.task_lex.specs.declared.piece.Numeral.{Numeral}

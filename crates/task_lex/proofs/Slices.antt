@@ -7,7 +7,6 @@ use Rattle.std.proofs.lemmas.List.Elements.{All-cons}
 use Rattle.std.proofs.lemmas.Slice.Eq.{bytes_eq-Decides}
 use Rattle.task_lex.specs.declared.token.Token.{Token}
 use Rattle.task_lex.specs.declared.token.Kind.{Kind}
-use Rattle.task_lex.specs.declared.token.Kind.TheVariants as k
 use Rattle.task_lex.specs.declared.piece.Piece.{Piece}
 use Rattle.task_lex.specs.declared.piece.Piece.TheVariants as piece
 use Rattle.task_lex.specs.declared.piece.Numeral.{Numeral}

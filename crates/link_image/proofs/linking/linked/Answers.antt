@@ -1,4 +1,3 @@
-use Rattle.task_ast.specs.View.{program_of}
 use Rattle.source_meaning.proofs.Interface.{text_plain}
 use Rattle.link_image.proofs.linking.linked.Goals as goal
 
