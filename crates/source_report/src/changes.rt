@@ -57,8 +57,7 @@ fn write_elements<S: Sink>(
     ensures cause { HasCause (S.faults report.old.sink.now) (S.faults report.new.sink.now) result }
 {
     for i in 0..n {
-        let (before, now) = (run.before(v, i), run.word(v, i));
-        write_change(report, name, Some(i), u32::from(before), u32::from(now))?;
+        write_change(report, name, Some(i), run.before(v, i) as u32, run.word(v, i) as u32)?;
     }
     Ok(())
 }
@@ -82,8 +81,7 @@ fn write_variable<S: Sink>(
     let name = spelled(text, declaration.name);
     match declaration.extent {
         Extent::Scalar(_) => {
-            let (before, now) = (run.before(v, 0), run.word(v, 0));
-            write_change(report, name, None, u32::from(before), u32::from(now))
+            write_change(report, name, None, run.before(v, 0) as u32, run.word(v, 0) as u32)
         }
         Extent::Long(_) => {
             let before = two_words(run.before(v, 0), run.before(v, 1));
