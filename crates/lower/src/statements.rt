@@ -180,7 +180,12 @@ fn store(
         (element_assignment (places_in places.now) variable (expression_of index.now) (expression_of e.now))) }
 {
     match e {
-        Expr::Binary(op, left, right) => match element_updating(variable, index, op.operator, left) {
+        Expr::Binary(op, left, right) => match element_updating(
+            variable,
+            index,
+            op.operator,
+            left,
+        ) {
             Some(operation) => set_element_in_place(
                 alloc, operation, variable, index, right, places, program,
             ),

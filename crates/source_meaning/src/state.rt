@@ -33,7 +33,10 @@ fn is_long_extent(extent: Extent) -> bool
 fn longs_of(alloc: Global, shared: &[SharedDeclaration]) -> Result<Vec<bool>, AllocError>
     ensures { IfOk result (λ longs. longs.items ≡ map (λ d. is_long_extent d.extent) shared.now) }
 {
-    shared.iter().map(|d| is_long_extent(d.extent)).collect(alloc)
+    shared
+        .iter()
+        .map(|d| is_long_extent(d.extent))
+        .collect(alloc)
 }
 
 impl Meaning {

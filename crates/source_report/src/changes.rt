@@ -57,7 +57,13 @@ fn write_elements<S: Sink>(
     ensures cause { HasCause (S.faults report.old.sink.now) (S.faults report.new.sink.now) result }
 {
     for i in 0..n {
-        write_change(report, name, Some(i), run.before(v, i) as u32, run.word(v, i) as u32)?;
+        write_change(
+            report,
+            name,
+            Some(i),
+            run.before(v, i) as u32,
+            run.word(v, i) as u32,
+        )?;
     }
     Ok(())
 }
@@ -81,7 +87,13 @@ fn write_variable<S: Sink>(
     let name = spelled(text, declaration.name);
     match declaration.extent {
         Extent::Scalar(_) => {
-            write_change(report, name, None, run.before(v, 0) as u32, run.word(v, 0) as u32)
+            write_change(
+                report,
+                name,
+                None,
+                run.before(v, 0) as u32,
+                run.word(v, 0) as u32,
+            )
         }
         Extent::Long(_) => {
             let before = two_words(run.before(v, 0), run.before(v, 1));
