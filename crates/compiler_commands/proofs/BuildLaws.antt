@@ -19,7 +19,7 @@ use Rattle.plain_commands.specs.command_answers.Views.{refusal_of}
 
 -- a text that a pass refuses isn't built
 pub by_pass : {text : List ℕ} (r : Refusal) → RefusesSource text r → RefusesBuild text r
-by_pass {text} r no = record { cause = no.cause; refused = uncompiled_by_pass text no.cause no.refused; told = no.told }
+by_pass {text} r fails = record { cause = fails.cause; refused = uncompiled_by_pass text fails.cause fails.refused; told = fails.told }
 
 -- where there is no long, nothing else keeps a text from it
 pub by_a_pass : (text : List ℕ) (r : Refusal) → HasNoLong text → RefusesBuild text r → RefusesSource text r

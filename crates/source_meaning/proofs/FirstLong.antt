@@ -51,17 +51,17 @@ has_long text ts at line t lexes x is line_is =
 
 -- a text whose tokens have no long is of a source without longs
 pub text_plain : (text : List ℕ) (program : Program VariableName TaskName) → Checks text program → HasNoLong text → IsPlain program
-text_plain text program checks no =
-    let same = same_tokens checks.parses.words no.words (sym checks.parses.lexes ∙ no.lexes) in
+text_plain text program checks clean =
+    let same = same_tokens checks.parses.words clean.words (sym checks.parses.lexes ∙ clean.lexes) in
     let grammar = subst (λ ts. IsProgram ts checks.tree) same checks.parses.grammar in
-    source_plain text checks.tree program checks.checks.named.looked_up (program_plain no.words checks.tree grammar (none_long no.words no.none))
+    source_plain text checks.tree program checks.checks.named.looked_up (program_plain clean.words checks.tree grammar (none_long clean.words clean.none))
 
 -- and no text has one and none
 pub one_or_none : (text : List ℕ) (line : ℕ) → HasNoLong text → HasLong text line → ⊥
-one_or_none text line no has =
-    let same = same_tokens has.words no.words (sym has.lexes ∙ no.lexes) in
-    let there : slice_get no.words has.at ≡ Some has.is_first.token = ap (λ ws. slice_get ws has.at) (sym same) ∙ has.is_first.is_token in
-    let is : get_or no.words has.at has.is_first.token ≡ has.is_first.token = get_or_from_slice_get no.words has.at _ _ there in
-    let none = no.none has.at has.is_first.token (slice_get_within no.words has.at has.is_first.token there) in
+one_or_none text line clean has =
+    let same = same_tokens has.words clean.words (sym has.lexes ∙ clean.lexes) in
+    let there : slice_get clean.words has.at ≡ Some has.is_first.token = ap (λ ws. slice_get ws has.at) (sym same) ∙ has.is_first.is_token in
+    let is : get_or clean.words has.at has.is_first.token ≡ has.is_first.token = get_or_from_slice_get clean.words has.at _ _ there in
+    let none = clean.none has.at has.is_first.token (slice_get_within clean.words has.at has.is_first.token there) in
     let both : true ≡ false = sym has.is_first.is_long ∙ sym (ap (λ t. is_long_kind t.kind) is) ∙ none in
     cc

@@ -125,9 +125,9 @@ extent_plain ts e (grammar.value q n is_q is_n) = tt
 extent_plain ts e (grammar.negative q m n is_q is_m is_n) = tt
 
 shared_plain : (ts : List Token) (d : SharedDeclaration) → IsShared ts d → NoLongs ts → IsPlainShared d
-shared_plain ts d (grammar.shared h t n z of xs found is_h is_t is_n is is_z) no = (type_plain t.kind of is_t, extent_plain xs found is)
-shared_plain ts d (grammar.long h t l n z xs found is_h is_t is_l is_n is is_z) no =
-    absurd (long_there l k.Long is_l refl (back (h ∷ t ∷ []) (l ∷ n ∷ xs ++ z ∷ []) no).0)
+shared_plain ts d (grammar.shared h t n z of xs found is_h is_t is_n is is_z) clean = (type_plain t.kind of is_t, extent_plain xs found is)
+shared_plain ts d (grammar.long h t l n z xs found is_h is_t is_l is_n is is_z) clean =
+    absurd (long_there l k.Long is_l refl (back (h ∷ t ∷ []) (l ∷ n ∷ xs ++ z ∷ []) clean).0)
 
 shareds_plain : (ts : List Token) (all : List SharedDeclaration) → Row IsShared ts all → NoLongs ts → All IsPlainShared all
 shareds_plain ts [] row h = All-nil IsPlainShared
@@ -140,7 +140,7 @@ abbrev pub IsPlainTask : Task → Type 0
 IsPlainTask task = IsPlainBlock Any task.body
 
 task_plain : (ts : List Token) (task : Task) → IsTask ts task → NoLongs ts → IsPlainTask task
-task_plain ts task (grammar.task h n xs body is_h is_n is) no = block_plain xs body is (back (h ∷ n ∷ []) xs no)
+task_plain ts task (grammar.task h n xs body is_h is_n is) clean = block_plain xs body is (back (h ∷ n ∷ []) xs clean)
 
 tasks_plain : (ts : List Token) (all : List Task) → Row IsTask ts all → NoLongs ts → All IsPlainTask all
 tasks_plain ts [] row h = All-nil IsPlainTask
@@ -149,11 +149,11 @@ tasks_plain ts (task ∷ all) (xs, ys, cut, is, row) h =
     All-cons IsPlainTask task all (task_plain xs task is (front xs ys split)) (tasks_plain ys all row (back xs ys split))
 
 pub program_plain : (ts : List Token) (p : Program) → IsProgram ts p → NoLongs ts → IsPlainProgram Any p
-program_plain ts p (grammar.program xs ys zs h n z shareds first others is_shareds is_first is_others is_h is_n is_z) no =
+program_plain ts p (grammar.program xs ys zs h n z shareds first others is_shareds is_first is_others is_h is_n is_z) clean =
     let end = h ∷ n ∷ z ∷ [] in
-    let behind = back xs (ys ++ (zs ++ end)) no in
+    let behind = back xs (ys ++ (zs ++ end)) clean in
     record {
-      shared = shareds_plain xs shareds is_shareds (front xs (ys ++ (zs ++ end)) no);
+      shared = shareds_plain xs shareds is_shareds (front xs (ys ++ (zs ++ end)) clean);
       tasks = All-cons IsPlainTask first others (task_plain ys first is_first (front ys (zs ++ end) behind))
           (tasks_plain zs others is_others (front zs end (back ys (zs ++ end) behind)));
     }

@@ -23,7 +23,8 @@ fn first_among(tokens: &[Token]) -> Option<usize>
     ensures some { IfSome result (IsFirstLong tokens.now) }
 {
     for i in 0..tokens.len() {
-        if is_long(tokens[i].kind) {
+        let token = &tokens[i];
+        if is_long(token.kind) {
             return Some(i);
         }
     }
@@ -38,7 +39,8 @@ fn line_of_first(text: &[u8], words: &[Token], at: usize) -> u32
     requires first { IsFirstLong words.now at }
     ensures { HasLong text.now result }
 {
-    line_at(text, words[at].span.from)
+    let first = &words[at];
+    line_at(text, first.span.from)
 }
 
 // The line of the first long of a text without a flaw among its tokens; or it has none.
