@@ -21,32 +21,22 @@ use Rattle.source_meaning.proofs.PlainTrees.{none_long, program_plain}
 use Rattle.source_meaning.proofs.PlainNames.{source_plain}
 use Rattle.source_meaning.proofs.Unique.{same_tokens}
 
-pub none_more : (ts : List Token) (i : ℕ) (t : Token) → i < length ts → t ≡ get_or ts i t → All NotLong (take i ts) → is_long_kind t.kind ≡ false
+pub none_more : (ts : List Token) (i : ℕ) (d : Token) → i < length ts → All NotLong (take i ts) → is_long_kind (get_or ts i d).kind ≡ false
     → All NotLong (take (i + 1) ts)
-none_more ts i t lt is all not = All-more NotLong ts i t lt all (subst NotLong is not)
+none_more ts i d lt all short = All-more NotLong ts i d lt all short
 
 pub none_all : (ts : List Token) (i : ℕ) → length ts ≤ i → All NotLong (take i ts) → All NotLong ts
 none_all ts i h all = subst (All NotLong) (take_all i ts h) all
 
-pub long_at : (ts : List Token) (i : ℕ) (t : Token) → i < length ts → t ≡ get_or ts i t → All NotLong (take i ts) → is_long_kind t.kind ≡ true
-    → IsFirstLong ts i
-long_at ts i t lt is all long = record {
-  token = t;
-  is_token = slice_get-get_or ts i t lt ∙ ap Some (sym is);
-  is_long = long;
-  first = all;
-}
-
 -- it begins within the text, and its line is the text's
-pub starts_within : (text : List ℕ) (ts : List Token) (at : ℕ) (t : Token) → InOrder 0 (length text) ts → IsFirstLong ts at → t ≡ get_or ts at t
-    → t.span.from ≤ length text
-starts_within text ts at t order x is =
-    subst (λ u. u.span.from ≤ length text) (sym is) (all_within 0 (length text) ts order at t (slice_get_within ts at x.token x.is_token))
+pub starts_within : (text : List ℕ) (ts : List Token) (at : ℕ) (d : Token) → InOrder 0 (length text) ts → IsFirstLong ts at
+    → (get_or ts at d).span.from ≤ length text
+starts_within text ts at d order x = all_within 0 (length text) ts order at d (slice_get_within ts at x.token x.is_token)
 
-pub has_long : (text : List ℕ) (ts : List Token) (at line : ℕ) (t : Token) → lexed text ≡ tokens ts → IsFirstLong ts at → t ≡ get_or ts at t
-    → line ≡ line_of text t.span.from → HasLong text line
-has_long text ts at line t lexes x is line_is =
-    let there : slice_get ts at ≡ Some t = slice_get-get_or ts at t (slice_get_within ts at x.token x.is_token) ∙ ap Some (sym is) in
+pub has_long : (text : List ℕ) (ts : List Token) (at line : ℕ) (d : Token) → lexed text ≡ tokens ts → IsFirstLong ts at
+    → line ≡ line_of text (get_or ts at d).span.from → HasLong text line
+has_long text ts at line d lexes x line_is =
+    let there : slice_get ts at ≡ Some (get_or ts at d) = slice_get-get_or ts at d (slice_get_within ts at x.token x.is_token) in
     record { words = ts; lexes = lexes; at = at; is_first = x; line_is = line_is ∙ ap (λ o. line_of text (from_of text o)) (sym there) }
 
 -- a text whose tokens have no long is of a source without longs

@@ -23,8 +23,7 @@ fn first_among(tokens: &[Token]) -> Option<usize>
     ensures some { IfSome result (IsFirstLong tokens.now) }
 {
     for i in 0..tokens.len() {
-        let token = &tokens[i];
-        if is_long(token.kind) {
+        if is_long(tokens[i].kind) {
             return Some(i);
         }
     }
@@ -39,8 +38,7 @@ fn line_of_first(text: &[u8], words: &[Token], at: usize) -> u32
     requires first { IsFirstLong words.now at }
     ensures { HasLong text.now result }
 {
-    let first = &words[at];
-    line_at(text, first.span.from)
+    line_at(text, words[at].span.from)
 }
 
 // The line of the first long of a text without a flaw among its tokens; or it has none.
