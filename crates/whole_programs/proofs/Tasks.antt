@@ -163,5 +163,5 @@ names_are_used_as_declared text tree p h =
     let back = subst (λ q. AreUsed q.shared (uses_in (program_names text q)) (task_variables p.tasks [])) (sym e) on in
     let types = shared_type text p.shared in
     let behind = task_names types (map task_back p.tasks) (and_front [] p.entry.span role.Target) in
-    tasks_split types p.shared p.tasks (and_front [] p.entry.span role.Target) [] h.paths.loops
+    tasks_split p.shared types p.tasks (and_front [] p.entry.span role.Target) [] h.paths.loops
     (subst (λ us. AreUsed p.shared us (task_variables p.tasks [])) (shared_uses p.shared behind) back)
