@@ -1,5 +1,6 @@
 -- An attempt emits no more words than its block counts, however it ends.
-use Rattle.std.proofs.Common.{ℕ, zero, suc, ◌+◌, ◌-◌, ◌*◌, ◌/◌, ◌%◌, ◌≤◌, subst, arith, List, [], ◌∷◌, ◌++◌, length, length-append, Option, Some, None, Bool, true, false}
+use Rattle.std.proofs.Common.{ℕ, zero, suc, ◌+◌, ◌-◌, ◌*◌, ◌/◌, ◌%◌, ◌≤◌, subst, arith, List, [], ◌∷◌, ◌++◌, length, length-append, Option, Some, None, Bool}
+use Rattle.std.proofs.Common.{true, false}
 use Rattle.std.proofs.Common.{if◌then◌else◌}
 use Rattle.std.proofs.Math.Nat.{suc-mul}
 use Rattle.task_ast.specs.Tree as t
@@ -10,7 +11,8 @@ use Rattle.task_ast.specs.declared.names.Variable.{Variable}
 use Rattle.task_ast.specs.declared.names.VariableName.{VariableName}
 use Rattle.task_ast.specs.declared.names.TaskName.{TaskName}
 use Rattle.source_values.specs.Values.{by_width, type_of, converted, value_of, holds}
-use Rattle.source_values.specs.Statements.{Attempt, Outcome, goes_on, to_task, short, and_then, if_value, assigned, assigned_to, assigned_value, word_of, turns, run_statement, run_choice, run_block}
+use Rattle.source_values.specs.Statements.{Attempt, Outcome, goes_on, to_task, short, and_then, if_value, assigned, assigned_to, assigned_value, word_of}
+use Rattle.source_values.specs.Statements.{turns, run_statement, run_choice, run_block}
 use Rattle.source_values.specs.Statements.{statement_emits, choice_emits, block_emits}
 
 -- where an outcome isn't short, at most so many words are emitted
@@ -71,7 +73,8 @@ mutual
       up_to_value n (value_of e m.variables m.left) m (λ w s. goes_on (assigned_value s x e w))
       (λ v left. assigned_up_to x (converted (type_of e) x.word_type v) (record m { left = left }) n (omega (arith, h)))
   statement_up_to (t.store x index e) m n h =
-      up_to_value n (value_of index m.variables m.left) m (λ i s. if_value (value_of e s.variables s.left) s (λ w s. goes_on (assigned s x.variable i (word_of e w))))
+      up_to_value n (value_of index m.variables m.left) m
+      (λ i s. if_value (value_of e s.variables s.left) s (λ w s. goes_on (assigned s x.variable i (word_of e w))))
       (λ i left. up_to_value n (value_of e m.variables left) (record m { left = left }) (λ w s. goes_on (assigned s x.variable i (word_of e w)))
       (λ v more. omega (arith, h)))
   statement_up_to (t.choose choice) m n h = choice_up_to choice m n h

@@ -9,7 +9,8 @@ use Rattle.task_ast.specs.declared.names.Variable.{Variable}
 use Rattle.task_ast.specs.declared.names.VariableName.{VariableName}
 use Rattle.task_ast.specs.declared.names.TaskName.{TaskName}
 use Rattle.source_values.specs.Values.{by_width, type_of, converted, value_of, holds}
-use Rattle.source_values.specs.Statements.{Attempt, Outcome, goes_on, to_task, short, and_then, if_value, with_value, assigned, assigned_to, assigned_value, word_of, turns, run_statement}
+use Rattle.source_values.specs.Statements.{Attempt, Outcome, goes_on, to_task, short, and_then, if_value, with_value, assigned, assigned_to, assigned_value}
+use Rattle.source_values.specs.Statements.{word_of, turns, run_statement}
 use Rattle.source_values.specs.Statements.{run_choice, run_block}
 use Rattle.source_values.proofs.Takes.{value_takes}
 

@@ -1,6 +1,7 @@
 -- The values of expressions: C's arithmetic on numbers of 16 bits, and of 32 bits where the type is long, and the rules of the language
 -- where C leaves one open.
-use Rattle.std.specs.Prelude.{ℕ, ◌^◌, ◌+◌, ◌-◌, ◌*◌, ◌/◌, ◌%◌, List, [], ◌∷◌, Bool, not, ◌==◌, nat_le, nat_lt, bit_and, bit_or, bit_xor, if◌then◌else◌, Option, Some, None}
+use Rattle.std.specs.Prelude.{ℕ, ◌^◌, ◌+◌, ◌-◌, ◌*◌, ◌/◌, ◌%◌, List, [], ◌∷◌, Bool, not, ◌==◌, nat_le, nat_lt, bit_and, bit_or, bit_xor, if◌then◌else◌}
+use Rattle.std.specs.Prelude.{Option, Some, None}
 use Rattle.std.specs.Prelude.{slice_index, slice_index_or, slice_set}
 pub use Rattle.task_ast.specs.alp_text.Sequence.{◌>>?◌}
 use Rattle.alp_words.specs.Words.{word_sum, word_difference, word_product, quotient, remainder, arithmetic_shift, biased, bit}

@@ -1,7 +1,8 @@
 -- Worked examples of values, types and statements, as the definitions give them.
 use Rattle.std.specs.Prelude.{◌≡◌, ℕ, List, [], ◌∷◌, Some, None}
 use Rattle.task_ast.specs.alp_text.declared.lines.Span.{Span}
-use Rattle.task_ast.specs.Tree.{number, long_number, name, element, sense, unary, binary, shift, short_circuit, declare, assign, store, loop, emit, transition, end, step}
+use Rattle.task_ast.specs.Tree.{number, long_number, name, element, sense, unary, binary, shift, short_circuit, declare, assign, store, loop, emit}
+use Rattle.task_ast.specs.Tree.{transition, end, step}
 use Rattle.task_ast.specs.declared.WordType.TheVariants.{Unsigned, Int, Long}
 use Rattle.task_ast.specs.declared.UnaryOperator.TheVariants.{Negate, Complement, Not}
 use Rattle.task_ast.specs.declared.BinaryOperator.{BinaryOperator}

@@ -4,7 +4,8 @@ ghost use Rattle.std.specs.Prelude.{◌≡◌, ◌<◌};
 ghost use Rattle.task_ast.specs.declared.WordType.{WordType};
 ghost use Rattle.task_ast.specs.declared.WordType.TheVariants.{Long, Int, Unsigned};
 ghost use Rattle.alp_words.specs.Words.{bit};
-ghost use Rattle.source_values.specs.Values.{binary_type, joined_type, unary_type, binary_value, converted, holds, long_unary_value, long_binary_value, long_shifted_value};
+ghost use Rattle.source_values.specs.Values.{binary_type, joined_type, unary_type, binary_value, converted, holds, long_unary_value, long_binary_value};
+ghost use Rattle.source_values.specs.Values.{long_shifted_value};
 ghost use Rattle.source_values.specs.Values.{long_shift_value, sign_word, unary_result, binary_result, shift_result, two_words};
 ghost use Rattle.source_values.specs.Numbers.{number_type, number_value};
 

@@ -2,7 +2,8 @@
 use Rattle.std.specs.Prelude.{List, map, Option, Some, None, Vec}
 use Rattle.std.specs.Global.{Global}
 use Rattle.std.specs.Option.{option_map}
-use Rattle.task_ast.specs.Tree.{Expression, number, long_number, name, element, sense, unary, binary, shift, short_circuit, Statement, declare, assign, store, choose}
+use Rattle.task_ast.specs.Tree.{Expression, number, long_number, name, element, sense, unary, binary, shift, short_circuit, Statement, declare, assign, store}
+use Rattle.task_ast.specs.Tree.{choose}
 use Rattle.task_ast.specs.Tree.{loop, emit, transition, Block, block_of, Choice, Tested, choice_of, Task, Program}
 use Rattle.task_ast.specs.declared.Expr.{Expr}
 use Rattle.task_ast.specs.declared.Expr.TheVariants.{Number, LongNumber, Name, Element', Sense, Unary', Binary', Shift', ShortCircuit'}

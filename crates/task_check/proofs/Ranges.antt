@@ -420,4 +420,5 @@ module _ (source : List ℕ) (tree : Program Span Span) (names : List Occurrence
       ∙ (variables_counted source names names walked.names no_use ∙ (ap (count one_variable) same ∙ variables_of_program source tree))
 
   pub all_targets : length w.targets.items ≡ tasks_transitions tree.tasks + 1
-  all_targets = ap length walked.targets ∙ (targets_counted source names names walked.names no_use ∙ (ap (count one_target) same ∙ targets_of_program source tree))
+  all_targets =
+      ap length walked.targets ∙ (targets_counted source names names walked.names no_use ∙ (ap (count one_target) same ∙ targets_of_program source tree))

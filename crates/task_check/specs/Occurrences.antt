@@ -53,7 +53,8 @@ expression_names types (t.element s index) behind = element_front types s index 
 expression_names types t.sense behind = behind
 expression_names types (t.unary op a) behind = expression_names types a behind
 expression_names types (t.binary op a b) behind =
-    expression_names types a (and_front (expression_names types b behind) op.span (operator_role op.operator (joined_type (expression_type types a) (expression_type types b))))
+    expression_names types a (and_front (expression_names types b behind) op.span
+    (operator_role op.operator (joined_type (expression_type types a) (expression_type types b))))
 expression_names types (t.shift op a count) behind = expression_names types a (and_front behind count.span (count_role count.value (expression_type types a)))
 expression_names types (t.short_circuit op a b) behind = expression_names types a (expression_names types b behind)
 

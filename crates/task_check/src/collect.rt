@@ -208,7 +208,8 @@ fn arms_names(
     names: &mut Vec<Occurrence>,
 ) -> Result<(), AllocError>
     requires { HasSharedTypes types.now }
-    ensures { IfOk result (λ _. (last : Option (Block Span Span)) (behind : List Occurrence) → names.old.items ≡ spec.choice_names (types_of types.now) (choice_of [] last) behind
+    ensures { IfOk result (λ _. (last : Option (Block Span Span)) (behind : List Occurrence)
+        → names.old.items ≡ spec.choice_names (types_of types.now) (choice_of [] last) behind
         → names.new.items ≡ spec.choice_names (types_of types.now) (choice_of (map tested_of arms.now) last) behind) }
 {
     for i in (0..arms.len()).rev() {

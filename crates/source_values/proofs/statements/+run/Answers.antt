@@ -33,13 +33,15 @@ run_arms-run_block-requires t c =
 pub run_arms-returns-in_err-run_block-clause-outcome : goal.run_arms-returns-in_err-run_block-clause-outcome
 run_arms-returns-in_err-run_block-clause-outcome t c = λ last.
     let step = arm_taken c.args.arms.now c.loop-arm.arm-index c.arm-item.result last c.deref.result.now (attempt_in c.loop-arm.scratch c.loop-arm.left.now)
-    (number_value c.in_ok-x.x.number) c.in_ok-x.x.left.now c.loop-arm-test.true c.arm-item.is c.deref.ensures.value c.in_ok-x.ensures.value (sym c.if-holds.ensures) in
+    (number_value c.in_ok-x.x.number) c.in_ok-x.x.left.now c.loop-arm-test.true c.arm-item.is c.deref.ensures.value c.in_ok-x.ensures.value
+    (sym c.if-holds.ensures) in
     rw c.from_residual-in_err-run_block.ensures (sym (c.loop-arm.invariant.rest last) ∙ step ∙ c.in_err-run_block.ensures.outcome)
 
 pub run_arms-returns-then-holds-clause-outcome : goal.run_arms-returns-then-holds-clause-outcome
 run_arms-returns-then-holds-clause-outcome t c = λ last.
     let step = arm_taken c.args.arms.now c.loop-arm.arm-index c.arm-item.result last c.deref.result.now (attempt_in c.loop-arm.scratch c.loop-arm.left.now)
-    (number_value c.in_ok-x.x.number) c.in_ok-x.x.left.now c.loop-arm-test.true c.arm-item.is c.deref.ensures.value c.in_ok-x.ensures.value (sym c.if-holds.ensures) in
+    (number_value c.in_ok-x.x.number) c.in_ok-x.x.left.now c.loop-arm-test.true c.arm-item.is c.deref.ensures.value c.in_ok-x.ensures.value
+    (sym c.if-holds.ensures) in
     sym (c.loop-arm.invariant.rest last) ∙ step ∙ c.in_ok-run_block.ensures.outcome
 
 pub run_arms-returns-then-holds-clause-emitted : goal.run_arms-returns-then-holds-clause-emitted
