@@ -1,6 +1,7 @@
 use Rattle.std.proofs.Common.{refl}
 use Rattle.image_reports.specs.task_ast.View.{program_of}
 use Rattle.image_reports.specs.source_maps.Maps.{map_of}
+use Rattle.compiler_commands.proofs.BuildLaws.{fails_on_longs}
 use Rattle.compiler_commands.proofs.built.built_of.Goals as goal
 
 pub returns-in-Ok-print_image-clause-built : goal.returns-in-Ok-print_image-clause-built
@@ -16,3 +17,9 @@ returns-in-Ok-print_image-clause-built c =
       bound = refl;
       compiled = compiled;
     }
+
+pub returns-in-Err-NotYet-clause-failure : goal.returns-in-Err-NotYet-clause-failure
+returns-in-Err-NotYet-clause-failure c =
+    let source = c.args.source.now in
+    fails_on_longs c.args.file.now source.text.items (program_of source.checked.source) source.allow _ _ c.requires c.in-Err-NotYet.ensures.refused
+    c.refused_plainly.ensures
