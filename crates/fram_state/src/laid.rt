@@ -13,8 +13,8 @@ use crate::edition::Edition;
 use crate::kept::{Numbers, kept_from};
 use crate::runtime::{word_in, words_from};
 use image_text::Variable;
+use source_meaning::initial_words;
 use source_report::spelled;
-use source_values::initial_words;
 use std::alloc::{AllocError, Global};
 use task_ast::SharedDeclaration;
 
