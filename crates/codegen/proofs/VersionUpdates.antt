@@ -340,7 +340,8 @@ module _ (z : Setting) (o : PlainOperation) (x : Source) (r : ℕ) (reads : sour
       let y = plain_word o (w.fram c) v in
       let does = operated (plain_instruction o) Word (t.fram c) (source_value x t) t.flags in
       let is : does.value ≡ y =
-      ap₂ (λ p q. (operated (plain_instruction o) Word p q t.flags).value) (ap (λ (f : ℕ → ℕ). f c) i.fram) (g.word t i.fram refl refl) ∙ makes o (w.fram c) v t.flags l lv in
+      ap₂ (λ p q. (operated (plain_instruction o) Word p q t.flags).value) (ap (λ (f : ℕ → ℕ). f c) i.fram) (g.word t i.fram refl refl)
+      ∙ makes o (w.fram c) v t.flags l lv in
       let after : Core → ℕ → Core = λ s q. record s { pc = t.pc + (2 + source_bytes x + 2); flags = flags_after does.flags t.flags; fram = put t.fram c q } in
       let needs = plain_needs o in
       hop z m 6 t (after t y) (Store c y ∷ []) price _ (ap z.code i.at ∙ h) (needs.0, needs.1, g.needs t, fc)
