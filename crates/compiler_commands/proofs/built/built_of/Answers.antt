@@ -26,5 +26,5 @@ returns-in-Err-NotYet-clause-failure c =
     let source = c.args.source.now in
     let long = subst (λ f. IsUnlinked source.text.items f) c.in-Err-NotYet.field-0-is c.in-Err-NotYet.ensures.refused in
     let told = subst (λ n. FailsRefused c.args.file.now (λ r. r ≡ plain n (codes "NotYet")) c.refused_plainly.result) c.in-Err-NotYet.line-is
-        c.refused_plainly.ensures in
+    c.refused_plainly.ensures in
     fails_on_longs c.args.file.now source.text.items (program_of source.checked.source) source.allow _ _ c.requires long told
