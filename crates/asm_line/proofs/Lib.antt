@@ -3,3 +3,4 @@ mod Splits
 mod Moved
 mod Directives
 pub mod Interface
+mod Rows

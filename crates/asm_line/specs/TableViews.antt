@@ -1,4 +1,6 @@
--- A row of the table of emulated operations without where its texts lie in memory.
+-- The rows of the tables of names without where their texts lie in memory.
+use Rattle.std.specs.Prelude.{ℕ, List}
+use Rattle.std.specs.Borrow.{Bor}
 use Rattle.asm_line.specs.declared.tables.OperandText.TheVariants as text
 use Rattle.asm_line.specs.declared.tables.OperandText as declared
 use Rattle.asm_line.specs.declared.tables.CoreText as core_text
@@ -12,3 +14,7 @@ operand_text (text.Fixed t) = fixed t.now
 -- a core text
 abbrev pub core_text_of : core_text.CoreText → CoreText
 core_text_of c = record { op = c.op; source = operand_text c.source; destination = operand_text c.destination }
+
+-- a row of a table
+abbrev pub row_of : {A : Type 0} → Bor (List ℕ) × A → List ℕ × A
+row_of r = (r.0.now, r.1)

@@ -5,7 +5,7 @@ ghost use Rattle.asm_line.specs.Numbers.{digit, number_after, reduced, numeral_o
 use text_parts::hex_digit;
 
 /// A number of any length.
-#[derive(Clone, Copy, Debug, PartialEq, Eq)]
+#[derive(Clone, Copy)]
 pub struct Numeral {
     /// The number modulo 65536.
     pub residue: u16,

@@ -14,7 +14,7 @@ use crate::values::{Value, value_of};
 use msp_isa::{Dst, IndexRegister, IndirectRegister, Konst, Operand, Reg, SourceRegister, Src};
 
 /// An operand as it is written.
-#[derive(Clone, Copy, Debug)]
+#[derive(Clone, Copy)]
 pub enum Written<'a> {
     /// `rN`
     Register(Reg),

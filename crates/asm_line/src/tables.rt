@@ -1,12 +1,14 @@
 //! The names of operations.
-ghost use Rattle.std.specs.Prelude.{◌≡◌, option_map};
-ghost use Rattle.asm_line.specs.Tables.{two_named, one_named, condition_named, emulated_named, core};
-ghost use Rattle.asm_line.specs.TableViews.{operand_text, core_text_of};
+ghost use Rattle.std.specs.Prelude.{◌≡◌, map, option_map};
+ghost use Rattle.asm_line.specs.Values.{look_up};
+ghost use Rattle.asm_line.specs.Tables.{two_named, one_named, condition_named, emulated_named};
+ghost use Rattle.asm_line.specs.TableViews.{core_text_of, row_of};
 
+use OperandText::{Fixed, Written};
 use msp_isa::{Condition, TwoOp};
 
 /// An operation of one operand.
-#[derive(Clone, Copy, Debug, PartialEq, Eq)]
+#[derive(Clone, Copy)]
 pub enum OneName {
     Rrc,
     Swpb,
@@ -17,7 +19,7 @@ pub enum OneName {
 }
 
 /// An operand of a core text.
-#[derive(Clone, Copy, Debug)]
+#[derive(Clone, Copy)]
 pub enum OperandText {
     /// The operand that is written behind the emulated operation.
     Written,
@@ -25,11 +27,93 @@ pub enum OperandText {
 }
 
 /// The core text of an emulated operation.
-#[derive(Clone, Copy, Debug)]
+#[derive(Clone, Copy)]
 pub struct CoreText {
     pub op: TwoOp,
     pub source: OperandText,
     pub destination: OperandText,
+}
+
+/// The operations of two operands.
+static TWO: [(&[u8], TwoOp); 12] = [
+    (b"mov", TwoOp::Mov),
+    (b"add", TwoOp::Add),
+    (b"addc", TwoOp::Addc),
+    (b"subc", TwoOp::Subc),
+    (b"sub", TwoOp::Sub),
+    (b"cmp", TwoOp::Cmp),
+    (b"dadd", TwoOp::Dadd),
+    (b"bit", TwoOp::Bit),
+    (b"bic", TwoOp::Bic),
+    (b"bis", TwoOp::Bis),
+    (b"xor", TwoOp::Xor),
+    (b"and", TwoOp::And),
+];
+
+/// The operations of one operand.
+static ONE: [(&[u8], OneName); 6] = [
+    (b"rrc", OneName::Rrc),
+    (b"swpb", OneName::Swpb),
+    (b"rra", OneName::Rra),
+    (b"sxt", OneName::Sxt),
+    (b"push", OneName::Push),
+    (b"call", OneName::Call),
+];
+
+/// The jumps.
+static CONDITIONS: [(&[u8], Condition); 12] = [
+    (b"jne", Condition::NotEqual),
+    (b"jnz", Condition::NotEqual),
+    (b"jeq", Condition::Equal),
+    (b"jz", Condition::Equal),
+    (b"jnc", Condition::NoCarry),
+    (b"jlo", Condition::NoCarry),
+    (b"jc", Condition::Carry),
+    (b"jhs", Condition::Carry),
+    (b"jn", Condition::Negative),
+    (b"jge", Condition::GreaterOrEqual),
+    (b"jl", Condition::Less),
+    (b"jmp", Condition::Always),
+];
+
+/// The emulated operations, each with its core text: an operation, its source and its destination.
+static EMULATED: [(&[u8], (TwoOp, OperandText, OperandText)); 24] = [
+    (b"adc", (TwoOp::Addc, Fixed(b"#0"), Written)),
+    (b"br", (TwoOp::Mov, Written, Fixed(b"pc"))),
+    (b"clr", (TwoOp::Mov, Fixed(b"#0"), Written)),
+    (b"clrc", (TwoOp::Bic, Fixed(b"#1"), Fixed(b"sr"))),
+    (b"clrz", (TwoOp::Bic, Fixed(b"#2"), Fixed(b"sr"))),
+    (b"clrn", (TwoOp::Bic, Fixed(b"#4"), Fixed(b"sr"))),
+    (b"dadc", (TwoOp::Dadd, Fixed(b"#0"), Written)),
+    (b"dec", (TwoOp::Sub, Fixed(b"#1"), Written)),
+    (b"decd", (TwoOp::Sub, Fixed(b"#2"), Written)),
+    (b"dint", (TwoOp::Bic, Fixed(b"#8"), Fixed(b"sr"))),
+    (b"eint", (TwoOp::Bis, Fixed(b"#8"), Fixed(b"sr"))),
+    (b"inc", (TwoOp::Add, Fixed(b"#1"), Written)),
+    (b"incd", (TwoOp::Add, Fixed(b"#2"), Written)),
+    (b"inv", (TwoOp::Xor, Fixed(b"#-1"), Written)),
+    (b"nop", (TwoOp::Mov, Fixed(b"#0"), Fixed(b"r3"))),
+    (b"pop", (TwoOp::Mov, Fixed(b"@sp+"), Written)),
+    (b"ret", (TwoOp::Mov, Fixed(b"@sp+"), Fixed(b"pc"))),
+    (b"rla", (TwoOp::Add, Written, Written)),
+    (b"rlc", (TwoOp::Addc, Written, Written)),
+    (b"sbc", (TwoOp::Subc, Fixed(b"#0"), Written)),
+    (b"setc", (TwoOp::Bis, Fixed(b"#1"), Fixed(b"sr"))),
+    (b"setz", (TwoOp::Bis, Fixed(b"#2"), Fixed(b"sr"))),
+    (b"setn", (TwoOp::Bis, Fixed(b"#4"), Fixed(b"sr"))),
+    (b"tst", (TwoOp::Cmp, Fixed(b"#0"), Written)),
+];
+
+/// What stands at a name in a table, whose names are in lower case; the name may be in either case.
+pub fn look_up<T: Copy>(table: &[(&[u8], T)], name: &[u8]) -> Option<T>
+    ensures { result ≡ look_up (map row_of table.now) name.now }
+{
+    for (known, meant) in table {
+        if name.eq_ignore_ascii_case(known) {
+            return Some(*meant);
+        }
+    }
+    None
 }
 
 /// The operation of two operands of this name, in either case.
@@ -37,33 +121,7 @@ pub struct CoreText {
 pub fn two_named(name: &[u8]) -> Option<TwoOp>
     ensures { result ≡ two_named name.now }
 {
-    if name.eq_ignore_ascii_case(b"mov") {
-        Some(TwoOp::Mov)
-    } else if name.eq_ignore_ascii_case(b"add") {
-        Some(TwoOp::Add)
-    } else if name.eq_ignore_ascii_case(b"addc") {
-        Some(TwoOp::Addc)
-    } else if name.eq_ignore_ascii_case(b"subc") {
-        Some(TwoOp::Subc)
-    } else if name.eq_ignore_ascii_case(b"sub") {
-        Some(TwoOp::Sub)
-    } else if name.eq_ignore_ascii_case(b"cmp") {
-        Some(TwoOp::Cmp)
-    } else if name.eq_ignore_ascii_case(b"dadd") {
-        Some(TwoOp::Dadd)
-    } else if name.eq_ignore_ascii_case(b"bit") {
-        Some(TwoOp::Bit)
-    } else if name.eq_ignore_ascii_case(b"bic") {
-        Some(TwoOp::Bic)
-    } else if name.eq_ignore_ascii_case(b"bis") {
-        Some(TwoOp::Bis)
-    } else if name.eq_ignore_ascii_case(b"xor") {
-        Some(TwoOp::Xor)
-    } else if name.eq_ignore_ascii_case(b"and") {
-        Some(TwoOp::And)
-    } else {
-        None
-    }
+    look_up(TWO.as_slice(), name)
 }
 
 /// The operation of one operand of this name.
@@ -71,21 +129,7 @@ pub fn two_named(name: &[u8]) -> Option<TwoOp>
 pub fn one_named(name: &[u8]) -> Option<OneName>
     ensures { result ≡ one_named name.now }
 {
-    if name.eq_ignore_ascii_case(b"rrc") {
-        Some(OneName::Rrc)
-    } else if name.eq_ignore_ascii_case(b"swpb") {
-        Some(OneName::Swpb)
-    } else if name.eq_ignore_ascii_case(b"rra") {
-        Some(OneName::Rra)
-    } else if name.eq_ignore_ascii_case(b"sxt") {
-        Some(OneName::Sxt)
-    } else if name.eq_ignore_ascii_case(b"push") {
-        Some(OneName::Push)
-    } else if name.eq_ignore_ascii_case(b"call") {
-        Some(OneName::Call)
-    } else {
-        None
-    }
+    look_up(ONE.as_slice(), name)
 }
 
 /// The condition of the jump of this name.
@@ -93,143 +137,17 @@ pub fn one_named(name: &[u8]) -> Option<OneName>
 pub fn condition_named(name: &[u8]) -> Option<Condition>
     ensures { result ≡ condition_named name.now }
 {
-    if name.eq_ignore_ascii_case(b"jne") {
-        Some(Condition::NotEqual)
-    } else if name.eq_ignore_ascii_case(b"jnz") {
-        Some(Condition::NotEqual)
-    } else if name.eq_ignore_ascii_case(b"jeq") {
-        Some(Condition::Equal)
-    } else if name.eq_ignore_ascii_case(b"jz") {
-        Some(Condition::Equal)
-    } else if name.eq_ignore_ascii_case(b"jnc") {
-        Some(Condition::NoCarry)
-    } else if name.eq_ignore_ascii_case(b"jlo") {
-        Some(Condition::NoCarry)
-    } else if name.eq_ignore_ascii_case(b"jc") {
-        Some(Condition::Carry)
-    } else if name.eq_ignore_ascii_case(b"jhs") {
-        Some(Condition::Carry)
-    } else if name.eq_ignore_ascii_case(b"jn") {
-        Some(Condition::Negative)
-    } else if name.eq_ignore_ascii_case(b"jge") {
-        Some(Condition::GreaterOrEqual)
-    } else if name.eq_ignore_ascii_case(b"jl") {
-        Some(Condition::Less)
-    } else if name.eq_ignore_ascii_case(b"jmp") {
-        Some(Condition::Always)
-    } else {
-        None
-    }
-}
-
-fn core(op: TwoOp, source: OperandText, destination: OperandText) -> CoreText
-    ensures { core_text_of result ≡ core op (operand_text source) (operand_text destination) }
-{
-    CoreText {
-        op,
-        source,
-        destination,
-    }
+    look_up(CONDITIONS.as_slice(), name)
 }
 
 /// The core text of the emulated operation of this name.
-#[tactic(auto, unfolding(crate::specs::Tables::emulated_named))]
 pub fn emulated_named(name: &[u8]) -> Option<CoreText>
     ensures { option_map core_text_of result ≡ emulated_named name.now }
 {
-    if name.eq_ignore_ascii_case(b"adc") {
-        Some(core(TwoOp::Addc, OperandText::Fixed(b"#0"), OperandText::Written))
-    } else if name.eq_ignore_ascii_case(b"br") {
-        Some(core(TwoOp::Mov, OperandText::Written, OperandText::Fixed(b"pc")))
-    } else if name.eq_ignore_ascii_case(b"clr") {
-        Some(core(TwoOp::Mov, OperandText::Fixed(b"#0"), OperandText::Written))
-    } else if name.eq_ignore_ascii_case(b"clrc") {
-        Some(core(
-            TwoOp::Bic,
-            OperandText::Fixed(b"#1"),
-            OperandText::Fixed(b"sr"),
-        ))
-    } else if name.eq_ignore_ascii_case(b"clrz") {
-        Some(core(
-            TwoOp::Bic,
-            OperandText::Fixed(b"#2"),
-            OperandText::Fixed(b"sr"),
-        ))
-    } else if name.eq_ignore_ascii_case(b"clrn") {
-        Some(core(
-            TwoOp::Bic,
-            OperandText::Fixed(b"#4"),
-            OperandText::Fixed(b"sr"),
-        ))
-    } else if name.eq_ignore_ascii_case(b"dadc") {
-        Some(core(TwoOp::Dadd, OperandText::Fixed(b"#0"), OperandText::Written))
-    } else if name.eq_ignore_ascii_case(b"dec") {
-        Some(core(TwoOp::Sub, OperandText::Fixed(b"#1"), OperandText::Written))
-    } else if name.eq_ignore_ascii_case(b"decd") {
-        Some(core(TwoOp::Sub, OperandText::Fixed(b"#2"), OperandText::Written))
-    } else if name.eq_ignore_ascii_case(b"dint") {
-        Some(core(
-            TwoOp::Bic,
-            OperandText::Fixed(b"#8"),
-            OperandText::Fixed(b"sr"),
-        ))
-    } else if name.eq_ignore_ascii_case(b"eint") {
-        Some(core(
-            TwoOp::Bis,
-            OperandText::Fixed(b"#8"),
-            OperandText::Fixed(b"sr"),
-        ))
-    } else if name.eq_ignore_ascii_case(b"inc") {
-        Some(core(TwoOp::Add, OperandText::Fixed(b"#1"), OperandText::Written))
-    } else if name.eq_ignore_ascii_case(b"incd") {
-        Some(core(TwoOp::Add, OperandText::Fixed(b"#2"), OperandText::Written))
-    } else if name.eq_ignore_ascii_case(b"inv") {
-        Some(core(TwoOp::Xor, OperandText::Fixed(b"#-1"), OperandText::Written))
-    } else if name.eq_ignore_ascii_case(b"nop") {
-        Some(core(
-            TwoOp::Mov,
-            OperandText::Fixed(b"#0"),
-            OperandText::Fixed(b"r3"),
-        ))
-    } else if name.eq_ignore_ascii_case(b"pop") {
-        Some(core(
-            TwoOp::Mov,
-            OperandText::Fixed(b"@sp+"),
-            OperandText::Written,
-        ))
-    } else if name.eq_ignore_ascii_case(b"ret") {
-        Some(core(
-            TwoOp::Mov,
-            OperandText::Fixed(b"@sp+"),
-            OperandText::Fixed(b"pc"),
-        ))
-    } else if name.eq_ignore_ascii_case(b"rla") {
-        Some(core(TwoOp::Add, OperandText::Written, OperandText::Written))
-    } else if name.eq_ignore_ascii_case(b"rlc") {
-        Some(core(TwoOp::Addc, OperandText::Written, OperandText::Written))
-    } else if name.eq_ignore_ascii_case(b"sbc") {
-        Some(core(TwoOp::Subc, OperandText::Fixed(b"#0"), OperandText::Written))
-    } else if name.eq_ignore_ascii_case(b"setc") {
-        Some(core(
-            TwoOp::Bis,
-            OperandText::Fixed(b"#1"),
-            OperandText::Fixed(b"sr"),
-        ))
-    } else if name.eq_ignore_ascii_case(b"setz") {
-        Some(core(
-            TwoOp::Bis,
-            OperandText::Fixed(b"#2"),
-            OperandText::Fixed(b"sr"),
-        ))
-    } else if name.eq_ignore_ascii_case(b"setn") {
-        Some(core(
-            TwoOp::Bis,
-            OperandText::Fixed(b"#4"),
-            OperandText::Fixed(b"sr"),
-        ))
-    } else if name.eq_ignore_ascii_case(b"tst") {
-        Some(core(TwoOp::Cmp, OperandText::Fixed(b"#0"), OperandText::Written))
-    } else {
-        None
-    }
+    let (op, source, destination) = look_up(EMULATED.as_slice(), name)?;
+    Some(CoreText {
+        op,
+        source,
+        destination,
+    })
 }

@@ -23,6 +23,7 @@ use Rattle.msp_isa.specs.declared.instructions.Condition.TheVariants as conditio
 use Rattle.msp_isa.specs.declared.operands.Konst.TheVariants as konst
 use Rattle.code_forms.specs.Forms as forms
 use Rattle.codegen.specs.declared.waiting.Waiting.TheVariants as waiting
+use Rattle.array_versions.proofs.Interface.{right_low}
 use Rattle.codegen.proofs.UpdateBytes.{ways_bytes, checked_bytes, known_bytes, reads_bytes, first_bytes, inside_bytes, near_size}
 use Rattle.codegen.proofs.Operands.{number_cases}
 
@@ -115,10 +116,6 @@ shift_by_takes SignedRight k =
 shift_takes : (o : ShiftOperation) (k : ℕ) → Takes (shift_middle o k) 0 (2 * (if nat_le k 15 then shift_words o k else 1))
 shift_takes o k =
     either_takes (nat_le k 15) (λ b. 2 * (if b then shift_words o k else 1)) (shift_by_takes o k) (record { are = (tt, tt); bytes = omega arith })
-
-right_words_most : (k : ℕ) → right_words k ≤ k + 1
-right_words_most zero = omega arith
-right_words_most (suc k) = omega arith
 
 shift_most : (b c : Bool) (k n : ℕ) → nat_le k 15 ≡ b → nat_lt k 8 ≡ c → n ≤ k + 1 → (if b then (if c then n else (3 + (k - 8))) else 1) ≤ 10
 shift_most true true k n e f l = let less : k < 8 = ltb-true k 8 f in omega arith
@@ -295,7 +292,7 @@ power_takes (Some k) n os Multiply =
     so_takes (behind (top_to_four_takes os) (shift_takes Left k)) (omega (arith, shift_most (nat_le k 15) (nat_lt k 8) k k refl refl (omega arith)))
 power_takes (Some k) n os Divide =
     so_takes (behind (top_to_four_takes os) (shift_takes Right k))
-    (omega (arith, shift_most (nat_le k 15) (nat_lt k 8) k (right_words k) refl refl (right_words_most k)))
+    (omega (arith, shift_most (nat_le k 15) (nat_lt k 8) k (right_words k) refl refl (right_low k)))
 power_takes (Some k) n os Remainder = so_takes (plain_takes And (waiting.Number (n - 1) ∷ os)) (omega arith)
 power_takes (Some k) n os (Plain o) = two_code_takes (Plain o) (waiting.Number n ∷ os)
 

@@ -2,3 +2,4 @@ pub mod Files
 pub mod Numbers
 pub mod Lines
 pub mod Commands
+mod Added

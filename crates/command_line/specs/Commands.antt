@@ -39,3 +39,16 @@ NamesCommand words = (c : Command) × (line_of words ≡ Some (plain_line c))
 -- the words are a command's name and then its files, and no more
 abbrev pub IsPlainLine : List Text → Type 0
 IsPlainLine words = (c : Command) × (plain_line_of words ≡ Some (plain_line c))
+
+-- the name is none of these
+abbrev pub IsNoneOf : Text → List Text → Type 0
+IsNoneOf name [] = Unit {0}
+IsNoneOf name (other ∷ others) = (name ≡ other → ⊥) × IsNoneOf name others
+
+-- the plain commands, which need no compiler and keep no state
+abbrev pub plain_names : List Text
+plain_names = codes "mean" ∷ codes "run" ∷ codes "asm" ∷ codes "dis" ∷ codes "audit" ∷ []
+
+-- the commands that compile a source
+abbrev pub compiler_names : List Text
+compiler_names = codes "build" ∷ codes "try" ∷ codes "gen" ∷ []

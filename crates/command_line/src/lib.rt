@@ -19,14 +19,32 @@ ghost use Rattle.command_line.specs.CommandLine.{
   subcommand_app,
   subcommand_shape,
 };
-ghost use Rattle.command_line.specs.Commands.{IsPlainLine, NamesCommand, line_found, plain_line, values_of};
+ghost use Rattle.command_line.specs.Commands.{IsNoneOf, IsPlainLine, NamesCommand, compiler_names, line_found, plain_line, plain_names, values_of};
 
 use clap::error::ErrorKind;
 use clap::{Arg, ArgMatches, value_parser};
 use std::alloc::{AllocError, Global};
 
+/// The commands, each with the names of what has to follow it: files, and the number N.
+static COMMANDS: [(&str, &[&str]); 11] = [
+    ("mean", &["SRC", "TRACE"]),
+    ("try", &["SRC", "TRACE", "IMAGE"]),
+    ("build", &["SRC", "IMAGE"]),
+    ("run", &["IMAGE", "TRACE"]),
+    ("asm", &["ASM", "IMAGE"]),
+    ("dis", &["IMAGE"]),
+    ("gen", &["N", "IMAGE"]),
+    ("save", &["IMAGE", "TRACE", "STATE"]),
+    ("resume", &["IMAGE", "STATE", "TRACE"]),
+    (
+        "migrate",
+        &["SRC", "IMAGE", "STATE", "NEWSRC", "NEWIMAGE", "NEWSTATE"],
+    ),
+    ("audit", &["SRC", "REPORT", "TRACE"]),
+];
+
 /// A command of the program, with the names of its files and its number.
-#[derive(Clone, Copy, Debug, PartialEq, Eq)]
+#[derive(Clone, Copy)]
 pub enum Command<'a> {
     /// `mean SRC TRACE`: what the source means on the trace's readings.
     Mean {
@@ -169,18 +187,6 @@ fn command_named<'a>(name: &str, files: &ArgMatches<'a>) -> Option<Command<'a>>
             let (source, trace) = two_files(files, "SRC", "TRACE")?;
             Some(Command::Mean { source, trace })
         }
-        "try" => {
-            let (source, trace, image) = three_files(files, "SRC", "TRACE", "IMAGE")?;
-            Some(Command::Try {
-                source,
-                trace,
-                image,
-            })
-        }
-        "build" => {
-            let (source, image) = two_files(files, "SRC", "IMAGE")?;
-            Some(Command::Build { source, image })
-        }
         "run" => {
             let (image, trace) = two_files(files, "IMAGE", "TRACE")?;
             Some(Command::Run { image, trace })
@@ -193,11 +199,52 @@ fn command_named<'a>(name: &str, files: &ArgMatches<'a>) -> Option<Command<'a>>
             let image = one_file(files, "IMAGE")?;
             Some(Command::Dis { image })
         }
+        "audit" => {
+            let (source, report, trace) = three_files(files, "SRC", "REPORT", "TRACE")?;
+            Some(Command::Audit {
+                source,
+                report,
+                trace,
+            })
+        }
+        _ => compiler_command_named(name, files),
+    }
+}
+
+/// The same of a name that is none of a plain command: one of a command that compiles, or one on states.
+fn compiler_command_named<'a>(name: &str, files: &ArgMatches<'a>) -> Option<Command<'a>>
+    requires { IsNoneOf name.now plain_names }
+    ensures { option_map plain_line result ≡ line_found name.now (rows_of (found_of files.now)) }
+{
+    match name {
+        "build" => {
+            let (source, image) = two_files(files, "SRC", "IMAGE")?;
+            Some(Command::Build { source, image })
+        }
+        "try" => {
+            let (source, trace, image) = three_files(files, "SRC", "TRACE", "IMAGE")?;
+            Some(Command::Try {
+                source,
+                trace,
+                image,
+            })
+        }
         "gen" => {
             let (number, image) = two_files(files, "N", "IMAGE")?;
             let number = number_of(number)?;
             Some(Command::Gen { number, image })
         }
+        _ => state_command_named(name, files),
+    }
+}
+
+/// The same of a name that is of a command on states, if of any.
+fn state_command_named<'a>(name: &str, files: &ArgMatches<'a>) -> Option<Command<'a>>
+    requires plain { IsNoneOf name.now plain_names }
+    requires compiler { IsNoneOf name.now compiler_names }
+    ensures { option_map plain_line result ≡ line_found name.now (rows_of (found_of files.now)) }
+{
+    match name {
         "save" => {
             let (image, trace, state) = three_files(files, "IMAGE", "TRACE", "STATE")?;
             Some(Command::Save {
@@ -226,14 +273,6 @@ fn command_named<'a>(name: &str, files: &ArgMatches<'a>) -> Option<Command<'a>>
                 new_source,
                 new_image,
                 new_state,
-            })
-        }
-        "audit" => {
-            let (source, report, trace) = three_files(files, "SRC", "REPORT", "TRACE")?;
-            Some(Command::Audit {
-                source,
-                report,
-                trace,
             })
         }
         _ => None,
@@ -300,7 +339,7 @@ fn matches_of<'a>(alloc: Global, words: &'a [String]) -> Result<ArgMatches<'a>, 
 }
 
 /// An argument that has to be there: N is a number, and each other one is a text.
-fn positional<'a>(alloc: Global, name: &'a str) -> Arg<'a>
+fn positional<'a>(alloc: Global, name: &'static str) -> Arg<'a>
     ensures rule { rule_of result ≡ file_rule name.entry.now }
     ensures plain { result.global ≡ false }
 {
@@ -315,8 +354,8 @@ fn positional<'a>(alloc: Global, name: &'a str) -> Arg<'a>
 /// The command `name` with its files, which have to be there in this order.
 fn file_command<'a>(
     alloc: Global,
-    name: &'a str,
-    files: &[&'a str],
+    name: &'static str,
+    files: &'static [&'static str],
 ) -> Result<clap::Command<'a>, AllocError>
     ensures { IfOk result (IsCommand (subcommand_app (record {
       name = name.entry.now;
@@ -334,8 +373,8 @@ fn file_command<'a>(
 fn with_files<'a>(
     alloc: Global,
     command: clap::Command<'a>,
-    name: &'a str,
-    files: &[&'a str],
+    name: &'static str,
+    files: &'static [&'static str],
 ) -> Result<clap::Command<'a>, AllocError>
     requires { has_globals command ≡ false }
     ensures { IfOk result (λ c. IsCommand (with_subcommand (app_of command.entry) (subcommand_shape (record {
@@ -345,83 +384,6 @@ fn with_files<'a>(
 {
     let added = file_command(alloc, name, files)?;
     command.subcommand(added)
-}
-
-/// `command` with the command `name` added to it, which has one file.
-fn with_one_file<'a>(
-    alloc: Global,
-    command: clap::Command<'a>,
-    name: &'a str,
-    file: &'a str,
-) -> Result<clap::Command<'a>, AllocError>
-    requires { has_globals command ≡ false }
-    ensures { IfOk result (λ c. IsCommand (with_subcommand (app_of command.entry) (subcommand_shape (record {
-      name = name.entry.now;
-      files = file.entry.now ∷ [];
-    }))) c) }
-{
-    with_files(alloc, command, name, [file].as_slice())
-}
-
-/// `command` with the command `name` added to it, which has two files.
-fn with_two_files<'a>(
-    alloc: Global,
-    command: clap::Command<'a>,
-    name: &'a str,
-    first: &'a str,
-    second: &'a str,
-) -> Result<clap::Command<'a>, AllocError>
-    requires { has_globals command ≡ false }
-    ensures { IfOk result (λ c. IsCommand (with_subcommand (app_of command.entry) (subcommand_shape (record {
-      name = name.entry.now;
-      files = first.entry.now ∷ second.entry.now ∷ [];
-    }))) c) }
-{
-    with_files(alloc, command, name, [first, second].as_slice())
-}
-
-/// `command` with the command `name` added to it, which has three files.
-fn with_three_files<'a>(
-    alloc: Global,
-    command: clap::Command<'a>,
-    name: &'a str,
-    first: &'a str,
-    second: &'a str,
-    third: &'a str,
-) -> Result<clap::Command<'a>, AllocError>
-    requires { has_globals command ≡ false }
-    ensures { IfOk result (λ c. IsCommand (with_subcommand (app_of command.entry) (subcommand_shape (record {
-      name = name.entry.now;
-      files = first.entry.now ∷ second.entry.now ∷ third.entry.now ∷ [];
-    }))) c) }
-{
-    with_files(alloc, command, name, [first, second, third].as_slice())
-}
-
-/// `command` with the command `name` added to it, which has six files.
-fn with_six_files<'a>(
-    alloc: Global,
-    command: clap::Command<'a>,
-    name: &'a str,
-    first: &'a str,
-    second: &'a str,
-    third: &'a str,
-    fourth: &'a str,
-    fifth: &'a str,
-    sixth: &'a str,
-) -> Result<clap::Command<'a>, AllocError>
-    requires { has_globals command ≡ false }
-    ensures { IfOk result (λ c. IsCommand (with_subcommand (app_of command.entry) (subcommand_shape (record {
-      name = name.entry.now;
-      files = first.entry.now ∷ second.entry.now ∷ third.entry.now ∷ fourth.entry.now ∷ fifth.entry.now ∷ sixth.entry.now ∷ [];
-    }))) c) }
-{
-    with_files(
-        alloc,
-        command,
-        name,
-        [first, second, third, fourth, fifth, sixth].as_slice(),
-    )
 }
 
 /// The command line of the program with no command yet.
@@ -439,18 +401,9 @@ fn bare_command<'a>(alloc: Global) -> clap::Command<'a>
 fn alpaca_command<'a>(alloc: Global) -> Result<clap::Command<'a>, AllocError>
     ensures { IfOk result (IsCommand alpaca_app) }
 {
-    let command = bare_command(alloc);
-    let command = with_two_files(alloc, command, "mean", "SRC", "TRACE")?;
-    let command = with_three_files(alloc, command, "try", "SRC", "TRACE", "IMAGE")?;
-    let command = with_two_files(alloc, command, "build", "SRC", "IMAGE")?;
-    let command = with_two_files(alloc, command, "run", "IMAGE", "TRACE")?;
-    let command = with_two_files(alloc, command, "asm", "ASM", "IMAGE")?;
-    let command = with_one_file(alloc, command, "dis", "IMAGE")?;
-    let command = with_two_files(alloc, command, "gen", "N", "IMAGE")?;
-    let command = with_three_files(alloc, command, "save", "IMAGE", "TRACE", "STATE")?;
-    let command = with_three_files(alloc, command, "resume", "IMAGE", "STATE", "TRACE")?;
-    let command = with_six_files(
-        alloc, command, "migrate", "SRC", "IMAGE", "STATE", "NEWSRC", "NEWIMAGE", "NEWSTATE",
-    )?;
-    with_three_files(alloc, command, "audit", "SRC", "REPORT", "TRACE")
+    let mut command = bare_command(alloc);
+    for (name, files) in COMMANDS.as_slice() {
+        command = with_files(alloc, command, name, files)?;
+    }
+    Ok(command)
 }

@@ -14,18 +14,23 @@ fn owned(alloc: Global, texts: &[&str]) -> Result<Vec<String>, AllocError> {
 // The words are no line.
 fn is_usage(alloc: Global, texts: &[&str]) -> Result<bool, AllocError> {
     let words = owned(alloc, texts)?;
-    Ok(command_of(alloc, words.as_slice()) == Err(WordsFault::Usage))
+    Ok(matches!(command_of(alloc, words.as_slice()), Err(WordsFault::Usage)))
 }
 
 #[test]
 fn empty_words(rt: HostRuntime) -> Result<(), Fail> {
     let alloc = rt.alloc();
     let words = owned(alloc, &["mean", "mean", ""])?;
-    let line = Command::Mean {
-        source: "mean",
-        trace: "",
-    };
-    assert!(rt; command_of(alloc, words.as_slice()) == Ok(line));
+    let read = command_of(alloc, words.as_slice());
+    assert!(rt;
+        matches!(
+            read,
+            Ok(Command::Mean {
+                source: "mean",
+                trace: ""
+            })
+        )
+    );
     assert!(rt; is_usage(alloc, &[""])?);
     assert!(rt; is_usage(alloc, &["gen", "", "i"])?);
     command_lines();
