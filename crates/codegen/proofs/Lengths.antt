@@ -1,5 +1,6 @@
 -- The code of a program is instructions, whose jumps reach no further than ten bits say, and is no longer than its words say.
 use Rattle.codegen.specs.Code.{is_turned, compare_source}
+use Rattle.codegen.proofs.Names.{sides}
 use Rattle.codegen.proofs.Names.{◌≡◌, ℕ, zero, suc, ◌+◌, ◌-◌, ◌*◌, ◌<◌, ◌≤◌, ◌==◌, List, [], ◌∷◌, ◌++◌, length, refl, arith, length-append, Bool, true, false}
 use Rattle.codegen.proofs.Names.{not, nat_le, nat_lt, Option, Some, None, ltb-true, if◌then◌else◌, nat_tests, word_sum, Condition, R4, R5, Register, Constant}
 use Rattle.codegen.proofs.Names.{Number, Ram, Source, source_bytes, ToRegister, ToRam, ToIndexed, target_bytes, Form, Move, Calculate, Update, Push, Jump, Skip}

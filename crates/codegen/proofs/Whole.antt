@@ -1,4 +1,5 @@
 -- The code of a word program does what the program does, within the cycles of the way that it takes.
+use Rattle.codegen.proofs.Names.{top_of}
 use Rattle.codegen.proofs.Names.{instruction_of, Condition, Runs, ◌≤◌, R4, form_small, ◌≡◌, ℕ, suc, ◌+◌, ◌-◌, ◌*◌, ◌<◌, Bool, true, false, not, nat_lt}
 use Rattle.codegen.proofs.Names.{if◌then◌else◌, List, [], ◌∷◌, ◌++◌, length, All, Some, ◌≢◌, None, refl, sym, ap, subst, arith, AllByRecursion, Effect, Core}
 use Rattle.codegen.proofs.Names.{Form, form_bytes, Move, Branch, Fram, ToFram, Stands, forms_bytes, stands_front, stands_back, forms_behind, forms_bytes-append}
