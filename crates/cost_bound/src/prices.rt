@@ -10,7 +10,7 @@ ghost use Rattle.cost_bound.specs.Table.{blocks_together, turns_together, words_
 use task_ast::{Arm, BinaryOperator, Expr, Stmt, TaskName, VariableName};
 
 /// One column of the table of prices: what each kind of node costs, its parts aside.
-#[derive(Clone, Copy, Debug, PartialEq, Eq)]
+#[derive(Clone, Copy)]
 pub struct Column {
     /// A number, a scalar, a reading.
     pub leaf: u64,

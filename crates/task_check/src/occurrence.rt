@@ -4,7 +4,7 @@ use alp_text::Span;
 use task_ast::{Extent, WordType};
 
 /// What a name does where it stands. Declarations come first, then uses; the count of a shift stands among them, since it can be at fault too.
-#[derive(Clone, Copy, Debug, PartialEq, Eq)]
+#[derive(Clone, Copy)]
 pub enum Role {
     /// It is declared as a shared variable.
     Shared(WordType, Extent),
@@ -30,7 +30,7 @@ pub enum Role {
 }
 
 /// A name or the count of a shift: its place in the text, and what it does there.
-#[derive(Clone, Copy, Debug, PartialEq, Eq)]
+#[derive(Clone, Copy)]
 pub struct Occurrence {
     pub span: Span,
     pub role: Role,
