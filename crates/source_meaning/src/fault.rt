@@ -7,7 +7,7 @@ use task_lex::LexFault;
 use thiserror::Error;
 
 /// The refusal of the first pass that refuses a text, at its first place. Want of memory stands alone: no other variant holds it.
-#[derive(Clone, Copy, Debug, PartialEq, Eq, Error)]
+#[derive(Clone, Copy, Debug, Error)]
 pub enum SourceFault {
     /// A text that isn't cut into tokens.
     #[error("{0}")]
