@@ -1,5 +1,5 @@
 #!/usr/bin/env python3
-"""Of ten task bodies: the cycles of their own work, beside those that clang's code for the same body takes.
+"""Of ten task bodies: the cycles and the words of their own work, beside those of clang's code for the same body.
 
 usage: bench/alone.py PROGRAM
 
@@ -7,14 +7,16 @@ Each body is built and run on one charge by a small model of the CPU, up to the 
 the code that they are spent in: boot and attempt start, commit, and the task; and in the task by what an instruction is for: the *versions* of
 arrays (the comparison of a version word with VER; behind the first store to an element the version word and the entry; where an element is updated, its
 first store, which goes to the copy and not to the word that was read), and the *transition* (NEXT, the entries, SB, GATE and the branch). What is left is
-the body: `own`.
+the body: `own`. Its words are told apart in the same way; of code that stands twice, for an element's copy and for the element, one counts.
 """
 import re
 import subprocess
 import sys
 import tempfile
 
-CLANG = {"sum8": 75, "addto8": 79, "row14": 517, "mul": 116, "divmod": 285, "branch": 33, "sense": 27, "dot8": 259, "mix": 39, "max16": 217}
+# Cycles and words.
+CLANG = {"sum8": (75, 12), "addto8": (79, 10), "row14": (517, 8), "mul": (116, 9), "divmod": (285, 28), "branch": (33, 27), "sense": (27, 16),
+         "dot8": (259, 20), "mix": (39, 31), "max16": (217, 15)}
 NEXT, GATE, ENTRIES, VER = 0x4402, 0x4404, 0x4406, 0x440E
 MEMORY_ROW, REGISTER_ROW = (4, 6, 5, 5), (1, 3, 2, 2)
 
@@ -207,10 +209,41 @@ def of_task(steps, versions):
     return parts
 
 
+def length_of(word):
+    """The words of an instruction that begins with this one."""
+    if word >> 12 == 1:
+        return 1 + (source_of((word & 15) << 8 | word & 0x30)[0] in ("number", "memory"))
+    return 1 + (word >> 13 != 1) * ((source_of(word)[0] in ("number", "memory")) + (word >> 7 & 1))
+
+
+def own_words(load, begins, ends, versions):
+    """The words of a task's code from one address up to another that are neither for versions nor for its transition."""
+    own, at, resumes, last = 0, begins, begins, 0
+    while at < ends:
+        word, first, second = load(at), load(at + 2), load(at + 4)
+        behind = at + 2 * length_of(word)
+        if NEXT in (first, second) and word & 0xF0FF in (0x40B2, 0x4082, 0x4092, 0x40A2):
+            return own
+        if word & 0xFFF0 == 0x4210 and first == VER and at >= resumes:
+            looks = load(behind) & 0xF000 == 0x9000
+            own -= 2 * (load(last) == 0x4784)
+            jump = behind + 2 * length_of(load(behind))
+            resumes = jump + 2 + 2 * (load(jump) & 0x3FF) if looks else behind
+        elif word == 0x4684 and first in versions and at >= resumes:
+            resumes = at
+            while load(resumes) != 0x5392 or load(resumes + 2) != ENTRIES:
+                resumes += 2 * length_of(load(resumes))
+            resumes += 4
+        own += (behind - at) // 2 * (at >= resumes)
+        at, last = behind, at
+    return own
+
+
 def told_apart(program, source, folder):
-    """The cycles of each part of a charge that completes one transition."""
+    """The cycles of each part of a charge that completes one transition, and the words of the task's own work."""
     words, versions = image(built(program, source, folder))
-    steps, decides = attempt(Board(words, [5] * 64))
+    board = Board(words, [5] * 64)
+    steps, decides = attempt(board)
     commit = steps[decides + 2][0]
     begins = next(k for k, step in enumerate(steps) if step[0] > commit)
     task = of_task(steps[begins : decides + 2], versions)
@@ -218,20 +251,24 @@ def told_apart(program, source, folder):
     parts = dict.fromkeys(("runtime", "versions", "transition", "own"), 0)
     for name, step in zip(names, steps):
         parts[name] += step[4]
-    return parts
+    addresses = [step[0] for step in steps[begins : decides + 2]]
+    return parts, own_words(board.load, min(addresses), max(addresses), versions)
 
 
 def main():
     bodies = re.findall(r"^less (\w+) '(.*)'$", open(sys.path[0] + "/bodies.sh").read(), re.M)
-    print("%-8s %8s %8s %10s %6s %9s %6s" % ("body", "runtime", "versions", "transition", "own", "clang -Os", "ratio"))
-    product = 1
+    head = ("body", "runtime", "versions", "transition", "own", "clang -Os", "ratio", "words", "clang -Os", "ratio")
+    print("%-8s %8s %8s %10s %6s %9s %6s %6s %9s %6s" % head)
+    cycles_product, words_sum = 1, 0
     with tempfile.TemporaryDirectory() as folder:
         for name, source in bodies:
-            parts = told_apart(sys.argv[1], source, folder)
-            ratio = parts["own"] / CLANG[name]
-            product *= ratio
-            print("%-8s %8d %8d %10d %6d %9d %6.2f" % (name, *parts.values(), CLANG[name], ratio))
-    print("geometric mean %.2f" % product ** (1 / len(bodies)))
+            parts, words = told_apart(sys.argv[1], source, folder)
+            cycles, clang_words = CLANG[name]
+            cycles_product *= parts["own"] / cycles
+            words_sum += words / clang_words
+            row = (name, *parts.values(), cycles, parts["own"] / cycles, words, clang_words, words / clang_words)
+            print("%-8s %8d %8d %10d %6d %9d %6.2f %6d %9d %6.2f" % row)
+    print("cycles, geometric mean %.2f; words, mean %.2f" % (cycles_product ** (1 / len(bodies)), words_sum / len(bodies)))
 
 
 main()

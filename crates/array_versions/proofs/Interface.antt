@@ -14,5 +14,7 @@ pub use Rattle.array_versions.proofs.Words.{zero_unless, plain_small, put_words,
 pub use Rattle.array_versions.proofs.Spared.{Leaves, leaves}
 -- Each step keeps to the allowance.
 pub use Rattle.array_versions.proofs.Kept.{steps_keep_to_words}
+-- A shift to the right by k has at most k + 1 words.
+pub use Rattle.array_versions.proofs.Kept.{right_low}
 -- What ways spend, against the cycles of programs.
 pub use Rattle.array_versions.proofs.Spent.{ways_keep_to_cycles, joined_spend}

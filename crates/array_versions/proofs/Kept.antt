@@ -9,7 +9,8 @@ use Rattle.array_versions.specs.declared.operations.ShiftOperation.{ShiftOperati
 use Rattle.array_versions.specs.declared.operations.ShiftOperation.TheVariants.{Left, Right, SignedRight}
 use Rattle.array_versions.specs.Program.{number, load, keep, update, local, set_local, update_local, unary, binary, shift, element, emit_word, list_entry}
 use Rattle.array_versions.specs.Program.{versioned_read}
-use Rattle.array_versions.specs.Program.{versioned_write, versioned_update, sense, truth, choose, repeat, store_number, move_word, jump, holds, compares, both, either}
+use Rattle.array_versions.specs.Program.{versioned_write, versioned_update, sense, truth, choose, repeat, store_number, move_word, jump, holds}
+use Rattle.array_versions.specs.Program.{compares, both, either}
 use Rattle.array_versions.specs.Program.{fails}
 use Rattle.array_versions.specs.Cost.{unary_cycles, unary_words, binary_cycles, binary_words, right_words, shift_words, cycles_of}
 use Rattle.array_versions.specs.Allowance.{binary_allowance, StepsKeepToCycles, StepsKeepToWords, TestsKeepToCycles, TestsKeepToWords}
@@ -31,7 +32,7 @@ binary_words_kept : (o : BinaryOperation) → binary_words o ≤ 16
 binary_words_kept Multiply = omega arith
 binary_words_kept _ = omega arith
 
-right_low : (k : ℕ) → right_words k ≤ k + 1
+pub right_low : (k : ℕ) → right_words k ≤ k + 1
 right_low zero = omega arith
 right_low (suc k) = omega arith
 

@@ -1,26 +1,14 @@
 -- Tests: where the code goes on.
-use Rattle.std.proofs.Common.{◌≡◌, ℕ, ◌+◌, ◌*◌, ◌%◌, ◌<◌, ◌==◌, not, [], ◌∷◌, Some, refl, sym, ap, ap₂, ◌∙◌, subst, arith, Bool, true, false}
-use Rattle.std.proofs.Common.{if◌then◌else◌}
-use Rattle.std.proofs.Math.Bool.{not-not}
-use Rattle.msp_isa.specs.alp_words.declared.Flags.{Flags}
-use Rattle.msp_isa.specs.alp_words.declared.Width.TheVariants.{Word}
-use Rattle.msp_isa.specs.alp_words.Words.{and_of}
-use Rattle.msp_isa.specs.declared.instructions.Condition.{Condition}
+use Rattle.codegen.proofs.Names.{◌≡◌, ℕ, ◌+◌, ◌*◌, ◌%◌, ◌<◌, ◌==◌, not, [], ◌∷◌, Some, refl, sym, ap, ap₂, ◌∙◌, subst, arith, Bool, true, false, if◌then◌else◌}
+use Rattle.codegen.proofs.Names.{not-not, Flags, Word, and_of, Condition, is_met, R4, Core, Constant, Form, Calculate, instruction_of, Stands, forms_bytes}
+use Rattle.codegen.proofs.Names.{Runs, Comparison, Above, SignedAbove, CommonBit, is_true, compare_words, WordState, Behaviour, compare_form, holding, failing}
+use Rattle.codegen.proofs.Names.{jump_over, decision}
 use Rattle.msp_isa.specs.declared.instructions.Condition.TheVariants as condition
 use Rattle.msp_isa.specs.declared.instructions.TwoOp.TheVariants as op
 use Rattle.msp_isa.specs.declared.operands.Konst.TheVariants as konst
-use Rattle.array_versions.specs.msp_step.Effect.{is_met}
-use Rattle.code_forms.specs.Forms.{R4, R5, Core, Register, Constant, Form, Calculate, instruction_of}
-use Rattle.code_forms.specs.Code.{Stands, forms_bytes, forms_run, Runs}
-use Rattle.code_forms.proofs.Interface.{end_of, stands_at}
-use Rattle.array_versions.specs.declared.operations.Comparison.{Comparison}
-use Rattle.array_versions.specs.declared.operations.Comparison.TheVariants.{Equal, Below, Above, SignedBelow, SignedAbove, CommonBit}
-use Rattle.array_versions.specs.Operations.{is_true, compare_words}
-use Rattle.array_versions.specs.Behaviour.{WordState, Behaviour}
-use Rattle.codegen.specs.Code.{compare_form, holding, failing, jump_over, decision}
-use Rattle.codegen.proofs.Stretches.{Setting, straight, runs_on, so_runs}
-use Rattle.codegen.proofs.Follows.{StandsFor, Follows, then_end, stands_elsewhere}
-use Rattle.codegen.proofs.Registers.{zero_flag, Has, HasTwo}
+use Rattle.codegen.proofs.Registers.{Has, HasTwo, line, equal_flag}
+use Rattle.codegen.proofs.Stretches.{Setting, runs_on, so_runs}
+use Rattle.codegen.proofs.Follows.{StandsFor, Follows, then_end}
 use Rattle.codegen.proofs.Jumps.{stands_low, Decided, over_part}
 use Rattle.codegen.proofs.Values.{difference_flags, compared_flags, compare_met, failing_met}
 
@@ -53,9 +41,8 @@ fork_either false d n holds_at fails_at middle l k = record { holds = omega (ari
 module _ (z : Setting) where
   -- the jump to the one way or the other
   decision_part : (when b : Bool) (pc d holds_at fails_at : ℕ) (met opposite : Condition) (w : WordState) (t : Core)
-      → Stands z.code pc (decision when d met opposite)
-      → Fork when d holds_at fails_at (pc + forms_bytes (decision when d met opposite)) → pc < 0x10000 → Decided z pc w b met opposite t
-      → Runs z.code [] 5 t (StandsFor z (if b then holds_at else fails_at) w)
+      → Stands z.code pc (decision when d met opposite) → Fork when d holds_at fails_at (pc + forms_bytes (decision when d met opposite)) → pc < 0x10000
+      → Decided z pc w b met opposite t → Runs z.code [] 5 t (StandsFor z (if b then holds_at else fails_at) w)
   decision_part true true pc d holds_at fails_at met opposite w t h k l i =
       let low = stands_low z pc (jump_over met opposite d) h l in
       over_part z true pc d holds_at met opposite w t h k.holds (omega (arith, k.room low, k.holds)) i
@@ -72,17 +59,14 @@ module _ (z : Setting) where
   -- the code that follows where it is decided, and the way that is taken
   pub decided_follows : (when b : Bool) (pc d holds_at fails_at n end m k : ℕ) (met opposite : Condition) (w : WordState) (u : Core) (x y : Behaviour)
       → Stands z.code pc (decision when d met opposite) → Fork when d holds_at fails_at (pc + forms_bytes (decision when d met opposite)) → pc < 0x10000
-      → Runs z.code [] n u (Decided z pc w b met opposite)
-      → ((t : Core) → StandsFor z holds_at w t → Follows z end m t x) → ((t : Core) → StandsFor z fails_at w t → Follows z end k t y)
-      → Follows z end (n + 5 + (if b then m else k)) u (if b then x else y)
+      → Runs z.code [] n u (Decided z pc w b met opposite) → ((t : Core) → StandsFor z holds_at w t → Follows z end m t x)
+      → ((t : Core) → StandsFor z fails_at w t → Follows z end k t y) → Follows z end (n + 5 + (if b then m else k)) u (if b then x else y)
   decided_follows when true pc d holds_at fails_at n end m k met opposite w u x y h fork l r f g =
-      let come = runs_on z n 5 u (Decided z pc w true met opposite) (StandsFor z holds_at w) [] [] r
-      (λ t i. decision_part when true pc d holds_at fails_at met opposite w t h fork l i) in
-      then_end z end (n + 5) m u (StandsFor z holds_at w) [] x.effects x.end come f
+      let come = runs_on z r (λ t i. decision_part when true pc d holds_at fails_at met opposite w t h fork l i) in
+      then_end z end m x.effects x.end come f
   decided_follows when false pc d holds_at fails_at n end m k met opposite w u x y h fork l r f g =
-      let come = runs_on z n 5 u (Decided z pc w false met opposite) (StandsFor z fails_at w) [] [] r
-      (λ t i. decision_part when false pc d holds_at fails_at met opposite w t h fork l i) in
-      then_end z end (n + 5) k u (StandsFor z fails_at w) [] y.effects y.end come g
+      let come = runs_on z r (λ t i. decision_part when false pc d holds_at fails_at met opposite w t h fork l i) in
+      then_end z end k y.effects y.end come g
 
   -- ---- whether the top isn't 0
 
@@ -92,14 +76,9 @@ module _ (z : Setting) where
   pub holds_part : (pc v : ℕ) (w : WordState) (t : Core) → v < 0x10000 → z.code pc ≡ Some (instruction_of zero_test) → Has z R4 pc w v t
       → Runs z.code [] 1 t (Decided z (pc + 2) w (is_true v) condition.NotEqual condition.Equal)
   holds_part pc v w t l h k =
-      let ms = zero_test ∷ [] in
-      let zero : ((t.work 4 + 65535 + 1) % 65536 == 0) ≡ (v == 0) = ap (λ x. (x + 65535 + 1) % 65536 == 0) k.value ∙ zero_flag v l in
-      straight z ms 1 t (end_of t (forms_run ms t).status) [] 1 _ (tt, tt) (stands_at z.code pc ms t (h, tt) k.is.at) ((tt, tt), tt) refl (omega arith)
-      (record {
-        is = stands_elsewhere z pc (pc + 2) w t _ k.is (omega (arith, k.is.at)) refl refl refl refl refl;
-        holds = ap not zero;
-        fails = zero ∙ sym (not-not (v == 0));
-      })
+      let zero : ((t.work 4 + 65535 + 1) % 65536 == 0) ≡ (v == 0) = ap (λ x. (x + 65535 + 1) % 65536 == 0) k.held ∙ equal_flag v 0 l (omega arith) in
+      line z (zero_test ∷ []) 1 (pc + 2) _ k.is (tt, tt) (h, tt) ((tt, tt), tt) refl refl (omega (arith, k.is.at))
+      (λ s. record { is = s; holds = ap not zero; fails = zero ∙ sym (not-not (v == 0)) })
 
   -- ---- whether two words compare so
 
@@ -108,49 +87,24 @@ module _ (z : Setting) where
     is : StandsFor z pc w t
     flags : t.flags ≡ f
 
-  left_part : (pc next x y : ℕ) (w : WordState) (t : Core) → pc + 2 ≡ next → z.code pc ≡ Some (instruction_of (Calculate op.Cmp (Register R5) R4))
-      → HasTwo z pc w x y t → Runs z.code [] 1 t (HasFlags next w (difference_flags x y))
-  left_part pc next x y w t e h k =
-      let ms = Calculate op.Cmp (Register R5) R4 ∷ [] in
-      straight z ms 1 t (end_of t (forms_run ms t).status) [] 1 _ (tt, tt) (stands_at z.code pc ms t (h, tt) k.is.at) ((tt, tt), tt) refl (omega arith)
-      (record {
-        is = stands_elsewhere z pc next w t _ k.is (omega (arith, k.is.at)) refl refl refl refl refl;
-        flags = ap₂ difference_flags k.four k.five;
-      })
-
-  right_part : (pc next x y : ℕ) (w : WordState) (t : Core) → pc + 2 ≡ next → z.code pc ≡ Some (instruction_of (Calculate op.Cmp (Register R4) R5))
-      → HasTwo z pc w x y t → Runs z.code [] 1 t (HasFlags next w (difference_flags y x))
-  right_part pc next x y w t e h k =
-      let ms = Calculate op.Cmp (Register R4) R5 ∷ [] in
-      straight z ms 1 t (end_of t (forms_run ms t).status) [] 1 _ (tt, tt) (stands_at z.code pc ms t (h, tt) k.is.at) ((tt, tt), tt) refl (omega arith)
-      (record {
-        is = stands_elsewhere z pc next w t _ k.is (omega (arith, k.is.at)) refl refl refl refl refl;
-        flags = ap₂ difference_flags k.five k.four;
-      })
-
-  bits_part : (pc next x y : ℕ) (w : WordState) (t : Core) → pc + 2 ≡ next → z.code pc ≡ Some (instruction_of (Calculate op.Bit (Register R5) R4))
-      → HasTwo z pc w x y t → Runs z.code [] 1 t (HasFlags next w ((and_of Word x y).1))
-  bits_part pc next x y w t e h k =
-      let ms = Calculate op.Bit (Register R5) R4 ∷ [] in
-      straight z ms 1 t (end_of t (forms_run ms t).status) [] 1 _ (tt, tt) (stands_at z.code pc ms t (h, tt) k.is.at) ((tt, tt), tt) refl (omega arith)
-      (record {
-        is = stands_elsewhere z pc next w t _ k.is (omega (arith, k.is.at)) refl refl refl refl refl;
-        flags = ap₂ (λ p q. (and_of Word p q).1) k.four k.five;
-      })
-
-  compare_part : (c : Comparison) (pc next x y : ℕ) (w : WordState) (t : Core) → pc + 2 ≡ next → z.code pc ≡ Some (instruction_of (compare_form c))
-      → HasTwo z pc w x y t → Runs z.code [] 1 t (HasFlags next w (compared_flags c x y))
-  compare_part Equal = left_part
-  compare_part Below = left_part
-  compare_part Above = right_part
-  compare_part SignedBelow = left_part
-  compare_part SignedAbove = right_part
-  compare_part CommonBit = bits_part
+  compare_part : (c : Comparison) (pc x y : ℕ) (w : WordState) (t : Core) → z.code pc ≡ Some (instruction_of (compare_form c)) → HasTwo z pc w x y t
+      → Runs z.code [] 1 t (HasFlags (pc + 2) w (compared_flags c x y))
+  compare_part CommonBit pc x y w t h k =
+      line z (compare_form CommonBit ∷ []) 1 (pc + 2) _ k.is (tt, tt) (h, tt) ((tt, tt), tt) refl refl (omega (arith, k.is.at))
+      (λ s. record { is = s; flags = ap₂ (λ p q. (and_of Word p q).1) k.held.four k.held.five })
+  compare_part Above pc x y w t h k =
+      line z (compare_form Above ∷ []) 1 (pc + 2) _ k.is (tt, tt) (h, tt) ((tt, tt), tt) refl refl (omega (arith, k.is.at))
+      (λ s. record { is = s; flags = ap₂ difference_flags k.held.five k.held.four })
+  compare_part SignedAbove pc x y w t h k =
+      line z (compare_form SignedAbove ∷ []) 1 (pc + 2) _ k.is (tt, tt) (h, tt) ((tt, tt), tt) refl refl (omega (arith, k.is.at))
+      (λ s. record { is = s; flags = ap₂ difference_flags k.held.five k.held.four })
+  compare_part c pc x y w t h k =
+      line z (compare_form c ∷ []) 1 (pc + 2) _ k.is (tt, tt) (h, tt) ((tt, tt), tt) refl refl (omega (arith, k.is.at))
+      (λ s. record { is = s; flags = ap₂ difference_flags k.held.four k.held.five })
 
   pub compares_part : (c : Comparison) (pc x y : ℕ) (w : WordState) (t : Core) → x < 0x10000 → y < 0x10000 → z.code pc ≡ Some (instruction_of (compare_form c))
       → HasTwo z pc w x y t → Runs z.code [] 1 t (Decided z (pc + 2) w (compare_words c x y) (holding c) (failing c))
   compares_part c pc x y w t l m h k =
-      so_runs z [] 1 t (HasFlags (pc + 2) w (compared_flags c x y)) _ (λ s j.
+      so_runs (compare_part c pc x y w t h k) (λ s j.
       let met = ap (is_met (holding c)) j.flags ∙ compare_met c x y l m in
       record { is = j.is; holds = met; fails = failing_met c s.flags ∙ ap not met })
-      (compare_part c pc (pc + 2) x y w t refl h k)

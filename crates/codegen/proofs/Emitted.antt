@@ -1,42 +1,23 @@
 -- Code that is appended piece by piece.
-use Rattle.std.proofs.Common.{◌≡◌, ℕ, suc, ◌+◌, ◌-◌, ◌<◌, ◌≤◌, List, [], ◌∷◌, ◌++◌, length, drop, get_or, sym, ap, ◌∙◌, arith, append_assoc}
-use Rattle.std.proofs.Common.{drop-cons, refl, Some, ◌||◌, ◌==◌}
-use Rattle.std.specs.List.{insert, remove, slice_index_or}
-use Rattle.std.proofs.Common.{add-one, rules, Bool, true, false, if◌then◌else◌, Result, Ok, Err, is_ok}
-use Rattle.std.specs.Result.{OnOk}
-use Rattle.std.proofs.lemmas.Result.{on_ok_weaker}
-use Rattle.msp_isa.specs.alp_words.declared.Width.TheVariants.{Word}
-use Rattle.msp_isa.specs.declared.instructions.Instr.{Instr}
-use Rattle.msp_isa.specs.declared.instructions.Instr.TheVariants.{Two}
-use Rattle.msp_isa.specs.declared.instructions.TwoOp.{TwoOp}
-use Rattle.msp_isa.specs.declared.operands.Src.{Src}
-use Rattle.msp_isa.specs.declared.operands.Dst.{Dst}
-use Rattle.code_forms.specs.Forms.{Form, Push, instruction_of}
-use Rattle.code_forms.specs.Placed.{instructions, words_of as instruction_words}
-use Rattle.code_forms.proofs.Interface.{instructions-append}
-use Rattle.codegen.proofs.Lengths.{size_words}
-use Rattle.std.specs.declared.alloc.Global.{Global}
-use Rattle.std.specs.declared.boxed.Box.{Box}
-use Rattle.std.specs.declared.vec.Vec.{Vec}
-use Rattle.array_versions.specs.declared.operations.Comparison.{Comparison}
-use Rattle.array_versions.specs.declared.operations.PlainOperation.{PlainOperation}
-use Rattle.array_versions.specs.declared.program.ArrayPlace.{ArrayPlace}
-use Rattle.array_versions.specs.declared.program.ListPlace.{ListPlace}
+use Rattle.codegen.proofs.Names.{◌≡◌, ℕ, suc, ◌+◌, ◌-◌, ◌<◌, ◌≤◌, List, [], ◌∷◌, ◌++◌, length, drop, get_or, sym, ap, ◌∙◌, arith, append_assoc, drop-cons, refl}
+use Rattle.codegen.proofs.Names.{Some, ◌==◌, add-one, rules, Bool, true, false, if◌then◌else◌, Result, Ok, Err, is_ok, test_code, test_words, remove}
+use Rattle.codegen.proofs.Names.{slice_index_or, on_ok_weaker, Word, Instr, Two, Form, Push, instruction_of, instructions, instruction_words}
+use Rattle.codegen.proofs.Names.{instructions-append, Comparison, PlainOperation, ArrayPlace, ListPlace, Step, Test, Program, local, set_local, update_local}
+use Rattle.codegen.proofs.Names.{versioned_read, versioned_write, versioned_update, truth, choose, repeat, holds, compares, both, either, fails, nothing, step}
+use Rattle.codegen.proofs.Names.{step_of, steps_of, test_of, StepLocalsBelow, TestLocalsBelow, LocalsBelow, Bound, Waiting, waiting_source, flushed, top_of}
+use Rattle.codegen.proofs.Names.{below_top, repeated, size, waiting_behind, step_code, steps_code}
 use Rattle.array_versions.specs.declared.program.WordStep.{WordStep, the_lemmas}
 use Rattle.array_versions.specs.declared.program.WordStep.TheVariants.{VersionedRead, VersionedWrite, VersionedUpdate, Choose}
 use Rattle.array_versions.specs.declared.program.WordTest.{WordTest}
 use Rattle.array_versions.specs.declared.program.WordTest.TheVariants.{Holds, Compares, Both, Either}
-use Rattle.array_versions.specs.Program.{Step, Test, Program, number, load, keep, update, local, set_local, update_local, unary, binary, shift, element}
-use Rattle.array_versions.specs.Program.{emit_word}
-use Rattle.array_versions.specs.Program.{list_entry}
-use Rattle.array_versions.specs.Program.{versioned_read, versioned_write, versioned_update, sense, truth, choose, repeat, store_number, move_word, jump, holds}
-use Rattle.array_versions.specs.Program.{compares}
-use Rattle.array_versions.specs.Program.{both, either, fails, nothing, step}
-use Rattle.array_versions.specs.View.{step_of, steps_of, test_of}
-use Rattle.array_versions.specs.Form.{StepLocalsBelow, TestLocalsBelow, LocalsBelow}
-use Rattle.codegen.specs.declared.bounds.Bound.{Bound}
-use Rattle.codegen.specs.declared.waiting.Waiting.{Waiting}
-use Rattle.codegen.specs.Code.{waiting_source, flushed, top_of, below_top, is_held, any_held, repeated, size, waiting_behind, step_code, steps_code}
+use Rattle.msp_isa.specs.declared.instructions.TwoOp.{TwoOp}
+use Rattle.msp_isa.specs.declared.operands.Dst.{Dst}
+use Rattle.msp_isa.specs.declared.operands.Src.{Src}
+use Rattle.std.specs.Result.{OnOk}
+use Rattle.std.specs.declared.alloc.Global.{Global}
+use Rattle.std.specs.declared.boxed.Box.{Box}
+use Rattle.std.specs.declared.vec.Vec.{Vec}
+use Rattle.codegen.proofs.Lengths.{test_takes, size_words}
 
 -- ---- one level of a step and of a test
 
@@ -94,13 +75,6 @@ taken_is (o ∷ os) x l e = ap Some e
 pub left_is : (os : List Waiting) → remove os 0 ≡ below_top os
 left_is [] = refl
 left_is (o ∷ os) = refl
-
-pub more_wait : (os : List Waiting) (x : Waiting) → insert os 0 x ≡ x ∷ os
-more_wait os x = refl
-
-pub held_step : (os : List Waiting) (i : ℕ) (x : Waiting) → i < length os → x ≡ get_or os i x → any_held (drop i os) ≡ is_held x || any_held (drop (i + 1) os)
-held_step os i x l e =
-    ap any_held (drop-cons os i x l) ∙ ap (λ y. any_held (y ∷ drop (suc i) os)) (sym e) ∙ ap (λ j. any_held (x ∷ drop j os)) (sym (add-one i))
 
 -- one more of them is pushed, from the lowest on
 pub flushed_step : (os : List Waiting) (i : ℕ) (o : Waiting) (m : Instr) (old code new : List Instr) → i < length os → o ≡ get_or os (length os - 1 - i) o
@@ -179,6 +153,20 @@ words_at_most false n = omega arith
 pub own_words : (own : List Instr) (ms : List Form) → own ≡ instructions ms → length (instruction_words own) ≡ size ms
 own_words own ms e = ap (λ l. length (instruction_words l)) e ∙ sym (size_words ms)
 
+-- code behind other code
+pub code_behind : (a b : List Form) (old mid new : List Instr) → new ≡ mid ++ instructions b → mid ≡ old ++ instructions a → new ≡ old ++ instructions (a ++ b)
+code_behind a b old mid new e q = e ∙ ap (λ l. l ++ instructions b) q ∙ two_behind old a b
+
+-- the same, made of what is known by another name
+pub made_next : {A : Type 0} (made : A → List Form) (x y : A) (a : List Form) (old mid new : List Instr) → new ≡ mid ++ instructions (made x) → x ≡ y
+    → mid ≡ old ++ instructions a → new ≡ old ++ instructions (a ++ made y)
+made_next made x y a old mid new e p q = code_behind a (made y) old mid new (e ∙ ap (λ v. mid ++ instructions (made v)) p) q
+
+-- the words of a test's code, at most
+pub test_items : (bs : List Bound) (t : Test) (when : Bool) (d : ℕ) (own : List Instr) → own ≡ instructions (test_code bs t when d)
+    → length (instruction_words own) ≤ test_words t
+test_items bs t when d own e = omega (arith, own_words own (test_code bs t when d) e, (test_takes bs t when d).bytes)
+
 -- more room for locals
 mutual
   step_locals_up : (a b : ℕ) (s : Step) → a ≤ b → StepLocalsBelow a s → StepLocalsBelow b s
@@ -188,23 +176,7 @@ mutual
   step_locals_up a b (truth c) l h = test_locals_up a b c l h
   step_locals_up a b (choose c p q) l h = (test_locals_up a b c l h.0, locals_up a b p l h.1, locals_up a b q l h.2)
   step_locals_up a b (repeat n from below p) l h = (omega (arith, h.0), locals_up a b p l h.1)
-  step_locals_up a b (number w) l h = tt
-  step_locals_up a b (load w) l h = tt
-  step_locals_up a b (keep w) l h = tt
-  step_locals_up a b (update o w) l h = tt
-  step_locals_up a b (unary o) l h = tt
-  step_locals_up a b (binary o) l h = tt
-  step_locals_up a b (shift o k) l h = tt
-  step_locals_up a b (element w n) l h = tt
-  step_locals_up a b (emit_word c w) l h = tt
-  step_locals_up a b (list_entry c w x y k) l h = tt
-  step_locals_up a b (versioned_read p q) l h = tt
-  step_locals_up a b (versioned_write p q) l h = tt
-  step_locals_up a b (versioned_update o p q) l h = tt
-  step_locals_up a b sense l h = tt
-  step_locals_up a b (store_number w x) l h = tt
-  step_locals_up a b (move_word w x) l h = tt
-  step_locals_up a b (jump w) l h = tt
+  step_locals_up a b _ l h = tt
 
   test_locals_up : (a b : ℕ) (c : Test) → a ≤ b → TestLocalsBelow a c → TestLocalsBelow b c
   test_locals_up a b (holds p) l h = locals_up a b p l h

@@ -1,15 +1,8 @@
 -- Jumps over code and back: how far each of them goes.
-use Rattle.std.proofs.Common.{◌≡◌, ℕ, ◌+◌, ◌-◌, ◌*◌, ◌/◌, ◌%◌, ◌<◌, ◌≤◌, ◌==◌, not, Bool, true, false, nat_le, if◌then◌else◌, List, [], ◌∷◌, refl, ap, ◌∙◌}
-use Rattle.std.proofs.Common.{subst, arith, eq-eqb, ne_eqb, eqb-true}
-use Rattle.std.proofs.lemmas.Bool.Decides.{nat_tests}
-use Rattle.msp_isa.specs.declared.instructions.Condition.{Condition}
+use Rattle.codegen.proofs.Names.{◌≡◌, ℕ, ◌+◌, ◌-◌, ◌*◌, ◌/◌, ◌%◌, ◌<◌, ◌≤◌, ◌==◌, not, Bool, true, false, nat_le, if◌then◌else◌, List, [], ◌∷◌, refl, ap, ◌∙◌}
+use Rattle.codegen.proofs.Names.{subst, arith, eq-eqb, ne_eqb, eqb-true, nat_tests, Condition, sum16, distance, is_met, Core, Form, Jump, Skip, form_bytes}
+use Rattle.codegen.proofs.Names.{Stands, forms_bytes, Runs, form_small, WordState, size, jump_over, pass_over, jump_back}
 use Rattle.msp_isa.specs.declared.instructions.Condition.TheVariants as condition
-use Rattle.array_versions.specs.msp_step.Effect.{sum16, distance, is_met}
-use Rattle.code_forms.specs.Forms.{Core, Form, Jump, Skip, form_bytes}
-use Rattle.code_forms.specs.Code.{Stands, forms_bytes, Runs}
-use Rattle.code_forms.proofs.Interface.{form_small}
-use Rattle.array_versions.specs.Behaviour.{WordState}
-use Rattle.codegen.specs.Code.{size, jump_over, pass_over, jump_back}
 use Rattle.codegen.proofs.Stretches.{Setting, runs_on, dearer, nothing_run}
 use Rattle.codegen.proofs.Follows.{StandsFor}
 use Rattle.codegen.proofs.Registers.{bytes_even, jump_to, skip_to}
@@ -53,38 +46,34 @@ module _ (z : Setting) where
       → Runs z.code [] 5 t (StandsFor z to w))
   over_by true true pc d to met opposite w t n h e l k =
       let far = near_distance d (near_is d n) in
-      dearer z [] 2 5 t _ (omega arith)
-      (jump_to z met d pc to true w t h.0 k.holds (ap (λ x. sum16 (pc + 2) x) far ∙ omega (arith, e)) k.is)
+      dearer z (omega arith) (jump_to z met d pc to true w t h.0 k.holds (ap (λ x. sum16 (pc + 2) x) far ∙ omega (arith, e)) k.is)
   over_by true false pc d to met opposite w t n h e l k =
-      dearer z [] 2 5 t _ (omega arith) (jump_to z met d pc to false w t h.0 k.holds e k.is)
+      dearer z (omega arith) (jump_to z met d pc to false w t h.0 k.holds e k.is)
   over_by false true pc d to met opposite w t n h e l k =
-      runs_on z 2 3 t (StandsFor z (pc + 2) w) _ [] [] (jump_to z opposite 2 pc (pc + 2) false w t h.0 k.fails refl k.is)
+      runs_on z (jump_to z opposite 2 pc (pc + 2) false w t h.0 k.fails refl k.is)
       (λ u j. skip_to z (2 * d) (pc + 2) to w u h.1.0 (omega arith) (omega (arith, e)) j)
   over_by false false pc d to met opposite w t n h e l k =
       let high = (z.tidy pc _ h.0).high in
-      dearer z [] 2 5 t _ (omega arith) (jump_to z opposite 2 pc to true w t h.0 k.fails (omega (arith, e)) k.is)
+      dearer z (omega arith) (jump_to z opposite 2 pc to true w t h.0 k.fails (omega (arith, e)) k.is)
 
   pub over_part : (b : Bool) (pc d to : ℕ) (met opposite : Condition) (w : WordState) (t : Core)
-      → (let ms = jump_over met opposite d in Stands z.code pc ms
-      → (if b then pc + forms_bytes ms + 2 * d else pc + forms_bytes ms) ≡ to → to < 0x10000 → Decided pc w b met opposite t
-      → Runs z.code [] 5 t (StandsFor z to w))
+      → (let ms = jump_over met opposite d in Stands z.code pc ms → (if b then pc + forms_bytes ms + 2 * d else pc + forms_bytes ms) ≡ to → to < 0x10000
+      → Decided pc w b met opposite t → Runs z.code [] 5 t (StandsFor z to w))
   over_part b pc d to met opposite w t h e l k = over_by (nat_le d 511) b pc d to met opposite w t refl h e l k
 
   -- over so many words in any case; by whether there are any, and few
   pass_by : (empty near : Bool) (pc d to : ℕ) (w : WordState) (t : Core) → (d == 0) ≡ empty → nat_le d 511 ≡ near
       → (let ms : List Form = if empty then [] else if near then Jump condition.Always d ∷ [] else (Skip (2 * d) ∷ []) in Stands z.code pc ms
-      → pc + forms_bytes ms + 2 * d ≡ to → (pc + forms_bytes ms < 0x10000 → to < 0x10000) → StandsFor z pc w t
-      → Runs z.code [] 3 t (StandsFor z to w))
+      → pc + forms_bytes ms + 2 * d ≡ to → (pc + forms_bytes ms < 0x10000 → to < 0x10000) → StandsFor z pc w t → Runs z.code [] 3 t (StandsFor z to w))
   pass_by true near pc d to w t n m h e low i =
       let nothing = eqb-true d 0 n in
       let here : pc ≡ to = omega (arith, e, nothing) in
-      dearer z [] 0 3 t _ (omega arith) (nothing_run z t (StandsFor z to w) (subst (λ x. StandsFor z x w t) here i))
+      dearer z (omega arith) (nothing_run z (subst (λ x. StandsFor z x w t) here i))
   pass_by false true pc d to w t n m h e low i =
       let far = near_distance d (near_is d m) in
       let high = (z.tidy pc _ h.0).high in
       let l = low (omega arith) in
-      dearer z [] 2 3 t _ (omega arith)
-      (jump_to z condition.Always d pc to true w t h.0 refl (ap (λ x. sum16 (pc + 2) x) far ∙ omega (arith, e)) i)
+      dearer z (omega arith) (jump_to z condition.Always d pc to true w t h.0 refl (ap (λ x. sum16 (pc + 2) x) far ∙ omega (arith, e)) i)
   pass_by false false pc d to w t n m h e low i =
       let high = (z.tidy pc _ h.0).high in
       let l = low (omega arith) in
@@ -101,18 +90,17 @@ module _ (z : Setting) where
   back_by true true pc d to met opposite w t n h e k =
       let l = near_is d n in
       let high = (z.tidy pc _ h.0).high in
-      dearer z [] 2 5 t _ (omega arith)
-      (jump_to z met (1023 - d) pc to true w t h.0 k.holds (ap (λ x. sum16 (pc + 2) x) (back_distance d l) ∙ omega (arith, e)) k.is)
+      dearer z (omega arith) (jump_to z met (1023 - d) pc to true w t h.0 k.holds (ap (λ x. sum16 (pc + 2) x) (back_distance d l) ∙ omega (arith, e)) k.is)
   back_by true false pc d to met opposite w t n h e k =
-      dearer z [] 2 5 t _ (omega arith) (jump_to z met (1023 - d) pc to false w t h.0 k.holds e k.is)
+      dearer z (omega arith) (jump_to z met (1023 - d) pc to false w t h.0 k.holds e k.is)
   back_by false true pc d to met opposite w t n h e k =
       let high = (z.tidy (pc + 2) _ h.1.0).high in
-      runs_on z 2 3 t (StandsFor z (pc + 2) w) _ [] [] (jump_to z opposite 2 pc (pc + 2) false w t h.0 k.fails refl k.is)
+      runs_on z (jump_to z opposite 2 pc (pc + 2) false w t h.0 k.fails refl k.is)
       (λ u j. skip_to z (0xFFFA - 2 * d) (pc + 2) to w u h.1.0 (omega arith) (omega (arith, e)) j)
   back_by false false pc d to met opposite w t n h e k =
       let high = (z.tidy pc _ h.0).high in
       let high' = (z.tidy (pc + 2) _ h.1.0).high in
-      dearer z [] 2 5 t _ (omega arith) (jump_to z opposite 2 pc to true w t h.0 k.fails (omega (arith, e)) k.is)
+      dearer z (omega arith) (jump_to z opposite 2 pc to true w t h.0 k.fails (omega (arith, e)) k.is)
 
   pub back_part : (b : Bool) (pc d to : ℕ) (met opposite : Condition) (w : WordState) (t : Core) → Stands z.code pc (jump_back met opposite d)
       → (if b then to + 2 * d else pc + forms_bytes (jump_back met opposite d)) ≡ (if b then pc else to) → Decided pc w b met opposite t

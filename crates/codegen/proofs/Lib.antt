@@ -1,3 +1,4 @@
+mod Names
 mod Stretches
 mod Memory
 mod Follows
@@ -26,6 +27,5 @@ mod UpdateEmitted
 mod Prefixes
 mod Lengths
 mod Whole
-mod Instructions
 pub mod Interface
 pub use Rattle.array_versions.proofs as array_versions

@@ -1,19 +1,9 @@
 -- In the body of a loop the local that counts its turns is below a number, and so is an index that waits there.
-use Rattle.std.proofs.Common.{◌≡◌, ◌≢◌, ℕ, ◌<◌, ◌==◌, ◌&&◌, ◌||◌, Bool, true, false, nat_lt, nat_le, if◌then◌else◌, List, [], ◌∷◌, Option, Some}
-use Rattle.std.proofs.Common.{◌≤◌, refl, sym, ap, ◌∙◌, subst, arith, ltb-true, lt-ltb, eqb-true, ne_eqb}
-use Rattle.std.proofs.lemmas.Bool.{and_parts}
-use Rattle.std.proofs.lemmas.Bool.Decides.{nat_tests}
-use Rattle.std.specs.Option.{unwrap_or}
-use Rattle.std.specs.List.{AllByRecursion}
-use Rattle.code_forms.specs.Forms.{Core}
-use Rattle.array_versions.specs.Program.{Step, Program, nothing, step}
-use Rattle.array_versions.specs.Behaviour.{WordState, End, GoesOn, Jumps, Short, Strays, Broken, on_end, with_stack, assigned, step_behaviour, behaviour}
-use Rattle.array_versions.specs.Form.{StepSpares, Spares}
-use Rattle.array_versions.proofs.Interface.{Leaves, leaves}
-use Rattle.codegen.specs.declared.bounds.Bound.{Bound}
-use Rattle.codegen.specs.declared.waiting.Waiting.{Waiting}
+use Rattle.codegen.proofs.Names.{◌≡◌, ◌≢◌, ℕ, ◌<◌, ◌==◌, ◌&&◌, ◌||◌, Bool, true, false, nat_lt, nat_le, if◌then◌else◌, List, [], ◌∷◌, Option, Some, ◌≤◌, refl}
+use Rattle.codegen.proofs.Names.{sym, ap, ◌∙◌, subst, arith, ltb-true, lt-ltb, eqb-true, ne_eqb, and_parts, nat_tests, unwrap_or, AllByRecursion, Core, Step}
+use Rattle.codegen.proofs.Names.{Program, nothing, step, WordState, End, GoesOn, on_end, with_stack, assigned, step_behaviour, behaviour, StepSpares, Spares}
+use Rattle.codegen.proofs.Names.{Leaves, leaves, Bound, Waiting, top_of, below_top, is_bounded, is_inside}
 use Rattle.codegen.specs.declared.waiting.Waiting.TheVariants as waiting
-use Rattle.codegen.specs.Code.{top_of, below_top, is_bounded, is_inside}
 use Rattle.codegen.proofs.Stretches.{Setting}
 use Rattle.codegen.proofs.Follows.{OnGoesOn}
 use Rattle.codegen.proofs.Operands.{waiting_word, Describes, drop_part}
@@ -51,10 +41,7 @@ bounded_with bs l m v h k = same_bounded bs l (assigned l m v) (spared_so bs (λ
 -- where an end goes on
 on_bounded : (bs : List Bound) (l : ℕ → Option ℕ) (e : End) → Bounded bs l → Spared bs (λ n. Leaves n (l n) e) → OnGoesOn (λ t. Bounded bs t.locals) e
 on_bounded bs l (GoesOn t) h k = same_bounded bs l t.locals k h
-on_bounded bs l (Jumps to t) h k = tt
-on_bounded bs l Short h k = tt
-on_bounded bs l Strays h k = tt
-on_bounded bs l Broken h k = tt
+on_bounded bs l _ h k = tt
 
 pub bounded_on : (bs : List Bound) (p : Program) (s : WordState) → Spared bs (λ n. Spares n p) → Bounded bs s.locals
     → OnGoesOn (λ t. Bounded bs t.locals) (behaviour p s).end
@@ -65,10 +52,7 @@ bounded_on bs p s h k =
 -- a step by itself
 one_leaves : (n : ℕ) (o : Option ℕ) (e : End) → Leaves n o (on_end e (behaviour nothing)).end → Leaves n o e
 one_leaves n o (GoesOn t) h = h
-one_leaves n o (Jumps to t) h = tt
-one_leaves n o Short h = tt
-one_leaves n o Strays h = tt
-one_leaves n o Broken h = tt
+one_leaves n o _ h = tt
 
 pub step_bounded : (bs : List Bound) (first : Step) (s : WordState) → Spared bs (λ n. StepSpares n first) → Bounded bs s.locals
     → OnGoesOn (λ t. Bounded bs t.locals) (step_behaviour first s).end
@@ -102,9 +86,7 @@ inside_less : (bs : List Bound) (o : Waiting) (fram : ℕ → ℕ) (l : ℕ → 
     → is_inside bs (Some o) size ≡ true → waiting_word fram l work o < size
 inside_less bs (waiting.Number k) fram l work size h e = ltb-true k size e
 inside_less bs (waiting.Local n) fram l work size h e = bounded_less bs l n size h e
-inside_less bs (waiting.Fram a) fram l work size h e = absurd (let q = e in (cc))
-inside_less bs waiting.R4 fram l work size h e = absurd (let q = e in (cc))
-inside_less bs waiting.R6 fram l work size h e = absurd (let q = e in (cc))
+inside_less bs _ fram l work size h e = absurd (let q = e in (cc))
 
 module _ (z : Setting) (bs : List Bound) (pc : ℕ) (u : Core) (size : ℕ) where
   -- the index is the top

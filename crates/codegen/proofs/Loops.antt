@@ -1,35 +1,25 @@
 -- Loops: a turn, and behind it the local decides whether there is another.
-use Rattle.std.proofs.Common.{◌≡◌, ℕ, zero, suc, ◌+◌, ◌-◌, ◌*◌, ◌%◌, ◌<◌, ◌≤◌, ◌==◌, not, Bool, true, false, nat_lt, if◌then◌else◌, List, [], ◌∷◌, ◌++◌}
-use Rattle.std.proofs.Common.{Some, refl, sym, ap, ◌∙◌, subst, arith, eq-eqb, ne_eqb}
-use Rattle.std.proofs.lemmas.Bool.Decides.{nat_tests}
-use Rattle.std.proofs.Math.Bool.{not-not}
+use Rattle.codegen.proofs.Names.{◌≡◌, ℕ, zero, suc, ◌+◌, ◌-◌, ◌*◌, ◌%◌, ◌<◌, ◌≤◌, ◌==◌, not, Bool, true, false, nat_lt, if◌then◌else◌, List, [], ◌∷◌, ◌++◌}
+use Rattle.codegen.proofs.Names.{Some, refl, sym, ap, ◌∙◌, subst, arith, eq-eqb, ne_eqb, nat_tests, not-not, put, put_same, WorkRegister, R4, work_number, Core}
+use Rattle.codegen.proofs.Names.{Register, Constant, Ram, ToRegister, ToRam, Form, Move, Calculate, instruction_of, form_bytes, Stands, forms_bytes, forms_run}
+use Rattle.codegen.proofs.Names.{Runs, stands_front, stands_back, end_of, stands_at, form_at, first_forms, forms_bytes-append, WordState, End, GoesOn}
+use Rattle.codegen.proofs.Names.{Behaviour, with_local, assigned, turns, spent_on, turns_spent, local_register, local_address, number_source, number_code, size}
+use Rattle.codegen.proofs.Names.{ram_turn_end, turn_end, jump_back, turns_code}
 use Rattle.msp_isa.specs.declared.instructions.Condition.TheVariants as condition
 use Rattle.msp_isa.specs.declared.instructions.TwoOp.TheVariants as op
 use Rattle.msp_isa.specs.declared.operands.Konst.TheVariants as konst
-use Rattle.array_versions.specs.machine_effects.World.{put}
-use Rattle.array_versions.proofs.machine_effects.Interface.{put_same}
-use Rattle.code_forms.specs.Forms.{WorkRegister, R4, work_number, Core, Register, Constant, Ram, ToRegister, ToRam, Form, Move, Calculate, instruction_of}
-use Rattle.code_forms.specs.Forms.{form_bytes}
-use Rattle.code_forms.specs.Code.{Stands, forms_bytes, forms_run, Runs}
-use Rattle.code_forms.proofs.Interface.{stands_front, stands_back, end_of, stands_at, form_at, first_forms, forms_bytes-append}
-use Rattle.array_versions.specs.Behaviour.{WordState, End, GoesOn, Jumps, Short, Strays, Broken, Behaviour, with_local, assigned, turns}
-use Rattle.array_versions.specs.Cost.{spent_on, turns_spent}
-use Rattle.codegen.specs.Code.{local_register, local_address, number_source, number_code, size, ram_turn_end, turn_end, jump_back, turns_code}
+use Rattle.codegen.proofs.Registers.{Has}
+use Rattle.codegen.proofs.Operands.{compare_number}
 use Rattle.codegen.proofs.Stretches.{Setting, straight, runs_on, dearer, so_runs}
 use Rattle.codegen.proofs.Memory.{local_words, in_register, in_ram, Memory, local_needs, set_register, set_ram}
 use Rattle.codegen.proofs.Follows.{StandsFor, Follows, OnGoesOn, more_cycles, then_end, then_way, ends_at}
 use Rattle.codegen.proofs.Parts.{local_number}
-use Rattle.codegen.proofs.Registers.{Has}
-use Rattle.codegen.proofs.Operands.{Compared, compare_number}
 use Rattle.codegen.proofs.Jumps.{whole_size, Decided, back_part}
 
 -- what is spent behind a turn, with the turn's own part in front
 turn_and_rest : (e : End) (f : WordState → ℕ) → spent_on e (λ v. 15 + f v) ≤ 15 + spent_on e f
 turn_and_rest (GoesOn v) f = omega arith
-turn_and_rest (Jumps to v) f = omega arith
-turn_and_rest Short f = omega arith
-turn_and_rest Strays f = omega arith
-turn_and_rest Broken f = omega arith
+turn_and_rest _ f = omega arith
 
 module _ (z : Setting) where
   -- the local is one more, and the flags tell whether it has come to the number
@@ -42,15 +32,13 @@ module _ (z : Setting) where
       → Runs z.code [] 2 t (Raised (pc + form_bytes m) n k below w))
   compare_raised r pc n k below w t l lb h i =
       let end = pc + form_bytes (Calculate op.Cmp (number_source below) r) in
-      so_runs z [] 2 t (Compared z end (with_local n k w) t.work k below) _
-      (λ u j. record { is = j.is; holds = ap not j.zero; fails = j.zero ∙ sym (not-not (k == below)) })
-      (compare_number z r pc k below (with_local n k w) t l lb i.value i.is h)
+      so_runs (compare_number z r pc k below (with_local n k w) t l lb i.held i.is h)
+      (λ u j. record { is = j.all.is; holds = ap not j.flag.zero; fails = j.flag.zero ∙ sym (not-not (k == below)) })
 
-  raise_by : (b : Bool) (pc n k below : ℕ) (w : WordState) (u : Core) → nat_lt n 8 ≡ b → n < z.locals → w.locals n ≡ Some k → k + 1 < 0x10000
-      → below < 0x10000
-      → (let ms : List Form = if b then Calculate op.Add (Constant konst.One) (local_register n) ∷ Calculate op.Cmp (number_source below) (local_register n)
-      ∷ [] else (ram_turn_end n below) in
-      Stands z.code pc ms → StandsFor z pc w u → Runs z.code [] 10 u (Raised (pc + forms_bytes ms) n (k + 1) below w))
+  raise_by : (b : Bool) (pc n k below : ℕ) (w : WordState) (u : Core) → nat_lt n 8 ≡ b → n < z.locals → w.locals n ≡ Some k → k + 1 < 0x10000 → below < 0x10000
+      → (let ms : List Form = if b then Calculate op.Add (Constant konst.One) (local_register n) ∷ Calculate op.Cmp (number_source below)
+      (local_register n) ∷ [] else (ram_turn_end n below) in Stands z.code pc ms → StandsFor z pc w u
+      → Runs z.code [] 10 u (Raised (pc + forms_bytes ms) n (k + 1) below w))
   raise_by true pc n k below w u b lt q l lb h i =
       let to = local_register n in
       let r = work_number to in
@@ -71,11 +59,10 @@ module _ (z : Setting) where
               fram = i.fram;
               readings = i.readings;
             };
-        value = put_same u.work r ((u.work r + 1 + 0) % 0x10000) ∙ next;
+        held = put_same u.work r ((u.work r + 1 + 0) % 0x10000) ∙ next;
       }) in
-      subst (λ p. Runs z.code [] 10 u (Raised p n (k + 1) below w)) end
-      (dearer z [] 3 10 u _ (omega arith) (runs_on z 1 2 u (Has z to (pc + 2) (with_local n (k + 1) w) (k + 1)) _ [] [] added
-      (λ t j. compare_raised to (pc + 2) n (k + 1) below w t l lb h.1.0 j)))
+      subst (λ p. Runs z.code [] 10 u (Raised p n (k + 1) below w)) end (dearer z (omega arith)
+      (runs_on z added (λ t j. compare_raised to (pc + 2) n (k + 1) below w t l lb h.1.0 j)))
   raise_by false pc n k below w u b lt q l lb h i =
       let a = local_address n in
       let ms = Move (Ram a) (ToRegister R4) ∷ Calculate op.Add (Constant konst.One) R4 ∷ Move (Register R4) (ToRam a) ∷ [] in
@@ -97,10 +84,9 @@ module _ (z : Setting) where
               fram = i.fram;
               readings = i.readings;
             };
-        value = next;
+        held = next;
       }) in
-      subst (λ p. Runs z.code [] 10 u (Raised p n (k + 1) below w)) end
-      (runs_on z 8 2 u (Has z R4 (pc + 10) (with_local n (k + 1) w) (k + 1)) _ [] [] added
+      subst (λ p. Runs z.code [] 10 u (Raised p n (k + 1) below w)) end (runs_on z added
       (λ t j. compare_raised R4 (pc + 10) n (k + 1) below w t l lb (form_at z.code pc 3 all last h refl) j))
 
   raise_part : (pc n k below : ℕ) (w : WordState) (u : Core) → n < z.locals → w.locals n ≡ Some k → k + 1 < 0x10000 → below < 0x10000
@@ -145,18 +131,16 @@ module _ (z : Setting) where
     last_turn k v t q e i =
         let to : behind_turn + forms_bytes back ≡ end = omega (arith, forms_bytes-append turn back) in
         let over : not ((k + 1) == below) ≡ false = ap not (eq-eqb (k + 1) below e) in
-        runs_on z 10 5 t (Raised behind_turn n (k + 1) below v) _ [] [] (behind_body k v t q (omega arith) i) (λ u j.
-        back_part z false behind_turn (size turn) end condition.NotEqual condition.Equal (with_local n (k + 1) v) u jumps_back to
-        (subst (λ b. Decided z behind_turn (with_local n (k + 1) v) b condition.NotEqual condition.Equal u) over j))
+        runs_on z (behind_body k v t q (omega arith) i) (λ u j. back_part z false behind_turn (size turn) end condition.NotEqual condition.Equal
+        (with_local n (k + 1) v) u jumps_back to (subst (λ b. Decided z behind_turn (with_local n (k + 1) v) b condition.NotEqual condition.Equal u) over j))
 
     next_turn : (k : ℕ) (v : WordState) (t : Core) → v.locals n ≡ Some k → k + 1 < below → StandsFor z (pc + forms_bytes body) v t
         → Runs z.code [] 15 t (StandsFor z pc (with_local n (k + 1) v))
     next_turn k v t q l i =
         let from : pc + 2 * size turn ≡ behind_turn = omega (arith, whole_size turn) in
         let more : not ((k + 1) == below) ≡ true = ap not (ne_eqb (k + 1) below (λ e. omega arith)) in
-        runs_on z 10 5 t (Raised behind_turn n (k + 1) below v) _ [] [] (behind_body k v t q (omega arith) i) (λ u j.
-        back_part z true behind_turn (size turn) pc condition.NotEqual condition.Equal (with_local n (k + 1) v) u jumps_back from
-        (subst (λ b. Decided z behind_turn (with_local n (k + 1) v) b condition.NotEqual condition.Equal u) more j))
+        runs_on z (behind_body k v t q (omega arith) i) (λ u j. back_part z true behind_turn (size turn) pc condition.NotEqual condition.Equal
+        (with_local n (k + 1) v) u jumps_back from (subst (λ b. Decided z behind_turn (with_local n (k + 1) v) b condition.NotEqual condition.Equal u) more j))
 
     -- a turn, and what is behind its body
     one_turn : (m k : ℕ) (s : WordState) (u : Core) → fit (suc m) s → k < below → StandsFor z pc (with_local n k s) u
@@ -178,17 +162,15 @@ module _ (z : Setting) where
     turns_part zero k s u g e i =
         one_turn zero k s u g (omega arith) i (λ v t f q j. last_turn k v t q (omega arith) j)
     turns_part (suc m) k s u g e i =
-        one_turn (suc m) k s u g (omega arith) i (λ v t f q j.
-        then_end z end 15 (turns_spent (suc m) n (k + 1) run cost v) t _ [] (turns (suc m) n (k + 1) run v).effects (turns (suc m) n (k + 1) run v).end
-        (next_turn k v t q (omega arith) j) (λ c l. turns_part m (k + 1) v c f (omega arith) l))
+        one_turn (suc m) k s u g (omega arith) i (λ v t f q j. then_end z end (turns_spent (suc m) n (k + 1) run cost v) (turns (suc m) n (k + 1) run v).effects
+        (turns (suc m) n (k + 1) run v).end (next_turn k v t q (omega arith) j) (λ c l. turns_part m (k + 1) v c f (omega arith) l))
 
   -- a loop, where its code stands; by whether it makes a turn
   pub loop_by : (any : Bool) (body : List Form) (pc n from below : ℕ) (cost : WordState → ℕ) (run : WordState → Behaviour) (fit : ℕ → WordState → Type 0)
       (s : WordState) (u : Core) → nat_lt from below ≡ any → n < z.locals → below < 0x10000
-      → (let start = number_code n from in let rest : List Form = if any then turns_code n below body else [] in
-      Stands z.code pc (start ++ rest) → StandsFor z pc s u → fit (below - from) s
-      → (Stands z.code (pc + forms_bytes start) body → (m k : ℕ) (s : WordState) (t : Core) → fit (suc m) s → k < below
-      → StandsFor z (pc + forms_bytes start) (with_local n k s) t
+      → (let start = number_code n from in let rest : List Form = if any then turns_code n below body else [] in Stands z.code pc (start ++ rest)
+      → StandsFor z pc s u → fit (below - from) s → (Stands z.code (pc + forms_bytes start) body → (m k : ℕ) (s : WordState) (t : Core) → fit (suc m) s
+      → k < below → StandsFor z (pc + forms_bytes start) (with_local n k s) t
       → Follows z (pc + forms_bytes start + forms_bytes body) (cost (with_local n k s)) t (run (with_local n k s)))
       → ((m k : ℕ) (s : WordState) → fit (suc m) s → k < below → OnGoesOn (λ v. fit m v × (v.locals n ≡ Some k)) (run (with_local n k s)).end)
       → Follows z (pc + forms_bytes (start ++ rest)) (5 + turns_spent (below - from) n from run cost s) u (turns (below - from) n from run s))
@@ -213,5 +195,5 @@ module _ (z : Setting) where
       let inside = stands_front z.code top body (turn_end n below) there in
       subst (λ q. Follows z (pc + forms_bytes (start ++ rest)) (5 + turns_spent q n from run cost s) u (turns q n from run s)) count
       (ends_at z (pc + forms_bytes start + forms_bytes rest) _ (5 + turns_spent (suc m) n from run cost s) u (turns (suc m) n from run s) e
-      (then_end z _ 5 (turns_spent (suc m) n from run cost s) u _ [] (turns (suc m) n from run s).effects (turns (suc m) n from run s).end set (λ t j.
+      (then_end z _ (turns_spent (suc m) n from run cost s) (turns (suc m) n from run s).effects (turns (suc m) n from run s).end set (λ t j.
       turns_part body top n below cost run fit lt lb stand (doing inside) keeps m from s t (subst (λ q. fit q s) (sym count) g) count j)))

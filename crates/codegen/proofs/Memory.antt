@@ -1,15 +1,16 @@
 -- The stack and the locals: the first eight in registers, the others in RAM.
-use Rattle.std.proofs.Common.{◌≡◌, ℕ, zero, suc, ◌+◌, ◌-◌, ◌*◌, ◌<◌, ◌≤◌, List, [], ◌∷◌, length, get_or, Option, Some, refl, sym, ap, ◌∙◌, subst, arith}
-use Rattle.std.proofs.Common.{Bool, true, false, nat_eq, nat_lt, eq-eqb, ne_eqb, if◌then◌else◌}
-use Rattle.std.proofs.lemmas.Bool.Decides.{nat_tests}
-use Rattle.std.proofs.lemmas.Option.{same_Some}
-use Rattle.array_versions.specs.machine_effects.World.{put}
-use Rattle.array_versions.specs.machine_effects.Machine.{IsFram, IsRam}
-use Rattle.array_versions.proofs.machine_effects.Interface.{put_same, put_other}
-use Rattle.code_forms.specs.Forms.{work_number, HasPushRoom}
-use Rattle.array_versions.specs.Behaviour.{is_place, assigned}
-use Rattle.codegen.specs.Code.{local_register, local_address}
+use Rattle.codegen.proofs.Names.{◌≡◌, ℕ, zero, suc, ◌+◌, ◌-◌, ◌*◌, ◌<◌, ◌≤◌, List, [], ◌∷◌, length, get_or, Option, Some, refl, sym, ap, ◌∙◌, subst, arith}
+use Rattle.codegen.proofs.Names.{Bool, true, false, nat_eq, nat_lt, eq-eqb, ne_eqb, if◌then◌else◌, AllByRecursion, nat_tests, same_Some, put, IsFram, IsRam}
+use Rattle.codegen.proofs.Names.{put_same, put_other, work_number, HasPushRoom, is_place, assigned, local_register, local_address}
 use Rattle.codegen.proofs.Stretches.{Setting}
+
+-- words
+abbrev pub AreWords : List ℕ → Type 0
+AreWords vs = AllByRecursion (λ v. v < 0x10000) vs
+
+-- words at each address
+abbrev pub HoldsWords : (ℕ → ℕ) → Type 0
+HoldsWords f = (a : ℕ) → f a < 0x10000
 
 -- the stack in RAM, its top first
 abbrev pub StackIs : (ℕ → ℕ) → ℕ → List ℕ → Type 0
@@ -40,33 +41,23 @@ below_eight n e = grind (arith, nat_tests)
 from_eight : (n : ℕ) → nat_lt n 8 ≡ false → 8 ≤ n
 from_eight n e = grind (arith, nat_tests)
 
-register_number : (n : ℕ) → n < 8 → work_number (local_register n) ≡ 8 + n
-register_number zero l = refl
-register_number (suc zero) l = refl
-register_number (suc (suc zero)) l = refl
-register_number (suc (suc (suc zero))) l = refl
-register_number (suc (suc (suc (suc zero)))) l = refl
-register_number (suc (suc (suc (suc (suc zero))))) l = refl
-register_number (suc (suc (suc (suc (suc (suc zero)))))) l = refl
-register_number (suc (suc (suc (suc (suc (suc (suc zero))))))) l = refl
-register_number (suc (suc (suc (suc (suc (suc (suc (suc n)))))))) l = absurd (let high = l in omega arith)
-
-word_at : (work : ℕ → ℕ) (n : ℕ) → n < 8 → get_or (local_words work) n 0 ≡ work (8 + n)
-word_at work zero l = refl
-word_at work (suc zero) l = refl
-word_at work (suc (suc zero)) l = refl
-word_at work (suc (suc (suc zero))) l = refl
-word_at work (suc (suc (suc (suc zero)))) l = refl
-word_at work (suc (suc (suc (suc (suc zero))))) l = refl
-word_at work (suc (suc (suc (suc (suc (suc zero)))))) l = refl
-word_at work (suc (suc (suc (suc (suc (suc (suc zero))))))) l = refl
-word_at work (suc (suc (suc (suc (suc (suc (suc (suc n)))))))) l = absurd (let high = l in omega arith)
+-- the register of a local, and its word
+register_at : (work : ℕ → ℕ) (n : ℕ) → n < 8 → (work_number (local_register n) ≡ 8 + n) × (get_or (local_words work) n 0 ≡ work (8 + n))
+register_at work zero l = (refl, refl)
+register_at work (suc zero) l = (refl, refl)
+register_at work (suc (suc zero)) l = (refl, refl)
+register_at work (suc (suc (suc zero))) l = (refl, refl)
+register_at work (suc (suc (suc (suc zero)))) l = (refl, refl)
+register_at work (suc (suc (suc (suc (suc zero))))) l = (refl, refl)
+register_at work (suc (suc (suc (suc (suc (suc zero)))))) l = (refl, refl)
+register_at work (suc (suc (suc (suc (suc (suc (suc zero))))))) l = (refl, refl)
+register_at work (suc (suc (suc (suc (suc (suc (suc (suc n)))))))) l = absurd (let high = l in omega arith)
 
 -- a local in a register
 pub in_register : (work ram : ℕ → ℕ) (n : ℕ) → nat_lt n 8 ≡ true → work (work_number (local_register n)) ≡ local_word (local_words work) ram n
 in_register work ram n e =
-    let l = below_eight n e in
-    ap work (register_number n l) ∙ sym (word_at work n l) ∙ ap (λ b. if b then get_or (local_words work) n 0 else ram (local_address n)) (sym e)
+    let at = register_at work n (below_eight n e) in
+    ap work at.0 ∙ sym at.1 ∙ ap (λ b. if b then get_or (local_words work) n 0 else ram (local_address n)) (sym e)
 
 -- a local in RAM
 pub in_ram : (words : List ℕ) (ram : ℕ → ℕ) (n : ℕ) → nat_lt n 8 ≡ false → ram (local_address n) ≡ local_word words ram n
@@ -80,8 +71,7 @@ pub record Memory (z : Setting) (sp : ℕ) (ram : ℕ → ℕ) (words vs : List 
   pub vars : (n v : ℕ) → n < z.locals → ls n ≡ Some v → local_word words ram n ≡ v
 
 module _ (z : Setting) where
-  pub pop_memory : {sp v : ℕ} {ram : ℕ → ℕ} {words vs : List ℕ} {ls : ℕ → Option ℕ} → Memory z sp ram words (v ∷ vs) ls
-      → Memory z (sp + 2) ram words vs ls
+  pub pop_memory : {sp v : ℕ} {ram : ℕ → ℕ} {words vs : List ℕ} {ls : ℕ → Option ℕ} → Memory z sp ram words (v ∷ vs) ls → Memory z (sp + 2) ram words vs ls
   pop_memory m = record { depth = omega (arith, m.depth); fits = omega (arith, m.fits); stack = m.stack.1; vars = m.vars }
 
   pub pop_needs : {sp v : ℕ} {ram : ℕ → ℕ} {words vs : List ℕ} {ls : ℕ → Option ℕ} → Memory z sp ram words (v ∷ vs) ls → IsRam sp
@@ -128,14 +118,13 @@ module _ (z : Setting) where
       l : n < 8
       l = below_eight n e
 
-      by : (b : Bool) (k : ℕ) → nat_lt k 8 ≡ b
-          → (if b then get_or (local_words (put work (work_number (local_register n)) v)) k 0 else ram (local_address k))
+      by : (b : Bool) (k : ℕ) → nat_lt k 8 ≡ b → (if b then get_or (local_words (put work (work_number (local_register n)) v)) k 0 else ram (local_address k))
           ≡ (if nat_eq k n then v else (if b then get_or (local_words work) k 0 else ram (local_address k)))
       by true k t =
           let h = below_eight k t in
           let same : nat_eq (8 + k) (8 + n) ≡ nat_eq k n = grind (arith, nat_tests) in
-          word_at (put work (work_number (local_register n)) v) k h ∙ ap (λ r. put work r v (8 + k)) (register_number n l)
-          ∙ ap (λ b. if b then v else work (8 + k)) same ∙ ap (λ x. if nat_eq k n then v else x) (sym (word_at work k h))
+          (register_at (put work (work_number (local_register n)) v) k h).1 ∙ ap (λ r. put work r v (8 + k)) (register_at work n l).0
+          ∙ ap (λ b. if b then v else work (8 + k)) same ∙ ap (λ x. if nat_eq k n then v else x) (sym (register_at work k h).1)
       by false k t =
           let h = from_eight k t in
           let other : nat_eq k n ≡ false = ne_eqb k n (λ q. let low = l in omega arith) in

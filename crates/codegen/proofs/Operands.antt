@@ -1,33 +1,19 @@
 -- Words that wait to be pushed: what the machine stands for where some do, how they are pushed, and how they come to registers.
-use Rattle.std.proofs.Common.{◌≡◌, ℕ, suc, ◌+◌, ◌-◌, ◌%◌, ◌<◌, ◌≤◌, nat_le, Bool, true, false, nat_lt, if◌then◌else◌, List, [], ◌∷◌, ◌++◌, length, get_or, drop}
-use Rattle.std.proofs.Common.{Option, Some, None, ◌==◌, eqb-true, refl, sym, ap, ap₂, ◌∙◌, subst, arith, append_assoc, append-nil, length-append}
-use Rattle.std.specs.Option.{unwrap_or}
-use Rattle.std.specs.List.{AllByRecursion}
-use Rattle.array_versions.specs.machine_effects.World.{put}
-use Rattle.array_versions.specs.machine_effects.Going.{Goes}
-use Rattle.array_versions.specs.machine_effects.Machine.{IsFram}
+use Rattle.codegen.proofs.Names.{◌≡◌, ℕ, suc, ◌+◌, ◌-◌, ◌%◌, ◌<◌, ◌≤◌, nat_le, Bool, true, false, nat_lt, if◌then◌else◌, List, [], ◌∷◌, ◌++◌, length, get_or}
+use Rattle.codegen.proofs.Names.{drop, Option, Some, None, ◌==◌, eqb-true, refl, sym, ap, ap₂, ◌∙◌, subst, arith, append_assoc, append-nil, length-append}
+use Rattle.codegen.proofs.Names.{Flags, unwrap_or, AllByRecursion, put, Goes, IsFram, Konst, constant_value, CycleRow, cycles_of, source_cycles, to_register}
+use Rattle.codegen.proofs.Names.{to_memory, push, put_same, put_other, WorkRegister, R4, R5, work_number, Core, Source, Register, Number, Constant}
+use Rattle.codegen.proofs.Names.{source_operand, source_bytes, source_value, source_read, SourceNeeds, ToRegister, Form, Move, Calculate, Push, HasPushRoom}
+use Rattle.codegen.proofs.Names.{instruction_of, form_bytes, Stands, forms_bytes, Runs, WordState, with_stack, pushed, Waiting, number_source, waiting_source}
+use Rattle.codegen.proofs.Names.{flushed, top_of, source_from, below_top, any_held, cleared, kept, four_from, five_from, top_to_four, stays, sides}
+use Rattle.codegen.proofs.Names.{right_source, top_to_five, two_to_registers}
 use Rattle.msp_isa.specs.declared.instructions.TwoOp.TheVariants as op
-use Rattle.msp_isa.specs.declared.operands.Konst.{Konst}
 use Rattle.msp_isa.specs.declared.operands.Konst.TheVariants as konst
-use Rattle.msp_isa.specs.Constant.{constant_value}
-use Rattle.array_versions.specs.machine_effects.msp_cycles.Cycles.{CycleRow, cycles_of, source_cycles, to_register, to_memory, push}
-use Rattle.array_versions.proofs.machine_effects.Interface.{put_same, put_other}
-use Rattle.code_forms.specs.Forms.{WorkRegister, R4, R5, work_number, Core, Source, Register, Number, Constant, source_operand, source_bytes, source_value}
-use Rattle.code_forms.specs.Forms.{source_read, SourceNeeds, ToRegister, Form}
-use Rattle.code_forms.specs.Forms.{Move, Calculate, Push, HasPushRoom, instruction_of, form_bytes}
-use Rattle.code_forms.specs.Code.{Stands, forms_bytes, forms_run, Runs}
-use Rattle.code_forms.proofs.Interface.{stands_at, stands_front, stands_back, end_of, forms_bytes-append}
-use Rattle.array_versions.specs.Behaviour.{WordState, with_stack, pushed}
-use Rattle.codegen.specs.declared.waiting.Waiting.{Waiting}
 use Rattle.codegen.specs.declared.waiting.Waiting.TheVariants as waiting
-use Rattle.codegen.specs.Code.{number_source, waiting_source, flushed, top_of, source_from, below_top, any_held, cleared, kept, four_from, five_from}
-use Rattle.codegen.specs.Code.{top_to_four}
-use Rattle.codegen.specs.Code.{stays, sides, right_source}
-use Rattle.codegen.specs.Code.{top_to_five, two_to_registers}
-use Rattle.codegen.proofs.Stretches.{Setting, straight, hop, runs_on, dearer, nothing_run, so_runs}
+use Rattle.codegen.proofs.Stretches.{two_parts, Setting, hop, dearer, nothing_run, so_runs}
+use Rattle.codegen.proofs.Registers.{With, HasWord, HasSides, Holds, Has, Flagged, line, no_borrow, equal_flag}
 use Rattle.codegen.proofs.Memory.{local_words, in_register, Memory, pop_memory, pop_needs, push_needs, push_memory}
 use Rattle.codegen.proofs.Follows.{StandsFor, stands_elsewhere, memory_as}
-use Rattle.codegen.proofs.Registers.{no_borrow, equal_flag, Has}
 
 -- ---- what a word that waits is, and what it has paid for
 
@@ -86,17 +72,11 @@ number_price row n most a b = number_cases (λ s. source_cycles row (source_oper
 
 pub owed_least : (o : Waiting) → 3 ≤ owed_by o
 owed_least (waiting.Number n) = omega arith
-owed_least (waiting.Fram a) = omega arith
-owed_least (waiting.Local n) = omega arith
-owed_least waiting.R4 = omega arith
-owed_least waiting.R6 = omega arith
+owed_least _ = omega arith
 
 push_cycles : (o : Waiting) → cycles_of (instruction_of (Push (waiting_source o))) ≤ owed_by o
 push_cycles (waiting.Number n) = number_price push n 4 (omega arith) (omega arith)
-push_cycles (waiting.Fram a) = omega arith
-push_cycles (waiting.Local n) = omega arith
-push_cycles waiting.R4 = omega arith
-push_cycles waiting.R6 = omega arith
+push_cycles _ = omega arith
 
 -- ---- lists
 
@@ -110,28 +90,23 @@ waiting_length : (f : ℕ → ℕ) (l : ℕ → Option ℕ) (g : ℕ → ℕ) (o
 waiting_length f l g [] = refl
 waiting_length f l g (o ∷ os) = ap suc (waiting_length f l g os)
 
-words_append : (f : ℕ → ℕ) (l : ℕ → Option ℕ) (g : ℕ → ℕ) (a b : List Waiting)
-    → waiting_words f l g (a ++ b) ≡ waiting_words f l g a ++ waiting_words f l g b
+words_append : (f : ℕ → ℕ) (l : ℕ → Option ℕ) (g : ℕ → ℕ) (a b : List Waiting) → waiting_words f l g (a ++ b) ≡ waiting_words f l g a ++ waiting_words f l g b
 words_append f l g [] b = refl
 words_append f l g (o ∷ a) b = ap (λ xs. waiting_word f l g o ∷ xs) (words_append f l g a b)
 
 -- the words are the same where R4 and R6 are
 words_same : (f : ℕ → ℕ) (l : ℕ → Option ℕ) (g h : ℕ → ℕ) (os : List Waiting) → g 4 ≡ h 4 → g 6 ≡ h 6 → waiting_words f l g os ≡ waiting_words f l h os
 words_same f l g h [] p q = refl
-words_same f l g h (waiting.Number n ∷ os) p q = ap (λ xs. n ∷ xs) (words_same f l g h os p q)
-words_same f l g h (waiting.Fram a ∷ os) p q = ap (λ xs. f a ∷ xs) (words_same f l g h os p q)
-words_same f l g h (waiting.Local n ∷ os) p q = ap (λ xs. unwrap_or (l n) 0 ∷ xs) (words_same f l g h os p q)
 words_same f l g h (waiting.R4 ∷ os) p q = ap₂ (λ x xs. x ∷ xs) p (words_same f l g h os p q)
 words_same f l g h (waiting.R6 ∷ os) p q = ap₂ (λ x xs. x ∷ xs) q (words_same f l g h os p q)
+words_same f l g h (o ∷ os) p q = ap (λ xs. waiting_word f l g o ∷ xs) (words_same f l g h os p q)
 
 -- and where none waits in a register for work
 pub words_kept : (f : ℕ → ℕ) (l : ℕ → Option ℕ) (g h : ℕ → ℕ) (os : List Waiting) → any_held os ≡ false → waiting_words f l g os ≡ waiting_words f l h os
 words_kept f l g h [] e = refl
-words_kept f l g h (waiting.Number n ∷ os) e = ap (λ xs. n ∷ xs) (words_kept f l g h os e)
-words_kept f l g h (waiting.Fram a ∷ os) e = ap (λ xs. f a ∷ xs) (words_kept f l g h os e)
-words_kept f l g h (waiting.Local n ∷ os) e = ap (λ xs. unwrap_or (l n) 0 ∷ xs) (words_kept f l g h os e)
 words_kept f l g h (waiting.R4 ∷ os) e = absurd (let q = e in (cc))
 words_kept f l g h (waiting.R6 ∷ os) e = absurd (let q = e in (cc))
+words_kept f l g h (o ∷ os) e = ap (λ xs. waiting_word f l g o ∷ xs) (words_kept f l g h os e)
 
 there_front : (P : Waiting → Type 0) (a b : List Waiting) → AllByRecursion P (a ++ b) → AllByRecursion P a
 there_front P [] b h = tt
@@ -165,12 +140,8 @@ load_cycles None = 2
 load_cycles (Some o) = 3
 
 pub load_price : (o : Option Waiting) → source_cycles to_register (source_operand (source_from o)) ≤ load_cycles o
-load_price None = omega arith
 load_price (Some (waiting.Number n)) = number_price to_register n 3 (omega arith) (omega arith)
-load_price (Some (waiting.Fram a)) = omega arith
-load_price (Some (waiting.Local n)) = omega arith
-load_price (Some waiting.R4) = omega arith
-load_price (Some waiting.R6) = omega arith
+load_price _ = omega arith
 
 -- the cycles of an instruction that writes memory and takes it as its source, at most
 abbrev pub store_cycles : Option Waiting → ℕ
@@ -182,12 +153,8 @@ load_less None = omega arith
 load_less (Some o) = omega arith
 
 pub store_price : (o : Option Waiting) → source_cycles to_memory (source_operand (source_from o)) ≤ store_cycles o
-store_price None = omega arith
 store_price (Some (waiting.Number n)) = number_price to_memory n 6 (omega arith) (omega arith)
-store_price (Some (waiting.Fram a)) = omega arith
-store_price (Some (waiting.Local n)) = omega arith
-store_price (Some waiting.R4) = omega arith
-store_price (Some waiting.R6) = omega arith
+store_price _ = omega arith
 
 pub store_owed : (os : List Waiting) → store_cycles (top_of os) + owed (below_top os) ≤ 5 + owed os
 store_owed [] = omega arith
@@ -224,34 +191,25 @@ right_owed os = right_by (stays (top_of os)) os refl
 
 -- what waits elsewhere than in R4 is the same where R6 is
 word_stays : (f : ℕ → ℕ) (l : ℕ → Option ℕ) (g h : ℕ → ℕ) (o : Waiting) → stays (Some o) ≡ true → g 6 ≡ h 6 → waiting_word f l g o ≡ waiting_word f l h o
-word_stays f l g h (waiting.Number n) e q = refl
-word_stays f l g h (waiting.Fram a) e q = refl
-word_stays f l g h (waiting.Local n) e q = refl
 word_stays f l g h waiting.R4 e q = absurd (let k = e in (cc))
 word_stays f l g h waiting.R6 e q = q
+word_stays f l g h _ e q = refl
 
 -- ---- a word that waits, as a source
 
 pub source_still : (o : Waiting) (u : Core) → source_read (waiting_source o) u ≡ u
 source_still (waiting.Number n) u = number_cases (λ s. source_read s u ≡ u) n refl (λ k e. refl)
-source_still (waiting.Fram a) u = refl
-source_still (waiting.Local n) u = refl
-source_still waiting.R4 u = refl
-source_still waiting.R6 u = refl
+source_still _ u = refl
 
 pub source_needs : (most : ℕ) (locals : ℕ → Option ℕ) (o : Waiting) (u : Core) → IsThere most locals o → SourceNeeds (waiting_source o) u
 source_needs most locals (waiting.Number n) u h = number_cases (λ s. SourceNeeds s u) n tt (λ k e. tt)
 source_needs most locals (waiting.Fram a) u h = h
-source_needs most locals (waiting.Local n) u h = tt
-source_needs most locals waiting.R4 u h = tt
-source_needs most locals waiting.R6 u h = tt
+source_needs most locals _ u h = tt
 
--- a register is compared with a number, and is as it was
-pub record Compared (z : Setting) (pc : ℕ) (w : WordState) (g : ℕ → ℕ) (x k : ℕ) (t : Core) : Type 0 where
-  pub is : StandsFor z pc w t
-  pub work : t.work ≡ g
-  pub zero : t.flags.z ≡ (x == k)
-  pub carry : t.flags.c ≡ nat_le k x
+-- the flags of a register that is compared with a number
+pub record IsCompared (x k : ℕ) (f : Flags) : Type 0 where
+  pub zero : f.z ≡ (x == k)
+  pub carry : f.c ≡ nat_le k x
 
 -- the machine at this place stands for what the program works on, where these words wait: the stack is their words, and below them the words that are pushed
 pub record Describes (z : Setting) (os : List Waiting) (pc : ℕ) (w : WordState) (u : Core) : Type 0 where
@@ -270,32 +228,18 @@ pub record Top (z : Setting) (x : Source) (os : List Waiting) (pc : ℕ) (w : Wo
   pub left : Describes z os pc (with_stack vs w) (source_read x u)
   pub same : (source_read x u).work ≡ u.work
 
--- a state with these registers
-pub record Flushed (z : Setting) (pc : ℕ) (w : WordState) (g : ℕ → ℕ) (t : Core) : Type 0 where
-  pub is : StandsFor z pc w t
-  pub work : t.work ≡ g
+-- a word is in a register, the others being as they were
+pub record IsLoaded (b : WorkRegister) (v : ℕ) (g f : ℕ → ℕ) : Type 0 where
+  pub value : f (work_number b) ≡ v
+  pub others : (n : ℕ) → (n ≡ work_number b → ⊥) → f n ≡ g n
 
--- the same where words wait
-pub record Waits (z : Setting) (os : List Waiting) (pc : ℕ) (w : WordState) (g : ℕ → ℕ) (t : Core) : Type 0 where
-  pub is : Describes z os pc w t
-  pub work : t.work ≡ g
+-- where words wait, the machine's registers hold such words
+abbrev pub Waits : Setting → List Waiting → ℕ → WordState → ((ℕ → ℕ) → Type 0) → Core → Type 0
+Waits z os pc w P = With (Describes z os pc w) P
 
--- a word is in a register, the other registers being as they were
-pub record Loaded (z : Setting) (b : WorkRegister) (os : List Waiting) (pc : ℕ) (w : WordState) (v : ℕ) (g : ℕ → ℕ) (t : Core) : Type 0 where
-  pub is : Describes z os pc w t
-  pub value : t.work (work_number b) ≡ v
-  pub others : (n : ℕ) → (n ≡ work_number b → ⊥) → t.work n ≡ g n
-
--- a word is in a register
-pub record InRegister (z : Setting) (b : WorkRegister) (os : List Waiting) (pc : ℕ) (w : WordState) (v : ℕ) (t : Core) : Type 0 where
-  pub is : Describes z os pc w t
-  pub value : t.work (work_number b) ≡ v
-
--- two words are in R4 and R5
-pub record LoadedTwo (z : Setting) (os : List Waiting) (pc : ℕ) (w : WordState) (x y : ℕ) (t : Core) : Type 0 where
-  pub is : Describes z os pc w t
-  pub four : t.work 4 ≡ x
-  pub five : t.work 5 ≡ y
+-- the registers are these
+abbrev pub AreThese : (ℕ → ℕ) → (ℕ → ℕ) → Type 0
+AreThese g f = f ≡ g
 
 -- the left side is in R4, and the right side where an instruction reads it
 pub record LoadedSides (z : Setting) (s : Source) (os : List Waiting) (pc : ℕ) (w : WordState) (x y : ℕ) (t : Core) : Type 0 where
@@ -339,8 +283,8 @@ module _ (z : Setting) where
   -- ---- pushes
 
   push_waiting : (o : Waiting) (pc : ℕ) (w : WordState) (u : Core) → StandsFor z pc w u → IsThere z.locals w.locals o → length w.stack < z.room
-      → z.code pc ≡ Some (instruction_of (Push (waiting_source o)))
-      → Runs z.code [] (owed_by o) u (Flushed z (pc + form_bytes (Push (waiting_source o))) (pushed (waiting_word w.fram w.locals u.work o) w) u.work)
+      → z.code pc ≡ Some (instruction_of (Push (waiting_source o))) → Runs z.code [] (owed_by o) u
+      (Holds z (AreThese u.work) (pc + forms_bytes (Push (waiting_source o) ∷ [])) (pushed (waiting_word w.fram w.locals u.work o) w))
   push_waiting o pc w u i h s c =
       let x = waiting_source o in
       let v = waiting_word w.fram w.locals u.work o in
@@ -353,43 +297,40 @@ module _ (z : Setting) where
       (record {
         is =
             record {
-              at = ap (λ p. p + (2 + source_bytes x)) i.at;
+              at = omega (arith, i.at);
               memory =
                   subst (λ y. Memory z (u.sp - 2) (put u.ram (u.sp - 2) y) (local_words u.work) (v ∷ w.stack) w.locals) (sym (source_word o pc w u i h))
                   (push_memory z v i.memory s);
               fram = i.fram;
               readings = i.readings;
             };
-        work = refl;
+        held = refl;
       })
 
   flush_run : (os : List Waiting) (pc : ℕ) (w : WordState) (u : Core) → StandsFor z pc w u → AllByRecursion (IsThere z.locals w.locals) os
-      → length os + length w.stack ≤ z.room → Stands z.code pc (flushed os)
-      → Runs z.code [] (owed os) u (Flushed z (pc + forms_bytes (flushed os)) (with_stack (waiting_words w.fram w.locals u.work os ++ w.stack) w) u.work)
+      → length os + length w.stack ≤ z.room → Stands z.code pc (flushed os) → Runs z.code [] (owed os) u
+      (Holds z (AreThese u.work) (pc + forms_bytes (flushed os)) (with_stack (waiting_words w.fram w.locals u.work os ++ w.stack) w))
   flush_run [] pc w u i t l h =
       let e : pc ≡ pc + 0 = omega arith in
-      nothing_run z u _ (record { is = subst (λ n. StandsFor z n w u) e i; work = refl })
+      nothing_run z (record { is = subst (λ n. StandsFor z n w u) e i; held = refl })
   flush_run (o ∷ os) pc w u i t l h =
-      let ms = flushed os in
-      let m = Push (waiting_source o) in
-      let words = waiting_words w.fram w.locals u.work os in
-      let there = with_stack (words ++ w.stack) w in
-      let mid = pc + forms_bytes ms in
-      let end : mid + form_bytes m ≡ pc + forms_bytes (ms ++ m ∷ []) = omega (arith, forms_bytes-append ms (m ∷ [])) in
-      let room : length (words ++ w.stack) < z.room = omega (arith, l, length-append words w.stack, waiting_length w.fram w.locals u.work os) in
+      let there = with_stack (waiting_words w.fram w.locals u.work os ++ w.stack) w in
+      let mid = pc + forms_bytes (flushed os) in
+      let last = Push (waiting_source o) ∷ [] in
+      let room : length there.stack < z.room =
+      omega (arith, l, length-append (waiting_words w.fram w.locals u.work os) w.stack, waiting_length w.fram w.locals u.work os) in
       let less : length os + length w.stack ≤ z.room = omega (arith, l) in
-      runs_on z (owed os) (owed_by o) u (Flushed z mid there u.work) _ [] [] (flush_run os pc w u i t.1 less (stands_front z.code pc ms (m ∷ []) h)) (λ s k.
-      so_runs z [] (owed_by o) s (Flushed z (mid + form_bytes m) (pushed (waiting_word w.fram w.locals s.work o) there) s.work) _
-      (λ q j. record {
-        is = subst (λ n. StandsFor z n (pushed (waiting_word w.fram w.locals u.work o) there) q) end
-            (subst (λ g. StandsFor z (mid + form_bytes m) (pushed (waiting_word w.fram w.locals g o) there) q) k.work j.is);
-        work = j.work ∙ k.work;
-      })
-      (push_waiting o mid there s k.is t.0 room (stands_back z.code pc ms (m ∷ []) h).0))
+      let all : (ℕ → ℕ) → WordState = λ g. pushed (waiting_word w.fram w.locals g o) there in
+      two_parts z (flushed os) last pc (λ n. Holds z (AreThese u.work) n (all u.work)) h (flush_run os pc w u i t.1 less)
+      (λ s c k. so_runs (push_waiting o mid there s k.is t.0 room c.0) (λ q j. record {
+        is = subst (λ g. StandsFor z (mid + forms_bytes last) (all g) q) k.held
+            j.is;
+        held = j.held ∙ k.held;
+      }))
 
   -- those behind others are pushed
   pub flush_under : (front back : List Waiting) (pc : ℕ) (w : WordState) (u : Core) → Describes z (front ++ back) pc w u → Stands z.code pc (flushed back)
-      → Runs z.code [] (owed back) u (Waits z front (pc + forms_bytes (flushed back)) w u.work)
+      → Runs z.code [] (owed back) u (Waits z front (pc + forms_bytes (flushed back)) w (AreThese u.work))
   flush_under front back pc w u d h =
       let P = IsThere z.locals w.locals in
       let words = waiting_words w.fram w.locals u.work in
@@ -403,41 +344,38 @@ module _ (z : Setting) where
         waiting_length w.fram w.locals u.work (front ++ back),
         length-append front back,
       ) in
-      so_runs z [] (owed back) u (Flushed z (pc + forms_bytes (flushed back)) (with_stack (words back ++ d.rest) w) u.work) _
-      (λ t k. record {
+      so_runs (flush_run back pc (with_stack d.rest w) u d.is (there_back P front back d.there) room h) (λ t k. record {
         is =
             record {
               rest = words back ++ d.rest;
               is = k.is;
               stack = d.stack ∙ ap (λ xs. xs ++ d.rest) (words_append w.fram w.locals u.work front back) ∙ append_assoc (words front) (words back) d.rest
-                  ∙ ap (λ g. waiting_words w.fram w.locals g front ++ (words back ++ d.rest)) (sym k.work);
+                  ∙ ap (λ g. waiting_words w.fram w.locals g front ++ (words back ++ d.rest)) (sym k.held);
               there = there_front P front back d.there;
               fits = d.fits;
             };
-        work = k.work;
+        held = k.held;
       })
-      (flush_run back pc (with_stack d.rest w) u d.is (there_back P front back d.there) room h)
 
   -- all are pushed
   pub flush_part : (os : List Waiting) (pc : ℕ) (w : WordState) (u : Core) → Describes z os pc w u → Stands z.code pc (flushed os)
       → Runs z.code [] (owed os) u (StandsFor z (pc + forms_bytes (flushed os)) w)
   flush_part os pc w u d h =
-      so_runs z [] (owed os) u (Waits z [] (pc + forms_bytes (flushed os)) w u.work) _ (λ t k. bare (pc + forms_bytes (flushed os)) w t k.is)
-      (flush_under [] os pc w u d h)
+      so_runs (flush_under [] os pc w u d h) (λ t k. bare (pc + forms_bytes (flushed os)) w t k.is)
 
   clear_by : (b : Bool) (front back : List Waiting) (pc : ℕ) (w : WordState) (u : Core) → Describes z (front ++ back) pc w u
       → (let ms : List Form = if b then flushed back else [] in Stands z.code pc ms
-      → Runs z.code [] (if b then owed back else 0) u (Waits z (front ++ (if b then [] else back)) (pc + forms_bytes ms) w u.work))
+      → Runs z.code [] (if b then owed back else 0) u (Waits z (front ++ (if b then [] else back)) (pc + forms_bytes ms) w (AreThese u.work)))
   clear_by true front back pc w u d h =
-      subst (λ os. Runs z.code [] (owed back) u (Waits z os (pc + forms_bytes (flushed back)) w u.work)) (sym (append-nil front))
+      subst (λ os. Runs z.code [] (owed back) u (Waits z os (pc + forms_bytes (flushed back)) w (AreThese u.work))) (sym (append-nil front))
       (flush_under front back pc w u d h)
   clear_by false front back pc w u d h =
       let e : pc ≡ pc + 0 = omega arith in
-      nothing_run z u _ (record { is = subst (λ n. Describes z (front ++ back) n w u) e d; work = refl })
+      nothing_run z (record { is = subst (λ n. Describes z (front ++ back) n w u) e d; held = refl })
 
   -- those behind others are pushed where one of them waits in a register
   pub clear_under : (front back : List Waiting) (pc : ℕ) (w : WordState) (u : Core) → Describes z (front ++ back) pc w u → Stands z.code pc (cleared back)
-      → Runs z.code [] (clear_cycles back) u (Waits z (front ++ kept back) (pc + forms_bytes (cleared back)) w u.work)
+      → Runs z.code [] (clear_cycles back) u (Waits z (front ++ kept back) (pc + forms_bytes (cleared back)) w (AreThese u.work))
   clear_under front back pc w u d h = clear_by (any_held back) front back pc w u d h
 
   -- ---- the top
@@ -495,7 +433,7 @@ module _ (z : Setting) where
       → ((f : ℕ → ℕ) (y : ℕ) → local_words (put f (work_number b) y) ≡ local_words f)
       → ((f : ℕ → ℕ) (y : ℕ) → waiting_words w.fram w.locals (put f (work_number b) y) os ≡ waiting_words w.fram w.locals f os)
       → (let m = Move (source_from o) (ToRegister b) in Stands z.code pc (m ∷ []) → Top z (source_from o) os pc w v vs u
-      → Runs z.code [] (load_cycles o) u (Loaded z b os (pc + forms_bytes (m ∷ [])) (with_stack vs w) v u.work))
+      → Runs z.code [] (load_cycles o) u (Waits z os (pc + forms_bytes (m ∷ [])) (with_stack vs w) (IsLoaded b v u.work)))
   move_part b o os pc w v vs u clean spare h k =
       let x = source_from o in
       let m = Move x (ToRegister b) in
@@ -507,8 +445,10 @@ module _ (z : Setting) where
       hop z m (load_cycles o) u after [] price _ (ap z.code k.at ∙ h.0) (k.needs, tt) refl (load_price o)
       (record {
         is = describes_elsewhere os pc _ (with_stack vs w) t after k.left end refl refl (clean t.work y) refl refl (spare t.work y);
-        value = put_same t.work (work_number b) y ∙ k.value;
-        others = λ n ne. put_other t.work (work_number b) y n ne ∙ ap (λ (g : ℕ → ℕ). g n) k.same;
+        held = record {
+          value = put_same t.work (work_number b) y ∙ k.value;
+          others = λ n ne. put_other t.work (work_number b) y n ne ∙ ap (λ (g : ℕ → ℕ). g n) k.same;
+        };
       })
 
   -- the last word that waits comes to R5
@@ -519,135 +459,101 @@ module _ (z : Setting) where
       let m = Move (source_from o) (ToRegister R5) in
       let end : pc + forms_bytes (m ∷ []) ≡ pc + form_bytes m = omega arith in
       subst (λ n. Runs z.code [] (load_cycles o) u (Has z R5 n (with_stack vs w) v)) end
-      (so_runs z [] (load_cycles o) u (Loaded z R5 [] (pc + forms_bytes (m ∷ [])) (with_stack vs w) v u.work) _
-      (λ t j. record { is = bare (pc + forms_bytes (m ∷ [])) (with_stack vs w) t j.is; value = j.value })
-      (move_part R5 o [] pc w v vs u (λ f y. refl) (λ f y. refl) h k))
+      (so_runs (move_part R5 o [] pc w v vs u (λ f y. refl) (λ f y. refl) h k)
+      (λ t j. record { is = bare (pc + forms_bytes (m ∷ [])) (with_stack vs w) t j.is; held = j.held.value }))
 
   pub five_part : (os : List Waiting) (pc : ℕ) (w : WordState) (v : ℕ) (vs : List ℕ) (u : Core) → w.stack ≡ v ∷ vs
       → Stands z.code pc (five_from (top_of os)) → Describes z os pc w u
-      → Runs z.code [] (load_cycles (top_of os)) u (Loaded z R5 (below_top os) (pc + forms_bytes (five_from (top_of os))) (with_stack vs w) v u.work)
+      → Runs z.code [] (load_cycles (top_of os)) u (Waits z (below_top os) (pc + forms_bytes (five_from (top_of os))) (with_stack vs w) (IsLoaded R5 v u.work))
   five_part os pc w v vs u e h d =
       move_part R5 (top_of os) (below_top os) pc w v vs u (λ f y. refl) (λ f y. words_same w.fram w.locals (put f 5 y) f (below_top os) refl refl) h
       (take_part os pc w v vs u e d)
 
   four_move : (os : List Waiting) (pc : ℕ) (w : WordState) (v : ℕ) (vs : List ℕ) (u : Core) → w.stack ≡ v ∷ vs → any_held (below_top os) ≡ false
       → (let m = Move (source_from (top_of os)) (ToRegister R4) in Stands z.code pc (m ∷ []) → Describes z os pc w u
-      → Runs z.code [] (load_cycles (top_of os)) u (Loaded z R4 (below_top os) (pc + forms_bytes (m ∷ [])) (with_stack vs w) v u.work))
+      → Runs z.code [] (load_cycles (top_of os)) u (Waits z (below_top os) (pc + forms_bytes (m ∷ [])) (with_stack vs w) (IsLoaded R4 v u.work)))
   four_move os pc w v vs u e none h d =
       move_part R4 (top_of os) (below_top os) pc w v vs u (λ f y. refl) (λ f y. words_kept w.fram w.locals (put f 4 y) f (below_top os) none) h
       (take_part os pc w v vs u e d)
 
   pub four_part : (os : List Waiting) (pc : ℕ) (w : WordState) (v : ℕ) (vs : List ℕ) (u : Core) → w.stack ≡ v ∷ vs → any_held (below_top os) ≡ false
       → Stands z.code pc (four_from (top_of os)) → Describes z os pc w u
-      → Runs z.code [] (load_cycles (top_of os)) u (Loaded z R4 (below_top os) (pc + forms_bytes (four_from (top_of os))) (with_stack vs w) v u.work)
-  four_part [] pc w v vs u e none h d = four_move [] pc w v vs u e none h d
+      → Runs z.code [] (load_cycles (top_of os)) u (Waits z (below_top os) (pc + forms_bytes (four_from (top_of os))) (with_stack vs w) (IsLoaded R4 v u.work))
   four_part (waiting.R4 ∷ os) pc w v vs u e none h d =
       let k = take_part (waiting.R4 ∷ os) pc w v vs u e d in
       let same : pc ≡ pc + 0 = omega arith in
-      dearer z [] 0 3 u _ (omega arith)
-      (nothing_run z u _ (record {
+      dearer z (omega arith)
+      (nothing_run z (record {
         is = subst (λ n. Describes z os n (with_stack vs w) u) same k.left;
-        value = k.value;
-        others = λ n ne. refl;
+        held = record { value = k.value; others = λ n ne. refl };
       }))
-  four_part (waiting.Number n ∷ os) pc w v vs u e none h d = four_move (waiting.Number n ∷ os) pc w v vs u e none h d
-  four_part (waiting.Fram a ∷ os) pc w v vs u e none h d = four_move (waiting.Fram a ∷ os) pc w v vs u e none h d
-  four_part (waiting.Local n ∷ os) pc w v vs u e none h d = four_move (waiting.Local n ∷ os) pc w v vs u e none h d
-  four_part (waiting.R6 ∷ os) pc w v vs u e none h d = four_move (waiting.R6 ∷ os) pc w v vs u e none h d
+  four_part os pc w v vs u e none h d = four_move os pc w v vs u e none h d
 
   -- code behind pushes
-  behind_cleared : (back os : List Waiting) (more : List Form) (n pc : ℕ) (w : WordState) (u : Core) (P : ℕ → Core → Type 0)
-      → Runs z.code [] (clear_cycles back) u (Waits z os (pc + forms_bytes (cleared back)) w u.work)
-      → ((t : Core) → Describes z os (pc + forms_bytes (cleared back)) w t → Runs z.code [] n t (P (pc + forms_bytes (cleared back) + forms_bytes more)))
-      → Runs z.code [] (clear_cycles back + n) u (P (pc + forms_bytes (cleared back ++ more)))
-  behind_cleared back os more n pc w u P a f =
-      let end : pc + forms_bytes (cleared back) + forms_bytes more ≡ pc + forms_bytes (cleared back ++ more) =
-      omega (arith, forms_bytes-append (cleared back) more) in
-      subst (λ p. Runs z.code [] (clear_cycles back + n) u (P p)) end
-      (runs_on z (clear_cycles back) n u (Waits z os (pc + forms_bytes (cleared back)) w u.work) _ [] [] a (λ t k. f t k.is))
+  behind_cleared : (front back : List Waiting) (more : List Form) (n pc : ℕ) (w : WordState) (u : Core) (P : ℕ → Core → Type 0)
+      → Describes z (front ++ back) pc w u → Stands z.code pc (cleared back ++ more)
+      → (let mid = pc + forms_bytes (cleared back) in ((t : Core) → Stands z.code mid more → Describes z (front ++ kept back) mid w t
+      → Runs z.code [] n t (P (mid + forms_bytes more))) → Runs z.code [] (clear_cycles back + n) u (P (pc + forms_bytes (cleared back ++ more))))
+  behind_cleared front back more n pc w u P d h f =
+      two_parts z (cleared back) more pc P h (clear_under front back pc w u d) (λ t s k. f t s k.is)
 
-  only_has : (b : WorkRegister) (os : List Waiting) (pc : ℕ) (w : WordState) (v n : ℕ) (g : ℕ → ℕ) (u : Core) → Runs z.code [] n u (Loaded z b os pc w v g)
-      → Runs z.code [] n u (InRegister z b os pc w v)
-  only_has b os pc w v n g u = so_runs z [] n u (Loaded z b os pc w v g) (InRegister z b os pc w v) (λ t k. record { is = k.is; value = k.value })
+  only_has : {b : WorkRegister} {os : List Waiting} {pc v n : ℕ} {w : WordState} {g : ℕ → ℕ} {u : Core}
+      → Runs z.code [] n u (With (Describes z os pc w) (IsLoaded b v g)) → Runs z.code [] n u (With (Describes z os pc w) (HasWord b v))
+  only_has a = so_runs a (λ t k. record { is = k.is; held = k.held.value })
 
-  pub top_to_four_part : (os : List Waiting) (pc : ℕ) (w : WordState) (v : ℕ) (vs : List ℕ) (u : Core) → w.stack ≡ v ∷ vs
-      → Stands z.code pc (top_to_four os) → Describes z os pc w u
-      → Runs z.code [] (clear_cycles (below_top os) + load_cycles (top_of os)) u
-      (InRegister z R4 (kept (below_top os)) (pc + forms_bytes (top_to_four os)) (with_stack vs w) v)
-  top_to_four_part [] pc w v vs u e h d =
-      only_has R4 [] (pc + forms_bytes (top_to_four [])) (with_stack vs w) v 2 u.work u (four_part [] pc w v vs u e refl h d)
+  pub top_to_four_part : (os : List Waiting) (pc : ℕ) (w : WordState) (v : ℕ) (vs : List ℕ) (u : Core) → w.stack ≡ v ∷ vs → Stands z.code pc (top_to_four os)
+      → Describes z os pc w u → Runs z.code [] (clear_cycles (below_top os) + load_cycles (top_of os)) u
+      (Waits z (kept (below_top os)) (pc + forms_bytes (top_to_four os)) (with_stack vs w) (HasWord R4 v))
+  top_to_four_part [] pc w v vs u e h d = only_has (four_part [] pc w v vs u e refl h d)
   top_to_four_part (o ∷ os) pc w v vs u e h d =
-      let more = four_from (Some o) in
-      behind_cleared os (o ∷ kept os) more 3 pc w u (λ p. InRegister z R4 (kept os) p (with_stack vs w) v)
-      (clear_under (o ∷ []) os pc w u d (stands_front z.code pc (cleared os) more h)) (λ t k.
-      only_has R4 (kept os) (pc + forms_bytes (cleared os) + forms_bytes more) (with_stack vs w) v 3 t.work t
-      (four_part (o ∷ kept os) (pc + forms_bytes (cleared os)) w v vs t e (none_held os) (stands_back z.code pc (cleared os) more h) k))
+      behind_cleared (o ∷ []) os (four_from (Some o)) 3 pc w u (λ p. Waits z (kept os) p (with_stack vs w) (HasWord R4 v)) d h
+      (λ t s k. only_has (four_part (o ∷ kept os) (pc + forms_bytes (cleared os)) w v vs t e (none_held os) s k))
 
-  pub top_to_five_part : (os : List Waiting) (pc : ℕ) (w : WordState) (v : ℕ) (vs : List ℕ) (u : Core) → w.stack ≡ v ∷ vs
-      → Stands z.code pc (top_to_five os) → Describes z os pc w u
-      → Runs z.code [] (clear_cycles (below_top os) + load_cycles (top_of os)) u
-      (InRegister z R5 (kept (below_top os)) (pc + forms_bytes (top_to_five os)) (with_stack vs w) v)
-  top_to_five_part [] pc w v vs u e h d =
-      only_has R5 [] (pc + forms_bytes (top_to_five [])) (with_stack vs w) v 2 u.work u (five_part [] pc w v vs u e h d)
+  pub top_to_five_part : (os : List Waiting) (pc : ℕ) (w : WordState) (v : ℕ) (vs : List ℕ) (u : Core) → w.stack ≡ v ∷ vs → Stands z.code pc (top_to_five os)
+      → Describes z os pc w u → Runs z.code [] (clear_cycles (below_top os) + load_cycles (top_of os)) u
+      (Waits z (kept (below_top os)) (pc + forms_bytes (top_to_five os)) (with_stack vs w) (HasWord R5 v))
+  top_to_five_part [] pc w v vs u e h d = only_has (five_part [] pc w v vs u e h d)
   top_to_five_part (o ∷ os) pc w v vs u e h d =
-      let more = five_from (Some o) in
-      behind_cleared os (o ∷ kept os) more 3 pc w u (λ p. InRegister z R5 (kept os) p (with_stack vs w) v)
-      (clear_under (o ∷ []) os pc w u d (stands_front z.code pc (cleared os) more h)) (λ t k.
-      only_has R5 (kept os) (pc + forms_bytes (cleared os) + forms_bytes more) (with_stack vs w) v 3 t.work t
-      (five_part (o ∷ kept os) (pc + forms_bytes (cleared os)) w v vs t e (stands_back z.code pc (cleared os) more h) k))
+      behind_cleared (o ∷ []) os (five_from (Some o)) 3 pc w u (λ p. Waits z (kept os) p (with_stack vs w) (HasWord R5 v)) d h
+      (λ t s k. only_has (five_part (o ∷ kept os) (pc + forms_bytes (cleared os)) w v vs t e s k))
 
   two_loads : (os : List Waiting) (pc : ℕ) (w : WordState) (x y : ℕ) (vs : List ℕ) (u : Core) → w.stack ≡ y ∷ (x ∷ vs)
-      → any_held (below_top (below_top os)) ≡ false
-      → (let ms = five_from (top_of os) ++ four_from (top_of (below_top os)) in Stands z.code pc ms → Describes z os pc w u
-      → Runs z.code [] (load_cycles (top_of os) + load_cycles (top_of (below_top os))) u
-      (LoadedTwo z (below_top (below_top os)) (pc + forms_bytes ms) (with_stack vs w) x y))
+      → any_held (below_top (below_top os)) ≡ false → (let ms = five_from (top_of os) ++ four_from (top_of (below_top os)) in Stands z.code pc ms
+      → Describes z os pc w u → Runs z.code [] (load_cycles (top_of os) + load_cycles (top_of (below_top os))) u
+      (Waits z (below_top (below_top os)) (pc + forms_bytes ms) (with_stack vs w) (HasSides x y)))
   two_loads os pc w x y vs u e none h d =
       let under = below_top os in
       let first = five_from (top_of os) in
       let second = four_from (top_of under) in
       let mid = pc + forms_bytes first in
       let left = with_stack (x ∷ vs) w in
-      let end : mid + forms_bytes second ≡ pc + forms_bytes (first ++ second) = omega (arith, forms_bytes-append first second) in
-      runs_on z (load_cycles (top_of os)) (load_cycles (top_of under)) u (Loaded z R5 under mid left y u.work) _ [] []
-      (five_part os pc w y (x ∷ vs) u e (stands_front z.code pc first second h) d) (λ t k.
-      so_runs z [] (load_cycles (top_of under)) t (Loaded z R4 (below_top under) (mid + forms_bytes second) (with_stack vs w) x t.work) _
-      (λ s j. record {
-        is = subst (λ n. Describes z (below_top under) n (with_stack vs w) s) end j.is;
-        four = j.value;
-        five = j.others 5 (λ q. omega (arith, q)) ∙ k.value;
-      })
-      (four_part under mid left x vs t refl none (stands_back z.code pc first second h) k.is))
+      two_parts z first second pc (λ n. Waits z (below_top under) n (with_stack vs w) (HasSides x y)) h (λ s. five_part os pc w y (x ∷ vs) u e s d) (λ t s k.
+      so_runs (four_part under mid left x vs t refl none s k.is)
+      (λ q j. record { is = j.is; held = record { four = j.held.value; five = j.held.others 5 (λ n. omega (arith, n)) ∙ k.held.value } }))
 
   sides_by : (b : Bool) (os : List Waiting) (pc : ℕ) (w : WordState) (x y : ℕ) (vs : List ℕ) (u : Core) → stays (top_of os) ≡ b → w.stack ≡ y ∷ (x ∷ vs)
-      → any_held (below_top (below_top os)) ≡ false
-      → (let under = below_top os in
-      let first : List Form = if b then [] else five_from (top_of os) in
-      let s : Source = if b then source_from (top_of os) else (Register R5) in
-      let ms = first ++ four_from (top_of under) in Stands z.code pc ms → Describes z os pc w u
-      → Runs z.code [] ((if b then 0 else load_cycles (top_of os)) + load_cycles (top_of under)) u
+      → any_held (below_top (below_top os)) ≡ false → (let under = below_top os in let first : List Form = if b then [] else five_from (top_of os) in
+      let s : Source = if b then source_from (top_of os) else (Register R5) in let ms = first ++ four_from (top_of under) in Stands z.code pc ms
+      → Describes z os pc w u → Runs z.code [] ((if b then 0 else load_cycles (top_of os)) + load_cycles (top_of under)) u
       (LoadedSides z s (below_top under) (pc + forms_bytes ms) (with_stack vs w) x y))
   sides_by true [] pc w x y vs u b e none h d = absurd (let q = b in (cc))
   sides_by true (o ∷ os) pc w x y vs u b e none h d =
       let left = with_stack (x ∷ vs) w in
       let end = pc + forms_bytes (four_from (top_of os)) in
       let k = drop_part o os pc w y (x ∷ vs) u e d in
-      dearer z [] (load_cycles (top_of os)) (0 + load_cycles (top_of os)) u _ (omega arith)
-      (so_runs z [] (load_cycles (top_of os)) u (Loaded z R4 (below_top os) end (with_stack vs w) x u.work) _
-      (λ t j. record {
+      dearer z (omega arith)
+      (so_runs (four_part os pc left x vs u refl none h k.0) (λ t j. record {
         is = j.is;
-        four = j.value;
+        four = j.held.value;
         right = source_word o end (with_stack j.is.rest w) t j.is.is d.there.0
-            ∙ word_stays w.fram w.locals t.work u.work o b (j.others 6 (λ q. omega (arith, q))) ∙ k.1;
+            ∙ word_stays w.fram w.locals t.work u.work o b (j.held.others 6 (λ q. omega (arith, q))) ∙ k.1;
         needs = source_needs z.locals w.locals o t d.there.0;
         still = source_still o t;
-      })
-      (four_part os pc left x vs u refl none h k.0))
+      }))
   sides_by false os pc w x y vs u b e none h d =
       let under = below_top os in
       let end = pc + forms_bytes (five_from (top_of os) ++ four_from (top_of under)) in
-      so_runs z [] (load_cycles (top_of os) + load_cycles (top_of under)) u (LoadedTwo z (below_top under) end (with_stack vs w) x y) _
-      (λ t j. record { is = j.is; four = j.four; right = j.five; needs = tt; still = refl })
-      (two_loads os pc w x y vs u e none h d)
+      so_runs (two_loads os pc w x y vs u e none h d) (λ t j. record { is = j.is; four = j.held.four; right = j.held.five; needs = tt; still = refl })
 
   sides_loads : (os : List Waiting) (pc : ℕ) (w : WordState) (x y : ℕ) (vs : List ℕ) (u : Core) → w.stack ≡ y ∷ (x ∷ vs)
       → any_held (below_top (below_top os)) ≡ false
@@ -662,36 +568,33 @@ module _ (z : Setting) where
       (LoadedSides z (right_source (top_of os)) (kept (below_top under)) (pc + forms_bytes (sides os)) (with_stack vs w) x y))
   sides_part [] pc w x y vs u e h d = sides_loads [] pc w x y vs u e refl h d
   sides_part (o ∷ []) pc w x y vs u e h d =
-      dearer z [] (right_cycles (Some o) + 2) (0 + (right_cycles (Some o) + 2)) u _ (omega arith) (sides_loads (o ∷ []) pc w x y vs u e refl h d)
+      dearer z (omega arith) (sides_loads (o ∷ []) pc w x y vs u e refl h d)
   sides_part (o ∷ (p ∷ os)) pc w x y vs u e h d =
       let more = (if stays (Some o) then [] else five_from (Some o)) ++ four_from (Some p) in
-      behind_cleared os (o ∷ (p ∷ kept os)) more (right_cycles (Some o) + 3) pc w u
-      (λ n. LoadedSides z (right_source (Some o)) (kept os) n (with_stack vs w) x y)
-      (clear_under (o ∷ (p ∷ [])) os pc w u d (stands_front z.code pc (cleared os) more h)) (λ t k.
-      sides_loads (o ∷ (p ∷ kept os)) (pc + forms_bytes (cleared os)) w x y vs t e (none_held os) (stands_back z.code pc (cleared os) more h) k)
+      behind_cleared (o ∷ (p ∷ [])) os more (right_cycles (Some o) + 3) pc w u
+      (λ n. LoadedSides z (right_source (Some o)) (kept os) n (with_stack vs w) x y) d h
+      (λ t s k. sides_loads (o ∷ (p ∷ kept os)) (pc + forms_bytes (cleared os)) w x y vs t e (none_held os) s k)
 
   pub two_to_registers_part : (os : List Waiting) (pc : ℕ) (w : WordState) (x y : ℕ) (vs : List ℕ) (u : Core) → w.stack ≡ y ∷ (x ∷ vs)
       → Stands z.code pc (two_to_registers os) → Describes z os pc w u
       → (let under = below_top os in Runs z.code [] (clear_cycles (below_top under) + (load_cycles (top_of os) + load_cycles (top_of under))) u
-      (LoadedTwo z (kept (below_top under)) (pc + forms_bytes (two_to_registers os)) (with_stack vs w) x y))
+      (Waits z (kept (below_top under)) (pc + forms_bytes (two_to_registers os)) (with_stack vs w) (HasSides x y)))
   two_to_registers_part [] pc w x y vs u e h d = two_loads [] pc w x y vs u e refl h d
   two_to_registers_part (o ∷ []) pc w x y vs u e h d = two_loads (o ∷ []) pc w x y vs u e refl h d
   two_to_registers_part (o ∷ (p ∷ os)) pc w x y vs u e h d =
       let more = five_from (Some o) ++ four_from (Some p) in
-      behind_cleared os (o ∷ (p ∷ kept os)) more 6 pc w u (λ n. LoadedTwo z (kept os) n (with_stack vs w) x y)
-      (clear_under (o ∷ (p ∷ [])) os pc w u d (stands_front z.code pc (cleared os) more h)) (λ t k.
-      two_loads (o ∷ (p ∷ kept os)) (pc + forms_bytes (cleared os)) w x y vs t e (none_held os) (stands_back z.code pc (cleared os) more h) k)
+      behind_cleared (o ∷ (p ∷ [])) os more 6 pc w u (λ n. Waits z (kept os) n (with_stack vs w) (HasSides x y)) d h
+      (λ t s k. two_loads (o ∷ (p ∷ kept os)) (pc + forms_bytes (cleared os)) w x y vs t e (none_held os) s k)
 
   -- the top for a statement, all others being pushed
-  pub below_part : (os : List Waiting) (pc : ℕ) (w : WordState) (v : ℕ) (vs : List ℕ) (u : Core) → w.stack ≡ v ∷ vs
-      → Stands z.code pc (flushed (below_top os)) → Describes z os pc w u
-      → Runs z.code [] (owed (below_top os)) u (Top z (source_from (top_of os)) [] (pc + forms_bytes (flushed (below_top os))) w v vs)
+  pub below_part : (os : List Waiting) (pc : ℕ) (w : WordState) (v : ℕ) (vs : List ℕ) (u : Core) → w.stack ≡ v ∷ vs → Stands z.code pc (flushed (below_top os))
+      → Describes z os pc w u → Runs z.code [] (owed (below_top os)) u (Top z (source_from (top_of os)) [] (pc + forms_bytes (flushed (below_top os))) w v vs)
   below_part [] pc w v vs u e h d =
       let same : pc ≡ pc + 0 = omega arith in
-      nothing_run z u _ (subst (λ n. Top z (source_from None) [] n w v vs u) same (take_part [] pc w v vs u e d))
+      nothing_run z (subst (λ n. Top z (source_from None) [] n w v vs u) same (take_part [] pc w v vs u e d))
   below_part (o ∷ os) pc w v vs u e h d =
       let end = pc + forms_bytes (flushed os) in
-      so_runs z [] (owed os) u (Waits z (o ∷ []) end w u.work) _ (λ t k. take_part (o ∷ []) end w v vs t e k.is) (flush_under (o ∷ []) os pc w u d h)
+      so_runs (flush_under (o ∷ []) os pc w u d h) (λ t k. take_part (o ∷ []) end w v vs t e k.is)
 
   -- ---- one more word waits
 
@@ -724,23 +627,23 @@ module _ (z : Setting) where
 
   pub compare_number : (b : WorkRegister) (pc x k : ℕ) (w : WordState) (t : Core) → x < 0x10000 → k < 0x10000 → t.work (work_number b) ≡ x
       → StandsFor z pc w t → (let m = Calculate op.Cmp (number_source k) b in z.code pc ≡ Some (instruction_of m)
-      → Runs z.code [] 2 t (Compared z (pc + form_bytes m) w t.work x k))
+      → Runs z.code [] 2 t (Flagged z (AreThese t.work) (IsCompared x k) (pc + form_bytes m) w))
   compare_number b pc x k w t l r v i =
       let zero = ap (λ y. (y + (0xFFFF - k) + 1) % 0x10000 == 0) v ∙ equal_flag x k l r in
       let carry = ap (λ y. nat_le 0x10000 (y + (0xFFFF - k) + 1)) v ∙ no_borrow x k l r in
       let P : Source → Type 0 = λ s. let m = Calculate op.Cmp s b in z.code pc ≡ Some (instruction_of m)
-      → Runs z.code [] 2 t (Compared z (pc + form_bytes m) w t.work x k) in
+      → Runs z.code [] 2 t (Flagged z (AreThese t.work) (IsCompared x k) (pc + form_bytes m) w) in
       number_cases P k
-      (λ h.
-      let ms = Calculate op.Cmp (Number k) b ∷ [] in
-      straight z ms 2 t (end_of t (forms_run ms t).status) [] 2 _ (tt, tt) (stands_at z.code pc ms t (h, tt) i.at) ((tt, tt), tt) refl (omega arith)
-      (record { is = stands_elsewhere z pc (pc + 4) w t _ i (omega (arith, i.at)) refl refl refl refl refl; work = refl; zero = zero; carry = carry }))
-      (λ c e h.
-      let ms = Calculate op.Cmp (Constant c) b ∷ [] in
-      straight z ms 2 t (end_of t (forms_run ms t).status) [] 1 _ (tt, tt) (stands_at z.code pc ms t (h, tt) i.at) ((tt, tt), tt) refl (omega arith)
-      (record {
-        is = stands_elsewhere z pc (pc + 2) w t _ i (omega (arith, i.at)) refl refl refl refl refl;
-        work = refl;
-        zero = ap (λ n. (t.work (work_number b) + (0xFFFF - n) + 1) % 0x10000 == 0) e ∙ zero;
-        carry = ap (λ n. nat_le 0x10000 (t.work (work_number b) + (0xFFFF - n) + 1)) e ∙ carry;
-      }))
+      (λ h. line z (Calculate op.Cmp (Number k) b ∷ []) 2 (pc + 4) _ i (tt, tt) (h, tt) ((tt, tt), tt) refl refl (omega (arith, i.at))
+      (λ s. record { all = record { is = s; held = refl }; flag = record { zero = zero; carry = carry } }))
+      (λ c e h. dearer z (omega arith)
+      (line z (Calculate op.Cmp (Constant c) b ∷ []) 1 (pc + 2) (Flagged z (AreThese t.work) (IsCompared x k) (pc + 2) w) i (tt, tt) (h, tt) ((tt, tt), tt)
+      refl refl (omega (arith, i.at))
+      (λ s. record {
+        all = record { is = s; held = refl };
+        flag =
+            record {
+              zero = ap (λ n. (t.work (work_number b) + (0xFFFF - n) + 1) % 0x10000 == 0) e ∙ zero;
+              carry = ap (λ n. nat_le 0x10000 (t.work (work_number b) + (0xFFFF - n) + 1)) e ∙ carry;
+            };
+      })))

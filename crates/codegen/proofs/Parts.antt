@@ -1,22 +1,10 @@
 -- The steps that are straight code: words of FRAM, locals, jumps.
-use Rattle.std.proofs.Common.{◌≡◌, ℕ, ◌+◌, ◌-◌, ◌%◌, ◌<◌, Bool, true, false, nat_lt, List, [], ◌∷◌, length, Option, Some, refl, sym, ap, ◌∙◌, subst, arith}
-use Rattle.std.proofs.Common.{◌≤◌, eq-eqb, if◌then◌else◌}
-use Rattle.array_versions.specs.machine_effects.msp_cycles.Cycles.{cycles_of, source_cycles, to_register, to_memory}
-use Rattle.array_versions.specs.fram_board.Effects.{Store}
-use Rattle.array_versions.specs.machine_effects.World.{put}
-use Rattle.array_versions.specs.machine_effects.Going.{Goes, At, stretch}
-use Rattle.array_versions.specs.machine_effects.Machine.{IsFram}
-use Rattle.msp_isa.specs.declared.operands.Konst.{Konst}
-use Rattle.msp_isa.specs.Constant.{constant_value}
-use Rattle.code_forms.specs.Forms.{work_number, Core, Source, source_operand, source_bytes, source_read, Constant, Fram, Ram, ToRegister, ToFram, ToRam}
-use Rattle.code_forms.specs.Forms.{Move, Push, Branch}
-use Rattle.code_forms.specs.Forms.{instruction_of}
-use Rattle.code_forms.specs.Code.{Stands, forms_bytes, forms_run, Runs}
-use Rattle.code_forms.proofs.Interface.{stands_at, end_of}
-use Rattle.array_versions.specs.Behaviour.{WordState, behaves, goes_on, Jumps, broken, with_stack, pushed, stored, with_local, is_place, word_stored, jumped}
-use Rattle.codegen.specs.declared.waiting.Waiting.{Waiting}
-use Rattle.codegen.specs.Laws.{HasJumped}
-use Rattle.codegen.specs.Code.{local_register, local_address, local_target, number_source, source_from, number_code}
+use Rattle.codegen.proofs.Names.{◌≡◌, ℕ, ◌+◌, ◌-◌, ◌%◌, ◌<◌, Bool, true, false, nat_lt, List, [], ◌∷◌, length, Option, Some, refl, sym, ap, ◌∙◌, subst, arith}
+use Rattle.codegen.proofs.Names.{◌≤◌, eq-eqb, if◌then◌else◌, cycles_of, source_cycles, to_register, to_memory, Store, put, Goes, At, stretch, IsFram, Konst}
+use Rattle.codegen.proofs.Names.{constant_value, work_number, Core, Source, source_operand, source_bytes, source_read, Constant, Fram, Ram, ToRegister, ToFram}
+use Rattle.codegen.proofs.Names.{ToRam, Move, Push, Branch, instruction_of, Stands, forms_bytes, forms_run, Runs, stands_at, end_of, WordState, behaves}
+use Rattle.codegen.proofs.Names.{goes_on, Jumps, broken, with_stack, pushed, stored, with_local, is_place, word_stored, jumped, Waiting, HasJumped}
+use Rattle.codegen.proofs.Names.{local_register, local_address, local_target, number_source, source_from, number_code}
 use Rattle.codegen.proofs.Stretches.{Setting, straight, hop}
 use Rattle.codegen.proofs.Memory.{local_words, in_ram, Memory, push_needs, local_needs, push_memory, set_register, set_ram, place_is}
 use Rattle.codegen.proofs.Follows.{StandsFor, Follows, guarded}
@@ -83,8 +71,7 @@ module _ (z : Setting) where
   -- a local becomes a word that a source gives, by where it stands
   set_by : (b : Bool) (s : Source) (most n v pc : ℕ) (vs : List ℕ) (w : WordState) (u : Core) → nat_lt n 8 ≡ b → n < z.locals
       → source_cycles to_register (source_operand s) ≤ most → source_cycles to_memory (source_operand s) ≤ most
-      → (let ms = Move s (if b then ToRegister (local_register n) else ToRam (local_address n)) ∷ [] in Stands z.code pc ms
-      → Top z s [] pc w v vs u
+      → (let ms = Move s (if b then ToRegister (local_register n) else ToRam (local_address n)) ∷ [] in Stands z.code pc ms → Top z s [] pc w v vs u
       → Runs z.code [] most u (StandsFor z (pc + forms_bytes ms) (with_local n v (with_stack vs w))))
   set_by true s most n v pc vs w u e lt p q h k =
       let m = Move s (ToRegister (local_register n)) in

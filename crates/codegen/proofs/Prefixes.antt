@@ -1,13 +1,9 @@
 -- The effects so far are a prefix of all.
-use Rattle.std.proofs.Common.{◌≡◌, ℕ, zero, suc, ◌+◌, ◌-◌, ◌≤◌, List, [], ◌++◌, refl, sym, ap, ◌∙◌, subst, arith, append_assoc, append-nil, suc-add}
+use Rattle.codegen.proofs.Names.{◌≡◌, ℕ, zero, suc, ◌+◌, ◌-◌, ◌≤◌, List, [], ◌++◌, refl, sym, ap, ◌∙◌, subst, arith, append_assoc, append-nil, suc-add, Effect}
+use Rattle.codegen.proofs.Names.{IsPrefix, StepOutcome, Goes, Stops, Stretch, stretch, At, Halted, after_effects, continued, going, MachineBoard, exec}
+use Rattle.codegen.proofs.Names.{board_of, IsWithin, RunsStayWithin, StarvingStaysWithin}
 use Rattle.array_versions.specs.msp_step.declared.machine.Stop.{Stop}
 use Rattle.array_versions.specs.msp_step.declared.machine.Stop.TheVariants as stop
-use Rattle.array_versions.specs.fram_board.Effects.{Effect}
-use Rattle.array_versions.specs.machine_effects.World.{IsPrefix}
-use Rattle.array_versions.specs.machine_effects.Going.{StepOutcome, Goes, Stops, Stretch, stretch, At, Halted, after_effects, continued, going}
-use Rattle.array_versions.specs.machine_effects.Machine.{MachineBoard, exec}
-use Rattle.code_forms.specs.Forms.{board_of}
-use Rattle.codegen.specs.Laws.{IsWithin, RunsStayWithin, StarvingStaysWithin}
 
 abbrev MachineStretchOf : Type 0
 MachineStretchOf = Stretch MachineBoard Stop

@@ -1,26 +1,14 @@
 -- Multiplication: a turn for each bit of the right side, up to its highest.
-use Rattle.std.proofs.Common.{◌≡◌, ℕ, zero, suc, ◌+◌, ◌*◌, ◌/◌, ◌%◌, ◌^◌, ◌<◌, ◌==◌, not, List, [], ◌∷◌, Some, refl, sym, ap, ap₂, ◌∙◌, subst, arith, Bool}
-use Rattle.std.proofs.Common.{true, false, eqb-true, if◌then◌else◌, bit_and}
-use Rattle.std.proofs.lemmas.Bool.Decides.{nat_tests}
-use Rattle.std.proofs.lemmas.Nat.{and_mask, and_le_r, mul-mod_first}
-use Rattle.msp_isa.specs.alp_words.Words.{bit}
-use Rattle.msp_isa.specs.declared.instructions.Condition.{Condition}
+use Rattle.codegen.proofs.Names.{◌≡◌, ℕ, zero, suc, ◌+◌, ◌*◌, ◌/◌, ◌%◌, ◌^◌, ◌<◌, ◌==◌, not, List, [], ◌∷◌, Some, refl, sym, ap, ap₂, ◌∙◌, subst, arith, Bool}
+use Rattle.codegen.proofs.Names.{true, false, eqb-true, bit_and, nat_tests, and_mask, and_le_r, mul-mod_first, bit, sum16, distance, R4, R5, R6, Core, Register}
+use Rattle.codegen.proofs.Names.{Constant, ToRegister, Form, Move, Calculate, Modify, Jump, instruction_of, Stands, forms_bytes, Runs, form_at, forms_at}
+use Rattle.codegen.proofs.Names.{Multiply, binary_word, WordState, binary_middle, multiply_turn}
 use Rattle.msp_isa.specs.declared.instructions.Condition.TheVariants as condition
 use Rattle.msp_isa.specs.declared.instructions.TwoOp.TheVariants as op
 use Rattle.msp_isa.specs.declared.operands.Konst.TheVariants as konst
 use Rattle.array_versions.specs.msp_step.declared.effect.Modification.TheVariants as change
-use Rattle.array_versions.specs.msp_step.Effect.{sum16, distance, is_met}
-use Rattle.array_versions.specs.machine_effects.Going.{Goes}
-use Rattle.code_forms.specs.Forms.{R4, R5, R6, Core, Register, Constant, ToRegister, Form, Move, Calculate, Modify, Jump, instruction_of}
-use Rattle.code_forms.specs.Code.{Stands, forms_bytes, forms_run, Runs}
-use Rattle.code_forms.proofs.Interface.{stands_at, form_at, forms_at, end_of}
-use Rattle.array_versions.specs.declared.operations.BinaryOperation.TheVariants.{Multiply}
-use Rattle.array_versions.specs.Operations.{binary_word}
-use Rattle.array_versions.specs.Behaviour.{WordState}
-use Rattle.codegen.specs.Code.{binary_middle, multiply_turn}
-use Rattle.codegen.proofs.Stretches.{Setting, straight, hop, runs_on, dearer}
-use Rattle.codegen.proofs.Follows.{StandsFor, stands_elsewhere}
-use Rattle.codegen.proofs.Registers.{Has}
+use Rattle.codegen.proofs.Registers.{Holds, Has, Flagged, IsZero, line, jump_with}
+use Rattle.codegen.proofs.Stretches.{Setting, runs_on, dearer}
 use Rattle.codegen.proofs.Middles.{BinaryMiddle}
 
 -- a turn leaves acc + a * b as it was
@@ -64,25 +52,16 @@ not_zero b e is_zero = grind (arith, nat_tests)
 halved_below : (n b : ℕ) → b < 2 ^ suc (suc n) → b / 2 < 2 ^ suc n
 halved_below n b l = let e : 2 ^ suc (suc n) ≡ 2 * 2 ^ suc n = grind arith in omega arith
 
+pub no_bits : (v : ℕ) → v / 2 + 0x8000 * bit (not (bit_and v 0 == 0)) ≡ v / 2
+no_bits v = let e : bit_and v 0 ≡ 0 = let l = and_le_r v 0 in omega arith in ap (λ n. v / 2 + 0x8000 * bit (not (n == 0))) e ∙ omega arith
+
+-- R4 holds the left side doubled so often, R5 what is left of the right one, R6 the sum so far
+record Factors (a b acc : ℕ) (f : ℕ → ℕ) : Type 0 where
+  four : f 4 ≡ a
+  five : f 5 ≡ b
+  six : f 6 ≡ acc
+
 module _ (z : Setting) where
-  -- a jump, with all else as it is
-  pub jump_exact : (k : Condition) (o pc' : ℕ) (b : Bool) (t : Core) (P : Core → Type 0) → z.code t.pc ≡ Some (instruction_of (Jump k o)) → is_met k t.flags ≡ b
-      → (if b then sum16 (t.pc + 2) (distance o) else t.pc + 2) ≡ pc' → P (record t { pc = pc' }) → Runs z.code [] 2 t P
-  jump_exact k o pc' b t P h e to p =
-      hop z (Jump k o) 2 t (record t { pc = pc' }) [] 2 P h tt
-      (ap (λ x. Goes [] 2 (record t { pc = if x then sum16 (t.pc + 2) (distance o) else t.pc + 2 })) e ∙ ap (λ x. Goes [] 2 (record t { pc = x })) to)
-      (omega arith) p
-
-  record Multi (pc : ℕ) (w : WordState) (a b acc : ℕ) (t : Core) : Type 0 where
-    is : StandsFor z pc w t
-    four : t.work 4 ≡ a
-    five : t.work 5 ≡ b
-    six : t.work 6 ≡ acc
-
-  record Flagged (pc : ℕ) (w : WordState) (a b acc : ℕ) (is_zero : Bool) (t : Core) : Type 0 where
-    all : Multi pc w a b acc t
-    zero_flag : t.flags.z ≡ is_zero
-
   module _ (p : ℕ) (h : Stands z.code p multiply_turn) where
     abbrev tested : List Form
     tested = Calculate op.Bit (Constant konst.One) R5 ∷ []
@@ -93,64 +72,35 @@ module _ (z : Setting) where
     abbrev adding : List Form
     adding = Calculate op.Add (Register R4) R6 ∷ []
 
-    test_bit : (a b acc : ℕ) (w : WordState) (t : Core) → Multi p w a b acc t → Runs z.code [] 1 t (Flagged (p + 2) w a b acc (bit_and b 1 == 0))
+    test_bit : (a b acc : ℕ) (w : WordState) (t : Core) → Holds z (Factors a b acc) p w t
+        → Runs z.code [] 1 t (Flagged z (Factors a b acc) (IsZero (bit_and b 1 == 0)) (p + 2) w)
     test_bit a b acc w t i =
-        straight z tested 1 t (end_of t (forms_run tested t).status) [] 1 _ (tt, tt) (stands_at z.code p tested t (h.0, tt) i.is.at) ((tt, tt), tt) refl
-        (omega arith)
-        (record {
-          all =
-              record {
-                is = stands_elsewhere z p (p + 2) w t _ i.is (omega (arith, i.is.at)) refl refl refl refl refl;
-                four = i.four;
-                five = i.five;
-                six = i.six;
-              };
-          zero_flag = ap (λ v. bit_and v 1 == 0) i.five;
-        })
+        line z tested 1 (p + 2) _ i.is (tt, tt) (h.0, tt) ((tt, tt), tt) refl refl (omega (arith, i.is.at))
+        (λ s. record { all = record { is = s; held = i.held }; flag = ap (λ v. bit_and v 1 == 0) i.held.five })
 
-    no_bits : (v : ℕ) → v / 2 + 0x8000 * bit (not (bit_and v 0 == 0)) ≡ v / 2
-    no_bits v = let e : bit_and v 0 ≡ 0 = let l = and_le_r v 0 in omega arith in ap (λ n. v / 2 + 0x8000 * bit (not (n == 0))) e ∙ omega arith
-
-    halve : (a b acc : ℕ) (w : WordState) (t : Core) → Multi (p + 6) w a b acc t
-        → Runs z.code [] 3 t (Flagged (p + 12) w ((a + a) % 0x10000) (b / 2) acc (b / 2 == 0))
+    halve : (a b acc : ℕ) (w : WordState) (t : Core) → Holds z (Factors a b acc) (p + 6) w t
+        → Runs z.code [] 3 t (Flagged z (Factors ((a + a) % 0x10000) (b / 2) acc) (IsZero (b / 2 == 0)) (p + 12) w)
     halve a b acc w t i =
-        let at : Stands z.code (p + 6) halving = forms_at z.code p 3 3 multiply_turn h in
-        let q : t.work 5 / 2 + 0x8000 * bit (not (bit_and (t.work 5) 0 == 0)) ≡ b / 2 = no_bits (t.work 5) ∙ ap (λ v. v / 2) i.five in
-        straight z halving 3 t (end_of t (forms_run halving t).status) [] 3 _ (tt, (tt, (tt, tt))) (stands_at z.code (p + 6) halving t at i.is.at)
-        ((tt, tt), ((tt, tt), (tt, tt))) refl (omega arith)
-        (record {
-          all =
-              record {
-                is = stands_elsewhere z (p + 6) (p + 12) w t _ i.is (omega (arith, i.is.at)) refl refl refl refl refl;
-                four = ap (λ v. (v + v + 0) % 0x10000) i.four ∙ omega arith;
-                five = q;
-                six = i.six;
-              };
-          zero_flag = ap (λ v. v == 0) q;
-        })
+        let q : t.work 5 / 2 + 0x8000 * bit (not (bit_and (t.work 5) 0 == 0)) ≡ b / 2 = no_bits (t.work 5) ∙ ap (λ v. v / 2) i.held.five in
+        let twice : (t.work 4 + t.work 4 + 0) % 0x10000 ≡ (a + a) % 0x10000 = ap (λ v. (v + v + 0) % 0x10000) i.held.four ∙ omega arith in
+        line z halving 3 (p + 12) _ i.is (tt, (tt, (tt, tt))) (forms_at z.code p 3 3 multiply_turn h) ((tt, tt), ((tt, tt), (tt, tt))) refl refl
+        (omega (arith, i.is.at))
+        (λ s. record { all = record { is = s; held = record { four = twice; five = q; six = i.held.six } }; flag = ap (λ v. v == 0) q })
 
-    add_in : (a b acc : ℕ) (w : WordState) (t : Core) → Multi (p + 4) w a b acc t → Runs z.code [] 1 t (Multi (p + 6) w a b ((acc + a + 0) % 0x10000))
+    add_in : (a b acc : ℕ) (w : WordState) (t : Core) → Holds z (Factors a b acc) (p + 4) w t
+        → Runs z.code [] 1 t (Holds z (Factors a b ((acc + a + 0) % 0x10000)) (p + 6) w)
     add_in a b acc w t i =
-        let at : Stands z.code (p + 4) adding = forms_at z.code p 2 1 multiply_turn h in
-        straight z adding 1 t (end_of t (forms_run adding t).status) [] 1 _ (tt, tt) (stands_at z.code (p + 4) adding t at i.is.at) ((tt, tt), tt) refl
-        (omega arith)
-        (record {
-          is = stands_elsewhere z (p + 4) (p + 6) w t _ i.is (omega (arith, i.is.at)) refl refl refl refl refl;
-          four = i.four;
-          five = i.five;
-          six = ap₂ (λ x y. (x + y + 0) % 0x10000) i.six i.four;
-        })
-
-    moved : (pc pc' : ℕ) (w : WordState) (a b acc : ℕ) (t : Core) → Multi pc w a b acc t → Multi pc' w a b acc (record t { pc = pc' })
-    moved pc pc' w a b acc t i = record { is = stands_elsewhere z pc pc' w t _ i.is refl refl refl refl refl refl; four = i.four; five = i.five; six = i.six }
+        let sum = ap₂ (λ x y. (x + y + 0) % 0x10000) i.held.six i.held.four in
+        line z adding 1 (p + 6) _ i.is (tt, tt) (forms_at z.code p 2 1 multiply_turn h) ((tt, tt), tt) refl refl (omega (arith, i.is.at))
+        (λ s. record { is = s; held = record { four = i.held.four; five = i.held.five; six = sum } })
 
     record Turn (a b acc : ℕ) (w : WordState) (t : Core) : Type 0 where
       next : ℕ
       small : next < 0x10000
       same : (next + (a + a) % 0x10000 * (b / 2)) % 0x10000 ≡ (acc + a * b) % 0x10000
-      runs : Runs z.code [] 7 t (Flagged (p + 12) w ((a + a) % 0x10000) (b / 2) next (b / 2 == 0))
+      runs : Runs z.code [] 7 t (Flagged z (Factors ((a + a) % 0x10000) (b / 2) next) (IsZero (b / 2 == 0)) (p + 12) w)
 
-    turn_by : (k : Bool) (a b acc : ℕ) (w : WordState) (t : Core) → (bit_and b 1 == 0) ≡ k → acc < 0x10000 → Multi p w a b acc t → Turn a b acc w t
+    turn_by : (k : Bool) (a b acc : ℕ) (w : WordState) (t : Core) → (bit_and b 1 == 0) ≡ k → acc < 0x10000 → Holds z (Factors a b acc) p w t → Turn a b acc w t
     turn_by true a b acc w t e l i =
         let at2 : z.code (p + 2) ≡ Some (instruction_of (Jump condition.Equal 1)) = form_at z.code p 1 multiply_turn (Jump condition.Equal 1) h refl in
         let high = (z.tidy (p + 2) _ at2).high in
@@ -160,10 +110,9 @@ module _ (z : Setting) where
           next = acc;
           small = l;
           same = even_turn a b acc ev;
-          runs = dearer z [] 6 7 t _ (omega arith) (runs_on z 1 5 t _ _ [] [] (test_bit a b acc w t i) (λ u j.
-              runs_on z 2 3 u (Multi (p + 6) w a b acc) _ [] []
-              (jump_exact condition.Equal 1 (p + 6) true u _ (ap z.code j.all.is.at ∙ at2) (j.zero_flag ∙ e)
-              (ap (λ n. sum16 (n + 2) (distance 1)) j.all.is.at ∙ to) (moved (p + 2) (p + 6) w a b acc u j.all)) (λ v q. halve a b acc w v q)));
+          runs = dearer z (omega arith) (runs_on z (test_bit a b acc w t i) (λ u j.
+              runs_on z (jump_with z condition.Equal 1 (p + 2) (p + 6) true at2 (j.flag ∙ e) to j.all)
+              (λ v q. halve a b acc w v q)));
         }
     turn_by false a b acc w t e l i =
         let at2 : z.code (p + 2) ≡ Some (instruction_of (Jump condition.Equal 1)) = form_at z.code p 1 multiply_turn (Jump condition.Equal 1) h refl in
@@ -173,43 +122,38 @@ module _ (z : Setting) where
           next = (acc + a + 0) % 0x10000;
           small = omega arith;
           same = odd_turn a b acc od;
-          runs = runs_on z 1 6 t _ _ [] [] (test_bit a b acc w t i) (λ u j.
-              runs_on z 2 4 u (Multi (p + 4) w a b acc) _ [] []
-              (jump_exact condition.Equal 1 (p + 4) false u _ (ap z.code j.all.is.at ∙ at2) (j.zero_flag ∙ e) (omega (arith, j.all.is.at))
-              (moved (p + 2) (p + 4) w a b acc u j.all)) (λ v q.
-              runs_on z 1 3 v _ _ [] [] (add_in a b acc w v q) (λ x r. halve a b ((acc + a + 0) % 0x10000) w x r)));
+          runs = runs_on z (test_bit a b acc w t i) (λ u j.
+              runs_on z
+              (jump_with z condition.Equal 1 (p + 2) (p + 4) false at2 (j.flag ∙ e) (omega arith) j.all) (λ v q.
+              runs_on z (add_in a b acc w v q) (λ x r. halve a b ((acc + a + 0) % 0x10000) w x r)));
         }
 
     abbrev Result : ℕ → ℕ → ℕ → WordState → Core → Type 0
-    Result a b acc w t = Has z R6 (p + 14) w ((acc + a * b) % 0x10000) t
+    Result a b acc w = Has z R6 (p + 14) w ((acc + a * b) % 0x10000)
 
     at12 : z.code (p + 12) ≡ Some (instruction_of (Jump condition.NotEqual 1017))
     at12 = form_at z.code p 6 multiply_turn (Jump condition.NotEqual 1017) h refl
 
     -- behind a turn: out where nothing is left, else back
-    leave : (n a b acc : ℕ) (w : WordState) (t : Core) (k : Bool) → (b / 2 == 0) ≡ k → (r : Turn a b acc w t) →
-        ((b / 2 ≡ 0 → ⊥) → (u : Core) → Multi p w ((a + a) % 0x10000) (b / 2) r.next u → Runs z.code [] (n * 9) u (Result ((a + a) % 0x10000) (b / 2) r.next w))
-        → Runs z.code [] (suc n * 9) t (Result a b acc w)
+    leave : (n a b acc : ℕ) (w : WordState) (t : Core) (k : Bool) → (b / 2 == 0) ≡ k → (r : Turn a b acc w t)
+        → ((b / 2 ≡ 0 → ⊥) → (u : Core) → Holds z (Factors ((a + a) % 0x10000) (b / 2) r.next) p w u
+        → Runs z.code [] (n * 9) u (Result ((a + a) % 0x10000) (b / 2) r.next w)) → Runs z.code [] (suc n * 9) t (Result a b acc w)
     leave n a b acc w t true e r again =
         let is_zero : b / 2 ≡ 0 = eqb-true (b / 2) 0 e in
         let v : r.next ≡ (acc + a * b) % 0x10000 = sym (no_more ((a + a) % 0x10000) r.next r.small)
         ∙ ap (λ q. (r.next + (a + a) % 0x10000 * q) % 0x10000) (sym is_zero) ∙ r.same in
-        dearer z [] 9 (suc n * 9) t _ (omega arith)
-        (runs_on z 7 2 t _ _ [] [] r.runs (λ u j. jump_exact condition.NotEqual 1017 (p + 14) false u _ (ap z.code j.all.is.at ∙ at12)
-        (ap not (j.zero_flag ∙ e)) (omega (arith, j.all.is.at))
-        (record { is = stands_elsewhere z (p + 12) (p + 14) w u _ j.all.is refl refl refl refl refl refl; value = j.all.six ∙ v })))
+        dearer z (omega arith) (runs_on z r.runs (λ u j. jump_with z condition.NotEqual 1017 (p + 12) (p + 14) false at12 (ap not (j.flag ∙ e)) (omega arith)
+        (record { is = j.all.is; held = j.all.held.six ∙ v })))
     leave n a b acc w t false e r again =
         let high = (z.tidy (p + 12) _ at12).high in
         let to : sum16 (p + 12 + 2) (distance 1017) ≡ p = omega arith in
-        let back : Runs z.code [] 9 t (Multi p w ((a + a) % 0x10000) (b / 2) r.next) =
-        runs_on z 7 2 t _ _ [] [] r.runs (λ u j. jump_exact condition.NotEqual 1017 p true u _ (ap z.code j.all.is.at ∙ at12) (ap not (j.zero_flag ∙ e))
-        (ap (λ n. sum16 (n + 2) (distance 1017)) j.all.is.at ∙ to)
-        (moved (p + 12) p w ((a + a) % 0x10000) (b / 2) r.next u j.all)) in
-        dearer z [] (9 + n * 9) (suc n * 9) t _ (omega arith)
-        (subst (λ v. Runs z.code [] (9 + n * 9) t (Has z R6 (p + 14) w v)) r.same
-        (runs_on z 9 (n * 9) t _ _ [] [] back (λ u j. again (not_zero (b / 2) e) u j)))
+        let back : Runs z.code [] 9 t (Holds z (Factors ((a + a) % 0x10000) (b / 2) r.next) p w) =
+        runs_on z r.runs (λ u j. jump_with z condition.NotEqual 1017 (p + 12) p true at12 (ap not (j.flag ∙ e)) to j.all) in
+        dearer z (omega arith) (subst (λ v. Runs z.code [] (9 + n * 9) t (Has z R6 (p + 14) w v)) r.same
+        (runs_on z back (λ u j. again (not_zero (b / 2) e) u j)))
 
-    loop : (n a b acc : ℕ) (w : WordState) (t : Core) → b < 2 ^ suc n → acc < 0x10000 → Multi p w a b acc t → Runs z.code [] (suc n * 9) t (Result a b acc w)
+    loop : (n a b acc : ℕ) (w : WordState) (t : Core) → b < 2 ^ suc n → acc < 0x10000 → Holds z (Factors a b acc) p w t
+        → Runs z.code [] (suc n * 9) t (Result a b acc w)
     loop zero a b acc w t l lc i =
         leave zero a b acc w t (b / 2 == 0) refl (turn_by (bit_and b 1 == 0) a b acc w t refl lc i) (λ ne u j. elim (ne (omega arith)) [ ])
     loop (suc m) a b acc w t l lc i =
@@ -221,9 +165,7 @@ module _ (z : Setting) where
       let ms = Move (Constant konst.Zero) (ToRegister R6) ∷ [] in
       let e : pc + 2 + 14 ≡ pc + forms_bytes (binary_middle Multiply) = omega arith in
       let is_zero : (0 + x * y) % 0x10000 ≡ (x * y) % 0x10000 = omega arith in
-      subst (λ n. Runs z.code [] 145 t (Has z R6 n w ((x * y) % 0x10000))) e
-      (subst (λ v. Runs z.code [] 145 t (Has z R6 (pc + 2 + 14) w v)) is_zero
-      (runs_on z 1 144 t (Multi (pc + 2) w x y 0) _ [] []
-      (straight z ms 1 t (end_of t (forms_run ms t).status) [] 1 _ (tt, tt) (stands_at z.code pc ms t (h.0, tt) i.is.at) ((tt, tt), tt) refl (omega arith)
-      (record { is = stands_elsewhere z pc (pc + 2) w t _ i.is (omega (arith, i.is.at)) refl refl refl refl refl; four = i.four; five = i.five; six = refl }))
+      subst (λ n. Runs z.code [] 145 t (Has z R6 n w ((x * y) % 0x10000))) e (subst (λ v. Runs z.code [] 145 t (Has z R6 (pc + 2 + 14) w v)) is_zero
+      (runs_on z (line z ms 1 (pc + 2) _ i.is (tt, tt) (h.0, tt) ((tt, tt), tt) refl refl (omega (arith, i.is.at))
+      (λ s. record { is = s; held = record { four = i.held.four; five = i.held.five; six = refl } }))
       (λ u j. loop (pc + 2) h.1 15 x y 0 w u b (omega arith) j)))

@@ -1,27 +1,16 @@
 -- Division: sixteen turns, each with one bit of the left side.
-use Rattle.std.proofs.Common.{◌≡◌, ℕ, zero, suc, ◌+◌, ◌-◌, ◌*◌, ◌/◌, ◌%◌, ◌^◌, ◌<◌, ◌≤◌, ◌==◌, ◌⊎◌, inl, inr, ⊎_elim, not, List, [], ◌∷◌, Some, refl, sym, ap}
-use Rattle.std.proofs.Common.{ap₂, ◌∙◌, subst, arith, Bool, true, false, nat_le, eq-eqb, if◌then◌else◌}
-use Rattle.std.proofs.lemmas.Bool.Decides.{nat_tests}
-use Rattle.std.proofs.lemmas.Nat.{div-mul-add, mod-mul-add}
-use Rattle.std.proofs.lemmas.Bool.{cases_eq}
-use Rattle.msp_isa.specs.alp_words.Words.{bit, quotient, remainder}
+use Rattle.codegen.proofs.Names.{◌≡◌, ℕ, zero, suc, ◌+◌, ◌-◌, ◌*◌, ◌/◌, ◌%◌, ◌^◌, ◌<◌, ◌≤◌, ◌==◌, ◌⊎◌, inl, inr, ⊎_elim, not, List, [], ◌∷◌, Some, refl, sym}
+use Rattle.codegen.proofs.Names.{ap, ap₂, ◌∙◌, subst, arith, Bool, true, false, nat_le, eq-eqb, if◌then◌else◌, nat_tests, div-mul-add, mod-mul-add, cases_eq}
+use Rattle.codegen.proofs.Names.{bit, quotient, remainder, sum16, distance, R4, R5, R6, R7, Core, Register, Number, Constant, ToRegister, Form, Move, Calculate}
+use Rattle.codegen.proofs.Names.{Jump, instruction_of, Stands, Runs, form_at, forms_at, forms_behind, Divide, Remainder, binary_word, WordState, binary_middle}
+use Rattle.codegen.proofs.Names.{divide_middle, divide_turn}
 use Rattle.msp_isa.proofs.alp_words.Interface.{bit_below}
 use Rattle.msp_isa.specs.declared.instructions.Condition.TheVariants as condition
 use Rattle.msp_isa.specs.declared.instructions.TwoOp.TheVariants as op
 use Rattle.msp_isa.specs.declared.operands.Konst.TheVariants as konst
-use Rattle.array_versions.specs.msp_step.Effect.{sum16, distance}
-use Rattle.code_forms.specs.Forms.{R4, R5, R6, R7, Core, Register, Number, Constant, ToRegister, Form, Move, Calculate, Jump, instruction_of}
-use Rattle.code_forms.specs.Code.{Stands, forms_bytes, forms_run, Runs}
-use Rattle.code_forms.proofs.Interface.{stands_at, form_at, forms_at, forms_behind, end_of}
-use Rattle.array_versions.specs.declared.operations.BinaryOperation.TheVariants.{Divide, Remainder}
-use Rattle.array_versions.specs.Operations.{binary_word}
-use Rattle.array_versions.specs.Behaviour.{WordState}
-use Rattle.codegen.specs.Code.{binary_middle, divide_middle, divide_turn}
-use Rattle.codegen.proofs.Stretches.{Setting, straight, runs_on, dearer}
-use Rattle.codegen.proofs.Follows.{StandsFor, stands_elsewhere}
-use Rattle.codegen.proofs.Registers.{Has, HasTwo, no_borrow}
+use Rattle.codegen.proofs.Registers.{Holds, HasTwo, Flagged, IsZero, IsCarry, line, jump_with, no_borrow}
+use Rattle.codegen.proofs.Stretches.{so_runs, Setting, runs_on, dearer}
 use Rattle.codegen.proofs.Middles.{BinaryMiddle}
-use Rattle.codegen.proofs.Products.{jump_exact}
 
 -- what is left of a by d: with P = 2 ^ turns left and p * P = 10000, x = X * p + q, X of the bits still to come and q those of the quotient
 pub record Dividing (a d x r p P : ℕ) : Type 0 where
@@ -193,26 +182,14 @@ starts x d h =
 less_high : (s d : ℕ) → s < 0x20000 → d < 0x10000 → d ≤ s → s - d < 0x10000 → (s % 0x10000 + (0xFFFF - d) + 1) % 0x10000 ≡ s - d
 less_high s d h k l m = omega arith
 
+-- R4 holds what is left of the dividend with the bits of the quotient, R5 the divisor, R6 the rest and R7 the turns that are left
+record InHand (x d r n : ℕ) (f : ℕ → ℕ) : Type 0 where
+  four : f 4 ≡ x
+  five : f 5 ≡ d
+  six : f 6 ≡ r
+  seven : f 7 ≡ n
+
 module _ (z : Setting) where
-  record DivAt (pc : ℕ) (w : WordState) (x d r n : ℕ) (t : Core) : Type 0 where
-    is : StandsFor z pc w t
-    four : t.work 4 ≡ x
-    five : t.work 5 ≡ d
-    six : t.work 6 ≡ r
-    seven : t.work 7 ≡ n
-
-  record DivC (pc : ℕ) (w : WordState) (x d r n : ℕ) (c : Bool) (t : Core) : Type 0 where
-    all : DivAt pc w x d r n t
-    flag : t.flags.c ≡ c
-
-  record DivZ (pc : ℕ) (w : WordState) (x d r n : ℕ) (is_zero : Bool) (t : Core) : Type 0 where
-    all : DivAt pc w x d r n t
-    flag : t.flags.z ≡ is_zero
-
-  moved : (pc pc' : ℕ) (w : WordState) (x d r n : ℕ) (t : Core) → DivAt pc w x d r n t → DivAt pc' w x d r n (record t { pc = pc' })
-  moved pc pc' w x d r n t i =
-      record { is = stands_elsewhere z pc pc' w t _ i.is refl refl refl refl refl refl; four = i.four; five = i.five; six = i.six; seven = i.seven }
-
   module _ (p : ℕ) (h : Stands z.code p divide_turn) where
     at4 : z.code (p + 4) ≡ Some (instruction_of (Jump condition.Carry 2))
     at4 = form_at z.code p 2 divide_turn (Jump condition.Carry 2) h refl
@@ -235,72 +212,40 @@ module _ (z : Setting) where
     abbrev counting : List Form
     counting = Calculate op.Sub (Constant konst.One) R7 ∷ []
 
-    double : (x d r n : ℕ) (w : WordState) (t : Core) → DivAt p w x d r n t
-        → Runs z.code [] 2 t (DivC (p + 4) w (shifted x) d (longer x r % 0x10000) n (nat_le 0x10000 (longer x r)))
+    double : (x d r n : ℕ) (w : WordState) (t : Core) → Holds z (InHand x d r n) p w t
+        → Runs z.code [] 2 t (Flagged z (InHand (shifted x) d (longer x r % 0x10000) n) (IsCarry (nat_le 0x10000 (longer x r))) (p + 4) w)
     double x d r n w t i =
-        straight z doubling 2 t (end_of t (forms_run doubling t).status) [] 2 _ (tt, (tt, tt)) (stands_at z.code p doubling t (h.0, (h.1.0, tt)) i.is.at)
-        ((tt, tt), ((tt, tt), tt)) refl (omega arith)
-        (record {
-          all =
-              record {
-                is = stands_elsewhere z p (p + 4) w t _ i.is (omega (arith, i.is.at)) refl refl refl refl refl;
-                four = ap shifted i.four;
-                five = i.five;
-                six = ap₂ (λ u v. longer u v % 0x10000) i.four i.six;
-                seven = i.seven;
-              };
-          flag = ap₂ (λ u v. nat_le 0x10000 (longer u v)) i.four i.six;
+        let k = i.held in
+        let six = ap₂ (λ u v. longer u v % 0x10000) k.four k.six in
+        line z doubling 2 (p + 4) _ i.is (tt, (tt, tt)) (h.0, (h.1.0, tt)) ((tt, tt), ((tt, tt), tt)) refl refl (omega (arith, i.is.at))
+        (λ s. record {
+          all = record { is = s; held = record { four = ap shifted k.four; five = k.five; six = six; seven = k.seven } };
+          flag = ap₂ (λ u v. nat_le 0x10000 (longer u v)) k.four k.six;
         })
 
-    compare : (x d r n : ℕ) (w : WordState) (t : Core) → r < 0x10000 → d < 0x10000 → DivAt (p + 6) w x d r n t
-        → Runs z.code [] 1 t (DivC (p + 8) w x d r n (nat_le d r))
+    compare : (x d r n : ℕ) (w : WordState) (t : Core) → r < 0x10000 → d < 0x10000 → Holds z (InHand x d r n) (p + 6) w t
+        → Runs z.code [] 1 t (Flagged z (InHand x d r n) (IsCarry (nat_le d r)) (p + 8) w)
     compare x d r n w t a b i =
-        let at : Stands z.code (p + 6) comparing = forms_at z.code p 3 1 divide_turn h in
-        straight z comparing 1 t (end_of t (forms_run comparing t).status) [] 1 _ (tt, tt) (stands_at z.code (p + 6) comparing t at i.is.at) ((tt, tt), tt) refl
-        (omega arith)
-        (record {
-          all =
-              record {
-                is = stands_elsewhere z (p + 6) (p + 8) w t _ i.is (omega (arith, i.is.at)) refl refl refl refl refl;
-                four = i.four;
-                five = i.five;
-                six = i.six;
-                seven = i.seven;
-              };
-          flag = ap₂ (λ u v. nat_le 0x10000 (u + (0xFFFF - v) + 1)) i.six i.five ∙ no_borrow r d a b;
-        })
+        let carry = ap₂ (λ u v. nat_le 0x10000 (u + (0xFFFF - v) + 1)) i.held.six i.held.five ∙ no_borrow r d a b in
+        line z comparing 1 (p + 8) _ i.is (tt, tt) (forms_at z.code p 3 1 divide_turn h) ((tt, tt), tt) refl refl (omega (arith, i.is.at))
+        (λ s. record { all = record { is = s; held = i.held }; flag = carry })
 
-    take : (x d r n : ℕ) (w : WordState) (t : Core) → DivAt (p + 10) w x d r n t
-        → Runs z.code [] 2 t (DivAt (p + 14) w ((x + 1 + 0) % 0x10000) d ((r + (0xFFFF - d) + 1) % 0x10000) n)
+    take : (x d r n : ℕ) (w : WordState) (t : Core) → Holds z (InHand x d r n) (p + 10) w t
+        → Runs z.code [] 2 t (Holds z (InHand ((x + 1 + 0) % 0x10000) d ((r + (0xFFFF - d) + 1) % 0x10000) n) (p + 14) w)
     take x d r n w t i =
-        let at : Stands z.code (p + 10) taking = forms_at z.code p 5 2 divide_turn h in
-        straight z taking 2 t (end_of t (forms_run taking t).status) [] 2 _ (tt, (tt, tt)) (stands_at z.code (p + 10) taking t at i.is.at)
-        ((tt, tt), ((tt, tt), tt)) refl (omega arith)
-        (record {
-          is = stands_elsewhere z (p + 10) (p + 14) w t _ i.is (omega (arith, i.is.at)) refl refl refl refl refl;
-          four = ap (λ u. (u + 1 + 0) % 0x10000) i.four;
-          five = i.five;
-          six = ap₂ (λ u v. (u + (0xFFFF - v) + 1) % 0x10000) i.six i.five;
-          seven = i.seven;
-        })
+        let k = i.held in
+        let four = ap (λ u. (u + 1 + 0) % 0x10000) k.four in
+        let six = ap₂ (λ u v. (u + (0xFFFF - v) + 1) % 0x10000) k.six k.five in
+        line z taking 2 (p + 14) _ i.is (tt, (tt, tt)) (forms_at z.code p 5 2 divide_turn h) ((tt, tt), ((tt, tt), tt)) refl refl (omega (arith, i.is.at))
+        (λ s. record { is = s; held = record { four = four; five = k.five; six = six; seven = k.seven } })
 
-    count : (x d r j : ℕ) (w : WordState) (t : Core) → j < 16 → DivAt (p + 14) w x d r (suc j) t → Runs z.code [] 1 t (DivZ (p + 16) w x d r j (j == 0))
+    count : (x d r j : ℕ) (w : WordState) (t : Core) → j < 16 → Holds z (InHand x d r (suc j)) (p + 14) w t
+        → Runs z.code [] 1 t (Flagged z (InHand x d r j) (IsZero (j == 0)) (p + 16) w)
     count x d r j w t l i =
-        let at : Stands z.code (p + 14) counting = forms_at z.code p 7 1 divide_turn h in
-        let q : (t.work 7 + 65534 + 1) % 0x10000 ≡ j = omega (arith, i.seven) in
-        straight z counting 1 t (end_of t (forms_run counting t).status) [] 1 _ (tt, tt) (stands_at z.code (p + 14) counting t at i.is.at) ((tt, tt), tt) refl
-        (omega arith)
-        (record {
-          all =
-              record {
-                is = stands_elsewhere z (p + 14) (p + 16) w t _ i.is (omega (arith, i.is.at)) refl refl refl refl refl;
-                four = i.four;
-                five = i.five;
-                six = i.six;
-                seven = q;
-              };
-          flag = ap (λ v. v == 0) q;
-        })
+        let k = i.held in
+        let q : (t.work 7 + 65534 + 1) % 0x10000 ≡ j = omega (arith, k.seven) in
+        line z counting 1 (p + 16) _ i.is (tt, tt) (forms_at z.code p 7 1 divide_turn h) ((tt, tt), tt) refl refl (omega (arith, i.is.at))
+        (λ s. record { all = record { is = s; held = record { four = k.four; five = k.five; six = k.six; seven = q } }; flag = ap (λ v. v == 0) q })
 
     small_long : (x r : ℕ) → r < 0x10000 → longer x r < 0x20000
     small_long x r l = let b = bit_below (nat_le 0x10000 (x + x + 0)) in omega arith
@@ -315,56 +260,44 @@ module _ (z : Setting) where
     impossible x d r e f l = grind (arith, nat_tests)
 
     taken : (x d r j : ℕ) (w : WordState) (t : Core) → r < 0x10000 → d < 0x10000 → over x r d ≡ true → longer x r - d < 0x10000 → j < 16
-        → DivAt (p + 10) w (shifted x) d (longer x r % 0x10000) (suc j) t → Runs z.code [] 3 t (DivZ (p + 16) w (shifted x + 1) d (longer x r - d) j (j == 0))
+        → Holds z (InHand (shifted x) d (longer x r % 0x10000) (suc j)) (p + 10) w t
+        → Runs z.code [] 3 t (Flagged z (InHand (shifted x + 1) d (longer x r - d) j) (IsZero (j == 0)) (p + 16) w)
     taken x d r j w t lr ld f s lj i =
         let e : (longer x r % 0x10000 + (0xFFFF - d) + 1) % 0x10000 ≡ longer x r - d = less_high (longer x r) d (small_long x r lr) ld (goes_in x d r f) s in
         let o : (shifted x + 1 + 0) % 0x10000 ≡ shifted x + 1 = omega arith in
-        runs_on z 2 1 t _ _ [] [] (take (shifted x) d (longer x r % 0x10000) (suc j) w t i) (λ u a.
-        count (shifted x + 1) d (longer x r - d) j w u lj
-        (subst (λ n. DivAt (p + 14) w n d (longer x r - d) (suc j) u) o (subst (λ n. DivAt (p + 14) w ((shifted x + 1 + 0) % 0x10000) d n (suc j) u) e a)))
+        runs_on z (take (shifted x) d (longer x r % 0x10000) (suc j) w t i) (λ u a. count (shifted x + 1) d (longer x r - d) j w u lj
+        (subst (λ n. Holds z (InHand n d (longer x r - d) (suc j)) (p + 14) w u) o (subst (λ n. Holds z (InHand ((shifted x + 1 + 0) % 0x10000) d n (suc j))
+        (p + 14) w u) e a)))
 
     -- the bit of the quotient, by whether there is a carry, and whether the divisor goes in
     turn_by : (c k : Bool) (x d r j : ℕ) (w : WordState) (t : Core) → nat_le 0x10000 (longer x r) ≡ c → over x r d ≡ k → x < 0x10000 → d < 0x10000 → r < 0x10000
-        → j < 16 → (k ≡ true → longer x r - d < 0x10000) → DivAt p w x d r (suc j) t →
-        Runs z.code [] 10 t (DivZ (p + 16) w (if k then shifted x + 1 else shifted x) d (if k then longer x r - d else longer x r) j (j == 0))
+        → j < 16 → (k ≡ true → longer x r - d < 0x10000) → Holds z (InHand x d r (suc j)) p w t
+        → (let out = InHand (if k then shifted x + 1 else shifted x) d (if k then longer x r - d else longer x r) j in
+        Runs z.code [] 10 t (Flagged z out (IsZero (j == 0)) (p + 16) w))
     turn_by true true x d r j w t e f lx ld lr lj s i =
         let high = (z.tidy (p + 8) _ at8).high in
         let to : sum16 (p + 4 + 2) (distance 2) ≡ p + 10 = omega arith in
-        dearer z [] 7 10 t _ (omega arith)
-        (runs_on z 2 5 t _ _ [] [] (double x d r (suc j) w t i) (λ u a.
-        runs_on z 2 3 u (DivAt (p + 10) w (shifted x) d (longer x r % 0x10000) (suc j)) _ [] []
-        (jump_exact z condition.Carry 2 (p + 10) true u _ (ap z.code a.all.is.at ∙ at4) (a.flag ∙ e) (ap (λ n. sum16 (n + 2) (distance 2)) a.all.is.at ∙ to)
-        (moved (p + 4) (p + 10) w _ d _ (suc j) u a.all)) (λ v b.
-        taken x d r j w v lr ld f (s refl) lj b)))
+        dearer z (omega arith) (runs_on z (double x d r (suc j) w t i) (λ u a. runs_on z
+        (jump_with z condition.Carry 2 (p + 4) (p + 10) true at4 (a.flag ∙ e) to a.all) (λ v b. taken x d r j w v lr ld f (s refl) lj b)))
     turn_by true false x d r j w t e f lx ld lr lj s i = elim (impossible x d r e f ld) [ ]
     turn_by false true x d r j w t e f lx ld lr lj s i =
         let m = under x r e in
         let same : longer x r % 0x10000 ≡ longer x r = omega arith in
-        runs_on z 2 8 t _ _ [] [] (double x d r (suc j) w t i) (λ u a.
-        runs_on z 2 6 u (DivAt (p + 6) w (shifted x) d (longer x r % 0x10000) (suc j)) _ [] []
-        (jump_exact z condition.Carry 2 (p + 6) false u _ (ap z.code a.all.is.at ∙ at4) (a.flag ∙ e) (omega (arith, a.all.is.at))
-        (moved (p + 4) (p + 6) w _ d _ (suc j) u a.all)) (λ v b.
-        runs_on z 1 5 v _ _ [] [] (compare (shifted x) d (longer x r % 0x10000) (suc j) w v (omega arith) ld b) (λ y is_zero.
-        runs_on z 2 3 y (DivAt (p + 10) w (shifted x) d (longer x r % 0x10000) (suc j)) _ [] []
-        (jump_exact z condition.NoCarry 2 (p + 10) false y _ (ap z.code is_zero.all.is.at ∙ at8) (ap not (is_zero.flag ∙ ap (nat_le d) same ∙ f))
-        (omega (arith, is_zero.all.is.at)) (moved (p + 8) (p + 10) w _ d _ (suc j) y is_zero.all)) (λ q k.
-        taken x d r j w q lr ld f (s refl) lj k))))
+        runs_on z (double x d r (suc j) w t i) (λ u a. runs_on z (jump_with z condition.Carry 2 (p + 4) (p + 6) false at4 (a.flag ∙ e) (omega arith) a.all)
+        (λ v b. runs_on z (compare (shifted x) d (longer x r % 0x10000) (suc j) w v (omega arith) ld b)
+        (λ y is_zero. runs_on z (jump_with z condition.NoCarry 2 (p + 8) (p + 10) false at8 (ap not (is_zero.flag ∙ ap (nat_le d) same ∙ f)) (omega arith)
+        is_zero.all) (λ q k. taken x d r j w q lr ld f (s refl) lj k))))
     turn_by false false x d r j w t e f lx ld lr lj s i =
         let m = under x r e in
         let high = (z.tidy (p + 8) _ at8).high in
         let high16 = (z.tidy (p + 16) _ at16).high in
         let to : sum16 (p + 8 + 2) (distance 2) ≡ p + 14 = omega arith in
         let same : longer x r % 0x10000 ≡ longer x r = omega arith in
-        dearer z [] 8 10 t _ (omega arith)
-        (runs_on z 2 6 t _ _ [] [] (double x d r (suc j) w t i) (λ u a.
-        runs_on z 2 4 u (DivAt (p + 6) w (shifted x) d (longer x r % 0x10000) (suc j)) _ [] []
-        (jump_exact z condition.Carry 2 (p + 6) false u _ (ap z.code a.all.is.at ∙ at4) (a.flag ∙ e) (omega (arith, a.all.is.at))
-        (moved (p + 4) (p + 6) w _ d _ (suc j) u a.all)) (λ v b.
-        runs_on z 1 3 v _ _ [] [] (compare (shifted x) d (longer x r % 0x10000) (suc j) w v (omega arith) ld b) (λ y is_zero.
-        runs_on z 2 1 y (DivAt (p + 14) w (shifted x) d (longer x r % 0x10000) (suc j)) _ [] []
-        (jump_exact z condition.NoCarry 2 (p + 14) true y _ (ap z.code is_zero.all.is.at ∙ at8) (ap not (is_zero.flag ∙ ap (nat_le d) same ∙ f))
-        (ap (λ n. sum16 (n + 2) (distance 2)) is_zero.all.is.at ∙ to) (moved (p + 8) (p + 14) w _ d _ (suc j) y is_zero.all)) (λ q k.
-        count (shifted x) d (longer x r) j w q lj (subst (λ n. DivAt (p + 14) w (shifted x) d n (suc j) q) same k))))))
+        dearer z (omega arith) (runs_on z (double x d r (suc j) w t i) (λ u a. runs_on z
+        (jump_with z condition.Carry 2 (p + 4) (p + 6) false at4 (a.flag ∙ e) (omega arith) a.all)
+        (λ v b. runs_on z (compare (shifted x) d (longer x r % 0x10000) (suc j) w v (omega arith) ld b)
+        (λ y is_zero. runs_on z (jump_with z condition.NoCarry 2 (p + 8) (p + 14) true at8 (ap not (is_zero.flag ∙ ap (nat_le d) same ∙ f)) to is_zero.all)
+        (λ q k. count (shifted x) d (longer x r) j w q lj (subst (λ n. Holds z (InHand (shifted x) d n (suc j)) (p + 14) w q) same k))))))
 
     abbrev out_x : ℕ → ℕ → ℕ → ℕ
     out_x x d r = if over x r d then shifted x + 1 else shifted x
@@ -378,7 +311,7 @@ module _ (z : Setting) where
 
     -- a turn, with what it keeps
     turn : (j a x d r q P : ℕ) (w : WordState) (t : Core) → 0 < P → j < 16 → a < 0x10000 → x < 0x10000 → d < 0x10000 → Dividing a d x r q (2 * P)
-        → DivAt p w x d r (suc j) t → Runs z.code [] 10 t (DivZ (p + 16) w (out_x x d r) d (out_r x d r) j (j == 0))
+        → Holds z (InHand x d r (suc j)) p w t → Runs z.code [] 10 t (Flagged z (InHand (out_x x d r) d (out_r x d r) j) (IsZero (j == 0)) (p + 16) w)
     turn j a x d r q P w t po lj la lx ld g i =
         let lr = rest_small a d x r q (2 * P) (omega arith) g in
         turn_by (nat_le 0x10000 (longer x r)) (over x r d) x d r j w t refl refl lx ld (omega (arith, lr)) lj
@@ -386,58 +319,41 @@ module _ (z : Setting) where
 
     -- so many turns
     loop : (j a x d r q : ℕ) (w : WordState) (t : Core) → j < 16 → a < 0x10000 → x < 0x10000 → d < 0x10000 → Dividing a d x r q (2 * 2 ^ j)
-        → DivAt p w x d r (suc j) t → Runs z.code [] (suc j * 12) t (DivAt (p + 18) w (quotient a d) d (remainder a d) 0)
+        → Holds z (InHand x d r (suc j)) p w t → Runs z.code [] (suc j * 12) t (Holds z (InHand (quotient a d) d (remainder a d) 0) (p + 18) w)
     loop zero a x d r q w t lj la lx ld g i =
         let n = step_by (over x r d) a d x r q 1 refl g in
         let wh = n.whole in
         let e : 2 * q ≡ 0x10000 = omega arith in
         let is_zero = ends a d (out_x x d r) (out_r x d r) (subst (λ m. Dividing a d (out_x x d r) (out_r x d r) m 1) e n) in
-        runs_on z 10 2 t _ _ [] [] (turn zero a x d r q 1 w t (omega arith) lj la lx ld g i) (λ u k.
-        jump_exact z condition.NotEqual 1015 (p + 18) false u _ (ap z.code k.all.is.at ∙ at16) (ap not k.flag) (omega (arith, k.all.is.at))
-        (subst (λ m. DivAt (p + 18) w m d (remainder a d) 0 (record u { pc = p + 18 })) is_zero.0
-        (subst (λ m. DivAt (p + 18) w (out_x x d r) d m 0 (record u { pc = p + 18 })) is_zero.1 (moved (p + 16) (p + 18) w _ d _ 0 u k.all))))
+        runs_on z (turn zero a x d r q 1 w t (omega arith) lj la lx ld g i) (λ u k. jump_with z condition.NotEqual 1015 (p + 16) (p + 18) false at16
+        (ap not k.flag) (omega arith) (subst (λ m. Holds z (InHand m d (remainder a d) 0) (p + 16) w u) is_zero.0
+        (subst (λ m. Holds z (InHand (out_x x d r) d m 0) (p + 16) w u) is_zero.1 k.all)))
     loop (suc j) a x d r q w t lj la lx ld g i =
         let high = (z.tidy (p + 16) _ at16).high in
         let to : sum16 (p + 16 + 2) (distance 1015) ≡ p = omega arith in
         let n = step_by (over x r d) a d x r q (2 ^ suc j) refl g in
         let next : Dividing a d (out_x x d r) (out_r x d r) (2 * q) (2 * 2 ^ j) = subst (λ m. Dividing a d (out_x x d r) (out_r x d r) (2 * q) m) (power j) n in
         let l : 12 + suc j * 12 ≤ suc (suc j) * 12 = omega arith in
-        dearer z [] (12 + suc j * 12) (suc (suc j) * 12) t _ l
-        (runs_on z 12 (suc j * 12) t (DivAt p w (out_x x d r) d (out_r x d r) (suc j)) _ [] []
-        (runs_on z 10 2 t _ _ [] [] (turn (suc j) a x d r q (2 ^ suc j) w t (positive (suc j)) lj la lx ld g i) (λ u k.
-        jump_exact z condition.NotEqual 1015 p true u _ (ap z.code k.all.is.at ∙ at16) (ap not k.flag ∙ suc_not j)
-        (ap (λ n. sum16 (n + 2) (distance 1015)) k.all.is.at ∙ to) (moved (p + 16) p w _ d _ (suc j) u k.all)))
+        dearer z l (runs_on z (runs_on z (turn (suc j) a x d r q (2 ^ suc j) w t (positive (suc j)) lj la lx ld g i)
+        (λ u k. jump_with z condition.NotEqual 1015 (p + 16) p true at16 (ap not k.flag ∙ suc_not j) to k.all))
         (λ u k. loop j a (out_x x d r) d (out_r x d r) (2 * q) w u (omega arith) la (x_small (over x r d) x lx) ld next k))
 
   abbrev heads : List Form
   heads = Move (Constant konst.Zero) (ToRegister R6) ∷ Move (Number 16) (ToRegister R7) ∷ []
 
   all_turns : (pc x y : ℕ) (w : WordState) (t : Core) → x < 0x10000 → y < 0x10000 → Stands z.code pc divide_middle → HasTwo z pc w x y t
-      → Runs z.code [] 195 t (DivAt (pc + 6 + 18) w (quotient x y) y (remainder x y) 0)
+      → Runs z.code [] 195 t (Holds z (InHand (quotient x y) y (remainder x y) 0) (pc + 24) w)
   all_turns pc x y w t a b h i =
-      let h' : Stands z.code (pc + 6) divide_turn = forms_behind z.code pc 2 divide_middle h in
-      runs_on z 3 192 t (DivAt (pc + 6) w x y 0 16) _ [] []
-      (straight z heads 3 t (end_of t (forms_run heads t).status) [] 3 _ (tt, (tt, tt)) (stands_at z.code pc heads t (h.0, (h.1.0, tt)) i.is.at)
-      ((tt, tt), ((tt, tt), tt)) refl (omega arith)
-      (record {
-        is = stands_elsewhere z pc (pc + 6) w t _ i.is (omega (arith, i.is.at)) refl refl refl refl refl;
-        four = i.four;
-        five = i.five;
-        six = refl;
-        seven = refl;
-      }))
-      (λ u k. loop (pc + 6) h' 15 x x y 0 1 w u (omega arith) a a b (starts x y a) k)
+      let start = line z heads 3 (pc + 6) (Holds z (InHand x y 0 16) (pc + 6) w) i.is (tt, (tt, tt)) (h.0, (h.1.0, tt)) ((tt, tt), ((tt, tt), tt)) refl refl
+      (omega (arith, i.is.at)) (λ s. record { is = s; held = record { four = i.held.four; five = i.held.five; six = refl; seven = refl } }) in
+      let end : pc + 6 + 18 ≡ pc + 24 = omega arith in
+      subst (λ n. Runs z.code [] 195 t (Holds z (InHand (quotient x y) y (remainder x y) 0) n w)) end
+      (runs_on z start (λ u k. loop (pc + 6) (forms_behind z.code pc 2 divide_middle h) 15 x x y 0 1 w u (omega arith) a a b (starts x y a) k))
 
   pub divide_part : BinaryMiddle z (binary_middle Divide) R4 195 (binary_word Divide)
   divide_part pc x y w t a b h i =
-      let e : pc + 6 + 18 ≡ pc + forms_bytes divide_middle = omega arith in
-      let r = all_turns pc x y w t a b h i in
-      subst (λ n. Runs z.code [] 195 t (Has z R4 n w (quotient x y))) e
-      (record { steps = r.steps; cycles = r.cycles; end = r.end; within = r.within; leads = r.leads; holds = record { is = r.holds.is; value = r.holds.four } })
+      so_runs (all_turns pc x y w t a b h i) (λ u k. record { is = k.is; held = k.held.four })
 
   pub remainder_part : BinaryMiddle z (binary_middle Remainder) R6 195 (binary_word Remainder)
   remainder_part pc x y w t a b h i =
-      let e : pc + 6 + 18 ≡ pc + forms_bytes divide_middle = omega arith in
-      let r = all_turns pc x y w t a b h i in
-      subst (λ n. Runs z.code [] 195 t (Has z R6 n w (remainder x y))) e
-      (record { steps = r.steps; cycles = r.cycles; end = r.end; within = r.within; leads = r.leads; holds = record { is = r.holds.is; value = r.holds.six } })
+      so_runs (all_turns pc x y w t a b h i) (λ u k. record { is = k.is; held = k.held.six })

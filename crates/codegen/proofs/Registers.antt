@@ -1,158 +1,88 @@
--- Values in registers, and jumps.
-use Rattle.std.proofs.Common.{◌≡◌, ℕ, ◌+◌, ◌-◌, ◌%◌, ◌<◌, ◌==◌, List, [], ◌∷◌, length, Some, refl, sym, ap, ap₂, ◌∙◌, subst, arith, Bool, false, nat_le}
-use Rattle.std.proofs.Common.{if◌then◌else◌}
-use Rattle.std.proofs.lemmas.Bool.Decides.{nat_tests}
-use Rattle.msp_isa.specs.alp_words.declared.Width.TheVariants.{Word}
-use Rattle.msp_isa.specs.alp_words.Words.{sum_of}
-use Rattle.msp_isa.specs.declared.instructions.Condition.{Condition}
-use Rattle.array_versions.specs.msp_step.Effect.{sum16, distance, is_met}
-use Rattle.array_versions.specs.machine_effects.World.{put}
-use Rattle.array_versions.specs.machine_effects.Going.{At, stretch}
-use Rattle.code_forms.specs.Forms.{WorkRegister, R4, R5, work_number, Core, Register, Form, Push, Jump, Skip, Branch, Move, Calculate, Compare, Update}
-use Rattle.code_forms.specs.Forms.{Modify, SetStack, BranchIndexed, SkipBy, Source, PointedNext, Number, Constant, Fram, Ram, Pointed, Indexed}
-use Rattle.code_forms.specs.Forms.{Popped, Target, instruction_of, form_bytes}
-use Rattle.code_forms.specs.Forms as forms
-use Rattle.code_forms.specs.Code.{Stands, forms_bytes, AreStraight, forms_run, FormsNeed, Runs}
-use Rattle.code_forms.proofs.Interface.{stands_at, end_of}
-use Rattle.array_versions.specs.Behaviour.{WordState, with_stack}
-use Rattle.codegen.specs.Code.{pop_to, push_from}
-use Rattle.codegen.proofs.Stretches.{Setting, straight, hop}
-use Rattle.codegen.proofs.Memory.{local_words, Memory, pop_memory, pop_needs, push_needs, push_memory}
-use Rattle.codegen.proofs.Follows.{StandsFor, stands_elsewhere, memory_as}
-
-source_even : (x : Source) → forms.source_bytes x % 2 ≡ 0
-source_even (Register b) = refl
-source_even (Number n) = refl
-source_even (Constant k) = refl
-source_even (Fram a) = refl
-source_even (Ram a) = refl
-source_even (Pointed b) = refl
-source_even (PointedNext b) = refl
-source_even (Indexed b x) = refl
-source_even Popped = refl
-
-target_even : (y : Target) → forms.target_bytes y % 2 ≡ 0
-target_even (forms.ToRegister b) = refl
-target_even (forms.ToFram a) = refl
-target_even (forms.ToRam a) = refl
-target_even (forms.ToIndexed b x) = refl
-target_even (forms.ToPointed b) = refl
-target_even forms.ToOutnum = refl
-target_even forms.ToOutdata = refl
-
-form_even : (m : Form) → form_bytes m % 2 ≡ 0
-form_even (Move x y) = omega (arith, source_even x, target_even y)
-form_even (Calculate op x b) = omega (arith, source_even x)
-form_even (Compare x a) = omega (arith, source_even x)
-form_even (Update op x a) = omega (arith, source_even x)
-form_even (Push x) = omega (arith, source_even x)
-form_even (Modify m b) = refl
-form_even (SetStack n) = refl
-form_even (forms.Sense b) = refl
-form_even (Jump c o) = refl
-form_even (Skip n) = refl
-form_even (Branch a) = refl
-form_even (BranchIndexed b x) = refl
-form_even (SkipBy b) = refl
+-- Registers with words, straight code on them, and jumps.
+use Rattle.codegen.proofs.Names.{sym, subst, ◌≡◌, ℕ, ◌+◌, ◌-◌, ◌%◌, ◌<◌, ◌==◌, List, [], ◌∷◌, Some, refl, ap, ap₂, ◌∙◌, arith, Bool, false, nat_le}
+use Rattle.codegen.proofs.Names.{if◌then◌else◌, Flags, Effect, stretch, At, FormsNeed, AreStraight, forms_run, end_of, stands_at, work_number, WorkRegister}
+use Rattle.codegen.proofs.Names.{bytes_are, nat_tests, Word, sum_of, Condition, sum16, distance, is_met, Core, Form, Jump, Skip, instruction_of, Stands}
+use Rattle.codegen.proofs.Names.{forms_bytes, Runs, WordState}
+use Rattle.codegen.proofs.Memory.{Memory, local_words}
+use Rattle.codegen.proofs.Stretches.{straight, hop, so_runs, Setting}
+use Rattle.codegen.proofs.Follows.{StandsFor, stands_elsewhere}
 
 -- forms are of whole words
 pub bytes_even : (ms : List Form) → forms_bytes ms % 2 ≡ 0
 bytes_even [] = refl
-bytes_even (m ∷ ms) = omega (arith, form_even m, bytes_even ms)
+bytes_even (m ∷ ms) = omega (arith, bytes_are m, bytes_even ms)
 
 pub no_borrow : (x y : ℕ) → x < 0x10000 → y < 0x10000 → nat_le 0x10000 (x + (0xFFFF - y) + 1) ≡ nat_le y x
 no_borrow x y h k = grind (arith, nat_tests)
-
--- a word is 0 where it less 0 is
-pub zero_flag : (x : ℕ) → x < 0x10000 → ((x + 65535 + 1) % 0x10000 == 0) ≡ (x == 0)
-zero_flag x h = grind (arith, nat_tests)
 
 -- two words are equal where their difference is 0
 pub equal_flag : (x y : ℕ) → x < 0x10000 → y < 0x10000 → ((x + (0xFFFF - y) + 1) % 0x10000 == 0) ≡ (x == y)
 equal_flag x y h k = grind (arith, nat_tests)
 
+-- ---- what registers hold
+
+-- a state of the machine, and what its registers hold
+pub record With (S : Core → Type 0) (P : (ℕ → ℕ) → Type 0) (t : Core) : Type 0 where
+  pub is : S t
+  pub held : P t.work
+
+-- a register holds this word
+abbrev pub HasWord : WorkRegister → ℕ → (ℕ → ℕ) → Type 0
+HasWord b v f = f (work_number b) ≡ v
+
+-- R4 holds the left side, and R5 the right one
+pub record HasSides (x y : ℕ) (f : ℕ → ℕ) : Type 0 where
+  pub four : f 4 ≡ x
+  pub five : f 5 ≡ y
+
+abbrev pub IsZero : Bool → Flags → Type 0
+IsZero b f = f.z ≡ b
+
+abbrev pub IsCarry : Bool → Flags → Type 0
+IsCarry b f = f.c ≡ b
+
+-- what straight code leaves as it was that writes nothing but R4 to R7: SP, RAM, the locals in registers, the readings and FRAM
+abbrev pub rest_of : Core → ℕ × (ℕ → ℕ) × List ℕ × List ℕ × (ℕ → ℕ)
+rest_of u = (u.sp, u.ram, local_words u.work, u.readings_left, u.fram)
+
 module _ (z : Setting) where
-  -- the machine stands for the state, and has a value in a register
-  pub record Has (b : WorkRegister) (pc : ℕ) (w : WordState) (v : ℕ) (t : Core) : Type 0 where
-    pub is : StandsFor z pc w t
-    pub value : t.work (work_number b) ≡ v
+  -- the machine stands for the state, and its registers hold such words
+  abbrev pub Holds : ((ℕ → ℕ) → Type 0) → ℕ → WordState → Core → Type 0
+  Holds P pc w = With (StandsFor z pc w) P
 
-  -- the same with values in R4 and R5
-  pub record HasTwo (pc : ℕ) (w : WordState) (x y : ℕ) (t : Core) : Type 0 where
-    pub is : StandsFor z pc w t
-    pub four : t.work 4 ≡ x
-    pub five : t.work 5 ≡ y
+  abbrev pub Has : WorkRegister → ℕ → WordState → ℕ → Core → Type 0
+  Has b pc w v = With (StandsFor z pc w) (HasWord b v)
 
-  pub pop_part : (pc v : ℕ) (vs : List ℕ) (w : WordState) (u : Core) → w.stack ≡ v ∷ vs → z.code pc ≡ Some (instruction_of (pop_to R4)) → StandsFor z pc w u
-      → Runs z.code [] 2 u (Has R4 (pc + 2) (with_stack vs w) v)
-  pop_part pc v vs w u e h i =
-      let ms = pop_to R4 ∷ [] in
-      let m = memory_as z pc w u (v ∷ vs) e i in
-      straight z ms 2 u (end_of u (forms_run ms u).status) [] 2 _ (tt, tt) (stands_at z.code pc ms u (h, tt) i.at)
-      ((pop_needs z m, tt), tt) refl (omega arith)
-      (record {
-        is = record { at = omega (arith, i.at); memory = pop_memory z m; fram = i.fram; readings = i.readings };
-        value = m.stack.0;
-      })
+  abbrev pub HasTwo : ℕ → WordState → ℕ → ℕ → Core → Type 0
+  HasTwo pc w x y = With (StandsFor z pc w) (HasSides x y)
 
-  pub pop_five : (pc v : ℕ) (vs : List ℕ) (w : WordState) (u : Core) → w.stack ≡ v ∷ vs → z.code pc ≡ Some (instruction_of (pop_to R5)) → StandsFor z pc w u
-      → Runs z.code [] 2 u (Has R5 (pc + 2) (with_stack vs w) v)
-  pop_five pc v vs w u e h i =
-      let ms = pop_to R5 ∷ [] in
-      let m = memory_as z pc w u (v ∷ vs) e i in
-      straight z ms 2 u (end_of u (forms_run ms u).status) [] 2 _ (tt, tt) (stands_at z.code pc ms u (h, tt) i.at)
-      ((pop_needs z m, tt), tt) refl (omega arith)
-      (record {
-        is = record { at = omega (arith, i.at); memory = pop_memory z m; fram = i.fram; readings = i.readings };
-        value = m.stack.0;
-      })
+  -- besides, a fact of its flags
+  pub record Flagged (P : (ℕ → ℕ) → Type 0) (F : Flags → Type 0) (pc : ℕ) (w : WordState) (t : Core) : Type 0 where
+    pub all : With (StandsFor z pc w) P t
+    pub flag : F t.flags
 
-  pub pop_two : (pc x y : ℕ) (vs : List ℕ) (w : WordState) (u : Core) → w.stack ≡ y ∷ (x ∷ vs) → Stands z.code pc (pop_to R5 ∷ pop_to R4 ∷ [])
-      → StandsFor z pc w u → Runs z.code [] 4 u (HasTwo (pc + 4) (with_stack vs w) x y)
-  pop_two pc x y vs w u e h i =
-      let ms = pop_to R5 ∷ pop_to R4 ∷ [] in
-      let m = memory_as z pc w u (y ∷ (x ∷ vs)) e i in
-      let p = pop_memory z m in
-      straight z ms 4 u (end_of u (forms_run ms u).status) [] 4 _ (tt, (tt, tt)) (stands_at z.code pc ms u h i.at)
-      ((pop_needs z m, tt), ((pop_needs z p, tt), tt))
-      refl (omega arith)
-      (record {
-        is =
-            record {
-              at = omega (arith, i.at);
-              memory = pop_memory z p;
-              fram = i.fram;
-              readings = i.readings;
-            };
-        four = p.stack.0;
-        five = m.stack.0;
-      })
+  -- straight code that writes R4 to R7 and words of FRAM
+  pub store_line : {pc : ℕ} {w : WordState} {t : Core} (ms : List Form) (es : List Effect) (f : ℕ → ℕ) (c pc' : ℕ) (Q : Core → Type 0) → StandsFor z pc w t
+      → AreStraight ms → Stands z.code pc ms → FormsNeed ms t → (let r = forms_run ms t in let v = end_of t r.status in r ≡ stretch r.effects c (At v)
+      → rest_of (record v { fram = t.fram }) ≡ rest_of t → v.pc ≡ pc' → r.effects ≡ es → v.fram ≡ f → (StandsFor z pc' (record w { fram = f }) v → Q v)
+      → Runs z.code es c t Q)
+  store_line {pc} {w} {t} ms es f c pc' Q i st h ok e k p made fram q =
+      let r = forms_run ms t in
+      let words = subst (λ x. Memory z x.0 x.1 x.2 w.stack w.locals) (sym k) i.memory in
+      subst (λ l. Runs z.code l c t Q) made
+      (straight z ms c t (end_of t r.status) r.effects c Q st (stands_at z.code pc ms t h i.at) ok e (omega arith)
+      (q (record { at = p; memory = words; fram = fram; readings = ap (λ x. x.3) k ∙ i.readings })))
 
-  pub push_result : (b : WorkRegister) (pc v : ℕ) (w : WordState) (t : Core) → length w.stack < z.room → z.code pc ≡ Some (instruction_of (push_from b))
-      → Has b pc w v t → Runs z.code [] 3 t (StandsFor z (pc + 2) (with_stack (v ∷ w.stack) w))
-  push_result b pc v w t s h k =
-      let ms = push_from b ∷ [] in
-      let i = k.is in
-      straight z ms 3 t (end_of t (forms_run ms t).status) [] 3 _ (tt, tt) (stands_at z.code pc ms t (h, tt) i.at)
-      ((tt, push_needs z i.memory s), tt) refl (omega arith)
-      (record {
-        at = omega (arith, i.at);
-        memory =
-            subst (λ x. Memory z (t.sp - 2) (put t.ram (t.sp - 2) x) (local_words t.work) (v ∷ w.stack) w.locals) (sym k.value)
-            (push_memory z v i.memory s);
-        fram = i.fram;
-        readings = i.readings;
-      })
+  -- straight code that writes R4 to R7 alone
+  pub line : {pc : ℕ} {w : WordState} {t : Core} (ms : List Form) (c pc' : ℕ) (Q : Core → Type 0) → StandsFor z pc w t → AreStraight ms → Stands z.code pc ms
+      → FormsNeed ms t → (let v = end_of t (forms_run ms t).status in forms_run ms t ≡ stretch [] c (At v) → rest_of v ≡ rest_of t → v.pc ≡ pc'
+      → (StandsFor z pc' w v → Q v) → Runs z.code [] c t Q)
+  line {pc} {w} {t} ms c pc' Q i st h ok e k p q =
+      let words = subst (λ x. Memory z x.0 x.1 x.2 w.stack w.locals) (sym k) i.memory in
+      straight z ms c t (end_of t (forms_run ms t).status) [] c Q st (stands_at z.code pc ms t h i.at) ok e (omega arith)
+      (q (record { at = p; memory = words; fram = ap (λ x. x.4) k ∙ i.fram; readings = ap (λ x. x.3) k ∙ i.readings }))
 
-  -- straight code on registers alone
-  pub middle : (ms : List Form) (c pc pc' val : ℕ) (b : WorkRegister) (w : WordState) (t v : Core) → StandsFor z pc w t → AreStraight ms → Stands z.code pc ms
-      → FormsNeed ms t → forms_run ms t ≡ stretch [] c (At v)
-      → v.pc ≡ pc' → v.sp ≡ t.sp → v.ram ≡ t.ram
-      → local_words v.work ≡ local_words t.work → v.fram ≡ t.fram → v.readings_left ≡ t.readings_left → v.work (work_number b) ≡ val
-      → Runs z.code [] c t (Has b pc' w val)
-  middle ms c pc pc' val b w t v i st h ok e p q r l f d x =
-      straight z ms c t v [] c _ st (stands_at z.code pc ms t h i.at) ok e (omega arith)
-      (record { is = stands_elsewhere z pc pc' w t v i p q r l f d; value = x })
+  -- ---- jumps
 
   -- an addition to PC
   pub skip_to : (n pc pc' : ℕ) (w : WordState) (t : Core) → z.code pc ≡ Some (instruction_of (Skip n)) → n % 2 ≡ 0 → (pc + 4 + n + 0) % 0x10000 ≡ pc'
@@ -162,21 +92,21 @@ module _ (z : Setting) where
       hop z (Skip n) 3 t (record t { pc = sum.0; flags = sum.1 }) [] 3 _ (ap z.code i.at ∙ h) ev refl (omega arith)
       (stands_elsewhere z pc pc' w t _ i (ap (λ p. (p + 4 + n + 0) % 0x10000) i.at ∙ to) refl refl refl refl refl)
 
-  -- a jump
+  -- a jump, with what the registers hold
+  pub jump_with : {P : (ℕ → ℕ) → Type 0} {w : WordState} {t : Core} (k : Condition) (o pc pc' : ℕ) (b : Bool) → z.code pc ≡ Some (instruction_of (Jump k o))
+      → is_met k t.flags ≡ b → (if b then sum16 (pc + 2) (distance o) else pc + 2) ≡ pc' → With (StandsFor z pc w) P t
+      → Runs z.code [] 2 t (With (StandsFor z pc' w) P)
+  jump_with {P} {w} {t} k o pc pc' b h e to i =
+      let p = i.is.at in
+      hop z (Jump k o) 2 t (record t { pc = if is_met k t.flags then sum16 (t.pc + 2) (distance o) else t.pc + 2 }) [] 2 _ (ap z.code p ∙ h) tt refl
+      (omega arith)
+      (record {
+        is = stands_elsewhere z pc pc' w t _ i.is (ap₂ (λ x q. if x then sum16 (q + 2) (distance o) else q + 2) e p ∙ to) refl refl refl refl refl;
+        held = i.held;
+      })
+
+  -- with nothing of them
   pub jump_to : (k : Condition) (o pc pc' : ℕ) (b : Bool) (w : WordState) (t : Core) → z.code pc ≡ Some (instruction_of (Jump k o)) → is_met k t.flags ≡ b
       → (if b then sum16 (pc + 2) (distance o) else pc + 2) ≡ pc' → StandsFor z pc w t → Runs z.code [] 2 t (StandsFor z pc' w)
   jump_to k o pc pc' b w t h e to i =
-      hop z (Jump k o) 2 t (record t { pc = if is_met k t.flags then sum16 (t.pc + 2) (distance o) else t.pc + 2 }) [] 2 _ (ap z.code i.at ∙ h) tt refl
-      (omega arith)
-      (stands_elsewhere z pc pc' w t _ i (ap₂ (λ x p. if x then sum16 (p + 2) (distance o) else p + 2) e i.at ∙ to) refl refl refl refl refl)
-
-  -- the same with a register that matters
-  pub jump_has : (k : Condition) (o pc pc' : ℕ) (b : Bool) (r : WorkRegister) (v : ℕ) (w : WordState) (t : Core) → z.code pc ≡ Some (instruction_of (Jump k o))
-      → is_met k t.flags ≡ b → (if b then sum16 (pc + 2) (distance o) else pc + 2) ≡ pc' → Has r pc w v t → Runs z.code [] 2 t (Has r pc' w v)
-  jump_has k o pc pc' b r v w t h e to i =
-      hop z (Jump k o) 2 t (record t { pc = if is_met k t.flags then sum16 (t.pc + 2) (distance o) else t.pc + 2 }) [] 2 _ (ap z.code i.is.at ∙ h) tt refl
-      (omega arith)
-      (record {
-        is = stands_elsewhere z pc pc' w t _ i.is (ap₂ (λ x p. if x then sum16 (p + 2) (distance o) else p + 2) e i.is.at ∙ to) refl refl refl refl refl;
-        value = i.value;
-      })
+      so_runs (jump_with {P = λ f. Unit {0}} k o pc pc' b h e to (record { is = i; held = tt })) (λ s j. j.is)

@@ -1,58 +1,29 @@
 -- Steps where words wait: values that come to wait in a register, and statements behind which none waits.
-use Rattle.std.proofs.Common.{◌≡◌, ℕ, ◌+◌, ◌*◌, ◌<◌, ◌≤◌, ◌-◌, ◌/◌, ◌%◌, ◌^◌, ◌==◌, ◌&&◌, Bool, true, false, nat_lt, if◌then◌else◌, List, [], ◌∷◌, ◌++◌}
-use Rattle.std.proofs.Common.{length, Option, Some, None}
-use Rattle.std.proofs.Common.{refl, sym, ap, ap₂, ◌∙◌, subst, arith, bit_and, w16, ltb-true, eqb-true, ne_eqb, le-leb}
+use Rattle.codegen.proofs.Names.{◌≡◌, ℕ, ◌+◌, ◌*◌, ◌<◌, ◌≤◌, ◌-◌, ◌/◌, ◌%◌, ◌^◌, ◌==◌, ◌&&◌, Bool, true, false, nat_lt, if◌then◌else◌, List, [], ◌∷◌, ◌++◌}
+use Rattle.codegen.proofs.Names.{length, Option, Some, None, refl, sym, ap, ap₂, ◌∙◌, subst, arith, bit_and, w16, ltb-true, eqb-true, ne_eqb, le-leb, Step}
+use Rattle.codegen.proofs.Names.{and_parts, same_Some, and_mask, pow_pos, word_sum, word_product, quotient, remainder, Word, operated, cycles_of, source_cycles}
+use Rattle.codegen.proofs.Names.{to_register, Goes, unwrap_or, Take, put, IsFram, WorkRegister, R4, R5, R6, work_number, Core, Source, source_operand}
+use Rattle.codegen.proofs.Names.{source_bytes, source_value, Form, Move, Calculate, Update, Push, Ram, ToFram, sensed, flags_after, calculated, instruction_of}
+use Rattle.codegen.proofs.Names.{Stands, forms_bytes, Runs, stands_front, stands_back, forms_bytes-append, ArrayPlace, ListPlace, UnaryOperation, Negate}
+use Rattle.codegen.proofs.Names.{Complement, BinaryOperation, Multiply, Divide, Remainder, Plain, PlainOperation, And, ShiftOperation, Left, Right, unary_word}
+use Rattle.codegen.proofs.Names.{plain_word, binary_word, shift_word, keep, update, set_local, update_local, unary, binary, shift, element, emit_word}
+use Rattle.codegen.proofs.Names.{versioned_read, versioned_write, sense, WordState, Behaviour, GoesOn, goes_on, with_top, with_two, with_stack, with_local}
+use Rattle.codegen.proofs.Names.{pushed, is_place, at_place, word_stored, word_emitted, element_pushed, own_element, versioned_pushed, versioned_stored}
+use Rattle.codegen.proofs.Names.{reading_pushed, unary_cycles, binary_cycles, Bound, Waiting, local_address, local_target, flushed, top_of, source_from}
+use Rattle.codegen.proofs.Names.{below_top, any_held, cleared, kept, top_to_four, top_to_five, plain_instruction, update_code, sides, right_source, power}
+use Rattle.codegen.proofs.Names.{known_element, two_code, power_code, power_result, two_to_registers, unary_middle, binary_middle, binary_result, shift_middle}
+use Rattle.codegen.proofs.Names.{element_code, emit_code, read_code, write_code, top_number, element_at, is_inside, waiting_behind, step_code}
 use Rattle.std.specs.Int.{trailing_zeros}
-use Rattle.std.proofs.lemmas.Bool.{and_parts}
-use Rattle.std.proofs.lemmas.Option.{same_Some}
-use Rattle.std.proofs.lemmas.Nat.{and_mask, pow_pos}
-use Rattle.msp_isa.specs.alp_words.Words.{word_sum, word_product, quotient, remainder}
-use Rattle.msp_isa.specs.alp_words.declared.Width.TheVariants.{Word}
-use Rattle.array_versions.specs.msp_step.Effect.{operated}
-use Rattle.array_versions.specs.machine_effects.msp_cycles.Cycles.{cycles_of, source_cycles, to_register}
-use Rattle.array_versions.specs.machine_effects.Going.{Goes}
-use Rattle.std.specs.Option.{unwrap_or}
-use Rattle.std.specs.List.{AllByRecursion}
-use Rattle.array_versions.specs.fram_board.Effects.{Take}
-use Rattle.array_versions.specs.machine_effects.World.{put}
-use Rattle.array_versions.specs.machine_effects.Machine.{IsFram}
 use Rattle.code_forms.specs.Forms as forms
-use Rattle.code_forms.specs.Forms.{WorkRegister, R4, R5, R6, work_number, Core, Source, Register, source_operand, source_bytes, source_value, Form, Move}
-use Rattle.code_forms.specs.Forms.{Calculate, Update, Push, Ram, ToFram, sensed, flags_after, calculated, instruction_of, form_bytes}
-use Rattle.code_forms.specs.Code.{Stands, forms_bytes, Runs}
-use Rattle.code_forms.proofs.Interface.{stands_front, stands_back, forms_bytes-append}
-use Rattle.array_versions.specs.declared.program.ArrayPlace.{ArrayPlace}
-use Rattle.array_versions.specs.declared.program.ListPlace.{ListPlace}
-use Rattle.array_versions.specs.declared.operations.UnaryOperation.{UnaryOperation}
-use Rattle.array_versions.specs.declared.operations.UnaryOperation.TheVariants.{Negate, Complement}
-use Rattle.array_versions.specs.declared.operations.BinaryOperation.{BinaryOperation}
-use Rattle.array_versions.specs.declared.operations.BinaryOperation.TheVariants.{Multiply, Divide, Remainder, Plain}
-use Rattle.array_versions.specs.declared.operations.PlainOperation.{PlainOperation}
-use Rattle.array_versions.specs.declared.operations.PlainOperation.TheVariants.{And}
-use Rattle.array_versions.specs.declared.operations.ShiftOperation.{ShiftOperation}
-use Rattle.array_versions.specs.declared.operations.ShiftOperation.TheVariants.{Left, Right}
-use Rattle.array_versions.specs.Operations.{unary_word, plain_word, binary_word, shift_word}
-use Rattle.array_versions.specs.Program.{keep, update, set_local, update_local, unary, binary, shift, element, emit_word, versioned_read, versioned_write}
-use Rattle.array_versions.specs.Program.{sense}
-use Rattle.array_versions.specs.Behaviour.{WordState, Behaviour, GoesOn, goes_on, with_top, with_two, with_stack, with_local, pushed, is_place, at_place}
-use Rattle.array_versions.specs.Behaviour.{word_stored}
-use Rattle.array_versions.specs.Behaviour.{word_emitted, element_pushed, own_element, versioned_pushed, versioned_stored, reading_pushed}
-use Rattle.array_versions.specs.Cost.{unary_cycles, binary_cycles}
-use Rattle.codegen.specs.declared.bounds.Bound.{Bound}
-use Rattle.codegen.specs.declared.waiting.Waiting.{Waiting}
 use Rattle.codegen.specs.declared.waiting.Waiting.TheVariants as waiting
-use Rattle.codegen.specs.Code.{local_address, local_target, flushed, top_of, source_from, below_top, any_held, cleared, kept, top_to_four, top_to_five}
-use Rattle.codegen.specs.Code.{plain_instruction, update_code, sides, right_source, power, known_element, two_code, power_code, power_result}
-use Rattle.codegen.specs.Code.{two_to_registers, unary_middle, binary_middle, binary_result, shift_middle, element_code, emit_code, read_code, write_code}
-use Rattle.codegen.specs.Code.{top_number, element_at, is_inside, waiting_behind, step_code}
-use Rattle.codegen.proofs.Stretches.{Setting, hop, runs_on, dearer_stall, nothing_run, so_runs, starved}
-use Rattle.codegen.proofs.Memory.{place_is}
+use Rattle.codegen.proofs.Memory.{HoldsWords, AreWords, place_is}
+use Rattle.codegen.proofs.Stretches.{two_parts, Setting, hop, dearer_stall, nothing_run, so_runs, starved}
+use Rattle.codegen.proofs.Registers.{With, HasWord, HasSides, Holds, Has}
+use Rattle.codegen.proofs.Operands.{Waits, IsThere, owed_by, owed, none_held, clear_cycles, owed_kept, load_cycles, load_owed, store_cycles, store_owed}
+use Rattle.codegen.proofs.Operands.{Describes, Top, waiting_word, bare, dressed, flush_under, flush_part, clear_under, below_part, top_to_four_part}
+use Rattle.codegen.proofs.Operands.{top_to_five_part, two_to_registers_part, result_waits, waits_more, LoadedSides, right_cycles, reading_cycles, reading_price}
+use Rattle.codegen.proofs.Operands.{right_owed, sides_part, drop_part}
 use Rattle.codegen.proofs.Follows.{StandsFor, stands_elsewhere, Follows, Reaches, reach_more, then_reach, reaches, reach_guarded}
-use Rattle.codegen.proofs.Registers.{Has, HasTwo}
-use Rattle.codegen.proofs.Operands.{IsThere, owed_by, owed, none_held, clear_cycles, owed_kept, load_cycles, load_owed, store_cycles, store_owed, Describes}
-use Rattle.codegen.proofs.Operands.{Top, Waits, InRegister, LoadedTwo, waiting_word, bare, dressed, flush_under, flush_part, clear_under, below_part}
-use Rattle.codegen.proofs.Operands.{top_to_four_part, top_to_five_part, two_to_registers_part, result_waits, waits_more}
-use Rattle.codegen.proofs.Operands.{LoadedSides, right_cycles, reading_cycles, reading_price, right_owed, sides_part, drop_part}
 use Rattle.codegen.proofs.LoopBounds.{Bounded, top_inside, under_inside}
 use Rattle.codegen.proofs.Parts.{local_part, keep_part, set_part}
 use Rattle.codegen.proofs.Updates.{plain_needs, update_part, update_local_part}
@@ -95,85 +66,85 @@ module _ (z : Setting) where
   abbrev pub Does : List Waiting → ℕ → ℕ → Core → Behaviour → Type 0
   Does os pc most u b = Reaches z (owed os) (Describes z os pc) most u b.effects b.end
 
+  -- what the code of a step does where it stands, within so many cycles and those that the words that wait have paid for
+  abbrev pub StepDoes : List Bound → List Waiting → Step → ℕ → ℕ → WordState → Core → Behaviour → Type 0
+  StepDoes bs os s cost pc w u b = Stands z.code pc (step_code bs os s) → Describes z os pc w u
+      → Does (waiting_behind os s) (pc + forms_bytes (step_code bs os s)) (cost + owed os) u b
+
+  -- code behind other code
+  does_behind : {l : ℕ} {P : Core → Type 0} (front ms : List Form) (os : List Waiting) (c most pc : ℕ) (u : Core) (b : Behaviour) → l + c ≤ most
+      → Stands z.code pc (front ++ ms) → (Stands z.code pc front → Runs z.code [] l u P)
+      → (let mid = pc + forms_bytes front in ((t : Core) → Stands z.code mid ms → P t → Does os (mid + forms_bytes ms) c t b)
+      → Does os (pc + forms_bytes (front ++ ms)) most u b)
+  does_behind {l} {P} front ms os c most pc u b le h come f =
+      let end = pc + forms_bytes front + forms_bytes ms in
+      let there : end ≡ pc + forms_bytes (front ++ ms) = omega (arith, forms_bytes-append front ms) in
+      subst (λ p. Does os p most u b) there
+      (reach_more z (owed os) (Describes z os end) (l + c) most u b.effects b.end le
+      (then_reach z (owed os) (Describes z os end) l c u P [] b.effects b.end (come (stands_front z.code pc front ms h))
+      (λ t k. f t (stands_back z.code pc front ms h) k)))
+
+  -- the same where no word waits behind it
+  pub alone_behind : {l : ℕ} {P : Core → Type 0} (front ms : List Form) (c most pc : ℕ) (u : Core) (b : Behaviour) → l + c ≤ most
+      → Stands z.code pc (front ++ ms) → (Stands z.code pc front → Runs z.code [] l u P)
+      → (let mid = pc + forms_bytes front in ((t : Core) → Stands z.code mid ms → P t → Follows z (mid + forms_bytes ms) c t b)
+      → Does [] (pc + forms_bytes (front ++ ms)) most u b)
+  alone_behind {l} {P} front ms c most pc u b le h come f =
+      let end = pc + forms_bytes front + forms_bytes ms in
+      does_behind front ms [] c most pc u b le h come (λ t s k. reaches z (Describes z [] end) end c t b.effects b.end (dressed z end) (f t s k))
+
   -- ---- values
 
-  -- a word in a register, what is made of it, and where that waits
-  after_one : (b h : WorkRegister) (o : Waiting) (ks : List Waiting) (l c most pc pc' : ℕ) (w : WordState) (v r : ℕ) (vs : List ℕ) (u : Core)
-      → any_held ks ≡ false → IsThere z.locals w.locals o → length vs < z.room → l + c + (owed ks + owed_by o) ≤ most
-      → ((f : ℕ → ℕ) → waiting_word w.fram w.locals f o ≡ f (work_number h)) → Runs z.code [] l u (InRegister z b ks pc (with_stack vs w) v)
-      → ((rest : List ℕ) (t : Core) → Has z b pc (with_stack rest w) v t → Runs z.code [] c t (Has z h pc' (with_stack rest w) r))
-      → Does (o ∷ ks) pc' most u (goes_on [] (with_stack (r ∷ vs) w))
-  after_one b h o ks l c most pc pc' w v r vs u none there room budget word front middle =
-      record {
-        spent = l + c;
-        within = budget;
-        runs = runs_on z l c u (InRegister z b ks pc (with_stack vs w) v) _ [] [] front (λ t k.
-            so_runs z [] c t (Has z h pc' (with_stack k.is.rest w) r) _ (λ s j.
-            result_waits z o ks pc' w r vs k.is.rest t.work s k.is.stack (there, k.is.there) none room (word s.work ∙ j.value) j.is)
-            (middle k.is.rest t (record { is = k.is.is; value = k.value })));
-      }
-
-  -- the same of two words
-  after_two : (h : WorkRegister) (o : Waiting) (ks : List Waiting) (l c most pc pc' : ℕ) (w : WordState) (x y r : ℕ) (vs : List ℕ) (u : Core)
-      → any_held ks ≡ false → IsThere z.locals w.locals o → length vs < z.room → l + c + (owed ks + owed_by o) ≤ most
-      → ((f : ℕ → ℕ) → waiting_word w.fram w.locals f o ≡ f (work_number h)) → Runs z.code [] l u (LoadedTwo z ks pc (with_stack vs w) x y)
-      → ((rest : List ℕ) (t : Core) → HasTwo z pc (with_stack rest w) x y t → Runs z.code [] c t (Has z h pc' (with_stack rest w) r))
-      → Does (o ∷ ks) pc' most u (goes_on [] (with_stack (r ∷ vs) w))
-  after_two h o ks l c most pc pc' w x y r vs u none there room budget word front middle =
-      record {
-        spent = l + c;
-        within = budget;
-        runs = runs_on z l c u (LoadedTwo z ks pc (with_stack vs w) x y) _ [] [] front (λ t k.
-            so_runs z [] c t (Has z h pc' (with_stack k.is.rest w) r) _ (λ s j.
-            result_waits z o ks pc' w r vs k.is.rest t.work s k.is.stack (there, k.is.there) none room (word s.work ∙ j.value) j.is)
-            (middle k.is.rest t (record { is = k.is.is; four = k.four; five = k.five })));
-      }
+  -- words in registers, what is made of them, and where that waits
+  made_waits : (P : (ℕ → ℕ) → Type 0) (b : WorkRegister) (o : Waiting) (front ms : List Form) (ks : List Waiting) (l c most pc : ℕ) (w : WordState) (r : ℕ)
+      (vs : List ℕ) (u : Core) → any_held ks ≡ false → IsThere z.locals w.locals o → length vs < z.room → l + c + (owed ks + owed_by o) ≤ most
+      → ((f : ℕ → ℕ) → waiting_word w.fram w.locals f o ≡ f (work_number b)) → Stands z.code pc (front ++ ms)
+      → (let mid = pc + forms_bytes front in (Stands z.code pc front → Runs z.code [] l u (Waits z ks mid (with_stack vs w) P))
+      → ((xs : List ℕ) (t : Core) → Stands z.code mid ms → Holds z P mid (with_stack xs w) t
+      → Runs z.code [] c t (Has z b (mid + forms_bytes ms) (with_stack xs w) r))
+      → Does (o ∷ ks) (pc + forms_bytes (front ++ ms)) most u (goes_on [] (with_stack (r ∷ vs) w)))
+  made_waits P b o front ms ks l c most pc w r vs u none there room budget word h come middle =
+      let mid = pc + forms_bytes front in
+      let end = mid + forms_bytes ms in
+      does_behind {l = l} front ms (o ∷ ks) (most - l) most pc u (goes_on [] (with_stack (r ∷ vs) w)) (omega (arith, budget)) h
+      come (λ t s k. record {
+        spent = c;
+        within = omega (arith, budget);
+        runs = so_runs (middle k.is.rest t s (record { is = k.is.is; held = k.held })) (λ q j.
+            result_waits z o ks end w r vs k.is.rest t.work q k.is.stack (there, k.is.there) none room (word q.work ∙ j.held) j.is);
+      })
 
   -- code that brings the top to a register, and what is made of it in R4
-  value_part : (b : WorkRegister) (front ms : List Form) (c most : ℕ) (os : List Waiting) (pc : ℕ) (w : WordState) (y r : ℕ) (rest : List ℕ) (u : Core)
-      → 5 + c ≤ most → w.stack ≡ y ∷ rest → Describes z os pc w u
+  value_part : {os : List Waiting} {pc : ℕ} {w : WordState} {y : ℕ} {rest : List ℕ} {u : Core} (b : WorkRegister) (front ms : List Form) (c most r : ℕ)
+      → 5 + c ≤ most → w.stack ≡ y ∷ rest → Describes z os pc w u → Stands z.code pc (front ++ ms)
       → (let ks = kept (below_top os) in let mid = pc + forms_bytes front in
-      Runs z.code [] (clear_cycles (below_top os) + load_cycles (top_of os)) u (InRegister z b ks mid (with_stack rest w) y)
-      → ((xs : List ℕ) (t : Core) → Has z b mid (with_stack xs w) y t → Runs z.code [] c t (Has z R4 (mid + forms_bytes ms) (with_stack xs w) r))
+      (Stands z.code pc front → Runs z.code [] (clear_cycles (below_top os) + load_cycles (top_of os)) u (Waits z ks mid (with_stack rest w) (HasWord b y)))
+      → ((xs : List ℕ) (t : Core) → Stands z.code mid ms → Has z b mid (with_stack xs w) y t
+      → Runs z.code [] c t (Has z R4 (mid + forms_bytes ms) (with_stack xs w) r))
       → Does (waiting.R4 ∷ ks) (pc + forms_bytes (front ++ ms)) (most + owed os) u (goes_on [] (with_stack (r ∷ rest) w)))
-  value_part b front ms c most os pc w y r rest u l e d come middle =
+  value_part {os} {pc} {w} {y} {rest} {u} b front ms c most r l e d h come middle =
       let under = below_top os in
-      let mid = pc + forms_bytes front in
-      let end : mid + forms_bytes ms ≡ pc + forms_bytes (front ++ ms) = omega (arith, forms_bytes-append front ms) in
       let room : length rest < z.room = omega (arith, d.fits, ap (length {A = ℕ}) e) in
-      subst (λ p. Does (waiting.R4 ∷ kept under) p (most + owed os) u (goes_on [] (with_stack (r ∷ rest) w))) end
-      (after_one b R4 waiting.R4 (kept under) (clear_cycles under + load_cycles (top_of os)) c (most + owed os) mid (mid + forms_bytes ms) w y r rest u
-      (none_held under) tt room (omega (arith, l, owed_kept under, load_owed os)) (λ f. refl) come middle)
+      made_waits (HasWord b y) R4 waiting.R4 front ms (kept under) (clear_cycles under + load_cycles (top_of os)) c (most + owed os) pc w r rest u
+      (none_held under) tt room (omega (arith, l, owed_kept under, load_owed os)) (λ f. refl) h come middle
 
   unary_middles : (o : UnaryOperation) → UnaryMiddle z (unary_middle o) 2 (unary_word o)
   unary_middles Negate = negate_middle z
   unary_middles Complement = complement_middle z
 
-  pub unary_part : (o : UnaryOperation) (os : List Waiting) (pc : ℕ) (w : WordState) (vs : List ℕ) (u : Core) → w.stack ≡ vs
-      → AllByRecursion (λ v. v < 0x10000) vs → Stands z.code pc (step_code [] os (unary o)) → Describes z os pc w u
-      → Does (waiting_behind os (unary o)) (pc + forms_bytes (step_code [] os (unary o))) (unary_cycles o + owed os) u
-      (with_top vs (λ v us. goes_on [] (with_stack (unary_word o v ∷ us) w)))
+  pub unary_part : (o : UnaryOperation) (os : List Waiting) (pc : ℕ) (w : WordState) (vs : List ℕ) (u : Core) → w.stack ≡ vs → AreWords vs
+      → StepDoes [] os (unary o) (unary_cycles o) pc w u (with_top vs (λ v us. goes_on [] (with_stack (unary_word o v ∷ us) w)))
   unary_part o os pc w [] u e l h d = tt
   unary_part o os pc w (y ∷ rest) u e l h d =
-      let front = top_to_five os in
-      let ms = unary_middle o in
-      let back = stands_back z.code pc front ms h in
-      value_part R5 front ms 2 (unary_cycles o) os pc w y (unary_word o y) rest u (omega (arith, unary_price o)) e d
-      (top_to_five_part z os pc w y rest u e (stands_front z.code pc front ms h) d)
-      (λ xs t k. unary_middles o (pc + forms_bytes front) y (with_stack xs w) t l.0 back k)
+      value_part R5 (top_to_five os) (unary_middle o) 2 (unary_cycles o) (unary_word o y) (omega (arith, unary_price o)) e d h
+      (λ s. top_to_five_part z os pc w y rest u e s d) (λ xs t s k. unary_middles o (pc + forms_bytes (top_to_five os)) y (with_stack xs w) t l.0 s k)
 
-  pub shift_reaches : (o : ShiftOperation) (n : ℕ) (os : List Waiting) (pc : ℕ) (w : WordState) (vs : List ℕ) (u : Core) → w.stack ≡ vs
-      → AllByRecursion (λ v. v < 0x10000) vs → Stands z.code pc (step_code [] os (shift o n)) → Describes z os pc w u
-      → Does (waiting_behind os (shift o n)) (pc + forms_bytes (step_code [] os (shift o n))) (15 + owed os) u
-      (with_top vs (λ v us. goes_on [] (with_stack (shift_word o v n ∷ us) w)))
+  pub shift_reaches : (o : ShiftOperation) (n : ℕ) (os : List Waiting) (pc : ℕ) (w : WordState) (vs : List ℕ) (u : Core) → w.stack ≡ vs → AreWords vs
+      → StepDoes [] os (shift o n) 15 pc w u (with_top vs (λ v us. goes_on [] (with_stack (shift_word o v n ∷ us) w)))
   shift_reaches o n os pc w [] u e l h d = tt
   shift_reaches o n os pc w (y ∷ rest) u e l h d =
-      let front = top_to_four os in
-      let ms = shift_middle o n in
-      let back = stands_back z.code pc front ms h in
-      value_part R4 front ms 10 15 os pc w y (shift_word o y n) rest u (omega arith) e d
-      (top_to_four_part z os pc w y rest u e (stands_front z.code pc front ms h) d)
-      (λ xs t k. shift_part z o n (pc + forms_bytes front) y (with_stack xs w) t l.0 back k)
+      value_part R4 (top_to_four os) (shift_middle o n) 10 15 (shift_word o y n) (omega arith) e d h (λ s. top_to_four_part z os pc w y rest u e s d)
+      (λ xs t s k. shift_part z o n (pc + forms_bytes (top_to_four os)) y (with_stack xs w) t l.0 s k)
 
   -- ---- words that no code brings anywhere
 
@@ -185,7 +156,7 @@ module _ (z : Setting) where
       record {
         spent = 0;
         within = omega (arith, less);
-        runs = nothing_run z u _ (subst (λ p. Describes z (o ∷ os) p (pushed v w) u) same (waits_more z o os pc w v u there word room d));
+        runs = nothing_run z (subst (λ p. Describes z (o ∷ os) p (pushed v w) u) same (waits_more z o os pc w v u there word room d));
       }
 
   pub number_part : (n : ℕ) (os : List Waiting) (pc : ℕ) (w : WordState) (u : Core) → length w.stack < z.room → Describes z os pc w u
@@ -202,9 +173,8 @@ module _ (z : Setting) where
   by_length : (b : Bool) (base size : ℕ) (after : List Waiting) (end most : ℕ) (w : WordState) (i : ℕ) (rest : List ℕ) (u : Core) → nat_lt i size ≡ b
       → (nat_lt i size ≡ false → Does after end most u (goes_on [] (with_stack (0 ∷ rest) w)))
       → (nat_lt i size ≡ true → IsFram (2 * i + base) → Does after end most u (goes_on [] (with_stack (w.fram (2 * i + base) ∷ rest) w)))
-      → (let a = 2 * i + base in
-      let x : Behaviour = if b then at_place a (goes_on [] (with_stack (w.fram a ∷ rest) w)) else goes_on [] (with_stack (0 ∷ rest) w) in
-      Does after end most u x)
+      → (let a = 2 * i + base in let x : Behaviour = if b then at_place a (goes_on [] (with_stack (w.fram a ∷ rest) w)) else goes_on []
+      (with_stack (0 ∷ rest) w) in Does after end most u x)
   by_length false base size after end most w i rest u lt none there = none lt
   by_length true base size after end most w i rest u lt none there =
       let a = 2 * i + base in
@@ -212,9 +182,8 @@ module _ (z : Setting) where
 
   -- an element, by whether the index is below the length; whether it surely is decides what its code is
   element_by : (b : Bool) (base size : ℕ) (os : List Waiting) (pc : ℕ) (w : WordState) (i : ℕ) (rest : List ℕ) (u : Core) → size < 0x10000 → i < 0x10000
-      → (b ≡ true → nat_lt i size ≡ true) → w.stack ≡ i ∷ rest
-      → (let ms = top_to_four os ++ element_code b base size in Stands z.code pc ms → Describes z os pc w u
-      → Does (waiting.R4 ∷ kept (below_top os)) (pc + forms_bytes ms) (15 + owed os) u (element_pushed base size i (with_stack rest w)))
+      → (b ≡ true → nat_lt i size ≡ true) → w.stack ≡ i ∷ rest → (let ms = top_to_four os ++ element_code b base size in Stands z.code pc ms
+      → Describes z os pc w u → Does (waiting.R4 ∷ kept (below_top os)) (pc + forms_bytes ms) (15 + owed os) u (element_pushed base size i (with_stack rest w)))
   element_by b base size os pc w i rest u s r sure e h d =
       let a = 2 * i + base in
       let front = top_to_four os in
@@ -222,14 +191,11 @@ module _ (z : Setting) where
       let mid = pc + forms_bytes front in
       let after = waiting.R4 ∷ kept (below_top os) in
       let end = pc + forms_bytes (front ++ ms) in
-      let back = stands_back z.code pc front ms h in
-      let come = top_to_four_part z os pc w i rest u e (stands_front z.code pc front ms h) d in
-      let none : nat_lt i size ≡ false → Does after end (15 + owed os) u (goes_on [] (with_stack (0 ∷ rest) w)) =
-      λ no. value_part R4 front ms 10 15 os pc w i 0 rest u (omega arith) e d come
-      (λ xs t k. past_end z b base size mid s back i (with_stack xs w) t sure no r k) in
+      let none : nat_lt i size ≡ false → Does after end (15 + owed os) u (goes_on [] (with_stack (0 ∷ rest) w)) = λ no. value_part R4 front ms 10 15 0
+      (omega arith) e d h (λ s. top_to_four_part z os pc w i rest u e s d) (λ xs t s' k. past_end z b base size mid s s' i (with_stack xs w) t sure no r k) in
       let there : nat_lt i size ≡ true → IsFram a → Does after end (15 + owed os) u (goes_on [] (with_stack (w.fram a ∷ rest) w)) =
-      λ yes f. value_part R4 front ms 10 15 os pc w i (w.fram a) rest u (omega arith) e d come
-      (λ xs t k. before_end z b base size mid s back i (with_stack xs w) t yes r f k) in
+      λ yes f. value_part R4 front ms 10 15 (w.fram a) (omega arith) e d h (λ s. top_to_four_part z os pc w i rest u e s d)
+      (λ xs t s' k. before_end z b base size mid s s' i (with_stack xs w) t yes r f k) in
       by_length (nat_lt i size) base size after end (15 + owed os) w i rest u refl none there
 
   -- an element at a number that waits
@@ -261,18 +227,12 @@ module _ (z : Setting) where
       → (b ≡ true → nat_lt i size ≡ true) → w.stack ≡ i ∷ rest
       → (let ms = element_at b (top_number (top_of os)) os base size in Stands z.code pc ms → Describes z os pc w u
       → Does (waiting_behind os (element base size)) (pc + forms_bytes ms) (15 + owed os) u (element_pushed base size i (with_stack rest w)))
-  element_on b base size [] pc w i rest u s r sure e h d = element_by b base size [] pc w i rest u s r sure e h d
   element_on b base size (waiting.Number k ∷ os) pc w i rest u s r sure e h d = known_by base size k os pc w i rest u e d
-  element_on b base size (waiting.Fram a ∷ os) pc w i rest u s r sure e h d = element_by b base size (waiting.Fram a ∷ os) pc w i rest u s r sure e h d
-  element_on b base size (waiting.Local n ∷ os) pc w i rest u s r sure e h d = element_by b base size (waiting.Local n ∷ os) pc w i rest u s r sure e h d
-  element_on b base size (waiting.R4 ∷ os) pc w i rest u s r sure e h d = element_by b base size (waiting.R4 ∷ os) pc w i rest u s r sure e h d
-  element_on b base size (waiting.R6 ∷ os) pc w i rest u s r sure e h d = element_by b base size (waiting.R6 ∷ os) pc w i rest u s r sure e h d
+  element_on b base size os pc w i rest u s r sure e h d = element_by b base size os pc w i rest u s r sure e h d
 
   pub element_reaches : (bs : List Bound) (base size : ℕ) (os : List Waiting) (pc : ℕ) (w : WordState) (vs : List ℕ) (u : Core) → size < 0x10000
-      → Bounded bs w.locals → w.stack ≡ vs → AllByRecursion (λ v. v < 0x10000) vs → Stands z.code pc (step_code bs os (element base size))
-      → Describes z os pc w u
-      → Does (waiting_behind os (element base size)) (pc + forms_bytes (step_code bs os (element base size))) (15 + owed os) u
-      (with_top vs (λ i us. element_pushed base size i (with_stack us w)))
+      → Bounded bs w.locals → w.stack ≡ vs → AreWords vs
+      → StepDoes bs os (element base size) 15 pc w u (with_top vs (λ i us. element_pushed base size i (with_stack us w)))
   element_reaches bs base size os pc w [] u s lb e l h d = tt
   element_reaches bs base size os pc w (i ∷ rest) u s lb e l h d =
       element_on (is_inside bs (top_of os) size) base size os pc w i rest u s l.0 (top_inside z bs pc u size os w i rest lb e d) e h d
@@ -281,7 +241,7 @@ module _ (z : Setting) where
 
   module _ (sure : Bool) (place : ArrayPlace) (list : ListPlace) (os : List Waiting) (pc : ℕ) (small : place.length < 0x10000)
       (h : Stands z.code pc (top_to_four os ++ read_code sure place list)) (w : WordState) (i : ℕ) (rest : List ℕ) (u : Core)
-      (wl : (a : ℕ) → w.fram a < 0x10000) (r : i < 0x10000) (is : sure ≡ true → nat_lt i place.length ≡ true) (e : w.stack ≡ i ∷ rest)
+      (wl : HoldsWords w.fram) (r : i < 0x10000) (is : sure ≡ true → nat_lt i place.length ≡ true) (e : w.stack ≡ i ∷ rest)
       (d : Describes z os pc w u) where
     abbrev after_read : List Waiting
     after_read = waiting_behind os (versioned_read place list)
@@ -297,16 +257,11 @@ module _ (z : Setting) where
         → Runs z.code [] 18 t (Has z R4 (read_mid + forms_bytes (read_code sure place list)) (with_stack xs w) v))
         → Does after_read read_end (23 + owed os) u (goes_on [] (with_stack (v ∷ rest) w))
     read_gives v f =
-        let front = top_to_four os in
-        let ms = read_code sure place list in
-        value_part R4 front ms 18 23 os pc w i v rest u (omega arith) e d
-        (top_to_four_part z os pc w i rest u e (stands_front z.code pc front ms h) d)
-        (λ xs t k. f xs t (stands_back z.code pc front ms h) k)
+        value_part R4 (top_to_four os) (read_code sure place list) 18 23 v (omega arith) e d h (λ s. top_to_four_part z os pc w i rest u e s d) f
 
     -- by whether the version word is the attempt's number
     own_by : (b : Bool) → (w.fram list.ver == w.fram (2 * i + place.versions)) ≡ b → nat_lt i place.length ≡ true → IsFram list.ver
-        → IsFram (2 * i + place.versions)
-        → (let c = 2 * i + place.copies in let a = 2 * i + place.elements in
+        → IsFram (2 * i + place.versions) → (let c = 2 * i + place.copies in let a = 2 * i + place.elements in
         let x : Behaviour = if b then at_place c (goes_on [] (with_stack (w.fram c ∷ rest) w)) else at_place a (goes_on [] (with_stack (w.fram a ∷ rest) w)) in
         Does after_read read_end (23 + owed os) u x)
     own_by true q lt f g =
@@ -319,9 +274,8 @@ module _ (z : Setting) where
         read_gives (w.fram a) (λ xs t s k. own_home z sure place list read_mid small s i (with_stack xs w) t wl lt r f g q (place_is a p) k))
 
     -- by whether the index is below the length
-    read_by : (b : Bool) → nat_lt i place.length ≡ b
-        → (let x : Behaviour = if b then own_element place list i (with_stack rest w) else goes_on [] (with_stack (0 ∷ rest) w) in
-        Does after_read read_end (23 + owed os) u x)
+    read_by : (b : Bool) → nat_lt i place.length ≡ b → (let x : Behaviour = if b then own_element place list i (with_stack rest w) else goes_on []
+        (with_stack (0 ∷ rest) w) in Does after_read read_end (23 + owed os) u x)
     read_by false lt = read_gives 0 (λ xs t s k. past_read z sure place list read_mid small s i (with_stack xs w) t is lt r k)
     read_by true lt =
         let m = 2 * i + place.versions in
@@ -330,10 +284,8 @@ module _ (z : Setting) where
         own_by (w.fram list.ver == w.fram m) refl lt (place_is list.ver f) (place_is m g)))
 
   pub read_reaches : (bs : List Bound) (place : ArrayPlace) (list : ListPlace) (os : List Waiting) (pc : ℕ) (w : WordState) (vs : List ℕ) (u : Core)
-      → place.length < 0x10000 → ((a : ℕ) → w.fram a < 0x10000) → Bounded bs w.locals → w.stack ≡ vs → AllByRecursion (λ v. v < 0x10000) vs
-      → Stands z.code pc (step_code bs os (versioned_read place list)) → Describes z os pc w u
-      → Does (waiting_behind os (versioned_read place list)) (pc + forms_bytes (step_code bs os (versioned_read place list)))
-      (23 + owed os) u (with_top vs (λ i us. versioned_pushed place list i (with_stack us w)))
+      → place.length < 0x10000 → HoldsWords w.fram → Bounded bs w.locals → w.stack ≡ vs → AreWords vs
+      → StepDoes bs os (versioned_read place list) 23 pc w u (with_top vs (λ i us. versioned_pushed place list i (with_stack us w)))
   read_reaches bs place list os pc w [] u s wl lb e l h d = tt
   read_reaches bs place list os pc w (i ∷ rest) u s wl lb e l h d =
       let n = place.length in
@@ -348,30 +300,19 @@ module _ (z : Setting) where
       → Does (binary_result o ∷ kept (below_top (below_top os))) (pc + forms_bytes ms) (7 + c + owed os) u
       (goes_on [] (with_stack (binary_word o x y ∷ rest) w)))
   binary_by o hand c os pc w x y rest u m there three word e lx ly h d =
-      let front = two_to_registers os in
-      let ms = binary_middle o in
-      let r = binary_result o in
       let first = top_of os in
       let under = below_top os in
-      let ks = kept (below_top under) in
-      let mid = pc + forms_bytes front in
-      let v = binary_word o x y in
-      let end : mid + forms_bytes ms ≡ pc + forms_bytes (front ++ ms) = omega (arith, forms_bytes-append front ms) in
       let room : length rest < z.room = omega (arith, d.fits, ap (length {A = ℕ}) e) in
-      let paid : clear_cycles (below_top under) + (load_cycles first + load_cycles (top_of under)) + c + (owed ks + owed_by r) ≤ 7 + c + owed os =
-      omega (arith, three, owed_kept (below_top under), load_owed os, load_owed under) in
-      let back = stands_back z.code pc front ms h in
-      subst (λ p. Does (r ∷ ks) p (7 + c + owed os) u (goes_on [] (with_stack (v ∷ rest) w))) end
-      (after_two hand r ks (clear_cycles (below_top under) + (load_cycles first + load_cycles (top_of under))) c (7 + c + owed os) mid (mid + forms_bytes ms)
-      w x y v rest u (none_held (below_top under)) there room paid word
-      (two_to_registers_part z os pc w x y rest u e (stands_front z.code pc front ms h) d)
-      (λ xs t k. m mid x y (with_stack xs w) t lx ly back k))
+      let l = clear_cycles (below_top under) + (load_cycles first + load_cycles (top_of under)) in
+      made_waits (HasSides x y) hand (binary_result o) (two_to_registers os) (binary_middle o) (kept (below_top under)) l c (7 + c + owed os) pc w
+      (binary_word o x y) rest u (none_held (below_top under)) there room (omega (arith, three, owed_kept (below_top under), load_owed os, load_owed under))
+      word h (λ s. two_to_registers_part z os pc w x y rest u e s d) (λ xs t s k. m (pc + forms_bytes (two_to_registers os)) x y (with_stack xs w) t lx ly s k)
 
   -- the instruction of an operation, on R4 and the right side where that is read
   plain_form : (o : PlainOperation) (s : Source) (c pc x y : ℕ) (ks : List Waiting) (w : WordState) (vs : List ℕ) (t : Core)
       → source_cycles to_register (source_operand s) ≤ c → x < 0x10000 → y < 0x10000 → any_held ks ≡ false → length vs < z.room
       → (let m = Calculate (plain_instruction o) s R4 in z.code pc ≡ Some (instruction_of m) → LoadedSides z s ks pc (with_stack vs w) x y t
-      → Runs z.code [] c t (Describes z (waiting.R4 ∷ ks) (pc + form_bytes m) (with_stack (plain_word o x y ∷ vs) w)))
+      → Runs z.code [] c t (Describes z (waiting.R4 ∷ ks) (pc + forms_bytes (m ∷ [])) (with_stack (plain_word o x y ∷ vs) w)))
   plain_form o s c pc x y ks w vs t l lx ly none room h k =
       let m = Calculate (plain_instruction o) s R4 in
       let price = cycles_of (instruction_of m) in
@@ -386,35 +327,30 @@ module _ (z : Setting) where
       hop z m c t (after (put t.work 4 v)) [] price _ (ap z.code q.is.at ∙ h) (needs.0, k.needs)
       (ap (λ a. Goes [] price (shape a)) k.still
       ∙ ap (λ b. Goes [] price (after (if b then put t.work 4 does.value else t.work))) needs.1 ∙ ap (λ p. Goes [] price (after (put t.work 4 p))) is) l
-      (result_waits z waiting.R4 ks (pc + form_bytes m) w v vs q.rest t.work (after (put t.work 4 v)) q.stack (tt, q.there) none room refl
-      (stands_elsewhere z pc (pc + form_bytes m) (with_stack q.rest w) t (after (put t.work 4 v)) q.is (ap (λ p. p + (2 + source_bytes s)) q.is.at)
+      (result_waits z waiting.R4 ks (pc + forms_bytes (m ∷ [])) w v vs q.rest t.work (after (put t.work 4 v)) q.stack (tt, q.there) none room refl
+      (stands_elsewhere z pc (pc + forms_bytes (m ∷ [])) (with_stack q.rest w) t (after (put t.work 4 v)) q.is (omega (arith, q.is.at))
       refl refl refl refl refl))
 
-  plain_by : (o : PlainOperation) (os : List Waiting) (pc : ℕ) (w : WordState) (x y : ℕ) (rest : List ℕ) (u : Core) → w.stack ≡ y ∷ (x ∷ rest)
-      → x < 0x10000 → y < 0x10000
-      → (let ms = sides os ++ Calculate (plain_instruction o) (right_source (top_of os)) R4 ∷ [] in Stands z.code pc ms → Describes z os pc w u
+  plain_by : (o : PlainOperation) (os : List Waiting) (pc : ℕ) (w : WordState) (x y : ℕ) (rest : List ℕ) (u : Core) → w.stack ≡ y ∷ (x ∷ rest) → x < 0x10000
+      → y < 0x10000 → (let ms = sides os ++ Calculate (plain_instruction o) (right_source (top_of os)) R4 ∷ [] in Stands z.code pc ms → Describes z os pc w u
       → Does (waiting.R4 ∷ kept (below_top (below_top os))) (pc + forms_bytes ms) (8 + owed os) u (goes_on [] (with_stack (plain_word o x y ∷ rest) w)))
   plain_by o os pc w x y rest u e lx ly h d =
-      let front = sides os in
       let s = right_source (top_of os) in
       let m = Calculate (plain_instruction o) s R4 in
       let under = below_top os in
       let ks = kept (below_top under) in
-      let mid = pc + forms_bytes front in
-      let v = plain_word o x y in
+      let mid = pc + forms_bytes (sides os) in
       let l = clear_cycles (below_top under) + (right_cycles (top_of os) + load_cycles (top_of under)) in
       let c = reading_cycles (top_of os) in
-      let end : mid + form_bytes m ≡ pc + forms_bytes (front ++ m ∷ []) = omega (arith, forms_bytes-append front (m ∷ [])) in
       let room : length rest < z.room = omega (arith, d.fits, ap (length {A = ℕ}) e) in
-      let back = stands_back z.code pc front (m ∷ []) h in
-      subst (λ p. Does (waiting.R4 ∷ ks) p (8 + owed os) u (goes_on [] (with_stack (v ∷ rest) w))) end
-      (record {
+      record {
         spent = l + c;
         within = omega (arith, owed_kept (below_top under), right_owed os, load_owed under);
-        runs = runs_on z l c u (LoadedSides z s ks mid (with_stack rest w) x y) _ [] []
-            (sides_part z os pc w x y rest u e (stands_front z.code pc front (m ∷ []) h) d)
-            (λ t k. plain_form o s c mid x y ks w rest t (reading_price (top_of os)) lx ly (none_held (below_top under)) room back.0 k);
-      })
+        runs =
+            two_parts z (sides os) (m ∷ []) pc (λ p. Describes z (waiting.R4 ∷ ks) p (with_stack (plain_word o x y ∷ rest) w)) h
+            (λ s. sides_part z os pc w x y rest u e s d)
+            (λ t s' k. plain_form o s c mid x y ks w rest t (reading_price (top_of os)) lx ly (none_held (below_top under)) room s'.0 k);
+      }
 
   two_part : (o : BinaryOperation) (os : List Waiting) (pc : ℕ) (w : WordState) (x y : ℕ) (rest : List ℕ) (u : Core) → w.stack ≡ y ∷ (x ∷ rest)
       → x < 0x10000 → y < 0x10000 → Stands z.code pc (two_code os o) → Describes z os pc w u
@@ -437,13 +373,10 @@ module _ (z : Setting) where
       let ms = shift_middle o k in
       let end = pc + forms_bytes (front ++ ms) in
       let t = (drop_part z (waiting.Number n) os pc w n (x ∷ rest) u e d).0 in
-      let back = stands_back z.code pc front ms h in
       subst (λ r. Does after end (most + (owed os + 4)) u (goes_on [] (with_stack (r ∷ rest) w))) is
       (reach_more z (owed after) (Describes z after end) (15 + owed os) (most + (owed os + 4)) u [] (GoesOn (with_stack (shift_word o x k ∷ rest) w))
-      (omega (arith, l))
-      (value_part R4 front ms 10 15 os pc left x (shift_word o x k) rest u (omega arith) refl t
-      (top_to_four_part z os pc left x rest u refl (stands_front z.code pc front ms h) t)
-      (λ xs q j. shift_part z o k (pc + forms_bytes front) x (with_stack xs w) q lx back j)))
+      (omega (arith, l)) (value_part R4 front ms 10 15 (shift_word o x k) (omega arith) refl t h (λ s. top_to_four_part z os pc left x rest u refl s t)
+      (λ xs q s j. shift_part z o k (pc + forms_bytes front) x (with_stack xs w) q lx s j)))
 
   by_mask : (n m most v : ℕ) (os : List Waiting) (pc : ℕ) (w : WordState) (x : ℕ) (rest : List ℕ) (u : Core) → 8 ≤ most → m < 0x10000
       → bit_and x m ≡ v → x < 0x10000 → w.stack ≡ n ∷ (x ∷ rest)
@@ -463,9 +396,8 @@ module _ (z : Setting) where
   -- by whether the number is a power of two
   power_by : (p : Option ℕ) (o : BinaryOperation) (n : ℕ) (os : List Waiting) (pc : ℕ) (w : WordState) (x y : ℕ) (rest : List ℕ) (u : Core) → power n ≡ p
       → w.stack ≡ y ∷ (x ∷ rest) → x < 0x10000 → y < 0x10000 → Stands z.code pc (power_code p (waiting.Number n ∷ os) o)
-      → Describes z (waiting.Number n ∷ os) pc w u
-      → Does (power_result p o ∷ kept (below_top os)) (pc + forms_bytes (power_code p (waiting.Number n ∷ os) o)) (binary_cycles o + (owed os + 4)) u
-      (goes_on [] (with_stack (binary_word o x y ∷ rest) w))
+      → Describes z (waiting.Number n ∷ os) pc w u → Does (power_result p o ∷ kept (below_top os)) (pc + forms_bytes (power_code p (waiting.Number n ∷ os) o))
+      (binary_cycles o + (owed os + 4)) u (goes_on [] (with_stack (binary_word o x y ∷ rest) w))
   power_by None o n os pc w x y rest u q e lx ly h d = two_part o (waiting.Number n ∷ os) pc w x y rest u e lx ly h d
   power_by (Some k) Multiply n os pc w x y rest u q e lx ly h d =
       let is = (drop_part z (waiting.Number n) os pc w y (x ∷ rest) u e d).1 in
@@ -486,20 +418,12 @@ module _ (z : Setting) where
   power_by (Some k) (Plain o) n os pc w x y rest u q e lx ly h d = two_part (Plain o) (waiting.Number n ∷ os) pc w x y rest u e lx ly h d
 
   binary_on : (o : BinaryOperation) (os : List Waiting) (pc : ℕ) (w : WordState) (x y : ℕ) (rest : List ℕ) (u : Core) → w.stack ≡ y ∷ (x ∷ rest)
-      → x < 0x10000 → y < 0x10000 → Stands z.code pc (step_code [] os (binary o)) → Describes z os pc w u
-      → Does (waiting_behind os (binary o)) (pc + forms_bytes (step_code [] os (binary o))) (binary_cycles o + owed os) u
-      (goes_on [] (with_stack (binary_word o x y ∷ rest) w))
-  binary_on o [] pc w x y rest u e lx ly h d = two_part o [] pc w x y rest u e lx ly h d
+      → x < 0x10000 → y < 0x10000 → StepDoes [] os (binary o) (binary_cycles o) pc w u (goes_on [] (with_stack (binary_word o x y ∷ rest) w))
   binary_on o (waiting.Number n ∷ os) pc w x y rest u e lx ly h d = power_by (power n) o n os pc w x y rest u refl e lx ly h d
-  binary_on o (waiting.Fram a ∷ os) pc w x y rest u e lx ly h d = two_part o (waiting.Fram a ∷ os) pc w x y rest u e lx ly h d
-  binary_on o (waiting.Local n ∷ os) pc w x y rest u e lx ly h d = two_part o (waiting.Local n ∷ os) pc w x y rest u e lx ly h d
-  binary_on o (waiting.R4 ∷ os) pc w x y rest u e lx ly h d = two_part o (waiting.R4 ∷ os) pc w x y rest u e lx ly h d
-  binary_on o (waiting.R6 ∷ os) pc w x y rest u e lx ly h d = two_part o (waiting.R6 ∷ os) pc w x y rest u e lx ly h d
+  binary_on o os pc w x y rest u e lx ly h d = two_part o os pc w x y rest u e lx ly h d
 
-  pub binary_part : (o : BinaryOperation) (os : List Waiting) (pc : ℕ) (w : WordState) (vs : List ℕ) (u : Core) → w.stack ≡ vs
-      → AllByRecursion (λ v. v < 0x10000) vs → Stands z.code pc (step_code [] os (binary o)) → Describes z os pc w u
-      → Does (waiting_behind os (binary o)) (pc + forms_bytes (step_code [] os (binary o))) (binary_cycles o + owed os) u
-      (with_two vs (λ x y us. goes_on [] (with_stack (binary_word o x y ∷ us) w)))
+  pub binary_part : (o : BinaryOperation) (os : List Waiting) (pc : ℕ) (w : WordState) (vs : List ℕ) (u : Core) → w.stack ≡ vs → AreWords vs
+      → StepDoes [] os (binary o) (binary_cycles o) pc w u (with_two vs (λ x y us. goes_on [] (with_stack (binary_word o x y ∷ us) w)))
   binary_part o os pc w [] u e l h d = tt
   binary_part o os pc w (y ∷ []) u e l h d = tt
   binary_part o os pc w (y ∷ (x ∷ rest)) u e l h d = binary_on o os pc w x y rest u e l.1.0 l.0 h d
@@ -508,42 +432,22 @@ module _ (z : Setting) where
 
   -- code behind which no word waits, the others below what it takes being pushed in front of it
   pub alone_part : (os : List Waiting) (ms : List Form) (c pc : ℕ) (w : WordState) (u : Core) (b : Behaviour) → Stands z.code pc (flushed os ++ ms)
-      → Describes z os pc w u
-      → (let mid = pc + forms_bytes (flushed os) in
-      ((t : Core) → Stands z.code mid ms → StandsFor z mid w t → Follows z (mid + forms_bytes ms) c t b)
-      → Does [] (pc + forms_bytes (flushed os ++ ms)) (c + owed os) u b)
+      → Describes z os pc w u → (let mid = pc + forms_bytes (flushed os) in ((t : Core) → Stands z.code mid ms → StandsFor z mid w t
+      → Follows z (mid + forms_bytes ms) c t b) → Does [] (pc + forms_bytes (flushed os ++ ms)) (c + owed os) u b)
   alone_part os ms c pc w u b h d f =
-      let front = flushed os in
-      let mid = pc + forms_bytes front in
-      let back = stands_back z.code pc front ms h in
-      let end : mid + forms_bytes ms ≡ pc + forms_bytes (front ++ ms) = omega (arith, forms_bytes-append front ms) in
-      subst (λ p. Does [] p (c + owed os) u b) end
-      (reach_more z 0 (Describes z [] (mid + forms_bytes ms)) (owed os + c) (c + owed os) u b.effects b.end (omega arith)
-      (then_reach z 0 (Describes z [] (mid + forms_bytes ms)) (owed os) c u (StandsFor z mid w) [] b.effects b.end
-      (flush_part z os pc w u d (stands_front z.code pc front ms h)) (λ t k.
-      reaches z (Describes z [] (mid + forms_bytes ms)) (mid + forms_bytes ms) c t b.effects b.end (dressed z (mid + forms_bytes ms)) (f t back k))))
+      alone_behind (flushed os) ms c (c + owed os) pc u b (omega arith) h (flush_part z os pc w u d) f
 
   -- the same where the top is its source
   pub statement_part : (os : List Waiting) (ms : List Form) (c most pc : ℕ) (w : WordState) (v : ℕ) (vs : List ℕ) (u : Core) (b : Behaviour)
       → owed (below_top os) + c ≤ most → w.stack ≡ v ∷ vs → Stands z.code pc (flushed (below_top os) ++ ms) → Describes z os pc w u
-      → (let mid = pc + forms_bytes (flushed (below_top os)) in
-      ((t : Core) → Stands z.code mid ms → Top z (source_from (top_of os)) [] mid w v vs t → Follows z (mid + forms_bytes ms) c t b)
-      → Does [] (pc + forms_bytes (flushed (below_top os) ++ ms)) most u b)
+      → (let mid = pc + forms_bytes (flushed (below_top os)) in ((t : Core) → Stands z.code mid ms → Top z (source_from (top_of os)) [] mid w v vs t
+      → Follows z (mid + forms_bytes ms) c t b) → Does [] (pc + forms_bytes (flushed (below_top os) ++ ms)) most u b)
   statement_part os ms c most pc w v vs u b l e h d f =
       let front = flushed (below_top os) in
-      let mid = pc + forms_bytes front in
-      let back = stands_back z.code pc front ms h in
-      let end : mid + forms_bytes ms ≡ pc + forms_bytes (front ++ ms) = omega (arith, forms_bytes-append front ms) in
-      let x = source_from (top_of os) in
-      subst (λ p. Does [] p most u b) end
-      (reach_more z 0 (Describes z [] (mid + forms_bytes ms)) (owed (below_top os) + c) most u b.effects b.end l
-      (then_reach z 0 (Describes z [] (mid + forms_bytes ms)) (owed (below_top os)) c u (Top z x [] mid w v vs) [] b.effects b.end
-      (below_part z os pc w v vs u e (stands_front z.code pc front ms h) d) (λ t k.
-      reaches z (Describes z [] (mid + forms_bytes ms)) (mid + forms_bytes ms) c t b.effects b.end (dressed z (mid + forms_bytes ms)) (f t back k))))
+      alone_behind front ms c most pc u b l h (λ s. below_part z os pc w v vs u e s d) f
 
-  pub keep_reaches : (a : ℕ) (os : List Waiting) (pc : ℕ) (w : WordState) (vs : List ℕ) (u : Core) → w.stack ≡ vs → Stands z.code pc (step_code [] os (keep a))
-      → Describes z os pc w u → Does [] (pc + forms_bytes (step_code [] os (keep a))) (5 + owed os) u
-      (with_top vs (λ v us. word_stored a v (with_stack us w)))
+  pub keep_reaches : (a : ℕ) (os : List Waiting) (pc : ℕ) (w : WordState) (vs : List ℕ) (u : Core) → w.stack ≡ vs
+      → StepDoes [] os (keep a) 5 pc w u (with_top vs (λ v us. word_stored a v (with_stack us w)))
   keep_reaches a os pc w [] u e h d = tt
   keep_reaches a os pc w (v ∷ us) u e h d =
       let mid = pc + forms_bytes (flushed (below_top os)) in
@@ -551,9 +455,7 @@ module _ (z : Setting) where
       (word_stored a v (with_stack us w)) (omega (arith, store_owed os)) e h d (λ t s k. keep_part z (top_of os) a mid v us w t s k)
 
   pub update_reaches : (o : PlainOperation) (a : ℕ) (os : List Waiting) (pc : ℕ) (w : WordState) (vs : List ℕ) (u : Core) → w.fram a < 0x10000 → w.stack ≡ vs
-      → AllByRecursion (λ v. v < 0x10000) vs → Stands z.code pc (step_code [] os (update o a)) → Describes z os pc w u
-      → Does [] (pc + forms_bytes (step_code [] os (update o a))) (5 + owed os) u
-      (with_top vs (λ v us. word_stored a (plain_word o (w.fram a) v) (with_stack us w)))
+      → AreWords vs → StepDoes [] os (update o a) 5 pc w u (with_top vs (λ v us. word_stored a (plain_word o (w.fram a) v) (with_stack us w)))
   update_reaches o a os pc w [] u f e l h d = tt
   update_reaches o a os pc w (v ∷ us) u f e l h d =
       let mid = pc + forms_bytes (flushed (below_top os)) in
@@ -562,8 +464,7 @@ module _ (z : Setting) where
       (λ t s k. update_part z o (top_of os) a mid v us w t f l.0 s k)
 
   pub set_reaches : (n : ℕ) (os : List Waiting) (pc : ℕ) (w : WordState) (vs : List ℕ) (u : Core) → n < z.locals → w.stack ≡ vs
-      → Stands z.code pc (step_code [] os (set_local n)) → Describes z os pc w u
-      → Does [] (pc + forms_bytes (step_code [] os (set_local n))) (5 + owed os) u (with_top vs (λ v us. goes_on [] (with_local n v (with_stack us w))))
+      → StepDoes [] os (set_local n) 5 pc w u (with_top vs (λ v us. goes_on [] (with_local n v (with_stack us w))))
   set_reaches n os pc w [] u l e h d = tt
   set_reaches n os pc w (v ∷ us) u l e h d =
       let mid = pc + forms_bytes (flushed (below_top os)) in
@@ -571,9 +472,8 @@ module _ (z : Setting) where
       (goes_on [] (with_local n v (with_stack us w))) (omega (arith, store_owed os)) e h d (λ t s k. set_part z (top_of os) n v mid us w t l s k)
 
   pub update_local_reaches : (o : PlainOperation) (n x : ℕ) (os : List Waiting) (pc : ℕ) (w : WordState) (vs : List ℕ) (u : Core) → n < z.locals
-      → w.locals n ≡ Some x → x < 0x10000 → w.stack ≡ vs → AllByRecursion (λ v. v < 0x10000) vs → Stands z.code pc (step_code [] os (update_local o n))
-      → Describes z os pc w u → Does [] (pc + forms_bytes (step_code [] os (update_local o n))) (10 + owed os) u
-      (with_top vs (λ v us. goes_on [] (with_local n (plain_word o x v) (with_stack us w))))
+      → w.locals n ≡ Some x → x < 0x10000 → w.stack ≡ vs → AreWords vs
+      → StepDoes [] os (update_local o n) 10 pc w u (with_top vs (λ v us. goes_on [] (with_local n (plain_word o x v) (with_stack us w))))
   update_local_reaches o n x os pc w [] u l q f e k h d = tt
   update_local_reaches o n x os pc w (v ∷ us) u l q f e k h d =
       let mid = pc + forms_bytes (flushed (below_top os)) in
@@ -583,10 +483,9 @@ module _ (z : Setting) where
 
   -- a local that is pushed, by where it stands
   pub local_by : (b : Bool) (n v : ℕ) (os : List Waiting) (pc : ℕ) (w : WordState) (u : Core) → nat_lt n 8 ≡ b → length w.stack < z.room → n < z.locals
-      → w.locals n ≡ Some v
-      → (let ms : List Form = if b then [] else (flushed os ++ Push (Ram (local_address n)) ∷ []) in
-      let after : List Waiting = if b then waiting.Local n ∷ os else [] in
-      Stands z.code pc ms → Describes z os pc w u → Does after (pc + forms_bytes ms) (5 + owed os) u (goes_on [] (pushed v w)))
+      → w.locals n ≡ Some v → (let ms : List Form = if b then [] else (flushed os ++ Push (Ram (local_address n)) ∷ []) in
+      let after : List Waiting = if b then waiting.Local n ∷ os else [] in Stands z.code pc ms → Describes z os pc w u
+      → Does after (pc + forms_bytes ms) (5 + owed os) u (goes_on [] (pushed v w)))
   local_by true n v os pc w u lt room l q h d =
       waits_part (waiting.Local n) os pc w v 5 u (record { in_register = lt; below = l; word = v; assigned = q }) (ap (λ x. unwrap_or x 0) q) (omega arith)
       room d
@@ -595,96 +494,50 @@ module _ (z : Setting) where
       (λ t s i. local_part z n v (pc + forms_bytes (flushed os)) w t lt room l q s i)
 
   -- words in registers, and all that waits below is pushed then
-  pub push_under : (b : WorkRegister) (ks : List Waiting) (pc : ℕ) (w : WordState) (v : ℕ) (u : Core) → Stands z.code pc (flushed ks)
-      → InRegister z b ks pc w v u → Runs z.code [] (owed ks) u (Has z b (pc + forms_bytes (flushed ks)) w v)
-  push_under b ks pc w v u h k =
+  pub push_under : {P : (ℕ → ℕ) → Type 0} (ks : List Waiting) (pc : ℕ) (w : WordState) (u : Core) → Stands z.code pc (flushed ks)
+      → With (Describes z ks pc w) P u → Runs z.code [] (owed ks) u (With (StandsFor z (pc + forms_bytes (flushed ks)) w) P)
+  push_under {P} ks pc w u h k =
       let end = pc + forms_bytes (flushed ks) in
-      so_runs z [] (owed ks) u (Waits z [] end w u.work) _
-      (λ t j. record { is = bare z end w t j.is; value = ap (λ (f : ℕ → ℕ). f (work_number b)) j.work ∙ k.value })
-      (flush_under z [] ks pc w u k.is h)
+      so_runs (flush_under z [] ks pc w u k.is h) (λ t j. record { is = bare z end w t j.is; held = subst P (sym j.held) k.held })
 
-  pub push_under_two : (ks : List Waiting) (pc : ℕ) (w : WordState) (x y : ℕ) (u : Core) → Stands z.code pc (flushed ks)
-      → LoadedTwo z ks pc w x y u → Runs z.code [] (owed ks) u (HasTwo z (pc + forms_bytes (flushed ks)) w x y)
-  push_under_two ks pc w x y u h k =
-      let end = pc + forms_bytes (flushed ks) in
-      so_runs z [] (owed ks) u (Waits z [] end w u.work) _
-      (λ t j. record {
-        is = bare z end w t j.is;
-        four = ap (λ (f : ℕ → ℕ). f 4) j.work ∙ k.four;
-        five = ap (λ (f : ℕ → ℕ). f 5) j.work ∙ k.five;
-      })
-      (flush_under z [] ks pc w u k.is h)
+  -- the same behind what brings them there
+  pub gathered : {P : (ℕ → ℕ) → Type 0} {l : ℕ} {w : WordState} {u : Core} (front : List Form) (ks : List Waiting) (pc : ℕ)
+      → Stands z.code pc (front ++ flushed ks) → (Stands z.code pc front → Runs z.code [] l u (With (Describes z ks (pc + forms_bytes front) w) P))
+      → Runs z.code [] (l + owed ks) u (Holds z P (pc + forms_bytes (front ++ flushed ks)) w)
+  gathered {P} {l} {w} {u} front ks pc h come =
+      two_parts z front (flushed ks) pc (λ p. Holds z P p w) h come (λ t s k. push_under ks (pc + forms_bytes front) w t s k)
 
   -- a word that is emitted
-  emit_by : (count buffer : ℕ) (os : List Waiting) (pc : ℕ) (w : WordState) (v : ℕ) (rest : List ℕ) (u : Core) → w.stack ≡ v ∷ rest
-      → Stands z.code pc (step_code [] os (emit_word count buffer)) → Describes z os pc w u
-      → Does [] (pc + forms_bytes (step_code [] os (emit_word count buffer))) (16 + owed os) u (word_emitted count buffer v (with_stack rest w))
-  emit_by count buffer os pc w v rest u e h d =
-      let under = below_top os in
-      let front = top_to_five os in
-      let pushes = flushed (kept under) in
-      let ms = emit_code count buffer in
-      let first = pc + forms_bytes front in
-      let mid = first + forms_bytes pushes in
-      let left = with_stack rest w in
-      let b = word_emitted count buffer v left in
-      let l = clear_cycles under + load_cycles (top_of os) in
-      let there = stands_front z.code pc (front ++ pushes) ms h in
-      let here : pc + forms_bytes (front ++ pushes) ≡ mid = omega (arith, forms_bytes-append front pushes) in
-      let back = subst (λ p. Stands z.code p ms) here (stands_back z.code pc (front ++ pushes) ms h) in
-      let end : mid + 18 ≡ pc + forms_bytes ((front ++ pushes) ++ ms) = omega (arith, here, forms_bytes-append (front ++ pushes) ms) in
-      let come = runs_on z l (owed (kept under)) u (InRegister z R5 (kept under) first left v) (Has z R5 mid left v) [] []
-      (top_to_five_part z os pc w v rest u e (stands_front z.code pc front pushes there) d)
-      (λ t k. push_under R5 (kept under) first left v t (stands_back z.code pc front pushes there) k) in
-      subst (λ p. Does [] p (16 + owed os) u b) end
-      (reach_more z 0 (Describes z [] (mid + 18)) (l + owed (kept under) + 14) (16 + owed os) u b.effects b.end
-      (omega (arith, owed_kept under, load_owed os))
-      (then_reach z 0 (Describes z [] (mid + 18)) (l + owed (kept under)) 14 u (Has z R5 mid left v) [] b.effects b.end come (λ t k.
-      reaches z (Describes z [] (mid + 18)) (mid + 18) 14 t b.effects b.end (dressed z (mid + 18)) (emit_part z count buffer mid v left t back k))))
-
   pub emit_reaches : (count buffer : ℕ) (os : List Waiting) (pc : ℕ) (w : WordState) (vs : List ℕ) (u : Core) → w.stack ≡ vs
-      → Stands z.code pc (step_code [] os (emit_word count buffer)) → Describes z os pc w u
-      → Does [] (pc + forms_bytes (step_code [] os (emit_word count buffer))) (16 + owed os) u
-      (with_top vs (λ v us. word_emitted count buffer v (with_stack us w)))
+      → StepDoes [] os (emit_word count buffer) 16 pc w u (with_top vs (λ v us. word_emitted count buffer v (with_stack us w)))
   emit_reaches count buffer os pc w [] u e h d = tt
-  emit_reaches count buffer os pc w (v ∷ rest) u e h d = emit_by count buffer os pc w v rest u e h d
+  emit_reaches count buffer os pc w (v ∷ rest) u e h d =
+      let under = below_top os in
+      let left = with_stack rest w in
+      let front = top_to_five os ++ flushed (kept under) in
+      let l = clear_cycles under + load_cycles (top_of os) in
+      alone_behind front (emit_code count buffer) 14 (16 + owed os) pc u (word_emitted count buffer v left) (omega (arith, owed_kept under, load_owed os)) h
+      (λ s. gathered (top_to_five os) (kept under) pc s (λ s. top_to_five_part z os pc w v rest u e s d))
+      (λ t s k. emit_part z count buffer (pc + forms_bytes front) v left t s k)
 
   -- a versioned write
   write_by : (b : Bool) (place : ArrayPlace) (list : ListPlace) (os : List Waiting) (pc : ℕ) (w : WordState) (i v : ℕ) (rest : List ℕ) (u : Core)
-      → place.length < 0x10000 → ((a : ℕ) → w.fram a < 0x10000) → (b ≡ true → nat_lt i place.length ≡ true) → i < 0x10000 → v < 0x10000
-      → w.stack ≡ v ∷ (i ∷ rest)
+      → place.length < 0x10000 → HoldsWords w.fram → (b ≡ true → nat_lt i place.length ≡ true) → i < 0x10000 → v < 0x10000 → w.stack ≡ v ∷ (i ∷ rest)
       → (let ms = (two_to_registers os ++ flushed (kept (below_top (below_top os)))) ++ write_code b place list in Stands z.code pc ms → Describes z os pc w u
       → Does [] (pc + forms_bytes ms) (79 + owed os) u (versioned_stored place list i v (with_stack rest w)))
   write_by sure place list os pc w i v rest u small wl is r s e h d =
       let under = below_top os in
       let ks = kept (below_top under) in
-      let front = two_to_registers os in
-      let pushes = flushed ks in
-      let ms = write_code sure place list in
-      let first = pc + forms_bytes front in
-      let mid = first + forms_bytes pushes in
-      let last = mid + forms_bytes ms in
+      let front = two_to_registers os ++ flushed ks in
       let left = with_stack rest w in
-      let b = versioned_stored place list i v left in
       let l = clear_cycles (below_top under) + (load_cycles (top_of os) + load_cycles (top_of under)) in
-      let there = stands_front z.code pc (front ++ pushes) ms h in
-      let here : pc + forms_bytes (front ++ pushes) ≡ mid = omega (arith, forms_bytes-append front pushes) in
-      let back = subst (λ p. Stands z.code p ms) here (stands_back z.code pc (front ++ pushes) ms h) in
-      let end : last ≡ pc + forms_bytes ((front ++ pushes) ++ ms) = omega (arith, here, forms_bytes-append (front ++ pushes) ms) in
-      let come = runs_on z l (owed ks) u (LoadedTwo z ks first left i v) (HasTwo z mid left i v) [] []
-      (two_to_registers_part z os pc w i v rest u e (stands_front z.code pc front pushes there) d)
-      (λ t k. push_under_two ks first left i v t (stands_back z.code pc front pushes there) k) in
-      subst (λ p. Does [] p (79 + owed os) u b) end
-      (reach_more z 0 (Describes z [] last) (l + owed ks + 75) (79 + owed os) u b.effects b.end
-      (omega (arith, owed_kept (below_top under), load_owed os, load_owed under))
-      (then_reach z 0 (Describes z [] last) (l + owed ks) 75 u (HasTwo z mid left i v) [] b.effects b.end come (λ t k.
-      reaches z (Describes z [] last) last 75 t b.effects b.end (dressed z last) (write_part z sure place list mid small back i v left t is wl r s k))))
+      alone_behind front (write_code sure place list) 75 (79 + owed os) pc u (versioned_stored place list i v left)
+      (omega (arith, owed_kept (below_top under), load_owed os, load_owed under)) h (λ q. gathered (two_to_registers os) ks pc q
+      (λ q. two_to_registers_part z os pc w i v rest u e q d)) (λ t q k. write_part z sure place list (pc + forms_bytes front) small q i v left t is wl r s k)
 
   pub write_reaches : (bs : List Bound) (place : ArrayPlace) (list : ListPlace) (os : List Waiting) (pc : ℕ) (w : WordState) (vs : List ℕ) (u : Core)
-      → place.length < 0x10000 → ((a : ℕ) → w.fram a < 0x10000) → Bounded bs w.locals → w.stack ≡ vs → AllByRecursion (λ v. v < 0x10000) vs
-      → Stands z.code pc (step_code bs os (versioned_write place list)) → Describes z os pc w u
-      → Does [] (pc + forms_bytes (step_code bs os (versioned_write place list))) (79 + owed os) u
-      (with_two vs (λ i v us. versioned_stored place list i v (with_stack us w)))
+      → place.length < 0x10000 → HoldsWords w.fram → Bounded bs w.locals → w.stack ≡ vs → AreWords vs
+      → StepDoes bs os (versioned_write place list) 79 pc w u (with_two vs (λ i v us. versioned_stored place list i v (with_stack us w)))
   write_reaches bs place list os pc w [] u s wl lb e l h d = tt
   write_reaches bs place list os pc w (v ∷ []) u s wl lb e l h d = tt
   write_reaches bs place list os pc w (v ∷ (i ∷ rest)) u s wl lb e l h d =
@@ -704,21 +557,11 @@ module _ (z : Setting) where
       (record { at = omega (arith, d.is.at); memory = d.is.memory; fram = d.is.fram; readings = refl }))
 
   pub sense_part : (os : List Waiting) (pc : ℕ) (w : WordState) (rs : List ℕ) (u : Core) → length w.stack < z.room → w.readings ≡ rs
-      → Stands z.code pc (step_code [] os sense) → Describes z os pc w u
-      → Does (waiting_behind os sense) (pc + forms_bytes (step_code [] os sense)) (6 + owed os) u (reading_pushed rs w)
+      → StepDoes [] os sense 6 pc w u (reading_pushed rs w)
   sense_part os pc w rs u room e h d =
-      let front = cleared os in
-      let ms = forms.Sense R4 ∷ [] in
-      let mid = pc + forms_bytes front in
-      let after = waiting.R4 ∷ kept os in
-      let b = reading_pushed rs w in
-      let end : mid + 4 ≡ pc + forms_bytes (front ++ ms) = omega (arith, forms_bytes-append front ms) in
-      let back = stands_back z.code pc front ms h in
-      subst (λ p. Does after p (6 + owed os) u b) end
-      (reach_more z (owed after) (Describes z after (mid + 4)) (clear_cycles os + (6 + owed (kept os))) (6 + owed os) u b.effects b.end
-      (omega (arith, owed_kept os))
-      (then_reach z (owed after) (Describes z after (mid + 4)) (clear_cycles os) (6 + owed (kept os)) u (Waits z (kept os) mid w u.work) [] b.effects b.end
-      (clear_under z [] os pc w u d (stands_front z.code pc front ms h)) (λ t k. by rs t e back k.is)))
+      let mid = pc + forms_bytes (cleared os) in
+      does_behind (cleared os) (forms.Sense R4 ∷ []) (waiting.R4 ∷ kept os) (6 + owed (kept os)) (6 + owed os) pc u (reading_pushed rs w)
+      (omega (arith, owed_kept os)) h (clear_under z [] os pc w u d) (λ t s k. by rs t e s k.is)
     where
       by : (rs : List ℕ) (t : Core) → w.readings ≡ rs → Stands z.code (pc + forms_bytes (cleared os)) (forms.Sense R4 ∷ [])
           → Describes z (kept os) (pc + forms_bytes (cleared os)) w t

@@ -1,24 +1,17 @@
 -- Shifts by a count.
-use Rattle.std.proofs.Common.{◌≡◌, ℕ, zero, suc, ◌+◌, ◌-◌, ◌*◌, ◌/◌, ◌%◌, ◌^◌, ◌<◌, ◌≤◌, ◌==◌, not, List, [], ◌∷◌, ◌++◌, Some, refl, sym, ap, ◌∙◌, subst}
-use Rattle.std.proofs.Common.{arith, Bool, true, false, nat_lt, nat_le, ltb-true, if◌then◌else◌, bit_and}
-use Rattle.std.proofs.lemmas.Bool.Decides.{nat_tests}
-use Rattle.std.proofs.lemmas.Nat.{and_mask, and_le_r, mul-mod_first, pow-add}
+use Rattle.codegen.proofs.Names.{◌≡◌, ℕ, zero, suc, ◌+◌, ◌-◌, ◌*◌, ◌/◌, ◌%◌, ◌^◌, ◌<◌, ◌≤◌, ◌==◌, not, List, [], ◌∷◌, ◌++◌, Some, refl, sym, ap, ◌∙◌, subst}
+use Rattle.codegen.proofs.Names.{arith, Bool, true, false, nat_lt, nat_le, ltb-true, if◌then◌else◌, bit_and, nat_tests, and_mask, mul-mod_first, pow-add, bit}
+use Rattle.codegen.proofs.Names.{arithmetic_shift, R4, Core, Register, Number, Constant, ToRegister, Form, Move, Calculate, Modify, instruction_of, form_bytes}
+use Rattle.codegen.proofs.Names.{Stands, forms_bytes, Runs, stands_front, stands_back, ShiftOperation, Left, Right, SignedRight, shifted_word, shift_word}
+use Rattle.codegen.proofs.Names.{WordState, repeated, right_code, shift_by, shift_middle}
 use Rattle.std.proofs.Math.Nat.{div-div-eq-div-mul}
 use Rattle.std.proofs.lemmas.Grind.{and_high_numeral}
-use Rattle.msp_isa.specs.alp_words.Words.{bit, arithmetic_shift}
 use Rattle.msp_isa.specs.declared.instructions.TwoOp.TheVariants as op
 use Rattle.msp_isa.specs.declared.operands.Konst.TheVariants as konst
 use Rattle.array_versions.specs.msp_step.declared.effect.Modification.TheVariants as change
-use Rattle.code_forms.specs.Forms.{R4, Core, Register, Number, Constant, ToRegister, Form, Move, Calculate, Modify, instruction_of, form_bytes}
-use Rattle.code_forms.specs.Code.{Stands, forms_bytes, forms_run, Runs}
-use Rattle.code_forms.proofs.Interface.{stands_front, stands_back, end_of}
-use Rattle.array_versions.specs.declared.operations.ShiftOperation.{ShiftOperation}
-use Rattle.array_versions.specs.declared.operations.ShiftOperation.TheVariants.{Left, Right, SignedRight}
-use Rattle.array_versions.specs.Operations.{shifted_word, shift_word}
-use Rattle.array_versions.specs.Behaviour.{WordState}
-use Rattle.codegen.specs.Code.{repeated, right_code, shift_by, shift_middle}
+use Rattle.codegen.proofs.Registers.{Has, line}
+use Rattle.codegen.proofs.Products.{no_bits}
 use Rattle.codegen.proofs.Stretches.{Setting, runs_on, dearer, nothing_run}
-use Rattle.codegen.proofs.Registers.{Has, middle}
 
 -- a shift, its count first
 abbrev shift_of : ShiftOperation → ℕ → ℕ → ℕ
@@ -124,58 +117,50 @@ signed_big : (j v : ℕ) → v < 0x10000 → times j half_signed (sign (swap v))
 signed_big j v h = sign_by (nat_le 0x8000 v) j v h refl
 
 module _ (z : Setting) where
-  abbrev HasIn : ℕ → WordState → ℕ → Core → Type 0
-  HasIn pc w v t = Has z R4 pc w v t
-
   abbrev pub Turns : List Form → ℕ → (ℕ → ℕ) → Type 0
-  Turns ms c f = (pc y : ℕ) (w : WordState) (t : Core) → y < 0x10000 → Stands z.code pc ms → HasIn pc w y t
-      → Runs z.code [] c t (HasIn (pc + forms_bytes ms) w (f y))
+  Turns ms c f = (pc y : ℕ) (w : WordState) (t : Core) → y < 0x10000 → Stands z.code pc ms → Has z R4 pc w y t
+      → Runs z.code [] c t (Has z R4 (pc + forms_bytes ms) w (f y))
 
-  repeat_part : (m : Form) (g : ℕ → ℕ) → form_bytes m ≡ 2
-      → ((pc y : ℕ) (w : WordState) (t : Core) → z.code pc ≡ Some (instruction_of m) → HasIn pc w y t → Runs z.code [] 1 t (HasIn (pc + 2) w (g y)))
-      → (k pc y : ℕ) (w : WordState) (t : Core) → Stands z.code pc (repeated k m) → HasIn pc w y t
-      → Runs z.code [] k t (HasIn (pc + forms_bytes (repeated k m)) w (times k g y))
-  repeat_part m g s one zero pc y w t h i = let e : pc ≡ pc + 0 = omega arith in nothing_run z t _ (subst (λ n. HasIn n w y t) e i)
+  repeat_part : (m : Form) (g : ℕ → ℕ) → form_bytes m ≡ 2 → ((pc y : ℕ) (w : WordState) (t : Core) → z.code pc ≡ Some (instruction_of m) → Has z R4 pc w y t
+      → Runs z.code [] 1 t (Has z R4 (pc + 2) w (g y))) → (k pc y : ℕ) (w : WordState) (t : Core) → Stands z.code pc (repeated k m) → Has z R4 pc w y t
+      → Runs z.code [] k t (Has z R4 (pc + forms_bytes (repeated k m)) w (times k g y))
+  repeat_part m g s one zero pc y w t h i = let e : pc ≡ pc + 0 = omega arith in nothing_run z (subst (λ n. Has z R4 n w y t) e i)
   repeat_part m g s one (suc k) pc y w t h i =
       let e : pc + 2 + forms_bytes (repeated k m) ≡ pc + (form_bytes m + forms_bytes (repeated k m)) = omega (arith, s) in
       let q : 1 + k ≤ suc k = omega arith in
       let h' : Stands z.code (pc + 2) (repeated k m) = subst (λ n. Stands z.code (pc + n) (repeated k m)) s h.1 in
-      dearer z [] (1 + k) (suc k) t _ q
-      (subst (λ n. Runs z.code [] (1 + k) t (HasIn n w (times k g (g y)))) e
-      (runs_on z 1 k t _ _ [] [] (one pc y w t h.0 i) (λ v j. repeat_part m g s one k (pc + 2) (g y) w v h' j)))
+      dearer z q (subst (λ n. Runs z.code [] (1 + k) t (Has z R4 n w (times k g (g y)))) e
+      (runs_on z (one pc y w t h.0 i) (λ v j. repeat_part m g s one k (pc + 2) (g y) w v h' j)))
 
-  double_step : (pc y : ℕ) (w : WordState) (t : Core) → z.code pc ≡ Some (instruction_of (Calculate op.Add (Register R4) R4)) → HasIn pc w y t
-      → Runs z.code [] 1 t (HasIn (pc + 2) w (double y))
+  double_step : (pc y : ℕ) (w : WordState) (t : Core) → z.code pc ≡ Some (instruction_of (Calculate op.Add (Register R4) R4)) → Has z R4 pc w y t
+      → Runs z.code [] 1 t (Has z R4 (pc + 2) w (double y))
   double_step pc y w t h i =
       let ms = Calculate op.Add (Register R4) R4 ∷ [] in
-      middle z ms 1 pc (pc + 2) (double y) R4 w t (end_of t (forms_run ms t).status) i.is (tt, tt) (h, tt) ((tt, tt), tt) refl (omega (arith, i.is.at)) refl
-      refl refl refl refl (ap (λ v. (v + v + 0) % 0x10000) i.value ∙ omega arith)
+      line z ms 1 (pc + 2) _ i.is (tt, tt) (h, tt) ((tt, tt), tt) refl refl (omega (arith, i.is.at))
+      (λ s. record { is = s; held = ap (λ v. (v + v + 0) % 0x10000) i.held ∙ omega arith })
 
-  halve_step : (pc y : ℕ) (w : WordState) (t : Core) → z.code pc ≡ Some (instruction_of (Modify change.Rra R4)) → HasIn pc w y t
-      → Runs z.code [] 1 t (HasIn (pc + 2) w (half_signed y))
+  halve_step : (pc y : ℕ) (w : WordState) (t : Core) → z.code pc ≡ Some (instruction_of (Modify change.Rra R4)) → Has z R4 pc w y t
+      → Runs z.code [] 1 t (Has z R4 (pc + 2) w (half_signed y))
   halve_step pc y w t h i =
       let ms = Modify change.Rra R4 ∷ [] in
-      middle z ms 1 pc (pc + 2) (half_signed y) R4 w t (end_of t (forms_run ms t).status) i.is (tt, tt) (h, tt) (tt, tt) refl (omega (arith, i.is.at)) refl refl
-      refl refl refl (ap half_signed i.value)
+      line z ms 1 (pc + 2) _ i.is (tt, tt) (h, tt) (tt, tt) refl refl (omega (arith, i.is.at)) (λ s. record { is = s; held = ap half_signed i.held })
 
-  doubles : (k pc y : ℕ) (w : WordState) (t : Core) → Stands z.code pc (repeated k (Calculate op.Add (Register R4) R4)) → HasIn pc w y t
-      → Runs z.code [] k t (HasIn (pc + forms_bytes (repeated k (Calculate op.Add (Register R4) R4))) w (times k double y))
+  doubles : (k pc y : ℕ) (w : WordState) (t : Core) → Stands z.code pc (repeated k (Calculate op.Add (Register R4) R4)) → Has z R4 pc w y t
+      → Runs z.code [] k t (Has z R4 (pc + forms_bytes (repeated k (Calculate op.Add (Register R4) R4))) w (times k double y))
   doubles = repeat_part (Calculate op.Add (Register R4) R4) double refl double_step
 
-  halves : (k pc y : ℕ) (w : WordState) (t : Core) → Stands z.code pc (repeated k (Modify change.Rra R4)) → HasIn pc w y t
-      → Runs z.code [] k t (HasIn (pc + forms_bytes (repeated k (Modify change.Rra R4))) w (times k half_signed y))
+  halves : (k pc y : ℕ) (w : WordState) (t : Core) → Stands z.code pc (repeated k (Modify change.Rra R4)) → Has z R4 pc w y t
+      → Runs z.code [] k t (Has z R4 (pc + forms_bytes (repeated k (Modify change.Rra R4))) w (times k half_signed y))
   halves = repeat_part (Modify change.Rra R4) half_signed refl halve_step
 
   -- two instructions, of so many bytes, and then as many turns as are left
   big : (ms more : List Form) (c k : ℕ) (g f : ℕ → ℕ) → c + k ≤ 10 → Turns ms c g
-      → ((pc y : ℕ) (w : WordState) (t : Core) → Stands z.code pc more → HasIn pc w y t → Runs z.code [] k t (HasIn (pc + forms_bytes more) w (f y)))
+      → ((pc y : ℕ) (w : WordState) (t : Core) → Stands z.code pc more → Has z R4 pc w y t → Runs z.code [] k t (Has z R4 (pc + forms_bytes more) w (f y)))
       → (all : List Form) → all ≡ ms ++ more → forms_bytes ms + forms_bytes more ≡ forms_bytes all → Turns all 10 (λ y. f (g y))
   big ms more c k g f l a b all e q pc y w t s h i =
       let h' = subst (Stands z.code pc) e h in
       let p : pc + forms_bytes ms + forms_bytes more ≡ pc + forms_bytes all = omega (arith, q) in
-      dearer z [] (c + k) 10 t _ l
-      (subst (λ n. Runs z.code [] (c + k) t (HasIn n w (f (g y)))) p
-      (runs_on z c k t _ _ [] [] (a pc y w t s (stands_front z.code pc ms more h') i)
+      dearer z l (subst (λ n. Runs z.code [] (c + k) t (Has z R4 n w (f (g y)))) p (runs_on z (a pc y w t s (stands_front z.code pc ms more h') i)
       (λ v j. b (pc + forms_bytes ms) (g y) w v (stands_back z.code pc ms more h') j)))
 
   abbrev up_head : List Form
@@ -191,26 +176,27 @@ module _ (z : Setting) where
   one_down = Calculate op.Bit (Constant konst.Zero) R4 ∷ Modify change.Rrc R4 ∷ []
 
   up_first : Turns up_head 3 (λ v. (v * 256) % 0x10000)
-  up_first pc y w t s h i = middle z up_head 3 pc (pc + 6) _ R4 w t (end_of t (forms_run up_head t).status) i.is (tt, (tt, tt)) h (tt, ((tt, tt), tt)) refl
-      (omega (arith, i.is.at)) refl refl refl refl refl (ap (λ v. bit_and (swap v) 0xFF00) i.value ∙ high_byte y s)
+  up_first pc y w t s h i =
+      line z up_head 3 (pc + 6) _ i.is (tt, (tt, tt)) h (tt, ((tt, tt), tt)) refl refl (omega (arith, i.is.at))
+      (λ u. record { is = u; held = ap (λ v. bit_and (swap v) 0xFF00) i.held ∙ high_byte y s })
 
   down_first : Turns down_head 3 (λ v. v / 256)
-  down_first pc y w t s h i = middle z down_head 3 pc (pc + 6) _ R4 w t (end_of t (forms_run down_head t).status) i.is (tt, (tt, tt)) h (tt, ((tt, tt), tt))
-      refl (omega (arith, i.is.at)) refl refl refl refl refl (ap (λ v. bit_and (swap v) 0xFF) i.value ∙ low_byte y s)
+  down_first pc y w t s h i =
+      line z down_head 3 (pc + 6) _ i.is (tt, (tt, tt)) h (tt, ((tt, tt), tt)) refl refl (omega (arith, i.is.at))
+      (λ u. record { is = u; held = ap (λ v. bit_and (swap v) 0xFF) i.held ∙ low_byte y s })
 
   sign_first : Turns sign_head 2 (λ v. sign (swap v))
-  sign_first pc y w t s h i = middle z sign_head 2 pc (pc + 4) _ R4 w t (end_of t (forms_run sign_head t).status) i.is (tt, (tt, tt)) h (tt, (tt, tt)) refl
-      (omega (arith, i.is.at)) refl refl refl refl refl (ap (λ v. sign (swap v)) i.value)
-
-  no_bits : (v : ℕ) → v / 2 + 0x8000 * bit (not (bit_and v 0 == 0)) ≡ v / 2
-  no_bits v = let e : bit_and v 0 ≡ 0 = let l = and_le_r v 0 in omega arith in ap (λ n. v / 2 + 0x8000 * bit (not (n == 0))) e ∙ omega arith
+  sign_first pc y w t s h i =
+      line z sign_head 2 (pc + 4) _ i.is (tt, (tt, tt)) h (tt, (tt, tt)) refl refl (omega (arith, i.is.at))
+      (λ u. record { is = u; held = ap (λ v. sign (swap v)) i.held })
 
   one_first : Turns one_down 2 (λ v. v / 2)
-  one_first pc y w t s h i = middle z one_down 2 pc (pc + 4) _ R4 w t (end_of t (forms_run one_down t).status) i.is (tt, (tt, tt)) h ((tt, tt), (tt, tt))
-      refl (omega (arith, i.is.at)) refl refl refl refl refl (ap (λ v. v / 2 + 0x8000 * bit (not (bit_and v 0 == 0))) i.value ∙ no_bits y)
+  one_first pc y w t s h i =
+      line z one_down 2 (pc + 4) _ i.is (tt, (tt, tt)) h ((tt, tt), (tt, tt)) refl refl (omega (arith, i.is.at))
+      (λ u. record { is = u; held = ap (λ v. v / 2 + 0x8000 * bit (not (bit_and v 0 == 0))) i.held ∙ no_bits y })
 
   as_value : (ms : List Form) (f g : ℕ → ℕ) → ((y : ℕ) → y < 0x10000 → f y ≡ g y) → Turns ms 10 f → Turns ms 10 g
-  as_value ms f g e a pc y w t s h i = subst (λ v. Runs z.code [] 10 t (HasIn (pc + forms_bytes ms) w v)) (e y s) (a pc y w t s h i)
+  as_value ms f g e a pc y w t s h i = subst (λ v. Runs z.code [] 10 t (Has z R4 (pc + forms_bytes ms) w v)) (e y s) (a pc y w t s h i)
 
   by_eight : (b : Bool) (k : ℕ) → nat_lt k 8 ≡ b → k < 16 → (small big : List Form) (f : ℕ → ℕ) → (k < 8 → Turns small 10 f)
       → ((j : ℕ) → k ≡ 8 + j → j < 8 → Turns big 10 f) → Turns (if b then small else big) 10 f
@@ -219,15 +205,15 @@ module _ (z : Setting) where
 
   down_smalls : (k : ℕ) → k < 8 → Turns (right_code k) 10 (λ v. v / 2 ^ k)
   down_smalls zero l = as_value [] (λ v. v) (λ v. v / 2 ^ zero) (λ y h. omega arith) (λ pc y w t s h i. let e : pc ≡ pc + 0 = omega arith in
-      dearer z [] 0 10 t _ (omega arith) (nothing_run z t _ (subst (λ n. HasIn n w y t) e i)))
+      dearer z (omega arith) (nothing_run z (subst (λ n. Has z R4 n w y t) e i)))
   down_smalls (suc k) l =
       as_value (right_code (suc k)) (λ v. times k half_signed (v / 2)) (λ v. v / 2 ^ suc k) (λ y h. halved_plain k (y / 2) (omega arith) ∙ halved_twice k y)
       (big one_down (repeated k (Modify change.Rra R4)) 2 k (λ v. v / 2) (times k half_signed) (omega arith) one_first (halves k) _ refl (omega arith))
 
   shift_turns : (d : ShiftOperation) (k : ℕ) → k < 16 → Turns (shift_by d k) 10 (shift_of d k)
   shift_turns Left k l = by_eight (nat_lt k 8) k refl l _ _ (shift_of Left k)
-      (λ s pc y w t a h i. dearer z [] k 10 t _ (omega arith)
-      (subst (λ v. Runs z.code [] k t (HasIn (pc + forms_bytes (repeated k (Calculate op.Add (Register R4) R4))) w v)) (doubled k y a)
+      (λ s pc y w t a h i. dearer z (omega arith)
+      (subst (λ v. Runs z.code [] k t (Has z R4 (pc + forms_bytes (repeated k (Calculate op.Add (Register R4) R4))) w v)) (doubled k y a)
       (doubles k pc y w t h i)))
       (λ j e s. as_value (up_head ++ repeated (k - 8) (Calculate op.Add (Register R4) R4)) _ _
       (λ y h. let q : k - 8 ≡ j = omega arith in ap (λ n. times n double ((y * 256) % 0x10000)) q ∙ raised_big j y h
@@ -240,8 +226,8 @@ module _ (z : Setting) where
       (big down_head (repeated (k - 8) (Modify change.Rra R4)) 3 (k - 8) (λ v. v / 256) (times (k - 8) half_signed) (omega arith) down_first (halves (k - 8))
       _ refl (omega arith)))
   shift_turns SignedRight k l = by_eight (nat_lt k 8) k refl l _ _ (shift_of SignedRight k)
-      (λ s pc y w t a h i. dearer z [] k 10 t _ (omega arith)
-      (subst (λ v. Runs z.code [] k t (HasIn (pc + forms_bytes (repeated k (Modify change.Rra R4))) w v)) (halved_signed k y a) (halves k pc y w t h i)))
+      (λ s pc y w t a h i. dearer z (omega arith)
+      (subst (λ v. Runs z.code [] k t (Has z R4 (pc + forms_bytes (repeated k (Modify change.Rra R4))) w v)) (halved_signed k y a) (halves k pc y w t h i)))
       (λ j e s. as_value (sign_head ++ repeated (k - 8) (Modify change.Rra R4)) _ _ (λ y h. let q : k - 8 ≡ j = omega arith in
       ap (λ n. times n half_signed (sign (swap y))) q ∙ signed_big j y h ∙ ap (λ n. arithmetic_shift y n) (sym e))
       (big sign_head (repeated (k - 8) (Modify change.Rra R4)) 2 (k - 8) (λ v. sign (swap v)) (times (k - 8) half_signed) (omega arith) sign_first
@@ -253,8 +239,8 @@ module _ (z : Setting) where
   middle_turns true d k e pc y w t s h i = let l : k < 16 = grind (arith, nat_tests) in shift_turns d k l pc y w t s h i
   middle_turns false d k e pc y w t s h i =
       let ms = Move (Constant konst.Zero) (ToRegister R4) ∷ [] in
-      dearer z [] 1 10 t _ (omega arith) (middle z ms 1 pc (pc + 2) 0 R4 w t (end_of t (forms_run ms t).status) i.is (tt, tt) h ((tt, tt), tt) refl
-      (omega (arith, i.is.at)) refl refl refl refl refl refl)
+      dearer z (omega arith)
+      (line z ms 1 (pc + 2) (Has z R4 (pc + 2) w 0) i.is (tt, tt) h ((tt, tt), tt) refl refl (omega (arith, i.is.at)) (λ u. record { is = u; held = refl }))
 
   pub shift_part : (d : ShiftOperation) (k : ℕ) → Turns (shift_middle d k) 10 (λ v. shift_word d v k)
   shift_part d k = middle_turns (nat_le k 15) d k refl

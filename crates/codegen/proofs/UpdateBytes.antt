@@ -1,14 +1,8 @@
 -- How long the code of an element is that is updated in place.
-use Rattle.std.proofs.Common.{◌≡◌, ℕ, ◌+◌, ◌*◌, ◌≤◌, List, [], ◌∷◌, ◌++◌, arith}
-use Rattle.msp_isa.specs.alp_words.Words.{word_sum}
+use Rattle.codegen.proofs.Names.{◌≡◌, ℕ, ◌+◌, ◌*◌, ◌≤◌, List, [], ◌∷◌, ◌++◌, arith, word_sum, R4, R7, Source, source_bytes, Number, ToRegister, Form, Move}
+use Rattle.codegen.proofs.Names.{Calculate, Update, Jump, forms_bytes, forms_bytes-append, form_small, PlainOperation, ArrayPlace, ListPlace, plain_instruction}
+use Rattle.codegen.proofs.Names.{size, made_code, first_update, by_version, inside_update, checked_update, known_update}
 use Rattle.msp_isa.specs.declared.instructions.Condition.TheVariants as condition
-use Rattle.code_forms.specs.Forms.{R4, R7, Source, source_bytes, Number, ToRegister, Form, Move, Calculate, Update, Jump}
-use Rattle.code_forms.specs.Code.{forms_bytes}
-use Rattle.code_forms.proofs.Interface.{forms_bytes-append, form_small}
-use Rattle.array_versions.specs.declared.operations.PlainOperation.{PlainOperation}
-use Rattle.array_versions.specs.declared.program.ArrayPlace.{ArrayPlace}
-use Rattle.array_versions.specs.declared.program.ListPlace.{ListPlace}
-use Rattle.codegen.specs.Code.{plain_instruction, size, made_code, first_update, by_version, inside_update, checked_update, known_update}
 use Rattle.codegen.proofs.Jumps.{whole_size}
 
 -- a source has at most two words

@@ -1,12 +1,7 @@
 -- Code of updates that is appended piece by piece.
-use Rattle.std.proofs.Common.{◌≡◌, ℕ, ◌+◌, ◌≤◌, List, [], ◌∷◌, ◌++◌, length, sym, ap, ap₂, ◌∙◌, arith, append_assoc}
+use Rattle.codegen.proofs.Names.{◌≡◌, ℕ, ◌+◌, ◌≤◌, List, [], ◌∷◌, ◌++◌, length, sym, ap, ap₂, ◌∙◌, arith, append_assoc, Instr, Form, Jump, instruction_of}
+use Rattle.codegen.proofs.Names.{forms_bytes, instructions, instruction_words, forms_bytes-append, instructions-append, size, by_version}
 use Rattle.msp_isa.specs.declared.instructions.Condition.TheVariants as condition
-use Rattle.msp_isa.specs.declared.instructions.Instr.{Instr}
-use Rattle.code_forms.specs.Forms.{Form, Jump, instruction_of}
-use Rattle.code_forms.specs.Code.{forms_bytes}
-use Rattle.code_forms.specs.Placed.{instructions, words_of as instruction_words}
-use Rattle.code_forms.proofs.Interface.{forms_bytes-append, instructions-append}
-use Rattle.codegen.specs.Code.{size, by_version}
 use Rattle.codegen.proofs.Jumps.{whole_size}
 use Rattle.codegen.proofs.Emitted.{own_words}
 
@@ -31,7 +26,3 @@ two_ways xs ys again first e f =
     ∙ append_assoc (instructions again) (over (size first) ∷ []) (instructions first) in
     ap (λ n. from n ∷ (xs ++ (over (length (instruction_words ys)) ∷ ys))) here ∙ ap (λ n. from (size next) ∷ (xs ++ (over n ∷ ys))) there
     ∙ ap₂ (λ a b. from (size next) ∷ (a ++ (over (size first) ∷ b))) e f ∙ ap (λ l. from (size next) ∷ l) (sym split)
-
--- four pieces, each behind what is there
-pub four_behind : (l a b c d : List Instr) → (((l ++ a) ++ b) ++ c) ++ d ≡ l ++ (a ++ (b ++ (c ++ d)))
-four_behind l a b c d = append_assoc ((l ++ a) ++ b) c d ∙ append_assoc (l ++ a) b (c ++ d) ∙ append_assoc l a (b ++ (c ++ d))

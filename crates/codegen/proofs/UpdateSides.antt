@@ -1,20 +1,15 @@
 -- The right side of an update of an element: it is read where it waits, whatever is in the registers for work.
-use Rattle.std.proofs.Common.{◌≡◌, ℕ, ◌+◌, ◌≤◌, Bool, true, false, not, if◌then◌else◌, List, [], ◌∷◌, ◌++◌, Option, Some, None, refl, sym, ap, ◌∙◌}
-use Rattle.std.proofs.Common.{subst, arith}
-use Rattle.array_versions.specs.machine_effects.msp_cycles.Cycles.{source_cycles, to_register, to_memory}
-use Rattle.code_forms.specs.Forms.{R4, R5, Core, Source, Register, source_operand, source_value, source_read, SourceNeeds, Form}
-use Rattle.code_forms.specs.Code.{Stands, forms_bytes, Runs}
-use Rattle.code_forms.proofs.Interface.{stands_front, stands_back, forms_bytes-append}
-use Rattle.array_versions.specs.Behaviour.{WordState, with_stack}
-use Rattle.codegen.specs.declared.waiting.Waiting.{Waiting}
+use Rattle.codegen.proofs.Names.{◌≡◌, ℕ, ◌+◌, ◌≤◌, Bool, true, false, not, if◌then◌else◌, List, [], ◌∷◌, ◌++◌, Option, Some, None, refl, sym, ap, ◌∙◌, subst}
+use Rattle.codegen.proofs.Names.{arith, source_cycles, to_register, to_memory, R5, Core, Source, Register, source_operand, source_value, source_read}
+use Rattle.codegen.proofs.Names.{SourceNeeds, Form, Stands, forms_bytes, Runs, WordState, with_stack, Waiting, waiting_source, flushed, top_of, source_from}
+use Rattle.codegen.proofs.Names.{below_top, is_held, any_held, four_from, five_from, rests, rest_source, to_rest, right_to_rest, update_sides}
 use Rattle.codegen.specs.declared.waiting.Waiting.TheVariants as waiting
-use Rattle.codegen.specs.Code.{waiting_source, flushed, top_of, source_from, below_top, is_held, any_held, four_from, five_from, rests, rest_source, to_rest}
-use Rattle.codegen.specs.Code.{right_to_rest, update_sides}
-use Rattle.codegen.proofs.Stretches.{Setting, runs_on, dearer, nothing_run, so_runs}
+use Rattle.codegen.proofs.Stretches.{two_parts, Setting, dearer, nothing_run, so_runs}
+use Rattle.codegen.proofs.Registers.{With}
+use Rattle.codegen.proofs.Operands.{IsThere, owed, owed_least, load_cycles, load_price, load_owed, store_price, number_cases, source_still, source_needs}
+use Rattle.codegen.proofs.Operands.{source_word, Describes, bare, flush_under, drop_part, five_part, four_part}
 use Rattle.codegen.proofs.Memory.{local_words, local_word, in_register}
 use Rattle.codegen.proofs.Follows.{StandsFor}
-use Rattle.codegen.proofs.Operands.{IsThere, owed, owed_least, load_cycles, load_price, load_owed, store_price, number_cases, source_still, source_needs}
-use Rattle.codegen.proofs.Operands.{source_word, Describes, Waits, Loaded, bare, flush_under, drop_part, five_part, four_part}
 
 -- a source that gives this word on each machine with this FRAM, this word in R5 and these locals in registers
 pub record Gives (x : Source) (v : ℕ) (f : ℕ → ℕ) (five : ℕ) (locals : List ℕ) : Type 0 where
@@ -22,12 +17,17 @@ pub record Gives (x : Source) (v : ℕ) (f : ℕ → ℕ) (five : ℕ) (locals :
   pub needs : (s : Core) → SourceNeeds x s
   pub still : (s : Core) → source_read x s ≡ s
 
--- as they are on this machine
-abbrev pub GivesOn : Source → ℕ → Core → Type 0
-GivesOn x v t = Gives x v t.fram (t.work 5) (local_words t.work)
+-- as registers hold them
+abbrev pub GivesOn : Source → ℕ → (ℕ → ℕ) → (ℕ → ℕ) → Type 0
+GivesOn x v f g = Gives x v f (g 5) (local_words g)
 
-five_gives : (v : ℕ) (t : Core) → t.work 5 ≡ v → GivesOn (Register R5) v t
-five_gives v t e = record { word = λ s f g l. g ∙ e; needs = λ s. tt; still = λ s. refl }
+-- R4 holds a word, and a source gives another
+pub record Aiming (x : Source) (k v : ℕ) (f g : ℕ → ℕ) : Type 0 where
+  pub four : g 4 ≡ k
+  pub gives : GivesOn x v f g
+
+five_gives : (v : ℕ) (f g : ℕ → ℕ) → g 5 ≡ v → GivesOn (Register R5) v f g
+five_gives v f g e = record { word = λ s a b l. b ∙ e; needs = λ s. tt; still = λ s. refl }
 
 -- a word that waits in no register for work is the same where FRAM and the locals are
 word_rests : (most : ℕ) (locals : ℕ → Option ℕ) (o : Waiting) (s t : Core) → is_held o ≡ false → IsThere most locals o → s.fram ≡ t.fram
@@ -39,19 +39,18 @@ word_rests most locals (waiting.Local n) s t b h f l =
 word_rests most locals waiting.R4 s t b h f l = absurd (let q = b in (cc))
 word_rests most locals waiting.R6 s t b h f l = absurd (let q = b in (cc))
 
-waiting_gives : (most : ℕ) (locals : ℕ → Option ℕ) (o : Waiting) (v : ℕ) (t : Core) → is_held o ≡ false → IsThere most locals o
-    → source_value (waiting_source o) t ≡ v → GivesOn (waiting_source o) v t
-waiting_gives most locals o v t b h e =
+waiting_gives : (most : ℕ) (locals : ℕ → Option ℕ) (o : Waiting) (v : ℕ) (f : ℕ → ℕ) (t : Core) → is_held o ≡ false → IsThere most locals o
+    → t.fram ≡ f → source_value (waiting_source o) t ≡ v → GivesOn (waiting_source o) v f t.work
+waiting_gives most locals o v f t b h e q =
     record {
-      word = λ s f g l. word_rests most locals o s t b h f l ∙ e;
+      word = λ s a c l. word_rests most locals o s t b h (a ∙ sym e) l ∙ q;
       needs = λ s. source_needs most locals o s h;
       still = λ s. source_still o s;
     }
 
--- another machine, where these are the same
-pub gives_on : (x : Source) (v : ℕ) (u t : Core) → GivesOn x v u → t.fram ≡ u.fram → t.work 5 ≡ u.work 5 → local_words t.work ≡ local_words u.work
-    → GivesOn x v t
-gives_on x v u t k f g l = record { word = λ s a b c. k.word s (a ∙ f) (b ∙ g) (c ∙ l); needs = k.needs; still = k.still }
+-- with other registers, where these are the same
+gives_on : (x : Source) (v : ℕ) (f g h : ℕ → ℕ) → GivesOn x v f g → h 5 ≡ g 5 → local_words h ≡ local_words g → GivesOn x v f h
+gives_on x v f g h k e l = record { word = λ s a b c. k.word s a (b ∙ e) (c ∙ l); needs = k.needs; still = k.still }
 
 -- where but R4 is the same, the locals in registers are
 locals_same : (f g : ℕ → ℕ) → ((n : ℕ) → (n ≡ 4 → ⊥) → f n ≡ g n) → local_words f ≡ local_words g
@@ -104,15 +103,12 @@ rest_owed os = rest_by_owed (rests (top_of os)) os refl
 
 module _ (z : Setting) where
   -- a source gives a word, and these words wait still
-  pub record Rested (x : Source) (os : List Waiting) (pc : ℕ) (w : WordState) (v : ℕ) (t : Core) : Type 0 where
-    pub is : Describes z os pc w t
-    pub gives : GivesOn x v t
+  abbrev pub Rested : Source → List Waiting → ℕ → WordState → ℕ → Core → Type 0
+  Rested x os pc w v = With (Describes z os pc w) (GivesOn x v w.fram)
 
   -- R4 holds a word, a source gives another, and none waits
-  pub record Aims (x : Source) (pc : ℕ) (w : WordState) (k v : ℕ) (t : Core) : Type 0 where
-    pub is : StandsFor z pc w t
-    pub four : t.work 4 ≡ k
-    pub gives : GivesOn x v t
+  abbrev pub Aims : Source → ℕ → WordState → ℕ → ℕ → Core → Type 0
+  Aims x pc w k v = With (StandsFor z pc w) (Aiming x k v w.fram)
 
   rest_by : (b : Bool) (os : List Waiting) (pc : ℕ) (w : WordState) (v : ℕ) (vs : List ℕ) (u : Core) → rests (top_of os) ≡ b → w.stack ≡ v ∷ vs
       → (let ms : List Form = if b then [] else five_from (top_of os) in
@@ -122,14 +118,14 @@ module _ (z : Setting) where
   rest_by true (o ∷ os) pc w v vs u b e h d =
       let k = drop_part z o os pc w v vs u e d in
       let same : pc ≡ pc + 0 = omega arith in
-      nothing_run z u _ (record {
+      nothing_run z (record {
         is = subst (λ n. Describes z os n (with_stack vs w) u) same k.0;
-        gives = waiting_gives z.locals w.locals o v u (not_true (is_held o) b) d.there.0 (source_word z o pc (with_stack d.rest w) u d.is d.there.0 ∙ k.1);
+        held = waiting_gives z.locals w.locals o v w.fram u (not_true (is_held o) b) d.there.0 d.is.fram
+            (source_word z o pc (with_stack d.rest w) u d.is d.there.0 ∙ k.1);
       })
   rest_by false os pc w v vs u b e h d =
       let end = pc + forms_bytes (five_from (top_of os)) in
-      so_runs z [] (load_cycles (top_of os)) u (Loaded z R5 (below_top os) end (with_stack vs w) v u.work) _
-      (λ t j. record { is = j.is; gives = five_gives v t j.value }) (five_part z os pc w v vs u e h d)
+      so_runs (five_part z os pc w v vs u e h d) (λ t j. record { is = j.is; held = five_gives v w.fram t.work j.held.value })
 
   -- the right side to where it is read
   rest_part : (os : List Waiting) (pc : ℕ) (w : WordState) (v : ℕ) (vs : List ℕ) (u : Core) → w.stack ≡ v ∷ vs → Stands z.code pc (to_rest (top_of os))
@@ -149,19 +145,16 @@ module _ (z : Setting) where
       let x = rest_source (top_of os) in
       let left = with_stack (i ∷ vs) w in
       let last = with_stack vs w in
-      let end : mid + forms_bytes second ≡ pc + forms_bytes (first ++ second) = omega (arith, forms_bytes-append first second) in
-      runs_on z (rest_cycles (top_of os)) (load_cycles (top_of under)) u (Rested x under mid left v) _ [] []
-      (rest_part os pc w v (i ∷ vs) u e (stands_front z.code pc first second h) d) (λ t k.
-      so_runs z [] (load_cycles (top_of under)) t (Loaded z R4 (below_top under) (mid + forms_bytes second) last i t.work) _
-      (λ s j.
-      let there = subst (λ n. Describes z (below_top under) n last s) end j.is in
-      let here = bare z (pc + forms_bytes (first ++ second)) last s (subst (λ ws. Describes z ws (pc + forms_bytes (first ++ second)) last s) none there) in
-      record {
-        is = here;
-        four = j.value;
-        gives = gives_on x v t s k.gives (here.fram ∙ sym k.is.is.fram) (j.others 5 (λ q. omega (arith, q))) (locals_same s.work t.work j.others);
-      })
-      (four_part z under mid left i vs t refl (ap any_held none) (stands_back z.code pc first second h) k.is))
+      two_parts z first second pc (λ n. Aims x n last i v) h
+      (λ s. rest_part os pc w v (i ∷ vs) u e s d) (λ t s k.
+      so_runs (four_part z under mid left i vs t refl (ap any_held none) s k.is) (λ q j. record {
+        is = bare z (mid + forms_bytes second) last q (subst (λ ws. Describes z ws (mid + forms_bytes second) last q) none j.is);
+        held =
+            record {
+              four = j.held.value;
+              gives = gives_on x v w.fram t.work q.work k.held (j.held.others 5 (λ n. omega (arith, n))) (locals_same q.work t.work j.held.others);
+            };
+      }))
 
   -- the same, all words below the two being pushed
   pub update_sides_part : (os : List Waiting) (pc : ℕ) (w : WordState) (i v : ℕ) (vs : List ℕ) (u : Core) → w.stack ≡ v ∷ (i ∷ vs)
@@ -170,16 +163,11 @@ module _ (z : Setting) where
       (Aims (rest_source (top_of os)) (pc + forms_bytes (update_sides os)) (with_stack vs w) i v))
   update_sides_part [] pc w i v vs u e h d = sides_run [] pc w i v vs u refl e h d
   update_sides_part (o ∷ []) pc w i v vs u e h d =
-      dearer z [] (rest_cycles (Some o) + 2) (0 + (rest_cycles (Some o) + 2)) u _ (omega arith) (sides_run (o ∷ []) pc w i v vs u refl e h d)
+      dearer z (omega arith) (sides_run (o ∷ []) pc w i v vs u refl e h d)
   update_sides_part (o ∷ (p ∷ os)) pc w i v vs u e h d =
-      let front = flushed os in
-      let more = to_rest (Some o) ++ four_from (Some p) in
-      let mid = pc + forms_bytes front in
-      let end : mid + forms_bytes more ≡ pc + forms_bytes (front ++ more) = omega (arith, forms_bytes-append front more) in
-      subst (λ n. Runs z.code [] (owed os + (rest_cycles (Some o) + 3)) u (Aims (rest_source (Some o)) n (with_stack vs w) i v)) end
-      (runs_on z (owed os) (rest_cycles (Some o) + 3) u (Waits z (o ∷ (p ∷ [])) mid w u.work) _ [] []
-      (flush_under z (o ∷ (p ∷ [])) os pc w u d (stands_front z.code pc front more h)) (λ t k.
-      sides_run (o ∷ (p ∷ [])) mid w i v vs t refl e (stands_back z.code pc front more h) k.is))
+      let mid = pc + forms_bytes (flushed os) in
+      two_parts z (flushed os) (to_rest (Some o) ++ four_from (Some p)) pc (λ n. Aims (rest_source (Some o)) n (with_stack vs w) i v) h
+      (flush_under z (o ∷ (p ∷ [])) os pc w u d) (λ t s k. sides_run (o ∷ (p ∷ [])) mid w i v vs t refl e s k.is)
 
   -- the same without the index
   pub right_part : (o p : Waiting) (os : List Waiting) (pc : ℕ) (w : WordState) (v : ℕ) (vs : List ℕ) (u : Core) → w.stack ≡ v ∷ vs
@@ -187,11 +175,6 @@ module _ (z : Setting) where
       → Runs z.code [] (owed os + rest_cycles (Some o)) u
       (Rested (rest_source (Some o)) (p ∷ []) (pc + forms_bytes (right_to_rest (o ∷ (p ∷ os)))) (with_stack vs w) v)
   right_part o p os pc w v vs u e h d =
-      let front = flushed os in
-      let more = to_rest (Some o) in
-      let mid = pc + forms_bytes front in
-      let end : mid + forms_bytes more ≡ pc + forms_bytes (front ++ more) = omega (arith, forms_bytes-append front more) in
-      subst (λ n. Runs z.code [] (owed os + rest_cycles (Some o)) u (Rested (rest_source (Some o)) (p ∷ []) n (with_stack vs w) v)) end
-      (runs_on z (owed os) (rest_cycles (Some o)) u (Waits z (o ∷ (p ∷ [])) mid w u.work) _ [] []
-      (flush_under z (o ∷ (p ∷ [])) os pc w u d (stands_front z.code pc front more h)) (λ t k.
-      rest_part (o ∷ (p ∷ [])) mid w v vs t e (stands_back z.code pc front more h) k.is))
+      let mid = pc + forms_bytes (flushed os) in
+      two_parts z (flushed os) (to_rest (Some o)) pc (λ n. Rested (rest_source (Some o)) (p ∷ []) n (with_stack vs w) v) h
+      (flush_under z (o ∷ (p ∷ [])) os pc w u d) (λ t s k. rest_part (o ∷ (p ∷ [])) mid w v vs t e s k.is)

@@ -1,26 +1,15 @@
 -- Operations in place: on a word of FRAM, and on a local.
-use Rattle.std.proofs.Common.{◌≡◌, ℕ, ◌+◌, ◌<◌, Bool, true, false, nat_lt, if◌then◌else◌, List, [], ◌∷◌, Option, Some, refl, sym, ap, ap₂, ◌∙◌, subst, arith}
-use Rattle.msp_isa.specs.alp_words.declared.Width.TheVariants.{Word}
-use Rattle.array_versions.specs.msp_step.Effect.{operated, writes_destination}
-use Rattle.array_versions.specs.machine_effects.msp_cycles.Cycles.{cycles_of}
-use Rattle.array_versions.specs.fram_board.Effects.{Store}
-use Rattle.array_versions.specs.machine_effects.World.{put}
-use Rattle.array_versions.specs.machine_effects.Going.{Goes}
-use Rattle.code_forms.specs.Forms.{R4, R5, work_number, Core, Register, Ram, source_bytes, source_value, source_read, ToRegister, ToRam, Move, Calculate}
-use Rattle.code_forms.specs.Forms.{Update, IsNotMov, Form, flags_after, instruction_of, form_bytes}
-use Rattle.code_forms.specs.Code.{Stands, forms_bytes, forms_run, Runs}
-use Rattle.code_forms.proofs.Interface.{stands_at, end_of}
-use Rattle.array_versions.specs.declared.operations.PlainOperation.{PlainOperation}
-use Rattle.array_versions.specs.declared.operations.PlainOperation.TheVariants.{Add}
-use Rattle.array_versions.specs.Operations.{plain_word}
-use Rattle.array_versions.specs.Behaviour.{WordState, goes_on, with_stack, stored, assigned, with_local, is_place, word_stored}
-use Rattle.codegen.specs.declared.waiting.Waiting.{Waiting}
-use Rattle.codegen.specs.Code.{plain_instruction, local_register, local_address, source_from, ram_update, update_code}
+use Rattle.codegen.proofs.Names.{◌≡◌, ℕ, ◌+◌, ◌<◌, Bool, true, false, nat_lt, if◌then◌else◌, List, [], ◌∷◌, Option, Some, refl, sym, ap, ap₂, ◌∙◌, subst, arith}
+use Rattle.codegen.proofs.Names.{Word, operated, writes_destination, cycles_of, Store, put, Goes, R4, R5, work_number, Core, Register, Ram, source_bytes}
+use Rattle.codegen.proofs.Names.{source_value, source_read, ToRegister, ToRam, Move, Calculate, Update, IsNotMov, Form, flags_after, instruction_of, form_bytes}
+use Rattle.codegen.proofs.Names.{Stands, forms_bytes, forms_run, Runs, stands_at, end_of, PlainOperation, Add, plain_word, WordState, goes_on, with_stack}
+use Rattle.codegen.proofs.Names.{stored, assigned, with_local, is_place, word_stored, Waiting, plain_instruction, local_register, local_address, source_from}
+use Rattle.codegen.proofs.Names.{ram_update, update_code}
+use Rattle.codegen.proofs.Registers.{Has, HasTwo}
+use Rattle.codegen.proofs.Operands.{Top, bare, load_cycles, load_price, store_cycles, store_price, to_five_part}
 use Rattle.codegen.proofs.Stretches.{Setting, straight, hop, runs_on, dearer}
 use Rattle.codegen.proofs.Memory.{local_words, in_register, in_ram, Memory, local_needs, set_register, set_ram, place_is}
 use Rattle.codegen.proofs.Follows.{StandsFor, Follows, guarded}
-use Rattle.codegen.proofs.Registers.{Has, HasTwo}
-use Rattle.codegen.proofs.Operands.{Top, bare, load_cycles, load_price, store_cycles, store_price, to_five_part}
 use Rattle.codegen.proofs.Middles.{makes, plain_middle}
 
 -- the instruction reads its destination and writes it; of each operation alike: the first clause makes it a proof by cases
@@ -89,14 +78,13 @@ module _ (z : Setting) where
       let first = Move (source_from x) (ToRegister R5) in
       let ms = Move (Ram (local_address n)) (ToRegister R4) ∷ [] in
       let mid = pc + form_bytes first in
-      runs_on z (load_cycles x) 3 u (Has z R5 mid (with_stack vs w) v) _ [] [] (to_five_part z x pc w v vs u (h.0, tt) k) (λ t j.
+      runs_on z (to_five_part z x pc w v vs u (h.0, tt) k) (λ t j.
       let i = j.is in
       straight z ms 3 t (end_of t (forms_run ms t).status) [] 3 _ (tt, tt)
       (stands_at z.code mid ms t h.1 i.at) ((local_needs z n lt, tt), tt) refl (omega arith)
       (record {
         is = record { at = omega (arith, i.at); memory = i.memory; fram = i.fram; readings = i.readings };
-        four = in_ram (local_words t.work) t.ram n b ∙ i.memory.vars n y lt q;
-        five = j.value;
+        held = record { four = in_ram (local_words t.work) t.ram n b ∙ i.memory.vars n y lt q; five = j.held };
       }))
 
   -- R4 to a local in RAM
@@ -111,7 +99,7 @@ module _ (z : Setting) where
       (record {
         at = omega (arith, i.at);
         memory =
-            subst (λ y. Memory z t.sp (put t.ram (local_address n) y) (local_words t.work) w.stack (assigned w.locals n v)) (sym k.value)
+            subst (λ y. Memory z t.sp (put t.ram (local_address n) y) (local_words t.work) w.stack (assigned w.locals n v)) (sym k.held)
             (set_ram z t.sp n v t.ram (local_words t.work) w.stack w.locals b lt i.memory);
         fram = i.fram;
         readings = i.readings;
@@ -119,9 +107,8 @@ module _ (z : Setting) where
 
   -- by where the local stands
   update_by : (b : Bool) (o : PlainOperation) (x : Option Waiting) (n y v pc : ℕ) (vs : List ℕ) (w : WordState) (u : Core) → nat_lt n 8 ≡ b → n < z.locals
-      → w.locals n ≡ Some y → y < 0x10000 → v < 0x10000
-      → (let ms : List Form = if b then Calculate (plain_instruction o) (source_from x) (local_register n) ∷ [] else (ram_update o n (source_from x)) in
-      Stands z.code pc ms → Top z (source_from x) [] pc w v vs u
+      → w.locals n ≡ Some y → y < 0x10000 → v < 0x10000 → (let ms : List Form = if b then Calculate (plain_instruction o) (source_from x)
+      (local_register n) ∷ [] else (ram_update o n (source_from x)) in Stands z.code pc ms → Top z (source_from x) [] pc w v vs u
       → Runs z.code [] (8 + load_cycles x) u (StandsFor z (pc + forms_bytes ms) (with_local n (plain_word o y v) (with_stack vs w))))
   update_by true o x n y v pc vs w u b lt q k l h top = update_register o x n y v pc vs w u b lt q k l h top
   update_by false o x n y v pc vs w u b lt q k l h top =
@@ -132,14 +119,11 @@ module _ (z : Setting) where
       let end : mid + 2 + 4 ≡ pc + forms_bytes ms = omega arith in
       let last = h.1.1 in
       subst (λ p. Runs z.code [] (8 + load_cycles x) u (StandsFor z p (with_local n made popped))) end
-      (dearer z [] (load_cycles x + 3 + 5) (8 + load_cycles x) u _ (omega arith)
-      (runs_on z (load_cycles x + 3) 5 u _ _ [] [] (take_two x n y v pc vs w u b lt q (h.0, (h.1.0, tt)) top) (λ t j.
-      runs_on z 1 4 t _ _ [] [] (plain_middle z o mid y v popped t k l (last.0, tt) j) (λ s r.
-      set_from n made (mid + 2) popped s b lt last.1.0 r))))
+      (dearer z (omega arith) (runs_on z (take_two x n y v pc vs w u b lt q (h.0, (h.1.0, tt)) top)
+      (λ t j. runs_on z (plain_middle z o mid y v popped t k l (last.0, tt) j) (λ s r. set_from n made (mid + 2) popped s b lt last.1.0 r))))
 
   -- what the instruction makes of a local and of the top is assigned
-  pub update_local_part : (o : PlainOperation) (x : Option Waiting) (n y v pc : ℕ) (vs : List ℕ) (w : WordState) (u : Core) → n < z.locals
-      → w.locals n ≡ Some y → y < 0x10000 → v < 0x10000
-      → (let ms = update_code o n (source_from x) in Stands z.code pc ms → Top z (source_from x) [] pc w v vs u
+  pub update_local_part : (o : PlainOperation) (x : Option Waiting) (n y v pc : ℕ) (vs : List ℕ) (w : WordState) (u : Core) → n < z.locals → w.locals n ≡ Some y
+      → y < 0x10000 → v < 0x10000 → (let ms = update_code o n (source_from x) in Stands z.code pc ms → Top z (source_from x) [] pc w v vs u
       → Runs z.code [] (8 + load_cycles x) u (StandsFor z (pc + forms_bytes ms) (with_local n (plain_word o y v) (with_stack vs w))))
   update_local_part o x n y v pc vs w u lt q k l h top = update_by (nat_lt n 8) o x n y v pc vs w u refl lt q k l h top

@@ -1,16 +1,7 @@
 -- What the flags of a comparison say.
-use Rattle.std.proofs.Common.{◌≡◌, ℕ, ◌+◌, ◌-◌, ◌%◌, ◌<◌, ◌≤◌, ◌&&◌, not, refl, sym, ap, ◌∙◌, arith, Bool, true, false, nat_lt, nat_le}
-use Rattle.std.proofs.Common.{le-ltb, lt-ltb}
-use Rattle.std.proofs.lemmas.Bool.Decides.{nat_tests}
-use Rattle.std.proofs.Math.Bool.{not-not}
-use Rattle.msp_isa.specs.alp_words.declared.Flags.{Flags}
-use Rattle.msp_isa.specs.alp_words.declared.Width.TheVariants.{Word}
-use Rattle.msp_isa.specs.alp_words.Words.{biased, same, is_negative, difference_of, and_of}
-use Rattle.array_versions.specs.msp_step.Effect.{is_met}
-use Rattle.array_versions.specs.declared.operations.Comparison.{Comparison}
-use Rattle.array_versions.specs.declared.operations.Comparison.TheVariants.{Equal, Below, Above, SignedBelow, SignedAbove, CommonBit}
-use Rattle.array_versions.specs.Operations.{compare_words}
-use Rattle.codegen.specs.Code.{holding, failing}
+use Rattle.codegen.proofs.Names.{◌≡◌, ℕ, ◌+◌, ◌-◌, ◌%◌, ◌<◌, ◌≤◌, ◌&&◌, not, refl, sym, ap, ◌∙◌, arith, Bool, true, false, nat_lt, nat_le, le-ltb, lt-ltb}
+use Rattle.codegen.proofs.Names.{nat_tests, not-not, Flags, Word, biased, same, is_negative, difference_of, and_of, is_met, Comparison, Equal, Below, Above}
+use Rattle.codegen.proofs.Names.{SignedBelow, SignedAbove, CommonBit, compare_words, holding, failing}
 use Rattle.codegen.proofs.Registers.{no_borrow, equal_flag}
 
 -- the flags of one word less another
@@ -55,8 +46,7 @@ by_signs true false false x y h k p q r = let l = high x p in let m = low y q in
 by_signs false true true x y h k p q r = let l = low x p in let m = high y q in sym (le-ltb (biased x) (biased y) (omega arith))
 by_signs false true false x y h k p q r = let l = low x p in let m = high y q in sym (le-ltb (biased x) (biased y) (omega arith))
 
-signed_flags : (x y : ℕ) → x < 0x10000 → y < 0x10000
-    → (let f = difference_flags x y in not (same f.n f.v) ≡ nat_lt (biased x) (biased y))
+signed_flags : (x y : ℕ) → x < 0x10000 → y < 0x10000 → (let f = difference_flags x y in not (same f.n f.v) ≡ nat_lt (biased x) (biased y))
 signed_flags x y h k =
     by_signs (is_negative Word x) (is_negative Word y) (is_negative Word ((x + (0xFFFF - y) + 1) % 0x10000)) x y h k refl refl refl
 

@@ -1,60 +1,37 @@
 -- The code of a word program does what the program does, within the cycles of the way that it takes.
-use Rattle.std.proofs.Common.{◌≡◌, ℕ, suc, ◌+◌, ◌-◌, ◌*◌, ◌<◌, Bool, true, false, not, nat_lt, if◌then◌else◌, List, [], ◌∷◌, ◌++◌, length, All, Some}
-use Rattle.std.proofs.Common.{◌≢◌, None, refl, sym, ap, subst, arith}
-use Rattle.std.specs.List.{AllByRecursion}
-use Rattle.array_versions.specs.fram_board.Effects.{Effect}
+use Rattle.codegen.proofs.Names.{◌≡◌, ℕ, suc, ◌+◌, ◌-◌, ◌*◌, ◌<◌, Bool, true, false, not, nat_lt, if◌then◌else◌, List, [], ◌∷◌, ◌++◌, length, All, Some, ◌≢◌}
+use Rattle.codegen.proofs.Names.{None, refl, sym, ap, subst, arith, AllByRecursion, Effect, Core, Form, form_bytes, Move, Branch, Fram, ToFram, Stands}
+use Rattle.codegen.proofs.Names.{forms_bytes, stands_front, stands_back, forms_behind, forms_bytes-append, Comparison, is_true, compare_words, Step, Test}
+use Rattle.codegen.proofs.Names.{Program, number, load, keep, update, local, set_local, update_local, unary, binary, shift, element, emit_word, list_entry}
+use Rattle.codegen.proofs.Names.{versioned_read, versioned_write, versioned_update, sense, truth, choose, repeat, store_number, move_word, jump, holds}
+use Rattle.codegen.proofs.Names.{compares, both, either, fails, nothing, step, WordState, started, End, GoesOn, Jumps, Short, Strays, Broken, Behaviour}
+use Rattle.codegen.proofs.Names.{with_stack, with_local, with_top, with_two, is_place, local_pushed, local_updated, number_pushed, way_by_top, way_by_two}
+use Rattle.codegen.proofs.Names.{step_behaviour, then_on, tested, behaviour, Place, start, assigning, Moves, EachTurn, EachStepWay, EachTestWay, EachWay}
+use Rattle.codegen.proofs.Names.{StepLocalsBelow, TestLocalsBelow, StepSpares, TestSpares, Spares, LocalsBelow, StepLoopsCount, TestLoopsCount, LoopsCount}
+use Rattle.codegen.proofs.Names.{StepOfWords, TestOfWords, OfWords, top_spent, spent_by_top, spent_by_two, step_spent, spent_on, test_spent, spent, Matches}
+use Rattle.codegen.proofs.Names.{GoesWell, matches_local, start_matches, step_well, well, whole_ends_soundly, local_words, words_step, words, Leaves, leaves}
+use Rattle.codegen.proofs.Names.{Bound, Waiting, number_source, flushed, top_of, below_top, kept, top_to_four, two_to_registers, entry_code, compare_form}
+use Rattle.codegen.proofs.Names.{holding, failing, size, pass_over, decision, holds_code, compares_code, truth_code, number_code, turns_code, waiting_behind}
+use Rattle.codegen.proofs.Names.{waiting_after, bound_of, step_code, test_code, steps_code, block_code, code_of, ComesTo, CodeDoesAsProgram}
+use Rattle.array_versions.specs.Laws.{IsStateOfWords, EndsInWords, IsSound}
 use Rattle.msp_isa.specs.declared.instructions.Condition.TheVariants as condition
 use Rattle.msp_isa.specs.declared.operands.Konst.TheVariants as konst
-use Rattle.code_forms.specs.Forms.{R4, Core, Form, form_bytes, Move, Branch, Fram, ToFram}
-use Rattle.code_forms.specs.Code.{Stands, forms_bytes}
-use Rattle.code_forms.proofs.Interface.{stands_front, stands_back, forms_behind, forms_bytes-append}
-use Rattle.array_versions.specs.declared.operations.Comparison.{Comparison}
-use Rattle.array_versions.specs.Operations.{is_true, compare_words}
-use Rattle.array_versions.specs.Program.{Step, Test, Program, number, load, keep, update, local, set_local, update_local, unary, binary, shift, element}
-use Rattle.array_versions.specs.Program.{emit_word}
-use Rattle.array_versions.specs.Program.{list_entry}
-use Rattle.array_versions.specs.Program.{versioned_read, versioned_write, versioned_update, sense, truth, choose, repeat, store_number, move_word, jump, holds}
-use Rattle.array_versions.specs.Program.{compares}
-use Rattle.array_versions.specs.Program.{both, either, fails, nothing, step}
-use Rattle.array_versions.specs.Behaviour.{WordState, started, End, GoesOn, Jumps, Short, Strays, Broken, Behaviour, with_stack, with_local}
-use Rattle.array_versions.specs.Behaviour.{with_top, with_two, is_place, local_pushed, local_updated, number_pushed, way_by_top, way_by_two, step_behaviour}
-use Rattle.array_versions.specs.Behaviour.{then_on}
-use Rattle.array_versions.specs.Behaviour.{tested}
-use Rattle.array_versions.specs.Behaviour.{behaviour}
-use Rattle.array_versions.specs.Form.{Place, start, assigning, Moves, EachTurn, EachStepWay, EachTestWay, EachWay, StepLocalsBelow, TestLocalsBelow}
-use Rattle.array_versions.specs.Form.{StepSpares, TestSpares, Spares, LocalsBelow, StepLoopsCount, TestLoopsCount, LoopsCount, StepOfWords, TestOfWords}
-use Rattle.array_versions.specs.Form.{OfWords}
-use Rattle.array_versions.specs.Cost.{top_spent, spent_by_top, spent_by_two, step_spent, spent_on}
-use Rattle.array_versions.specs.Cost.{test_spent}
-use Rattle.array_versions.specs.Cost.{spent}
-use Rattle.array_versions.specs.Laws.{IsStateOfWords, EndsInWords, IsSound}
-use Rattle.array_versions.proofs.Interface.{Matches, GoesWell, matches_local, start_matches, step_well, well, whole_ends_soundly, local_words}
-use Rattle.array_versions.proofs.Interface.{step_words as words_step, words, Leaves, leaves}
-use Rattle.codegen.specs.declared.bounds.Bound.{Bound}
-use Rattle.codegen.specs.declared.waiting.Waiting.{Waiting}
 use Rattle.codegen.specs.declared.waiting.Waiting.TheVariants as waiting
-use Rattle.codegen.specs.Code.{number_source, flushed, top_of, below_top, kept, top_to_four, two_to_registers, entry_code, compare_form, holding, failing, size}
-use Rattle.codegen.specs.Code.{pass_over}
-use Rattle.codegen.specs.Code.{decision, holds_code, compares_code, truth_code}
-use Rattle.codegen.specs.Code.{number_code, turns_code, waiting_behind, waiting_after, bound_of, step_code, test_code, steps_code, block_code, code_of}
-use Rattle.codegen.specs.Laws.{ComesTo, CodeDoesAsProgram}
+use Rattle.codegen.proofs.Memory.{AreWords, place_is, assigned_same}
+use Rattle.codegen.proofs.Results.{gathered, Does, number_part, load_part, local_by, keep_reaches, update_reaches, set_reaches, update_local_reaches}
+use Rattle.codegen.proofs.Results.{unary_part, binary_part, shift_reaches, element_reaches, emit_reaches, read_reaches, write_reaches, sense_part, alone_part}
+use Rattle.codegen.proofs.Registers.{jump_to}
+use Rattle.codegen.proofs.Operands.{owed, clear_cycles, owed_kept, load_cycles, load_owed, Describes, dressed, flush_part, top_to_four_part}
+use Rattle.codegen.proofs.Operands.{two_to_registers_part}
 use Rattle.codegen.proofs.Stretches.{Setting, runs_on, nothing_run}
-use Rattle.codegen.proofs.Memory.{place_is, assigned_same}
 use Rattle.codegen.proofs.Follows.{StandsFor, Follows, FollowsEnd, OnGoesOn, more_cycles, then_hop, ends_at, guarded, reach_more, reach_way, reaches}
 use Rattle.codegen.proofs.Follows.{then_follows, reach_guarded}
 use Rattle.codegen.proofs.Parts.{constant_part, store_part, move_part, jump_part}
-use Rattle.codegen.proofs.Registers.{Has, HasTwo, jump_to}
 use Rattle.codegen.proofs.Jumps.{whole_size, stands_low, pass_part}
 use Rattle.codegen.proofs.Choices.{Fork, fork_at, fork_turned, fork_both, fork_either, decided_follows, zero_test, holds_part, compares_part}
 use Rattle.codegen.proofs.Loops.{loop_by}
 use Rattle.codegen.proofs.Access.{entry_part}
-use Rattle.codegen.proofs.Operands.{owed, clear_cycles, owed_kept, load_cycles, load_owed, Describes, InRegister, LoadedTwo, dressed, flush_part}
-use Rattle.codegen.proofs.Operands.{top_to_four_part, two_to_registers_part}
 use Rattle.codegen.proofs.LoopBounds.{Bounded, Spared, spared_so, bounded_with, bounded_on, step_bounded}
-use Rattle.codegen.proofs.Results.{Does, number_part, load_part, local_by, keep_reaches, update_reaches, set_reaches, update_local_reaches, unary_part}
-use Rattle.codegen.proofs.Results.{binary_part}
-use Rattle.codegen.proofs.Results.{shift_reaches, element_reaches, emit_reaches, read_reaches, write_reaches, sense_part, alone_part, push_under}
-use Rattle.codegen.proofs.Results.{push_under_two}
 use Rattle.codegen.proofs.VersionUpdates.{in_place_reaches}
 use Rattle.codegen.proofs.Lengths.{compare_length}
 
@@ -69,24 +46,17 @@ record Ready (bs : List Bound) (next : Place → Type 0) (w : WordState) : Type 
 ready_on : (bs : List Bound) (next : Place → Type 0) (e : End) → GoesWell next e → EndsInWords e → OnGoesOn (λ v. Bounded bs v.locals) e
     → OnGoesOn (Ready bs next) e
 ready_on bs next (GoesOn w) g h b = record { place = g.0; fit = g.1; matches = g.2; words_in = h; bounded = b }
-ready_on bs next (Jumps to w) g h b = tt
-ready_on bs next Short g h b = tt
-ready_on bs next Strays g h b = tt
-ready_on bs next Broken g h b = tt
+ready_on bs next _ g h b = tt
 
 -- the same with the word of a local
 ready_with : (bs : List Bound) (next : Place → Type 0) (n k : ℕ) (e : End) → GoesWell next e → EndsInWords e → OnGoesOn (λ v. Bounded bs v.locals) e
     → Leaves n (Some k) e → OnGoesOn (λ v. Ready bs next v × (v.locals n ≡ Some k)) e
 ready_with bs next n k (GoesOn w) g h b l = (record { place = g.0; fit = g.1; matches = g.2; words_in = h; bounded = b }, l)
-ready_with bs next n k (Jumps to w) g h b l = tt
-ready_with bs next n k Short g h b l = tt
-ready_with bs next n k Strays g h b l = tt
-ready_with bs next n k Broken g h b l = tt
+ready_with bs next n k _ g h b l = tt
 
 -- what is left where so many words are taken
 ready_popped : (bs : List Bound) (next : Place → Type 0) (q : Place) (n : ℕ) (w : WordState) (us : List ℕ) → next (record q { depth = q.depth - n + 0 })
-    → Matches q w → IsStateOfWords w → Bounded bs w.locals → length us + n ≡ length w.stack → AllByRecursion (λ x. x < 0x10000) us
-    → Ready bs next (with_stack us w)
+    → Matches q w → IsStateOfWords w → Bounded bs w.locals → length us + n ≡ length w.stack → AreWords us → Ready bs next (with_stack us w)
 ready_popped bs next q n w us f m h b e l =
     record {
       place = record q { depth = q.depth - n + 0 };
@@ -114,8 +84,7 @@ module _ (z : Setting) where
       → Follows z (pc + 6) 5 u (number_pushed 1 w)
   one_pushed pc w u h l i =
       let high = (z.tidy (pc + 2) _ h.1.0).high in
-      runs_on z 3 2 u _ _ [] [] (constant_part z konst.One pc w u l (h.0, tt) i)
-      (λ t j. jump_to z condition.Always 1 (pc + 2) (pc + 6) true _ t h.1.0 refl (omega arith) j)
+      runs_on z (constant_part z konst.One pc w u l (h.0, tt) i) (λ t j. jump_to z condition.Always 1 (pc + 2) (pc + 6) true _ t h.1.0 refl (omega arith) j)
 
   -- 0 is pushed
   zero_pushed : (pc : ℕ) (w : WordState) (u : Core) → Stands z.code pc truth_code → length w.stack < z.room → StandsFor z (pc + 4) w u
@@ -132,92 +101,73 @@ module _ (z : Setting) where
   module _ (bs : List Bound) (when : Bool) (d holds_at fails_at end : ℕ) (held failed : Place → Type 0) (ch cf : WordState → ℕ) (rh rf : WordState → Behaviour)
       (fh : WayFollows bs held holds_at end ch rh) (ff : WayFollows bs failed fails_at end cf rf) where
     by_top : (os : List Waiting) (pc : ℕ) (w : WordState) (u : Core) (vs : List ℕ) → Stands z.code pc (holds_code os when d)
-        → Fork when d holds_at fails_at (pc + forms_bytes (holds_code os when d))
-        → Ready bs (Moves z.room 1 0 (λ r. held r × failed r)) w → w.stack ≡ vs → Describes z os pc w u
-        → Follows z end (owed os + (8 + top_spent vs (λ v us. if is_true v then ch (with_stack us w) else cf (with_stack us w)))) u
+        → Fork when d holds_at fails_at (pc + forms_bytes (holds_code os when d)) → Ready bs (Moves z.room 1 0 (λ r. held r × failed r)) w → w.stack ≡ vs
+        → Describes z os pc w u → Follows z end (owed os + (8 + top_spent vs (λ v us. if is_true v then ch (with_stack us w) else cf (with_stack us w)))) u
         (with_top vs (λ v us. if is_true v then rh (with_stack us w) else rf (with_stack us w)))
     by_top os pc w u [] h fork r e i = tt
     by_top os pc w u (v ∷ us) h fork r e i =
         let t = with_stack us w in
-        let words = subst (AllByRecursion (λ x. x < 0x10000)) e r.words_in.stack in
+        let words = subst (AreWords) e r.words_in.stack in
         let left : length us + 1 ≡ length w.stack = omega (arith, ap (length {A = ℕ}) e) in
         let popped : (next : Place → Type 0) → next (record r.place { depth = r.place.depth - 1 + 0 }) → Ready bs next t =
         λ next f. ready_popped bs next r.place 1 w us f r.matches r.words_in r.bounded left words.1 in
         let under = below_top os in
-        let load = top_to_four os in
-        let pushes = flushed (kept under) in
+        let front = top_to_four os ++ flushed (kept under) in
         let last = decision when d condition.NotEqual condition.Equal in
         let tail = zero_test z ∷ last in
-        let first = pc + forms_bytes load in
-        let mid = first + forms_bytes pushes in
+        let mid = pc + forms_bytes front in
         let l = clear_cycles under + load_cycles (top_of os) in
-        let there = stands_front z.code pc (load ++ pushes) tail h in
-        let here : pc + forms_bytes (load ++ pushes) ≡ mid = omega (arith, forms_bytes-append load pushes) in
-        let back = subst (λ p. Stands z.code p tail) here (stands_back z.code pc (load ++ pushes) tail h) in
+        let back = stands_back z.code pc front tail h in
         let high = (z.tidy mid _ back.0).high in
-        let behind : pc + forms_bytes (holds_code os when d) ≡ mid + 2 + forms_bytes last = omega (arith, here, forms_bytes-append (load ++ pushes) tail) in
+        let behind : pc + forms_bytes (holds_code os when d) ≡ mid + 2 + forms_bytes last = omega (arith, forms_bytes-append front tail) in
         let b = is_true v in
         let most = owed os + (8 + (if b then ch t else cf t)) in
-        let come = runs_on z l (owed (kept under)) u (InRegister z R4 (kept under) first t v) (Has z R4 mid t v) [] []
-        (top_to_four_part z os pc w v us u e (stands_front z.code pc load pushes there) i)
-        (λ x k. push_under z R4 (kept under) first t v x (stands_back z.code pc load pushes there) k) in
+        let come = gathered z (top_to_four os) (kept under) pc (stands_front z.code pc front tail h) (λ s. top_to_four_part z os pc w v us u e s i) in
         more_cycles z end (l + owed (kept under) + 1 + 5 + (if b then ch t else cf t)) most u (if b then rh t else rf t).effects (if b then rh t else rf t).end
-        (omega (arith, owed_kept under, load_owed os))
-        (decided_follows z when b (mid + 2) d holds_at fails_at (l + owed (kept under) + 1) end (ch t) (cf t) condition.NotEqual condition.Equal t u (rh t)
-        (rf t)
-        back.1 (fork_at when d holds_at fails_at (pc + forms_bytes (holds_code os when d)) (mid + 2 + forms_bytes last) behind fork) (omega arith)
-        (runs_on z (l + owed (kept under)) 1 u (Has z R4 mid t v) _ [] [] come (λ x k. holds_part z mid v t x words.0 back.0 k))
+        (omega (arith, owed_kept under, load_owed os)) (decided_follows z when b (mid + 2) d holds_at fails_at (l + owed (kept under) + 1) end (ch t) (cf t)
+        condition.NotEqual condition.Equal t u (rh t) (rf t) back.1 (fork_at when d holds_at fails_at (pc + forms_bytes (holds_code os when d))
+        (mid + 2 + forms_bytes last) behind fork) (omega arith) (runs_on z come (λ x k. holds_part z mid v t x words.0 back.0 k))
         (λ x j. fh t x (popped held r.fit.2.0) j) (λ x j. ff t x (popped failed r.fit.2.1) j))
 
     by_two : (os : List Waiting) (c : Comparison) (pc : ℕ) (w : WordState) (u : Core) (vs : List ℕ) → Stands z.code pc (compares_code os c when d)
-        → Fork when d holds_at fails_at (pc + forms_bytes (compares_code os c when d))
-        → Ready bs (Moves z.room 2 0 (λ r. held r × failed r)) w → w.stack ≡ vs → Describes z os pc w u
-        → Follows z end
-        (owed os + (10 + top_spent vs (λ y xs. top_spent xs (λ x us. if compare_words c x y then ch (with_stack us w) else cf (with_stack us w))))) u
+        → Fork when d holds_at fails_at (pc + forms_bytes (compares_code os c when d)) → Ready bs (Moves z.room 2 0 (λ r. held r × failed r)) w → w.stack ≡ vs
+        → Describes z os pc w u → Follows z end (owed os + (10 + top_spent vs
+        (λ y xs. top_spent xs (λ x us. if compare_words c x y then ch (with_stack us w) else cf (with_stack us w))))) u
         (with_two vs (λ x y us. if compare_words c x y then rh (with_stack us w) else rf (with_stack us w)))
     by_two os c pc w u [] h fork r e i = tt
     by_two os c pc w u (y ∷ []) h fork r e i = tt
     by_two os c pc w u (y ∷ (x ∷ us)) h fork r e i =
         let t = with_stack us w in
-        let words = subst (AllByRecursion (λ x. x < 0x10000)) e r.words_in.stack in
+        let words = subst (AreWords) e r.words_in.stack in
         let left : length us + 2 ≡ length w.stack = omega (arith, ap (length {A = ℕ}) e) in
         let popped : (next : Place → Type 0) → next (record r.place { depth = r.place.depth - 2 + 0 }) → Ready bs next t =
         λ next f. ready_popped bs next r.place 2 w us f r.matches r.words_in r.bounded left words.1.1 in
         let under = below_top os in
         let ks = kept (below_top under) in
-        let load = two_to_registers os in
-        let pushes = flushed ks in
+        let front = two_to_registers os ++ flushed ks in
         let last = decision when d (holding c) (failing c) in
         let tail = compare_form c ∷ last in
-        let first = pc + forms_bytes load in
-        let mid = first + forms_bytes pushes in
+        let mid = pc + forms_bytes front in
         let l = clear_cycles (below_top under) + (load_cycles (top_of os) + load_cycles (top_of under)) in
-        let there = stands_front z.code pc (load ++ pushes) tail h in
-        let here : pc + forms_bytes (load ++ pushes) ≡ mid = omega (arith, forms_bytes-append load pushes) in
-        let back = subst (λ p. Stands z.code p tail) here (stands_back z.code pc (load ++ pushes) tail h) in
+        let back = stands_back z.code pc front tail h in
         let next : mid + form_bytes (compare_form c) ≡ mid + 2 = omega (arith, compare_length c) in
         let high = (z.tidy mid _ back.0).high in
         let behind : pc + forms_bytes (compares_code os c when d) ≡ mid + 2 + forms_bytes last =
-        omega (arith, here, compare_length c, forms_bytes-append (load ++ pushes) tail) in
+        omega (arith, compare_length c, forms_bytes-append front tail) in
         let b = compare_words c x y in
         let most = owed os + (10 + (if b then ch t else cf t)) in
-        let come = runs_on z l (owed ks) u (LoadedTwo z ks first t x y) (HasTwo z mid t x y) [] []
-        (two_to_registers_part z os pc w x y us u e (stands_front z.code pc load pushes there) i)
-        (λ q k. push_under_two z ks first t x y q (stands_back z.code pc load pushes there) k) in
+        let come = gathered z (two_to_registers os) ks pc (stands_front z.code pc front tail h) (λ s. two_to_registers_part z os pc w x y us u e s i) in
         more_cycles z end (l + owed ks + 1 + 5 + (if b then ch t else cf t)) most u (if b then rh t else rf t).effects (if b then rh t else rf t).end
-        (omega (arith, owed_kept (below_top under), load_owed os, load_owed under))
-        (decided_follows z when b (mid + 2) d holds_at fails_at (l + owed ks + 1) end (ch t) (cf t) (holding c) (failing c) t u (rh t) (rf t)
-        (subst (λ n. Stands z.code n last) next back.1)
+        (omega (arith, owed_kept (below_top under), load_owed os, load_owed under)) (decided_follows z when b (mid + 2) d holds_at fails_at (l + owed ks + 1)
+        end (ch t) (cf t) (holding c) (failing c) t u (rh t) (rf t) (subst (λ n. Stands z.code n last) next back.1)
         (fork_at when d holds_at fails_at (pc + forms_bytes (compares_code os c when d)) (mid + 2 + forms_bytes last) behind fork) (omega arith)
-        (runs_on z (l + owed ks) 1 u (HasTwo z mid t x y) _ [] [] come (λ q k. compares_part z c mid x y t q words.1.0 words.0 back.0 k))
-        (λ s j. fh t s (popped held r.fit.2.0) j) (λ s j. ff t s (popped failed r.fit.2.1) j))
+        (runs_on z come (λ q k. compares_part z c mid x y t q words.1.0 words.0 back.0 k)) (λ s j. fh t s (popped held r.fit.2.0) j)
+        (λ s j. ff t s (popped failed r.fit.2.1) j))
 
   -- behind steps with no word waiting in front of them, code that takes those that wait behind them
   leaf_follows : (bs : List Bound) (p : Program) (next : Place → Type 0) (pc end : ℕ) (cost : WordState → ℕ) (go : WordState → Behaviour) (w : WordState)
-      (u : Core)
-      → (let os = waiting_after [] p in let at = pc + forms_bytes (steps_code bs [] p) in let b = behaviour p w in
-      Does z os at (spent p w + 0) u b → OnGoesOn (Ready bs next) b.end
-      → ((x : Core) (v : WordState) → Ready bs next v → Describes z os at v x → Follows z end (owed os + cost v) x (go v))
+      (u : Core) → (let os = waiting_after [] p in let at = pc + forms_bytes (steps_code bs [] p) in let b = behaviour p w in Does z os at (spent p w + 0) u b
+      → OnGoesOn (Ready bs next) b.end → ((x : Core) (v : WordState) → Ready bs next v → Describes z os at v x → Follows z end (owed os + cost v) x (go v))
       → Follows z end (spent p w + spent_on b.end cost) u (then_on b go))
   leaf_follows bs p next pc end cost go w u a r f =
       let os = waiting_after [] p in
@@ -226,10 +176,9 @@ module _ (z : Setting) where
       let all = then_on b go in
       let most = spent p w + 0 + spent_on b.end cost in
       more_cycles z end most (spent p w + spent_on b.end cost) u all.effects all.end (omega arith)
-      (then_follows z 0 end most (StandsFor z end) u all.effects all.end
-      (reach_way z (owed os) 0 (Describes z os at) (StandsFor z end) (spent p w + 0) cost u (Ready bs next) b.effects b.end go a r
-      (λ x v q d. reaches z (StandsFor z end) end (owed os + cost v) x (go v).effects (go v).end (λ s t i. i) (f x v q d)))
-      (λ t s i. nothing_run z t (StandsFor z end s) i))
+      (then_follows z 0 end most (StandsFor z end) u all.effects all.end (reach_way z (owed os) 0 (Describes z os at) (StandsFor z end) (spent p w + 0) cost u
+      (Ready bs next) b.effects b.end go a r (λ x v q d. reaches z (StandsFor z end) end (owed os + cost v) x (go v).effects (go v).end (λ s t i. i)
+      (f x v q d))) (λ t s i. nothing_run z i))
 
   -- steps with no word waiting in front of them, and then those that wait behind them are pushed
   block_follows : (bs : List Bound) (p : Program) (pc : ℕ) (w : WordState) (u : Core) → Stands z.code pc (block_code bs p)
@@ -249,8 +198,7 @@ module _ (z : Setting) where
   mutual
     step_follows : (bs : List Bound) (first : Step) (next : Place → Type 0) (os : List Waiting) (pc : ℕ) (w : WordState) (u : Core)
         → Ready bs (EachStepWay z.room first next) w → StepOfWords first → StepLocalsBelow z.locals first → StepLoopsCount first
-        → Spared bs (λ n. StepSpares n first)
-        → Stands z.code pc (step_code bs os first) → Describes z os pc w u
+        → Spared bs (λ n. StepSpares n first) → Stands z.code pc (step_code bs os first) → Describes z os pc w u
         → Does z (waiting_behind os first) (pc + forms_bytes (step_code bs os first)) (step_spent first w + owed os) u (step_behaviour first w)
     step_follows bs (number v) next os pc w u r o l c spared h d = number_part z v os pc w u (omega (arith, r.fit.1, r.matches.depth)) d
     step_follows bs (load a) next os pc w u r o l c spared h d =
@@ -370,11 +318,10 @@ module _ (z : Setting) where
         (λ t s i. jump_part z to (pc + forms_bytes (flushed os)) w t r.fit s i)
 
     test_follows : (bs : List Bound) (t : Test) (when : Bool) (d holds_at fails_at pc end : ℕ) (held failed : Place → Type 0) (ch cf : WordState → ℕ)
-        (rh rf : WordState → Behaviour) (w : WordState) (u : Core) → Ready bs (EachTestWay z.room t held failed) w → TestOfWords t
-        → TestLocalsBelow z.locals t → TestLoopsCount t → Spared bs (λ n. TestSpares n t)
-        → Stands z.code pc (test_code bs t when d) → Fork when d holds_at fails_at (pc + forms_bytes (test_code bs t when d))
-        → WayFollows bs held holds_at end ch rh → WayFollows bs failed fails_at end cf rf → StandsFor z pc w u
-        → Follows z end (test_spent t ch cf w) u (tested t rh rf w)
+        (rh rf : WordState → Behaviour) (w : WordState) (u : Core) → Ready bs (EachTestWay z.room t held failed) w → TestOfWords t → TestLocalsBelow z.locals t
+        → TestLoopsCount t → Spared bs (λ n. TestSpares n t) → Stands z.code pc (test_code bs t when d)
+        → Fork when d holds_at fails_at (pc + forms_bytes (test_code bs t when d)) → WayFollows bs held holds_at end ch rh
+        → WayFollows bs failed fails_at end cf rf → StandsFor z pc w u → Follows z end (test_spent t ch cf w) u (tested t rh rf w)
     test_follows bs (holds p) when d holds_at fails_at pc end held failed ch cf rh rf w u r o l c spared h fork fh ff i =
         let a = steps_code bs [] p in
         let os = waiting_after [] p in
@@ -445,7 +392,7 @@ module _ (z : Setting) where
         → Does z (waiting_after os p) (pc + forms_bytes (steps_code bs os p)) (spent p w + owed os) u (behaviour p w)
     steps_follow bs nothing next os pc w u r o l c spared h d =
         let e : pc ≡ pc + 0 = omega arith in
-        record { spent = 0; within = omega arith; runs = nothing_run z u (Describes z os (pc + 0) w) (subst (λ n. Describes z os n w u) e d) }
+        record { spent = 0; within = omega arith; runs = nothing_run z (subst (λ n. Describes z os n w u) e d) }
     steps_follow bs (step first more) next os pc w u r o l c spared h d =
         let a = step_code bs os first in
         let mid = waiting_behind os first in

@@ -37,6 +37,7 @@ lex_refusal lex.Memory = None
 abbrev pub use_refusal : List ℕ → ℕ → Kept → Refusal
 use_refusal text line (kept.Name span) = named text line (codes "WrongUse") span
 use_refusal text line (kept.Number n) = numbered line (codes "WrongUse") n
+use_refusal text line kept.Nothing = plain line (codes "WrongUse")
 
 -- that of a source whose names, uses, loops, paths or numbers of names are refused
 abbrev pub check_refusal : List ℕ → CheckFault → Option Refusal
@@ -62,6 +63,7 @@ source_refusal text (fault.Lex f) = lex_refusal f
 source_refusal text (fault.Syntax line) = Some (plain line (codes "Syntax"))
 source_refusal text (fault.Check f) = check_refusal text f
 source_refusal text (fault.Over f) = Some (over_refusal f)
+source_refusal text (fault.NotYet line) = Some (plain line (codes "NotYet"))
 source_refusal text fault.Memory = None
 
 -- the first pass that refuses the text does so

@@ -45,6 +45,7 @@ fn use_refusal<'t>(text: &'t [u8], line: u32, kept: Kept) -> Refusal<'t>
     match kept {
         Kept::Name(span) => named(text, line, "WrongUse", span),
         Kept::Number(n) => numbered(line, "WrongUse", n as u64),
+        Kept::Nothing => plain(line, "WrongUse"),
     }
 }
 
@@ -86,6 +87,7 @@ fn source_refusal<'t>(text: &'t [u8], fault: SourceFault) -> Option<Refusal<'t>>
         SourceFault::Syntax { line } => Some(plain(line, "Syntax")),
         SourceFault::Check(fault) => check_refusal(text, fault),
         SourceFault::Over(over) => Some(over_refusal(over)),
+        SourceFault::NotYet { line } => Some(plain(line, "NotYet")),
         SourceFault::Memory => None,
     }
 }

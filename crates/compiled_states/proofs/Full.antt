@@ -1,7 +1,7 @@
 -- The layout of a source leaves no word unused in front of its code.
 use Rattle.std.proofs.Common.{◌≡◌, ℕ, ◌+◌, ◌*◌, ◌≤◌, Bool, true, false, List, [], ◌∷◌, arith}
 use Rattle.image_reports.specs.layout_facts.task_ast.declared.Extent.{Extent}
-use Rattle.image_reports.specs.layout_facts.task_ast.declared.Extent.TheVariants.{Scalar, Array}
+use Rattle.image_reports.specs.layout_facts.task_ast.declared.Extent.TheVariants.{Scalar, Long, Array}
 use Rattle.image_reports.specs.layout_facts.task_ast.declared.SharedDeclaration.{SharedDeclaration}
 use Rattle.image_reports.specs.layout_facts.cost_bound.declared.allowance.Allow.{Allow}
 use Rattle.image_reports.specs.layout_facts.cost_bound.Counts.{Code, emits_of}
@@ -30,6 +30,7 @@ pub record IsFull (l : MemoryMap) : Type 0 where
 -- the words of a variable are those of its homes, copies and versions
 part_within : (written : Bool) (e : Extent) → place_part written e ≤ home_part e + copy_part written e + version_part written e
 part_within written (Scalar w) = omega arith
+part_within written (Long n) = omega arith
 part_within true (Array n) = omega arith
 part_within false (Array n) = omega arith
 

@@ -35,6 +35,7 @@ use Rattle.compiled_states.proofs.Held.{within, bounds_of, none_held, all_held}
 pub words_are : (e : Extent) (place : VariablePlace) → IsOfKind e place → unwrap_or (length_of e) 1 ≡ (home_region place).words
 words_are (extent.Scalar w) (Scalar home copy) h = refl
 words_are (extent.Scalar w) (Array elements length copies) h = absurd h
+words_are (extent.Long n) place h = absurd h
 words_are (extent.Array n) (Scalar home copy) h = absurd h
 words_are (extent.Array n) (Array elements length copies) h = sym h
 

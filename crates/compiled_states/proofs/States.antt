@@ -36,7 +36,7 @@ use Rattle.image_reports.specs.link_image.source_maps.Maps.{map_of}
 use Rattle.image_reports.specs.link_image.source_maps.Laws.{IsSourceMap}
 use Rattle.image_reports.specs.link_image.Compiled.{IsCompiled}
 use Rattle.image_reports.specs.link_image.Laws.{IsFreshImage}
-use Rattle.image_reports.proofs.link_image.Interface.{images_are_fresh}
+use Rattle.image_reports.proofs.link_image.Interface.{laid_out, images_are_fresh}
 use Rattle.image_reports.proofs.link_image.compiled_runs.Interface.{code_is_placed}
 use Rattle.image_reports.specs.ImageLaw.{KeepsCode}
 use Rattle.image_reports.specs.Resumed.{BelongsTo, known_from, IsToldOnward, IsResumedRun}
@@ -61,7 +61,7 @@ module _ (text : List ℕ) (p : CheckedProgram) (allow : Allow) (image : ImageVa
     allowed = ok.allowed;
     plan = c.is_plan;
     layout = c.is_layout;
-    few = privates_are_few text p allow c.plans l (record { accepted = ok; plan = c.is_plan; layout = c.is_layout });
+    few = privates_are_few text p allow c.plans l (laid_out text p allow image ok c);
   }
 
   pub source_map : IsSourceMap text p allow l

@@ -1,9 +1,15 @@
 -- The column that counts emits.
-use Rattle.std.proofs.Common.{◌≡◌, ◌-◌, ◌*◌, true, false, Some, None, ap, refl, arith}
-use Rattle.task_ast.specs.Tree.{Expression, number, name, element, sense, unary, binary, shift, short_circuit, Statement, declare, assign, store, choose}
+use Rattle.std.proofs.Common.{◌≡◌, ℕ, ◌-◌, ◌*◌, true, false, Some, None, ap, refl, arith}
+use Rattle.task_ast.specs.Tree.{Expression, number, long_number, name, element, sense, unary, binary, shift, short_circuit, Statement, declare, assign, store}
+use Rattle.task_ast.specs.Tree.{choose}
 use Rattle.task_ast.specs.Tree.{loop, emit, transition, Choice, nothing, otherwise, test, Block, end, step}
 use Rattle.task_ast.specs.declared.BinaryOperator.{BinaryOperator}
-use Rattle.task_ast.specs.declared.BinaryOperator.TheVariants.{Multiply}
+use Rattle.task_ast.specs.declared.BinaryOperator.TheVariants.{Multiply, Divide, Remainder}
+use Rattle.task_ast.specs.declared.WordType.{WordType}
+use Rattle.task_ast.specs.declared.WordType.TheVariants.{Unsigned, Int, Long}
+use Rattle.task_ast.specs.declared.names.VariableName.{VariableName}
+use Rattle.task_ast.specs.declared.names.TaskName.{TaskName}
+use Rattle.task_ast.specs.Types.{by_width, joined_type, type_of}
 use Rattle.cost_bound.specs.Table.{expression_price, operator_price, statement_price, conditions_price, blocks_price, block_price}
 use Rattle.cost_bound.specs.Counts.{is_emit, statement_count, choice_count, block_count, emits_of}
 use Rattle.cost_bound.specs.declared.prices.Column.{Column}
@@ -12,62 +18,76 @@ abbrev pub emits_column : Column
 emits_column = record {
   leaf = 0;
   operator = 0;
+  long = 0;
   shift = 0;
+  long_shift = 0;
   multiply = 0;
   divide = 0;
   element = 0;
   assign = 0;
+  long_assign = 0;
   store = 0;
   emit = 1;
   transition = 0;
   choose = 0;
   condition = 0;
+  long_condition = 0;
   all_blocks = false;
   repeat = 0;
   turn = 0;
   each_turn = true;
 }
 
--- of each operator alike: the first clause makes it a proof by cases
-free_operator : (op : BinaryOperator) → operator_price emits_column op ≡ 0
-free_operator Multiply = refl
-free_operator _ = refl
+-- of each width alike
+free_width : (t : WordType) → by_width {A = ℕ} t 0 0 ≡ 0
+free_width Long = refl
+free_width Int = refl
+free_width Unsigned = refl
 
-free : {V : Type 0} (e : Expression V) → expression_price emits_column e ≡ 0
+-- of each operator alike: the first clause makes it a proof by cases
+free_operator : (op : BinaryOperator) (t : WordType) → operator_price emits_column op t ≡ 0
+free_operator Multiply t = refl
+free_operator Divide t = refl
+free_operator Remainder t = refl
+free_operator _ t = free_width t
+
+free : (e : Expression VariableName) → expression_price emits_column e ≡ 0
 free (number _) = refl
-free (name _) = refl
+free (long_number _) = refl
+free (name x) = free_width x.word_type
 free sense = refl
-free (unary _ e) = let a = free e in omega arith
-free (binary op a b) = let x = free_operator op in let y = free a in let z = free b in omega arith
-free (short_circuit _ a b) = let y = free a in let z = free b in omega arith
-free (shift _ e _) = let a = free e in omega arith
+free (unary _ e) = let x = free_width (type_of e) in let a = free e in omega arith
+free (binary op a b) =
+    let x = free_operator op.operator (joined_type (type_of a) (type_of b)) in let y = free a in let z = free b in omega arith
+free (short_circuit _ a b) = let x = free_width (joined_type (type_of a) (type_of b)) in let y = free a in let z = free b in omega arith
+free (shift _ e _) = let x = free_width (type_of e) in let a = free e in omega arith
 free (element _ e) = let a = free e in omega arith
 
 mutual
-  of_statement : {V T : Type 0} (s : Statement V T) → statement_price emits_column s ≡ statement_count is_emit s
+  of_statement : (s : Statement VariableName TaskName) → statement_price emits_column s ≡ statement_count is_emit s
   of_statement (declare _ _ None) = refl
   of_statement (declare _ _ (Some e)) = let a = free e in omega arith
-  of_statement (assign _ e) = let a = free e in omega arith
+  of_statement (assign x e) = let w = free_width x.word_type in let a = free e in omega arith
   of_statement (store _ i e) = let a = free i in let b = free e in omega arith
   of_statement (emit e) = let a = free e in omega arith
   of_statement (transition _) = refl
   of_statement (choose c) = let a = of_conditions c in let b = of_blocks c in omega arith
   of_statement (loop _ from _ below _ body) = let a = of_block body in let b = ap (λ n. (below - from) * n) a in omega (arith, b)
 
-  of_conditions : {V T : Type 0} (c : Choice V T) → conditions_price emits_column c ≡ 0
+  of_conditions : (c : Choice VariableName TaskName) → conditions_price emits_column c ≡ 0
   of_conditions nothing = refl
   of_conditions (otherwise _) = refl
-  of_conditions (test e _ more) = let a = free e in let b = of_conditions more in omega arith
+  of_conditions (test e _ more) = let w = free_width (type_of e) in let a = free e in let b = of_conditions more in omega arith
 
-  of_blocks : {V T : Type 0} (c : Choice V T) → blocks_price emits_column c ≡ choice_count is_emit c
+  of_blocks : (c : Choice VariableName TaskName) → blocks_price emits_column c ≡ choice_count is_emit c
   of_blocks nothing = refl
   of_blocks (otherwise b) = of_block b
   of_blocks (test _ b more) = let x = of_block b in let y = of_blocks more in omega arith
 
-  of_block : {V T : Type 0} (b : Block V T) → block_price emits_column b ≡ block_count is_emit b
+  of_block : (b : Block VariableName TaskName) → block_price emits_column b ≡ block_count is_emit b
   of_block end = refl
   of_block (step s more) = let a = of_statement s in let b = of_block more in omega arith
 
-pub block_price-emits : {V T : Type 0} (b : Block V T) → block_price emits_column b ≡ emits_of b
+pub block_price-emits : (b : Block VariableName TaskName) → block_price emits_column b ≡ emits_of b
 unfolding emits_of
 block_price-emits b = of_block b

@@ -2,7 +2,7 @@
 use Rattle.std.proofs.Common.{◌≡◌, ℕ, ◌+◌, ◌<◌, ◌≤◌, ◌||◌, Bool, false, List, [], ◌∷◌, length, replicate, ap, ◌∙◌, refl, arith, slice_index, slice_index_or}
 use Rattle.std.proofs.lemmas.List.{get_or-replicate}
 use Rattle.task_ast.specs.declared.Extent.{Extent}
-use Rattle.task_ast.specs.declared.Extent.TheVariants.{Scalar, Array}
+use Rattle.task_ast.specs.declared.Extent.TheVariants.{Scalar, Long, Array}
 use Rattle.task_ast.specs.declared.SharedDeclaration.{SharedDeclaration}
 use Rattle.cost_bound.specs.Table.{capped}
 use Rattle.cost_bound.specs.Counts.{Code, block_count, is_store_to, stores_of}
@@ -32,6 +32,7 @@ mark_is marks of h k l = h k l ∙ ap (λ b. b || of k) (get_or-replicate 256 k 
 
 capped_list_part : (stores of : ℕ) (e : Extent) → capped stores ≡ capped of → capped (list_part stores e) ≡ capped (list_part of e)
 capped_list_part stores of (Scalar _) h = refl
+capped_list_part stores of (Long _) h = refl
 capped_list_part stores of (Array n) h = omega arith
 
 pub list_is : (shared : List SharedDeclaration) (stores : List ℕ) (code : Code) (scalars entries result : ℕ) → length shared ≤ 256

@@ -5,7 +5,7 @@ use Rattle.std.proofs.lemmas.Option.{get_or_from_slice_get, slice_get_within}
 use Rattle.std.proofs.lemmas.List.{get_or-take, length-take}
 use Rattle.std.proofs.lemmas.Bool.{cases_lt}
 use Rattle.task_ast.specs.declared.Extent.{Extent}
-use Rattle.task_ast.specs.declared.Extent.TheVariants.{Scalar, Array}
+use Rattle.task_ast.specs.declared.Extent.TheVariants.{Scalar, Long, Array}
 use Rattle.task_ast.specs.declared.SharedDeclaration.{SharedDeclaration}
 use Rattle.cost_bound.specs.declared.allowance.Allow.{Allow}
 use Rattle.cost_bound.specs.declared.fault.Over.{Over}
@@ -24,6 +24,7 @@ small_emits (t ∷ ts) all =
 
 part_small : (written : Bool) (e : Extent) → 3 * version_part written e ≤ place_part written e
 part_small written (Scalar _) = omega arith
+part_small written (Long _) = omega arith
 part_small true (Array n) = omega arith
 part_small false (Array n) = omega arith
 

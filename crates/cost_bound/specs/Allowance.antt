@@ -5,7 +5,7 @@ use Rattle.std.specs.Prelude.{All}
 use Rattle.alp_text.specs.declared.lines.Span.{Span}
 use Rattle.task_ast.specs.Tree.{Task, Program}
 use Rattle.task_ast.specs.declared.Extent.{Extent}
-use Rattle.task_ast.specs.declared.Extent.TheVariants.{Scalar, Array}
+use Rattle.task_ast.specs.declared.Extent.TheVariants.{Scalar, Long, Array}
 use Rattle.task_ast.specs.declared.SharedDeclaration.{SharedDeclaration}
 use Rattle.task_ast.specs.declared.names.VariableName.{VariableName}
 use Rattle.task_ast.specs.declared.names.TaskName.{TaskName}
@@ -29,9 +29,10 @@ shared_sum_from part i (d ∷ ds) = part i d.extent + shared_sum_from part (i + 
 abbrev pub shared_sum : (ℕ → Extent → ℕ) → List SharedDeclaration → ℕ
 shared_sum part shared = shared_sum_from part 0 shared
 
--- the scalars that stand on the left of an assignment in a task
+-- the scalars that stand on the left of an assignment in a task, a long as two
 abbrev pub scalar_part : Bool → Extent → ℕ
 scalar_part assigned (Scalar _) = if assigned then 1 else 0
+scalar_part assigned (Long _) = if assigned then 2 else 0
 scalar_part assigned (Array _) = 0
 
 abbrev pub scalars_of : List SharedDeclaration → Code → ℕ
@@ -40,6 +41,7 @@ scalars_of shared code = shared_sum (λ i extent. scalar_part (block_assigns i c
 -- the entries of a task's commit list: its scalars, and of each array the counted stores, but no more than it has elements
 abbrev pub list_part : ℕ → Extent → ℕ
 list_part stores (Scalar _) = 0
+list_part stores (Long _) = 0
 list_part stores (Array length) = min length stores
 
 abbrev pub list_of : List SharedDeclaration → Code → ℕ
@@ -53,14 +55,16 @@ is_written (t ∷ ts) i = block_assigns i t.body || is_written ts i
 -- a version word for each element of an array that some task writes
 abbrev pub version_part : Bool → Extent → ℕ
 version_part written (Scalar _) = 0
+version_part written (Long _) = 0
 version_part written (Array length) = if written then length else 0
 
 abbrev pub versions_of : CheckedProgram → ℕ
 versions_of p = shared_sum (λ i extent. version_part (is_written p.tasks i) extent) p.shared
 
--- the words of a shared variable: two for a scalar; of an array that some task writes each element has a copy and a version
+-- the words of a shared variable: two for a scalar, four for a long; of an array that some task writes each element has a copy and a version
 abbrev pub place_part : Bool → Extent → ℕ
 place_part written (Scalar _) = 2
+place_part written (Long _) = 4
 place_part written (Array length) = if written then 3 * length else length
 
 abbrev pub places_of : CheckedProgram → ℕ

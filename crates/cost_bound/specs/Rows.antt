@@ -3,14 +3,16 @@ use Rattle.std.specs.Prelude.{◌≡◌, ℕ, ◌+◌, ◌*◌, ◌≤◌, Some,
 use Rattle.alp_text.specs.declared.lines.Span.{Span}
 use Rattle.task_ast.specs.Tree.{Expression, Statement}
 use Rattle.task_ast.specs.Tree as t
-use Rattle.task_ast.specs.declared.WordType.TheVariants.{Unsigned}
+use Rattle.task_ast.specs.declared.WordType.TheVariants.{Unsigned, Long}
 use Rattle.task_ast.specs.declared.BinaryOperator.{BinaryOperator}
 use Rattle.task_ast.specs.declared.BinaryOperator.TheVariants.{Add, Greater, Multiply, Divide, Remainder}
 use Rattle.task_ast.specs.declared.UnaryOperator.TheVariants.{Negate}
-use Rattle.task_ast.specs.declared.ShiftOperator.TheVariants.{Left}
+use Rattle.task_ast.specs.declared.ShiftOperator.TheVariants.{Left, Right}
 use Rattle.task_ast.specs.declared.ShortCircuitOperator.TheVariants.{And as BothHold}
 use Rattle.task_ast.specs.declared.Extent.{Extent}
+use Rattle.task_ast.specs.declared.PlacedOperator.{PlacedOperator}
 use Rattle.task_ast.specs.declared.Extent.TheVariants.{Scalar, Array}
+use Rattle.task_ast.specs.declared.Extent.TheVariants as extent
 use Rattle.task_ast.specs.declared.SharedDeclaration.{SharedDeclaration}
 use Rattle.task_ast.specs.declared.names.Variable.{Variable}
 use Rattle.task_ast.specs.declared.names.Variable.TheVariants.{Shared, Local}
@@ -23,6 +25,9 @@ use Rattle.cost_bound.specs.Allowance.{CheckedProgram, CheckedTask, bound_of, wo
 -- a place in a text, which no price looks at
 abbrev pub place : Span
 place = record { from = 0; to = 0 }
+
+abbrev pub here : BinaryOperator → PlacedOperator
+here op = record { operator = op; span = place }
 
 abbrev pub named : Variable → VariableName
 named v = record { span = place; variable = v; word_type = Unsigned }
@@ -45,6 +50,10 @@ i = named (Local 0)
 abbrev pub j : VariableName
 j = named (Local 1)
 
+-- a long
+abbrev pub l : VariableName
+l = record { span = place; variable = Shared 0; word_type = Long }
+
 abbrev pub goes_to : ℕ → Code
 goes_to n = t.step (t.transition (record { span = place; task = n })) t.end
 
@@ -65,24 +74,25 @@ senses = t.step (t.assign x t.sense) (goes_to 1)
 -- `x = x + sense(); emit(x); transition_to(..);`
 abbrev pub running_sum : CheckedProgram
 running_sum = source (declared (Scalar 0) ∷ [])
-    (t.step (t.assign x (t.binary Add (t.name x) t.sense)) (t.step (t.emit (t.name x)) (goes_to 0)) ∷ [])
+    (t.step (t.assign x (t.binary (here Add) (t.name x) t.sense)) (t.step (t.emit (t.name x)) (goes_to 0)) ∷ [])
 
 -- `for (i = 0; i < 64; i++) { x[0] = x[0] + 1; } transition_to(..);`, where x has 64 elements
 abbrev pub one_element : CheckedProgram
 one_element = source (declared (Array 64) ∷ [])
     (t.step (t.declare Unsigned i None)
-    (t.step (t.loop i 0 i 64 i (t.step (t.store x (t.number 0) (t.binary Add (t.element x (t.number 0)) (t.number 1))) t.end)) (goes_to 0)) ∷ [])
+    (t.step (t.loop i 0 i 64 i (t.step (t.store x (t.number 0) (t.binary (here Add) (t.element x (t.number 0)) (t.number 1))) t.end)) (goes_to 0)) ∷ [])
 
 -- `y = sense(); if (y > 9) { x = 1; } transition_to(..);` and a task that senses
 abbrev pub threshold : CheckedProgram
 threshold = source (declared (Scalar 0) ∷ declared (Scalar 0) ∷ [])
     (t.step (t.assign y t.sense)
-    (t.step (t.choose (t.test (t.binary Greater (t.name y) (t.number 9)) (t.step (t.assign x (t.number 1)) t.end) t.nothing)) (goes_to 1)) ∷ senses ∷ [])
+    (t.step (t.choose (t.test (t.binary (here Greater) (t.name y) (t.number 9)) (t.step (t.assign x (t.number 1)) t.end) t.nothing)) (goes_to 1)) ∷ senses ∷ [])
 
 -- `x = x + 1; y = y + 2; transition_to(..);` and a task that senses
 abbrev pub two_sums : CheckedProgram
 two_sums = source (declared (Scalar 0) ∷ declared (Scalar 0) ∷ [])
-    (t.step (t.assign x (t.binary Add (t.name x) (t.number 1))) (t.step (t.assign y (t.binary Add (t.name y) (t.number 2))) (goes_to 1)) ∷ senses ∷ [])
+    (t.step (t.assign x (t.binary (here Add) (t.name x) (t.number 1))) (t.step (t.assign y (t.binary (here Add) (t.name y) (t.number 2))) (goes_to 1)) ∷
+    senses ∷ [])
 
 -- `x[0] = 1; transition_to(..);`, where x has so many elements
 abbrev pub one_store : ℕ → CheckedProgram
@@ -101,7 +111,7 @@ abbrev pub emits : Expression VariableName → ℕ × ℕ
 emits e = priced (t.emit e)
 
 abbrev pub sums : BinaryOperator → Expression VariableName
-sums op = t.binary op (t.name x) t.sense
+sums op = t.binary (here op) (t.name x) t.sense
 
 abbrev pub sets : Code
 sets = t.step (t.assign x (t.number 1)) t.end
@@ -134,6 +144,29 @@ pub record PriceRows : Type 0 where
   pub loop : priced (t.loop i 2 i 5 i sets) ≡ (400, 64)
   pub loop_of_no_turns : priced (t.loop i 5 i 5 i sets) ≡ (40, 64)
 
+-- what is long, and what has a long part
+pub record LongPriceRows : Type 0 where
+  pub number : emits (t.long_number 7) ≡ (140, 56)
+  pub scalar : emits (t.name l) ≡ (140, 56)
+  pub unary : emits (t.unary Negate (t.name l)) ≡ (220, 88)
+  pub sum : emits (t.binary (here Add) (t.name l) t.sense) ≡ (260, 104)
+  pub sum_on_the_right : emits (t.binary (here Add) t.sense (t.name l)) ≡ (260, 104)
+  pub comparison : emits (t.binary (here Greater) (t.name l) t.sense) ≡ (260, 104)
+  -- the sum is of one word, since a comparison is; only the comparison has a long part
+  pub part_of_a_part : emits (t.binary (here Add) (t.binary (here Greater) (t.name l) t.sense) t.sense) ≡ (340, 136)
+  pub short_circuit : emits (t.short_circuit BothHold (t.name l) t.sense) ≡ (260, 104)
+  pub shift : emits (t.shift Left (t.name l) (record { value = 3; span = place })) ≡ (540, 88)
+  pub declaration_with_value : priced (t.declare Unsigned i (Some (t.name l))) ≡ (120, 56)
+  pub assignment : priced (t.assign l (t.number 1)) ≡ (120, 56)
+  pub assignment_of_a_long : priced (t.assign x (t.name l)) ≡ (120, 56)
+  pub condition : priced (t.choose (t.test (t.name l) t.end t.nothing)) ≡ (140, 64)
+
+-- `l = l + sense(); x = l >> 16; transition_to(..);`, where l is a long
+abbrev pub long_sum : CheckedProgram
+long_sum = source (record { word_type = Long; name = place; extent = extent.Long 65535 } ∷ declared (Scalar 0) ∷ [])
+    (t.step (t.assign l (t.binary (here Add) (t.name l) t.sense))
+    (t.step (t.assign y (t.shift Right (t.name l) (record { value = 16; span = place }))) (goes_to 0)) ∷ [])
+
 -- Of two arrays of 4 and 8 elements, y and z: ten stores to y in a loop, two to z, and the scalar x assigned twice. Then a task that
 -- assigns x once more, and loops over no turn in which it would store to z. A third array is only read.
 abbrev pub several : CheckedProgram
@@ -158,3 +191,7 @@ pub record AllowanceRows : Type 0 where
   pub several_list : greatest (list_of several.shared) several.tasks ≡ 7
   -- 400, the versions 144, one scalar 72, the code 40 + 10 · 300 + 2 · 200 + 2 · 80 + 100, and 7 entries of 40
   pub several_bound : bound_of several ≡ 4596
+  -- 400, a long and a scalar 216, the code 280 + 520 + 100, and three entries of 40
+  pub long_sum_bound : bound_of long_sum ≡ 1636
+  -- 600, the code 200 + 48 + 120 + 88 + 88, the places 6, and three entries of 3
+  pub long_sum_words : words_of long_sum ≡ 1159

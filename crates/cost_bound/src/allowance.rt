@@ -53,11 +53,11 @@ pub fn assigned_variables(body: &[Stmt<VariableName, TaskName>]) -> [bool; SHARE
     marks
 }
 
-/// How many shared scalars stand on the left of an assignment in the task.
+/// How many shared scalars stand on the left of an assignment in the task, a long as two.
 pub fn assigned_scalars(shared: &[SharedDeclaration], body: &[Stmt<VariableName, TaskName>]) -> u64
     requires few { length shared.now ≤ 256 }
     ensures value { result ≡ scalars_of shared.now (block_view body.now) }
-    ensures low { result ≤ 256 }
+    ensures low { result ≤ 512 }
 {
     scalars(shared, &assigned_variables(body))
 }
@@ -150,7 +150,7 @@ fn all_needs(
 
 /// The words of the task's code, where it assigns so many shared scalars; 2^64 - 1 where they are more.
 pub fn code_words(scalars: u64, body: &[Stmt<VariableName, TaskName>]) -> u64
-    requires few { scalars ≤ 256 }
+    requires few { scalars ≤ 512 }
     ensures { result ≡ capped (block_price (words_column scalars) (block_view body.now)) }
 {
     block_price(&words_column(scalars), body)

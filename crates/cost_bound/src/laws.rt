@@ -2,12 +2,17 @@
 ghost use Rattle.std.specs.Prelude.{ℕ, List};
 ghost use Rattle.cost_bound.specs.declared.allowance.Allow.{Allow};
 ghost use Rattle.cost_bound.specs.Allowance.{CheckedProgram, IsAllowed};
-ghost use Rattle.cost_bound.specs.Rows.{PriceRows, AllowanceRows};
+ghost use Rattle.cost_bound.specs.Rows.{PriceRows, LongPriceRows, AllowanceRows};
 ghost use Rattle.cost_bound.specs.Laws.{OneAnswer, IsSmall};
 
 /// Each line of the table of prices, counted by hand.
 pub fn price_rows()
     ensures { PriceRows }
+{}
+
+/// What longs cost, counted by hand.
+pub fn long_price_rows()
+    ensures { LongPriceRows }
 {}
 
 /// The allowances of a few small sources, counted by hand.

@@ -15,7 +15,7 @@ mod stores;
 
 pub use allowance::{Allow, assigned_scalars, assigned_variables, code_words, written_variables};
 pub use fault::Over;
-pub use laws::{allowance_rows, allowed_is_small, one_answer, price_rows};
+pub use laws::{allowance_rows, allowed_is_small, long_price_rows, one_answer, price_rows};
 use task_check::Checked;
 
 /// How many shared variables a source has at most.

@@ -4,10 +4,12 @@ ghost use Rattle.task_ast.specs.Tree.{Block, choice_of, choose};
 ghost use Rattle.task_ast.specs.declared.names.VariableName.{VariableName};
 ghost use Rattle.task_ast.specs.declared.names.TaskName.{TaskName};
 ghost use Rattle.task_ast.specs.View.{expression_of, statement_of, tested_of, block_view};
+ghost use Rattle.task_ast.specs.Types.{by_width};
 ghost use Rattle.cost_bound.specs.Table.{capped, operator_price, expression_price, statement_price, block_price, conditions_price, blocks_price};
 ghost use Rattle.cost_bound.specs.Table.{blocks_together, turns_together, words_column};
 
-use task_ast::{Arm, BinaryOperator, Expr, Stmt, TaskName, VariableName};
+use task_ast::types::{joined_type, type_of};
+use task_ast::{Arm, BinaryOperator, Expr, Stmt, TaskName, VariableName, WordType};
 
 /// One column of the table of prices: what each kind of node costs, its parts aside.
 #[derive(Clone, Copy)]
@@ -16,7 +18,11 @@ pub struct Column {
     pub leaf: u64,
     /// An operator without a row of its own.
     pub operator: u64,
+    /// What of these is long or has a long part.
+    pub long: u64,
     pub shift: u64,
+    /// A shift of a long.
+    pub long_shift: u64,
     pub multiply: u64,
     /// `/` and `%`.
     pub divide: u64,
@@ -24,6 +30,8 @@ pub struct Column {
     pub element: u64,
     /// A declaration with a value, an assignment to a scalar.
     pub assign: u64,
+    /// An assignment to a long.
+    pub long_assign: u64,
     /// An assignment to an element of an array.
     pub store: u64,
     pub emit: u64,
@@ -31,6 +39,8 @@ pub struct Column {
     pub choose: u64,
     /// Each condition of an `if`.
     pub condition: u64,
+    /// What a long condition costs more.
+    pub long_condition: u64,
     /// All blocks of an `if` count, or else the greatest.
     pub all_blocks: bool,
     pub repeat: u64,
@@ -72,8 +82,18 @@ fn turns_together(column: &Column, turns: u16, turn: u64) -> u64
     }
 }
 
-fn operator_price(column: &Column, op: BinaryOperator) -> u64
-    ensures { result ≡ operator_price column.now op }
+// One of two prices, by the width of a type.
+fn by_width(word_type: WordType, one: u64, two: u64) -> u64
+    ensures { result ≡ by_width word_type one two }
+{
+    match word_type {
+        WordType::Long => two,
+        WordType::Int | WordType::Unsigned => one,
+    }
+}
+
+fn operator_price(column: &Column, op: BinaryOperator, operands: WordType) -> u64
+    ensures { result ≡ operator_price column.now op operands }
 {
     match op {
         BinaryOperator::Multiply => column.multiply,
@@ -88,7 +108,7 @@ fn operator_price(column: &Column, op: BinaryOperator) -> u64
         | BinaryOperator::NotEqual
         | BinaryOperator::And
         | BinaryOperator::Xor
-        | BinaryOperator::Or => column.operator,
+        | BinaryOperator::Or => by_width(operands, column.operator, column.long),
     }
 }
 
@@ -96,16 +116,28 @@ fn expression_price(column: &Column, e: &Expr<VariableName>) -> u64
     ensures { result ≡ capped (expression_price column.now (expression_of e.now)) }
 {
     match e {
-        Expr::Number(_) | Expr::Name(_) | Expr::Sense => plus(column.leaf, 0),
+        Expr::Number(_) | Expr::Sense => plus(column.leaf, 0),
+        Expr::LongNumber(_) => plus(column.long, 0),
+        Expr::Name(x) => plus(by_width(x.word_type, column.leaf, column.long), 0),
         Expr::Element(_, index) => plus(column.element, expression_price(column, index)),
-        Expr::Unary(_, inner) => plus(column.operator, expression_price(column, inner)),
+        Expr::Unary(_, inner) => plus(
+            by_width(type_of(inner), column.operator, column.long),
+            expression_price(column, inner),
+        ),
         Expr::Binary(op, a, b) => plus(
-            operator_price(column, *op),
+            operator_price(column, op.operator, joined_type(type_of(a), type_of(b))),
             plus(expression_price(column, a), expression_price(column, b)),
         ),
-        Expr::Shift(_, left, _) => plus(column.shift, expression_price(column, left)),
+        Expr::Shift(_, left, _) => plus(
+            by_width(type_of(left), column.shift, column.long_shift),
+            expression_price(column, left),
+        ),
         Expr::ShortCircuit(_, a, b) => plus(
-            column.operator,
+            by_width(
+                joined_type(type_of(a), type_of(b)),
+                column.operator,
+                column.long,
+            ),
             plus(expression_price(column, a), expression_price(column, b)),
         ),
     }
@@ -117,8 +149,9 @@ fn statement_price(column: &Column, s: &Stmt<VariableName, TaskName>) -> u64
 {
     match s {
         Stmt::Declare(_, _, None) => 0,
-        Stmt::Declare(_, _, Some(value)) | Stmt::Assign(_, value) => plus(
-            column.assign,
+        Stmt::Declare(_, _, Some(value)) => plus(column.assign, expression_price(column, value)),
+        Stmt::Assign(x, value) => plus(
+            by_width(x.word_type, column.assign, column.long_assign),
             expression_price(column, value),
         ),
         Stmt::Store(_, index, value) => plus(
@@ -172,13 +205,12 @@ fn conditions_price(column: &Column, arms: &[Arm<VariableName, TaskName>]) -> u6
 {
     let mut n = 0;
     for i in (0..arms.len()).rev() {
-        n = plus(
-            plus(
-                column.condition,
-                expression_price(column, &arms[i].condition),
-            ),
-            n,
+        let condition = &arms[i].condition;
+        let own = plus(
+            column.condition,
+            by_width(type_of(condition), 0, column.long_condition),
         );
+        n = plus(plus(own, expression_price(column, condition)), n);
     }
     n
 }
@@ -213,16 +245,20 @@ pub fn block_price(column: &Column, body: &[Stmt<VariableName, TaskName>]) -> u6
 pub const CYCLES: Column = Column {
     leaf: 40,
     operator: 40,
+    long: 80,
     shift: 100,
+    long_shift: 400,
     multiply: 300,
     divide: 400,
     element: 60,
     assign: 40,
+    long_assign: 80,
     store: 120,
     emit: 60,
     transition: 100,
     choose: 40,
     condition: 0,
+    long_condition: 20,
     all_blocks: false,
     repeat: 40,
     turn: 40,
@@ -233,16 +269,20 @@ pub const CYCLES: Column = Column {
 pub const EMITS: Column = Column {
     leaf: 0,
     operator: 0,
+    long: 0,
     shift: 0,
+    long_shift: 0,
     multiply: 0,
     divide: 0,
     element: 0,
     assign: 0,
+    long_assign: 0,
     store: 0,
     emit: 1,
     transition: 0,
     choose: 0,
     condition: 0,
+    long_condition: 0,
     all_blocks: false,
     repeat: 0,
     turn: 0,
@@ -251,22 +291,26 @@ pub const EMITS: Column = Column {
 
 /// The column of words, for a task that assigns so many shared scalars.
 pub fn words_column(scalars: u64) -> Column
-    requires few { scalars ≤ 256 }
+    requires few { scalars ≤ 512 }
     ensures { result ≡ words_column scalars }
 {
     Column {
         leaf: 16,
         operator: 16,
+        long: 32,
         shift: 16,
+        long_shift: 32,
         multiply: 16,
         divide: 16,
         element: 24,
         assign: 24,
+        long_assign: 40,
         store: 60,
         emit: 24,
         transition: 40 + 16 * scalars,
         choose: 0,
         condition: 24,
+        long_condition: 8,
         all_blocks: true,
         repeat: 24,
         turn: 0,

@@ -7,19 +7,20 @@ use task_ast::{Extent, SharedDeclaration};
 
 fn scalar_part(assigned: bool, extent: Extent) -> u64
     ensures value { result ≡ scalar_part assigned extent }
-    ensures one { result ≤ 1 }
+    ensures low { result ≤ 2 }
 {
     match extent {
         Extent::Scalar(_) => if assigned { 1 } else { 0 },
+        Extent::Long(_) => if assigned { 2 } else { 0 },
         Extent::Array(_) => 0,
     }
 }
 
-/// How many shared scalars are marked.
+/// How many shared scalars are marked, a long as two.
 pub fn scalars(shared: &[SharedDeclaration], assigned: &[bool; SHARED]) -> u64
     requires few { length shared.now ≤ 256 }
     ensures value { result ≡ shared_sum (λ i extent. scalar_part (slice_index_or assigned.now i false) extent) shared.now }
-    ensures low { result ≤ 256 }
+    ensures low { result ≤ 512 }
 {
     let mut n = 0u64;
     for i in (0..shared.len()).rev() {
@@ -33,7 +34,7 @@ fn list_part(stores: u64, extent: Extent) -> u64
     ensures low { result ≤ 65535 }
 {
     match extent {
-        Extent::Scalar(_) => 0,
+        Extent::Scalar(_) | Extent::Long(_) => 0,
         Extent::Array(length) => stores.min(length as u64),
     }
 }
@@ -56,7 +57,7 @@ fn version_part(written: bool, extent: Extent) -> u64
     ensures low { result ≤ 65535 }
 {
     match extent {
-        Extent::Scalar(_) => 0,
+        Extent::Scalar(_) | Extent::Long(_) => 0,
         Extent::Array(length) => if written { length as u64 } else { 0 },
     }
 }
@@ -80,6 +81,7 @@ fn place_part(written: bool, extent: Extent) -> u64
 {
     match extent {
         Extent::Scalar(_) => 2,
+        Extent::Long(_) => 4,
         Extent::Array(length) => if written {
             3 * length as u64
         } else {

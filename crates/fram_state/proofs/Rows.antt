@@ -10,7 +10,7 @@ use Rattle.image_text.specs.image_map.MapValue.{IsFramWord, IsVariable, fits}
 use Rattle.image_text.specs.ImageValue.{place_of}
 use Rattle.task_ast.specs.alp_text.Sequence.{◌>>?◌}
 use Rattle.task_ast.specs.declared.Extent.{Extent}
-use Rattle.task_ast.specs.declared.Extent.TheVariants.{Scalar, Array}
+use Rattle.task_ast.specs.declared.Extent.TheVariants.{Scalar, Long, Array}
 use Rattle.task_ast.specs.declared.SharedDeclaration.{SharedDeclaration}
 use Rattle.source_report.specs.source_values.Runs.{initial_words}
 use Rattle.source_report.specs.SourceReport.{spelled}
@@ -127,12 +127,18 @@ kept_alike text shared name d j h = by_number (number_of (shared_names text shar
 
 same_length : (e d : Extent) → same_kind e d ≡ true → length_of e ≡ length_of d
 same_length (Scalar w) (Scalar v) h = refl
+same_length (Scalar w) (Long m) h = cc
 same_length (Scalar w) (Array m) h = cc
+same_length (Long w) (Scalar v) h = cc
+same_length (Long w) (Long v) h = refl
+same_length (Long w) (Array m) h = cc
 same_length (Array n) (Scalar v) h = cc
+same_length (Array n) (Long v) h = cc
 same_length (Array n) (Array m) h = ap Some (eqb-true n m h)
 
 initial_long : (e : Extent) → length (initial_words e) ≡ unwrap_or (length_of e) 1
 initial_long (Scalar w) = refl
+initial_long (Long w) = refl
 initial_long (Array n) = length-replicate n 0
 
 words_long : (words : List ℕ) (v : Variable) → length words ≡ 24064 → IsVariable v

@@ -4,9 +4,10 @@ use Rattle.std.specs.List.{position_from}
 use Rattle.std.specs.Str.{bytes_eq}
 use Rattle.task_ast.specs.alp_text.Sequence.{◌>>?◌}
 use Rattle.task_ast.specs.declared.WordType.{WordType}
-use Rattle.task_ast.specs.declared.WordType.TheVariants.{Unsigned, Int}
+use Rattle.task_ast.specs.declared.WordType.TheVariants.{Unsigned, Int, Long}
 use Rattle.task_ast.specs.declared.Extent.{Extent}
 use Rattle.task_ast.specs.declared.Extent.TheVariants.{Scalar, Array}
+use Rattle.task_ast.specs.declared.Extent.TheVariants as extent
 use Rattle.task_ast.specs.declared.SharedDeclaration.{SharedDeclaration}
 use Rattle.task_ast.specs.declared.names.Variable.TheVariants.{Shared}
 use Rattle.task_ast.specs.Paths.{CheckedBlock}
@@ -29,11 +30,13 @@ task_names text p = map (λ t. spelled text t.name) p.tasks
 abbrev pub same_type : WordType → WordType → Bool
 same_type Unsigned Unsigned = true
 same_type Int Int = true
+same_type Long Long = true
 same_type _ _ = false
 
--- whether both are scalars, or both arrays of one length
+-- whether both are scalars of one width, or both arrays of one length
 abbrev pub same_kind : Extent → Extent → Bool
 same_kind (Scalar w) (Scalar v) = true
+same_kind (extent.Long w) (extent.Long v) = true
 same_kind (Array n) (Array m) = n == m
 same_kind _ _ = false
 

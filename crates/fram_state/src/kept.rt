@@ -39,6 +39,7 @@ fn same_type(one: WordType, other: WordType) -> bool
     match one {
         WordType::Unsigned => other == WordType::Unsigned,
         WordType::Int => other == WordType::Int,
+        WordType::Long => other == WordType::Long,
     }
 }
 
@@ -47,6 +48,7 @@ fn same_kind(one: Extent, other: Extent) -> bool
 {
     match (one, other) {
         (Extent::Scalar(_), Extent::Scalar(_)) => true,
+        (Extent::Long(_), Extent::Long(_)) => true,
         (Extent::Array(n), Extent::Array(m)) => n == m,
         _ => false,
     }

@@ -2,7 +2,6 @@
 ghost use Rattle.std.specs.Prelude.{◌≡◌, ◌≤◌, ◌+◌, ◌<◌, ◌^◌, IfOk, OnOk, length};
 ghost use Rattle.image_text.specs.image_map.MapValue.{IsFramWord, IsVariable};
 ghost use Rattle.image_text.specs.ImageValue.{place_of};
-ghost use Rattle.source_report.specs.source_values.Runs as runs;
 ghost use Rattle.fram_state.specs.Suits.{line_of, declared_line};
 ghost use Rattle.fram_state.specs.Kept.{shared_names};
 ghost use Rattle.fram_state.specs.Migrated as spec;
@@ -14,9 +13,10 @@ use crate::edition::Edition;
 use crate::kept::{Numbers, kept_from};
 use crate::runtime::{word_in, words_from};
 use image_text::Variable;
+use source_meaning::initial_words;
 use source_report::spelled;
 use std::alloc::{AllocError, Global};
-use task_ast::{Extent, SharedDeclaration};
+use task_ast::SharedDeclaration;
 
 // Writes a row over words, from a place on.
 fn put_row(words: &mut [u16], place: usize, row: &[u16])
@@ -37,16 +37,6 @@ fn put_word(words: &mut [u16], address: u16, word: u16)
     ensures len { length words.new ≡ 24064 }
 {
     words[(address as usize - 0x4400) / 2] = word;
-}
-
-// The words that a variable begins with.
-fn initial_words(alloc: Global, extent: Extent) -> Result<Vec<u16>, AllocError>
-    ensures { IfOk result (λ v. v.items ≡ runs.initial_words extent) }
-{
-    match extent {
-        Extent::Scalar(word) => vec![in alloc; word; 1],
-        Extent::Array(words) => vec![in alloc; 0; words as usize],
-    }
 }
 
 // The words of the variable of a number in the FRAM of an edition.

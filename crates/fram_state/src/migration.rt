@@ -72,7 +72,7 @@ fn is_scalar(extent: Extent) -> bool
     ensures { result ≡ plans.is_scalar extent }
 {
     match extent {
-        Extent::Scalar(_) => true,
+        Extent::Scalar(_) | Extent::Long(_) => true,
         Extent::Array(_) => false,
     }
 }

@@ -26,7 +26,7 @@ use Rattle.link_image.specs.compiled_runs.Program.{compiled_program}
 use Rattle.link_image.specs.whole_programs.Laws.{IsLaidOutText}
 use Rattle.link_image.specs.Compiled.{IsCompiled}
 use Rattle.link_image.specs.Laws.{fresh_world}
-use Rattle.link_image.proofs.Interface.{images_are_fresh, zero_at, version}
+use Rattle.link_image.proofs.Interface.{laid_out, images_are_fresh, zero_at, version}
 use Rattle.compiled_laws.proofs.Interface.{sources_are_ready}
 use Rattle.image_reports.specs.Laws.{ImagesKeepCapacities}
 use Rattle.image_reports.proofs.Begins.{begins_with_source, run_of_words}
@@ -40,7 +40,7 @@ module _ (text : List ℕ) (p : CheckedProgram) (allow : Allow) (image : ImageVa
   l = c.layout
 
   laid : IsLaidOutText text p allow c.plans l
-  laid = record { accepted = ok; plan = c.is_plan; layout = c.is_layout }
+  laid = laid_out text p allow image ok c
 
   pub attempts_fit : AttemptsFit p l
   attempts_fit s x readings words undecided =

@@ -24,7 +24,7 @@ use Rattle.compiled_laws.specs.Ready.{IsReadyToRun}
 use Rattle.compiled_laws.proofs.Interface.{sources_are_ready}
 use Rattle.link_image.specs.Compiled.{IsCompiled}
 use Rattle.link_image.specs.Laws.{fresh_world, IsFreshImage}
-use Rattle.link_image.proofs.Interface.{images_are_fresh}
+use Rattle.link_image.proofs.Interface.{laid_out, images_are_fresh}
 use Rattle.image_reports.specs.ImageLaw.{known_behind, KeepsCode, HoldsAt, ImagesKeepTheLaws}
 use Rattle.image_reports.specs.Resumed.{BelongsTo, HoldsFrom, ImagesBelong}
 use Rattle.image_reports.proofs.Begins.{run_of_states}
@@ -56,7 +56,7 @@ module _ (text : List ℕ) (p : CheckedProgram) (allow : Allow) (image : ImageVa
   x = fresh_world image
 
   ready : IsReadyToRun p l
-  ready = sources_are_ready text p allow c.plans l (record { accepted = ok; plan = c.is_plan; layout = c.is_layout })
+  ready = sources_are_ready text p allow c.plans l (laid_out text p allow image ok c)
 
   new : IsFreshImage text p allow l image
   new = images_are_fresh text p allow image ok c

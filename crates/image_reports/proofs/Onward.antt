@@ -51,7 +51,7 @@ use Rattle.compiled_laws.proofs.Interface.{sources_are_ready}
 use Rattle.link_image.specs.Compiled.{IsCompiled}
 use Rattle.link_image.specs.Laws.{IsFreshImage}
 use Rattle.link_image.specs.source_runs.Tells.{at_first, EachChargePays}
-use Rattle.link_image.proofs.Interface.{images_are_fresh}
+use Rattle.link_image.proofs.Interface.{laid_out, images_are_fresh}
 use Rattle.image_reports.specs.ImageLaw.{start_due, attempt_due, all_due, VersionsBelow, KeepsCode, FetchesCode, IsRaisedSoon, RaisesVersion}
 use Rattle.image_reports.specs.Resumed.{BelongsTo, known_from, HoldsFrom}
 use Rattle.image_reports.proofs.Capacities.{attempts_fit}
@@ -145,7 +145,7 @@ module _ (text : List ℕ) (p : CheckedProgram) (allow : Allow) (image : ImageVa
   b = started fram number readings
 
   pub ready : IsReadyToRun p l
-  ready = sources_are_ready text p allow c.plans l (record { accepted = ok; plan = c.is_plan; layout = c.is_layout })
+  ready = sources_are_ready text p allow c.plans l (laid_out text p allow image ok c)
 
   pub new : IsFreshImage text p allow l image
   new = images_are_fresh text p allow image ok c

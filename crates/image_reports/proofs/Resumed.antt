@@ -40,7 +40,7 @@ use Rattle.compiled_laws.specs.Ready.{IsReadyToRun}
 use Rattle.compiled_laws.proofs.Interface.{sources_are_ready}
 use Rattle.link_image.specs.Compiled.{IsCompiled}
 use Rattle.link_image.specs.Laws.{HasStates}
-use Rattle.link_image.proofs.Interface.{maps_find_states, worlds_stand}
+use Rattle.link_image.proofs.Interface.{laid_out, maps_find_states, worlds_stand}
 use Rattle.image_reports.specs.Sources.{IsSourcesMap}
 use Rattle.image_reports.specs.Resumed.{BelongsTo, origin_of, pending_transition, IsToldOnward, ToldAtRest, ToldPending, ImagesResume}
 use Rattle.image_reports.proofs.CompiledTold.{models_are_of_sources}
@@ -74,7 +74,7 @@ module _ (text : List ℕ) (p : CheckedProgram) (allow : Allow) (image : ImageVa
   origin = origin_of l x
 
   ready : IsReadyToRun p l
-  ready = sources_are_ready text p allow c.plans l (record { accepted = ok; plan = c.is_plan; layout = c.is_layout })
+  ready = sources_are_ready text p allow c.plans l (laid_out text p allow image ok c)
 
   states : HasStates text p allow l
   states = worlds_stand text p allow image ok c

@@ -24,7 +24,7 @@ use Rattle.link_image.specs.source_maps.Maps.{map_of}
 use Rattle.link_image.specs.source_maps.Laws.{IsSourceMap}
 use Rattle.link_image.specs.Compiled.{IsCompiled}
 use Rattle.link_image.specs.Laws.{fresh_world}
-use Rattle.link_image.proofs.Interface.{images_are_fresh, maps_find_states}
+use Rattle.link_image.proofs.Interface.{laid_out, images_are_fresh, maps_find_states}
 use Rattle.compiled_laws.proofs.Interface.{sources_are_ready}
 use Rattle.image_reports.specs.Laws.{ImagesAreTold, ImagesAreMapped}
 use Rattle.image_reports.proofs.Begins.{begins_with_source, run_of_words}
@@ -62,7 +62,7 @@ module _ (text : List ℕ) (p : CheckedProgram) (allow : Allow) (image : ImageVa
         words = refl;
         rests = maps_find_states text p allow image ok c;
       } in
-      let ready = sources_are_ready text p allow c.plans l (record { accepted = ok; plan = c.is_plan; layout = c.is_layout }) in
+      let ready = sources_are_ready text p allow c.plans l (laid_out text p allow image ok c) in
       let new = images_are_fresh text p allow image ok c in
       let P : Option MapValue → Type 0 = λ o. IsToldBySource text p m cs b r (report_of (start_with image.words o) r) in
       subst P (sym c.map)

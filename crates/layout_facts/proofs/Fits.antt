@@ -6,6 +6,7 @@ use Rattle.compiled_model.specs.task_ast.declared.names.Variable.{Variable}
 use Rattle.compiled_model.specs.task_ast.declared.names.Variable.TheVariants.{Shared, Local}
 use Rattle.compiled_model.specs.task_ast.Tree as t
 use Rattle.compiled_model.specs.task_ast.Paths.{CheckedExpression, CheckedStatement, CheckedChoice, CheckedBlock}
+use Rattle.compiled_model.specs.task_ast.Longs.{IsPlainExpression, IsPlainStatement, IsPlainChoice, IsPlainBlock, IsWordVariable}
 use Rattle.compiled_model.specs.path_sums.Sums.{statement_sum, choice_sum, block_sum}
 use Rattle.compiled_model.specs.path_sums.Access.{summary}
 use Rattle.compiled_model.specs.cost_bound.Counts.{is_shared}
@@ -54,52 +55,56 @@ module _ (shared : List SharedDeclaration) (p : Places) (written : ℕ → Bool)
   written_array (Shared v) h w = have.copied v h (w v (eq-eqb v v refl))
   written_array (Local n) h w = absurd h
 
-  expression_fits : (e : CheckedExpression) → ExpressionUses shared e → ExpressionFits p e
-  expression_fits (t.number w) h = tt
-  expression_fits (t.name x) h = known x.variable h
-  expression_fits (t.element x index) h = (is_array x.variable h.0, expression_fits index h.1)
-  expression_fits t.sense h = tt
-  expression_fits (t.unary op e) h = expression_fits e h
-  expression_fits (t.binary op a b) h = (expression_fits a h.0, expression_fits b h.1)
-  expression_fits (t.shift op e count) h = expression_fits e h
-  expression_fits (t.short_circuit op a b) h = (expression_fits a h.0, expression_fits b h.1)
+  expression_fits : (e : CheckedExpression) → IsPlainExpression IsWordVariable e → ExpressionUses shared e → ExpressionFits p e
+  expression_fits (t.number w) q h = tt
+  expression_fits (t.long_number w) q h = q
+  expression_fits (t.name x) q h = (known x.variable h, q)
+  expression_fits (t.element x index) q h = (is_array x.variable h.0, expression_fits index q.1 h.1, q.0)
+  expression_fits t.sense q h = tt
+  expression_fits (t.unary op e) q h = expression_fits e q h
+  expression_fits (t.binary op a b) q h = (expression_fits a q.0 h.0, expression_fits b q.1 h.1)
+  expression_fits (t.shift op e count) q h = expression_fits e q h
+  expression_fits (t.short_circuit op a b) q h = (expression_fits a q.0 h.0, expression_fits b q.1 h.1)
 
   -- the sums say what some path writes; what is written there may be written
   abbrev Writes : (ℕ → Bool) → Type 0
   Writes writes = (v : ℕ) → writes v ≡ true → written v ≡ true
 
   mutual
-    statement_fits : (s : CheckedStatement) → StatementUses shared s → Writes (λ v. (statement_sum (summary (Shared v)) s).writes) → StatementFits p written s
-    statement_fits (t.declare of x None) h w = tt
-    statement_fits (t.declare of x (Some e)) h w = (expression_fits e h.1, local_target x.variable h.0)
-    statement_fits (t.assign x e) h w = (expression_fits e h.1, target x.variable h.0 (λ v k. w v (assignment_writes v x e k)))
-    statement_fits (t.store x index e) h w =
-        (written_array x.variable h.0 (λ v k. w v (store_writes v x index e k)), expression_fits index h.1, expression_fits e h.2)
-    statement_fits (t.choose choice) h w = choice_fits choice h w
-    statement_fits (t.loop x from tested below stepped body) h w =
-        (is_local x.variable h.0, λ some. block_fits body h.1 (λ v k. w v (loop_writes v x from tested below stepped body some k)))
-    statement_fits (t.emit e) h w = expression_fits e h
-    statement_fits (t.transition task) h w = tt
+    statement_fits : (s : CheckedStatement) → IsPlainStatement IsWordVariable s → StatementUses shared s
+        → Writes (λ v. (statement_sum (summary (Shared v)) s).writes) → StatementFits p written s
+    statement_fits (t.declare of x None) q h w = tt
+    statement_fits (t.declare of x (Some e)) q h w = (expression_fits e q.2 h.1, local_target x.variable h.0, q.1)
+    statement_fits (t.assign x e) q h w = (expression_fits e q.1 h.1, target x.variable h.0 (λ v k. w v (assignment_writes v x e k)), q.0)
+    statement_fits (t.store x index e) q h w =
+        (written_array x.variable h.0 (λ v k. w v (store_writes v x index e k)), expression_fits index q.1 h.1, expression_fits e q.2 h.2)
+    statement_fits (t.choose choice) q h w = choice_fits choice q h w
+    statement_fits (t.loop x from tested below stepped body) q h w =
+        (is_local x.variable h.0, λ some. block_fits body q h.1 (λ v k. w v (loop_writes v x from tested below stepped body some k)))
+    statement_fits (t.emit e) q h w = expression_fits e q h
+    statement_fits (t.transition task) q h w = tt
 
-    choice_fits : (c : CheckedChoice) → ChoiceUses shared c → Writes (λ v. (choice_sum (summary (Shared v)) c).writes) → ChoiceFits p written c
-    choice_fits t.nothing h w = tt
-    choice_fits (t.otherwise block) h w = block_fits block h w
-    choice_fits (t.test e block more) h w = (
-      expression_fits e h.0,
-      block_fits block h.1 (λ v k. w v (taken_writes v e block more k)),
-      choice_fits more h.2 (λ v k. w v (passed_writes v e block more k)),
+    choice_fits : (c : CheckedChoice) → IsPlainChoice IsWordVariable c → ChoiceUses shared c
+        → Writes (λ v. (choice_sum (summary (Shared v)) c).writes) → ChoiceFits p written c
+    choice_fits t.nothing q h w = tt
+    choice_fits (t.otherwise block) q h w = block_fits block q h w
+    choice_fits (t.test e block more) q h w = (
+      expression_fits e q.0 h.0,
+      block_fits block q.1 h.1 (λ v k. w v (taken_writes v e block more k)),
+      choice_fits more q.2 h.2 (λ v k. w v (passed_writes v e block more k)),
     )
 
-    block_fits : (b : CheckedBlock) → BlockUses shared b → Writes (λ v. (block_sum (summary (Shared v)) b).writes) → BlockFits p written b
-    block_fits t.end h w = tt
-    block_fits (t.step s more) h w = (
-      statement_fits s h.0 (λ v k. w v (first_writes v s more k)),
-      λ on. block_fits more h.1 (λ v k. w v (others_write v s more on k)),
+    block_fits : (b : CheckedBlock) → IsPlainBlock IsWordVariable b → BlockUses shared b
+        → Writes (λ v. (block_sum (summary (Shared v)) b).writes) → BlockFits p written b
+    block_fits t.end q h w = tt
+    block_fits (t.step s more) q h w = (
+      statement_fits s q.0 h.0 (λ v k. w v (first_writes v s more k)),
+      λ on. block_fits more q.1 h.1 (λ v k. w v (others_write v s more on k)),
     )
 
 pub names_fit : NamesFit
-names_fit p allow plans l h t task layout k uses =
-    block_fits p.shared (task_places l task layout) (some_path_writes task.body) have task.body uses (λ v a. a)
+names_fit p allow plans l h t task layout k plain uses =
+    block_fits p.shared (task_places l task layout) (some_path_writes task.body) have task.body plain uses (λ v a. a)
   where
     have : Have p.shared (task_places l task layout) (some_path_writes task.body)
     have = record {

@@ -33,6 +33,7 @@ place_words (v ∷ vs) = (home_region v).words + place_words vs
 
 part_is : (written : Bool) (e : Extent) (v : VariablePlace) → IsPlaceOf written e v → home_part e ≡ (home_region v).words
 part_is written (extent.Scalar w) (Scalar home copy) k = refl
+part_is written (extent.Long n) v k = absurd k
 part_is written (extent.Array n) (Array elements length copies) k = sym k.0
 part_is written (extent.Scalar w) (Array _ _ _) k = absurd k
 part_is written (extent.Array n) (Scalar _ _) k = absurd k

@@ -1,5 +1,5 @@
 -- The commit list has room for all that a task may list.
-use Rattle.std.proofs.Common.{◌≡◌, ℕ, ◌+◌, ◌<◌, ◌≤◌, List, length, arith, ap, sym, ◌∙◌, Some}
+use Rattle.std.proofs.Common.{◌≡◌, ℕ, ◌+◌, ◌<◌, ◌≤◌, true, List, length, arith, ap, sym, ◌∙◌, Some}
 use Rattle.std.specs.Prelude.{slice_get}
 use Rattle.std.proofs.lemmas.List.Elements.{All-weaker}
 use Rattle.std.proofs.lemmas.Option.{slice_get_within}
@@ -26,10 +26,10 @@ module _ (p : CheckedProgram) (allow : Allow) (plans : List TaskPlanValue) (l : 
   within x m = let lt = slice_get_within l.variables x.array _ m.is_array.place in let count = h.layout.variables.count in omega (arith, lt, count)
 
   -- no element is of a scalar
-  none : (v w : ℕ) (d : SharedDeclaration) → slice_get p.shared v ≡ Some d → d.extent ≡ extent.Scalar w → (x : Element) → IsCopied (places_of l layout) x
+  none : (v : ℕ) (d : SharedDeclaration) → slice_get p.shared v ≡ Some d → is_scalar d.extent ≡ true → (x : Element) → IsCopied (places_of l layout) x
       → x.array ≡ v → ⊥
-  none v w d e s x m at =
-      let place = scalar_has_place p allow plans l h v (scalar_at p.shared v d e (ap is_scalar s)) in
+  none v d e s x m at =
+      let place = scalar_has_place p allow plans l h v (scalar_at p.shared v d e s) in
       let both : Some (Array m.elements m.length (Some m.copies)) ≡ Some (Scalar place.0 place.1) =
       sym m.is_array.place ∙ ap (slice_get l.variables) at ∙ place.2 in
       cc
@@ -50,7 +50,7 @@ module _ (p : CheckedProgram) (allow : Allow) (plans : List TaskPlanValue) (l : 
       → listed_of j xs ≤ list_part (stores j) d.extent
   part stores xs listed few k j d e at =
       part_at_most (listed_of j xs) (stores j) d.extent (few j)
-      (λ w s. listed_none j xs (All-weaker (IsCopied (places_of l layout)) (λ x. x.array ≡ j → ⊥) (λ x m i. none j w d found s x m i) xs listed.copied))
+      (λ s. listed_none j xs (All-weaker (IsCopied (places_of l layout)) (λ x. x.array ≡ j → ⊥) (λ x m i. none j d found s x m i) xs listed.copied))
       (λ n s. listed_most j n xs listed.different
       (All-weaker (IsCopied (places_of l layout)) (λ x. x.array ≡ j → x.index < n) (λ x m i. below j n d found s x m i) xs listed.copied))
     where

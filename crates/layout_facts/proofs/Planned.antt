@@ -46,12 +46,14 @@ scalar_at shared v d e h = subst (λ o. IsSomeAnd o (λ d. is_scalar d.extent �
 -- what is no scalar has a length
 pub array_extent : (e : Extent) → is_scalar e ≡ false → (n : ℕ) × (e ≡ extent.Array n)
 array_extent (extent.Scalar w) h = let no : true ≡ false = h in cc
+array_extent (extent.Long n) h = let no : true ≡ false = h in cc
 array_extent (extent.Array n) h = (n, refl)
 
 -- the place of a declared scalar, and of an array
 place_scalar : (written : Bool) (e : Extent) (x : VariablePlace) → is_scalar e ≡ true → IsPlaceOf written e x → (home copy : ℕ) × (x ≡ Scalar home copy)
 place_scalar written (extent.Scalar w) (Scalar home copy) s k = (home, copy, refl)
 place_scalar written (extent.Scalar w) (Array _ _ _) s k = absurd k
+place_scalar written (extent.Long n) x s k = absurd k
 place_scalar written (extent.Array n) x s k = let no : false ≡ true = s in cc
 
 record ArrayPlace (written : Bool) (n : ℕ) (x : VariablePlace) : Type 0 where
@@ -62,6 +64,7 @@ record ArrayPlace (written : Bool) (n : ℕ) (x : VariablePlace) : Type 0 where
 
 place_array : (written : Bool) (n : ℕ) (e : Extent) (x : VariablePlace) → e ≡ extent.Array n → IsPlaceOf written e x → ArrayPlace written n x
 place_array written n (extent.Scalar w) x s k = let no : extent.Scalar w ≡ extent.Array n = s in cc
+place_array written n (extent.Long m) x s k = absurd k
 place_array written n (extent.Array m) (Scalar _ _) s k = absurd k
 place_array written n (extent.Array m) (Array elements length copies) s k =
     let same : m ≡ n = cc in
@@ -70,11 +73,13 @@ place_array written n (extent.Array m) (Array elements length copies) s k =
 -- the declaration of what has the place of a scalar, or of an array
 extent_scalar : (written : Bool) (e : Extent) (home copy : ℕ) → IsPlaceOf written e (Scalar home copy) → is_scalar e ≡ true
 extent_scalar written (extent.Scalar w) home copy k = refl
+extent_scalar written (extent.Long n) home copy k = refl
 extent_scalar written (extent.Array n) home copy k = absurd k
 
 extent_array : (written : Bool) (e : Extent) (elements n : ℕ) (copies : Option ArrayCopies) → IsPlaceOf written e (Array elements n copies)
     → (e ≡ extent.Array n) × (is_some copies ≡ written)
 extent_array written (extent.Scalar w) elements n copies k = absurd k
+extent_array written (extent.Long m) elements n copies k = absurd k
 extent_array written (extent.Array m) elements n copies k = (ap (λ y. extent.Array y) (sym k.0), k.1)
 
 module _ (p : CheckedProgram) (allow : Allow) (plans : List TaskPlanValue) (l : MemoryMap) (h : HasLayout p allow plans l) where

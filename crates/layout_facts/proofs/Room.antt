@@ -5,9 +5,10 @@ use Rattle.std.specs.Prelude.{slice_get, All, AllPairs, ◌==◌, if◌then◌el
 use Rattle.std.proofs.lemmas.Bool.{cases_Bool, eqb-true, eq-eqb, ne_eqb, lt-ltb, le-ltb, cases_lt, cases_eq, cases_order, and_right}
 use Rattle.std.proofs.lemmas.List.Elements.{All-head, All-tail}
 use Rattle.compiled_model.specs.task_ast.declared.Extent.{Extent}
-use Rattle.compiled_model.specs.task_ast.declared.Extent.TheVariants.{Scalar, Array}
+use Rattle.compiled_model.specs.task_ast.declared.Extent.TheVariants.{Scalar, Long, Array}
 use Rattle.compiled_model.specs.task_ast.declared.SharedDeclaration.{SharedDeclaration}
 use Rattle.compiled_model.specs.cost_bound.Allowance.{shared_sum_from, list_part}
+use Rattle.compiled_model.specs.war_analysis.Plans.{is_scalar}
 use Rattle.compiled_model.specs.memory_map.Spots.{Element}
 use Rattle.compiled_model.specs.lower.Spots.{listed_of, AreDifferent}
 
@@ -174,7 +175,8 @@ sum_at_most f g i (d ∷ ds) h =
     omega (arith, here, rest)
 
 -- so many stores, and no more than there are elements
-pub part_at_most : (listed stores : ℕ) (e : Extent) → listed ≤ stores → ((w : ℕ) → e ≡ Scalar w → listed ≡ 0) → ((n : ℕ) → e ≡ Array n → listed ≤ n)
+pub part_at_most : (listed stores : ℕ) (e : Extent) → listed ≤ stores → (is_scalar e ≡ true → listed ≡ 0) → ((n : ℕ) → e ≡ Array n → listed ≤ n)
     → listed ≤ list_part stores e
-part_at_most listed stores (Scalar w) h a b = let none = a w refl in omega (arith, none)
+part_at_most listed stores (Scalar w) h a b = let none = a refl in omega (arith, none)
+part_at_most listed stores (Long w) h a b = let none = a refl in omega (arith, none)
 part_at_most listed stores (Array n) h a b = let most = b n refl in omega (arith, h, most)

@@ -67,6 +67,7 @@ row_is (c ∷ ds) (row ∷ rows) (suc v) d r e =
 
 pub initial_length : (written : Bool) (e : Extent) (v : VariablePlace) → IsPlaceOf written e v → length (initial_words e) ≡ place_length v
 initial_length written (extent.Scalar w) (Scalar home copy) k = refl
+initial_length written (extent.Long n) v k = absurd k
 initial_length written (extent.Array n) (Array elements words copies) k = length-replicate n 0 ∙ sym k.0
 initial_length written (extent.Scalar w) (Array _ _ _) k = absurd k
 initial_length written (extent.Array n) (Scalar _ _) k = absurd k

@@ -40,6 +40,7 @@ use Rattle.memory_map.specs.MemoryMap.{MemoryMap, word_place}
 use Rattle.memory_map.specs.Places.{end_of, home_region, AreInOrder, IsLaidOut}
 use Rattle.memory_map.proofs.Interface.{apart_of, even_of}
 use Rattle.linked_code.proofs.runtime_code.Interface.{places_are_in_fram}
+use Rattle.link_image.proofs.Laid.{laid_out}
 
 -- words that stand one behind the other
 holds_each : (f : ℕ → ℕ) (p : ℕ) (ws : List ℕ) → ((k : ℕ) → k < length ws → f (p + 2 * k) ≡ slice_index ws k) → Holds f p ws
@@ -94,7 +95,7 @@ module _ (text : List ℕ) (p : CheckedProgram) (allow : Allow) (image : ImageVa
     allowed = ok.allowed;
     plan = c.is_plan;
     layout = c.is_layout;
-    few = privates_are_few text p allow c.plans l (record { accepted = ok; plan = c.is_plan; layout = c.is_layout });
+    few = privates_are_few text p allow c.plans l (laid_out text p allow image ok c);
   }
 
   abbrev rules : IsLaidOut l

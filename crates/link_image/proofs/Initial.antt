@@ -1,5 +1,6 @@
 -- The words that shared variables start with are words.
-use Rattle.std.proofs.Common.{◌≡◌, ℕ, zero, suc, ◌+◌, ◌-◌, ◌%◌, ◌<◌, ◌&&◌, ◌==◌, nat_lt, refl, sym, ap, ap₂, ◌∙◌, subst, arith, Bool, true, false, List, []}
+use Rattle.std.proofs.Common.{◌≡◌, ℕ, zero, suc, ◌+◌, ◌-◌, ◌^◌, ◌/◌, ◌%◌, ◌<◌, ◌&&◌, ◌==◌, nat_lt, refl, sym, ap, ap₂, ◌∙◌, subst, arith, Bool, true, false}
+use Rattle.std.proofs.Common.{List, []}
 use Rattle.std.proofs.Common.{◌∷◌, ◌++◌, length, map, replicate, All}
 use Rattle.std.proofs.lemmas.List.Elements.{All-nil, All-cons, All-head, All-tail}
 use Rattle.std.proofs.lemmas.Bool.Decides.{nat_tests}
@@ -9,18 +10,18 @@ use Rattle.task_ast.specs.declared.Extent.{Extent}
 use Rattle.task_ast.specs.declared.Extent.TheVariants as extent
 use Rattle.linked_code.specs.task_lex.declared.token.Token.{Token}
 use Rattle.linked_code.specs.task_lex.Lex.{depth_after}
-use Rattle.whole_programs.specs.task_parse.Grammar.{Row, IsExtent, IsShared, IsProgram, negated}
+use Rattle.whole_programs.specs.task_parse.Grammar.{Row, IsExtent, IsWorth, IsLongExtent, IsShared, IsProgram, negated}
 use Rattle.whole_programs.specs.task_parse.Parsed.{Program}
 use Rattle.whole_programs.specs.task_parse.Grammar as grammar
 use Rattle.whole_programs.specs.source_values.Runs.{CheckedProgram, initial_words, initial_rows}
 use Rattle.source_meaning.specs.Acceptance.{Checks}
-use Rattle.whole_programs.proofs.Interface.{AreSound, are_sound}
+use Rattle.whole_programs.proofs.Interface.{OfWords, AreSound, are_sound}
 use Rattle.compiled_runs.specs.compiled_model.View.{are_words, are_rows}
 
 -- tokens with words for numbers
 abbrev HaveWords : List Token → Type 0
 HaveWords [] = Unit {0}
-HaveWords (t ∷ ts) = IsWord t.value × HaveWords ts
+HaveWords (t ∷ ts) = OfWords t × HaveWords ts
 
 sound_words : (d : ℕ) (ts : List Token) → AreSound d ts → HaveWords ts
 sound_words d [] h = tt
@@ -34,9 +35,10 @@ back_words : (xs ys : List Token) → HaveWords (xs ++ ys) → HaveWords ys
 back_words [] ys h = h
 back_words (x ∷ xs) ys h = back_words xs ys h.1
 
--- a scalar starts with a word
+-- a scalar starts with a word, a long with two
 abbrev pub StartsWithWord : Extent → Type 0
 StartsWithWord (extent.Scalar w) = IsWord w
+StartsWithWord (extent.Long n) = n < 2 ^ 32
 StartsWithWord (extent.Array n) = Unit {0}
 
 negated_word : (n : ℕ) → IsWord (negated n)
@@ -45,8 +47,17 @@ negated_word n = omega arith
 extent_word : (ts : List Token) (e : Extent) → IsExtent ts e → HaveWords ts → StartsWithWord e
 extent_word ts e grammar.nothing_written h = omega arith
 extent_word ts e (grammar.array o n c is_o is_n is_c) h = tt
-extent_word ts e (grammar.value q n is_q is_n) h = h.1.0
+extent_word ts e (grammar.value q n is_q is_n) h = h.1.0.0
 extent_word ts e (grammar.negative q m n is_q is_m is_n) h = negated_word n.value
+
+worth_words : (t : Token) (w : ℕ) → IsWorth t w → OfWords t → w < 2 ^ 32
+worth_words t w (grammar.number n is) h = let low = h.0 in omega (arith, low)
+worth_words t w (grammar.long_number n is) h = let low = h.0 in let high = h.1 in omega (arith, low, high)
+
+long_extent_words : (ts : List Token) (e : Extent) → IsLongExtent ts e → HaveWords ts → StartsWithWord e
+long_extent_words ts e grammar.no_value h = omega arith
+long_extent_words ts e (grammar.long_value q n w is_q is_n) h = worth_words n w is_n h.1.0
+long_extent_words ts e (grammar.long_negative q m n w is_q is_m is_n) h = omega arith
 
 abbrev pub StartsSo : SharedDeclaration → Type 0
 StartsSo d = StartsWithWord d.extent
@@ -54,6 +65,8 @@ StartsSo d = StartsWithWord d.extent
 shared_word_starts : (ts : List Token) (d : SharedDeclaration) → IsShared ts d → HaveWords ts → StartsSo d
 shared_word_starts ts d (grammar.shared h t n z of more found is_h is_t is_n is_found is_z) w =
     extent_word more found is_found (front_words more (z ∷ []) w.1.1.1)
+shared_word_starts ts d (grammar.long h t l n z more found is_h is_t is_l is_n is_found is_z) w =
+    long_extent_words more found is_found (front_words more (z ∷ []) w.1.1.1.1)
 
 rows_start : (ts : List Token) (ds : List SharedDeclaration) → Row IsShared ts ds → HaveWords ts → All StartsSo ds
 rows_start ts [] r h = All-nil StartsSo
@@ -80,6 +93,10 @@ zeros_are_words (suc n) = zeros_are_words n
 
 initial_are_words : (e : Extent) → StartsWithWord e → are_words (initial_words e) ≡ true
 initial_are_words (extent.Scalar w) h = let t : nat_lt w 0x10000 ≡ true = grind (arith, nat_tests) in ap (λ b. b && true) t
+initial_are_words (extent.Long n) h =
+    let low : nat_lt (n % 65536) 0x10000 ≡ true = grind (arith, nat_tests) in
+    let high : nat_lt (n / 65536) 0x10000 ≡ true = grind (arith, nat_tests, h) in
+    ap₂ (λ a b. a && (b && true)) low high
 initial_are_words (extent.Array n) h = zeros_are_words n
 
 same_length : (n : ℕ) → (n == n) ≡ true

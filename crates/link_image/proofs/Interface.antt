@@ -4,3 +4,7 @@
 pub use Rattle.link_image.proofs.States.{maps_find_states, worlds_stand}
 -- The world of an image before anything was done, and the place of a word at twice its place in bytes.
 pub use Rattle.link_image.proofs.Fresh.{zero_at, version, half, images_are_fresh}
+-- The text of an image, with its layout.
+pub use Rattle.link_image.proofs.Laid.{laid_out}
+-- What keeps a text from being compiled.
+pub use Rattle.link_image.proofs.Uncompiled.{uncompiled_by_pass}

@@ -77,6 +77,7 @@ variable_put : (e : Extent) (place : VariablePlace) (vs : List VariablePlace) (r
     → initial_put e place a old ≡ shared_word (place ∷ vs) (initial_words e ∷ rows) a
 variable_put (extent.Scalar w) (Scalar home copy) vs rows from end a old kind order even same = scalar_word home copy w a old vs rows order.0.even even same
 variable_put (extent.Scalar w) (Array elements n copies) vs rows from end a old kind order even same = absurd kind
+variable_put (extent.Long n) place vs rows from end a old kind order even same = absurd kind
 variable_put (extent.Array n) (Scalar home copy) vs rows from end a old kind order even same = absurd kind
 variable_put (extent.Array n) (Array elements m copies) vs rows from end a old kind order even same =
     array_word elements n a end (Array elements m copies) vs rows old order.1 same

@@ -51,6 +51,7 @@ one_row x text d (extent.Scalar w) (Scalar home copy) (v ∷ []) m l h =
     first a = omega arith
 one_row x text d (extent.Scalar w) (Scalar home copy) (v ∷ u ∷ row) m l h = absurd (omega (arith, l))
 one_row x text d (extent.Scalar w) (Array elements n copies) row m l h = absurd m
+one_row x text d (extent.Long n) place row m l h = absurd m
 one_row x text d (extent.Array n) (Scalar home copy) row m l h = absurd m
 one_row x text d (extent.Array n) (Array elements k copies) row m l h =
     array_row x (variable_of text d (Array elements k copies)).name elements 0 n row (l ∙ length-replicate n 0) (λ i below. h i (omega (arith, below, m)))

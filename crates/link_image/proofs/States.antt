@@ -29,6 +29,7 @@ use Rattle.source_meaning.specs.Acceptance.{IsAcceptedText}
 use Rattle.link_image.specs.Compiled.{IsCompiled}
 use Rattle.link_image.specs.Laws.{MapsFindStates, ImagesHaveStates}
 use Rattle.link_image.proofs.Rows.{RowStands, all_rows}
+use Rattle.link_image.proofs.Laid.{laid_out}
 
 module _ (text : List ℕ) (p : CheckedProgram) (allow : Allow) (plans : List TaskPlanValue) (l : MemoryMap) (laid : HasLayout p allow plans l)
     (s : State) (x : World) (is_state : (state_view p l).is_state s ≡ true)
@@ -58,7 +59,7 @@ layout_of text p allow image ok c = record {
   allowed = ok.allowed;
   plan = c.is_plan;
   layout = c.is_layout;
-  few = privates_are_few text p allow c.plans c.layout (record { accepted = ok; plan = c.is_plan; layout = c.is_layout });
+  few = privates_are_few text p allow c.plans c.layout (laid_out text p allow image ok c);
 }
 
 pub maps_find_states : MapsFindStates

@@ -9,5 +9,6 @@ use Rattle.memory_map.specs.declared.place.VariablePlace.TheVariants.{Scalar, Ar
 abbrev pub initial_put : Extent → VariablePlace → ℕ → ℕ → ℕ
 initial_put (extent.Scalar w) (Scalar home copy) a old = if a == home then w else old
 initial_put (extent.Scalar w) (Array elements n copies) a old = old
+initial_put (extent.Long n) place a old = old
 initial_put (extent.Array n) (Scalar home copy) a old = old
 initial_put (extent.Array n) (Array elements m copies) a old = old

@@ -6,7 +6,7 @@ use Rattle.std.proofs.lemmas.Bool.{cases_lt}
 use Rattle.array_versions.specs.fram_board.Effects.{Store}
 use Rattle.task_ast.specs.Tree as t
 use Rattle.task_ast.specs.Paths.{CheckedExpression, CheckedStatement, CheckedChoice, CheckedBlock}
-use Rattle.task_ast.specs.declared.BinaryOperator.{BinaryOperator}
+use Rattle.task_ast.specs.declared.PlacedOperator.{PlacedOperator}
 use Rattle.task_ast.specs.declared.names.Variable.{Variable}
 use Rattle.task_ast.specs.declared.names.Variable.TheVariants.{Shared, Local}
 use Rattle.cost_bound.specs.Allowance.{CheckedTask}
@@ -15,7 +15,9 @@ use Rattle.source_values.specs.Statements as source
 use Rattle.source_values.specs.Statements.{Attempt, Outcome, goes_on, to_task, if_value, run_statement, run_choice, run_block}
 use Rattle.source_values.specs.Statements.{statement_emits, choice_emits, block_emits}
 use Rattle.cost_bound.specs.Counts.{statement_count, choice_count, block_count, is_shared, is_store_to, stores_of}
-use Rattle.source_values.proofs.Interface.{more_turns}
+use Rattle.source_values.proofs.Interface.{more_turns, assigned_word, word_as_it_is}
+use Rattle.task_ast.specs.Types.{IsOneWord, type_of}
+use Rattle.task_ast.specs.declared.names.VariableName.{VariableName}
 use Rattle.path_runs.proofs.Interface.{runs_go_on_along_paths}
 use Rattle.array_versions.specs.declared.operations.PlainOperation.{PlainOperation}
 use Rattle.array_versions.specs.Operations.{plain_word}
@@ -34,8 +36,8 @@ use Rattle.lower.specs.Spots.{listed_of}
 use Rattle.lower.specs.Agreement.{IsTarget, IsWrittenArray, IsLocal, ExpressionFits, StatementFits, ChoiceFits, BlockFits, StandsFor, at_variable}
 use Rattle.lower.specs.Agreement.{at_emit_count, in_buffer, valued, truth_of, AgreesWithValue, BlocksAgree}
 use Rattle.lower.proofs.Addresses.{fram_place, placed, spot_place}
-use Rattle.lower.proofs.Updates.{is_update, update_goes_on, is_element_update, element_update_goes_on}
-use Rattle.lower.proofs.Values.{small_modulo, holds_bit, truth_pushed, lowering_agrees, expressions_agree}
+use Rattle.lower.proofs.Updates.{is_update, update_goes_on, is_element_update, stored_value, element_update_goes_on}
+use Rattle.lower.proofs.Values.{small_modulo, holds_bit, truth_pushed, fits_word, lowering_agrees, expressions_agree}
 use Rattle.lower.proofs.Emitted.{EmitsAtMost, statement_emitted, block_emitted}
 use Rattle.lower.proofs.Stored.{same_variables, same_list, same_emits, spot_list, spot_emits, scalar_set, local_holds, after_emit, emit_spots}
 use Rattle.lower.proofs.Stored.{emit_list, emitted_emits, few_entries}
@@ -137,8 +139,8 @@ module _ (z : Scene) where
       (goes_on (source.assigned (record m { left = left }) (Shared i) 0 x)) in
       subst P (ap (λ x. plain_word op x v) (h.stands.variables.words i k.0)) (write_does (Shared i) m listed w n count most u left k h)
 
-  sides_do : (x : Variable) (op : BinaryOperator) (a b : CheckedExpression) (o : Option PlainOperation) (m : Attempt) (listed : List Element) (w : WordState)
-      (n : ℕ) (count most : ℕ → ℕ) → updating x op a ≡ o → ExpressionFits z.p (t.binary op a b) → IsTarget z.p z.written x
+  sides_do : (x : Variable) (op : PlacedOperator) (a b : CheckedExpression) (o : Option PlainOperation) (m : Attempt) (listed : List Element) (w : WordState)
+      (n : ℕ) (count most : ℕ → ℕ) → updating x op.operator a ≡ o → ExpressionFits z.p (t.binary op a b) → IsTarget z.p z.written x
       → Begins z m listed w n count most
       → Does z w.fram most w.stack (behaviour (sides_set z.p x op a b o) w)
       (if_value (value_of (t.binary op a b) m.variables m.left) m (λ v s. goes_on (source.assigned s x 0 v)))
@@ -146,7 +148,8 @@ module _ (z : Scene) where
   sides_do x op a b (Some o) m listed w n count most is fits target h =
       let next : ℕ → Attempt → Outcome = λ v s. goes_on (source.assigned s x 0 (plain_word o (word_at m.variables x 0) v)) in
       let last = one (update_step z.p o x) in
-      subst (Does z w.fram most w.stack (behaviour (sides_set z.p x op a b (Some o)) w)) (sym (update_goes_on x op a b o m (is_update x op a o is)))
+      let same = update_goes_on x op a b o m (is_update x op.operator a o is) (fits_word z.p a fits.0) (fits_word z.p b fits.1) in
+      subst (Does z w.fram most w.stack (behaviour (sides_set z.p x op a b (Some o)) w)) (sym same)
       (subst (λ r. Does z w.fram most w.stack r (if_value (value_of b m.variables m.left) m next)) (sym (joined_go_on (lowered_expression z.p b) last w))
       (does_value z most w.stack w (behaviour (lowered_expression z.p b) w) (value_of b m.variables m.left) (behaviour last) m next
       (value_agrees b m listed w fits.1 h.stands) (λ y. update_does o x m listed w n count most y.0 y.1 target h)))
@@ -158,8 +161,24 @@ module _ (z : Scene) where
       → Does z w.fram most w.stack (behaviour (assignment z.p x e) w)
       (if_value (value_of e m.variables m.left) m (λ v s. goes_on (source.assigned s x 0 v)))
   assignment_does x (t.binary op a b) m listed w n count most fits target h =
-      sides_do x op a b (updating x op a) m listed w n count most refl fits target h
+      sides_do x op a b (updating x op.operator a) m listed w n count most refl fits target h
   assignment_does x e m listed w n count most fits target h = setting_does x e m listed w n count most fits target h
+
+  -- a variable of one word is set to the value as it is
+  set_as_it_is : (x : VariableName) (e : CheckedExpression) (m : Attempt) (o : Option (ℕ × List ℕ)) → IsOneWord (type_of e) → IsOneWord x.word_type
+      → if_value o m (λ v s. goes_on (source.assigned_value s x e v)) ≡ if_value o m (λ v s. goes_on (source.assigned s x.variable 0 v))
+  set_as_it_is x e m None of_value of_variable = refl
+  set_as_it_is x e m (Some y) of_value of_variable = ap goes_on (assigned_word (record m { left = y.1 }) x e y.0 of_value of_variable)
+
+  set_does : (x : VariableName) (e : CheckedExpression) (m : Attempt) (listed : List Element) (w : WordState) (n : ℕ) (count most : ℕ → ℕ)
+      → ExpressionFits z.p e → IsTarget z.p z.written x.variable → IsOneWord x.word_type
+      → Begins z m listed w n count most
+      → Does z w.fram most w.stack (behaviour (assignment z.p x.variable e) w)
+      (if_value (value_of e m.variables m.left) m (λ v s. goes_on (source.assigned_value s x e v)))
+  set_does x e m listed w n count most fits target word h =
+      subst (Does z w.fram most w.stack (behaviour (assignment z.p x.variable e) w))
+      (sym (set_as_it_is x e m (value_of e m.variables m.left) (fits_word z.p e fits) word))
+      (assignment_does x.variable e m listed w n count most fits target h)
 
   -- ---- stores to elements
 
@@ -214,8 +233,8 @@ module _ (z : Scene) where
 
   -- an assignment to an element does what the source's does
   abbrev AssignsElement : Variable → CheckedExpression → CheckedExpression → Attempt → WordState → (ℕ → ℕ) → Program → Type 0
-  AssignsElement x index e m w most q = Does z w.fram most w.stack (behaviour q w)
-      (if_value (value_of index m.variables m.left) m (λ i s. if_value (value_of e s.variables s.left) s (λ v s. goes_on (source.assigned s x i v))))
+  AssignsElement x index e m w most q =
+      Does z w.fram most w.stack (behaviour q w) (if_value (value_of index m.variables m.left) m (stored_value x e))
 
   element_setting_does : (x : Variable) (index e : CheckedExpression) (m : Attempt) (listed : List Element) (w : WordState) (most : ℕ → ℕ)
       → IsWrittenArray z.p x → ExpressionFits z.p index → ExpressionFits z.p e
@@ -225,16 +244,23 @@ module _ (z : Scene) where
       index_and_value_do index e (one (store_step z.p x)) (λ i v s. goes_on (source.assigned s x i v)) m listed w most of_index of_e h.stands
       (λ i v left. store_step_does x i v m listed w left most array h)
 
-  element_sides_do : (x : Variable) (index : CheckedExpression) (op : BinaryOperator) (a b : CheckedExpression) (o : Option PlainOperation) (m : Attempt)
-      (listed : List Element) (w : WordState) (most : ℕ → ℕ) → element_updating x index op a ≡ o
+  element_sides_do : (x : Variable) (index : CheckedExpression) (op : PlacedOperator) (a b : CheckedExpression) (o : Option PlainOperation) (m : Attempt)
+      (listed : List Element) (w : WordState) (most : ℕ → ℕ) → element_updating x index op.operator a ≡ o
       → IsWrittenArray z.p x → ExpressionFits z.p index → ExpressionFits z.p (t.binary op a b)
       → Begins z m listed w 0 (λ u. if is_shared u x then 1 else 0) most
       → AssignsElement x index (t.binary op a b) m w most (element_sides_set z.p x index op a b o)
   element_sides_do x index op a b None m listed w most is array of_index of_e h =
       element_setting_does x index (t.binary op a b) m listed w most array of_index of_e h
   element_sides_do x index op a b (Some o) m listed w most is array of_index of_e h =
+      let u = is_element_update x index op.operator a o is in
+      let element = subst (ExpressionFits z.p) u.is of_e.0 in
       subst (Does z w.fram most w.stack (behaviour (element_sides_set z.p x index op a b (Some o)) w))
-      (sym (element_update_goes_on x index op a b o m (is_element_update x index op a o is)))
+      (sym (element_update_goes_on x index op a b o m u (record {
+        index = fits_word z.p index of_index;
+        other = fits_word z.p u.other element.1;
+        left = fits_word z.p a of_e.0;
+        right = fits_word z.p b of_e.1;
+      })))
       (index_and_value_do index b (one (update_element_step z.p o x))
       (λ i v s. goes_on (source.assigned s x i (plain_word o (word_at m.variables x i) v))) m listed w most of_index of_e.1 h.stands
       (λ i v left. update_step_does o x i v m listed w left most array h))
@@ -245,8 +271,32 @@ module _ (z : Scene) where
       → Begins z m listed w 0 (λ u. if is_shared u x then 1 else 0) most
       → AssignsElement x index e m w most (element_assignment z.p x index e)
   element_does x index (t.binary op a b) m listed w most array of_index of_e h =
-      element_sides_do x index op a b (element_updating x index op a) m listed w most refl array of_index of_e h
+      element_sides_do x index op a b (element_updating x index op.operator a) m listed w most refl array of_index of_e h
   element_does x index e m listed w most array of_index of_e h = element_setting_does x index e m listed w most array of_index of_e h
+
+  -- an element is set to a value of one word as it is
+  value_as_it_is : (x : Variable) (i : ℕ) (e : CheckedExpression) (s : Attempt) (o : Option (ℕ × List ℕ)) → IsOneWord (type_of e)
+      → if_value o s (λ v s. goes_on (source.assigned s x i (source.word_of e v))) ≡ if_value o s (λ v s. goes_on (source.assigned s x i v))
+  value_as_it_is x i e s None of_value = refl
+  value_as_it_is x i e s (Some y) of_value =
+      ap (λ v. goes_on (source.assigned (record s { left = y.1 }) x i v)) (word_as_it_is e y.0 of_value)
+
+  stored_as_it_is : (x : Variable) (e : CheckedExpression) (m : Attempt) (o : Option (ℕ × List ℕ)) → IsOneWord (type_of e)
+      → if_value o m (λ i s. if_value (value_of e s.variables s.left) s (λ v s. goes_on (source.assigned s x i (source.word_of e v))))
+      ≡ if_value o m (stored_value x e)
+  stored_as_it_is x e m None of_value = refl
+  stored_as_it_is x e m (Some y) of_value = value_as_it_is x y.0 e (record m { left = y.1 }) (value_of e m.variables y.1) of_value
+
+  element_store_does : (x : Variable) (index e : CheckedExpression) (m : Attempt) (listed : List Element) (w : WordState) (most : ℕ → ℕ) → IsWrittenArray z.p x
+      → ExpressionFits z.p index → ExpressionFits z.p e
+      → Begins z m listed w 0 (λ u. if is_shared u x then 1 else 0) most
+      → Does z w.fram most w.stack (behaviour (element_assignment z.p x index e) w)
+      (if_value (value_of index m.variables m.left) m
+      (λ i s. if_value (value_of e s.variables s.left) s (λ v s. goes_on (source.assigned s x i (source.word_of e v)))))
+  element_store_does x index e m listed w most array of_index of_e h =
+      subst (Does z w.fram most w.stack (behaviour (element_assignment z.p x index e) w))
+      (sym (stored_as_it_is x e m (value_of index m.variables m.left) (fits_word z.p e of_e)))
+      (element_does x index e m listed w most array of_index of_e h)
 
   -- ---- emits
 
@@ -450,9 +500,9 @@ module _ (z : Scene) where
         → Does z w.fram most w.stack (behaviour (lowered_statement z.p s) w) (run_statement s m)
     statement_does (t.declare of x None) m listed w most fits h = record
         { stores = tt; stack_kept = refl; listed = listed; stands = h.stands; few = few_listed z m listed w _ _ most h }
-    statement_does (t.declare of x (Some e)) m listed w most fits h = assignment_does x.variable e m listed w _ _ most fits.0 fits.1 h
-    statement_does (t.assign x e) m listed w most fits h = assignment_does x.variable e m listed w _ _ most fits.0 fits.1 h
-    statement_does (t.store x index e) m listed w most fits h = element_does x.variable index e m listed w most fits.0 fits.1 fits.2 h
+    statement_does (t.declare of x (Some e)) m listed w most fits h = set_does x e m listed w _ _ most fits.0 fits.1 fits.2 h
+    statement_does (t.assign x e) m listed w most fits h = set_does x e m listed w _ _ most fits.0 fits.1 fits.2 h
+    statement_does (t.store x index e) m listed w most fits h = element_store_does x.variable index e m listed w most fits.0 fits.1 fits.2 h
     statement_does (t.choose choice) m listed w most fits h = choice_does choice m listed w most fits h
     statement_does (t.loop x from tested below stepped body) m listed w most fits h =
         loop_does x.variable from below (lowered_block z.p body) (run_block body) (block_emits body) (λ v. block_count (is_store_to v) body) fits.0
@@ -462,8 +512,10 @@ module _ (z : Scene) where
         let P : Behaviour → Type 0 = λ b. Does z w.fram most w.stack b (run_statement (t.emit e) m) in
         subst P (sym (joined_go_on (lowered_expression z.p e) last w))
         (does_value z most w.stack w (behaviour (lowered_expression z.p e) w) (value_of e m.variables m.left) (behaviour last) m
-        (λ v s. goes_on (record s { emitted = s.emitted ++ v ∷ [] }))
-        (value_agrees e m listed w fits h.stands) (λ y. emit_does m listed w _ most y.0 y.1 h))
+        (λ v s. goes_on (record s { emitted = s.emitted ++ source.word_of e v ∷ [] }))
+        (value_agrees e m listed w fits h.stands) (λ y.
+        subst (λ word. Does z w.fram most w.stack (behaviour last (valued w y)) (goes_on (record m { emitted = m.emitted ++ word ∷ []; left = y.1 })))
+        (sym (word_as_it_is e y.0 (fits_word z.p e fits))) (emit_does m listed w _ most y.0 y.1 h)))
     statement_does (t.transition task) m listed w most fits h = transition_does task.task m listed w _ _ most h
 
     choice_does : (c : CheckedChoice) (m : Attempt) (listed : List Element) (w : WordState) (most : ℕ → ℕ) → ChoiceFits z.p z.written c

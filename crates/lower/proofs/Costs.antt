@@ -4,9 +4,10 @@ use Rattle.std.proofs.Common.{◌≡◌, ℕ, zero, suc, ◌+◌, ◌-◌, ◌*�
 use Rattle.std.proofs.Common.{Option, None, refl, sym, subst, arith}
 use Rattle.task_ast.specs.Tree as t
 use Rattle.task_ast.specs.Paths.{CheckedExpression, CheckedStatement, CheckedChoice, CheckedBlock}
-use Rattle.task_ast.specs.declared.BinaryOperator.{BinaryOperator}
+use Rattle.task_ast.specs.declared.PlacedOperator.{PlacedOperator}
 use Rattle.task_ast.specs.declared.names.Variable.{Variable}
 use Rattle.task_ast.specs.declared.names.Variable.TheVariants.{Shared, Local}
+use Rattle.task_ast.proofs.Interface.{width_least}
 use Rattle.cost_bound.specs.Table.{cycles_column, expression_price, statement_price, conditions_price, blocks_price, block_price}
 use Rattle.memory_map.specs.MemoryMap.{word_place}
 use Rattle.memory_map.specs.declared.words.RuntimeWord.TheVariants.{NextTask, Gate, ListLength, EmitCount, Base, SentBase}
@@ -214,7 +215,7 @@ setting_cycles p x e =
     write_cycles (Shared v) = omega arith
     write_cycles (Local n) = omega arith
 
-sides_set_cycles : (p : Places) (x : Variable) (op : BinaryOperator) (a b : CheckedExpression) (o : Option PlainOperation)
+sides_set_cycles : (p : Places) (x : Variable) (op : PlacedOperator) (a b : CheckedExpression) (o : Option PlainOperation)
     → cycles_of (sides_set p x op a b o) ≤ 40 + expression_price cycles_column (t.binary op a b)
 sides_set_cycles p x op a b None = setting_cycles p x (t.binary op a b)
 sides_set_cycles p x op a b (Some o) =
@@ -227,7 +228,7 @@ sides_set_cycles p x op a b (Some o) =
 
 -- the first clause makes it a proof by cases
 assignment_cycles : (p : Places) (x : Variable) (e : CheckedExpression) → cycles_of (assignment p x e) ≤ 40 + expression_price cycles_column e
-assignment_cycles p x (t.binary op a b) = sides_set_cycles p x op a b (updating x op a)
+assignment_cycles p x (t.binary op a b) = sides_set_cycles p x op a b (updating x op.operator a)
 assignment_cycles p x e = setting_cycles p x e
 
 -- the cycles of an assignment to an element are within its row and those of its parts
@@ -240,7 +241,7 @@ element_setting_cycles p x index e =
     let m = joined_cycles (index_and_value p index e) (one (store_step p x)) in
     omega (arith, l, m, expression_cycles p index, expression_cycles p e)
 
-element_sides_cycles : (p : Places) (x : Variable) (index : CheckedExpression) (op : BinaryOperator) (a b : CheckedExpression) (o : Option PlainOperation)
+element_sides_cycles : (p : Places) (x : Variable) (index : CheckedExpression) (op : PlacedOperator) (a b : CheckedExpression) (o : Option PlainOperation)
     → ElementCycles index (t.binary op a b) (element_sides_set p x index op a b o)
 element_sides_cycles p x index op a b None = element_setting_cycles p x index (t.binary op a b)
 element_sides_cycles p x index op a b (Some o) =
@@ -250,7 +251,7 @@ element_sides_cycles p x index op a b (Some o) =
 
 -- the first clause makes it a proof by cases
 element_cycles : (p : Places) (x : Variable) (index e : CheckedExpression) → ElementCycles index e (element_assignment p x index e)
-element_cycles p x index (t.binary op a b) = element_sides_cycles p x index op a b (element_updating x index op a)
+element_cycles p x index (t.binary op a b) = element_sides_cycles p x index op a b (element_updating x index op.operator a)
 element_cycles p x index e = element_setting_cycles p x index e
 
 mutual
@@ -258,7 +259,9 @@ mutual
       → Within p (statement_price cycles_column x) (behaviour (lowered_statement p x) w).end (spent (lowered_statement p x) w)
   statement_spends p (t.declare of x None) w = omega arith
   statement_spends p (t.declare of x (Some e)) w = plain p (assignment p x.variable e) _ w (assignment_cycles p x.variable e)
-  statement_spends p (t.assign x e) w = plain p (assignment p x.variable e) _ w (assignment_cycles p x.variable e)
+  statement_spends p (t.assign x e) w =
+      plain p (assignment p x.variable e) _ w
+      (omega (arith, assignment_cycles p x.variable e, width_least x.word_type 40 40 80 (omega arith) (omega arith)))
   statement_spends p (t.store x index e) w = plain p (element_assignment p x.variable index e) _ w (element_cycles p x.variable index e)
   statement_spends p (t.choose choice) w = let a = choice_spends p choice w in omega (arith, a)
   statement_spends p (t.loop x from tested below stepped body) w =

@@ -8,12 +8,14 @@ use Rattle.task_ast.specs.declared.WordType.{WordType}
 use Rattle.task_ast.specs.declared.UnaryOperator.{UnaryOperator}
 use Rattle.task_ast.specs.declared.UnaryOperator.TheVariants as unary_operator
 use Rattle.task_ast.specs.declared.BinaryOperator.{BinaryOperator}
+use Rattle.task_ast.specs.declared.PlacedOperator.{PlacedOperator}
 use Rattle.task_ast.specs.declared.BinaryOperator.TheVariants as operator
 use Rattle.task_ast.specs.declared.ShortCircuitOperator.{ShortCircuitOperator}
 use Rattle.task_ast.specs.declared.ShortCircuitOperator.TheVariants.{And as BothHold, Or as OneHolds}
 use Rattle.task_ast.specs.declared.names.Variable.{Variable}
 use Rattle.task_ast.specs.declared.names.Variable.TheVariants.{Shared, Local}
-use Rattle.source_values.specs.Values.{joined_type, type_of}
+use Rattle.task_ast.proofs.Interface.{width_least}
+use Rattle.source_values.specs.Values.{by_width, joined_type, type_of}
 use Rattle.cost_bound.specs.Table.{cycles_column, words_column, operator_price, expression_price, statement_price, conditions_price, blocks_price}
 use Rattle.cost_bound.specs.Table.{block_price}
 use Rattle.array_versions.specs.declared.operations.UnaryOperation.TheVariants.{Negate, Complement}
@@ -63,15 +65,24 @@ element_words : (p : Places) (x : Variable) → step_words (element_step p x) �
 element_words p (Shared v) = read_array_words p (slice_get p.map.variables v)
 element_words p (Local n) = omega arith
 
+-- the words of a node are no fewer than those of one of one word
+least_words : (of : WordType) → 16 ≤ by_width of 16 32
+least_words of = width_least of 16 16 32 (omega arith) (omega arith)
+
 -- of each operator alike: the first clause makes it a proof by cases
-operator_words : (s : ℕ) (op : BinaryOperator) → operator_price (words_column s) op ≡ 16
-operator_words s operator.Multiply = refl
-operator_words s _ = refl
+operator_words : (s : ℕ) (op : BinaryOperator) (of : WordType) → 16 ≤ operator_price (words_column s) op of
+operator_words s operator.Multiply of = omega arith
+operator_words s operator.Divide of = omega arith
+operator_words s operator.Remainder of = omega arith
+operator_words s _ of = least_words of
 
 -- what an expression comes to has so many words, and as a test five more
 record HasWords (l : Lowering) (most : ℕ) : Type 0 where
   word : words_of (word_program l) ≤ most
   test : test_words (value_test l) ≤ most + 5
+
+has_more : (l : Lowering) (n most : ℕ) → n ≤ most → HasWords l n → HasWords l most
+has_more l n most less h = record { word = omega (arith, less, h); test = omega (arith, less, h) }
 
 word_has : (q : Program) (most : ℕ) → words_of q ≤ most → HasWords (as_word q) most
 word_has q most h = record { word = h; test = omega arith }
@@ -97,31 +108,34 @@ sides_have OneHolds c d = refl
 
 lowering_has : (p : Places) (s : ℕ) (e : CheckedExpression) → HasWords (lowering p e) (expression_price (words_column s) e)
 lowering_has p s (t.number n) = word_has _ _ (omega arith)
-lowering_has p s (t.name x) = word_has _ _ (let a = read_words p x.variable in omega (arith, a))
+lowering_has p s (t.long_number n) = word_has _ _ (omega arith)
+lowering_has p s (t.name x) = word_has _ _ (let a = read_words p x.variable in omega (arith, a, least_words x.word_type))
 lowering_has p s (t.element x index) =
     let l = joined_words (lowered_expression p index) (one (element_step p x.variable)) in
     let h = lowering_has p s index in
     word_has _ _ (omega (arith, element_words p x.variable, l, h))
 lowering_has p s t.sense = word_has _ _ (omega arith)
-lowering_has p s (t.unary op e) = unary_has op (lowering p e) (expression_price (words_column s) e) (lowering_has p s e)
+lowering_has p s (t.unary op e) =
+    let n = expression_price (words_column s) e in
+    has_more _ (16 + n) _ (omega (arith, least_words (type_of e))) (unary_has op (lowering p e) n (lowering_has p s e))
 lowering_has p s (t.binary op a b) =
     let sides = joined (lowered_expression p a) (lowered_expression p b) in
     let n = expression_price (words_column s) a + expression_price (words_column s) b in
     let l = joined_words (lowered_expression p a) (lowered_expression p b) in
-    let o = operator_words s op in
+    let o = operator_words s op.operator (joined_type (type_of a) (type_of b)) in
     let first = lowering_has p s a in
     let second = lowering_has p s b in
-    let h = binary_has (binary_meaning op (joined_type (type_of a) (type_of b))) sides n (omega (arith, l, first, second)) in
+    let h = binary_has (binary_meaning op.operator (joined_type (type_of a) (type_of b))) sides n (omega (arith, l, first, second)) in
     record { word = omega (arith, o, h); test = omega (arith, o, h) }
 lowering_has p s (t.shift op e count) =
     let operation = shift (shift_operation op (type_of e)) count.value in
     let l = joined_words (lowered_expression p e) (one operation) in
     let h = lowering_has p s e in
-    word_has _ _ (omega (arith, steps_keep_to_words operation, l, h))
+    word_has _ _ (omega (arith, steps_keep_to_words operation, l, h, least_words (type_of e)))
 lowering_has p s (t.short_circuit op a b) =
     let first = lowering_has p s a in
     let second = lowering_has p s b in
-    test_has _ _ (omega (arith, sides_have op (lowered_test p a) (lowered_test p b), first, second))
+    test_has _ _ (omega (arith, sides_have op (lowered_test p a) (lowered_test p b), first, second, least_words (joined_type (type_of a) (type_of b))))
 
 pub expression_words : (p : Places) (s : ℕ) (e : CheckedExpression) → words_of (lowered_expression p e) ≤ expression_price (words_column s) e
 expression_words p s e = (lowering_has p s e).word
@@ -173,7 +187,7 @@ setting_words p s x e =
     let l = joined_words (lowered_expression p e) (one (write_step p x)) in
     omega (arith, a, l, expression_words p s e)
 
-sides_set_words : (p : Places) (s : ℕ) (x : Variable) (op : BinaryOperator) (a b : CheckedExpression) (o : Option PlainOperation)
+sides_set_words : (p : Places) (s : ℕ) (x : Variable) (op : PlacedOperator) (a b : CheckedExpression) (o : Option PlainOperation)
     → words_of (sides_set p x op a b o) ≤ 24 + expression_price (words_column s) (t.binary op a b)
 sides_set_words p s x op a b None = setting_words p s x (t.binary op a b)
 sides_set_words p s x op a b (Some o) =
@@ -182,7 +196,7 @@ sides_set_words p s x op a b (Some o) =
 
 -- the first clause makes it a proof by cases
 assignment_words : (p : Places) (s : ℕ) (x : Variable) (e : CheckedExpression) → words_of (assignment p x e) ≤ 24 + expression_price (words_column s) e
-assignment_words p s x (t.binary op a b) = sides_set_words p s x op a b (updating x op a)
+assignment_words p s x (t.binary op a b) = sides_set_words p s x op a b (updating x op.operator a)
 assignment_words p s x e = setting_words p s x e
 
 -- the words of an assignment to an element are within its row and those of its parts
@@ -195,18 +209,18 @@ element_setting_words p s x index e =
     let m = joined_words (index_and_value p index e) (one (store_step p x)) in
     omega (arith, l, m, expression_words p s index, expression_words p s e)
 
-element_sides_words : (p : Places) (s : ℕ) (x : Variable) (index : CheckedExpression) (op : BinaryOperator) (a b : CheckedExpression)
+element_sides_words : (p : Places) (s : ℕ) (x : Variable) (index : CheckedExpression) (op : PlacedOperator) (a b : CheckedExpression)
     (o : Option PlainOperation) → ElementWords s index (t.binary op a b) (element_sides_set p x index op a b o)
 element_sides_words p s x index op a b None = element_setting_words p s x index (t.binary op a b)
 element_sides_words p s x index op a b (Some o) =
-    let row = operator_words s op in
+    let row = operator_words s op.operator (joined_type (type_of a) (type_of b)) in
     let l = joined_words (lowered_expression p index) (lowered_expression p b) in
     let m = joined_words (index_and_value p index b) (one (update_element_step p o x)) in
     omega (arith, row, l, m, expression_words p s index, expression_words p s b)
 
 -- the first clause makes it a proof by cases
 element_assignment_words : (p : Places) (s : ℕ) (x : Variable) (index e : CheckedExpression) → ElementWords s index e (element_assignment p x index e)
-element_assignment_words p s x index (t.binary op a b) = element_sides_words p s x index op a b (element_updating x index op a)
+element_assignment_words p s x index (t.binary op a b) = element_sides_words p s x index op a b (element_updating x index op.operator a)
 element_assignment_words p s x index e = element_setting_words p s x index e
 
 mutual
@@ -214,7 +228,8 @@ mutual
       → words_of (lowered_statement p x) ≤ statement_price (words_column s) x
   statement_words p s few (t.declare of x None) = omega arith
   statement_words p s few (t.declare of x (Some e)) = assignment_words p s x.variable e
-  statement_words p s few (t.assign x e) = assignment_words p s x.variable e
+  statement_words p s few (t.assign x e) =
+      omega (arith, assignment_words p s x.variable e, width_least x.word_type 24 24 40 (omega arith) (omega arith))
   statement_words p s few (t.store x index e) = element_assignment_words p s x.variable index e
   statement_words p s few (t.choose choice) = let a = choice_words p s few choice in omega (arith, a)
   statement_words p s few (t.loop x from tested below stepped body) = let a = block_words p s few body in omega (arith, a)
@@ -273,15 +288,24 @@ unary_takes unary_operator.Negate l n h = word_takes _ (40 + n) (omega (arith, j
 unary_takes unary_operator.Complement l n h = word_takes _ (40 + n) (omega (arith, joined_cycles (word_program l) (one (unary Complement)), h))
 unary_takes unary_operator.Not l n h = test_takes _ (40 + n) (omega (arith, h))
 
+takes_more : (l : Lowering) (n most : ℕ) → n ≤ most → HasCycles l n → HasCycles l most
+takes_more l n most less h = record { word = omega (arith, less, h); test = omega (arith, less, h) }
+
+-- the cycles of a node are no fewer than those of one of one word
+least_cycles : (of : WordType) → 40 ≤ by_width of 40 80
+least_cycles of = width_least of 40 40 80 (omega arith) (omega arith)
+
 -- an operation takes 32 less than its row
 abbrev operation_cycles : BinaryMeaning → ℕ
 operation_cycles (Calculates op) = binary_cycles op
 operation_cycles _ = 8
 
 -- of each operator alike: the first clause makes it a proof by cases
-operation_most : (op : BinaryOperator) (of : WordType) → operation_cycles (binary_meaning op of) + 32 ≤ operator_price cycles_column op
+operation_most : (op : BinaryOperator) (of : WordType) → operation_cycles (binary_meaning op of) + 32 ≤ operator_price cycles_column op of
 operation_most operator.Multiply of = omega arith
-operation_most _ of = omega arith
+operation_most operator.Divide of = omega arith
+operation_most operator.Remainder of = omega arith
+operation_most _ of = omega (arith, least_cycles of)
 
 binary_takes : (meaning : BinaryMeaning) (sides : Program) (n : ℕ) → cycles_of sides + 22 ≤ n
     → HasCycles (binary_lowering meaning sides) (operation_cycles meaning + 32 + n)
@@ -296,18 +320,21 @@ sides_take OneHolds c d = refl
 
 lowering_takes : (p : Places) (e : CheckedExpression) → HasCycles (lowering p e) (expression_price cycles_column e)
 lowering_takes p (t.number n) = word_takes _ _ (omega arith)
-lowering_takes p (t.name x) = word_takes _ _ (let a = read_cycles p x.variable in omega (arith, a))
+lowering_takes p (t.long_number n) = word_takes _ _ (omega arith)
+lowering_takes p (t.name x) = word_takes _ _ (let a = read_cycles p x.variable in omega (arith, a, least_cycles x.word_type))
 lowering_takes p (t.element x index) =
     let l = joined_cycles (lowered_expression p index) (one (element_step p x.variable)) in
     let h = lowering_takes p index in
     word_takes _ _ (omega (arith, element_cycles p x.variable, l, h))
 lowering_takes p t.sense = word_takes _ _ (omega arith)
-lowering_takes p (t.unary op e) = unary_takes op (lowering p e) (expression_price cycles_column e) (lowering_takes p e)
+lowering_takes p (t.unary op e) =
+    let n = expression_price cycles_column e in
+    takes_more _ (40 + n) _ (omega (arith, least_cycles (type_of e))) (unary_takes op (lowering p e) n (lowering_takes p e))
 lowering_takes p (t.binary op a b) =
-    let meaning = binary_meaning op (joined_type (type_of a) (type_of b)) in
+    let meaning = binary_meaning op.operator (joined_type (type_of a) (type_of b)) in
     let n = expression_price cycles_column a + expression_price cycles_column b in
     let l = joined_cycles (lowered_expression p a) (lowered_expression p b) in
-    let o = operation_most op (joined_type (type_of a) (type_of b)) in
+    let o = operation_most op.operator (joined_type (type_of a) (type_of b)) in
     let first = lowering_takes p a in
     let second = lowering_takes p b in
     let h = binary_takes meaning (joined (lowered_expression p a) (lowered_expression p b)) n (omega (arith, l, first, second)) in
@@ -315,11 +342,11 @@ lowering_takes p (t.binary op a b) =
 lowering_takes p (t.shift op e count) =
     let l = joined_cycles (lowered_expression p e) (one (shift (shift_operation op (type_of e)) count.value)) in
     let h = lowering_takes p e in
-    word_takes _ _ (omega (arith, l, h))
+    word_takes _ _ (omega (arith, l, h, width_least (type_of e) 100 100 400 (omega arith) (omega arith)))
 lowering_takes p (t.short_circuit op a b) =
     let first = lowering_takes p a in
     let second = lowering_takes p b in
-    test_takes _ _ (omega (arith, sides_take op (lowered_test p a) (lowered_test p b), first, second))
+    test_takes _ _ (omega (arith, sides_take op (lowered_test p a) (lowered_test p b), first, second, least_cycles (joined_type (type_of a) (type_of b))))
 
 pub expression_cycles : (p : Places) (e : CheckedExpression) → cycles_of (lowered_expression p e) + 11 ≤ expression_price cycles_column e
 expression_cycles p e = (lowering_takes p e).word

@@ -1,5 +1,5 @@
 -- An assignment in place: `x = x + e`, `a[i] = a[i] + e` and their like.
-use Rattle.std.proofs.Common.{◌≡◌, ℕ, List, Bool, true, false, ◌&&◌, Option, Some, None, refl, sym, ap, ◌∙◌, if◌then◌else◌}
+use Rattle.std.proofs.Common.{◌≡◌, ℕ, List, Bool, true, false, ◌&&◌, Option, Some, None, refl, sym, ap, subst, ◌∙◌, if◌then◌else◌}
 use Rattle.std.proofs.lemmas.Bool.{eqb-true, and_parts}
 use Rattle.task_ast.specs.Tree as t
 use Rattle.task_ast.specs.Paths.{CheckedExpression}
@@ -9,7 +9,11 @@ use Rattle.task_ast.specs.declared.BinaryOperator.TheVariants as operator
 use Rattle.task_ast.specs.declared.names.Variable.{Variable}
 use Rattle.task_ast.specs.declared.names.Variable.TheVariants.{Shared, Local}
 use Rattle.task_ast.specs.declared.names.VariableName.{VariableName}
-use Rattle.source_values.specs.Values.{◌>>?◌, Variables, word_at, joined_type, type_of, binary_value, value_of}
+use Rattle.task_ast.specs.declared.PlacedOperator.{PlacedOperator}
+use Rattle.task_ast.specs.Types.{IsOneWord}
+use Rattle.task_ast.proofs.Interface.{by_one_word, joined_word}
+use Rattle.source_values.specs.Values.{◌>>?◌, Variables, word_at, scalar_value, joined_type, type_of, binary_value, binary_result, value_of}
+use Rattle.source_values.proofs.Interface.{scalar_word}
 use Rattle.source_values.specs.Statements.{Attempt, Outcome, goes_on, if_value, assigned}
 use Rattle.array_versions.specs.declared.operations.PlainOperation.{PlainOperation}
 use Rattle.array_versions.specs.declared.operations.PlainOperation.TheVariants as plain
@@ -73,15 +77,20 @@ number_value : (m : Variables) (left : List ℕ) (n : ℕ) (e : CheckedExpressio
 number_value m left n (t.number k) h = ap (λ w. Some (w, left)) (sym (eqb-true n k h))
 number_value m left n e h = absurd (cc)
 
-name_value : (m : Variables) (left : List ℕ) (x : Variable) (e : CheckedExpression) → is_name x e ≡ true
+name_value : (m : Variables) (left : List ℕ) (x : Variable) (e : CheckedExpression) → IsOneWord (type_of e) → is_name x e ≡ true
     → value_of e m left ≡ Some (word_at m x 0, left)
-name_value m left x (t.name y) h = ap (λ z. Some (word_at m z 0, left)) (same_variable x y.variable h)
-name_value m left x e h = absurd (cc)
+name_value m left x (t.name y) one h = ap (λ w. Some (w, left)) (scalar_word m y one ∙ ap (λ z. word_at m z 0) (same_variable x y.variable h))
+name_value m left x e one h = absurd (cc)
 
-alike_values : (m : Variables) (left : List ℕ) (a b : CheckedExpression) → are_alike a b ≡ true → HaveOneWord m left a b
-alike_values m left (t.number n) b h = record { word = n; first = refl; second = number_value m left n b h }
-alike_values m left (t.name x) b h = record { word = word_at m x.variable 0; first = refl; second = name_value m left x.variable b h }
-alike_values m left a b h = absurd (cc)
+alike_values : (m : Variables) (left : List ℕ) (a b : CheckedExpression) → IsOneWord (type_of a) → IsOneWord (type_of b) → are_alike a b ≡ true
+    → HaveOneWord m left a b
+alike_values m left (t.number n) b of_first of_second h = record { word = n; first = refl; second = number_value m left n b h }
+alike_values m left (t.name x) b of_first of_second h = record {
+  word = word_at m x.variable 0;
+  first = ap (λ w. Some (w, left)) (scalar_word m x of_first);
+  second = name_value m left x.variable b of_second h;
+}
+alike_values m left a b of_first of_second h = absurd (cc)
 
 -- the operator gives what the operation does
 plain_value : (op : BinaryOperator) (o : PlainOperation) (of : WordType) (a b : ℕ) → plain_operation op ≡ Some o
@@ -93,51 +102,71 @@ plain_value operator.Xor o of a b h = let e : plain.Xor ≡ o = cc in ap (λ p. 
 plain_value operator.Or o of a b h = let e : plain.Or ≡ o = cc in ap (λ p. plain_word p a b) e
 plain_value _ o of a b h = absurd (cc)
 
--- with a word of the variable on the left side, an assignment to that word goes on with what the operation does
-updated_value : (x : Variable) (i : ℕ) (op : BinaryOperator) (o : PlainOperation) (of : WordType) (m : Attempt) (right : Option (ℕ × List ℕ))
-    → plain_operation op ≡ Some o
-    → if_value (right >>? λ y. Some (binary_value op of (word_at m.variables x i) y.0, y.1)) m (λ v s. goes_on (assigned s x i v))
-    ≡ if_value right m (λ v s. goes_on (assigned s x i (plain_word o (word_at m.variables x i) v)))
-updated_value x i op o of m None is = refl
-updated_value x i op o of m (Some y) is =
-    ap (λ v. goes_on (assigned (record m { left = y.1 }) x i v)) (plain_value op o of (word_at m.variables x i) y.0 is)
+-- the same by the types of two words
+plain_result : (op : BinaryOperator) (o : PlainOperation) (s of : WordType) (a b : ℕ) → IsOneWord s → IsOneWord of → plain_operation op ≡ Some o
+    → binary_result op s of a b ≡ plain_word o a b
+plain_result op o s of a b of_left of_right h =
+    by_one_word (joined_type s of) _ _ (joined_word s of of_left of_right) ∙ plain_value op o (joined_type s of) a b h
 
-pub update_goes_on : (x : Variable) (op : BinaryOperator) (a b : CheckedExpression) (o : PlainOperation) (m : Attempt) → IsUpdate x op a o
+-- with a word of the variable on the left side, an assignment to that word goes on with what the operation does
+updated_value : (x : Variable) (i : ℕ) (m : Attempt) (f g : ℕ → ℕ) (right : Option (ℕ × List ℕ)) → ((v : ℕ) → f v ≡ g v)
+    → if_value (right >>? λ y. Some (f y.0, y.1)) m (λ v s. goes_on (assigned s x i v)) ≡ if_value right m (λ v s. goes_on (assigned s x i (g v)))
+updated_value x i m f g None same = refl
+updated_value x i m f g (Some y) same = ap (λ v. goes_on (assigned (record m { left = y.1 }) x i v)) (same y.0)
+
+pub update_goes_on : (x : Variable) (op : PlacedOperator) (a b : CheckedExpression) (o : PlainOperation) (m : Attempt) → IsUpdate x op.operator a o
+    → IsOneWord (type_of a) → IsOneWord (type_of b)
     → if_value (value_of (t.binary op a b) m.variables m.left) m (λ v s. goes_on (assigned s x 0 v))
     ≡ if_value (value_of b m.variables m.left) m (λ v s. goes_on (assigned s x 0 (plain_word o (word_at m.variables x 0) v)))
-update_goes_on x op a b o m u =
-    let of = joined_type u.name.word_type (type_of b) in
-    let right = value_of b m.variables m.left in
-    let behind : ℕ → Outcome =
-    λ n. if_value (right >>? λ y. Some (binary_value op of n y.0, y.1)) m (λ v s. goes_on (assigned s x 0 v)) in
+update_goes_on x op a b o m u of_left of_right =
     ap (λ e. if_value (value_of (t.binary op e b) m.variables m.left) m (λ v s. goes_on (assigned s x 0 v))) u.is
-    ∙ ap (λ y. behind (word_at m.variables y 0)) u.same ∙ updated_value x 0 op o of m right u.operation
+    ∙ updated_value x 0 m (binary_result op.operator u.name.word_type (type_of b) (scalar_value m.variables u.name))
+    (plain_word o (word_at m.variables x 0)) (value_of b m.variables m.left) same
+  where
+    one : IsOneWord u.name.word_type
+    one = subst (λ e. IsOneWord (type_of e)) u.is of_left
+
+    same : (v : ℕ) → binary_result op.operator u.name.word_type (type_of b) (scalar_value m.variables u.name) v ≡ plain_word o (word_at m.variables x 0) v
+    same v =
+        ap (λ n. binary_result op.operator u.name.word_type (type_of b) n v) (scalar_word m.variables u.name one ∙ ap (λ y. word_at m.variables y 0) u.same)
+        ∙ plain_result op.operator o u.name.word_type (type_of b) (word_at m.variables x 0) v one of_right u.operation
 
 -- what an assignment to an element goes on with, where the index is evaluated first
-abbrev stored_value : Variable → CheckedExpression → ℕ → Attempt → Outcome
+abbrev pub stored_value : Variable → CheckedExpression → ℕ → Attempt → Outcome
 stored_value x e i s = if_value (value_of e s.variables s.left) s (λ v s. goes_on (assigned s x i v))
 
 -- the same in place: behind the index the variables are as these
 abbrev updated_element : Variable → PlainOperation → CheckedExpression → Variables → ℕ → Attempt → Outcome
 updated_element x o b m i s = if_value (value_of b s.variables s.left) s (λ v s. goes_on (assigned s x i (plain_word o (word_at m x i) v)))
 
-pub element_update_goes_on : (x : Variable) (index : CheckedExpression) (op : BinaryOperator) (a b : CheckedExpression) (o : PlainOperation) (m : Attempt)
-    → IsElementUpdate x index op a o
+-- both indexes and both sides are of one word
+pub record AreOneWord (first second a b : CheckedExpression) : Type 0 where
+  pub index : IsOneWord (type_of first)
+  pub other : IsOneWord (type_of second)
+  pub left : IsOneWord (type_of a)
+  pub right : IsOneWord (type_of b)
+
+pub element_update_goes_on : (x : Variable) (index : CheckedExpression) (op : PlacedOperator) (a b : CheckedExpression) (o : PlainOperation) (m : Attempt)
+    (u : IsElementUpdate x index op.operator a o) → AreOneWord index u.other a b
     → if_value (value_of index m.variables m.left) m (stored_value x (t.binary op a b))
     ≡ if_value (value_of index m.variables m.left) m (updated_element x o b m.variables)
-element_update_goes_on x index op a b o m u =
-    let of = joined_type u.name.word_type (type_of b) in
-    let indexes = alike_values m.variables m.left index u.other u.alike in
+element_update_goes_on x index op a b o m u one =
+    let of = u.name.word_type in
+    let result = binary_result op.operator of (type_of b) in
+    let indexes = alike_values m.variables m.left index u.other one.index one.other u.alike in
     let i = indexes.word in
     let left_of : Option (ℕ × List ℕ) → Option (ℕ × List ℕ) = λ r. r >>? λ j. Some (word_at m.variables u.name.variable j.0, j.1) in
     let behind_index : Option (ℕ × List ℕ) → Outcome =
-    λ r. if_value (left_of r >>? λ y. value_of b m.variables y.1 >>? λ z. Some (binary_value op of y.0 z.0, z.1)) m (λ v s. goes_on (assigned s x i v)) in
+    λ r. if_value (left_of r >>? λ y. value_of b m.variables y.1 >>? λ z. Some (result y.0 z.0, z.1)) m (λ v s. goes_on (assigned s x i v)) in
     let right = value_of b m.variables m.left in
     let behind_word : ℕ → Outcome =
-    λ n. if_value (right >>? λ z. Some (binary_value op of n z.0, z.1)) m (λ v s. goes_on (assigned s x i v)) in
+    λ n. if_value (right >>? λ z. Some (result n z.0, z.1)) m (λ v s. goes_on (assigned s x i v)) in
+    let of_left = subst (λ e. IsOneWord (type_of e)) u.is one.left in
+    let word = word_at m.variables x i in
     ap (λ r. if_value r m (stored_value x (t.binary op a b))) indexes.first
     ∙ ap (λ e. stored_value x (t.binary op e b) i m) u.is
     ∙ ap behind_index indexes.second
     ∙ ap (λ y. behind_word (word_at m.variables y i)) u.same
-    ∙ updated_value x i op o of m right u.operation
+    ∙ updated_value x i m (result word) (plain_word o word) right
+    (λ v. plain_result op.operator o of (type_of b) word v of_left one.right u.operation)
     ∙ sym (ap (λ r. if_value r m (updated_element x o b m.variables)) indexes.first)

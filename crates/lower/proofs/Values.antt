@@ -8,7 +8,7 @@ use Rattle.std.proofs.lemmas.List.{get_or_past}
 use Rattle.task_ast.specs.Tree as t
 use Rattle.task_ast.specs.Paths.{CheckedExpression}
 use Rattle.task_ast.specs.declared.WordType.{WordType}
-use Rattle.task_ast.specs.declared.WordType.TheVariants.{Unsigned, Int}
+use Rattle.task_ast.specs.declared.WordType.TheVariants.{Unsigned, Int, Long}
 use Rattle.task_ast.specs.declared.UnaryOperator.{UnaryOperator}
 use Rattle.task_ast.specs.declared.UnaryOperator.TheVariants as unary_operator
 use Rattle.task_ast.specs.declared.BinaryOperator.{BinaryOperator}
@@ -20,6 +20,10 @@ use Rattle.task_ast.specs.declared.ShortCircuitOperator.TheVariants.{And as Both
 use Rattle.task_ast.specs.declared.names.Variable.{Variable}
 use Rattle.task_ast.specs.declared.names.Variable.TheVariants.{Shared, Local}
 use Rattle.source_values.specs.Values.{◌>>?◌, Variables, word_at, type_of, joined_type, holds, unary_value, binary_value, shift_value, shifted_value}
+use Rattle.source_values.specs.Values.{unary_result, binary_result, shift_result}
+use Rattle.source_values.proofs.Interface.{scalar_word}
+use Rattle.task_ast.specs.Types.{IsOneWord}
+use Rattle.task_ast.proofs.Interface as one_word
 use Rattle.source_values.specs.Values.{is_settled, next_reading, value_of}
 use Rattle.array_versions.specs.declared.operations.UnaryOperation.{UnaryOperation}
 use Rattle.array_versions.specs.declared.operations.UnaryOperation.TheVariants.{Negate, Complement}
@@ -222,18 +226,23 @@ meaning_word (Fails c) u v = bit (not (compare_words c u v))
 binary_same : (op : BinaryOperator) (of : WordType) (u v : ℕ) → meaning_word (binary_meaning op of) u v ≡ binary_value op of u v
 binary_same operator.Less Int u v = refl
 binary_same operator.Less Unsigned u v = refl
+binary_same operator.Less Long u v = refl
 binary_same operator.LessEqual Int u v = refl
 binary_same operator.LessEqual Unsigned u v = refl
+binary_same operator.LessEqual Long u v = refl
 binary_same operator.Greater Int u v = refl
 binary_same operator.Greater Unsigned u v = refl
+binary_same operator.Greater Long u v = refl
 binary_same operator.GreaterEqual Int u v = refl
 binary_same operator.GreaterEqual Unsigned u v = refl
+binary_same operator.GreaterEqual Long u v = refl
 binary_same _ of u v = refl
 
 shifted_same : (op : ShiftOperator) (of : WordType) (v k : ℕ) → shifted_word (shift_operation op of) v k ≡ shifted_value op of v k
 shifted_same shift_operator.Left of v k = refl
 shifted_same shift_operator.Right Int v k = refl
 shifted_same shift_operator.Right Unsigned v k = refl
+shifted_same shift_operator.Right Long v k = refl
 
 shift_same : (op : ShiftOperator) (of : WordType) (v k : ℕ) → shift_word (shift_operation op of) v k ≡ shift_value op of v k
 shift_same op of v k = ap (λ x. if nat_le k 15 then x else 0) (shifted_same op of v k)
@@ -489,11 +498,55 @@ side_agrees OneHolds w c d o right h k =
 
 -- ---- all expressions
 
+-- the type of an expression that fits is of one word
+pub fits_word : (p : Places) (e : CheckedExpression) → ExpressionFits p e → IsOneWord (type_of e)
+fits_word p (t.number n) h = one_word.literal_word n
+fits_word p (t.long_number n) h = h
+fits_word p (t.name x) h = h.1
+fits_word p (t.element x index) h = h.2
+fits_word p t.sense h = tt
+fits_word p (t.unary op e) h = one_word.unary_word op (type_of e) (fits_word p e h)
+fits_word p (t.binary op a b) h = one_word.binary_word op.operator (type_of a) (type_of b) (fits_word p a h.0) (fits_word p b h.1)
+fits_word p (t.shift op e count) h = fits_word p e h
+fits_word p (t.short_circuit op a b) h = tt
+
+-- an operator in front of a word
+unary_agrees_by : (op : UnaryOperator) (of : WordType) → IsOneWord of → (w : WordState) (l : Lowering) (o : Option (ℕ × List ℕ)) → LoweringAgrees w l o
+    → LoweringAgrees w (unary_lowering op l) (o >>? λ x. Some (unary_result op of x.0, x.1))
+unary_agrees_by op Long k w l o h = absurd k
+unary_agrees_by op Int k w l o h = unary_agrees op w l o h
+unary_agrees_by op Unsigned k w l o h = unary_agrees op w l o h
+
+-- an operator between words
+binary_agrees_by : (op : BinaryOperator) (s of : WordType) → IsOneWord s → IsOneWord of → (w : WordState) (left right : Program) (o : Option (ℕ × List ℕ))
+    (second : List ℕ → Option (ℕ × List ℕ)) → SidesAgree w left right o second
+    → LoweringAgrees w (binary_lowering (binary_meaning op (joined_type s of)) (joined left right))
+    (o >>? λ x. second x.1 >>? λ y. Some (binary_result op s of x.0 y.0, y.1))
+binary_agrees_by op Long of h k w left right o second sides = absurd h
+binary_agrees_by op s Long h k w left right o second sides = absurd k
+binary_agrees_by op Int Int h k w left right o second sides =
+    binary_agrees (binary_meaning op Int) w left right o second (binary_value op Int) sides (binary_same op Int)
+binary_agrees_by op Int Unsigned h k w left right o second sides =
+    binary_agrees (binary_meaning op Unsigned) w left right o second (binary_value op Unsigned) sides (binary_same op Unsigned)
+binary_agrees_by op Unsigned Int h k w left right o second sides =
+    binary_agrees (binary_meaning op Unsigned) w left right o second (binary_value op Unsigned) sides (binary_same op Unsigned)
+binary_agrees_by op Unsigned Unsigned h k w left right o second sides =
+    binary_agrees (binary_meaning op Unsigned) w left right o second (binary_value op Unsigned) sides (binary_same op Unsigned)
+
+-- a word is shifted as a value of its type
+shift_of_word : (op : ShiftOperator) (of : WordType) (v k : ℕ) → IsOneWord of → shift_word (shift_operation op of) v k ≡ shift_result op of v k
+shift_of_word op Long v k h = absurd h
+shift_of_word op Int v k h = shift_same op Int v k
+shift_of_word op Unsigned v k h = shift_same op Unsigned v k
+
 pub lowering_agrees : (p : Places) (room : Room) (e : CheckedExpression) (m : Variables) (w : WordState) → AreApart p room → AreEven p
     → ExpressionFits p e → HoldVariables p m w.fram w.locals → LoweringAgrees w (lowering p e) (value_of e m w.readings)
 lowering_agrees p room (t.number n) m w apart even fits h = by_word w (one (number n)) _ (tt, refl)
+lowering_agrees p room (t.long_number n) m w apart even fits h = absurd fits
 lowering_agrees p room (t.name x) m w apart even fits h =
-    by_word w (one (read_step p x.variable)) _ (read_agrees p room x.variable m w apart even fits h)
+    let P : ℕ → Type 0 = λ v. AgreesWithValue w (behaviour (one (read_step p x.variable)) w) (Some (v, w.readings)) in
+    by_word w (one (read_step p x.variable)) _
+    (subst P (sym (scalar_word m x fits.1)) (read_agrees p room x.variable m w apart even fits.0 h))
 lowering_agrees p room (t.element x index) m w apart even fits h =
     let l = lowering p index in
     let last = one (element_step p x.variable) in
@@ -502,9 +555,8 @@ lowering_agrees p room (t.element x index) m w apart even fits h =
     (lowering_agrees p room index m w apart even fits.1 h).word (λ i. element_agrees p room x.variable i.0 m w i.1 apart even fits.0 h))
 lowering_agrees p room t.sense m w apart even fits h = by_word w (one sense) _ (sense_agrees w w.readings)
 lowering_agrees p room (t.unary op e) m w apart even fits h =
-    unary_agrees op w (lowering p e) (value_of e m w.readings) (lowering_agrees p room e m w apart even fits h)
+    unary_agrees_by op (type_of e) (fits_word p e fits) w (lowering p e) (value_of e m w.readings) (lowering_agrees p room e m w apart even fits h)
 lowering_agrees p room (t.binary op a b) m w apart even fits h =
-    let of = joined_type (type_of a) (type_of b) in
     let left = word_program (lowering p a) in
     let right = word_program (lowering p b) in
     let o = value_of a m w.readings in
@@ -512,14 +564,14 @@ lowering_agrees p room (t.binary op a b) m w apart even fits h =
       left_side = (lowering_agrees p room a m w apart even fits.0 h).word;
       right_side = λ x. (lowering_agrees p room b m (valued w x) apart even fits.1 h).word;
     } in
-    binary_agrees (binary_meaning op of) w left right o (value_of b m) (binary_value op of) sides (binary_same op of)
+    binary_agrees_by op.operator (type_of a) (type_of b) (fits_word p a fits.0) (fits_word p b fits.1) w left right o (value_of b m) sides
 lowering_agrees p room (t.shift op e count) m w apart even fits h =
     let l = lowering p e in
     let last = one (shift (shift_operation op (type_of e)) count.value) in
     by_word w (joined (word_program l) last) _
-    (then_step w (word_program l) last (value_of e m w.readings) (λ x. Some (shift_value op (type_of e) x.0 count.value, x.1))
+    (then_step w (word_program l) last (value_of e m w.readings) (λ x. Some (shift_result op (type_of e) x.0 count.value, x.1))
     (lowering_agrees p room e m w apart even fits h).word
-    (λ x. (tt, ap (λ v. valued w (v, x.1)) (shift_same op (type_of e) x.0 count.value))))
+    (λ x. (tt, ap (λ v. valued w (v, x.1)) (shift_of_word op (type_of e) x.0 count.value (fits_word p e fits)))))
 lowering_agrees p room (t.short_circuit op a b) m w apart even fits h =
     let c = value_test (lowering p a) in
     let d = value_test (lowering p b) in

@@ -6,6 +6,7 @@ use Rattle.array_versions.specs.fram_board.Effects.{Effect, Store, Take, Send}
 use Rattle.array_versions.specs.machine_effects.World.{fram_after}
 use Rattle.task_ast.specs.Tree as t
 use Rattle.task_ast.specs.Paths.{CheckedExpression, CheckedStatement, CheckedChoice, CheckedBlock}
+use Rattle.task_ast.specs.Types.{IsOneWord}
 use Rattle.task_ast.specs.declared.names.Variable.{Variable}
 use Rattle.task_ast.specs.declared.names.Variable.TheVariants.{Shared, Local}
 use Rattle.path_sums.specs.Reaches.{statement_falls_through}
@@ -55,11 +56,12 @@ abbrev pub IsLocal : Variable → Type 0
 IsLocal (Shared v) = ⊥
 IsLocal (Local n) = n < 256
 
--- each variable of an expression is one that the task has, and an array where it is indexed
+-- each variable of an expression is one that the task has, and an array where it is indexed; and nothing is long
 abbrev pub ExpressionFits : Places → CheckedExpression → Type 0
 ExpressionFits p (t.number w) = Unit {0}
-ExpressionFits p (t.name x) = IsKnown p x.variable
-ExpressionFits p (t.element x index) = IsArray p x.variable × ExpressionFits p index
+ExpressionFits p (t.long_number w) = ⊥
+ExpressionFits p (t.name x) = IsKnown p x.variable × IsOneWord x.word_type
+ExpressionFits p (t.element x index) = IsArray p x.variable × ExpressionFits p index × IsOneWord x.word_type
 ExpressionFits p t.sense = Unit {0}
 ExpressionFits p (t.unary op e) = ExpressionFits p e
 ExpressionFits p (t.binary op a b) = ExpressionFits p a × ExpressionFits p b
@@ -70,8 +72,8 @@ abbrev mutual
   -- Of what no path comes to, in a loop of no turns or behind a transition, nothing is asked
   pub StatementFits : Places → (ℕ → Bool) → CheckedStatement → Type 0
   StatementFits p written (t.declare of x None) = Unit {0}
-  StatementFits p written (t.declare of x (Some e)) = ExpressionFits p e × IsTarget p written x.variable
-  StatementFits p written (t.assign x e) = ExpressionFits p e × IsTarget p written x.variable
+  StatementFits p written (t.declare of x (Some e)) = ExpressionFits p e × IsTarget p written x.variable × IsOneWord x.word_type
+  StatementFits p written (t.assign x e) = ExpressionFits p e × IsTarget p written x.variable × IsOneWord x.word_type
   StatementFits p written (t.store x index e) = IsWrittenArray p x.variable × ExpressionFits p index × ExpressionFits p e
   StatementFits p written (t.choose choice) = ChoiceFits p written choice
   StatementFits p written (t.loop x from tested below stepped body) = IsLocal x.variable × (from < below → BlockFits p written body)

@@ -6,6 +6,7 @@ use Rattle.task_ast.specs.Paths.{CheckedExpression, CheckedStatement, CheckedCho
 use Rattle.task_ast.specs.declared.UnaryOperator.{UnaryOperator}
 use Rattle.task_ast.specs.declared.UnaryOperator.TheVariants as unary_operator
 use Rattle.task_ast.specs.declared.BinaryOperator.{BinaryOperator}
+use Rattle.task_ast.specs.declared.PlacedOperator.{PlacedOperator}
 use Rattle.task_ast.specs.declared.ShortCircuitOperator.{ShortCircuitOperator}
 use Rattle.task_ast.specs.declared.ShortCircuitOperator.TheVariants.{And as BothHold, Or as OneHolds}
 use Rattle.task_ast.specs.declared.names.Variable.{Variable}
@@ -141,15 +142,17 @@ abbrev pub sides_test : ShortCircuitOperator → Test → Test → Test
 sides_test BothHold c d = both c d
 sides_test OneHolds c d = either c d
 
--- an expression: the parts from left to right, then the operation by their types
+-- An expression: the parts from left to right, then the operation by their types. Of a long number it is the low word: a source with longs is
+-- not compiled.
 abbrev pub lowering : Places → CheckedExpression → Lowering
 lowering p (t.number w) = as_word (one (number w))
+lowering p (t.long_number w) = as_word (one (number (w % 65536)))
 lowering p (t.name x) = as_word (one (read_step p x.variable))
 lowering p (t.element x index) = as_word (behind (word_program (lowering p index)) (element_step p x.variable))
 lowering p t.sense = as_word (one sense)
 lowering p (t.unary op e) = unary_lowering op (lowering p e)
 lowering p (t.binary op a b) =
-    binary_lowering (binary_meaning op (joined_type (type_of a) (type_of b))) (joined (word_program (lowering p a)) (word_program (lowering p b)))
+    binary_lowering (binary_meaning op.operator (joined_type (type_of a) (type_of b))) (joined (word_program (lowering p a)) (word_program (lowering p b)))
 lowering p (t.shift op e count) = as_word (behind (word_program (lowering p e)) (shift (shift_operation op (type_of e)) count.value))
 lowering p (t.short_circuit op a b) = as_test (sides_test op (value_test (lowering p a)) (value_test (lowering p b)))
 
@@ -181,13 +184,13 @@ abbrev pub updating : Variable → BinaryOperator → CheckedExpression → Opti
 updating x op a = if is_name x a then plain_operation op else None
 
 -- sets a variable to what an operator gives of two sides: in place, where an operation does
-abbrev pub sides_set : Places → Variable → BinaryOperator → CheckedExpression → CheckedExpression → Option PlainOperation → Program
+abbrev pub sides_set : Places → Variable → PlacedOperator → CheckedExpression → CheckedExpression → Option PlainOperation → Program
 sides_set p x op a b None = setting p x (t.binary op a b)
 sides_set p x op a b (Some o) = behind (lowered_expression p b) (update_step p o x)
 
 -- an assignment; `x = x + e` and its like are in place, since `e` leaves x
 abbrev pub assignment : Places → Variable → CheckedExpression → Program
-assignment p x (t.binary op a b) = sides_set p x op a b (updating x op a)
+assignment p x (t.binary op a b) = sides_set p x op a b (updating x op.operator a)
 assignment p x e = setting p x e
 
 -- an index and an expression's value, on top of the stack: the index is evaluated first
@@ -219,13 +222,13 @@ abbrev pub element_updating : Variable → CheckedExpression → BinaryOperator 
 element_updating x index op a = if is_element x index a then plain_operation op else None
 
 -- sets an element to what an operator gives of two sides: in place, where an operation does
-abbrev pub element_sides_set : Places → Variable → CheckedExpression → BinaryOperator → CheckedExpression → CheckedExpression → Option PlainOperation → Program
+abbrev pub element_sides_set : Places → Variable → CheckedExpression → PlacedOperator → CheckedExpression → CheckedExpression → Option PlainOperation → Program
 element_sides_set p x index op a b None = element_setting p x index (t.binary op a b)
 element_sides_set p x index op a b (Some o) = behind (index_and_value p index b) (update_element_step p o x)
 
 -- an assignment to an element; `a[i] = a[i] + e` and its like are in place, since `e` leaves the element and its index
 abbrev pub element_assignment : Places → Variable → CheckedExpression → CheckedExpression → Program
-element_assignment p x index (t.binary op a b) = element_sides_set p x index op a b (element_updating x index op a)
+element_assignment p x index (t.binary op a b) = element_sides_set p x index op a b (element_updating x index op.operator a)
 element_assignment p x index e = element_setting p x index e
 
 -- a declaration without a value has no steps

@@ -1,7 +1,7 @@
 -- What the operators of a source stand for.
 use Rattle.std.specs.Prelude.{Option, Some, None}
 use Rattle.task_ast.specs.declared.WordType.{WordType}
-use Rattle.task_ast.specs.declared.WordType.TheVariants.{Unsigned, Int}
+use Rattle.task_ast.specs.declared.WordType.TheVariants.{Unsigned, Int, Long}
 use Rattle.task_ast.specs.declared.BinaryOperator.{BinaryOperator}
 use Rattle.task_ast.specs.declared.BinaryOperator.TheVariants as operator
 use Rattle.task_ast.specs.declared.ShiftOperator.{ShiftOperator}
@@ -20,11 +20,13 @@ use Rattle.lower.specs.declared.operations.BinaryMeaning.TheVariants.{Calculates
 abbrev pub below : WordType → Comparison
 below Int = SignedBelow
 below Unsigned = Below
+below Long = Below
 
 -- the same of above
 abbrev pub above : WordType → Comparison
 above Int = SignedAbove
 above Unsigned = Above
+above Long = Above
 
 -- what an operator gives of two words of this joined type
 abbrev pub binary_meaning : BinaryOperator → WordType → BinaryMeaning
@@ -56,4 +58,5 @@ plain_operation _ = None
 abbrev pub shift_operation : ShiftOperator → WordType → ShiftOperation
 shift_operation shift_operator.Left t = Left
 shift_operation shift_operator.Right Unsigned = Right
+shift_operation shift_operator.Right Long = Right
 shift_operation shift_operator.Right Int = SignedRight

@@ -16,8 +16,8 @@ use array_versions::{
     BinaryOperation, Comparison, PlainOperation, UnaryOperation, WordProgram, WordTest,
 };
 use memory_map::VariablePlace;
-use source_values::types::{binary_type, joined_type, literal_type, unary_type};
 use std::alloc::{AllocError, Global};
+use task_ast::types::{binary_type, joined_type, literal_type, unary_type};
 use task_ast::{Expr, ShortCircuitOperator, UnaryOperator, Variable, VariableName, WordType};
 
 /// What an expression comes to.
@@ -233,6 +233,11 @@ fn lower(
             program.number(*n)?;
             Ok((ExpressionProgram::Word(program), literal_type(*n)))
         }
+        Expr::LongNumber(n) => {
+            let mut program = WordProgram::new(alloc);
+            program.number((*n % 65536) as u16)?;
+            Ok((ExpressionProgram::Word(program), WordType::Long))
+        }
         Expr::Name(x) => {
             let mut program = WordProgram::new(alloc);
             read(x.variable, places, &mut program)?;
@@ -256,10 +261,10 @@ fn lower(
             let (mut sides, left) = value(alloc, a, places)?;
             let (second, right) = value(alloc, b, places)?;
             append(&mut sides, second)?;
-            let meaning = binary_meaning(*op, joined_type(left, right));
+            let meaning = binary_meaning(op.operator, joined_type(left, right));
             Ok((
                 binary(alloc, meaning, sides)?,
-                binary_type(*op, left, right),
+                binary_type(op.operator, left, right),
             ))
         }
         Expr::Shift(op, operand, count) => {

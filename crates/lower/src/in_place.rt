@@ -26,6 +26,7 @@ fn is_name(variable: Variable, e: &Expr<VariableName>) -> bool
     match e {
         Expr::Name(name) => is_same(variable, name.variable),
         Expr::Number(_)
+        | Expr::LongNumber(_)
         | Expr::Element(..)
         | Expr::Sense
         | Expr::Unary(..)
@@ -56,7 +57,8 @@ fn is_number(n: u16, e: &Expr<VariableName>) -> bool
 {
     match e {
         Expr::Number(m) => n == *m,
-        Expr::Name(_)
+        Expr::LongNumber(_)
+        | Expr::Name(_)
         | Expr::Element(..)
         | Expr::Sense
         | Expr::Unary(..)
@@ -73,7 +75,8 @@ fn are_alike(first: &Expr<VariableName>, second: &Expr<VariableName>) -> bool
     match first {
         Expr::Number(n) => is_number(*n, second),
         Expr::Name(name) => is_name(name.variable, second),
-        Expr::Element(..)
+        Expr::LongNumber(_)
+        | Expr::Element(..)
         | Expr::Sense
         | Expr::Unary(..)
         | Expr::Binary(..)
@@ -89,6 +92,7 @@ fn is_element(variable: Variable, index: &Expr<VariableName>, e: &Expr<VariableN
     match e {
         Expr::Element(x, other) => is_same(variable, x.variable) && are_alike(index, other),
         Expr::Number(_)
+        | Expr::LongNumber(_)
         | Expr::Name(_)
         | Expr::Sense
         | Expr::Unary(..)

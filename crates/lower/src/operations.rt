@@ -26,7 +26,7 @@ fn below(word_type: WordType) -> Comparison
 {
     match word_type {
         WordType::Int => Comparison::SignedBelow,
-        WordType::Unsigned => Comparison::Below,
+        WordType::Unsigned | WordType::Long => Comparison::Below,
     }
 }
 
@@ -36,7 +36,7 @@ fn above(word_type: WordType) -> Comparison
 {
     match word_type {
         WordType::Int => Comparison::SignedAbove,
-        WordType::Unsigned => Comparison::Above,
+        WordType::Unsigned | WordType::Long => Comparison::Above,
     }
 }
 
@@ -89,7 +89,7 @@ pub fn shift_operation(op: ShiftOperator, word_type: WordType) -> ShiftOperation
 {
     match (op, word_type) {
         (ShiftOperator::Left, _) => ShiftOperation::Left,
-        (ShiftOperator::Right, WordType::Unsigned) => ShiftOperation::Right,
+        (ShiftOperator::Right, WordType::Unsigned | WordType::Long) => ShiftOperation::Right,
         (ShiftOperator::Right, WordType::Int) => ShiftOperation::SignedRight,
     }
 }

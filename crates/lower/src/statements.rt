@@ -96,11 +96,12 @@ fn assign(
         ≡ joined (program_of program.old) (assignment (places_in places.now) variable (expression_of e.now))) }
 {
     match e {
-        Expr::Binary(op, left, right) => match updating(variable, *op, left) {
+        Expr::Binary(op, left, right) => match updating(variable, op.operator, left) {
             Some(operation) => set_in_place(alloc, operation, variable, right, places, program),
             None => set(alloc, variable, e, places, program),
         },
         Expr::Number(_)
+        | Expr::LongNumber(_)
         | Expr::Name(_)
         | Expr::Element(..)
         | Expr::Sense
@@ -179,13 +180,19 @@ fn store(
         (element_assignment (places_in places.now) variable (expression_of index.now) (expression_of e.now))) }
 {
     match e {
-        Expr::Binary(op, left, right) => match element_updating(variable, index, *op, left) {
+        Expr::Binary(op, left, right) => match element_updating(
+            variable,
+            index,
+            op.operator,
+            left,
+        ) {
             Some(operation) => set_element_in_place(
                 alloc, operation, variable, index, right, places, program,
             ),
             None => set_element(alloc, variable, index, e, places, program),
         },
         Expr::Number(_)
+        | Expr::LongNumber(_)
         | Expr::Name(_)
         | Expr::Element(..)
         | Expr::Sense

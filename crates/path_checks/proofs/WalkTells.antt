@@ -40,6 +40,7 @@ nothing base s f = tells_as base s _ _ (λ x p. sym ((law x p).unit_r (f x p)))
 expression_tells : (base : ℕ) (e : CheckedExpression) (s : Reached) (f : Family) → Tells base s f
     → Tells base (walk_expression base s e) (λ x p. assignment_seq (f x p) (expression_sum (assignment x p) e))
 expression_tells base (t.number _) s f h = nothing base s f h
+expression_tells base (t.long_number _) s f h = nothing base s f h
 expression_tells base (t.name n) s f h = tells_read base s n f h
 expression_tells base (t.element n index) s f h =
     behind base _ f (λ x p. expression_sum (assignment x p) index) (λ x p. assignment_one x p (read n))

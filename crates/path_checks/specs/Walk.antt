@@ -97,6 +97,7 @@ settled s turn = bit_and (bit_and turn.unassigned turn.exposed) s.unassigned == 
 
 abbrev pub walk_expression : ℕ → Reached → CheckedExpression → Reached
 walk_expression base s (t.number _) = s
+walk_expression base s (t.long_number _) = s
 walk_expression base s (t.name n) = read_at base s n
 walk_expression base s (t.element n index) = read_at base (walk_expression base s index) n
 walk_expression base s t.sense = s

@@ -183,7 +183,7 @@ fn walk_expression(base: u32, s: Reached, e: &Expr<VariableName>) -> Reached
     ensures { result ≡ walk_expression base s (expression_of e.now) }
 {
     match e {
-        Expr::Number(_) | Expr::Sense => s,
+        Expr::Number(_) | Expr::LongNumber(_) | Expr::Sense => s,
         Expr::Name(name) => read_at(base, s, name),
         Expr::Element(name, index) => read_at(base, walk_expression(base, s, index), name),
         Expr::Unary(_, a) | Expr::Shift(_, a, _) => walk_expression(base, s, a),

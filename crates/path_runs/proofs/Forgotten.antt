@@ -1,10 +1,14 @@
 -- Where each path of a block writes a scalar before it reads it and before the transition, it makes no difference which word the scalar
 -- held: two runs from attempts that differ in this word alone read none of it while they differ, and don't end before they are one.
-use Rattle.std.proofs.Common.{◌≡◌, ℕ, zero, suc, ◌+◌, ◌-◌, ◌==◌, ◌<◌, ◌≤◌, List, [], ◌∷◌, ◌++◌, length, get_or, slice_set, Bool, true, false, ◌&&◌, ◌||◌}
+use Rattle.std.proofs.Common.{◌≡◌, ℕ, zero, suc, ◌+◌, ◌-◌, ◌==◌, ◌<◌, ◌≤◌, List, [], ◌∷◌, ◌++◌, length, get_or, slice_set, Bool, true, false, ◌&&◌, ◌||◌, ◌/◌}
+use Rattle.std.proofs.Common.{◌%◌, ap₂}
 use Rattle.std.proofs.Common.{Option, Some, None, refl, sym, ap, ◌∙◌, subst, ⊎_elim, eq-eqb, arith, if◌then◌else◌}
 use Rattle.std.proofs.lemmas.Bool.{cases_Bool, cases_lt, eqb-true}
 use Rattle.std.proofs.lemmas.List.{set-set, get_or-set_same, get_or-set_other}
 use Rattle.source_values.specs.task_ast.Tree as t
+use Rattle.source_values.specs.task_ast.declared.WordType.{WordType}
+use Rattle.source_values.specs.task_ast.declared.WordType.TheVariants.{Unsigned, Int, Long}
+use Rattle.source_values.specs.task_ast.declared.names.VariableName.{VariableName}
 use Rattle.source_values.specs.task_ast.declared.names.Variable.{Variable}
 use Rattle.source_values.specs.task_ast.declared.names.Variable.TheVariants.{Shared, Local}
 use Rattle.source_values.specs.task_ast.Paths.{CheckedExpression, CheckedStatement, CheckedChoice, CheckedBlock}
@@ -14,9 +18,11 @@ use Rattle.path_sums.specs.Access.{private_of}
 use Rattle.path_sums.specs.declared.access.AccessSummary.{AccessSummary}
 use Rattle.path_sums.proofs.Interface.{writes_some, private_is}
 use Rattle.source_values.specs.alp_words.Words.{bit}
-use Rattle.source_values.specs.Values.{Variables, word_at, with_word, value_of, holds, is_settled, unary_value, binary_value, shift_value, joined_type}
-use Rattle.source_values.specs.Values.{type_of, ◌>>?◌}
-use Rattle.source_values.specs.Statements.{Attempt, Outcome, goes_on, to_task, short, and_then, if_value, assigned, turns, run_statement, run_choice, run_block}
+use Rattle.source_values.specs.Values.{Variables, word_at, with_word, two_words, scalar_value, by_width, converted, value_of, holds, is_settled}
+use Rattle.source_values.specs.Values.{unary_result, binary_result, shift_result, type_of, ◌>>?◌}
+use Rattle.source_values.specs.Statements.{Attempt, Outcome, goes_on, to_task, short, and_then, if_value, assigned, assigned_to, assigned_value, word_of}
+use Rattle.source_values.specs.Statements.{turns, run_statement}
+use Rattle.source_values.specs.Statements.{run_choice, run_block}
 use Rattle.path_runs.specs.Laws.{NoStoreInStatement, NoStoreInChoice, NoStoreIn, FirstWritesForget}
 
 -- ---- tests
@@ -189,6 +195,7 @@ module _ (v word : ℕ) where
   expression_untouched : (e : CheckedExpression) → (of_expression e).exposed ≡ false → (of_expression e).untouched ≡ true
   unfolding summary
   expression_untouched (t.number _) h = refl
+  expression_untouched (t.long_number _) h = refl
   expression_untouched (t.name n) h = read_untouched (is_same (Shared v) n.variable) h
   expression_untouched (t.element n index) h =
       let i = of_expression index in
@@ -205,10 +212,14 @@ module _ (v word : ℕ) where
   expression_untouched (t.short_circuit _ a b) h =
       left_holds (of_expression a).untouched _ (expression_untouched a (or_none (of_expression a).exposed _ h).0)
 
+  scalar_same : (m : Variables) (n : VariableName) → is_same (Shared v) n.variable ≡ false → scalar_value (other m) n ≡ scalar_value m n
+  scalar_same m n h = ap₂ (λ low high. by_width n.word_type low (two_words low high)) (word_same m n.variable 0 h) (word_same m n.variable 1 h)
+
   value_same : (e : CheckedExpression) (m : Variables) (rs : List ℕ) → (of_expression e).exposed ≡ false → value_of e (other m) rs ≡ value_of e m rs
   unfolding summary
   value_same (t.number _) m rs h = refl
-  value_same (t.name n) m rs h = ap (λ w. Some (w, rs)) (word_same m n.variable 0 (unread (is_same (Shared v) n.variable) h))
+  value_same (t.long_number _) m rs h = refl
+  value_same (t.name n) m rs h = ap (λ w. Some (w, rs)) (scalar_same m n (unread (is_same (Shared v) n.variable) h))
   value_same (t.element n index) m rs h =
       let i = of_expression index in
       let parts = or_none i.exposed _ h in
@@ -218,15 +229,15 @@ module _ (v word : ℕ) where
       ∙ bind_same (value_of index m rs) (λ i. Some (word_at (other m) n.variable i.0, i.1)) (λ i. Some (word_at m n.variable i.0, i.1))
       (λ i. ap (λ w. Some (w, i.1)) (word_same m n.variable i.0 apart))
   value_same t.sense m rs h = refl
-  value_same (t.unary op a) m rs h = ap (λ o. o >>? λ x. Some (unary_value op x.0, x.1)) (value_same a m rs h)
+  value_same (t.unary op a) m rs h = ap (λ o. o >>? λ x. Some (unary_result op (type_of a) x.0, x.1)) (value_same a m rs h)
   value_same (t.binary op a b) m rs h =
       let parts = or_none (of_expression a).exposed _ h in
       let second = second_none (of_expression a).untouched _ parts.1 (expression_untouched a parts.0) in
-      let f : ℕ × List ℕ → ℕ × List ℕ → Option (ℕ × List ℕ) = λ x y. Some (binary_value op (joined_type (type_of a) (type_of b)) x.0 y.0, y.1) in
+      let f : ℕ × List ℕ → ℕ × List ℕ → Option (ℕ × List ℕ) = λ x y. Some (binary_result op.operator (type_of a) (type_of b) x.0 y.0, y.1) in
       ap (λ o. o >>? λ x. value_of b (other m) x.1 >>? f x) (value_same a m rs parts.0)
       ∙ bind_same (value_of a m rs) (λ x. value_of b (other m) x.1 >>? f x) (λ x. value_of b m x.1 >>? f x)
       (λ x. ap (λ o. o >>? f x) (value_same b m x.1 second))
-  value_same (t.shift op a count) m rs h = ap (λ o. o >>? λ x. Some (shift_value op (type_of a) x.0 count.value, x.1)) (value_same a m rs h)
+  value_same (t.shift op a count) m rs h = ap (λ o. o >>? λ x. Some (shift_result op (type_of a) x.0 count.value, x.1)) (value_same a m rs h)
   value_same (t.short_circuit op a b) m rs h =
       let sides = or_none (of_expression a).exposed _ h in
       let parts = or_none (of_expression a).exposed _ sides.1 in
@@ -275,6 +286,30 @@ module _ (v word : ℕ) where
           → Alike (if b then summary_write else summary_unit).untouched (goes_on (assigned s x 0 w)) (goes_on (assigned (other_in s) x 0 w))
       by true e = same (ap (λ m. goes_on (record s { variables = m })) (sym (set_again s.variables x w e)))
       by false e = apart (assigned s x 0 w) refl refl (ap (λ m. goes_on (record s { variables = m })) (set_later s.variables x 0 w e))
+
+  write_two_alike : (x : Variable) (low high : ℕ) (s : Attempt) → Alike (of_write x).untouched (goes_on (assigned (assigned s x 0 low) x 1 high))
+      (goes_on (assigned (assigned (other_in s) x 0 low) x 1 high))
+  write_two_alike x low high s = by (is_same (Shared v) x) refl
+    where
+      by : (b : Bool) → is_same (Shared v) x ≡ b
+          → Alike (if b then summary_write else summary_unit).untouched (goes_on (assigned (assigned s x 0 low) x 1 high))
+          (goes_on (assigned (assigned (other_in s) x 0 low) x 1 high))
+      by true e = same (ap (λ m. goes_on (record s { variables = with_word m x 1 high })) (sym (set_again s.variables x low e)))
+      by false e = apart (assigned (assigned s x 0 low) x 1 high) refl refl
+          (ap (λ m. goes_on (record s { variables = with_word m x 1 high })) (set_later s.variables x 0 low e)
+          ∙ ap (λ m. goes_on (record s { variables = m })) (set_later (with_word s.variables x 0 low) x 1 high e))
+
+  assigned_alike : (x : VariableName) (w : ℕ) (s : Attempt)
+      → Alike (of_write x.variable).untouched (goes_on (assigned_to s x w)) (goes_on (assigned_to (other_in s) x w))
+  assigned_alike x w s = by x.word_type
+    where
+      by : (of : WordType) → Alike (of_write x.variable).untouched
+          (goes_on (by_width of (assigned s x.variable 0 w) (assigned (assigned s x.variable 0 (w % 65536)) x.variable 1 (w / 65536))))
+          (goes_on (by_width of (assigned (other_in s) x.variable 0 w)
+          (assigned (assigned (other_in s) x.variable 0 (w % 65536)) x.variable 1 (w / 65536))))
+      by Long = write_two_alike x.variable (w % 65536) (w / 65536) s
+      by Int = write_alike x.variable w s
+      by Unsigned = write_alike x.variable w s
 
   -- ---- turns
 
@@ -333,16 +368,17 @@ module _ (v word : ℕ) where
 
   -- ---- statements
 
-  set_alike : (x : Variable) (e : CheckedExpression) → IsClean (summary_seq (of_expression e) (of_write x)) → (a : Attempt)
-      → Alike ((of_expression e).untouched && (of_write x).untouched)
-      (if_value (value_of e a.variables a.left) a (λ w s. goes_on (assigned s x 0 w)))
-      (if_value (value_of e (other a.variables) a.left) (other_in a) (λ w s. goes_on (assigned s x 0 w)))
+  set_alike : (x : VariableName) (e : CheckedExpression) → IsClean (summary_seq (of_expression e) (of_write x.variable)) → (a : Attempt)
+      → Alike ((of_expression e).untouched && (of_write x.variable).untouched)
+      (if_value (value_of e a.variables a.left) a (λ w s. goes_on (assigned_value s x e w)))
+      (if_value (value_of e (other a.variables) a.left) (other_in a) (λ w s. goes_on (assigned_value s x e w)))
   set_alike x e clean a =
-      let unread = (clean_first (of_expression e) (of_write x) clean).exposed in
-      value_alike ((of_expression e).untouched && (of_write x).untouched) e a (λ w s. goes_on (assigned s x 0 w)) unread
-      (λ w s. alike_if (of_write x).untouched ((of_expression e).untouched && (of_write x).untouched) (goes_on (assigned s x 0 w))
-      (goes_on (assigned (other_in s) x 0 w))
-      (λ h. both_hold (of_expression e).untouched (of_write x).untouched (expression_untouched e unread) h) (write_alike x w s))
+      let unread = (clean_first (of_expression e) (of_write x.variable) clean).exposed in
+      value_alike ((of_expression e).untouched && (of_write x.variable).untouched) e a (λ w s. goes_on (assigned_value s x e w)) unread
+      (λ w s. alike_if (of_write x.variable).untouched ((of_expression e).untouched && (of_write x.variable).untouched) (goes_on (assigned_value s x e w))
+      (goes_on (assigned_value (other_in s) x e w))
+      (λ h. both_hold (of_expression e).untouched (of_write x.variable).untouched (expression_untouched e unread) h)
+      (assigned_alike x (converted (type_of e) x.word_type w) s))
 
   either_alike : (b c d : Bool) → b ≡ true → (o p q r : Outcome) (test : Bool) → Alike c o p → Alike d q r
       → Alike (b && (c || d)) (if test then o else q) (if test then p else r)
@@ -355,8 +391,8 @@ module _ (v word : ℕ) where
     statement_alike : (s : CheckedStatement) → NoStoreInStatement v s → IsClean (of_statement s) → (a : Attempt)
         → Alike (of_statement s).untouched (run_statement s a) (run_statement s (other_in a))
     statement_alike (t.declare of x None) plain clean a = apart a refl refl refl
-    statement_alike (t.declare of x (Some e)) plain clean a = set_alike x.variable e clean a
-    statement_alike (t.assign x e) plain clean a = set_alike x.variable e clean a
+    statement_alike (t.declare of x (Some e)) plain clean a = set_alike x e clean a
+    statement_alike (t.assign x e) plain clean a = set_alike x e clean a
     statement_alike (t.store x index e) plain clean a =
         let i = of_expression index in
         let j = of_expression e in
@@ -366,9 +402,10 @@ module _ (v word : ℕ) where
         let unwritten : (of_write x.variable).untouched ≡ true = ap (λ b. (if b then summary_write else summary_unit).untouched) plain in
         let touched = i.untouched && (j.untouched && (of_write x.variable).untouched) in
         let all = both_hold i.untouched _ (expression_untouched index first) (both_hold j.untouched _ (expression_untouched e second) unwritten) in
-        value_alike touched index a (λ i s. if_value (value_of e s.variables s.left) s (λ w s. goes_on (assigned s x.variable i w))) first
-        (λ i s. value_alike touched e s (λ w s. goes_on (assigned s x.variable i w)) second
-        (λ w s. apart (assigned s x.variable i w) all refl (ap (λ m. goes_on (record s { variables = m })) (set_later s.variables x.variable i w plain))))
+        value_alike touched index a (λ i s. if_value (value_of e s.variables s.left) s (λ w s. goes_on (assigned s x.variable i (word_of e w)))) first
+        (λ i s. value_alike touched e s (λ w s. goes_on (assigned s x.variable i (word_of e w))) second
+        (λ w s. apart (assigned s x.variable i (word_of e w)) all refl
+        (ap (λ m. goes_on (record s { variables = m })) (set_later s.variables x.variable i (word_of e w) plain))))
     statement_alike (t.choose c) plain clean a = choice_alike c plain clean a
     statement_alike (t.loop x from tested below stepped body) plain clean a =
         let n = below - from in
@@ -376,8 +413,8 @@ module _ (v word : ℕ) where
         (λ wrote j e. clean_turn (n == 0) (n == 1) (summary_seq (of_block body) (of_write x.variable))
         (λ none. let zero_turns = eqb-true n 0 none in omega (arith, zero_turns, e)) (clean_second (of_write x.variable) _ clean wrote))
     statement_alike (t.emit e) plain clean a =
-        value_alike (of_expression e).untouched e a (λ w s. goes_on (record s { emitted = s.emitted ++ w ∷ [] })) clean.exposed
-        (λ w s. apart (record s { emitted = s.emitted ++ w ∷ [] }) (expression_untouched e clean.exposed) refl refl)
+        value_alike (of_expression e).untouched e a (λ w s. goes_on (record s { emitted = s.emitted ++ word_of e w ∷ [] })) clean.exposed
+        (λ w s. apart (record s { emitted = s.emitted ++ word_of e w ∷ [] }) (expression_untouched e clean.exposed) refl refl)
     statement_alike (t.transition n) plain clean a = absurd (let none : true ≡ false = clean.transitions in cc)
 
     choice_alike : (c : CheckedChoice) → NoStoreInChoice v c → IsClean (of_choice c) → (a : Attempt)

@@ -6,7 +6,8 @@ use Rattle.source_values.specs.task_ast.Tree as t
 use Rattle.source_values.specs.task_ast.declared.names.Variable.{Variable}
 use Rattle.source_values.specs.task_ast.Paths.{CheckedStatement, CheckedChoice, CheckedBlock}
 use Rattle.source_values.specs.Values.{value_of, holds}
-use Rattle.source_values.specs.Statements.{Attempt, Outcome, goes_on, to_task, short, and_then, if_value, assigned, turns, run_statement, run_choice, run_block}
+use Rattle.source_values.specs.Statements.{Attempt, Outcome, goes_on, to_task, short, and_then, if_value, assigned, assigned_value, word_of, turns}
+use Rattle.source_values.specs.Statements.{run_statement, run_choice, run_block}
 use Rattle.path_sums.specs.Reaches.{statement_falls_through, choice_falls_through, block_falls_through}
 use Rattle.path_runs.specs.Laws.{RunsGoOnAlongPaths}
 
@@ -56,16 +57,17 @@ turns_go f (suc n) k x body s h =
 mutual
   statement_goes : (s : CheckedStatement) (a : Attempt) → GoesOnIf (statement_falls_through s) (run_statement s a)
   statement_goes (t.declare of x None) a = refl
-  statement_goes (t.declare of x (Some e)) a = with_any true (value_of e a.variables a.left) a (λ w s. goes_on (assigned s x.variable 0 w)) (λ w s. refl)
-  statement_goes (t.assign x e) a = with_any true (value_of e a.variables a.left) a (λ w s. goes_on (assigned s x.variable 0 w)) (λ w s. refl)
+  statement_goes (t.declare of x (Some e)) a = with_any true (value_of e a.variables a.left) a (λ w s. goes_on (assigned_value s x e w)) (λ w s. refl)
+  statement_goes (t.assign x e) a = with_any true (value_of e a.variables a.left) a (λ w s. goes_on (assigned_value s x e w)) (λ w s. refl)
   statement_goes (t.store x index e) a =
-      with_any true (value_of index a.variables a.left) a (λ i s. if_value (value_of e s.variables s.left) s (λ w s. goes_on (assigned s x.variable i w)))
-      (λ i s. with_any true (value_of e s.variables s.left) s (λ w s. goes_on (assigned s x.variable i w)) (λ w s. refl))
+      with_any true (value_of index a.variables a.left) a
+      (λ i s. if_value (value_of e s.variables s.left) s (λ w s. goes_on (assigned s x.variable i (word_of e w))))
+      (λ i s. with_any true (value_of e s.variables s.left) s (λ w s. goes_on (assigned s x.variable i (word_of e w))) (λ w s. refl))
   statement_goes (t.choose c) a = choice_goes c a
   statement_goes (t.loop x from tested below stepped body) a =
       turns_go (block_falls_through body) (below - from) from x.variable (run_block body) a (block_goes body)
   statement_goes (t.emit e) a =
-      with_any true (value_of e a.variables a.left) a (λ w s. goes_on (record s { emitted = s.emitted ++ w ∷ [] })) (λ w s. refl)
+      with_any true (value_of e a.variables a.left) a (λ w s. goes_on (record s { emitted = s.emitted ++ word_of e w ∷ [] })) (λ w s. refl)
   statement_goes (t.transition n) a = tt
 
   choice_goes : (c : CheckedChoice) (a : Attempt) → GoesOnIf (choice_falls_through c) (run_choice c a)

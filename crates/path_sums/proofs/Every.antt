@@ -14,6 +14,7 @@ pub record Kept {S : Type 0} (A : Algebra S) (P : S → Type 0) : Type 0 where
 module _ {S : Type 0} (A : Algebra S) (P : S → Type 0) (kept : Kept A P) where
   expression_is : (e : CheckedExpression) → P (expression_sum A e)
   expression_is (t.number _) = kept.unit
+  expression_is (t.long_number _) = kept.unit
   expression_is (t.name n) = kept.one (read n)
   expression_is (t.element n index) = kept.seq _ _ (expression_is index) (kept.one (read n))
   expression_is t.sense = kept.unit

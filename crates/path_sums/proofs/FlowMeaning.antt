@@ -30,6 +30,7 @@ flow_law = record {
 -- an expression goes on
 expression_goes : (e : CheckedExpression) → expression_sum flow e ≡ true
 expression_goes (t.number _) = refl
+expression_goes (t.long_number _) = refl
 expression_goes (t.name _) = refl
 expression_goes (t.element _ index) = ap (λ a. a && true) (expression_goes index)
 expression_goes t.sense = refl

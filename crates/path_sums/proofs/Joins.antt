@@ -193,6 +193,13 @@ module _ {S : Type 0} (A : Algebra S) (law : Lawful A) where
 
       back : (zs : List Access) (end : End) → Going (ExpressionPath (t.number n)) zs end → Only [] zs end
       back _ _ (going _ (p.number _)) = only
+  joins_expression (t.long_number n) = joins_same (Only []) (Going (ExpressionPath (t.long_number n))) A.unit there back (joins_only [])
+    where
+      there : (zs : List Access) (end : End) → Only [] zs end → Going (ExpressionPath (t.long_number n)) zs end
+      there _ _ only = going [] (p.long_number n)
+
+      back : (zs : List Access) (end : End) → Going (ExpressionPath (t.long_number n)) zs end → Only [] zs end
+      back _ _ (going _ (p.long_number _)) = only
   joins_expression t.sense = joins_same (Only []) (Going (ExpressionPath t.sense)) A.unit there back (joins_only [])
     where
       there : (zs : List Access) (end : End) → Only [] zs end → Going (ExpressionPath t.sense) zs end

@@ -13,6 +13,7 @@ pub record Algebra (S : Type 0) : Type 0 where
 
 abbrev pub expression_sum : {S : Type 0} → Algebra S → CheckedExpression → S
 expression_sum A (t.number _) = A.unit
+expression_sum A (t.long_number _) = A.unit
 expression_sum A (t.name n) = A.one (read n)
 expression_sum A (t.element n index) = A.seq (expression_sum A index) (A.one (read n))
 expression_sum A t.sense = A.unit

@@ -3,7 +3,7 @@ use Rattle.std.proofs.Common.{◌≡◌, ℕ, zero, suc, ◌+◌, ◌*◌, ◌<�
 use Rattle.std.proofs.Common.{drop-cons, add-one}
 use Rattle.task_ast.specs.View.{task_of}
 use Rattle.task_ast.specs.declared.Extent.{Extent}
-use Rattle.task_ast.specs.declared.Extent.TheVariants.{Scalar, Array}
+use Rattle.task_ast.specs.declared.Extent.TheVariants.{Scalar, Long, Array}
 use Rattle.task_ast.specs.declared.SharedDeclaration.{SharedDeclaration}
 use Rattle.task_ast.specs.declared.TaskDeclaration.{TaskDeclaration}
 use Rattle.task_ast.specs.declared.names.VariableName.{VariableName}
@@ -16,6 +16,7 @@ use Rattle.privatise.specs.Sizes.{home_part, home_words, copy_part, copy_words, 
 
 part_split : (written : Bool) (e : Extent) → place_part written e ≡ home_part e + copy_part written e + version_part written e
 part_split written (Scalar _) = refl
+part_split written (Long _) = refl
 part_split true (Array n) = omega arith
 part_split false (Array n) = omega arith
 

@@ -130,6 +130,7 @@ split written (extent.Scalar _) free (Scalar home copy) vs ends k h = record {
 }
 split written (extent.Scalar _) free (Array elements n copies) vs ends k h = absurd k
 split written (extent.Array n) free (Scalar home copy) vs ends k h = absurd k
+split written (extent.Long _) free v vs ends k h = absurd k
 split true (extent.Array n) free (Array elements m None) vs ends k h = absurd (let clash : false ≡ true = k.1 in cc)
 split false (extent.Array n) free (Array elements m (Some c)) vs ends k h = absurd (let clash : true ≡ false = k.1 in cc)
 split false (extent.Array n) free (Array elements m None) vs ends k h = record {

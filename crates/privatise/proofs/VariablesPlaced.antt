@@ -17,8 +17,9 @@ use Rattle.privatise.specs.declared.variables.Free.{Free}
 use Rattle.memory_map.specs.Places.{home_region, copy_regions, version_regions, AreInOrder}
 use Rattle.privatise.specs.Sizes.{home_part, home_words, copy_part}
 use Rattle.privatise.specs.Layouts.{IsPlaceOf}
+use Rattle.task_ast.specs.Longs.{IsPlainExtent}
 use Rattle.privatise.specs.Placing.{place_at, copy_sum, version_sum, IsRoom, ArePlaced}
-use Rattle.memory_map.proofs.Interface.{in_order_append, in_order_push, in_order_higher}
+use Rattle.memory_map.proofs.Interface.{in_order_append, in_order_higher}
 use Rattle.privatise.proofs.Sums.{sum_step}
 
 -- what holds of each element, and of one more
@@ -29,24 +30,29 @@ each_push P [] y each new (suc k) x e = let no : None ≡ Some x = e in cc
 each_push P (z ∷ zs) y each new zero x e = each zero x e
 each_push P (z ∷ zs) y each new (suc k) x e = each_push (λ n. P (suc n)) zs y (λ k x h. each (suc k) x h) new k x e
 
-kind_at : (written : Bool) (e : Extent) (free : Free) → IsPlaceOf written e (place_at written e free)
-kind_at written (extent.Scalar _) free = tt
-kind_at true (extent.Array n) free = (refl, refl)
-kind_at false (extent.Array n) free = (refl, refl)
+pub kind_at : (written : Bool) (e : Extent) (free : Free) → IsPlainExtent e → IsPlaceOf written e (place_at written e free)
+kind_at written (extent.Scalar _) free h = tt
+kind_at written (extent.Long _) free h = absurd h
+kind_at true (extent.Array n) free h = (refl, refl)
+kind_at false (extent.Array n) free h = (refl, refl)
 
-home_at : (written : Bool) (e : Extent) (free : Free) → home_region (place_at written e free) ≡ record { address = free.home; words = home_part e }
-home_at written (extent.Scalar _) free = refl
-home_at written (extent.Array n) free = refl
+home_placed : (written : Bool) (e : Extent) (free : Free) (end : ℕ) → free.home % 2 ≡ 0 → end ≡ free.home + 2 * home_part e
+    → AreInOrder free.home (home_region (place_at written e free) ∷ []) end
+home_placed written (extent.Scalar _) free end even h = (record { from = omega arith; even = even }, omega (arith, h))
+home_placed written (extent.Long _) free end even h = (record { from = omega arith; even = even }, omega (arith, h))
+home_placed written (extent.Array n) free end even h = (record { from = omega arith; even = even }, omega (arith, h))
 
 copies_placed : (written : Bool) (e : Extent) (free : Free) (end : ℕ) → free.copy % 2 ≡ 0 → end ≡ free.copy + 2 * copy_part written e
     → AreInOrder free.copy (copy_regions (place_at written e free)) end
 copies_placed written (extent.Scalar _) free end even h = (record { from = omega arith; even = even }, omega (arith, h))
+copies_placed written (extent.Long _) free end even h = (record { from = omega arith; even = even }, omega (arith, h))
 copies_placed true (extent.Array n) free end even h = (record { from = omega arith; even = even }, omega (arith, h))
 copies_placed false (extent.Array n) free end even h = omega (arith, h)
 
 versions_placed : (written : Bool) (e : Extent) (free : Free) (end : ℕ) → free.version % 2 ≡ 0 → end ≡ free.version + 2 * version_part written e
     → AreInOrder free.version (version_regions (place_at written e free)) end
 versions_placed written (extent.Scalar _) free end even h = omega (arith, h)
+versions_placed written (extent.Long _) free end even h = omega (arith, h)
 versions_placed true (extent.Array n) free end even h = (record { from = omega arith; even = even }, omega (arith, h))
 versions_placed false (extent.Array n) free end even h = omega (arith, h)
 
@@ -57,7 +63,7 @@ even_behind a n b e h = omega (arith, e, h)
 pub record PlacedBelow (shared : List SharedDeclaration) (written : List Bool) (free : Free) (i : ℕ) (next : Free) (places : List VariablePlace) : Type 0 where
   pub count : length places ≡ i
   pub each : (k : ℕ) (place : VariablePlace) → slice_get places k ≡ Some place → (d : SharedDeclaration) → slice_get shared k ≡ Some d
-      → IsPlaceOf (slice_index_or written k false) d.extent place
+      → (at : Free) × (place ≡ place_at (slice_index_or written k false) d.extent at)
   pub homes : AreInOrder free.home (map home_region places) next.home
   pub copies : AreInOrder free.copy (flat_map copy_regions places) next.copy
   pub versions : AreInOrder free.version (flat_map version_regions places) next.version
@@ -125,11 +131,11 @@ module _ (shared : List SharedDeclaration) (written : List Bool) (free : Free) (
       → PlacedBelow shared written free (i + 1) later ys
   one_placed later place xs ys is home copy version e h = subst (λ zs. PlacedBelow shared written free (i + 1) later zs) (sym e) (record {
     count = length_push xs place ∙ ap (λ k. k + 1) h.count;
-    each = each_push (λ k x. (d : SharedDeclaration) → slice_get shared k ≡ Some d → IsPlaceOf (slice_index_or written k false) d.extent x) xs place h.each
-        (λ d found. kind d found);
+    each = each_push (λ k x. (d : SharedDeclaration) → slice_get shared k ≡ Some d
+        → (at : Free) × (x ≡ place_at (slice_index_or written k false) d.extent at)) xs place h.each (λ d found. kind d found);
     homes = subst (λ rs. AreInOrder free.home rs later.home) (sym (map-append home_region xs (place ∷ [])))
-        (in_order_push free.home (map home_region xs) next.home later.home (home_region place) (ap (λ r. r.address) home_is) h.even_home
-        (home ∙ ap (λ w. next.home + 2 * w) (sym (ap (λ r. r.words) home_is))) h.homes);
+        (in_order_append free.home (map home_region xs) next.home (home_region place ∷ []) later.home h.homes
+        (subst (λ p. AreInOrder next.home (home_region p ∷ []) later.home) (sym is) (home_placed mark extent next later.home h.even_home home)));
     copies = subst (λ rs. AreInOrder free.copy rs later.copy) (sym (flat_map-append copy_regions xs (place ∷ [])))
         (in_order_append free.copy (flat_map copy_regions xs) next.copy (copy_regions place ++ []) later.copy h.copies
         (in_order_append next.copy (copy_regions place) later.copy [] later.copy
@@ -147,17 +153,13 @@ module _ (shared : List SharedDeclaration) (written : List Bool) (free : Free) (
     even_version = even_behind next.version (version_part mark extent) later.version h.even_version version;
   })
     where
-      home_is : home_region place ≡ record { address = next.home; words = home_part extent }
-      home_is = ap home_region is ∙ home_at mark extent next
-
-      kind : (d : SharedDeclaration) → slice_get shared (length xs) ≡ Some d → IsPlaceOf (slice_index_or written (length xs) false) d.extent place
+      kind : (d : SharedDeclaration) → slice_get shared (length xs) ≡ Some d
+          → (at : Free) × (place ≡ place_at (slice_index_or written (length xs) false) d.extent at)
       kind d found =
           let there : slice_get shared i ≡ Some d = ap (λ k. slice_get shared k) (sym h.count) ∙ found in
           let same : extent ≡ d.extent = at d ∙ ap (λ x. x.extent) (get_or_from_slice_get shared i d d there) in
-          subst (λ x. IsPlaceOf (slice_index_or written (length xs) false) d.extent x) (sym is)
-          (subst (λ x. IsPlaceOf (slice_index_or written (length xs) false) x (place_at mark extent next)) same
-          (subst (λ m. IsPlaceOf m extent (place_at mark extent next)) (marked ∙ ap (λ k. slice_index_or written k false) (sym h.count))
-          (kind_at mark extent next)))
+          let mark_is : mark ≡ slice_index_or written (length xs) false = marked ∙ ap (λ k. slice_index_or written k false) (sym h.count) in
+          (next, is ∙ ap (λ x. place_at mark x next) same ∙ ap (λ m. place_at m d.extent next) mark_is)
 
 over : (next rest all : ℕ) → rest ≡ 0 → next + 2 * rest ≡ all → next ≤ all
 over next rest all e h = omega (arith, e, h)

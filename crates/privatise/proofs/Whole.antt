@@ -3,7 +3,7 @@ use Rattle.std.proofs.Common.{◌≡◌, ℕ, ◌+◌, ◌*◌, ◌%◌, ◌<◌
 use Rattle.std.specs.Prelude.{slice_get, slice_index_or, All, IsSomeAnd}
 use Rattle.std.specs.List.{flat_map}
 use Rattle.std.proofs.lemmas.List.Elements.{All-weaker}
-use Rattle.std.proofs.lemmas.Option.{slice_get_within}
+use Rattle.std.proofs.lemmas.Option.{slice_get_within, get_or_from_slice_get}
 use Rattle.task_ast.specs.View.{task_of}
 use Rattle.task_ast.specs.declared.TaskDeclaration.{TaskDeclaration}
 use Rattle.task_ast.specs.declared.names.VariableName.{VariableName}
@@ -11,6 +11,7 @@ use Rattle.task_ast.specs.declared.names.TaskName.{TaskName}
 use Rattle.task_ast.specs.declared.Extent.{Extent}
 use Rattle.task_ast.specs.declared.Extent.TheVariants as extent
 use Rattle.task_ast.specs.declared.SharedDeclaration.{SharedDeclaration}
+use Rattle.task_ast.specs.Longs.{IsPlainShared}
 use Rattle.cost_bound.specs.declared.allowance.Allow.{Allow}
 use Rattle.cost_bound.specs.Counts.{Code, emits_of}
 use Rattle.cost_bound.specs.Allowance.{CheckedProgram, version_part, is_written, total, greatest, list_of, words_of, versions_of, IsAllowed}
@@ -20,7 +21,6 @@ use Rattle.war_analysis.specs.Plans.{is_scalar, IsPrivateIn, IsPlan}
 use Rattle.war_analysis.proofs.Interface.{element}
 use Rattle.memory_map.specs.address_space.Limits.{fram_first, reset_vector}
 use Rattle.memory_map.specs.declared.place.VariablePlace.{VariablePlace}
-use Rattle.memory_map.specs.declared.place.VariablePlace.TheVariants.{Scalar, Array}
 use Rattle.privatise.specs.declared.variables.Free.{Free}
 use Rattle.privatise.specs.declared.sizes.Sizes.{Sizes}
 use Rattle.memory_map.specs.declared.layouts.Regions.{Regions}
@@ -31,8 +31,9 @@ use Rattle.memory_map.specs.View.{map_with}
 use Rattle.memory_map.specs.Places.{end_of, list_entry_room, home_region, copy_regions, version_regions, IsBehind, AreInOrder, IsLaidOut}
 use Rattle.privatise.specs.Sizes.{home_words, copy_part, copy_words, body_words, boot_words, commit_words}
 use Rattle.privatise.specs.Layouts.{IsPlaceOf, AreVariables, IsLayout}
-use Rattle.privatise.specs.Placing.{copy_sum, version_sum, IsRoom, ArePlaced, is_scalar_place, IsScalarPlaceAt, ArePlacedTasks, AreSizes, AreRegions}
+use Rattle.privatise.specs.Placing.{place_at, copy_sum, version_sum, IsRoom, ArePlaced, is_scalar_place, IsScalarPlaceAt, ArePlacedTasks, AreSizes, AreRegions}
 use Rattle.privatise.proofs.Sums.{words_split}
+use Rattle.privatise.proofs.VariablesPlaced.{kind_at}
 
 -- the marks of the variables that some task writes
 abbrev pub AreWritten : CheckedProgram → List Bool → Type 0
@@ -196,21 +197,25 @@ room p allow s r written few h a k g =
       even_version = e.versions;
     }
 
+-- the place of a variable of one word is of its kind
 pub variables_are : (p : CheckedProgram) (written : List Bool) (free : Free) (places : List VariablePlace) → length p.shared ≤ 256 → AreWritten p written
-    → ArePlaced p.shared written free places → AreVariables p places
-variables_are p written free places few h k = record {
+    → ArePlaced p.shared written free places → All IsPlainShared p.shared → AreVariables p places
+variables_are p written free places few h k plain = record {
   count = k.count;
   each = λ i d place f g.
       let l = slice_get_within p.shared i d f in
-      subst (λ w. IsPlaceOf w d.extent place) (h i (omega (arith, l, few))) (k.each i d place f g);
+      let its = k.each i d place f g in
+      let one_word : IsPlainShared d = subst IsPlainShared (get_or_from_slice_get p.shared i d d f) (plain i d l) in
+      let kind = kind_at (slice_index_or written i false) d.extent its.0 one_word.1 in
+      subst (λ w. IsPlaceOf w d.extent place) (h i (omega (arith, l, few))) (subst (IsPlaceOf (slice_index_or written i false) d.extent) (sym its.1) kind);
 }
 
 -- ---- the tasks
 
-scalar_kind : (w : Bool) (e : Extent) (place : VariablePlace) → IsPlaceOf w e place → is_scalar e ≡ true → is_scalar_place place ≡ true
-scalar_kind w (extent.Scalar _) (Scalar _ _) h s = refl
-scalar_kind w (extent.Scalar _) (Array _ _ _) h s = absurd h
-scalar_kind w (extent.Array n) place h s = cc
+scalar_kind : (w : Bool) (e : Extent) (at : Free) (place : VariablePlace) → place ≡ place_at w e at → is_scalar e ≡ true → is_scalar_place place ≡ true
+scalar_kind w (extent.Scalar _) at place h s = ap is_scalar_place h
+scalar_kind w (extent.Long _) at place h s = ap is_scalar_place h
+scalar_kind w (extent.Array n) at place h s = cc
 
 some_scalar : (o : Option SharedDeclaration) → IsSomeAnd o (λ d. is_scalar d.extent ≡ true) → (d : SharedDeclaration) × (o ≡ Some d)
     × (is_scalar d.extent ≡ true)
@@ -228,7 +233,8 @@ private_place shared code written free places k i h =
     let l = slice_get_within shared i d.0 d.1 in
     let count = k.count in
     let place = element places i (omega (arith, l, count)) in
-    some_and (slice_get places i) place.0 place.1 (scalar_kind _ d.0.extent place.0 (k.each i d.0 place.0 d.1 place.1) d.2)
+    let its = k.each i d.0 place.0 d.1 place.1 in
+    some_and (slice_get places i) place.0 place.1 (scalar_kind _ d.0.extent its.0 place.0 its.1 d.2)
 
 pub scalars_placed : (p : CheckedProgram) (plans : List TaskPlanValue) (written : List Bool) (free : Free) (places : List VariablePlace) → IsPlan p plans
     → ArePlaced p.shared written free places
@@ -297,16 +303,16 @@ pub whole : (p : CheckedProgram) (allow : Allow) (plans : List TaskPlanValue) (s
     (layouts : List TaskPlace)
     → length p.shared ≤ 256 → AreWritten p written → IsAllowed p allow → AreSizes p s → AreRegions allow s r
     → ArePlaced p.shared written (record { home = r.homes.address; copy = r.copies.address; version = r.versions.address }) places
-    → ArePlacedTasks p.shared places p.tasks plans r.code.address layouts
+    → ArePlacedTasks p.shared places p.tasks plans r.code.address layouts → All IsPlainShared p.shared
     → IsLayout p allow plans (map_with r places layouts)
-whole p allow plans s r written places layouts few h a k g v t = record {
+whole p allow plans s r written places layouts few h a k g v t plain = record {
   rules = laid_out p allow plans s r written places layouts few h a k g v t;
   list = g.entries;
   emits = g.emits_words;
   versions = g.versions_words;
   homes = g.homes_words ∙ k.homes;
   copies = g.copies_words ∙ k.copies;
-  variables = variables_are p written _ places few h v;
+  variables = variables_are p written _ places few h v plain;
   boot = g.boot_words ∙ k.boot;
   commit = g.commit_words;
   code = g.code_words ∙ k.code;

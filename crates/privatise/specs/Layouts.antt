@@ -14,12 +14,14 @@ use Rattle.memory_map.specs.MemoryMap.{MemoryMap, TaskPlace}
 use Rattle.memory_map.specs.Places.{end_of, IsLaidOut}
 use Rattle.privatise.specs.Sizes.{home_words, copy_words, body_words, boot_words, commit_words}
 
--- a scalar has the place of a scalar; an array one of its length, with copies and versions exactly where some task writes it
+-- a scalar has the place of a scalar; an array one of its length, with copies and versions exactly where some task writes it. A long has none
+-- yet
 abbrev pub IsPlaceOf : Bool → Extent → VariablePlace → Type 0
 IsPlaceOf written (extent.Scalar _) (Scalar _ _) = Unit {0}
 IsPlaceOf written (extent.Array n) (Array _ length copies) = (length ≡ n) × (is_some copies ≡ written)
 IsPlaceOf written (extent.Scalar _) (Array _ _ _) = ⊥
 IsPlaceOf written (extent.Array n) (Scalar _ _) = ⊥
+IsPlaceOf written (extent.Long _) place = ⊥
 
 -- each variable has a place, by its number
 pub record AreVariables (p : CheckedProgram) (places : List VariablePlace) : Type 0 where
@@ -38,7 +40,7 @@ pub record AreTasks (p : CheckedProgram) (plans : List TaskPlanValue) (tasks : L
   pub each : (k : ℕ) (task : CheckedTask) (plan : TaskPlanValue) (t : TaskPlace) → slice_get p.tasks k ≡ Some task → slice_get plans k ≡ Some plan
       → slice_get tasks k ≡ Some t → IsTaskLayout p.shared task.body plan t
 
--- The layout of a source: it keeps the rules of layouts, its buffers have room for what the source's allowance says, its variables and
+-- The layout of a source, which has no longs: it keeps the rules of layouts, its buffers have room for what the source's allowance says, its variables and
 -- tasks are those of the source, and the whole takes no more words than the source has, of which the last is the one at FFFE.
 pub record IsLayout (p : CheckedProgram) (allow : Allow) (plans : List TaskPlanValue) (l : MemoryMap) : Type 0 where
   pub rules : IsLaidOut l

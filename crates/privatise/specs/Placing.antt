@@ -20,15 +20,16 @@ use Rattle.memory_map.specs.declared.layouts.Regions.{Regions}
 use Rattle.memory_map.specs.MemoryMap.{TaskPlace}
 use Rattle.memory_map.specs.Places.{home_region, copy_regions, version_regions, AreInOrder, HasItsPlace, end_of, list_entry_room}
 use Rattle.privatise.specs.Sizes.{home_words, copy_part, copy_words, body_words, boot_words, commit_words}
-use Rattle.privatise.specs.Layouts.{IsPlaceOf, IsTaskLayout}
+use Rattle.privatise.specs.Layouts.{IsTaskLayout}
 
 -- copies and versions of an array at the free addresses, where it is written
 abbrev pub copies_where : Bool → Free → Option ArrayCopies
 copies_where written free = if written then Some (record { copies = free.copy; versions = free.version }) else None
 
--- a variable at the free addresses
+-- a variable at the free addresses; a long by its first word
 abbrev pub place_at : Bool → Extent → Free → VariablePlace
 place_at written (extent.Scalar _) free = Scalar free.home free.copy
+place_at written (extent.Long _) free = Scalar free.home free.copy
 place_at written (extent.Array n) free = Array free.home n (copies_where written free)
 
 -- the words of all copies and versions, where the written arrays are marked
@@ -52,7 +53,7 @@ pub record IsRoom (shared : List SharedDeclaration) (written : List Bool) (free 
 pub record ArePlaced (shared : List SharedDeclaration) (written : List Bool) (free : Free) (places : List VariablePlace) : Type 0 where
   pub count : length places ≡ length shared
   pub each : (i : ℕ) (d : SharedDeclaration) (place : VariablePlace) → slice_get shared i ≡ Some d → slice_get places i ≡ Some place
-      → IsPlaceOf (slice_index_or written i false) d.extent place
+      → (at : Free) × (place ≡ place_at (slice_index_or written i false) d.extent at)
   pub homes : AreInOrder free.home (map home_region places) (free.home + 2 * home_words shared)
   pub copies : AreInOrder free.copy (flat_map copy_regions places) (free.copy + 2 * copy_sum written shared)
   pub versions : AreInOrder free.version (flat_map version_regions places) (free.version + 2 * version_sum written shared)

@@ -1,7 +1,7 @@
 -- The words that a source's data and code are given.
 use Rattle.std.specs.Prelude.{ℕ, ◌+◌, ◌-◌, ◌*◌, Bool, if◌then◌else◌, List}
 use Rattle.task_ast.specs.declared.Extent.{Extent}
-use Rattle.task_ast.specs.declared.Extent.TheVariants.{Scalar, Array}
+use Rattle.task_ast.specs.declared.Extent.TheVariants.{Scalar, Long, Array}
 use Rattle.task_ast.specs.declared.SharedDeclaration.{SharedDeclaration}
 use Rattle.cost_bound.specs.Counts.{Code}
 use Rattle.memory_map.specs.Words.{row_words}
@@ -11,6 +11,7 @@ use Rattle.cost_bound.specs.Allowance.{CheckedProgram, CheckedTask, shared_sum, 
 -- the words of a variable
 abbrev pub home_part : Extent → ℕ
 home_part (Scalar _) = 1
+home_part (Long _) = 2
 home_part (Array length) = length
 
 -- the words of all variables
@@ -20,6 +21,7 @@ home_words shared = shared_sum (λ i extent. home_part extent) shared
 -- the words of its copy: of an array only where some task writes it
 abbrev pub copy_part : Bool → Extent → ℕ
 copy_part written (Scalar _) = 1
+copy_part written (Long _) = 2
 copy_part written (Array length) = if written then length else 0
 
 -- the words of all copies

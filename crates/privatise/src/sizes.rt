@@ -16,6 +16,7 @@ pub fn home_part(extent: Extent) -> u32
 {
     match extent {
         Extent::Scalar(_) => 1,
+        Extent::Long(_) => 2,
         Extent::Array(length) => length as u32,
     }
 }
@@ -27,6 +28,7 @@ pub fn copy_part(written: bool, extent: Extent) -> u32
 {
     match extent {
         Extent::Scalar(_) => 1,
+        Extent::Long(_) => 2,
         Extent::Array(length) => if written { length as u32 } else { 0 },
     }
 }
@@ -37,7 +39,7 @@ pub fn version_part(written: bool, extent: Extent) -> u32
     ensures low { result ≤ 65535 }
 {
     match extent {
-        Extent::Scalar(_) => 0,
+        Extent::Scalar(_) | Extent::Long(_) => 0,
         Extent::Array(length) => if written { length as u32 } else { 0 },
     }
 }

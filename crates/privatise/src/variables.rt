@@ -39,11 +39,12 @@ fn copies_at(written: bool, free: Free) -> Option<ArrayCopies>
     }
 }
 
+// The place of a variable at the free addresses: a long is placed by its first word.
 fn place_at(extent: Extent, written: bool, free: Free) -> VariablePlace
     ensures { result ≡ place_at written extent free }
 {
     match extent {
-        Extent::Scalar(_) => VariablePlace::Scalar {
+        Extent::Scalar(_) | Extent::Long(_) => VariablePlace::Scalar {
             home: free.home,
             copy: free.copy,
         },

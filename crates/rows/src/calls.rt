@@ -41,7 +41,7 @@ pub fn is_compiled(alloc: Global, source: &[u8], image: &[u8]) -> Result<bool> {
 }
 
 // The word `i` of a source's shared variable `v`, both counted from 0, before its first transition.
-fn first_word(alloc: Global, source: &[u8], v: u16, i: u16) -> Result<u16> {
+fn first_word(alloc: Global, source: &[u8], v: u16, i: u16) -> Result<u32> {
     if source.len() > LIMIT {
         return Ok(0);
     }

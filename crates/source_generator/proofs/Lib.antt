@@ -1,4 +1,5 @@
 mod Lengths
+mod Letters
 mod Limits
 mod Pieces
 mod Rows

@@ -30,7 +30,7 @@ names_there text (t ∷ ts) = ap (λ l. spelled text t.name ∷ l) (names_there 
 pub names_are_names : NamesAreNames
 names_are_names text p checks =
     let tree = checks.tree in
-    let all = program_names tree in
+    let all = program_names text tree in
     let same = checks.checks.named.looked_up.places in
     let named = subst (ProgramNamed text) (sym same)
     (program_named text checks.parses.words tree checks.parses.grammar (are_named text checks.parses.words checks.parses.lexes)) in

@@ -4,6 +4,11 @@ use Rattle.alp_text.specs.declared.lines.Span.{Span}
 use Rattle.task_ast.specs.declared.SharedDeclaration.{SharedDeclaration}
 use Rattle.task_ast.specs.Tree.{Expression, Statement, Choice, Block, Task, Program}
 use Rattle.task_ast.specs.Tree as t
+use Rattle.task_ast.specs.declared.WordType.{WordType}
+use Rattle.task_ast.specs.Types.{is_long, joined_type, expression_type}
+use Rattle.cost_bound.specs.task_check.declared.fault.Kept.TheVariants as kept
+use Rattle.cost_bound.specs.task_check.SharedTypes.{shared_type}
+use Rattle.cost_bound.specs.task_check.Occurrences.{operator_role, count_role, element_front}
 use Rattle.cost_bound.specs.task_check.declared.occurrence.Role.{Role}
 use Rattle.cost_bound.specs.task_check.declared.occurrence.Role.TheVariants as role
 use Rattle.cost_bound.specs.task_check.declared.occurrence.Occurrence.{Occurrence}
@@ -21,7 +26,7 @@ declared_by role.Scalar name = []
 declared_by role.Element name = []
 declared_by role.Counter name = []
 declared_by role.Target name = []
-declared_by (role.Count n) name = []
+declared_by (role.Operand refused kept) name = []
 
 module _ (source : List ℕ) where
   -- the names that are declared, in the text's order
@@ -35,54 +40,69 @@ module _ (source : List ℕ) where
       ap (λ l. l ++ declared_by o.role (text_of source o.span)) (in_front more s r)
       ∙ append_assoc (declared_by r (text_of source s)) (declared more) (declared_by o.role (text_of source o.span))
 
-  expression_silent : (e : Expression Span) (behind : List Occurrence) → declared (expression_names e behind) ≡ declared behind
-  expression_silent (t.number n) behind = refl
-  expression_silent (t.name s) behind = in_front behind s role.Scalar
-  expression_silent (t.element s index) behind = in_front (expression_names index behind) s role.Element ∙ expression_silent index behind
-  expression_silent t.sense behind = refl
-  expression_silent (t.unary op a) behind = expression_silent a behind
-  expression_silent (t.binary op a b) behind = expression_silent a (expression_names b behind) ∙ expression_silent b behind
-  expression_silent (t.shift op a count) behind = expression_silent a (and_front behind count.span (role.Count count.value))
-      ∙ in_front behind count.span (role.Count count.value)
-  expression_silent (t.short_circuit op a b) behind = expression_silent a (expression_names b behind) ∙ expression_silent b behind
+  element_silent : (types : Span → WordType) (s : Span) (index : Expression Span) (behind : List Occurrence)
+      → declared (element_front types s index behind) ≡ declared behind
+  element_silent types s index behind =
+      let here = role.Operand (is_long (expression_type types index)) (kept.Name s) in
+      in_front (and_front behind s here) s role.Element ∙ in_front behind s here
 
-  value_silent : (e : Option (Expression Span)) (behind : List Occurrence) → declared (value_names e behind) ≡ declared behind
-  value_silent None behind = refl
-  value_silent (Some e) behind = expression_silent e behind
+  expression_silent : (types : Span → WordType) (e : Expression Span) (behind : List Occurrence) → declared (expression_names types e behind) ≡ declared behind
+  expression_silent types (t.number n) behind = refl
+  expression_silent types (t.long_number n) behind = refl
+  expression_silent types (t.name s) behind = in_front behind s role.Scalar
+  expression_silent types (t.element s index) behind = element_silent types s index (expression_names types index behind) ∙ expression_silent types index behind
+  expression_silent types t.sense behind = refl
+  expression_silent types (t.unary op a) behind = expression_silent types a behind
+  expression_silent types (t.binary op a b) behind =
+      let here = operator_role op.operator (joined_type (expression_type types a) (expression_type types b)) in
+      expression_silent types a (and_front (expression_names types b behind) op.span here) ∙ in_front (expression_names types b behind) op.span here
+      ∙ expression_silent types b behind
+  expression_silent types (t.shift op a count) behind =
+      let here = count_role count.value (expression_type types a) in
+      expression_silent types a (and_front behind count.span here) ∙ in_front behind count.span here
+  expression_silent types (t.short_circuit op a b) behind = expression_silent types a (expression_names types b behind) ∙ expression_silent types b behind
+
+  value_silent : (types : Span → WordType) (e : Option (Expression Span)) (behind : List Occurrence) → declared (value_names types e behind) ≡ declared behind
+  value_silent types None behind = refl
+  value_silent types (Some e) behind = expression_silent types e behind
 
   mutual
-    statement_silent : (end : ℕ) (x : Statement Span Span) (behind : List Occurrence) → declared (statement_names end x behind) ≡ declared behind
-    statement_silent end (t.declare of s value) behind = in_front (value_names value behind) s (role.Local of (length behind) end) ∙ value_silent value behind
-    statement_silent end (t.assign s e) behind = in_front (expression_names e behind) s role.Scalar ∙ expression_silent e behind
-    statement_silent end (t.store s index e) behind =
-        in_front (expression_names index (expression_names e behind)) s role.Element ∙ expression_silent index (expression_names e behind)
-        ∙ expression_silent e behind
-    statement_silent end (t.choose c) behind = choice_silent c behind
-    statement_silent end (t.loop v from w below u body) behind =
-        let inner = names_up_to (length behind) body behind in
+    statement_silent : (types : Span → WordType) (end : ℕ) (x : Statement Span Span) (behind : List Occurrence)
+        → declared (statement_names types end x behind) ≡ declared behind
+    statement_silent types end (t.declare of s value) behind = in_front (value_names types value behind) s (role.Local of (length behind) end)
+        ∙ value_silent types value behind
+    statement_silent types end (t.assign s e) behind = in_front (expression_names types e behind) s role.Scalar ∙ expression_silent types e behind
+    statement_silent types end (t.store s index e) behind =
+        element_silent types s index (expression_names types index (expression_names types e behind))
+        ∙ expression_silent types index (expression_names types e behind)
+        ∙ expression_silent types e behind
+    statement_silent types end (t.choose c) behind = choice_silent types c behind
+    statement_silent types end (t.loop v from w below u body) behind =
+        let inner = names_up_to types (length behind) body behind in
         in_front (and_front (and_front inner u role.Counter) w role.Counter) v role.Counter ∙ in_front (and_front inner u role.Counter) w role.Counter
-        ∙ in_front inner u role.Counter ∙ block_silent (length behind) body behind
-    statement_silent end (t.emit e) behind = expression_silent e behind
-    statement_silent end (t.transition s) behind = in_front behind s role.Target
+        ∙ in_front inner u role.Counter ∙ block_silent types (length behind) body behind
+    statement_silent types end (t.emit e) behind = expression_silent types e behind
+    statement_silent types end (t.transition s) behind = in_front behind s role.Target
 
-    choice_silent : (c : Choice Span Span) (behind : List Occurrence) → declared (choice_names c behind) ≡ declared behind
-    choice_silent t.nothing behind = refl
-    choice_silent (t.otherwise b) behind = block_silent (length behind) b behind
-    choice_silent (t.test e b more) behind =
-        let rest = choice_names more behind in
-        expression_silent e (names_up_to (length rest) b rest) ∙ block_silent (length rest) b rest ∙ choice_silent more behind
+    choice_silent : (types : Span → WordType) (c : Choice Span Span) (behind : List Occurrence) → declared (choice_names types c behind) ≡ declared behind
+    choice_silent types t.nothing behind = refl
+    choice_silent types (t.otherwise b) behind = block_silent types (length behind) b behind
+    choice_silent types (t.test e b more) behind =
+        let rest = choice_names types more behind in
+        expression_silent types e (names_up_to types (length rest) b rest) ∙ block_silent types (length rest) b rest ∙ choice_silent types more behind
 
-    block_silent : (end : ℕ) (b : Block Span Span) (behind : List Occurrence) → declared (names_up_to end b behind) ≡ declared behind
-    block_silent end t.end behind = refl
-    block_silent end (t.step s more) behind = statement_silent end s (names_up_to end more behind) ∙ block_silent end more behind
+    block_silent : (types : Span → WordType) (end : ℕ) (b : Block Span Span) (behind : List Occurrence)
+        → declared (names_up_to types end b behind) ≡ declared behind
+    block_silent types end t.end behind = refl
+    block_silent types end (t.step s more) behind = statement_silent types end s (names_up_to types end more behind) ∙ block_silent types end more behind
 
-  tasks_declared : (ts : List (Task Span Span)) (behind : List Occurrence)
-      → declared (task_names ts behind) ≡ map (λ t. text_of source t.name) ts ++ declared behind
-  tasks_declared [] behind = refl
-  tasks_declared (k ∷ more) behind =
-      let rest = task_names more behind in
-      in_front (names_up_to (length rest) k.body rest) k.name role.Task
-      ∙ ap (λ l. text_of source k.name ∷ l) (block_silent (length rest) k.body rest ∙ tasks_declared more behind)
+  tasks_declared : (types : Span → WordType) (ts : List (Task Span Span)) (behind : List Occurrence)
+      → declared (task_names types ts behind) ≡ map (λ t. text_of source t.name) ts ++ declared behind
+  tasks_declared types [] behind = refl
+  tasks_declared types (k ∷ more) behind =
+      let rest = task_names types more behind in
+      in_front (names_up_to types (length rest) k.body rest) k.name role.Task
+      ∙ ap (λ l. text_of source k.name ∷ l) (block_silent types (length rest) k.body rest ∙ tasks_declared types more behind)
 
   shared_declared : (ds : List SharedDeclaration) (behind : List Occurrence)
       → declared (shared_names ds behind) ≡ map (λ d. text_of source d.name) ds ++ declared behind
@@ -91,9 +111,10 @@ module _ (source : List ℕ) where
       in_front (shared_names more behind) d.name (role.Shared d.word_type d.extent) ∙ ap (λ l. text_of source d.name ∷ l) (shared_declared more behind)
 
   pub program_declared : (p : Program Span Span)
-      → declared (program_names p) ≡ map (λ d. text_of source d.name) p.shared ++ map (λ t. text_of source t.name) p.tasks
+      → declared (program_names source p) ≡ map (λ d. text_of source d.name) p.shared ++ map (λ t. text_of source t.name) p.tasks
   unfolding program_names
   program_declared p =
       let behind : List Occurrence = and_front [] p.entry role.Target in
-      shared_declared p.shared (task_names p.tasks behind)
-      ∙ ap (λ l. map (λ d. text_of source d.name) p.shared ++ l) (tasks_declared p.tasks behind ∙ append-nil (map (λ t. text_of source t.name) p.tasks))
+      let types = shared_type source p.shared in
+      shared_declared p.shared (task_names types p.tasks behind)
+      ∙ ap (λ l. map (λ d. text_of source d.name) p.shared ++ l) (tasks_declared types p.tasks behind ∙ append-nil (map (λ t. text_of source t.name) p.tasks))

@@ -18,6 +18,7 @@ use Rattle.cost_bound.specs.task_check.declared.occurrence.Occurrence.{Occurrenc
 use Rattle.cost_bound.specs.task_check.declared.symbol.Global.{Global}
 use Rattle.cost_bound.specs.task_check.declared.symbol.Local.{Local}
 use Rattle.cost_bound.specs.task_check.declared.symbol.Symbol.{Symbol}
+use Rattle.cost_bound.specs.task_check.SharedTypes.{shared_type}
 use Rattle.cost_bound.specs.task_check.Occurrences.{and_front, task_names, shared_names, program_names}
 use Rattle.cost_bound.specs.task_check.Scope.{text_of, shared_in, tasks_in, global_in, local_in, global_with, if_named, stands_in_front}
 use Rattle.cost_bound.specs.task_check.LookedUp.{symbol_at}
@@ -72,7 +73,7 @@ module _ (source : List ℕ) where
   own_before true role.Element n shared tasks = tt
   own_before true role.Counter n shared tasks = tt
   own_before true role.Target n shared tasks = tt
-  own_before true (role.Count c) n shared tasks = tt
+  own_before true (role.Operand refused kept) n shared tasks = tt
 
   found_before : (name : List ℕ) (front : List Occurrence) → StandsBefore (length front) (global_in source name front)
   found_before name [] = tt
@@ -105,7 +106,7 @@ module _ (source : List ℕ) where
   own_found role.Element text name n shared tasks h = absurd (cc)
   own_found role.Counter text name n shared tasks h = absurd (cc)
   own_found role.Target text name n shared tasks h = absurd (cc)
-  own_found (role.Count c) text name n shared tasks h = absurd (cc)
+  own_found (role.Operand refused kept) text name n shared tasks h = absurd (cc)
 
   found : (name : List ℕ) (front : List Occurrence) → is_among name (declared source front) ≡ true → is_some (global_in source name front) ≡ true
   found name [] h = absurd (cc)
@@ -162,7 +163,7 @@ module _ (source : List ℕ) where
   by_role role.Element text ns global tasks local h k free = ap (are_different []) (append-nil ns) ∙ h
   by_role role.Counter text ns global tasks local h k free = ap (are_different []) (append-nil ns) ∙ h
   by_role role.Target text ns global tasks local h k free = ap (are_different []) (append-nil ns) ∙ h
-  by_role (role.Count c) text ns global tasks local h k free = ap (are_different []) (append-nil ns) ∙ h
+  by_role (role.Operand refused kept) text ns global tasks local h k free = ap (are_different []) (append-nil ns) ∙ h
 
   unrepeated : (all front : List Occurrence) (o : Occurrence) → name_fault source all o front ≡ None
       → is_repeated o.role (stands_in_front (length front) (global_in source (text_of source o.span) all)) (tasks_in front)
@@ -191,7 +192,7 @@ module _ (source : List ℕ) where
   RoleHasWords role.Element = Unit {0}
   RoleHasWords role.Counter = Unit {0}
   RoleHasWords role.Target = Unit {0}
-  RoleHasWords (role.Count n) = Unit {0}
+  RoleHasWords (role.Operand refused kept) = Unit {0}
 
   abbrev pub HaveWords : List Occurrence → Type 0
   HaveWords [] = Unit {0}
@@ -199,6 +200,7 @@ module _ (source : List ℕ) where
 
   by_extent : (o : Occurrence) (of : WordType) (e : Extent) (s : Option Symbol) → use_fault_by source o (role.Shared of e) s ≡ None → HasWords e
   by_extent o of (extent.Scalar w) s h = tt
+  by_extent o of (extent.Long n) s h = tt
   by_extent o of (extent.Array n) s h = λ none. let test : (n == 0) ≡ false = no_fault (n == 0) _ h in grind (arith, nat_tests, test, none)
 
   by_use : (o : Occurrence) (r : Role) (s : Option Symbol) → use_fault_by source o r s ≡ None → RoleHasWords r
@@ -209,7 +211,7 @@ module _ (source : List ℕ) where
   by_use o role.Element s h = tt
   by_use o role.Counter s h = tt
   by_use o role.Target s h = tt
-  by_use o (role.Count n) s h = tt
+  by_use o (role.Operand refused kept) s h = tt
 
   used : (all front : List Occurrence) (o : Occurrence) → use_fault source all o front ≡ None → RoleHasWords o.role
   unfolding use_fault
@@ -232,6 +234,6 @@ module _ (source : List ℕ) where
       let r = front_words (shared_names more behind) (record { span = d.name; role = role.Shared d.word_type d.extent }) h in
       All-cons (λ d. HasWords d.extent) d more r.1 (shared_words more behind r.0)
 
-  pub program_words : (p : Program Span Span) → HaveWords (program_names p) → All (λ d. HasWords d.extent) p.shared
+  pub program_words : (p : Program Span Span) → HaveWords (program_names source p) → All (λ d. HasWords d.extent) p.shared
   unfolding program_names
-  program_words p h = shared_words p.shared (task_names p.tasks (and_front [] p.entry role.Target)) h
+  program_words p h = shared_words p.shared (task_names (shared_type source p.shared) p.tasks (and_front [] p.entry role.Target)) h

@@ -6,6 +6,7 @@ use Rattle.std.proofs.lemmas.List.Elements.{All-nil, All-cons, All-head, All-tai
 use Rattle.task_ast.specs.declared.Extent.{Extent}
 use Rattle.task_ast.specs.declared.Extent.TheVariants as extent
 use Rattle.task_ast.specs.declared.SharedDeclaration.{SharedDeclaration}
+use Rattle.task_ast.specs.Longs.{IsPlainExtent}
 use Rattle.image_map.specs.MapValue.{IsFramWord, IsVariable, fits, variable_names}
 use Rattle.source_runs.specs.Naming.{length_of, AreVariablesOf}
 use Rattle.source_report.specs.SourceReport.{spelled}
@@ -23,6 +24,7 @@ pub of_kind : (b : Bool) (e : Extent) (place : VariablePlace) → IsPlaceOf b e 
 of_kind b (extent.Scalar w) (Scalar home copy) h = tt
 of_kind b (extent.Scalar w) (Array elements n copies) h = h
 of_kind b (extent.Array n) (Scalar home copy) h = h
+of_kind b (extent.Long n) place h = h
 of_kind b (extent.Array n) (Array elements m copies) h = h.0
 
 pub places_of : (shared : List SharedDeclaration) (places : List VariablePlace) → length places ≡ length shared
@@ -46,6 +48,7 @@ region_words e (Array elements m copies) n h is = subst (λ x. IsOfKind x (Array
 fits_there : (e : Extent) (place : VariablePlace) (end : ℕ) → IsOfKind e place → HasWords e → end_of (home_region place) ≤ end → end ≤ reset_vector
     → fits (home_region place).address (length_of e) ≡ true
 fits_there (extent.Scalar w) place end h words l m = refl
+fits_there (extent.Long n) place end h words l m = absurd h
 fits_there (extent.Array n) place end h words l m =
     let size = region_words (extent.Array n) place n h refl in
     some n words ((home_region place).address) (omega (arith, size, l, m))
@@ -88,9 +91,15 @@ names_of_variables text [] (p ∷ ps) h = absurd h
 names_of_variables text (d ∷ ds) [] h = absurd h
 names_of_variables text (d ∷ ds) (p ∷ ps) h = ap (λ l. spelled text d.name ∷ l) (names_of_variables text ds ps h.1)
 
+-- what has a place is no long
+plain_there : (e : Extent) (place : VariablePlace) → IsOfKind e place → IsPlainExtent e
+plain_there (extent.Scalar w) place h = tt
+plain_there (extent.Long n) place h = h
+plain_there (extent.Array n) place h = tt
+
 pub of_declarations : (text : List ℕ) (ds : List SharedDeclaration) (ps : List VariablePlace) → ArePlacesOf ds ps
     → AreVariablesOf text (variables_of text ds ps) ds
 of_declarations text [] [] h = tt
 of_declarations text [] (p ∷ ps) h = absurd h
 of_declarations text (d ∷ ds) [] h = absurd h
-of_declarations text (d ∷ ds) (p ∷ ps) h = (refl, refl, of_declarations text ds ps h.1)
+of_declarations text (d ∷ ds) (p ∷ ps) h = (refl, refl, plain_there d.extent p h.0, of_declarations text ds ps h.1)

@@ -15,7 +15,7 @@ use Rattle.source_report.specs.SourceReport.{spelled}
 use Rattle.privatise.specs.war_analysis.Plans.{IsScalarAt, is_scalar}
 use Rattle.memory_map.specs.declared.place.VariablePlace.{VariablePlace}
 use Rattle.source_maps.specs.Maps.{variable_of, variables_of, shared_name, name_in}
-use Rattle.source_maps.specs.Placing.{ArePlacesOf}
+use Rattle.source_maps.specs.Placing.{IsOfKind, ArePlacesOf}
 
 -- numbers from one on, each greater than the one before
 abbrev pub AreFrom : ℕ → List ℕ → Type 0
@@ -42,16 +42,17 @@ weaker : (j k : ℕ) (ns : List ℕ) → j ≤ k → AreFrom k ns → AreFrom j 
 weaker j k [] l h = tt
 weaker j k (n ∷ ns) l h = let low = h.0 in (omega (arith, l, low), h.1)
 
-scalar_there : (text : List ℕ) (d : SharedDeclaration) (place : VariablePlace) → is_scalar d.extent ≡ true
+scalar_there : (text : List ℕ) (d : SharedDeclaration) (place : VariablePlace) → IsOfKind d.extent place → is_scalar d.extent ≡ true
     → is_scalar_of (spelled text d.name) (variable_of text d place) ≡ true
-scalar_there text d place h = by d.extent h
+scalar_there text d place kind h = by d.extent kind h
   where
     same : bytes_eq (spelled text d.name) (spelled text d.name) ≡ true
     same = (bytes_eq-Decides (spelled text d.name) (spelled text d.name)).1 refl
 
-    by : (e : Extent) → is_scalar e ≡ true → (is_none (length_of e) && bytes_eq (spelled text d.name) (spelled text d.name)) ≡ true
-    by (extent.Scalar w) h = same
-    by (extent.Array n) h = absurd (cc)
+    by : (e : Extent) → IsOfKind e place → is_scalar e ≡ true → (is_none (length_of e) && bytes_eq (spelled text d.name) (spelled text d.name)) ≡ true
+    by (extent.Scalar w) k h = same
+    by (extent.Long n) k h = absurd k
+    by (extent.Array n) k h = absurd (cc)
 
 none_scalar : {A : Type 0} (o : Option A) (P : A → Type 0) → o ≡ None → IsSomeAnd o P → ⊥
 none_scalar None P e h = h
@@ -92,7 +93,7 @@ module _ (text : List ℕ) (shared : List SharedDeclaration) where
               let at : slice_get shared n ≡ Some d = ap (slice_get shared) place ∙ sym (behind 0) in
               let scalar = some_scalar (slice_get shared n) d at (All-head (IsScalarAt shared) n ns scalars) in
               let there : is_scalar_of (shared_name text shared n) (variable_of text d p) ≡ true =
-              ap (λ o. is_scalar_of (name_in text o) (variable_of text d p)) at ∙ scalar_there text d p scalar in
+              ap (λ o. is_scalar_of (name_in text o) (variable_of text d p)) at ∙ scalar_there text d p places.0 scalar in
               absurd (let no : true ≡ false = sym there ∙ e in cc)
 
       go : (b : Bool) → is_scalar_of (shared_name text shared n) (variable_of text d p) ≡ b

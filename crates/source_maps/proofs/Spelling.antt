@@ -1,5 +1,6 @@
 -- The token of a name spells a name.
-use Rattle.std.proofs.Common.{◌≡◌, ℕ, zero, suc, ◌+◌, ◌-◌, ◌≤◌, ◌<◌, Bool, true, false, cond, ◌&&◌, ◌||◌, ◌==◌, not, nat_lt, nat_le, List, [], ◌∷◌, ◌++◌}
+use Rattle.std.proofs.Common.{◌≡◌, ℕ, zero, suc, ◌+◌, ◌-◌, ◌/◌, ◌%◌, ◌≤◌, ◌<◌, Bool, true, false, cond, ◌&&◌, ◌||◌, ◌==◌, not, nat_lt, nat_le, List, [], ◌∷◌}
+use Rattle.std.proofs.Common.{◌++◌}
 use Rattle.std.proofs.Common.{length, drop, take, slice_index, refl, sym, ap, ◌∙◌, subst, arith, Option, Some, None}
 use Rattle.std.specs.List.{prefix_len, list_all}
 use Rattle.std.specs.Char.{is_ascii_digit}
@@ -11,12 +12,13 @@ use Rattle.alp_text.specs.declared.lines.Span.{Span}
 use Rattle.cost_bound.specs.task_lex.declared.token.Token.{Token}
 use Rattle.cost_bound.specs.task_lex.declared.token.Kind.{Kind}
 use Rattle.cost_bound.specs.task_lex.declared.piece.Piece.{Piece}
+use Rattle.cost_bound.specs.task_lex.declared.piece.Numeral.{Numeral}
 use Rattle.cost_bound.specs.task_lex.declared.step.Place.{Place}
 use Rattle.cost_bound.specs.task_lex.declared.step.Step.{Step}
 use Rattle.cost_bound.specs.task_lex.declared.step.Step.TheVariants.{Skip, Take, Fails}
 use Rattle.cost_bound.specs.task_lex.Pieces.{is_blank, is_letter, is_word, is_in_line, spelling, singles, pairs, spelled as spelled_kind, single_piece}
 use Rattle.cost_bound.specs.task_lex.Pieces.{marked, mark}
-use Rattle.cost_bound.specs.task_lex.Pieces.{word_kind, number, piece_of}
+use Rattle.cost_bound.specs.task_lex.Pieces.{word_kind, has_suffix, number_to, word_numeral, long_numeral, numeral, piece_of}
 use Rattle.cost_bound.specs.task_lex.Lex.{Lexed, tokens, fault, with_front, after, step, step_by, counted, numbered, is_opening, is_end, depth_after}
 use Rattle.cost_bound.specs.task_lex.Lex.{width_after}
 use Rattle.cost_bound.specs.task_lex.Lex.{lex_within, lex_from, lexed}
@@ -25,7 +27,7 @@ use Rattle.task_ast.specs.Tree.{Task, Program}
 use Rattle.cost_bound.specs.task_lex.declared.token.Kind.TheVariants as k
 use Rattle.cost_bound.specs.task_lex.declared.piece.Piece.TheVariants as piece
 use Rattle.cost_bound.specs.task_lex.declared.fault.Flaw.TheVariants as flaw
-use Rattle.source_meaning.specs.task_parse.Grammar.{IsShared, shared, IsTask, task, IsProgram, program, Row}
+use Rattle.source_meaning.specs.task_parse.Grammar.{IsShared, shared, long, IsTask, task, IsProgram, program, Row}
 use Rattle.std.specs.Prelude.{All}
 use Rattle.std.proofs.lemmas.List.Elements.{All-nil, All-cons}
 use Rattle.image_map.specs.Names as names
@@ -135,6 +137,32 @@ piece_found text = go (is_blank b) (b == 47 && c == 47) (is_letter b) (is_ascii_
     go false false false true e = tt
     go false false false false e = mark_found text b c
 
+-- ---- a numeral is no name
+
+word_no_name : (o : Option ℕ) (x : Numeral) → word_numeral o ≡ Some x → x.kind ≡ k.Name → ⊥
+word_no_name None x h is = cc
+word_no_name (Some n) x h is =
+    let one : Numeral = record { kind = k.Number; value = n; high = 0 } in
+    let same : one ≡ x = cc in
+    let both : k.Number ≡ k.Name = ap (λ (y : Numeral). y.kind) same ∙ is in
+    cc
+
+long_no_name : (o : Option ℕ) (x : Numeral) → long_numeral o ≡ Some x → x.kind ≡ k.Name → ⊥
+long_no_name None x h is = cc
+long_no_name (Some n) x h is =
+    let one : Numeral = record { kind = k.LongNumber; value = n % 65536; high = n / 65536 } in
+    let same : one ≡ x = cc in
+    let both : k.LongNumber ≡ k.Name = ap (λ (y : Numeral). y.kind) same ∙ is in
+    cc
+
+numeral_no_name : (w : List ℕ) (x : Numeral) → numeral w ≡ Some x → x.kind ≡ k.Name → ⊥
+unfolding numeral
+numeral_no_name w x h is = go (has_suffix w) h
+  where
+    go : (b : Bool) → cond b (long_numeral (number_to 4294967295 (take (length w - 2) w))) (word_numeral (number_to 65535 w)) ≡ Some x → ⊥
+    go true e = long_no_name (number_to 4294967295 (take (length w - 2) w)) x e is
+    go false e = word_no_name (number_to 65535 w) x e is
+
 -- ---- a step
 
 module _ (source : List ℕ) where
@@ -147,12 +175,13 @@ module _ (source : List ℕ) where
   Takes (Skip q) = Unit {0}
   Takes (Fails f) = Unit {0}
 
-  counted_takes : (p : Place) (n : ℕ) (kind : Kind) (value : ℕ) → (kind ≡ k.Name → is_name (take n (drop p.at source)) ≡ true) → Takes (counted p n kind value)
+  counted_takes : (p : Place) (n : ℕ) (kind : Kind) (value high : ℕ) → (kind ≡ k.Name → is_name (take n (drop p.at source)) ≡ true)
+      → Takes (counted p n kind value high)
   unfolding counted
-  counted_takes p n kind value named = go (is_opening kind && p.depth == 64) (not (is_end kind) && p.width == 256)
+  counted_takes p n kind value high named = go (is_opening kind && p.depth == 64) (not (is_end kind) && p.width == 256)
     where
       go : (a b : Bool) → Takes (cond a (Fails flaw.TooDeep)
-          (cond b (Fails flaw.TooWide) (Take (record { kind = kind; span = record { from = p.at; to = p.at + n }; value = value })
+          (cond b (Fails flaw.TooWide) (Take (record { kind = kind; span = record { from = p.at; to = p.at + n }; value = value; high = high })
           (record { at = p.at + n; depth = depth_after kind (p.depth); width = width_after kind (p.width) }))))
       go true b = tt
       go false true = tt
@@ -162,15 +191,15 @@ module _ (source : List ℕ) where
   takes_by p piece.Blank n h = tt
   takes_by p piece.Word n h = go (nat_lt 31 n) refl
     where
-      go : (b : Bool) → nat_lt 31 n ≡ b → Takes (cond b (Fails flaw.BadName) (counted p n (word_kind (take n (drop p.at source))) 0))
+      go : (b : Bool) → nat_lt 31 n ≡ b → Takes (cond b (Fails flaw.BadName) (counted p n (word_kind (take n (drop p.at source))) 0 0))
       go true e = tt
-      go false e = let short : n ≤ 31 = grind (arith, nat_tests, e) in counted_takes p n _ 0 (λ is. h short)
-  takes_by p piece.Numeral n h = go (number (take n (drop p.at source)))
+      go false e = let short : n ≤ 31 = grind (arith, nat_tests, e) in counted_takes p n _ 0 0 (λ is. h short)
+  takes_by p piece.Numeral n h = go (numeral (take n (drop p.at source))) refl
     where
-      go : (o : Option ℕ) → Takes (numbered p n o)
-      go None = tt
-      go (Some value) = counted_takes p n k.Number value (λ is. absurd (cc))
-  takes_by p (piece.Mark kind) n h = counted_takes p n kind 0 (λ is. absurd (h is))
+      go : (o : Option Numeral) → numeral (take n (drop p.at source)) ≡ o → Takes (numbered p n o)
+      go None e = tt
+      go (Some x) e = counted_takes p n x.kind x.value x.high (λ is. absurd (numeral_no_name (take n (drop p.at source)) x e is))
+  takes_by p (piece.Mark kind) n h = counted_takes p n kind 0 0 (λ is. absurd (h is))
   takes_by p piece.Bad n h = tt
 
   takes : (p : Place) → Takes (step source p)
@@ -224,6 +253,7 @@ module _ (source : List ℕ) where
 
   shared_named : (ts : List Token) (d : SharedDeclaration) → IsShared ts d → AllNamed ts → HasName d.name
   shared_named _ _ (shared h t n z of ts found a b is c e) all = all.1.1.0 is
+  shared_named _ _ (long h t l n z ts found a b c is e f) all = all.1.1.1.0 is
 
   task_named : (ts : List Token) (k : Task Span Span) → IsTask ts k → AllNamed ts → HasName k.name
   task_named _ _ (task h n ts body a is b) all = all.1.0 is

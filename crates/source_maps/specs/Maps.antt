@@ -25,6 +25,7 @@ use Rattle.memory_map.specs.Places.{home_region}
 abbrev pub value_type_of : WordType → ValueType
 value_type_of word_type.Unsigned = value_type.Unsigned
 value_type_of word_type.Int = value_type.Int
+value_type_of word_type.Long = value_type.Unsigned
 
 -- a shared variable: its name, its type, where its first word stands, and the length of an array
 abbrev pub variable_of : List ℕ → SharedDeclaration → VariablePlace → Variable

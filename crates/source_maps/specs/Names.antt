@@ -2,7 +2,7 @@
 use Rattle.std.specs.Prelude.{◌≡◌, ℕ, true, List, [], ◌++◌, All, map}
 use Rattle.task_ast.specs.Tree.{Program}
 use Rattle.task_ast.specs.declared.Extent.{Extent}
-use Rattle.task_ast.specs.declared.Extent.TheVariants.{Scalar, Array}
+use Rattle.task_ast.specs.declared.Extent.TheVariants.{Scalar, Long, Array}
 use Rattle.task_ast.specs.declared.names.VariableName.{VariableName}
 use Rattle.task_ast.specs.declared.names.TaskName.{TaskName}
 use Rattle.image_map.specs.Names.{is_name}
@@ -13,6 +13,7 @@ use Rattle.source_meaning.specs.Acceptance.{Checks}
 -- a variable has a word at least
 abbrev pub HasWords : Extent → Type 0
 HasWords (Scalar w) = Unit {0}
+HasWords (Long n) = Unit {0}
 HasWords (Array n) = n ≡ 0 → ⊥
 
 -- the names of a source's variables and tasks are names, and all different; no array is empty

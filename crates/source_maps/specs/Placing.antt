@@ -11,6 +11,7 @@ abbrev pub IsOfKind : Extent → VariablePlace → Type 0
 IsOfKind (extent.Scalar w) (Scalar home copy) = Unit {0}
 IsOfKind (extent.Scalar w) (Array elements length copies) = ⊥
 IsOfKind (extent.Array n) (Scalar home copy) = ⊥
+IsOfKind (extent.Long n) place = ⊥
 IsOfKind (extent.Array n) (Array elements length copies) = length ≡ n
 
 -- each variable has such a place, in order

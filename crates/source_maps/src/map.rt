@@ -37,7 +37,7 @@ fn value_type_of(word_type: WordType) -> ValueType
     ensures { result ≡ maps.value_type_of word_type }
 {
     match word_type {
-        WordType::Unsigned => ValueType::Unsigned,
+        WordType::Unsigned | WordType::Long => ValueType::Unsigned,
         WordType::Int => ValueType::Int,
     }
 }
@@ -47,6 +47,7 @@ fn length_of(extent: Extent) -> Option<u16>
 {
     match extent {
         Extent::Scalar(_) => None,
+        Extent::Long(_) => Some(2),
         Extent::Array(length) => Some(length),
     }
 }

@@ -6,4 +6,7 @@ mod Lines
 mod Refusals
 mod Unique
 mod OneAnswer
+mod PlainTrees
+mod PlainNames
+mod FirstLong
 pub mod Interface

@@ -22,9 +22,7 @@ use Rattle.cost_bound.specs.Laws as cost
 use Rattle.source_meaning.specs.declared.fault.SourceFault.TheVariants as source_fault
 use Rattle.source_meaning.specs.Acceptance.{Parses, Checks, IsNoProgram, IsUnchecked, IsTooCostly, task_lines}
 use Rattle.source_meaning.specs.Laws.{OneAnswer}
-
-same_tokens : (a b : List Token) → tokens a ≡ tokens b → a ≡ b
-same_tokens a b h = cc
+use Rattle.source_meaning.proofs.Unique.{same_tokens}
 
 no_flaw : (text : List ℕ) (words : List Token) (kind : Flaw) (line : ℕ) → lexed text ≡ tokens words → FirstFlaw text kind line → ⊥
 no_flaw text words kind line lexes f = let e : tokens words ≡ fault kind f.0 = sym lexes ∙ f.1 in cc
@@ -65,4 +63,5 @@ one_answer parses checks costs text p a (source_fault.Lex (lex_fault.TooWide n))
 one_answer parses checks costs text p a (source_fault.Syntax line) x refused = absurd (no_stop parses text _ line x.checks.parses refused)
 one_answer parses checks costs text p a (source_fault.Check e) x refused = absurd (no_check parses checks text p e x.checks refused.1)
 one_answer parses checks costs text p a (source_fault.Over e) x refused = absurd (no_over parses checks costs text p a e x.checks x.allowed refused)
+one_answer parses checks costs text p a (source_fault.NotYet line) x refused = absurd refused
 one_answer parses checks costs text p a source_fault.Memory x refused = refl

@@ -38,6 +38,7 @@ on_if p false first second x y = y
 -- some path of an expression
 expression_path : (e : Expression VariableName) → (xs : List Access) × ExpressionPath e xs
 expression_path (t.number n) = ([], path.number n)
+expression_path (t.long_number n) = ([], path.long_number n)
 expression_path (t.name x) = (path.read x ∷ [], path.name x)
 expression_path (t.element x index) = let i = expression_path index in (i.0 ++ path.read x ∷ [], path.element x index i.0 i.1)
 expression_path t.sense = ([], path.sense)

@@ -7,8 +7,8 @@ use Rattle.task_ast.specs.declared.names.Variable.{Variable}
 use Rattle.task_ast.specs.declared.names.VariableName.{VariableName}
 use Rattle.task_ast.specs.declared.names.TaskName.{TaskName}
 use Rattle.source_values.specs.Values.{value_of, holds}
-use Rattle.source_values.specs.Statements.{Attempt, Outcome, goes_on, to_task, short, and_then, if_value, with_value, assigned, turns, run_statement}
-use Rattle.source_values.specs.Statements.{run_choice, run_block}
+use Rattle.source_values.specs.Statements.{Attempt, Outcome, goes_on, to_task, short, and_then, if_value, with_value, assigned, assigned_value, word_of, turns}
+use Rattle.source_values.specs.Statements.{run_statement, run_choice, run_block}
 use Rattle.task_check.specs.LookedUp.{statement_targets, choice_targets, block_targets}
 
 -- a task that an outcome goes to has a number below k
@@ -49,12 +49,12 @@ mutual
   statement_stays : (k : ℕ) (s : Statement VariableName TaskName) (more : List ℕ) → below k (statement_targets s more) ≡ true → Stays k (run_statement s) more
   statement_stays k (declare t x None) more h = record { runs = λ s. tt; rest = h }
   statement_stays k (declare t x (Some e)) more h =
-      record { runs = λ s. goes_value k (value_of e s.variables s.left) s (λ w s. goes_on (assigned s x.variable 0 w)) (λ w s. tt); rest = h }
+      record { runs = λ s. goes_value k (value_of e s.variables s.left) s (λ w s. goes_on (assigned_value s x e w)) (λ w s. tt); rest = h }
   statement_stays k (assign x e) more h =
-      record { runs = λ s. goes_value k (value_of e s.variables s.left) s (λ w s. goes_on (assigned s x.variable 0 w)) (λ w s. tt); rest = h }
+      record { runs = λ s. goes_value k (value_of e s.variables s.left) s (λ w s. goes_on (assigned_value s x e w)) (λ w s. tt); rest = h }
   statement_stays k (store x index e) more h = record {
-    runs = λ s. goes_value k (value_of index s.variables s.left) s (λ i s. with_value e s (λ w s. goes_on (assigned s x.variable i w)))
-        (λ i s. goes_value k (value_of e s.variables s.left) s (λ w s. goes_on (assigned s x.variable i w)) (λ w s. tt));
+    runs = λ s. goes_value k (value_of index s.variables s.left) s (λ i s. with_value e s (λ w s. goes_on (assigned s x.variable i (word_of e w))))
+        (λ i s. goes_value k (value_of e s.variables s.left) s (λ w s. goes_on (assigned s x.variable i (word_of e w))) (λ w s. tt));
     rest = h;
   }
   statement_stays k (choose choice) more h = let c = choice_stays k choice more h in record { runs = c.runs; rest = c.rest }

@@ -14,7 +14,7 @@ use Rattle.cost_bound.specs.Allowance.{IsAllowed}
 use Rattle.cost_bound.specs.Laws.{OneAnswer}
 use Rattle.source_meaning.specs.Acceptance.{Parses, Checks, IsAcceptedText}
 
-same_tokens : (a b : List Token) → tokens a ≡ tokens b → a ≡ b
+pub same_tokens : (a b : List Token) → tokens a ≡ tokens b → a ≡ b
 same_tokens a b h = cc
 
 pub one_tree : (text : List ℕ) (words : List Token) (tree : Program Span Span) → lexed text ≡ tokens words

@@ -1,20 +1,42 @@
 //! The meaning of an accepted source: its run, task by task.
 
-ghost use Rattle.std.specs.Prelude.{◌≡◌, ◌≤◌, ◌<◌, ◌^◌, [], length, map, drop, IfOk, OnOk, OnErr, Some, slice_index, slice_index_or};
+ghost use Rattle.std.specs.Prelude.{◌≡◌, ◌≤◌, ◌<◌, ◌^◌, [], length, map, drop, IfOk, OnOk, OnErr, Some, false, slice_index_or};
 ghost use Rattle.task_ast.specs.View.{program_of};
 ghost use Rattle.source_values.specs.Statements.{short};
-ghost use Rattle.source_values.specs.Runs.{attempt_of, completion_of};
+ghost use Rattle.source_values.specs.Values.{shown};
+ghost use Rattle.source_values.specs.Runs.{is_long_extent, attempt_of, completion_of};
 ghost use Rattle.source_values.specs.Running.{fresh_run};
 
 use crate::passes::Accepted;
-use source_values::{Done, Short, SourceRun};
+use source_values::{Done, Short, SourceRun, two_words};
 use std::alloc::{AllocError, Global};
+use task_ast::{Extent, SharedDeclaration};
 
 /// The run of an accepted source at its last completed transition. `new` takes all memory that it needs.
 #[derive(Drop)]
 pub struct Meaning {
     /// The run.
     pub run: SourceRun,
+    /// Which shared variables are long, by number.
+    pub longs: Vec<bool>,
+}
+
+fn is_long_extent(extent: Extent) -> bool
+    ensures { result ≡ is_long_extent extent }
+{
+    match extent {
+        Extent::Long(_) => true,
+        Extent::Scalar(_) | Extent::Array(_) => false,
+    }
+}
+
+fn longs_of(alloc: Global, shared: &[SharedDeclaration]) -> Result<Vec<bool>, AllocError>
+    ensures { IfOk result (λ longs. longs.items ≡ map (λ d. is_long_extent d.extent) shared.now) }
+{
+    shared
+        .iter()
+        .map(|d| is_long_extent(d.extent))
+        .collect(alloc)
 }
 
 impl Meaning {
@@ -22,9 +44,12 @@ impl Meaning {
     pub fn new(alloc: Global, source: &Accepted) -> Result<Meaning, AllocError>
         ensures run { IfOk result (λ m. m.run ≡ fresh_run (program_of source.now.checked.source)) }
         ensures task { IfOk result (λ m. m.run.task < length (program_of source.now.checked.source).tasks) }
+        ensures longs { IfOk result (λ m. m.longs.items ≡ map (λ d. is_long_extent d.extent) (program_of source.now.checked.source).shared) }
     {
+        let source = source.checked().source();
         Ok(Meaning {
-            run: SourceRun::new(alloc, source.checked().source())?,
+            run: SourceRun::new(alloc, source)?,
+            longs: longs_of(alloc, &source.shared)?,
         })
     }
 
@@ -43,23 +68,43 @@ impl Meaning {
         ensures few_emitted { OnOk result (length self.new.run.emitted ≤ 256) }
         ensures short { OnErr result (attempt_of (program_of source.now.checked.source) self.old.run.task self.old.run.shared readings.now ≡ short) }
         ensures as_before { OnErr result (self.new.run ≡ self.old.run) }
+        ensures same_longs { self.new.longs ≡ self.old.longs }
     {
         self.run.task_step(source.checked().source(), readings)
     }
 
-    /// Word `i` of shared variable `v`, both counted from 0, at the last completed transition, at first the initial one; 0
-    /// where the variable has no such word.
-    pub fn word(&self, v: u16, i: u16) -> u16
-        ensures { result ≡ slice_index (slice_index_or self.now.run.shared v []) i }
+    /// Element `i` of shared variable `v`, both counted from 0, at the last completed transition, at first the initial one; the
+    /// number of a long at 0; 0 where the variable has no such element.
+    pub fn word(&self, v: u16, i: u16) -> u32
+        ensures { result ≡ shown (slice_index_or self.now.longs.items v false) (slice_index_or self.now.run.shared v []) i }
     {
-        self.run.word(v, i)
+        if !self.is_long(v) {
+            return u32::from(self.run.word(v, i));
+        }
+        if i > 0 {
+            return 0;
+        }
+        two_words(self.run.word(v, 0), self.run.word(v, 1))
     }
 
-    /// The same at the transition before the last, at first the initial word.
-    pub fn before(&self, v: u16, i: u16) -> u16
-        ensures { result ≡ slice_index (slice_index_or self.now.run.before v []) i }
+    /// The same at the transition before the last, at first the initial one.
+    pub fn before(&self, v: u16, i: u16) -> u32
+        ensures { result ≡ shown (slice_index_or self.now.longs.items v false) (slice_index_or self.now.run.before v []) i }
     {
-        self.run.before(v, i)
+        if !self.is_long(v) {
+            return u32::from(self.run.before(v, i));
+        }
+        if i > 0 {
+            return 0;
+        }
+        two_words(self.run.before(v, 0), self.run.before(v, 1))
+    }
+
+    fn is_long(&self, v: u16) -> bool
+        ensures { result ≡ slice_index_or self.now.longs.items v false }
+    {
+        let v = v as usize;
+        v < self.longs.len() && self.longs[v]
     }
 
     /// The words that the last transition emitted, at first none.

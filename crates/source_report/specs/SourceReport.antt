@@ -1,7 +1,7 @@
 -- The report of a source run: for each transition its line, a line for each word that it emitted and one for each shared
 -- word that it changed; and the report of `mean`, with its end line.
 use Rattle.std.specs.Prelude.{◌≡◌, ◌≤◌, ◌<◌, take, drop, ℕ, ◌+◌, ◌-◌, ◌==◌, List, [], ◌∷◌, ◌++◌, length, flat_map, map, sum_by, slice_get, slice_index}
-use Rattle.std.specs.Prelude.{Option, Some, None, if◌then◌else◌}
+use Rattle.std.specs.Prelude.{Option, Some, None, true, if◌then◌else◌}
 use Rattle.std.specs.Option.{option_map}
 use Rattle.alp_text.specs.declared.lines.Span.{Span}
 use Rattle.alp_io.specs.declared.report.Reason.{Reason}
@@ -9,7 +9,8 @@ use Rattle.alp_io.specs.declared.report.Reason.TheVariants.{Charges, Readings, O
 use Rattle.alp_io.specs.Report.{step_line, accepted_line, value_line, end_line}
 use Rattle.task_ast.specs.declared.SharedDeclaration.{SharedDeclaration}
 use Rattle.task_ast.specs.declared.Extent.{Extent}
-use Rattle.task_ast.specs.declared.Extent.TheVariants.{Scalar, Array}
+use Rattle.task_ast.specs.declared.Extent.TheVariants.{Scalar, Long, Array}
+use Rattle.source_values.specs.Values.{shown}
 use Rattle.source_values.specs.Statements.{Outcome, short}
 use Rattle.source_values.specs.Runs.{CheckedProgram, Transition, first_state, state_behind, attempt_of, source_run}
 
@@ -30,9 +31,10 @@ abbrev pub element_lines : List ℕ → ℕ → List ℕ → List ℕ → List �
 element_lines name i (b ∷ before) (w ∷ now) = change_line name (Some i) b w ++ element_lines name (i + 1) before now
 element_lines name i before now = []
 
--- the lines of a shared variable: a scalar is printed without an index
+-- the lines of a shared variable: a scalar is printed without an index, a long as one number
 abbrev pub variable_lines : List ℕ → Extent → List ℕ → List ℕ → List ℕ
 variable_lines name (Scalar w) before now = change_line name None (slice_index before 0) (slice_index now 0)
+variable_lines name (Long n) before now = change_line name None (shown true before 0) (shown true now 0)
 variable_lines name (Array n) before now = element_lines name 0 before now
 
 -- a line for each shared word that isn't what it was, in order of declaration and index

@@ -8,7 +8,7 @@ ghost use Rattle.source_report.specs.SourceReport.{spelled, emitted_lines, chang
 
 use crate::names::spelled;
 use alp_io::{Failed, Report, Sink};
-use source_values::SourceRun;
+use source_values::{SourceRun, two_words};
 use task_ast::{Extent, SharedDeclaration};
 
 /// Writes a line for each word.
@@ -27,8 +27,8 @@ fn write_change<S: Sink>(
     report: &mut Report<'_, S>,
     name: &[u8],
     index: Option<u16>,
-    before: u16,
-    now: u16,
+    before: u32,
+    now: u32,
 ) -> Result<(), Failed>
     ensures same_sink { report.new.sink.ghost_name ≡ report.old.sink.ghost_name }
     ensures bytes { Writes (S.contents report.old.sink.now) (S.contents report.new.sink.now) result
@@ -38,7 +38,7 @@ fn write_change<S: Sink>(
     if before == now {
         return Ok(());
     }
-    report.value(name, index, now as u32)
+    report.value(name, index, now)
 }
 
 // Writes a line for each element of shared array `v` that has changed.
@@ -57,7 +57,13 @@ fn write_elements<S: Sink>(
     ensures cause { HasCause (S.faults report.old.sink.now) (S.faults report.new.sink.now) result }
 {
     for i in 0..n {
-        write_change(report, name, Some(i), run.before(v, i), run.word(v, i))?;
+        write_change(
+            report,
+            name,
+            Some(i),
+            run.before(v, i) as u32,
+            run.word(v, i) as u32,
+        )?;
     }
     Ok(())
 }
@@ -80,7 +86,20 @@ fn write_variable<S: Sink>(
 {
     let name = spelled(text, declaration.name);
     match declaration.extent {
-        Extent::Scalar(_) => write_change(report, name, None, run.before(v, 0), run.word(v, 0)),
+        Extent::Scalar(_) => {
+            write_change(
+                report,
+                name,
+                None,
+                run.before(v, 0) as u32,
+                run.word(v, 0) as u32,
+            )
+        }
+        Extent::Long(_) => {
+            let before = two_words(run.before(v, 0), run.before(v, 1));
+            let now = two_words(run.word(v, 0), run.word(v, 1));
+            write_change(report, name, None, before, now)
+        }
         Extent::Array(n) => write_elements(report, name, run, v, n),
     }
 }

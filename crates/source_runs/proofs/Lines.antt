@@ -8,7 +8,8 @@ use Rattle.std.specs.Prelude.{slice_get}
 use Rattle.model_runs.specs.alp_io.Report.{step_line, value_line}
 use Rattle.source_report.specs.task_ast.declared.SharedDeclaration.{SharedDeclaration}
 use Rattle.source_report.specs.task_ast.declared.Extent.{Extent}
-use Rattle.source_report.specs.task_ast.declared.Extent.TheVariants.{Scalar, Array}
+use Rattle.source_report.specs.task_ast.declared.Extent.TheVariants.{Scalar, Long, Array}
+use Rattle.source_report.specs.task_ast.Longs.{IsPlainExtent}
 use Rattle.model_runs.specs.image_map.declared.parts.Variable.{Variable}
 use Rattle.model_runs.specs.image_map.MapValue.{MapValue}
 use Rattle.model_runs.specs.board_run.History.{SharedWord, array_words, variable_words, shared_words, changed_line}
@@ -54,12 +55,13 @@ array_lines name a i (suc n) x y =
     ap₂ (λ p q. p ++ q) (one_line (record { name = name; index = Some i; address = a }) (x.fram a) (y.fram a)) (array_lines name (a + 2) (i + 1) n x y)
 
 -- the lines of a variable's words
-words_lines : (name : List ℕ) (a : ℕ) (e : Extent) (x y : World) → change_lines (variable_words name a (length_of e)) x y
+words_lines : (name : List ℕ) (a : ℕ) (e : Extent) (x y : World) → IsPlainExtent e → change_lines (variable_words name a (length_of e)) x y
     ≡ variable_lines name e (world_values x (variable_words name a (length_of e))) (world_values y (variable_words name a (length_of e)))
-words_lines name a (Scalar w) x y =
+words_lines name a (Scalar w) x y plain =
     append-nil (changed_line (record { name = name; index = None; address = a }) (x.fram a) (y.fram a))
     ∙ one_line (record { name = name; index = None; address = a }) (x.fram a) (y.fram a)
-words_lines name a (Array n) x y = array_lines name a 0 n x y
+words_lines name a (Long w) x y plain = absurd plain
+words_lines name a (Array n) x y plain = array_lines name a 0 n x y
 
 lines_both : (ps qs : List SharedWord) (x y : World) → change_lines (ps ++ qs) x y ≡ change_lines ps x y ++ change_lines qs x y
 lines_both [] qs x y = refl
@@ -68,14 +70,14 @@ lines_both (p ∷ ps) qs x y =
     ap (λ l. one ++ l) (lines_both ps qs x y) ∙ sym (append_assoc one (change_lines ps x y) (change_lines qs x y))
 
 variable_same : (text : List ℕ) (v : Variable) (d : SharedDeclaration) (x y : World) → v.name ≡ spelled text d.name → v.length ≡ length_of d.extent
-    → change_lines (variable_words v.name v.address v.length) x y ≡ variable_lines (spelled text d.name) d.extent
+    → IsPlainExtent d.extent → change_lines (variable_words v.name v.address v.length) x y ≡ variable_lines (spelled text d.name) d.extent
     (world_values x (variable_words v.name v.address v.length)) (world_values y (variable_words v.name v.address v.length))
-variable_same text v d x y e l =
+variable_same text v d x y e l plain =
     let P : Option ℕ → Type 0 = λ o. change_lines (variable_words v.name v.address o) x y ≡ variable_lines (spelled text d.name) d.extent
     (world_values x (variable_words v.name v.address o)) (world_values y (variable_words v.name v.address o)) in
     let Q : List ℕ → Type 0 = λ name. change_lines (variable_words v.name v.address (length_of d.extent)) x y ≡ variable_lines name d.extent
     (world_values x (variable_words v.name v.address (length_of d.extent))) (world_values y (variable_words v.name v.address (length_of d.extent))) in
-    subst P (sym l) (subst Q e (words_lines v.name v.address d.extent x y))
+    subst P (sym l) (subst Q e (words_lines v.name v.address d.extent x y plain))
 
 all_changes : (text : List ℕ) (vs : List Variable) (ds : List SharedDeclaration) (x y : World) → AreVariablesOf text vs ds
     → change_lines (shared_words vs) x y ≡ source.change_lines text ds (rows_in x vs) (rows_in y vs)
@@ -84,7 +86,7 @@ all_changes text [] (d ∷ ds) x y h = absurd h
 all_changes text (v ∷ vs) [] x y h = absurd h
 all_changes text (v ∷ vs) (d ∷ ds) x y h =
     lines_both (variable_words v.name v.address v.length) (shared_words vs) x y
-    ∙ ap₂ (λ p q. p ++ q) (variable_same text v d x y h.0 h.1) (all_changes text vs ds x y h.2)
+    ∙ ap₂ (λ p q. p ++ q) (variable_same text v d x y h.0 h.1 h.2) (all_changes text vs ds x y h.3)
 
 module _ (text : List ℕ) (program : CheckedProgram) (m : MapValue) (of_source : IsMapOf text program m) where
   name_same : (i : ℕ) → board.task_name m.tasks i ≡ source.task_name text program i

@@ -1,6 +1,7 @@
 //! Sources and traces beside those that a script of a few lines in another language draws.
-use energy_trace::{Charge, ChargeKind};
-use source_generator::{generated_source, generated_trace, rows_of_zero, statement_rows};
+use source_generator::{
+    Charge, ChargeKind, generated_source, generated_trace, rows_of_zero, statement_rows,
+};
 use std::test::Fail;
 
 #[test]

@@ -1,14 +1,18 @@
 -- An attempt emits no more words than its block counts, however it ends.
-use Rattle.std.proofs.Common.{ℕ, zero, suc, ◌+◌, ◌-◌, ◌*◌, ◌≤◌, subst, arith, List, [], ◌∷◌, ◌++◌, length, length-append, Option, Some, None, Bool, true, false}
+use Rattle.std.proofs.Common.{ℕ, zero, suc, ◌+◌, ◌-◌, ◌*◌, ◌/◌, ◌%◌, ◌≤◌, subst, arith, List, [], ◌∷◌, ◌++◌, length, length-append, Option, Some, None, Bool}
+use Rattle.std.proofs.Common.{true, false}
 use Rattle.std.proofs.Common.{if◌then◌else◌}
 use Rattle.std.proofs.Math.Nat.{suc-mul}
 use Rattle.task_ast.specs.Tree as t
 use Rattle.task_ast.specs.Tree.{Statement, Choice, Block, Task}
+use Rattle.task_ast.specs.declared.WordType.{WordType}
+use Rattle.task_ast.specs.declared.WordType.TheVariants.{Unsigned, Int, Long}
 use Rattle.task_ast.specs.declared.names.Variable.{Variable}
 use Rattle.task_ast.specs.declared.names.VariableName.{VariableName}
 use Rattle.task_ast.specs.declared.names.TaskName.{TaskName}
-use Rattle.source_values.specs.Values.{value_of, holds}
-use Rattle.source_values.specs.Statements.{Attempt, Outcome, goes_on, to_task, short, and_then, if_value, assigned, turns, run_statement, run_choice, run_block}
+use Rattle.source_values.specs.Values.{by_width, type_of, converted, value_of, holds}
+use Rattle.source_values.specs.Statements.{Attempt, Outcome, goes_on, to_task, short, and_then, if_value, assigned, assigned_to, assigned_value, word_of}
+use Rattle.source_values.specs.Statements.{turns, run_statement, run_choice, run_block}
 use Rattle.source_values.specs.Statements.{statement_emits, choice_emits, block_emits}
 
 -- where an outcome isn't short, at most so many words are emitted
@@ -32,6 +36,16 @@ up_to_if : (n : ℕ) (b : Bool) (o p : Outcome) → EmitsUpTo n o → EmitsUpTo 
 up_to_if n true o p h k = h
 up_to_if n false o p h k = k
 
+-- an assignment emits nothing
+assigned_up_to : (x : VariableName) (v : ℕ) (m : Attempt) (n : ℕ) → length m.emitted ≤ n → EmitsUpTo n (goes_on (assigned_to m x v))
+assigned_up_to x v m n h = go x.word_type
+  where
+    go : (t : WordType) → EmitsUpTo n (goes_on (by_width t (assigned m x.variable 0 v)
+        (assigned (assigned m x.variable 0 (v % 65536)) x.variable 1 (v / 65536))))
+    go Long = h
+    go Int = h
+    go Unsigned = h
+
 -- one turn more, of those that are left
 pub more_turns : (j e a n : ℕ) → a + suc j * e ≤ n → a + e + j * e ≤ n
 more_turns j e a n h =
@@ -53,19 +67,22 @@ mutual
   pub statement_up_to : (s : Statement VariableName TaskName) (m : Attempt) (n : ℕ) → length m.emitted + statement_emits s ≤ n → EmitsUpTo n (run_statement s m)
   statement_up_to (t.declare of x None) m n h = omega (arith, h)
   statement_up_to (t.declare of x (Some e)) m n h =
-      up_to_value n (value_of e m.variables m.left) m (λ w s. goes_on (assigned s x.variable 0 w)) (λ v left. omega (arith, h))
+      up_to_value n (value_of e m.variables m.left) m (λ w s. goes_on (assigned_value s x e w))
+      (λ v left. assigned_up_to x (converted (type_of e) x.word_type v) (record m { left = left }) n (omega (arith, h)))
   statement_up_to (t.assign x e) m n h =
-      up_to_value n (value_of e m.variables m.left) m (λ w s. goes_on (assigned s x.variable 0 w)) (λ v left. omega (arith, h))
+      up_to_value n (value_of e m.variables m.left) m (λ w s. goes_on (assigned_value s x e w))
+      (λ v left. assigned_up_to x (converted (type_of e) x.word_type v) (record m { left = left }) n (omega (arith, h)))
   statement_up_to (t.store x index e) m n h =
-      up_to_value n (value_of index m.variables m.left) m (λ i s. if_value (value_of e s.variables s.left) s (λ w s. goes_on (assigned s x.variable i w)))
-      (λ i left. up_to_value n (value_of e m.variables left) (record m { left = left }) (λ w s. goes_on (assigned s x.variable i w))
+      up_to_value n (value_of index m.variables m.left) m
+      (λ i s. if_value (value_of e s.variables s.left) s (λ w s. goes_on (assigned s x.variable i (word_of e w))))
+      (λ i left. up_to_value n (value_of e m.variables left) (record m { left = left }) (λ w s. goes_on (assigned s x.variable i (word_of e w)))
       (λ v more. omega (arith, h)))
   statement_up_to (t.choose choice) m n h = choice_up_to choice m n h
   statement_up_to (t.loop x from tested below stepped body) m n h =
       turns_emit x.variable (run_block body) (block_emits body) (block_up_to body) (below - from) from m n h
   statement_up_to (t.emit e) m n h =
-      up_to_value n (value_of e m.variables m.left) m (λ w s. goes_on (record s { emitted = s.emitted ++ w ∷ [] }))
-      (λ v left. let l = length-append m.emitted (v ∷ []) in omega (arith, l, h))
+      up_to_value n (value_of e m.variables m.left) m (λ w s. goes_on (record s { emitted = s.emitted ++ word_of e w ∷ [] }))
+      (λ v left. let l = length-append m.emitted (word_of e v ∷ []) in omega (arith, l, h))
   statement_up_to (t.transition task) m n h = omega (arith, h)
 
   choice_up_to : (c : Choice VariableName TaskName) (m : Attempt) (n : ℕ) → length m.emitted + choice_emits c ≤ n → EmitsUpTo n (run_choice c m)

@@ -4,3 +4,5 @@
 pub use Rattle.source_values.proofs.Completions.{readings_left_over_lem}
 -- An attempt emits no more words than its block counts, however it ends.
 pub use Rattle.source_values.proofs.Emitted.{EmitsUpTo, more_turns, statement_up_to, block_up_to}
+-- Where no operand is long, values are those of the operators on words.
+pub use Rattle.source_values.proofs.Words.{scalar_word, converted_word, assigned_word, word_as_it_is}

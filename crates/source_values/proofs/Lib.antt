@@ -7,4 +7,5 @@ mod Tasks
 mod Turns
 mod Uses
 mod Views
+mod Words
 pub mod Interface

@@ -1,9 +1,9 @@
 -- The value of an expression depends on the readings that it takes, and on no others.
 use Rattle.std.proofs.Common.{◌≡◌, ℕ, List, [], ◌∷◌, ◌++◌, Bool, true, false, refl, ap, sym, ◌∙◌, Option, Some, None, append_assoc, if◌then◌else◌}
 use Rattle.alp_words.specs.Words.{bit}
-use Rattle.task_ast.specs.Tree.{Expression, number, name, element, sense, unary, binary, shift, short_circuit}
+use Rattle.task_ast.specs.Tree.{Expression, number, long_number, name, element, sense, unary, binary, shift, short_circuit}
 use Rattle.task_ast.specs.declared.names.VariableName.{VariableName}
-use Rattle.source_values.specs.Values.{◌>>?◌, Variables, word_at, type_of, joined_type, unary_value, binary_value, shift_value, holds, is_settled}
+use Rattle.source_values.specs.Values.{◌>>?◌, Variables, word_at, scalar_value, type_of, unary_result, binary_result, shift_result, holds, is_settled}
 use Rattle.source_values.specs.Values.{next_reading, value_of}
 
 pub bind_some : {A B : Type 0} (o : Option A) (f : A → Option B) (y : B) → (o >>? f) ≡ Some y → (x : A) × (o ≡ Some x) × (f x ≡ Some y)
@@ -53,17 +53,19 @@ takes_if false first second p q = q
 
 pub value_takes : (e : Expression VariableName) (m : Variables) → TakesItsOwn (value_of e m)
 value_takes (number n) m = takes_none n
-value_takes (name x) m = takes_none (word_at m x.variable 0)
+value_takes (long_number n) m = takes_none n
+value_takes (name x) m = takes_none (scalar_value m x)
 value_takes (element x index) m = takes_then (value_of index m) (λ i rs. Some (word_at m x.variable i, rs)) (value_takes index m)
     (λ i. takes_none (word_at m x.variable i))
 value_takes sense m = takes_one
-value_takes (unary op e) m = takes_then (value_of e m) (λ w rs. Some (unary_value op w, rs)) (value_takes e m) (λ w. takes_none (unary_value op w))
+value_takes (unary op e) m = takes_then (value_of e m) (λ w rs. Some (unary_result op (type_of e) w, rs)) (value_takes e m)
+    (λ w. takes_none (unary_result op (type_of e) w))
 value_takes (binary op a b) m =
-    let value : ℕ → ℕ → ℕ = binary_value op (joined_type (type_of a) (type_of b)) in
+    let value : ℕ → ℕ → ℕ = binary_result op.operator (type_of a) (type_of b) in
     takes_then (value_of a m) (λ x rs. value_of b m rs >>? λ y. Some (value x y.0, y.1)) (value_takes a m)
     (λ x. takes_then (value_of b m) (λ y rs. Some (value x y, rs)) (value_takes b m) (λ y. takes_none (value x y)))
-value_takes (shift op e count) m = takes_then (value_of e m) (λ w rs. Some (shift_value op (type_of e) w count.value, rs)) (value_takes e m)
-    (λ w. takes_none (shift_value op (type_of e) w count.value))
+value_takes (shift op e count) m = takes_then (value_of e m) (λ w rs. Some (shift_result op (type_of e) w count.value, rs)) (value_takes e m)
+    (λ w. takes_none (shift_result op (type_of e) w count.value))
 value_takes (short_circuit op a b) m =
     takes_then (value_of a m) (λ x rs. if is_settled op x then Some (bit (holds x), rs) else (value_of b m rs >>? λ y. Some (bit (holds y.0), y.1)))
     (value_takes a m)

@@ -1,13 +1,16 @@
 -- What statements do depends on the readings that they take, and on no others.
-use Rattle.std.proofs.Common.{◌≡◌, ℕ, zero, suc, ◌+◌, ◌-◌, List, [], ◌∷◌, ◌++◌, Bool, true, false, refl, ap, sym, ◌∙◌, subst, Option, Some, None}
+use Rattle.std.proofs.Common.{◌≡◌, ℕ, zero, suc, ◌+◌, ◌-◌, ◌/◌, ◌%◌, List, [], ◌∷◌, ◌++◌, Bool, true, false, refl, ap, sym, ◌∙◌, subst, Option, Some, None}
 use Rattle.std.proofs.Common.{append_assoc, if◌then◌else◌}
 use Rattle.task_ast.specs.Tree.{Expression, Statement, declare, assign, store, choose, loop, emit, transition, Choice, nothing, otherwise, test, Block, end}
 use Rattle.task_ast.specs.Tree.{step}
+use Rattle.task_ast.specs.declared.WordType.{WordType}
+use Rattle.task_ast.specs.declared.WordType.TheVariants.{Unsigned, Int, Long}
 use Rattle.task_ast.specs.declared.names.Variable.{Variable}
 use Rattle.task_ast.specs.declared.names.VariableName.{VariableName}
 use Rattle.task_ast.specs.declared.names.TaskName.{TaskName}
-use Rattle.source_values.specs.Values.{value_of, holds}
-use Rattle.source_values.specs.Statements.{Attempt, Outcome, goes_on, to_task, short, and_then, if_value, with_value, assigned, turns, run_statement}
+use Rattle.source_values.specs.Values.{by_width, type_of, converted, value_of, holds}
+use Rattle.source_values.specs.Statements.{Attempt, Outcome, goes_on, to_task, short, and_then, if_value, with_value, assigned, assigned_to, assigned_value}
+use Rattle.source_values.specs.Statements.{word_of, turns, run_statement}
 use Rattle.source_values.specs.Statements.{run_choice, run_block}
 use Rattle.source_values.proofs.Takes.{value_takes}
 
@@ -48,6 +51,19 @@ uses_on s o e w = uses_none goes_on s (goes_on s) refl (λ more. refl) o e
 
 uses_assigned : (x : Variable) (i v : ℕ) → UsesItsOwn (λ s. goes_on (assigned s x i v))
 uses_assigned x i v s o e w = uses_none (λ s. goes_on (assigned s x i v)) s (goes_on (assigned s x i v)) refl (λ more. refl) o e
+
+uses_two : (x : Variable) (low high : ℕ) → UsesItsOwn (λ s. goes_on (assigned (assigned s x 0 low) x 1 high))
+uses_two x low high s o e w = uses_none (λ s. goes_on (assigned (assigned s x 0 low) x 1 high)) s (goes_on (assigned (assigned s x 0 low) x 1 high)) refl
+    (λ more. refl) o e
+
+uses_assigned_to : (x : VariableName) (v : ℕ) → UsesItsOwn (λ s. goes_on (assigned_to s x v))
+uses_assigned_to x v = go x.word_type
+  where
+    go : (t : WordType) → UsesItsOwn (λ s. goes_on (by_width t (assigned s x.variable 0 v)
+        (assigned (assigned s x.variable 0 (v % 65536)) x.variable 1 (v / 65536))))
+    go Long = uses_two x.variable (v % 65536) (v / 65536)
+    go Int = uses_assigned x.variable 0 v
+    go Unsigned = uses_assigned x.variable 0 v
 
 uses_emitted : (v : ℕ) → UsesItsOwn (λ s. goes_on (record s { emitted = s.emitted ++ v ∷ [] }))
 uses_emitted v s o e w = uses_none (λ s. goes_on (record s { emitted = s.emitted ++ v ∷ [] })) s (goes_on (record s { emitted = s.emitted ++ v ∷ [] })) refl
@@ -106,13 +122,13 @@ uses_turns (suc n) k x body p = uses_then (λ s. body (assigned s x 0 k)) (turns
 mutual
   pub statement_uses : (s : Statement VariableName TaskName) → UsesItsOwn (run_statement s)
   statement_uses (declare t x None) = uses_on
-  statement_uses (declare t x (Some e)) = uses_value e (λ w s. goes_on (assigned s x.variable 0 w)) (λ w. uses_assigned x.variable 0 w)
-  statement_uses (assign x e) = uses_value e (λ w s. goes_on (assigned s x.variable 0 w)) (λ w. uses_assigned x.variable 0 w)
-  statement_uses (store x index e) = uses_value index (λ i s. with_value e s (λ w s. goes_on (assigned s x.variable i w)))
-      (λ i. uses_value e (λ w s. goes_on (assigned s x.variable i w)) (λ w. uses_assigned x.variable i w))
+  statement_uses (declare t x (Some e)) = uses_value e (λ w s. goes_on (assigned_value s x e w)) (λ w. uses_assigned_to x (converted (type_of e) x.word_type w))
+  statement_uses (assign x e) = uses_value e (λ w s. goes_on (assigned_value s x e w)) (λ w. uses_assigned_to x (converted (type_of e) x.word_type w))
+  statement_uses (store x index e) = uses_value index (λ i s. with_value e s (λ w s. goes_on (assigned s x.variable i (word_of e w))))
+      (λ i. uses_value e (λ w s. goes_on (assigned s x.variable i (word_of e w))) (λ w. uses_assigned x.variable i (word_of e w)))
   statement_uses (choose choice) = choice_uses choice
   statement_uses (loop x from tested below stepped body) = uses_turns (below - from) from x.variable (run_block body) (block_uses body)
-  statement_uses (emit e) = uses_value e (λ w s. goes_on (record s { emitted = s.emitted ++ w ∷ [] })) uses_emitted
+  statement_uses (emit e) = uses_value e (λ w s. goes_on (record s { emitted = s.emitted ++ word_of e w ∷ [] })) (λ w. uses_emitted (word_of e w))
   statement_uses (transition t) = uses_to_task t.task
 
   pub choice_uses : (c : Choice VariableName TaskName) → UsesItsOwn (run_choice c)

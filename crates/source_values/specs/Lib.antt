@@ -1,5 +1,6 @@
 pub mod Laws
 pub mod Values
+pub mod Numbers
 pub mod Statements
 pub mod Runs
 pub mod Running

@@ -1,8 +1,8 @@
 -- The run of a source: whole tasks, one after another, each on its own list of readings.
-use Rattle.std.specs.Prelude.{ℕ, ◌<◌, ◌≤◌, List, [], ◌∷◌, ◌++◌, map, replicate, Option, Some, None, slice_get}
+use Rattle.std.specs.Prelude.{ℕ, ◌<◌, ◌≤◌, ◌/◌, ◌%◌, Bool, true, false, List, [], ◌∷◌, ◌++◌, map, replicate, Option, Some, None, slice_get}
 use Rattle.task_ast.specs.Tree.{Program, Task, Block, end}
 use Rattle.task_ast.specs.declared.Extent.{Extent}
-use Rattle.task_ast.specs.declared.Extent.TheVariants.{Scalar, Array}
+use Rattle.task_ast.specs.declared.Extent.TheVariants.{Scalar, Long, Array}
 use Rattle.task_ast.specs.declared.names.VariableName.{VariableName}
 use Rattle.task_ast.specs.declared.names.TaskName.{TaskName}
 use Rattle.source_values.specs.Values.{◌>>?◌}
@@ -12,9 +12,16 @@ use Rattle.source_values.specs.Statements.{Attempt, Outcome, goes_on, to_task, s
 abbrev pub CheckedProgram : Type 0
 CheckedProgram = Program VariableName TaskName
 
+-- whether a shared variable is a long
+abbrev pub is_long_extent : Extent → Bool
+is_long_extent (Scalar w) = false
+is_long_extent (Long n) = true
+is_long_extent (Array n) = false
+
 -- the words that a shared variable starts with
 abbrev pub initial_words : Extent → List ℕ
 initial_words (Scalar w) = w ∷ []
+initial_words (Long n) = n % 65536 ∷ n / 65536 ∷ []
 initial_words (Array n) = replicate n 0
 
 -- of each shared variable the words that it starts with

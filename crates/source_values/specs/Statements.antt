@@ -1,11 +1,12 @@
 -- What statements do: the new words of the variables, the words emitted, the readings left, and whether the task goes on.
-use Rattle.std.specs.Prelude.{ℕ, zero, suc, ◌+◌, ◌-◌, ◌*◌, max, List, [], ◌∷◌, ◌++◌, Option, Some, None, if◌then◌else◌}
+use Rattle.std.specs.Prelude.{ℕ, zero, suc, ◌+◌, ◌-◌, ◌*◌, ◌/◌, ◌%◌, max, List, [], ◌∷◌, ◌++◌, Option, Some, None, if◌then◌else◌}
 use Rattle.task_ast.specs.Tree.{Expression, Statement, declare, assign, store, choose, loop, emit, transition, Choice, nothing, otherwise, test, Block, end}
 use Rattle.task_ast.specs.Tree.{step}
+use Rattle.task_ast.specs.declared.WordType.TheVariants.{Unsigned}
 use Rattle.task_ast.specs.declared.names.Variable.{Variable}
 use Rattle.task_ast.specs.declared.names.VariableName.{VariableName}
 use Rattle.task_ast.specs.declared.names.TaskName.{TaskName}
-use Rattle.source_values.specs.Values.{Variables, with_word, value_of, holds}
+use Rattle.source_values.specs.Values.{Variables, with_word, by_width, type_of, converted, value_of, holds}
 
 -- what an attempt has made so far: the words of the variables, the words emitted, and the readings left
 pub record Attempt : Type 0 where
@@ -38,6 +39,19 @@ with_value e s next = if_value (value_of e s.variables s.left) s next
 abbrev pub assigned : Attempt → Variable → ℕ → ℕ → Attempt
 assigned s x i w = record s { variables = with_word s.variables x i w }
 
+-- the attempt with another value of a scalar: its word, or of a long one its two words, the low one first
+abbrev pub assigned_to : Attempt → VariableName → ℕ → Attempt
+assigned_to s x w =
+    by_width x.word_type (assigned s x.variable 0 w) (assigned (assigned s x.variable 0 (w % 65536)) x.variable 1 (w / 65536))
+
+-- the same with the value of an expression, which becomes one of the scalar's type
+abbrev pub assigned_value : Attempt → VariableName → Expression VariableName → ℕ → Attempt
+assigned_value s x e w = assigned_to s x (converted (type_of e) x.word_type w)
+
+-- the value of an expression as one word
+abbrev pub word_of : Expression VariableName → ℕ → ℕ
+word_of e w = converted (type_of e) Unsigned w
+
 -- so many turns of a loop over a variable, from number k on; behind them the variable is the number after the last
 abbrev pub turns : ℕ → ℕ → Variable → (Attempt → Outcome) → Attempt → Outcome
 turns zero k x body s = goes_on (assigned s x 0 k)
@@ -49,12 +63,12 @@ abbrev mutual
   -- at the greater of the two
   pub run_statement : Statement VariableName TaskName → Attempt → Outcome
   run_statement (declare t x None) s = goes_on s
-  run_statement (declare t x (Some e)) s = with_value e s (λ w s. goes_on (assigned s x.variable 0 w))
-  run_statement (assign x e) s = with_value e s (λ w s. goes_on (assigned s x.variable 0 w))
-  run_statement (store x index e) s = with_value index s (λ i s. with_value e s (λ w s. goes_on (assigned s x.variable i w)))
+  run_statement (declare t x (Some e)) s = with_value e s (λ w s. goes_on (assigned_value s x e w))
+  run_statement (assign x e) s = with_value e s (λ w s. goes_on (assigned_value s x e w))
+  run_statement (store x index e) s = with_value index s (λ i s. with_value e s (λ w s. goes_on (assigned s x.variable i (word_of e w))))
   run_statement (choose choice) s = run_choice choice s
   run_statement (loop x from tested below stepped body) s = turns (below - from) from x.variable (run_block body) s
-  run_statement (emit e) s = with_value e s (λ w s. goes_on (record s { emitted = s.emitted ++ w ∷ [] }))
+  run_statement (emit e) s = with_value e s (λ w s. goes_on (record s { emitted = s.emitted ++ word_of e w ∷ [] }))
   run_statement (transition t) s = to_task t.task s
 
   -- the first block whose condition holds, else the last block, if there is one

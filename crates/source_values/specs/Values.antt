@@ -1,11 +1,14 @@
--- The types and values of expressions: C's arithmetic on 16-bit words, and the rules of the language where C leaves one open.
-use Rattle.std.specs.Prelude.{ℕ, ◌^◌, ◌-◌, ◌/◌, List, [], ◌∷◌, Bool, not, ◌==◌, nat_le, nat_lt, bit_and, bit_or, bit_xor, if◌then◌else◌, Option, Some, None}
+-- The values of expressions: C's arithmetic on numbers of 16 bits, and of 32 bits where the type is long, and the rules of the language
+-- where C leaves one open.
+use Rattle.std.specs.Prelude.{ℕ, ◌^◌, ◌+◌, ◌-◌, ◌*◌, ◌/◌, ◌%◌, List, [], ◌∷◌, Bool, not, ◌==◌, nat_le, nat_lt, bit_and, bit_or, bit_xor, if◌then◌else◌}
+use Rattle.std.specs.Prelude.{Option, Some, None}
 use Rattle.std.specs.Prelude.{slice_index, slice_index_or, slice_set}
 pub use Rattle.task_ast.specs.alp_text.Sequence.{◌>>?◌}
 use Rattle.alp_words.specs.Words.{word_sum, word_difference, word_product, quotient, remainder, arithmetic_shift, biased, bit}
-use Rattle.task_ast.specs.Tree.{Expression, number, name, element, sense, unary, binary, shift, short_circuit}
+pub use Rattle.task_ast.specs.Types.{by_width, is_long, joined_type, binary_type, unary_type, literal_type, type_of}
+use Rattle.task_ast.specs.Tree.{Expression, number, long_number, name, element, sense, unary, binary, shift, short_circuit}
 use Rattle.task_ast.specs.declared.WordType.{WordType}
-use Rattle.task_ast.specs.declared.WordType.TheVariants.{Unsigned, Int}
+use Rattle.task_ast.specs.declared.WordType.TheVariants.{Unsigned, Int, Long}
 use Rattle.task_ast.specs.declared.UnaryOperator.{UnaryOperator}
 use Rattle.task_ast.specs.declared.UnaryOperator.TheVariants.{Negate, Complement, Not}
 use Rattle.task_ast.specs.declared.BinaryOperator.{BinaryOperator}
@@ -19,7 +22,8 @@ use Rattle.task_ast.specs.declared.names.Variable.{Variable}
 use Rattle.task_ast.specs.declared.names.Variable.TheVariants.{Shared, Local}
 use Rattle.task_ast.specs.declared.names.VariableName.{VariableName}
 
--- the words of the variables: of each shared one its words, one for a scalar, in order of declaration; and the locals
+-- the words of the variables: of each shared one its words, in order of declaration, one for a scalar and two for a long one, the low one
+-- first; and the locals
 pub record Variables : Type 0 where
   pub shared : List (List ℕ)
   pub locals : List ℕ
@@ -34,49 +38,34 @@ abbrev pub with_word : Variables → Variable → ℕ → ℕ → Variables
 with_word m (Shared v) i w = record m { shared = slice_set m.shared v (slice_set (slice_index_or m.shared v []) i w) }
 with_word m (Local n) i w = record m { locals = slice_set m.locals n w }
 
--- an operation on an int and an unsigned is unsigned
-abbrev pub joined_type : WordType → WordType → WordType
-joined_type Int Int = Int
-joined_type Int Unsigned = Unsigned
-joined_type Unsigned t = Unsigned
+-- what two words are worth, the low one first
+abbrev pub two_words : ℕ → ℕ → ℕ
+two_words low high = low + 65536 * high
 
--- the type of an operation on operands of these types: a comparison gives an int, `/` and `%` are unsigned
-abbrev pub binary_type : BinaryOperator → WordType → WordType → WordType
-binary_type Multiply a b = joined_type a b
-binary_type Divide a b = Unsigned
-binary_type Remainder a b = Unsigned
-binary_type Add a b = joined_type a b
-binary_type Subtract a b = joined_type a b
-binary_type Less a b = Int
-binary_type LessEqual a b = Int
-binary_type Greater a b = Int
-binary_type GreaterEqual a b = Int
-binary_type Equal a b = Int
-binary_type NotEqual a b = Int
-binary_type And a b = joined_type a b
-binary_type Xor a b = joined_type a b
-binary_type Or a b = joined_type a b
+-- what a row of words shows at an index: a word, or at 0 the number of a long's two words
+abbrev pub shown : Bool → List ℕ → ℕ → ℕ
+shown is_long row i = if is_long then (if i == 0 then two_words (slice_index row 0) (slice_index row 1) else 0) else slice_index row i
 
--- `-` and `~` keep the type, `!` gives an int
-abbrev pub unary_type : UnaryOperator → WordType → WordType
-unary_type Negate t = t
-unary_type Complement t = t
-unary_type Not t = Int
+-- the value of a scalar: its word, or of a long one its two words
+abbrev pub scalar_value : Variables → VariableName → ℕ
+scalar_value m x = by_width x.word_type (word_at m x.variable 0) (two_words (word_at m x.variable 0) (word_at m x.variable 1))
 
--- a literal up to 32767 is an int, a greater one unsigned
-abbrev pub literal_type : ℕ → WordType
-literal_type n = if nat_le n 32767 then Int else Unsigned
+-- the high word of an int that becomes long: its sign
+abbrev pub sign_word : ℕ → ℕ
+sign_word w = if nat_lt w 32768 then 0 else 65535
 
--- the type of an expression: a reading is unsigned, a shift has the type of its left side
-abbrev pub type_of : Expression VariableName → WordType
-type_of (number n) = literal_type n
-type_of (name x) = x.word_type
-type_of (element x index) = x.word_type
-type_of sense = Unsigned
-type_of (unary op e) = unary_type op (type_of e)
-type_of (binary op a b) = binary_type op (type_of a) (type_of b)
-type_of (shift op e count) = type_of e
-type_of (short_circuit op a b) = Int
+-- A number of one type as one of another: an unsigned becomes long by a high word of 0, an int by its sign; a long that becomes one word is
+-- cut to its low word.
+abbrev pub converted : WordType → WordType → ℕ → ℕ
+converted Long Long w = w
+converted Long Int w = w % 65536
+converted Long Unsigned w = w % 65536
+converted Int Long w = two_words w (sign_word w)
+converted Int Int w = w
+converted Int Unsigned w = w
+converted Unsigned to w = w
+
+-- ---- operators on words
 
 -- a condition holds where its value isn't 0
 abbrev pub holds : ℕ → Bool
@@ -92,6 +81,7 @@ unary_value Not w = bit (w == 0)
 abbrev pub is_less : WordType → ℕ → ℕ → Bool
 is_less Int a b = nat_lt (biased a) (biased b)
 is_less Unsigned a b = nat_lt a b
+is_less Long a b = nat_lt a b
 
 -- the value of an operation on words whose joined type is t: sums, differences and products wrap, `/` and `%` are unsigned,
 -- x / 0 is 65535 and x % 0 is x, a comparison is 1 where it holds and else 0
@@ -116,10 +106,64 @@ abbrev pub shifted_value : ShiftOperator → WordType → ℕ → ℕ → ℕ
 shifted_value Left t a count = word_product a (2 ^ count)
 shifted_value Right Int a count = arithmetic_shift a count
 shifted_value Right Unsigned a count = a / 2 ^ count
+shifted_value Right Long a count = a / 2 ^ count
 
 -- the same of any count: the checks refuse one above 15, for which 0 stands here
 abbrev pub shift_value : ShiftOperator → WordType → ℕ → ℕ → ℕ
 shift_value op t a count = if nat_le count 15 then shifted_value op t a count else 0
+
+-- ---- the same on long numbers, modulo 2^32 and without a sign
+
+abbrev pub long_sum : ℕ → ℕ → ℕ
+long_sum a b = (a + b) % 2 ^ 32
+
+abbrev pub long_difference : ℕ → ℕ → ℕ
+long_difference a b = (a + (2 ^ 32 - b)) % 2 ^ 32
+
+abbrev pub long_unary_value : UnaryOperator → ℕ → ℕ
+long_unary_value Negate w = long_difference 0 w
+long_unary_value Complement w = 4294967295 - w
+long_unary_value Not w = bit (w == 0)
+
+-- the checks refuse `*`, `/` and `%`, for which 0 stands here
+abbrev pub long_binary_value : BinaryOperator → ℕ → ℕ → ℕ
+long_binary_value Multiply a b = 0
+long_binary_value Divide a b = 0
+long_binary_value Remainder a b = 0
+long_binary_value Add a b = long_sum a b
+long_binary_value Subtract a b = long_difference a b
+long_binary_value Less a b = bit (nat_lt a b)
+long_binary_value LessEqual a b = bit (not (nat_lt b a))
+long_binary_value Greater a b = bit (nat_lt b a)
+long_binary_value GreaterEqual a b = bit (not (nat_lt a b))
+long_binary_value Equal a b = bit (a == b)
+long_binary_value NotEqual a b = bit (not (a == b))
+long_binary_value And a b = bit_and a b
+long_binary_value Xor a b = bit_xor a b
+long_binary_value Or a b = bit_or a b
+
+abbrev pub long_shifted_value : ShiftOperator → ℕ → ℕ → ℕ
+long_shifted_value Left a count = (a * 2 ^ count) % 2 ^ 32
+long_shifted_value Right a count = a / 2 ^ count
+
+-- the same of any count: the checks refuse one above 31, for which 0 stands here
+abbrev pub long_shift_value : ShiftOperator → ℕ → ℕ → ℕ
+long_shift_value op a count = if nat_le count 31 then long_shifted_value op a count else 0
+
+-- ---- the operators, by the types of their operands
+
+abbrev pub unary_result : UnaryOperator → WordType → ℕ → ℕ
+unary_result op t w = by_width t (unary_value op w) (long_unary_value op w)
+
+-- of words of types s and t, or with a long among them of both as longs
+abbrev pub binary_result : BinaryOperator → WordType → WordType → ℕ → ℕ → ℕ
+binary_result op s t a b = by_width (joined_type s t) (binary_value op (joined_type s t) a b)
+    (long_binary_value op (converted s Long a) (converted t Long b))
+
+abbrev pub shift_result : ShiftOperator → WordType → ℕ → ℕ → ℕ
+shift_result op t a count = by_width t (shift_value op t a count) (long_shift_value op a count)
+
+-- ---- expressions
 
 -- the next reading, and those behind it
 abbrev pub next_reading : List ℕ → Option (ℕ × List ℕ)
@@ -135,13 +179,14 @@ is_settled OneHolds w = holds w
 -- taken from left to right
 abbrev pub value_of : Expression VariableName → Variables → List ℕ → Option (ℕ × List ℕ)
 value_of (number n) m readings = Some (n, readings)
-value_of (name x) m readings = Some (word_at m x.variable 0, readings)
+value_of (long_number n) m readings = Some (n, readings)
+value_of (name x) m readings = Some (scalar_value m x, readings)
 value_of (element x index) m readings = value_of index m readings >>? λ i. Some (word_at m x.variable i.0, i.1)
 value_of sense m readings = next_reading readings
-value_of (unary op e) m readings = value_of e m readings >>? λ x. Some (unary_value op x.0, x.1)
+value_of (unary op e) m readings = value_of e m readings >>? λ x. Some (unary_result op (type_of e) x.0, x.1)
 value_of (binary op a b) m readings = value_of a m readings >>? λ x. value_of b m x.1
-    >>? λ y. Some (binary_value op (joined_type (type_of a) (type_of b)) x.0 y.0, y.1)
+    >>? λ y. Some (binary_result op.operator (type_of a) (type_of b) x.0 y.0, y.1)
 value_of (shift op e count) m readings =
-    value_of e m readings >>? λ x. Some (shift_value op (type_of e) x.0 count.value, x.1)
+    value_of e m readings >>? λ x. Some (shift_result op (type_of e) x.0 count.value, x.1)
 value_of (short_circuit op a b) m readings = value_of a m readings
     >>? λ x. if is_settled op x.0 then Some (bit (holds x.0), x.1) else (value_of b m x.1 >>? λ y. Some (bit (holds y.0), y.1))

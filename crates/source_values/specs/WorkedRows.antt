@@ -1,14 +1,17 @@
 -- Worked examples of values, types and statements, as the definitions give them.
 use Rattle.std.specs.Prelude.{◌≡◌, ℕ, List, [], ◌∷◌, Some, None}
 use Rattle.task_ast.specs.alp_text.declared.lines.Span.{Span}
-use Rattle.task_ast.specs.Tree.{number, name, element, sense, unary, binary, shift, short_circuit, store, loop, emit, transition, end, step}
-use Rattle.task_ast.specs.declared.WordType.TheVariants.{Unsigned, Int}
-use Rattle.task_ast.specs.declared.UnaryOperator.TheVariants.{Negate, Not}
-use Rattle.task_ast.specs.declared.BinaryOperator.TheVariants.{Divide, Remainder, Add, Less}
-use Rattle.task_ast.specs.declared.ShiftOperator.TheVariants.{Right}
+use Rattle.task_ast.specs.Tree.{number, long_number, name, element, sense, unary, binary, shift, short_circuit, declare, assign, store, loop, emit}
+use Rattle.task_ast.specs.Tree.{transition, end, step}
+use Rattle.task_ast.specs.declared.WordType.TheVariants.{Unsigned, Int, Long}
+use Rattle.task_ast.specs.declared.UnaryOperator.TheVariants.{Negate, Complement, Not}
+use Rattle.task_ast.specs.declared.BinaryOperator.{BinaryOperator}
+use Rattle.task_ast.specs.declared.BinaryOperator.TheVariants.{Divide, Remainder, Add, Subtract, Less, GreaterEqual, Equal, And, Xor, Or}
+use Rattle.task_ast.specs.declared.PlacedOperator.{PlacedOperator}
+use Rattle.task_ast.specs.declared.ShiftOperator.TheVariants.{Left, Right}
 use Rattle.task_ast.specs.declared.ShortCircuitOperator.TheVariants as short_circuit_operator
 use Rattle.task_ast.specs.declared.Literal.{Literal}
-use Rattle.task_ast.specs.declared.Extent.TheVariants.{Array}
+use Rattle.task_ast.specs.declared.Extent.TheVariants as extent
 use Rattle.task_ast.specs.declared.names.Variable.TheVariants.{Shared, Local}
 use Rattle.task_ast.specs.declared.names.VariableName.{VariableName}
 use Rattle.source_values.specs.Values.{Variables, value_of, type_of}
@@ -35,6 +38,22 @@ words = record { shared = (65533 ∷ []) ∷ (5 ∷ 6 ∷ []) ∷ []; locals = 7
 abbrev pub by_one : Literal
 by_one = record { value = 1; span = nowhere }
 
+abbrev pub by : ℕ → Literal
+by count = record { value = count; span = nowhere }
+
+abbrev pub here : BinaryOperator → PlacedOperator
+here op = record { operator = op; span = nowhere }
+
+-- `shared int p = -3; shared unsigned long l = 4294967295UL;` and a local
+abbrev pub l : VariableName
+l = record { span = nowhere; variable = Shared 1; word_type = Long }
+
+abbrev pub longs_are : ℕ → ℕ → ℕ → ℕ → Variables
+longs_are word low high local = record { shared = (word ∷ []) ∷ (low ∷ high ∷ []) ∷ []; locals = local ∷ [] }
+
+abbrev pub longs : Variables
+longs = longs_are 65533 65535 65535 7
+
 -- an attempt on these words that has these readings left
 abbrev pub attempt : Variables → List ℕ → List ℕ → Attempt
 attempt m emitted left = record { variables = m; emitted = emitted; left = left }
@@ -44,22 +63,22 @@ locals_are w = record { shared = (65533 ∷ []) ∷ (5 ∷ 6 ∷ []) ∷ []; loc
 
 -- what the definitions give
 pub record WorkedRows : Type 0 where
-  pub sums_wrap : value_of (binary Add (number 65535) (number 1)) words [] ≡ Some (0, [])
-  pub quotient_by_zero : value_of (binary Divide (number 7) (number 0)) words [] ≡ Some (65535, [])
-  pub remainder_by_zero : value_of (binary Remainder (number 7) (number 0)) words [] ≡ Some (7, [])
-  pub quotient_is_unsigned : value_of (binary Divide (name p) (number 2)) words [] ≡ Some (32766, [])
+  pub sums_wrap : value_of (binary (here Add) (number 65535) (number 1)) words [] ≡ Some (0, [])
+  pub quotient_by_zero : value_of (binary (here Divide) (number 7) (number 0)) words [] ≡ Some (65535, [])
+  pub remainder_by_zero : value_of (binary (here Remainder) (number 7) (number 0)) words [] ≡ Some (7, [])
+  pub quotient_is_unsigned : value_of (binary (here Divide) (name p) (number 2)) words [] ≡ Some (32766, [])
   pub shift_of_int : value_of (shift Right (name p) by_one) words [] ≡ Some (65534, [])
-  pub shift_of_unsigned : value_of (shift Right (binary Add (name p) sense) by_one) words (0 ∷ []) ≡ Some (32766, [])
-  pub less_of_ints : value_of (binary Less (name p) (number 2)) words [] ≡ Some (1, [])
-  pub less_of_int_and_unsigned : value_of (binary Less (name p) (number 40000)) words [] ≡ Some (0, [])
+  pub shift_of_unsigned : value_of (shift Right (binary (here Add) (name p) sense) by_one) words (0 ∷ []) ≡ Some (32766, [])
+  pub less_of_ints : value_of (binary (here Less) (name p) (number 2)) words [] ≡ Some (1, [])
+  pub less_of_int_and_unsigned : value_of (binary (here Less) (name p) (number 40000)) words [] ≡ Some (0, [])
   pub literals : (type_of (number 32767) ≡ Int) × (type_of (number 32768) ≡ Unsigned) × (type_of (unary Negate (number 40000)) ≡ Unsigned)
       × (type_of (unary Not (number 40000)) ≡ Int)
   pub index_at_the_length_reads_0 : value_of (element a (number 2)) words [] ≡ Some (0, [])
-  pub readings_from_the_left : value_of (binary Less sense sense) words (1 ∷ 2 ∷ 3 ∷ []) ≡ Some (1, 3 ∷ [])
+  pub readings_from_the_left : value_of (binary (here Less) sense sense) words (1 ∷ 2 ∷ 3 ∷ []) ≡ Some (1, 3 ∷ [])
   pub and_leaves_the_right_side : value_of (short_circuit short_circuit_operator.And (number 0) sense) words (9 ∷ []) ≡ Some (0, 9 ∷ [])
   pub and_takes_the_right_side : value_of (short_circuit short_circuit_operator.And (number 3) sense) words (9 ∷ []) ≡ Some (1, [])
   pub or_leaves_the_right_side : value_of (short_circuit short_circuit_operator.Or (number 3) sense) words (9 ∷ []) ≡ Some (1, 9 ∷ [])
-  pub too_few_readings : value_of (binary Add sense sense) words (7 ∷ []) ≡ None
+  pub too_few_readings : value_of (binary (here Add) sense sense) words (7 ∷ []) ≡ None
   pub index_at_the_length_writes_nothing : run_statement (store a (number 2) (number 1)) (attempt words [] []) ≡ goes_on (attempt words [] [])
   pub index_before_value : run_statement (store a sense sense) (attempt words [] (1 ∷ 9 ∷ []))
       ≡ goes_on (attempt (record { shared = (65533 ∷ []) ∷ (5 ∷ 9 ∷ []) ∷ []; locals = 7 ∷ [] }) [] [])
@@ -68,4 +87,29 @@ pub record WorkedRows : Type 0 where
   pub nothing_behind_a_transition : run_block (step (transition (record { span = nowhere; task = 2 })) (step (emit (number 1)) end)) (attempt words [] [])
       ≡ to_task 2 (attempt words [] [])
   pub short_of_a_reading : run_block (step (emit sense) end) (attempt words [] []) ≡ short
-  pub shared_words_start_at_0 : initial_words (Array 2) ≡ 0 ∷ 0 ∷ []
+  pub shared_words_start_at_0 : initial_words (extent.Array 2) ≡ 0 ∷ 0 ∷ []
+  pub long_scalar : value_of (name l) longs [] ≡ Some (4294967295, [])
+  pub long_sums_wrap : value_of (binary (here Add) (name l) (number 1)) longs [] ≡ Some (0, [])
+  pub long_differences_wrap : value_of (binary (here Subtract) (number 0) (long_number 1)) longs [] ≡ Some (4294967295, [])
+  pub int_becomes_long_by_its_sign : value_of (binary (here Add) (long_number 5) (name p)) longs [] ≡ Some (2, [])
+  pub unsigned_becomes_long_by_zeros : value_of (binary (here Add) sense (long_number 5)) longs (65533 ∷ []) ≡ Some (65538, [])
+  pub long_negation : value_of (unary Negate (long_number 1)) longs [] ≡ Some (4294967295, [])
+  pub long_complement : value_of (unary Complement (long_number 1)) longs [] ≡ Some (4294967294, [])
+  pub not_of_a_long : value_of (unary Not (long_number 65536)) longs [] ≡ Some (0, [])
+  pub long_bits : (value_of (binary (here And) (name l) (long_number 65536)) longs [] ≡ Some (65536, []))
+      × (value_of (binary (here Or) (long_number 65536) (number 1)) longs [] ≡ Some (65537, []))
+      × (value_of (binary (here Xor) (name l) (long_number 65537)) longs [] ≡ Some (4294901758, []))
+  pub longs_compare_unsigned : value_of (binary (here Less) (name p) (name l)) longs [] ≡ Some (1, [])
+  pub longs_compare_by_the_high_word : value_of (binary (here GreaterEqual) (long_number 65536) (number 9)) longs [] ≡ Some (1, [])
+  pub longs_are_equal_in_both_words : value_of (binary (here Equal) (long_number 65536) (number 0)) longs [] ≡ Some (0, [])
+  pub long_shifts : (value_of (shift Left (long_number 1) (by 31)) longs [] ≡ Some (2147483648, []))
+      × (value_of (shift Left (name l) (by 1)) longs [] ≡ Some (4294967294, []))
+      × (value_of (shift Right (name l) (by 17)) longs [] ≡ Some (32767, []))
+  pub long_types : (type_of (binary (here Add) (name p) (long_number 0)) ≡ Long) × (type_of (binary (here Add) sense (name l)) ≡ Long)
+      × (type_of (binary (here Less) (name l) (name l)) ≡ Int) × (type_of (unary Not (name l)) ≡ Int) × (type_of (shift Right (name l) (by 1)) ≡ Long)
+  pub long_takes_an_int : run_statement (assign l (name p)) (attempt longs [] []) ≡ goes_on (attempt (longs_are 65533 65533 65535 7) [] [])
+  pub word_takes_the_low_word : run_statement (assign p (long_number 65541)) (attempt longs [] []) ≡ goes_on (attempt (longs_are 5 65535 65535 7) [] [])
+  pub local_takes_the_low_word : run_statement (declare Int i (Some (long_number 65538))) (attempt longs [] [])
+      ≡ goes_on (attempt (longs_are 65533 65535 65535 2) [] [])
+  pub emits_the_low_word : run_statement (emit (long_number 65543)) (attempt longs [] []) ≡ goes_on (attempt longs (7 ∷ []) [])
+  pub long_starts_low_word_first : initial_words (extent.Long 65538) ≡ 2 ∷ 1 ∷ []

@@ -3,12 +3,13 @@
 #![tactic(auto)]
 
 pub mod laws;
+mod numbers;
 mod operators;
 mod run;
 mod scratch;
 mod statements;
-pub mod types;
 mod values;
 
 pub use laws::{readings_left_over, worked_rows};
-pub use run::{Done, Short, SourceRun};
+pub use numbers::two_words;
+pub use run::{Done, Short, SourceRun, initial_words};

@@ -1,4 +1,4 @@
-//! Operators on 16-bit words with the types of their operands.
+//! Operators on words with the types of their operands.
 
 ghost use Rattle.std.specs.Prelude.{◌≡◌, ◌<◌};
 ghost use Rattle.alp_words.specs.Words.{bit};
@@ -22,7 +22,7 @@ fn is_less(word_type: WordType, a: u16, b: u16) -> bool
 {
     match word_type {
         WordType::Int => less_signed(a, b),
-        WordType::Unsigned => a < b,
+        WordType::Unsigned | WordType::Long => a < b,
     }
 }
 
@@ -56,7 +56,7 @@ fn shifted_value(op: ShiftOperator, word_type: WordType, w: u16, count: u8) -> u
         ShiftOperator::Left => shl16(w, count),
         ShiftOperator::Right => match word_type {
             WordType::Int => sar16(w, count),
-            WordType::Unsigned => shr16(w, count),
+            WordType::Unsigned | WordType::Long => shr16(w, count),
         },
     }
 }

@@ -3,6 +3,7 @@
 ghost use Rattle.std.specs.Prelude.{◌≡◌, ◌+◌, ◌≤◌, ◌<◌, ◌^◌, ℕ, [], map, length, drop, All, IfOk, OnOk, OnErr, IfSome, IfNone, OnSome, IsSome, None, Some};
 ghost use Rattle.std.specs.Prelude.{slice_index, slice_index_or, replicate, vec_len};
 ghost use Rattle.task_ast.specs.View.{block_view, program_of};
+ghost use Rattle.task_ast.specs.declared.Extent.TheVariants.{Long};
 ghost use Rattle.source_values.specs.Statements.{Attempt, run_block, block_emits, short, to_task};
 ghost use Rattle.source_values.specs.Runs.{initial_words, initial_rows, new_locals, fresh_attempt, attempt_of, completion_of, EndsWell};
 ghost use Rattle.source_values.specs.Running.{IsRunnable, fresh_run};
@@ -55,11 +56,23 @@ impl Model for SourceRun {
         × (length r.scratch.locals.items ≡ 256) };
 }
 
-fn initial_words(alloc: Global, extent: Extent) -> Result<Vec<u16>, AllocError>
+// The two words of a long, the low one first.
+fn long_words(alloc: Global, n: u32) -> Result<Vec<u16>, AllocError>
+    ensures { IfOk result (λ row. row.items ≡ initial_words (Long n)) }
+{
+    let mut words = Vec::new(alloc);
+    words.push((n % 65536) as u16)?;
+    words.push((n / 65536) as u16)?;
+    Ok(words)
+}
+
+/// The words that a shared variable begins with.
+pub fn initial_words(alloc: Global, extent: Extent) -> Result<Vec<u16>, AllocError>
     ensures { IfOk result (λ row. row.items ≡ initial_words extent) }
 {
     match extent {
         Extent::Scalar(word) => vec![in alloc; word; 1],
+        Extent::Long(n) => long_words(alloc, n),
         Extent::Array(n) => vec![in alloc; 0; n as usize],
     }
 }

@@ -6,11 +6,11 @@ ghost use Rattle.task_ast.specs.View.{expression_of, statement_of, tested_of, bl
 ghost use Rattle.task_ast.specs.declared.names.VariableName.{VariableName};
 ghost use Rattle.task_ast.specs.declared.names.TaskName.{TaskName};
 ghost use Rattle.source_values.specs.Statements.{run_statement, run_choice, run_block, statement_emits, choice_emits, block_emits, with_value, goes_on};
-ghost use Rattle.source_values.specs.Statements.{assigned};
+ghost use Rattle.source_values.specs.Statements.{assigned, assigned_value, word_of};
 ghost use Rattle.source_values.specs.View.{attempt_in, outcome_of, chosen_outcome, ChosenEmits, rows_of};
 
 use crate::scratch::Scratch;
-use crate::values::{evaluate, holds};
+use crate::values::evaluate;
 use task_ast::{Arm, Expr, Stmt, TaskName, Variable, VariableName};
 
 /// What statements leave: the task that they go to, if they go to one, and the readings left.
@@ -38,20 +38,20 @@ pub enum Chosen<'r> {
 
 // Sets a variable to the value of an expression.
 fn assign<'r>(
-    variable: Variable,
+    x: &VariableName,
     e: &Expr<VariableName>,
     scratch: &mut Scratch,
     readings: &'r [u16],
 ) -> Option<Ran<'r>>
     ensures outcome { with_value (expression_of e.now) (attempt_in scratch.old readings.now)
-        (λ w s. goes_on (assigned s variable 0 w)) ≡ outcome_of result scratch.new }
+        (λ w s. goes_on (assigned_value s x.now (expression_of e.now) w)) ≡ outcome_of result scratch.new }
     ensures emitted { scratch.new.emitted ≡ scratch.old.emitted }
     ensures same_lengths { map length (rows_of scratch.new.shared.items) ≡ map length (rows_of scratch.old.shared.items) }
     ensures same_locals { length scratch.new.locals.items ≡ length scratch.old.locals.items }
 {
-    let x = evaluate(e, scratch, readings)?;
-    scratch.set(variable, 0, x.word);
-    Some(Ran::on(x.left))
+    let value = evaluate(e, scratch, readings)?;
+    scratch.assign(x, value.number);
+    Some(Ran::on(value.left))
 }
 
 // Sets an element of an array: the index is evaluated before the value.
@@ -63,14 +63,14 @@ fn store<'r>(
     readings: &'r [u16],
 ) -> Option<Ran<'r>>
     ensures outcome { with_value (expression_of index.now) (attempt_in scratch.old readings.now)
-        (λ i s. with_value (expression_of e.now) s (λ w s. goes_on (assigned s variable i w))) ≡ outcome_of result scratch.new }
+        (λ i s. with_value (expression_of e.now) s (λ w s. goes_on (assigned s variable i (word_of (expression_of e.now) w)))) ≡ outcome_of result scratch.new }
     ensures emitted { scratch.new.emitted ≡ scratch.old.emitted }
     ensures same_lengths { map length (rows_of scratch.new.shared.items) ≡ map length (rows_of scratch.old.shared.items) }
     ensures same_locals { length scratch.new.locals.items ≡ length scratch.old.locals.items }
 {
     let i = evaluate(index, scratch, readings)?;
     let x = evaluate(e, scratch, i.left)?;
-    scratch.set(variable, i.word, x.word);
+    scratch.set(variable, i.number.value(), x.number.word());
     Some(Ran::on(x.left))
 }
 
@@ -78,13 +78,13 @@ fn store<'r>(
 fn emit<'r>(e: &Expr<VariableName>, scratch: &mut Scratch, readings: &'r [u16]) -> Option<Ran<'r>>
     requires { length scratch.old.emitted.items < 256 }
     ensures outcome { with_value (expression_of e.now) (attempt_in scratch.old readings.now)
-        (λ w s. goes_on (record s { emitted = s.emitted ++ w ∷ [] })) ≡ outcome_of result scratch.new }
+        (λ w s. goes_on (record s { emitted = s.emitted ++ word_of (expression_of e.now) w ∷ [] })) ≡ outcome_of result scratch.new }
     ensures emitted { length scratch.new.emitted.items ≤ length scratch.old.emitted.items + 1 }
     ensures same_shared { scratch.new.shared ≡ scratch.old.shared }
     ensures same_locals { scratch.new.locals ≡ scratch.old.locals }
 {
     let x = evaluate(e, scratch, readings)?;
-    scratch.emitted.push(x.word);
+    scratch.emitted.push(x.number.word());
     Some(Ran::on(x.left))
 }
 
@@ -103,8 +103,7 @@ fn run_statement<'r>(
 {
     match statement {
         Stmt::Declare(_, _, None) => Some(Ran::on(readings)),
-        Stmt::Declare(_, x, Some(e)) => assign(x.variable, e, scratch, readings),
-        Stmt::Assign(x, e) => assign(x.variable, e, scratch, readings),
+        Stmt::Declare(_, x, Some(e)) | Stmt::Assign(x, e) => assign(x, e, scratch, readings),
         Stmt::Store(x, index, e) => store(x.variable, index, e, scratch, readings),
         Stmt::If(arms, last) => match run_arms(arms, scratch, readings)? {
             Chosen::Behind(ran) => Some(ran),
@@ -158,7 +157,7 @@ fn run_arms<'r>(
     let mut left = readings;
     for arm in arms {
         let x = evaluate(&arm.condition, scratch, left)?;
-        if holds(x.word) {
+        if x.number.holds() {
             return Some(Chosen::Behind(run_block(&arm.block, scratch, x.left)?));
         }
         left = x.left;

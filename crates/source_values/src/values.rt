@@ -5,44 +5,38 @@ ghost use Rattle.std.specs.Option.{option_map};
 ghost use Rattle.task_ast.specs.View.{expression_of};
 ghost use Rattle.alp_words.specs.Words.{bit};
 ghost use Rattle.source_values.specs.Values.{type_of, value_of, next_reading, holds, is_settled};
+ghost use Rattle.source_values.specs.Numbers.{number_type, number_value};
 ghost use Rattle.source_values.specs.View.{variables_of};
+ghost use Rattle.task_ast.specs.declared.WordType.TheVariants as WordType;
 
-use crate::operators::{binary_value, shift_value, unary_value};
+use crate::numbers::{Number, binary_number, number_of, shifted_number, unary_number};
 use crate::scratch::Scratch;
-use crate::types::{binary_type, joined_type, literal_type, unary_type};
-use task_ast::{Expr, ShortCircuitOperator, VariableName, WordType};
+use task_ast::types::literal_type;
+use task_ast::{Expr, ShortCircuitOperator, VariableName};
 
-/// A value with its type, and the readings that are left behind it.
+/// The value of an expression, and the readings that are left behind it.
 #[derive(Clone, Copy)]
 pub struct Value<'r> {
-    pub word: u16,
-    pub word_type: WordType,
+    pub number: Number,
     pub left: &'r [u16],
 }
 
-pub fn holds(word: u16) -> bool
-    ensures { result ≡ holds word }
-{
-    word != 0
-}
-
-fn is_settled(op: ShortCircuitOperator, word: u16) -> bool
-    ensures { result ≡ is_settled op word }
+fn is_settled(op: ShortCircuitOperator, number: Number) -> bool
+    ensures { result ≡ is_settled op (number_value number) }
 {
     match op {
-        ShortCircuitOperator::And => word == 0,
-        ShortCircuitOperator::Or => word != 0,
+        ShortCircuitOperator::And => !number.holds(),
+        ShortCircuitOperator::Or => number.holds(),
     }
 }
 
 fn sense(readings: &[u16]) -> Option<Value<'_>>
-    ensures value { option_map (λ x. (x.word, x.left.now)) result ≡ next_reading readings.now }
-    ensures word_type { IfSome result (λ x. x.word_type ≡ WordType.Unsigned) }
+    ensures value { option_map (λ x. (number_value x.number, x.left.now)) result ≡ next_reading readings.now }
+    ensures word_type { IfSome result (λ x. number_type x.number ≡ WordType.Unsigned) }
 {
     let (first, left) = readings.split_first()?;
     Some(Value {
-        word: *first,
-        word_type: WordType::Unsigned,
+        number: Number::Unsigned(*first),
         left,
     })
 }
@@ -53,26 +47,27 @@ pub fn evaluate<'r>(
     scratch: &Scratch,
     readings: &'r [u16],
 ) -> Option<Value<'r>>
-    ensures value { option_map (λ x. (x.word, x.left.now)) result
+    ensures value { option_map (λ x. (number_value x.number, x.left.now)) result
         ≡ value_of (expression_of e.now) (variables_of scratch.now) readings.now }
-    ensures word_type { IfSome result (λ x. x.word_type ≡ type_of (expression_of e.now)) }
+    ensures word_type { IfSome result (λ x. number_type x.number ≡ type_of (expression_of e.now)) }
 {
     match e {
         Expr::Number(n) => Some(Value {
-            word: *n,
-            word_type: literal_type(*n),
+            number: number_of(literal_type(*n), *n),
+            left: readings,
+        }),
+        Expr::LongNumber(n) => Some(Value {
+            number: Number::Long(*n),
             left: readings,
         }),
         Expr::Name(x) => Some(Value {
-            word: scratch.word(x.variable, 0),
-            word_type: x.word_type,
+            number: scratch.scalar(x),
             left: readings,
         }),
         Expr::Element(x, index) => {
             let i = evaluate(index, scratch, readings)?;
             Some(Value {
-                word: scratch.word(x.variable, i.word),
-                word_type: x.word_type,
+                number: number_of(x.word_type, scratch.word(x.variable, i.number.value())),
                 left: i.left,
             })
         }
@@ -80,8 +75,7 @@ pub fn evaluate<'r>(
         Expr::Unary(op, operand) => {
             let x = evaluate(operand, scratch, readings)?;
             Some(Value {
-                word: unary_value(*op, x.word),
-                word_type: unary_type(*op, x.word_type),
+                number: unary_number(*op, x.number),
                 left: x.left,
             })
         }
@@ -89,22 +83,20 @@ pub fn evaluate<'r>(
             let x = evaluate(a, scratch, readings)?;
             let y = evaluate(b, scratch, x.left)?;
             Some(Value {
-                word: binary_value(*op, joined_type(x.word_type, y.word_type), x.word, y.word),
-                word_type: binary_type(*op, x.word_type, y.word_type),
+                number: binary_number(op.operator, x.number, y.number),
                 left: y.left,
             })
         }
         Expr::Shift(op, operand, count) => {
             let x = evaluate(operand, scratch, readings)?;
             Some(Value {
-                word: shift_value(*op, x.word_type, x.word, count.value),
-                word_type: x.word_type,
+                number: shifted_number(*op, x.number, count.value),
                 left: x.left,
             })
         }
         Expr::ShortCircuit(op, a, b) => {
             let x = evaluate(a, scratch, readings)?;
-            if is_settled(*op, x.word) {
+            if is_settled(*op, x.number) {
                 return Some(truth(x));
             }
             let y = evaluate(b, scratch, x.left)?;
@@ -115,13 +107,12 @@ pub fn evaluate<'r>(
 
 // 1 where the value isn't 0, else 0.
 fn truth(x: Value<'_>) -> Value<'_>
-    ensures word { result.word ≡ bit (holds x.entry.word) }
-    ensures word_type { result.word_type ≡ WordType.Int }
+    ensures word { number_value result.number ≡ bit (holds (number_value x.entry.number)) }
+    ensures word_type { number_type result.number ≡ WordType.Int }
     ensures left { result.left.now ≡ x.entry.left.now }
 {
     Value {
-        word: u16::from(holds(x.word)),
-        word_type: WordType::Int,
+        number: Number::Int(u16::from(x.number.holds())),
         left: x.left,
     }
 }

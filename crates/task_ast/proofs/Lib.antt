@@ -1,2 +1,3 @@
 mod Backwards
+mod Widths
 pub mod Interface

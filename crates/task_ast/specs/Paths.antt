@@ -4,7 +4,7 @@
 use Rattle.std.specs.Prelude.{ℕ, zero, suc, ◌-◌, Some, None, List, [], ◌∷◌, ◌++◌}
 use Rattle.task_ast.specs.declared.WordType.{WordType}
 use Rattle.task_ast.specs.declared.UnaryOperator.{UnaryOperator}
-use Rattle.task_ast.specs.declared.BinaryOperator.{BinaryOperator}
+use Rattle.task_ast.specs.declared.PlacedOperator.{PlacedOperator}
 use Rattle.task_ast.specs.declared.ShiftOperator.{ShiftOperator}
 use Rattle.task_ast.specs.declared.ShortCircuitOperator.{ShortCircuitOperator}
 use Rattle.task_ast.specs.declared.Literal.{Literal}
@@ -38,15 +38,17 @@ pub data End : Type 0 where
   goes_on : End
   goes_to : TaskName → End
 
--- An expression reads its names from left to right, and an element's array after the index.
+-- An expression reads its names from left to right, and an element's array after the index. A scalar of two words is read and written
+-- as one variable.
 pub data ExpressionPath : CheckedExpression → List Access → Type 0 where
   number : (n : ℕ) → ExpressionPath (t.number n) []
+  long_number : (n : ℕ) → ExpressionPath (t.long_number n) []
   name : (n : VariableName) → ExpressionPath (t.name n) (read n ∷ [])
   element : (n : VariableName) (index : CheckedExpression) (xs : List Access) →
       ExpressionPath index xs → ExpressionPath (t.element n index) (xs ++ read n ∷ [])
   sense : ExpressionPath t.sense []
   unary : (op : UnaryOperator) (a : CheckedExpression) (xs : List Access) → ExpressionPath a xs → ExpressionPath (t.unary op a) xs
-  binary : (op : BinaryOperator) (a b : CheckedExpression) (xs ys : List Access) →
+  binary : (op : PlacedOperator) (a b : CheckedExpression) (xs ys : List Access) →
       ExpressionPath a xs → ExpressionPath b ys → ExpressionPath (t.binary op a b) (xs ++ ys)
   shift : (op : ShiftOperator) (a : CheckedExpression) (count : Literal) (xs : List Access) →
       ExpressionPath a xs → ExpressionPath (t.shift op a count) xs

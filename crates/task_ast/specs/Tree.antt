@@ -3,22 +3,24 @@ use Rattle.std.specs.Prelude.{ℕ, List, [], ◌∷◌, Option, Some, None}
 use Rattle.alp_text.specs.declared.lines.Span.{Span}
 use Rattle.task_ast.specs.declared.WordType.{WordType}
 use Rattle.task_ast.specs.declared.UnaryOperator.{UnaryOperator}
-use Rattle.task_ast.specs.declared.BinaryOperator.{BinaryOperator}
+use Rattle.task_ast.specs.declared.PlacedOperator.{PlacedOperator}
 use Rattle.task_ast.specs.declared.ShiftOperator.{ShiftOperator}
 use Rattle.task_ast.specs.declared.ShortCircuitOperator.{ShortCircuitOperator}
 use Rattle.task_ast.specs.declared.Literal.{Literal}
 use Rattle.task_ast.specs.declared.SharedDeclaration.{SharedDeclaration}
 
--- Expressions as in C over names of variables V, with words for numbers and no brackets left.
+-- Expressions as in C over names of variables V, with no brackets left.
 pub data Expression (V : Type 0) : Type 0 where
+  -- a number of one word, and one of two words
   number : ℕ → Expression V
+  long_number : ℕ → Expression V
   name : V → Expression V
   -- an element of an array: its name and the index
   element : V → Expression V → Expression V
   -- the next reading
   sense : Expression V
   unary : UnaryOperator → Expression V → Expression V
-  binary : BinaryOperator → Expression V → Expression V → Expression V
+  binary : PlacedOperator → Expression V → Expression V → Expression V
   shift : ShiftOperator → Expression V → Literal → Expression V
   short_circuit : ShortCircuitOperator → Expression V → Expression V → Expression V
 

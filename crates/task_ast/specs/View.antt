@@ -2,10 +2,11 @@
 use Rattle.std.specs.Prelude.{List, map, Option, Some, None, Vec}
 use Rattle.std.specs.Global.{Global}
 use Rattle.std.specs.Option.{option_map}
-use Rattle.task_ast.specs.Tree.{Expression, number, name, element, sense, unary, binary, shift, short_circuit, Statement, declare, assign, store, choose}
+use Rattle.task_ast.specs.Tree.{Expression, number, long_number, name, element, sense, unary, binary, shift, short_circuit, Statement, declare, assign, store}
+use Rattle.task_ast.specs.Tree.{choose}
 use Rattle.task_ast.specs.Tree.{loop, emit, transition, Block, block_of, Choice, Tested, choice_of, Task, Program}
 use Rattle.task_ast.specs.declared.Expr.{Expr}
-use Rattle.task_ast.specs.declared.Expr.TheVariants.{Number, Name, Element', Sense, Unary', Binary', Shift', ShortCircuit'}
+use Rattle.task_ast.specs.declared.Expr.TheVariants.{Number, LongNumber, Name, Element', Sense, Unary', Binary', Shift', ShortCircuit'}
 use Rattle.task_ast.specs.declared.Stmt.{Stmt, fold-Stmt}
 use Rattle.task_ast.specs.declared.Arm.{Arm, fold-Arm}
 use Rattle.task_ast.specs.declared.Stmt.TheOpen.{Stmt-F, Arm-F}
@@ -15,6 +16,7 @@ use Rattle.task_ast.specs.declared.Source.{Source}
 -- an expression
 abbrev pub expression_of : {V : Type 0} → Expr V → Expression V
 expression_of (Number n) = number n
+expression_of (LongNumber n) = long_number n
 expression_of (Name s) = name s
 expression_of (Element' s p index) = element s (expression_of index)
 expression_of Sense = sense

@@ -3,15 +3,17 @@
 #![tactic(auto)]
 
 mod names;
+pub mod types;
 
 use alp_text::Span;
 pub use names::{CheckedSource, TaskName, Variable, VariableName};
 
-/// The type of a word: a 16-bit number without or with a sign.
+/// The type of a number: a word of 16 bits without or with a sign, or two words, that is, 32 bits without a sign.
 #[derive(Clone, Copy, Debug, PartialEq, Eq)]
 pub enum WordType {
     Unsigned,
     Int,
+    Long,
 }
 
 /// An operator in front of its operand: `-`, `~`, `!`.
@@ -41,6 +43,13 @@ pub enum BinaryOperator {
     Or,
 }
 
+/// An operator that evaluates both sides as it stands in the text, with its place.
+#[derive(Clone, Copy, Debug, PartialEq, Eq)]
+pub struct PlacedOperator {
+    pub operator: BinaryOperator,
+    pub span: Span,
+}
+
 /// The direction of a shift: `<<`, `>>`.
 #[derive(Clone, Copy)]
 pub enum ShiftOperator {
@@ -66,13 +75,15 @@ pub struct Literal {
 #[derive(Drop)]
 pub enum Expr<V> {
     Number(u16),
+    /// A number of two words.
+    LongNumber(u32),
     Name(V),
     /// An element of an array: its name and the index.
     Element(V, Box<Expr<V>>),
     /// The next reading.
     Sense,
     Unary(UnaryOperator, Box<Expr<V>>),
-    Binary(BinaryOperator, Box<Expr<V>>, Box<Expr<V>>),
+    Binary(PlacedOperator, Box<Expr<V>>, Box<Expr<V>>),
     /// A shift by a literal count.
     Shift(ShiftOperator, Box<Expr<V>>, Literal),
     ShortCircuit(ShortCircuitOperator, Box<Expr<V>>, Box<Expr<V>>),
@@ -115,6 +126,8 @@ pub struct Arm<V, T> {
 pub enum Extent {
     /// One word, and the word that it starts with: 0 where none is written.
     Scalar(u16),
+    /// Two words, the low one first, and the number that they start with: 0 where none is written.
+    Long(u32),
     /// An array of so many words, which start at 0.
     Array(u16),
 }

@@ -11,7 +11,7 @@ pub enum Variable {
     Local(u32),
 }
 
-/// A name that stands for a variable: where it stands in the text, which variable it is, and the type of its words.
+/// A name that stands for a variable: where it stands in the text, which variable it is, and its type, of an array that of its elements.
 #[derive(Clone, Copy, Debug, PartialEq, Eq)]
 pub struct VariableName {
     pub span: Span,

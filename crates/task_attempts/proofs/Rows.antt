@@ -1,5 +1,6 @@
 -- Rows of words: statements keep how many there are, and rows of the declared lengths are a state's.
-use Rattle.std.proofs.Common.{◌≡◌, ℕ, zero, suc, ◌+◌, ◌-◌, ◌<◌, List, [], ◌∷◌, ◌++◌, length, Option, Some, None, Bool, true, false, get_or, refl, sym, ◌∙◌}
+use Rattle.std.proofs.Common.{◌≡◌, ℕ, zero, suc, ◌+◌, ◌-◌, ◌/◌, ◌%◌, ◌<◌, List, [], ◌∷◌, ◌++◌, length, Option, Some, None, Bool, true, false, get_or, refl}
+use Rattle.std.proofs.Common.{sym, ◌∙◌}
 use Rattle.std.proofs.Common.{arith, eq-eqb, if◌then◌else◌}
 use Rattle.std.specs.Prelude.{◌&&◌, ◌==◌, nat_lt, slice_get}
 use Rattle.std.proofs.Math.ListN.{length-set}
@@ -10,11 +11,14 @@ use Rattle.layout_facts.specs.task_ast.Paths.{CheckedStatement, CheckedChoice, C
 use Rattle.layout_facts.specs.task_ast.declared.Extent.{Extent}
 use Rattle.layout_facts.specs.task_ast.declared.Extent.TheVariants as extent
 use Rattle.layout_facts.specs.task_ast.declared.SharedDeclaration.{SharedDeclaration}
+use Rattle.layout_facts.specs.task_ast.declared.WordType.{WordType}
+use Rattle.layout_facts.specs.task_ast.declared.WordType.TheVariants.{Unsigned, Int, Long}
+use Rattle.layout_facts.specs.task_ast.declared.names.VariableName.{VariableName}
 use Rattle.layout_facts.specs.task_ast.declared.names.Variable.{Variable}
 use Rattle.layout_facts.specs.task_ast.declared.names.Variable.TheVariants.{Shared, Local}
-use Rattle.layout_facts.specs.source_values.Values.{value_of, holds}
-use Rattle.layout_facts.specs.source_values.Statements.{Attempt, Outcome, goes_on, to_task, short, and_then, if_value, assigned, turns, run_statement}
-use Rattle.layout_facts.specs.source_values.Statements.{run_choice, run_block}
+use Rattle.layout_facts.specs.source_values.Values.{by_width, type_of, converted, value_of, holds}
+use Rattle.layout_facts.specs.source_values.Statements.{Attempt, Outcome, goes_on, to_task, short, and_then, if_value, assigned, assigned_to, assigned_value}
+use Rattle.layout_facts.specs.source_values.Statements.{word_of, turns, run_statement, run_choice, run_block}
 use Rattle.layout_facts.specs.source_values.Runs.{initial_words}
 use Rattle.layout_facts.specs.memory_map.declared.place.VariablePlace.{VariablePlace}
 use Rattle.layout_facts.specs.memory_map.declared.place.VariablePlace.TheVariants.{Scalar, Array}
@@ -47,6 +51,15 @@ rows_assigned : (m : Attempt) (x : Variable) (i w n : ℕ) → length m.variable
 rows_assigned m (Shared v) i w n h = length-set m.variables.shared v _ ∙ h
 rows_assigned m (Local k) i w n h = h
 
+rows_assigned_to : (m : Attempt) (x : VariableName) (w n : ℕ) → length m.variables.shared ≡ n → length (assigned_to m x w).variables.shared ≡ n
+rows_assigned_to m x w n h = by x.word_type
+  where
+    by : (of : WordType)
+        → length (by_width of (assigned m x.variable 0 w) (assigned (assigned m x.variable 0 (w % 65536)) x.variable 1 (w / 65536))).variables.shared ≡ n
+    by Long = rows_assigned (assigned m x.variable 0 (w % 65536)) x.variable 1 (w / 65536) n (rows_assigned m x.variable 0 (w % 65536) n h)
+    by Int = rows_assigned m x.variable 0 w n h
+    by Unsigned = rows_assigned m x.variable 0 w n h
+
 rows_turns : (n : ℕ) (x : Variable) (run : Attempt → Outcome) → ((m : Attempt) → length m.variables.shared ≡ n → HasRows n (run m))
     → (j k : ℕ) (m : Attempt) → length m.variables.shared ≡ n → HasRows n (turns j k x run m)
 rows_turns n x run f zero k m h = rows_assigned m x 0 k n h
@@ -57,20 +70,21 @@ mutual
   statement_rows : (s : CheckedStatement) (m : Attempt) (n : ℕ) → length m.variables.shared ≡ n → HasRows n (run_statement s m)
   statement_rows (t.declare of x None) m n h = h
   statement_rows (t.declare of x (Some e)) m n h =
-      rows_value n (value_of e m.variables m.left) m (λ w s. goes_on (assigned s x.variable 0 w))
-      (λ v left. rows_assigned (record m { left = left }) x.variable 0 v n h)
+      rows_value n (value_of e m.variables m.left) m (λ w s. goes_on (assigned_value s x e w))
+      (λ v left. rows_assigned_to (record m { left = left }) x (converted (type_of e) x.word_type v) n h)
   statement_rows (t.assign x e) m n h =
-      rows_value n (value_of e m.variables m.left) m (λ w s. goes_on (assigned s x.variable 0 w))
-      (λ v left. rows_assigned (record m { left = left }) x.variable 0 v n h)
+      rows_value n (value_of e m.variables m.left) m (λ w s. goes_on (assigned_value s x e w))
+      (λ v left. rows_assigned_to (record m { left = left }) x (converted (type_of e) x.word_type v) n h)
   statement_rows (t.store x index e) m n h =
-      rows_value n (value_of index m.variables m.left) m (λ i s. if_value (value_of e s.variables s.left) s (λ w s. goes_on (assigned s x.variable i w)))
-      (λ i left. rows_value n (value_of e m.variables left) (record m { left = left }) (λ w s. goes_on (assigned s x.variable i w))
-      (λ v more. rows_assigned (record m { left = more }) x.variable i v n h))
+      rows_value n (value_of index m.variables m.left) m
+      (λ i s. if_value (value_of e s.variables s.left) s (λ w s. goes_on (assigned s x.variable i (word_of e w))))
+      (λ i left. rows_value n (value_of e m.variables left) (record m { left = left }) (λ w s. goes_on (assigned s x.variable i (word_of e w)))
+      (λ v more. rows_assigned (record m { left = more }) x.variable i (word_of e v) n h))
   statement_rows (t.choose choice) m n h = choice_rows choice m n h
   statement_rows (t.loop x from tested below stepped body) m n h = rows_turns n x.variable (run_block body) (λ u g. block_rows body u n g)
       (below - from) from m h
   statement_rows (t.emit e) m n h =
-      rows_value n (value_of e m.variables m.left) m (λ w s. goes_on (record s { emitted = s.emitted ++ w ∷ [] })) (λ v left. h)
+      rows_value n (value_of e m.variables m.left) m (λ w s. goes_on (record s { emitted = s.emitted ++ word_of e w ∷ [] })) (λ v left. h)
   statement_rows (t.transition task) m n h = h
 
   choice_rows : (c : CheckedChoice) (m : Attempt) (n : ℕ) → length m.variables.shared ≡ n → HasRows n (run_choice c m)
@@ -115,6 +129,7 @@ rows_count (d ∷ ds) (row ∷ rows) h =
 -- a place of the declared kind has the declared length
 pub declared_length : (written : Bool) (e : Extent) (place : VariablePlace) → IsPlaceOf written e place → place_length place ≡ length (initial_words e)
 declared_length written (extent.Scalar w) (Scalar home copy) h = refl
+declared_length written (extent.Long n) place h = absurd h
 declared_length written (extent.Array n) (Array elements len copies) h = h.0 ∙ sym (length-replicate n 0)
 declared_length written (extent.Scalar w) (Array elements len copies) h = absurd h
 declared_length written (extent.Array n) (Scalar home copy) h = absurd h

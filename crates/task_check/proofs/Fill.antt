@@ -25,6 +25,7 @@ name_from s (v ∷ vs) ts go = go (record { span = s; variable = v.variable; wor
 
 abbrev fill_expression : Expression Span → List TypedVariable → List ℕ → Filled (Expression VariableName)
 fill_expression (t.number n) vs ts = record { part = t.number n; vs = vs; ts = ts }
+fill_expression (t.long_number n) vs ts = record { part = t.long_number n; vs = vs; ts = ts }
 fill_expression (t.name s) vs ts = name_from s vs ts (λ v vs ts. record { part = t.name v; vs = vs; ts = ts })
 fill_expression (t.element s index) vs ts = name_from s vs ts (λ v vs ts. let r = fill_expression index vs ts in
     record { part = t.element v r.part; vs = r.vs; ts = r.ts })
@@ -39,6 +40,7 @@ fill_expression (t.short_circuit op a b) vs ts = let r = fill_expression a vs ts
 filled_expression : (e : Expression VariableName) (vs : List TypedVariable) (ts : List ℕ)
     → fill_expression (expression_back e) (expression_variables e vs) ts ≡ record { part = e; vs = vs; ts = ts }
 filled_expression (t.number n) vs ts = refl
+filled_expression (t.long_number n) vs ts = refl
 filled_expression (t.name v) vs ts = refl
 filled_expression (t.element v index) vs ts = ap (λ r. record { part = t.element v r.part; vs = r.vs; ts = r.ts }) (filled_expression index vs ts)
 filled_expression t.sense vs ts = refl

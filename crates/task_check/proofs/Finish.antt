@@ -18,7 +18,7 @@ use Rattle.task_check.specs.Faults.{first_fault, name_fault, use_fault, limit_fa
 use Rattle.task_check.specs.Walks.{IsWalked}
 use Rattle.task_check.specs.Answers.{IsLookedUp, IsNamed, IsAccepted, IsCleanOnPaths, IsRefusedOnPaths, on_paths, at_limits, IsRefusedOrMemory, limits_fault}
 
-module _ (source : List ℕ) (tree : Program Span Span) (names : List Occurrence) (w : Walk) (same : names ≡ program_names tree)
+module _ (source : List ℕ) (tree : Program Span Span) (names : List Occurrence) (w : Walk) (same : names ≡ program_names source tree)
     (walked : IsWalked source names names w) where
   named_is : (checked : Program VariableName TaskName) → w.wrong_use ≡ None → program_back checked ≡ tree
       → task_variables checked.tasks [] ≡ w.variables.items → task_targets checked.tasks (checked.entry.task ∷ []) ≡ w.targets.items

@@ -38,7 +38,7 @@ one_shared_le role.Scalar = omega arith
 one_shared_le role.Element = omega arith
 one_shared_le role.Counter = omega arith
 one_shared_le role.Target = omega arith
-one_shared_le (role.Count n) = omega arith
+one_shared_le (role.Operand refused kept) = omega arith
 
 one_task_le : (r : Role) → one_task r ≤ 1
 one_task_le (role.Shared of e) = omega arith
@@ -48,7 +48,7 @@ one_task_le role.Scalar = omega arith
 one_task_le role.Element = omega arith
 one_task_le role.Counter = omega arith
 one_task_le role.Target = omega arith
-one_task_le (role.Count n) = omega arith
+one_task_le (role.Operand refused kept) = omega arith
 
 locals_after_le : (n : ℕ) (r : Role) → locals_after n r ≤ n + 1
 locals_after_le n (role.Shared of e) = omega arith
@@ -58,7 +58,7 @@ locals_after_le n role.Scalar = omega arith
 locals_after_le n role.Element = omega arith
 locals_after_le n role.Counter = omega arith
 locals_after_le n role.Target = omega arith
-locals_after_le n (role.Count m) = omega arith
+locals_after_le n (role.Operand refused kept) = omega arith
 
 shared_in_le : (xs : List Occurrence) → shared_in xs ≤ length xs
 shared_in_le [] = omega arith

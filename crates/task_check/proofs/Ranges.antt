@@ -74,7 +74,7 @@ one_of source o role.Scalar front few h = tt
 one_of source o role.Element front few h = tt
 one_of source o role.Counter front few h = tt
 one_of source o role.Target front few h = tt
-one_of source o (role.Count n) front few h = tt
+one_of source o (role.Operand refused kept) front few h = tt
 
 -- one more
 few_more : (o : Occurrence) (r : Role) (front : List Occurrence) → r ≡ o.role → AreFew front → IsOneOf r front → AreFew (o ∷ front)
@@ -92,7 +92,7 @@ few_more o r front is few one =
     bounds role.Element one = let a = few.shared in let b = few.tasks in let c = few.locals in (omega arith, omega arith, omega arith)
     bounds role.Counter one = let a = few.shared in let b = few.tasks in let c = few.locals in (omega arith, omega arith, omega arith)
     bounds role.Target one = let a = few.shared in let b = few.tasks in let c = few.locals in (omega arith, omega arith, omega arith)
-    bounds (role.Count n) one = let a = few.shared in let b = few.tasks in let c = few.locals in (omega arith, omega arith, omega arith)
+    bounds (role.Operand refused kept) one = let a = few.shared in let b = few.tasks in let c = few.locals in (omega arith, omega arith, omega arith)
 
 module _ (source : List ℕ) where
   one_here : (o : Occurrence) (front : List Occurrence) → AreFew front → limit_fault source o front ≡ None → IsOneOf o.role front
@@ -149,11 +149,12 @@ local_here role.Scalar front one = tt
 local_here role.Element front one = tt
 local_here role.Counter front one = tt
 local_here role.Target front one = tt
-local_here (role.Count n) front one = tt
+local_here (role.Operand refused kept) front one = tt
 
 global_here : (shared tasks n : ℕ) (r : Role) (front : List Occurrence) → shared_in front + one_shared r ≤ shared → tasks_in front + one_task r ≤ tasks
     → IfGlobal shared tasks (global_with r n (shared_in front) (tasks_in front))
 global_here shared tasks n (role.Shared of (extent.Scalar x)) front h k = omega arith
+global_here shared tasks n (role.Shared of (extent.Long x)) front h k = omega arith
 global_here shared tasks n (role.Shared of (extent.Array x)) front h k = omega arith
 global_here shared tasks n role.Task front h k = omega arith
 global_here shared tasks n (role.Local of b e) front h k = tt
@@ -161,7 +162,7 @@ global_here shared tasks n role.Scalar front h k = tt
 global_here shared tasks n role.Element front h k = tt
 global_here shared tasks n role.Counter front h k = tt
 global_here shared tasks n role.Target front h k = tt
-global_here shared tasks n (role.Count m) front h k = tt
+global_here shared tasks n (role.Operand refused kept) front h k = tt
 
 meaning_in : (shared tasks n : ℕ) (l : Option Local) (g : Option Global) → IfLocal l → IfGlobal shared tasks g → IfInRange shared tasks (meaning n l g)
 meaning_in shared tasks n None None h k = tt
@@ -185,7 +186,7 @@ symbol_in shared tasks role.Scalar front found one h = h
 symbol_in shared tasks role.Element front found one h = h
 symbol_in shared tasks role.Counter front found one h = h
 symbol_in shared tasks role.Target front found one h = h
-symbol_in shared tasks (role.Count n) front found one h = tt
+symbol_in shared tasks (role.Operand refused kept) front found one h = tt
 
 -- whether a variable's number is in range
 abbrev is_fine : ℕ → TypedVariable → Bool
@@ -211,8 +212,8 @@ variables_fine shared tasks role.Element None h = refl
 variables_fine shared tasks role.Element (Some s) h = variable_fine shared tasks s h
 variables_fine shared tasks role.Counter None h = refl
 variables_fine shared tasks role.Counter (Some s) h = variable_fine shared tasks s h
-variables_fine shared tasks (role.Count n) None h = refl
-variables_fine shared tasks (role.Count n) (Some s) h = variable_fine shared tasks s h
+variables_fine shared tasks (role.Operand refused kept) None h = refl
+variables_fine shared tasks (role.Operand refused kept) (Some s) h = variable_fine shared tasks s h
 
 target_fine : (shared tasks : ℕ) (s : Symbol) → IsInRange shared tasks s → list_all (λ n. nat_lt n tasks) (target_of s) ≡ true
 target_fine shared tasks (symbol.Scalar n of) h = refl
@@ -229,7 +230,7 @@ targets_fine shared tasks (role.Local of b e) s h = refl
 targets_fine shared tasks role.Scalar s h = refl
 targets_fine shared tasks role.Element s h = refl
 targets_fine shared tasks role.Counter s h = refl
-targets_fine shared tasks (role.Count n) s h = refl
+targets_fine shared tasks (role.Operand refused kept) s h = refl
 
 all_both : {A : Type 0} (test : A → Bool) (xs ys : List A) → list_all test xs ≡ true → list_all test ys ≡ true → list_all test (xs ++ ys) ≡ true
 all_both test xs ys h k = list_all-append test xs ys ∙ (ap (λ b. b && list_all test ys) h ∙ k)
@@ -281,30 +282,30 @@ module _ (source : List ℕ) where
 
 module _ (source : List ℕ) (tree : Program Span Span) (checked : Program VariableName TaskName) (is : IsLookedUp source tree checked)
     (fine : limits_fault source tree ≡ None) where
-  shared_is : shared_in (program_names tree) ≡ length checked.shared
-  shared_is = shared_of_program tree ∙ ap (λ p. length p.shared) (sym is.places)
+  shared_is : shared_in (program_names source tree) ≡ length checked.shared
+  shared_is = shared_of_program source tree ∙ ap (λ p. length p.shared) (sym is.places)
 
-  tasks_are : tasks_in (program_names tree) ≡ length checked.tasks
-  tasks_are = tasks_of_program tree ∙ (ap (λ p. length p.tasks) (sym is.places) ∙ length-map checked.tasks task_back)
+  tasks_are : tasks_in (program_names source tree) ≡ length checked.tasks
+  tasks_are = tasks_of_program source tree ∙ (ap (λ p. length p.tasks) (sym is.places) ∙ length-map checked.tasks task_back)
 
   -- there are at most 256 shared variables
   pub few_shared : length checked.shared ≤ 256
-  few_shared = let h = are_few source (program_names tree) fine in let k = h.shared in omega (arith, shared_is)
+  few_shared = let h = are_few source (program_names source tree) fine in let k = h.shared in omega (arith, shared_is)
 
   -- there are at most 64 tasks
   pub few_tasks : length checked.tasks ≤ 64
-  few_tasks = let h = are_few source (program_names tree) fine in let k = h.tasks in omega (arith, tasks_are)
+  few_tasks = let h = are_few source (program_names source tree) fine in let k = h.tasks in omega (arith, tasks_are)
 
   variables_numbered : list_all (λ v. is_numbered (length checked.shared) v.variable) (task_variables checked.tasks []) ≡ true
   variables_numbered = ap (list_all (λ v. is_numbered (length checked.shared) v.variable)) is.variables
-      ∙ subst (λ n. list_all (λ v. is_numbered n v.variable) (variables_in source (program_names tree) (program_names tree)) ≡ true) shared_is
-      (variables_in_range source (program_names tree) (program_names tree) fine)
+      ∙ subst (λ n. list_all (λ v. is_numbered n v.variable) (variables_in source (program_names source tree) (program_names source tree)) ≡ true) shared_is
+      (variables_in_range source (program_names source tree) (program_names source tree) fine)
 
   -- each transition names one of the tasks
   pub targets_numbered : list_all (λ n. nat_lt n (length checked.tasks)) (task_targets checked.tasks (checked.entry.task ∷ [])) ≡ true
   targets_numbered = ap (list_all (λ n. nat_lt n (length checked.tasks))) is.targets
-      ∙ subst (λ m. list_all (λ n. nat_lt n m) (targets_in source (program_names tree) (program_names tree)) ≡ true) tasks_are
-      (targets_in_range source (program_names tree) (program_names tree) fine)
+      ∙ subst (λ m. list_all (λ n. nat_lt n m) (targets_in source (program_names source tree) (program_names source tree)) ≡ true) tasks_are
+      (targets_in_range source (program_names source tree) (program_names source tree) fine)
 
   pub numbered : are_numbered checked ≡ true
   numbered = ap (λ b. b && list_all (λ n. nat_lt n (length checked.tasks)) (task_targets checked.tasks (checked.entry.task ∷ []))) variables_numbered
@@ -341,7 +342,7 @@ variable_found source o role.Target locals found h k = refl
 variable_found source o (role.Shared of e) locals found h k = refl
 variable_found source o role.Task locals found h k = refl
 variable_found source o (role.Local of b e) locals found h k = refl
-variable_found source o (role.Count n) locals found h k = refl
+variable_found source o (role.Operand refused kept) locals found h k = refl
 variable_found source o role.Scalar locals None h k = absurd (cc)
 variable_found source o role.Scalar locals (Some (symbol.Scalar n of)) h k = refl
 variable_found source o role.Scalar locals (Some (symbol.Array n of)) h k = refl
@@ -372,7 +373,7 @@ target_found source o (role.Local of b e) locals found h k = refl
 target_found source o role.Scalar locals found h k = refl
 target_found source o role.Element locals found h k = refl
 target_found source o role.Counter locals found h k = refl
-target_found source o (role.Count n) locals found h k = refl
+target_found source o (role.Operand refused kept) locals found h k = refl
 
 module _ (source : List ℕ) (all : List Occurrence) where
   known_here : (o : Occurrence) (front : List Occurrence) → name_fault source all o front ≡ None → is_unknown o.role (symbol_at source all o front) ≡ false
@@ -409,14 +410,15 @@ module _ (source : List ℕ) (all : List Occurrence) where
       let f = target_here o front a.1 b.1 in
       omega (arith, length-append (targets_in source all front) (target_by o.role (symbol_at source all o front)))
 
-module _ (source : List ℕ) (tree : Program Span Span) (names : List Occurrence) (w : Walk) (same : names ≡ program_names tree)
+module _ (source : List ℕ) (tree : Program Span Span) (names : List Occurrence) (w : Walk) (same : names ≡ program_names source tree)
     (walked : IsWalked source names names w) (fine : w.wrong_use ≡ None) where
   no_use : first_fault (use_fault source names) names ≡ None
   no_use = sym walked.wrong_use ∙ fine
 
   pub all_variables : length w.variables.items ≡ tasks_count tree.tasks
   all_variables = ap length walked.variables
-      ∙ (variables_counted source names names walked.names no_use ∙ (ap (count one_variable) same ∙ variables_of_program tree))
+      ∙ (variables_counted source names names walked.names no_use ∙ (ap (count one_variable) same ∙ variables_of_program source tree))
 
   pub all_targets : length w.targets.items ≡ tasks_transitions tree.tasks + 1
-  all_targets = ap length walked.targets ∙ (targets_counted source names names walked.names no_use ∙ (ap (count one_target) same ∙ targets_of_program tree))
+  all_targets =
+      ap length walked.targets ∙ (targets_counted source names names walked.names no_use ∙ (ap (count one_target) same ∙ targets_of_program source tree))

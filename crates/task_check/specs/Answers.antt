@@ -17,21 +17,21 @@ use Rattle.task_check.specs.Faults.{first_fault, name_fault, use_fault, limit_fa
 
 -- the first repeated or unknown name
 abbrev pub names_fault : List ℕ → Program Span Span → Option CheckFault
-names_fault source tree = first_fault (name_fault source (program_names tree)) (program_names tree)
+names_fault source tree = first_fault (name_fault source (program_names source tree)) (program_names source tree)
 
 -- the first wrong use or empty array
 abbrev pub uses_fault : List ℕ → Program Span Span → Option CheckFault
-uses_fault source tree = first_fault (use_fault source (program_names tree)) (program_names tree)
+uses_fault source tree = first_fault (use_fault source (program_names source tree)) (program_names source tree)
 
 -- the first name too many
 abbrev pub limits_fault : List ℕ → Program Span Span → Option CheckFault
-limits_fault source tree = first_fault (limit_fault source) (program_names tree)
+limits_fault source tree = first_fault (limit_fault source) (program_names source tree)
 
 -- The source with its names looked up: with their places put back it is the tree, and the names stand, in the text's order, for what the text says of them.
 pub record IsLookedUp (source : List ℕ) (tree : Program Span Span) (checked : Program VariableName TaskName) : Type 0 where
   pub places : program_back checked ≡ tree
-  pub variables : task_variables checked.tasks [] ≡ variables_in source (program_names tree) (program_names tree)
-  pub targets : task_targets checked.tasks (checked.entry.task ∷ []) ≡ targets_in source (program_names tree) (program_names tree)
+  pub variables : task_variables checked.tasks [] ≡ variables_in source (program_names source tree) (program_names source tree)
+  pub targets : task_targets checked.tasks (checked.entry.task ∷ []) ≡ targets_in source (program_names source tree) (program_names source tree)
 
 -- The names are known and used as what they are, and these are the source's names looked up.
 pub record IsNamed (source : List ℕ) (tree : Program Span Span) (checked : Program VariableName TaskName) : Type 0 where

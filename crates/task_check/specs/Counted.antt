@@ -7,6 +7,7 @@ use Rattle.task_ast.specs.Tree as t
 -- the names of variables in an expression
 abbrev pub expression_count : Expression Span → ℕ
 expression_count (t.number n) = 0
+expression_count (t.long_number n) = 0
 expression_count (t.name s) = 1
 expression_count (t.element s index) = 1 + expression_count index
 expression_count t.sense = 0

@@ -1,5 +1,5 @@
 -- What each check finds wrong at a name, and the first that it finds.
-use Rattle.std.specs.Prelude.{ℕ, Bool, true, false, ◌==◌, ◌||◌, nat_lt, List, [], ◌∷◌, length, Option, Some, None, is_some}
+use Rattle.std.specs.Prelude.{ℕ, Bool, true, false, ◌==◌, ◌||◌, List, [], ◌∷◌, length, Option, Some, None, is_some}
 use Rattle.std.specs.Option.{option_or, is_none}
 use Rattle.task_ast.specs.declared.Extent.TheVariants as extent
 use Rattle.task_lex.specs.Faults.{line_of}
@@ -85,13 +85,13 @@ is_no_task _ = true
 
 -- A task or an array stands where a word is read or assigned, or in a `for`; something else than an array where an element is; something else than a task
 -- behind a transition or as the entry.
--- A word is shifted by more than 15. An array has no words.
+-- The types of operands forbid what stands there. An array has no words.
 abbrev pub use_fault_by : List ℕ → Occurrence → Role → Option Symbol → Option CheckFault
 use_fault_by source o role.Scalar s = fault_if (is_no_word s) (fault.WrongUse (line_at source o) (kept.Name o.span))
 use_fault_by source o role.Element s = fault_if (is_no_array s) (fault.WrongUse (line_at source o) (kept.Name o.span))
 use_fault_by source o role.Counter s = fault_if (is_no_word s) (fault.WrongUse (line_at source o) (kept.Name o.span))
 use_fault_by source o role.Target s = fault_if (is_no_task s) (fault.WrongUse (line_at source o) (kept.Name o.span))
-use_fault_by source o (role.Count n) s = fault_if (nat_lt 15 n) (fault.WrongUse (line_at source o) (kept.Number n))
+use_fault_by source o (role.Operand refused kept) s = fault_if refused (fault.WrongUse (line_at source o) kept)
 use_fault_by source o (role.Shared of (extent.Array words)) s = fault_if (words == 0) (fault.BadLength (line_at source o) o.span)
 use_fault_by source o _ s = None
 

@@ -1,3 +1,4 @@
+pub mod SharedTypes
 pub mod Occurrences
 pub mod Scope
 pub mod LookedUp
@@ -5,6 +6,7 @@ pub mod Faults
 pub mod Answers
 pub mod Limits
 pub mod Tables
+pub mod Typed
 pub mod Parts
 pub mod Counted
 pub mod Walks

@@ -20,6 +20,7 @@ use Rattle.task_check.specs.Scope.{text_of, locals_in, global_in, local_in, mean
 -- in an expression
 abbrev pub expression_back : Expression VariableName → Expression Span
 expression_back (t.number n) = t.number n
+expression_back (t.long_number n) = t.long_number n
 expression_back (t.name v) = t.name v.span
 expression_back (t.element v index) = t.element v.span (expression_back index)
 expression_back t.sense = t.sense
@@ -67,6 +68,7 @@ typed v = record { variable = v.variable; word_type = v.word_type }
 -- those of an expression
 abbrev pub expression_variables : Expression VariableName → List TypedVariable → List TypedVariable
 expression_variables (t.number n) more = more
+expression_variables (t.long_number n) more = more
 expression_variables (t.name v) more = typed v ∷ more
 expression_variables (t.element v index) more = typed v ∷ expression_variables index more
 expression_variables t.sense more = more

@@ -54,6 +54,7 @@ locals_in (o ∷ front) = locals_after (locals_in front) o.role
 -- a shared variable by its extent
 abbrev pub shared_symbol : ℕ → WordType → Extent → Symbol
 shared_symbol n of (extent.Scalar first) = symbol.Scalar n of
+shared_symbol n of (extent.Long first) = symbol.Scalar n of
 shared_symbol n of (extent.Array words) = symbol.Array n of
 
 -- the shared variable or the task that is declared by this role, with so many names, shared variables and tasks in front

@@ -51,6 +51,7 @@ fn expression<'a>(
 {
     match e {
         Expr::Number(n) => Ok((Expr::Number(*n), names)),
+        Expr::LongNumber(n) => Ok((Expr::LongNumber(*n), names)),
         Expr::Name(name) => {
             let (name, rest) = variable(*name, names)?;
             Ok((Expr::Name(name), rest))

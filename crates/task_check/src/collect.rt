@@ -6,12 +6,18 @@ ghost use Rattle.task_ast.specs.Tree.{Block, choice_of};
 ghost use Rattle.std.specs.Option.{option_map};
 ghost use Rattle.task_ast.specs.View.{expression_of, statement_of, tested_of, task_of, block_view, last_view, program_of};
 ghost use Rattle.task_check.specs.declared.occurrence.Occurrence.{Occurrence};
+ghost use Rattle.task_check.specs.Typed.{HasSharedTypes, types_of};
 ghost use Rattle.task_check.specs.Occurrences as spec;
 
+use crate::fault::Kept;
 use crate::occurrence::{Occurrence, Role};
+use crate::types::{SharedTypes, expression_type, shared_types};
 use alp_text::Span;
 use std::alloc::{AllocError, Global};
-use task_ast::{Arm, Expr, SharedDeclaration, Stmt, TaskDeclaration, Tree};
+use task_ast::types::{is_long, joined_type};
+use task_ast::{
+    Arm, BinaryOperator, Expr, SharedDeclaration, Stmt, TaskDeclaration, Tree, WordType,
+};
 
 fn add(names: &mut Vec<Occurrence>, span: Span, role: Role) -> Result<(), AllocError>
     ensures { IfOk result (λ _. names.new.items ≡ spec.and_front names.old.items span role) }
@@ -20,33 +26,118 @@ fn add(names: &mut Vec<Occurrence>, span: Span, role: Role) -> Result<(), AllocE
     Ok(())
 }
 
-fn expression_names(e: &Expr<Span>, names: &mut Vec<Occurrence>) -> Result<(), AllocError>
-    ensures { IfOk result (λ _. names.new.items ≡ spec.expression_names (expression_of e.now) names.old.items) }
+fn is_refused(op: BinaryOperator, operands: WordType) -> bool
+    ensures { result ≡ spec.is_refused op operands }
+{
+    match op {
+        BinaryOperator::Multiply | BinaryOperator::Divide | BinaryOperator::Remainder => {
+            is_long(operands)
+        }
+        BinaryOperator::Add
+        | BinaryOperator::Subtract
+        | BinaryOperator::Less
+        | BinaryOperator::LessEqual
+        | BinaryOperator::Greater
+        | BinaryOperator::GreaterEqual
+        | BinaryOperator::Equal
+        | BinaryOperator::NotEqual
+        | BinaryOperator::And
+        | BinaryOperator::Xor
+        | BinaryOperator::Or => false,
+    }
+}
+
+// An operator between operands of a joined type.
+fn operator_role(op: BinaryOperator, operands: WordType) -> Role
+    ensures { result ≡ spec.operator_role op operands }
+{
+    Role::Operand {
+        refused: is_refused(op, operands),
+        kept: Kept::Nothing,
+    }
+}
+
+fn most_count(word_type: WordType) -> u16
+    ensures { result ≡ spec.most_count word_type }
+{
+    match word_type {
+        WordType::Long => 31,
+        WordType::Int | WordType::Unsigned => 15,
+    }
+}
+
+// The count of a shift of a type.
+fn count_role(count: u16, word_type: WordType) -> Role
+    ensures { result ≡ spec.count_role count word_type }
+{
+    Role::Operand {
+        refused: most_count(word_type) < count,
+        kept: Kept::Number(count),
+    }
+}
+
+// An array's name with its index, behind which stand the names so far.
+fn add_element(
+    types: &SharedTypes<'_>,
+    name: Span,
+    index: &Expr<Span>,
+    names: &mut Vec<Occurrence>,
+) -> Result<(), AllocError>
+    requires { HasSharedTypes types.now }
+    ensures { IfOk result (λ _. names.new.items ≡ spec.element_front (types_of types.now) name (expression_of index.now) names.old.items) }
+{
+    let role = Role::Operand {
+        refused: is_long(expression_type(types, index)),
+        kept: Kept::Name(name),
+    };
+    add(names, name, role)?;
+    add(names, name, Role::Element)
+}
+
+fn expression_names(
+    types: &SharedTypes<'_>,
+    e: &Expr<Span>,
+    names: &mut Vec<Occurrence>,
+) -> Result<(), AllocError>
+    requires { HasSharedTypes types.now }
+    ensures { IfOk result (λ _. names.new.items ≡ spec.expression_names (types_of types.now) (expression_of e.now) names.old.items) }
 {
     match e {
-        Expr::Number(_) | Expr::Sense => Ok(()),
+        Expr::Number(_) | Expr::LongNumber(_) | Expr::Sense => Ok(()),
         Expr::Name(name) => add(names, *name, Role::Scalar),
         Expr::Element(name, index) => {
-            expression_names(index, names)?;
-            add(names, *name, Role::Element)
+            expression_names(types, index, names)?;
+            add_element(types, *name, index, names)
         }
-        Expr::Unary(_, inner) => expression_names(inner, names),
-        Expr::Binary(_, left, right) | Expr::ShortCircuit(_, left, right) => {
-            expression_names(right, names)?;
-            expression_names(left, names)
+        Expr::Unary(_, inner) => expression_names(types, inner, names),
+        Expr::Binary(op, left, right) => {
+            let operands = joined_type(expression_type(types, left), expression_type(types, right));
+            expression_names(types, right, names)?;
+            add(names, op.span, operator_role(op.operator, operands))?;
+            expression_names(types, left, names)
+        }
+        Expr::ShortCircuit(_, left, right) => {
+            expression_names(types, right, names)?;
+            expression_names(types, left, names)
         }
         Expr::Shift(_, left, count) => {
-            add(names, count.span, Role::Count(count.value))?;
-            expression_names(left, names)
+            let role = count_role(count.value, expression_type(types, left));
+            add(names, count.span, role)?;
+            expression_names(types, left, names)
         }
     }
 }
 
-fn value_names(value: &Option<Expr<Span>>, names: &mut Vec<Occurrence>) -> Result<(), AllocError>
-    ensures { IfOk result (λ _. names.new.items ≡ spec.value_names (option_map expression_of value.now) names.old.items) }
+fn value_names(
+    types: &SharedTypes<'_>,
+    value: &Option<Expr<Span>>,
+    names: &mut Vec<Occurrence>,
+) -> Result<(), AllocError>
+    requires { HasSharedTypes types.now }
+    ensures { IfOk result (λ _. names.new.items ≡ spec.value_names (types_of types.now) (option_map expression_of value.now) names.old.items) }
 {
     match value {
-        Some(e) => expression_names(e, names),
+        Some(e) => expression_names(types, e, names),
         None => Ok(()),
     }
 }
@@ -54,16 +145,18 @@ fn value_names(value: &Option<Expr<Span>>, names: &mut Vec<Occurrence>) -> Resul
 // The names of a statement; `end` names stand behind the end of its block.
 #[cycle(names)]
 fn statement_names(
+    types: &SharedTypes<'_>,
     end: usize,
     s: &Stmt<Span, Span>,
     names: &mut Vec<Occurrence>,
 ) -> Result<(), AllocError>
-    ensures { IfOk result (λ _. names.new.items ≡ spec.statement_names end (statement_of s.now) names.old.items) }
+    requires { HasSharedTypes types.now }
+    ensures { IfOk result (λ _. names.new.items ≡ spec.statement_names (types_of types.now) end (statement_of s.now) names.old.items) }
 {
     match s {
         Stmt::Declare(word_type, name, value) => {
             let begin = names.len();
-            value_names(value, names)?;
+            value_names(types, value, names)?;
             let word_type = *word_type;
             add(
                 names,
@@ -76,18 +169,18 @@ fn statement_names(
             )
         }
         Stmt::Assign(name, e) => {
-            expression_names(e, names)?;
+            expression_names(types, e, names)?;
             add(names, *name, Role::Scalar)
         }
         Stmt::Store(name, index, e) => {
-            expression_names(e, names)?;
-            expression_names(index, names)?;
-            add(names, *name, Role::Element)
+            expression_names(types, e, names)?;
+            expression_names(types, index, names)?;
+            add_element(types, *name, index, names)
         }
-        Stmt::If(arms, None) => arms_names(arms, names),
+        Stmt::If(arms, None) => arms_names(types, arms, names),
         Stmt::If(arms, Some(last)) => {
-            block_names(last, names)?;
-            arms_names(arms, names)
+            block_names(types, last, names)?;
+            arms_names(types, arms, names)
         }
         Stmt::For {
             variable,
@@ -97,48 +190,61 @@ fn statement_names(
             stepped,
             body,
         } => {
-            block_names(body, names)?;
+            block_names(types, body, names)?;
             add(names, *stepped, Role::Counter)?;
             add(names, *tested, Role::Counter)?;
             add(names, *variable, Role::Counter)
         }
-        Stmt::Emit(e) => expression_names(e, names),
+        Stmt::Emit(e) => expression_names(types, e, names),
         Stmt::TransitionTo(name) => add(names, *name, Role::Target),
     }
 }
 
 // Behind the last block, if there is one.
 #[cycle(names)]
-fn arms_names(arms: &[Arm<Span, Span>], names: &mut Vec<Occurrence>) -> Result<(), AllocError>
-    ensures { IfOk result (λ _. (last : Option (Block Span Span)) (behind : List Occurrence) → names.old.items ≡ spec.choice_names (choice_of [] last) behind
-        → names.new.items ≡ spec.choice_names (choice_of (map tested_of arms.now) last) behind) }
+fn arms_names(
+    types: &SharedTypes<'_>,
+    arms: &[Arm<Span, Span>],
+    names: &mut Vec<Occurrence>,
+) -> Result<(), AllocError>
+    requires { HasSharedTypes types.now }
+    ensures { IfOk result (λ _. (last : Option (Block Span Span)) (behind : List Occurrence)
+        → names.old.items ≡ spec.choice_names (types_of types.now) (choice_of [] last) behind
+        → names.new.items ≡ spec.choice_names (types_of types.now) (choice_of (map tested_of arms.now) last) behind) }
 {
     for i in (0..arms.len()).rev() {
-        block_names(&arms[i].block, names)?;
-        expression_names(&arms[i].condition, names)?;
+        block_names(types, &arms[i].block, names)?;
+        expression_names(types, &arms[i].condition, names)?;
     }
     Ok(())
 }
 
 #[cycle(names)]
-fn block_names(body: &[Stmt<Span, Span>], names: &mut Vec<Occurrence>) -> Result<(), AllocError>
-    ensures { IfOk result (λ _. names.new.items ≡ spec.block_names (block_view body.now) names.old.items) }
+fn block_names(
+    types: &SharedTypes<'_>,
+    body: &[Stmt<Span, Span>],
+    names: &mut Vec<Occurrence>,
+) -> Result<(), AllocError>
+    requires { HasSharedTypes types.now }
+    ensures { IfOk result (λ _. names.new.items ≡ spec.block_names (types_of types.now) (block_view body.now) names.old.items) }
 {
     let end = names.len();
     for i in (0..body.len()).rev() {
-        statement_names(end, &body[i], names)?;
+        statement_names(types, end, &body[i], names)?;
     }
     Ok(())
 }
 
 fn task_names(
+    types: &SharedTypes<'_>,
     tasks: &[TaskDeclaration<Span, Span>],
     names: &mut Vec<Occurrence>,
 ) -> Result<(), AllocError>
-    ensures { IfOk result (λ _. names.new.items ≡ spec.task_names (map task_of tasks.now) names.old.items) }
+    requires { HasSharedTypes types.now }
+    ensures { IfOk result (λ _. names.new.items ≡ spec.task_names (types_of types.now) (map task_of tasks.now) names.old.items) }
 {
     for i in (0..tasks.len()).rev() {
-        block_names(&tasks[i].body, names)?;
+        block_names(types, &tasks[i].body, names)?;
         add(names, tasks[i].name, Role::Task)?;
     }
     Ok(())
@@ -160,12 +266,17 @@ fn shared_names(shared: &[SharedDeclaration], names: &mut Vec<Occurrence>) -> Re
 
 /// The names of a whole source. Fails where memory does.
 #[tactic(auto, unfolding(crate::specs::Occurrences::program_names))]
-pub fn program_names(alloc: Global, tree: &Tree) -> Result<Vec<Occurrence>, AllocError>
-    ensures { IfOk result (λ names. names.items ≡ spec.program_names (program_of tree.now)) }
+pub fn program_names(
+    alloc: Global,
+    source: &[u8],
+    tree: &Tree,
+) -> Result<Vec<Occurrence>, AllocError>
+    ensures { IfOk result (λ names. names.items ≡ spec.program_names source.now (program_of tree.now)) }
 {
+    let types = shared_types(alloc, source, &tree.shared)?;
     let mut names = Vec::new(alloc);
     add(&mut names, tree.entry, Role::Target)?;
-    task_names(&tree.tasks, &mut names)?;
+    task_names(&types, &tree.tasks, &mut names)?;
     shared_names(&tree.shared, &mut names)?;
     Ok(names)
 }

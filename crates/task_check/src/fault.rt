@@ -4,11 +4,12 @@ use alp_text::Span;
 use std::alloc::{AllocError, AllocFailed};
 use thiserror::Error;
 
-/// What a wrong use keeps: the name, or the count of a shift where that is at fault.
+/// What a wrong use keeps: the name; the count of a shift where that is at fault; of an operator that takes no long nothing.
 #[derive(Clone, Copy, Debug)]
 pub enum Kept {
     Name(Span),
     Number(u16),
+    Nothing,
 }
 
 /// The first fault of the first check that finds one, with its line from 1, in the order of the checks; or want of memory.
@@ -20,7 +21,8 @@ pub enum CheckFault {
     /// A name that is not known where it is used.
     #[error("line {line}: a name that is not known here")]
     UnknownName { line: u32, name: Span },
-    /// A task as a variable, an array without an index, a scalar with one, a variable as a task, or a shift count above 15.
+    /// A task as a variable, an array without an index, a scalar with one, a variable as a task, a long index, a long side of `*`, `/` or `%`, or a shift
+    /// count above 31 where the left side is long, else above 15.
     #[error("line {line}: a name that is not used as what it was declared")]
     WrongUse { line: u32, kept: Kept },
     /// An array of no words.

@@ -17,7 +17,7 @@ fn shared_symbol(number: u32, word_type: WordType, extent: Extent) -> Symbol
     ensures { result ≡ scope.shared_symbol number word_type extent }
 {
     match extent {
-        Extent::Scalar(_) => Symbol::Scalar { number, word_type },
+        Extent::Scalar(_) | Extent::Long(_) => Symbol::Scalar { number, word_type },
         Extent::Array(_) => Symbol::Array { number, word_type },
     }
 }
@@ -104,7 +104,7 @@ pub fn symbol_by(role: Role, locals: u32, found: Option<Symbol>) -> Option<Symbo
             word_type,
         }),
         Role::Scalar | Role::Element | Role::Counter | Role::Target => found,
-        Role::Shared(_, _) | Role::Task | Role::Count(_) => None,
+        Role::Shared(_, _) | Role::Task | Role::Operand { .. } => None,
     }
 }
 
@@ -208,7 +208,7 @@ fn bad_length_if(source: &[u8], o: Occurrence, test: bool) -> Option<CheckFault>
     }
 }
 
-// A name that is used as what it is not, a shift by more than 15, or an array of no words.
+// A name that is used as what it is not, what its operands forbid, or an array of no words.
 fn use_fault(source: &[u8], o: Occurrence, symbol: Option<Symbol>) -> Option<CheckFault>
     requires { length source.now < 2 ^ 32 - 1 }
     ensures { result ≡ faults.use_fault_by source.now o o.role symbol }
@@ -218,9 +218,10 @@ fn use_fault(source: &[u8], o: Occurrence, symbol: Option<Symbol>) -> Option<Che
         Role::Scalar | Role::Counter => wrong_use_if(source, o, is_no_word(symbol), kept),
         Role::Element => wrong_use_if(source, o, is_no_array(symbol), kept),
         Role::Target => wrong_use_if(source, o, is_no_task(symbol), kept),
-        Role::Count(n) => wrong_use_if(source, o, 15 < n, Kept::Number(n)),
+        Role::Operand { refused, kept } => wrong_use_if(source, o, refused, kept),
         Role::Shared(_, Extent::Array(words)) => bad_length_if(source, o, words == 0),
-        Role::Shared(_, Extent::Scalar(_)) | Role::Task | Role::Local { .. } => None,
+        Role::Shared(_, Extent::Scalar(_) | Extent::Long(_)) | Role::Task | Role::Local { .. } =>
+            None,
     }
 }
 

@@ -12,6 +12,7 @@ mod passes;
 mod symbol;
 mod table;
 mod text;
+mod types;
 mod walk;
 
 pub use checked::Checked;

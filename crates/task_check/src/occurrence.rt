@@ -1,9 +1,10 @@
 //! The names of a source, each where it stands.
 
+use crate::fault::Kept;
 use alp_text::Span;
 use task_ast::{Extent, WordType};
 
-/// What a name does where it stands. Declarations come first, then uses; the count of a shift stands among them, since it can be at fault too.
+/// What a name does where it stands. Declarations come first, then uses; among them stands what else can be used wrongly.
 #[derive(Clone, Copy)]
 pub enum Role {
     /// It is declared as a shared variable.
@@ -25,11 +26,15 @@ pub enum Role {
     Counter,
     /// It is the task of a transition or of the entry.
     Target,
-    /// No name, but the count of a shift.
-    Count(u16),
+    /// No name, but a part of an expression that the types of its operands may forbid, as the count of a shift: whether they do,
+    /// and what the fault keeps.
+    Operand {
+        refused: bool,
+        kept: Kept,
+    },
 }
 
-/// A name or the count of a shift: its place in the text, and what it does there.
+/// A name, or what else can be used wrongly: its place in the text, and what it does there.
 #[derive(Clone, Copy)]
 pub struct Occurrence {
     pub span: Span,

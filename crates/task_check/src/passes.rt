@@ -100,7 +100,7 @@ fn check_named(
     walk: Walk,
 ) -> Result<Checked, CheckFault>
     requires short { length source.now < 2 ^ 32 - 1 }
-    requires names { names.now ≡ occurrences.program_names (program_of tree) }
+    requires names { names.now ≡ occurrences.program_names source.now (program_of tree) }
     requires walked { IsWalked source.now names.now names.now walk }
     ensures answer { MatchResult result (λ c. IsAccepted source.now (program_of tree) (program_of c.source))
         (λ e. IsRefusedOrMemory source.now (program_of tree) e) }
@@ -127,12 +127,12 @@ fn check_names(
     names: &[Occurrence],
 ) -> Result<Checked, CheckFault>
     requires short { length source.now < 2 ^ 32 - 1 }
-    requires names { names.now ≡ occurrences.program_names (program_of tree) }
+    requires names { names.now ≡ occurrences.program_names source.now (program_of tree) }
     ensures answer { MatchResult result (λ c. IsAccepted source.now (program_of tree) (program_of c.source))
         (λ e. IsRefusedOrMemory source.now (program_of tree) e) }
     ensures lines { IfOk result (λ c. c.task_lines.items ≡ map (λ t. line_of source.now t.name.from) c.source.tasks.items) }
 {
-    // The names of a parsed text are pieces of it, so there are fewer than it has bytes. But any tree may come here, and nothing
+    // The names and operators of a parsed text are pieces of it, so there are no more than it has bytes. But any tree may come here, and nothing
     // bounds how many names it has: their numbers, which are `u32`, would not do for as many.
     if names.len() >= u32::MAX as usize {
         return Err(CheckFault::Memory);
@@ -149,6 +149,6 @@ pub fn check(alloc: Global, source: &[u8], tree: Tree) -> Result<Checked, CheckF
         (λ e. IsRefusedOrMemory source.now (program_of tree) e) }
     ensures lines { IfOk result (λ c. c.task_lines.items ≡ map (λ t. line_of source.now t.name.from) c.source.tasks.items) }
 {
-    let names = program_names(alloc, &tree)?;
+    let names = program_names(alloc, source, &tree)?;
     check_names(alloc, source, tree, &names)
 }

@@ -3,14 +3,14 @@ use Rattle.std.proofs.Common.{◌≡◌, ℕ, zero, suc, ◌+◌, ◌-◌, ◌�
 use Rattle.std.proofs.Common.{subst, arith, Option, Some, None}
 use Rattle.task_lex.specs.declared.token.Token.{Token}
 use Rattle.task_lex.specs.declared.token.Kind.{Kind}
-use Rattle.task_lex.specs.declared.token.Kind.TheVariants as k
 use Rattle.task_lex.specs.declared.piece.Piece.{Piece}
 use Rattle.task_lex.specs.declared.piece.Piece.TheVariants as piece
+use Rattle.task_lex.specs.declared.piece.Numeral.{Numeral}
 use Rattle.task_lex.specs.declared.step.Place.{Place}
 use Rattle.task_lex.specs.declared.step.Step.{Step}
 use Rattle.task_lex.specs.declared.step.Step.TheVariants.{Skip, Take, Fails}
 use Rattle.task_lex.specs.declared.fault.Flaw.TheVariants as flaw
-use Rattle.task_lex.specs.Pieces.{piece_of, number, word_kind}
+use Rattle.task_lex.specs.Pieces.{piece_of, numeral, word_kind}
 use Rattle.task_lex.specs.Lex.{Lexed, tokens, fault, with_front, after, step, step_by, counted, numbered, is_opening, is_closing, is_end, depth_after}
 use Rattle.task_lex.specs.Lex.{width_after, lex_within, lex_from, lexed}
 use Rattle.task_lex.specs.Spans.{IsBounded}
@@ -31,13 +31,13 @@ Counts p (Skip q) = (q.depth ≡ p.depth) × (q.width ≡ p.width)
 Counts p (Take t q) = (q.depth ≡ depth_after t.kind p.depth) × (q.width ≡ width_after t.kind p.width) × (q.depth ≤ 64) × (q.width ≤ 256)
 Counts p (Fails f) = Unit {0}
 
-counted_counts : (p : Place) (n : ℕ) (kind : Kind) (value : ℕ) → p.depth ≤ 64 → p.width ≤ 256 → Counts p (counted p n kind value)
+counted_counts : (p : Place) (n : ℕ) (kind : Kind) (value high : ℕ) → p.depth ≤ 64 → p.width ≤ 256 → Counts p (counted p n kind value high)
 unfolding counted
-counted_counts p n kind value depth width = go (is_opening kind && p.depth == 64) (not (is_end kind) && p.width == 256) refl refl
+counted_counts p n kind value high depth width = go (is_opening kind && p.depth == 64) (not (is_end kind) && p.width == 256) refl refl
   where
     go : (a b : Bool) → (is_opening kind && p.depth == 64) ≡ a → (not (is_end kind) && p.width == 256) ≡ b
         → Counts p (cond a (Fails flaw.TooDeep) (cond b (Fails flaw.TooWide)
-        (Take (record { kind = kind; span = record { from = p.at; to = p.at + n }; value = value })
+        (Take (record { kind = kind; span = record { from = p.at; to = p.at + n }; value = value; high = high })
         (record { at = p.at + n; depth = depth_after kind (p.depth); width = width_after kind (p.width) }))))
     go true b e f = tt
     go false true e f = tt
@@ -47,15 +47,15 @@ counts_by : (text : List ℕ) (p : Place) (found : Piece) (n : ℕ) → p.depth 
 counts_by text p piece.Blank n depth width = (refl, refl)
 counts_by text p piece.Word n depth width = go (nat_lt 31 n)
   where
-    go : (b : Bool) → Counts p (cond b (Fails flaw.BadName) (counted p n (word_kind (take n text)) 0))
+    go : (b : Bool) → Counts p (cond b (Fails flaw.BadName) (counted p n (word_kind (take n text)) 0 0))
     go true = tt
-    go false = counted_counts p n (word_kind (take n text)) 0 depth width
-counts_by text p piece.Numeral n depth width = go (number (take n text))
+    go false = counted_counts p n (word_kind (take n text)) 0 0 depth width
+counts_by text p piece.Numeral n depth width = go (numeral (take n text))
   where
-    go : (o : Option ℕ) → Counts p (numbered p n o)
+    go : (o : Option Numeral) → Counts p (numbered p n o)
     go None = tt
-    go (Some value) = counted_counts p n k.Number value depth width
-counts_by text p (piece.Mark kind) n depth width = counted_counts p n kind 0 depth width
+    go (Some x) = counted_counts p n x.kind x.value x.high depth width
+counts_by text p (piece.Mark kind) n depth width = counted_counts p n kind 0 0 depth width
 counts_by text p piece.Bad n depth width = tt
 
 counts : (source : List ℕ) (p : Place) → p.depth ≤ 64 → p.width ≤ 256 → Counts p (step source p)

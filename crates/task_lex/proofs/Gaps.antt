@@ -6,14 +6,14 @@ use Rattle.std.proofs.lemmas.List.{take-append-drop, drop-drop, drop_all}
 use Rattle.std.proofs.Math.Seq.{take-add}
 use Rattle.task_lex.specs.declared.token.Token.{Token}
 use Rattle.task_lex.specs.declared.token.Kind.{Kind}
-use Rattle.task_lex.specs.declared.token.Kind.TheVariants as k
 use Rattle.task_lex.specs.declared.piece.Piece.{Piece}
 use Rattle.task_lex.specs.declared.piece.Piece.TheVariants as piece
+use Rattle.task_lex.specs.declared.piece.Numeral.{Numeral}
 use Rattle.task_lex.specs.declared.step.Place.{Place}
 use Rattle.task_lex.specs.declared.step.Step.{Step}
 use Rattle.task_lex.specs.declared.step.Step.TheVariants.{Skip, Take, Fails}
 use Rattle.task_lex.specs.declared.fault.Flaw.TheVariants as flaw
-use Rattle.task_lex.specs.Pieces.{word_kind, number, piece_of}
+use Rattle.task_lex.specs.Pieces.{word_kind, numeral, piece_of}
 use Rattle.task_lex.specs.Lexemes.{IsLexeme, StandsInFront}
 use Rattle.task_lex.specs.Lex.{Lexed, tokens, fault, with_front, after, step, step_by, counted, numbered, is_opening, is_end, depth_after, width_after}
 use Rattle.task_lex.specs.Lex.{lex_within, lex_from, lexed}
@@ -28,12 +28,12 @@ module _ (source : List ℕ) where
   Skips p (Skip q) = (n : ℕ) × (q.at ≡ p.at + n) × IsLexeme piece.Blank (take n (drop p.at source))
   Skips p _ = Unit {0}
 
-  counted_skips : (p : Place) (n : ℕ) (kind : Kind) (value : ℕ) → Skips p (counted p n kind value)
+  counted_skips : (p : Place) (n : ℕ) (kind : Kind) (value high : ℕ) → Skips p (counted p n kind value high)
   unfolding counted
-  counted_skips p n kind value = go (is_opening kind && p.depth == 64) (not (is_end kind) && p.width == 256)
+  counted_skips p n kind value high = go (is_opening kind && p.depth == 64) (not (is_end kind) && p.width == 256)
     where
       go : (a b : Bool) → Skips p (cond a (Fails flaw.TooDeep)
-          (cond b (Fails flaw.TooWide) (Take (record { kind = kind; span = record { from = p.at; to = p.at + n }; value = value })
+          (cond b (Fails flaw.TooWide) (Take (record { kind = kind; span = record { from = p.at; to = p.at + n }; value = value; high = high })
           (record { at = p.at + n; depth = depth_after kind (p.depth); width = width_after kind (p.width) }))))
       go true b = tt
       go false true = tt
@@ -43,15 +43,15 @@ module _ (source : List ℕ) where
   skips_by p piece.Blank n stands = (n, refl, stands)
   skips_by p piece.Word n stands = go (nat_lt 31 n)
     where
-      go : (b : Bool) → Skips p (cond b (Fails flaw.BadName) (counted p n (word_kind (take n (drop p.at source))) 0))
+      go : (b : Bool) → Skips p (cond b (Fails flaw.BadName) (counted p n (word_kind (take n (drop p.at source))) 0 0))
       go true = tt
-      go false = counted_skips p n _ 0
-  skips_by p piece.Numeral n stands = go (number (take n (drop p.at source)))
+      go false = counted_skips p n _ 0 0
+  skips_by p piece.Numeral n stands = go (numeral (take n (drop p.at source)))
     where
-      go : (o : Option ℕ) → Skips p (numbered p n o)
+      go : (o : Option Numeral) → Skips p (numbered p n o)
       go None = tt
-      go (Some value) = counted_skips p n k.Number value
-  skips_by p (piece.Mark kind) n stands = counted_skips p n kind 0
+      go (Some x) = counted_skips p n x.kind x.value x.high
+  skips_by p (piece.Mark kind) n stands = counted_skips p n kind 0 0
   skips_by p piece.Bad n stands = tt
 
   skips : (p : Place) → p.at < length source → Skips p (step source p)

@@ -4,24 +4,24 @@ use Rattle.task_lex.specs.declared.token.Token.{Token}
 use Rattle.task_lex.specs.declared.token.Kind.{Kind}
 use Rattle.task_lex.specs.declared.token.Kind.TheVariants as k
 use Rattle.task_lex.specs.declared.piece.Piece.TheVariants as piece
-use Rattle.task_lex.specs.Pieces.{Text, spelling, spelled, keywords, number}
+use Rattle.task_lex.specs.declared.piece.Numeral.{Numeral}
+use Rattle.task_lex.specs.Pieces.{Text, spelling, spelled, keywords, numeral}
 use Rattle.task_lex.specs.Lexemes.{IsLexeme}
 
--- The bytes spell a token of this kind and value: a keyword or a mark as it is spelled, a word that is no keyword, or a
+-- The bytes spell a token of this kind, value and high word: a keyword or a mark as it is spelled, a word that is no keyword, or a
 -- numeral with what it is worth. Only numbers have a value.
-pub data Spells : Text → Kind → ℕ → Type 0 where
+pub data Spells : Text → Kind → ℕ → ℕ → Type 0 where
   -- a keyword or a mark
-  fixed : (kind : Kind) → 0 < length (spelling kind) → Spells (spelling kind) kind 0
+  fixed : (kind : Kind) → 0 < length (spelling kind) → Spells (spelling kind) kind 0 0
   -- a name
   name : (word : Text) → IsLexeme piece.Word word → length word ≤ 31 → spelled keywords word ≡ None
-      → Spells word k.Name 0
+      → Spells word k.Name 0 0
   -- a number
-  worth : (numeral : Text) (value : ℕ) → IsLexeme piece.Numeral numeral → number numeral ≡ Some value
-      → Spells numeral k.Number value
+  worth : (w : Text) (x : Numeral) → IsLexeme piece.Numeral w → numeral w ≡ Some x → Spells w x.kind x.value x.high
 
 -- the token is a slice of the source, which spells it
 abbrev pub IsSlice : Text → Token → Type 0
-IsSlice source t = Spells (slice_range source t.span.from t.span.to) t.kind t.value
+IsSlice source t = Spells (slice_range source t.span.from t.span.to) t.kind t.value t.high
 
 -- blanks and comments, one after another
 pub data IsGap : Text → Type 0 where

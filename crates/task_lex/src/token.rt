@@ -7,9 +7,12 @@ use alp_text::Span;
 pub enum Kind {
     Name,
     Number,
+    /// A number with the suffix `UL`.
+    LongNumber,
     Shared,
     Unsigned,
     Int,
+    Long,
     Task,
     Entry,
     If,
@@ -54,6 +57,8 @@ pub enum Kind {
 pub struct Token {
     pub kind: Kind,
     pub span: Span,
-    /// What a number is worth; 0 where the token is none.
+    /// What a number is worth, of a long number the low word; 0 where the token is none.
     pub value: u16,
+    /// The high word of a long number; 0 where the token is none.
+    pub high: u16,
 }

@@ -10,11 +10,13 @@ use Rattle.task_parse.specs.declared.operators.Infix.{Infix}
 use Rattle.task_parse.specs.declared.operators.Infix.TheVariants.{Binary, Shift, ShortCircuit}
 use Rattle.task_parse.specs.Parsed.{Expression}
 use Rattle.task_ast.specs.Tree as node
-use Rattle.task_parse.specs.Grammar.{prefix_of, infix_of, weakest, literal_of, IsExpression, number, name, element, sense, brackets, prefixed, tighter}
+use Rattle.task_parse.specs.Grammar.{prefix_of, infix_of, weakest, placed, long_worth, literal_of, IsExpression, number, long_number, name, element, sense}
+use Rattle.task_parse.specs.Grammar.{brackets, prefixed, tighter}
 use Rattle.task_parse.specs.Grammar.{joined, short_circuited, shifted}
 use Rattle.task_parse.specs.Expressions as reading
-use Rattle.task_parse.specs.Reading.{done, fault, Parser, ◌>>=◌, and_then, pure, kind_of, same_kind, token, chosen, meaning, again, over, turned}
-use Rattle.task_parse.specs.Expressions.{of_precedence, infix_at, joined_with, climb_turn, climb, up_to, element_by, named, bracketed, primary_by, primary}
+use Rattle.task_parse.specs.Reading.{done, fault, Parser, ◌>>=◌, and_then, pure, kind_of, place_of, same_kind, token, chosen, meaning, again, over, turned}
+use Rattle.task_parse.specs.Expressions.{of_precedence, infix_at, joined_with, climb_on, climb_turn, climb, up_to, element_by, named, bracketed, primary_by}
+use Rattle.task_parse.specs.Expressions.{primary}
 use Rattle.task_parse.specs.Expressions.{unary, expression}
 use Rattle.task_parse.proofs.ExpressionSame.{unary_is, climb_suc}
 
@@ -62,16 +64,16 @@ some_at j kind op h = let same : (j == j) ≡ true = grind arith in ap (of_prece
 climb_ends : (j : ℕ) (left : Expression) (rest : List Token) → suc j < reach (kind_of rest) → climb (up_to unary j) (suc j) left rest ≡ done left rest
 unfolding climb_turn
 climb_ends j left rest h =
-    climb_suc j left rest ∙ ap (λ o. and_then (chosen o (λ op. joined_with (up_to unary j) left op >>= λ whole. pure (again whole)) (pure (over left)) rest)
+    climb_suc j left rest ∙ ap (λ o. and_then (chosen o (climb_on (up_to unary j) left (place_of rest)) (pure (over left)) rest)
     (turned (climb (up_to unary j) (suc j)))) (none_past (suc j) (kind_of rest) h)
 
 climb_goes : (j : ℕ) (left whole : Expression) (t : Token) (op : Infix) (ts rest : List Token) → infix_of t.kind ≡ Some (suc j, op)
-    → joined_with (up_to unary j) left op ts ≡ done whole rest
+    → joined_with (up_to unary j) left t.span op ts ≡ done whole rest
     → climb (up_to unary j) (suc j) left (t ∷ ts) ≡ climb (up_to unary j) (suc j) whole rest
 unfolding climb_turn
 climb_goes j left whole t op ts rest is h =
     climb_suc j left (t ∷ ts)
-    ∙ ap (λ o. and_then (chosen o (λ op. joined_with (up_to unary j) left op >>= λ whole. pure (again whole)) (pure (over left)) (t ∷ ts))
+    ∙ ap (λ o. and_then (chosen o (climb_on (up_to unary j) left t.span) (pure (over left)) (t ∷ ts))
     (turned (climb (up_to unary j) (suc j)))) (some_at (suc j) t.kind op is)
     ∙ ap (λ o. and_then (and_then o (λ whole. pure (again whole))) (turned (climb (up_to unary j) (suc j)))) h
 
@@ -84,6 +86,11 @@ module _ (x p : Parser Expression) where
   reads_number : (t : Token) (rest : List Token) → t.kind ≡ k.Number → reading.prefixed x p (t ∷ rest) ≡ done (node.number t.value) rest
   unfolding reading.number
   reads_number t rest is = primary_is k.Number (t ∷ rest) (ap Some is) refl ∙ takes k.Number t rest _ is
+
+  reads_long_number : (t : Token) (rest : List Token) → t.kind ≡ k.LongNumber
+      → reading.prefixed x p (t ∷ rest) ≡ done (node.long_number (long_worth t)) rest
+  unfolding reading.long_number
+  reads_long_number t rest is = primary_is k.LongNumber (t ∷ rest) (ap Some is) refl ∙ takes k.LongNumber t rest _ is
 
   name_ends : (t : Token) (kind : Option Kind) (ts : List Token) → 0 < reach kind → element_by x t kind ts ≡ done (node.name t.span) ts
   name_ends t (Some k.OpenSquare) ts h = absurd (omega arith)
@@ -140,7 +147,8 @@ unfolding up_to
 reads_tighter j used tree r rest h = ap (λ o. and_then o (climb (up_to unary j) (suc j))) (ends j used tree r rest (omega arith))
 
 reads_joined : (j : ℕ) (t : Token) (op : Infix) (xs ys : List Token) (a whole : Expression) → Reads (suc j) xs a → infix_of t.kind ≡ Some (suc j, op)
-    → ((rest : List Token) → j < reach (kind_of rest) → joined_with (up_to unary j) a op (ys ++ rest) ≡ done whole rest) → Reads (suc j) (xs ++ t ∷ ys) whole
+    → ((rest : List Token) → j < reach (kind_of rest) → joined_with (up_to unary j) a t.span op (ys ++ rest) ≡ done whole rest)
+    → Reads (suc j) (xs ++ t ∷ ys) whole
 reads_joined j t op xs ys a whole left is right rest h =
     ap (up_to unary (suc j)) (append_assoc xs (t ∷ ys) rest) ∙ left (t ∷ ys ++ rest) (let e = reach-infix t.kind (suc j, op) is in omega arith)
     ∙ climb_goes j a whole t op (ys ++ rest) rest is (right rest (omega arith))
@@ -155,6 +163,7 @@ inside ts tree c kind r is far rest = ends weakest ts tree r (c ∷ rest) (closi
 
 pub reads : {j : ℕ} {used : List Token} {tree : Expression} → IsExpression j used tree → Reads j used tree
 reads (number t is) = λ rest end. unary_is (t ∷ rest) ∙ reads_number expression unary t rest is
+reads (long_number t is) = λ rest end. unary_is (t ∷ rest) ∙ reads_long_number expression unary t rest is
 reads (name t is) = λ rest end. unary_is (t ∷ rest) ∙ reads_name expression unary t rest is end
 reads (element t o c ts index is is_o r is_c) = λ rest end. ap (λ x. unary (t ∷ o ∷ x)) (append_assoc ts (c ∷ []) rest) ∙ unary_is (t ∷ o ∷ ts ++ c ∷ rest)
     ∙ reads_element expression unary t o c (ts ++ c ∷ rest) rest index is is_o (inside ts index c k.CloseSquare (reads r) is_c refl rest) is_c
@@ -163,8 +172,8 @@ reads (brackets o c ts inner is_o r is_c) = λ rest end. ap (λ x. unary (o ∷ 
     ∙ reads_brackets expression unary o c (ts ++ c ∷ rest) rest inner is_o (inside ts inner c k.Close (reads r) is_c refl rest) is_c
 reads (prefixed t op ts inner is r) = λ rest end. unary_is (t ∷ ts ++ rest) ∙ reads_prefixed expression unary t op (ts ++ rest) rest inner is (reads r rest end)
 reads (tighter j ts inner r) = reads_tighter j ts inner (reads r)
-reads (joined j t op xs ys a b left is right) = reads_joined j t (Binary op) xs ys a (node.binary op a b) (reads left) is
-    (λ rest end. ap (λ o. and_then o (λ right. pure (node.binary op a right))) (ends j ys b (reads right) rest end))
+reads (joined j t op xs ys a b left is right) = reads_joined j t (Binary op) xs ys a (node.binary (placed op t.span) a b) (reads left) is
+    (λ rest end. ap (λ o. and_then o (λ right. pure (node.binary (placed op t.span) a right))) (ends j ys b (reads right) rest end))
 reads (short_circuited j t op xs ys a b left is right) =
     reads_joined j t (ShortCircuit op) xs ys a (node.short_circuit op a b) (reads left) is
     (λ rest end. ap (λ o. and_then o (λ right. pure (node.short_circuit op a right))) (ends j ys b (reads right) rest end))

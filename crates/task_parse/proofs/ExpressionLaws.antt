@@ -8,17 +8,19 @@ use Rattle.task_parse.specs.declared.operators.Infix.{Infix}
 use Rattle.task_parse.specs.declared.operators.Infix.TheVariants.{Binary, Shift, ShortCircuit}
 use Rattle.task_parse.specs.Parsed.{Expression}
 use Rattle.task_ast.specs.Tree as node
-use Rattle.task_parse.specs.Grammar.{prefix_of, infix_of, weakest, literal_of, IsExpression, number, name, element, sense, brackets, prefixed, tighter}
+use Rattle.task_parse.specs.Grammar.{prefix_of, infix_of, weakest, placed, long_worth, literal_of, IsExpression, number, long_number, name, element, sense}
+use Rattle.task_parse.specs.Grammar.{brackets, prefixed, tighter}
 use Rattle.task_parse.specs.Grammar.{joined, short_circuited, shifted}
 use Rattle.task_parse.specs.Expressions as reading
 use Rattle.task_parse.specs.Reading.{Parser, pure, again, over}
-use Rattle.task_parse.specs.Expressions.{of_precedence, infix_at, joined_with, climb_turn, climb, up_to, element_by, named, bracketed, primary_by, primary}
+use Rattle.task_parse.specs.Expressions.{of_precedence, infix_at, joined_with, climb_on, climb_turn, climb, up_to, element_by, named, bracketed, primary_by}
+use Rattle.task_parse.specs.Expressions.{primary}
 use Rattle.task_parse.specs.Expressions.{unary_within}
-use Rattle.task_parse.proofs.ParserLaws.{Law, Sentence, law_pure, law_refuse, law_bind, law_by, law_accept, law_take, law_map, law_weaken}
+use Rattle.task_parse.proofs.ParserLaws.{Law, Sentence, law_pure, law_refuse, law_bind, law_by, law_accept, law_accept_at, law_take, law_map, law_weaken}
 use Rattle.task_parse.proofs.Turns.{Leads, Shrinks, law_shrinks, law_repeat}
 
 zero_token : Token
-zero_token = record { kind = k.Number; span = record { from = 0; to = 0 }; value = 0 }
+zero_token = record { kind = k.Number; span = record { from = 0; to = 0 }; value = 0; high = 0 }
 
 -- the sentence `0`
 pub some_expr : (j : ℕ) → Sentence (IsExpression j)
@@ -39,6 +41,11 @@ unfolding reading.number
 law_number = law_take k.Number (λ t. pure (node.number t.value)) (IsExpression 0)
     (λ t is. law_pure (node.number t.value) (λ ys a. IsExpression 0 (t ∷ ys) a) (number t is))
 
+pub law_long_number : Law reading.long_number (IsExpression 0)
+unfolding reading.long_number
+law_long_number = law_take k.LongNumber (λ t. pure (node.long_number (long_worth t))) (IsExpression 0)
+    (λ t is. law_pure (node.long_number (long_worth t)) (λ ys a. IsExpression 0 (t ∷ ys) a) (long_number t is))
+
 -- what may follow the left side
 abbrev pub GoesOn : ℕ → Expression → List Token → Expression → Type 0
 GoesOn j left ys whole = (xs : List Token) → IsExpression j xs left → IsExpression j (xs ++ ys) whole
@@ -48,8 +55,9 @@ goes_nowhere j left xs is = subst (λ x. IsExpression j x left) (sym (append-nil
 
 module _ (j : ℕ) (lower : Parser Expression) (law : Law lower (IsExpression j)) where
   law_joined_with : (t : Token) (op : Infix) (left : Expression) → infix_of t.kind ≡ Some (suc j, op)
-      → Law (joined_with lower left op) (λ ys whole. GoesOn (suc j) left (t ∷ ys) whole)
-  law_joined_with t (Binary op) left is = law_map lower (node.binary op left) (IsExpression j) (λ ys whole. GoesOn (suc j) left (t ∷ ys) whole) law
+      → Law (joined_with lower left t.span op) (λ ys whole. GoesOn (suc j) left (t ∷ ys) whole)
+  law_joined_with t (Binary op) left is = law_map lower (node.binary (placed op t.span) left) (IsExpression j)
+      (λ ys whole. GoesOn (suc j) left (t ∷ ys) whole) law
       (λ ys right is_right xs is_left. joined j t op xs ys left right is_left is is_right)
   law_joined_with t (ShortCircuit op) left is = law_map lower (node.short_circuit op left) (IsExpression j) (λ ys whole. GoesOn (suc j) left (t ∷ ys) whole) law
       (λ ys right is_right xs is_left. short_circuited j t op xs ys left right is_left is is_right)
@@ -66,8 +74,8 @@ module _ (j : ℕ) (lower : Parser Expression) (law : Law lower (IsExpression j)
 
   law_climb_turn : (left : Expression) → Law (climb_turn lower (suc j) left) (Leads (GoesOn (suc j)) left)
   unfolding climb_turn infix_at
-  law_climb_turn left = law_accept (infix_at (suc j)) _ (pure (over left)) (Leads (GoesOn (suc j)) left)
-      (λ t op is. law_map (joined_with lower left op) again (λ ys whole. GoesOn (suc j) left (t ∷ ys) whole)
+  law_climb_turn left = law_accept_at (infix_at (suc j)) (climb_on lower left) (pure (over left)) (Leads (GoesOn (suc j)) left)
+      (λ t op is. law_map (joined_with lower left t.span op) again (λ ys whole. GoesOn (suc j) left (t ∷ ys) whole)
       (λ ys turn. Leads (GoesOn (suc j)) left (t ∷ ys) turn)
       (law_joined_with t op left (of_precedence_some (suc j) (infix_of t.kind) op is)) (λ ys whole goes. turn_after t ys left whole goes))
       (law_pure (over left) (Leads (GoesOn (suc j)) left) (goes_nowhere (suc j) left))
@@ -109,6 +117,7 @@ module _ (p : Parser Expression) (law : Law p (IsExpression weakest)) where
 
   law_primary_by : (kind : Option Kind) → Law (primary_by p kind) (IsExpression 0)
   law_primary_by (Some k.Number) = law_number
+  law_primary_by (Some k.LongNumber) = law_long_number
   law_primary_by (Some k.Name) = law_named
   law_primary_by (Some k.Sense) = law_sense
   law_primary_by (Some k.Open) = law_bracketed

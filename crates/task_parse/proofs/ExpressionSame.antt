@@ -1,5 +1,6 @@
 -- More fuel changes no answer, so the parser without fuel keeps to its equation.
 use Rattle.std.proofs.Common.{◌≡◌, ℕ, zero, suc, ◌+◌, ◌-◌, ◌<◌, ◌≤◌, List, [], ◌∷◌, length, Option, Some, refl, ap, sym, ◌∙◌, subst, arith}
+use Rattle.alp_text.specs.declared.lines.Span.{Span}
 use Rattle.task_lex.specs.declared.token.Token.{Token}
 use Rattle.task_lex.specs.declared.token.Kind.{Kind}
 use Rattle.task_lex.specs.declared.token.Kind.TheVariants as k
@@ -7,26 +8,28 @@ use Rattle.task_parse.specs.Parsed.{Expression}
 use Rattle.task_ast.specs.Tree as node
 use Rattle.task_parse.specs.declared.operators.Infix.{Infix}
 use Rattle.task_parse.specs.declared.operators.Infix.TheVariants.{Binary, Shift, ShortCircuit}
-use Rattle.task_parse.specs.Grammar.{prefix_of, weakest, IsExpression}
+use Rattle.task_parse.specs.Grammar.{prefix_of, weakest, placed, IsExpression}
 use Rattle.task_parse.specs.Reading.{Parser, and_then, pure, kind_of, again, over, turned}
-use Rattle.task_parse.specs.Expressions.{infix_at, joined_with, climb_turn, climb, up_to, element_by, named, bracketed, primary_by, primary, prefixed}
+use Rattle.task_parse.specs.Expressions.{infix_at, joined_with, climb_on, climb_turn, climb, up_to, element_by, named, bracketed, primary_by, primary, prefixed}
 use Rattle.task_parse.specs.Expressions.{unary_within, unary, expression}
 use Rattle.task_parse.proofs.ParserLaws.{Law}
-use Rattle.task_parse.proofs.SameLaws.{Same, Shortens, law_shortens, same_bind, same_take, same_accept}
+use Rattle.task_parse.proofs.SameLaws.{Same, Shortens, law_shortens, same_bind, same_take, same_accept, same_accept_at}
 use Rattle.task_parse.proofs.Turns.{law_enough, same_repeat, repeat_is}
 use Rattle.task_parse.proofs.ExpressionLaws.{law_up_to, law_within, shrinks_climb}
 
-same_joined_with : (m : ℕ) (lower lower' : Parser Expression) → Same m lower lower' → (left : Expression) (op : Infix)
-    → Same m (joined_with lower left op) (joined_with lower' left op)
-same_joined_with m lower lower' same left (Binary op) ts fits = ap (λ o. and_then o (λ right. pure (node.binary op left right))) (same ts fits)
-same_joined_with m lower lower' same left (ShortCircuit op) ts fits = ap (λ o. and_then o (λ right. pure (node.short_circuit op left right))) (same ts fits)
-same_joined_with m lower lower' same left (Shift op) ts fits = refl
+same_joined_with : (m : ℕ) (lower lower' : Parser Expression) → Same m lower lower' → (left : Expression) (place : Span) (op : Infix)
+    → Same m (joined_with lower left place op) (joined_with lower' left place op)
+same_joined_with m lower lower' same left place (Binary op) ts fits =
+    ap (λ o. and_then o (λ right. pure (node.binary (placed op place) left right))) (same ts fits)
+same_joined_with m lower lower' same left place (ShortCircuit op) ts fits =
+    ap (λ o. and_then o (λ right. pure (node.short_circuit op left right))) (same ts fits)
+same_joined_with m lower lower' same left place (Shift op) ts fits = refl
 
 module _ (m j : ℕ) (lower lower' : Parser Expression) (same : Same m lower lower') (law : Law lower (IsExpression j)) where
   same_climb_turn : (left : Expression) → Same m (climb_turn lower (suc j) left) (climb_turn lower' (suc j) left)
   unfolding climb_turn infix_at
-  same_climb_turn left ts fits = same_accept m (infix_at (suc j)) _ _ (pure (over left)) (pure (over left))
-      (λ op rest le. ap (λ o. and_then o (λ whole. pure (again whole))) (same_joined_with m lower lower' same left op rest le)) (λ rest le. refl) ts
+  same_climb_turn left ts fits = same_accept_at m (infix_at (suc j)) (climb_on lower left) (climb_on lower' left) (pure (over left)) (pure (over left))
+      (λ place op rest le. ap (λ o. and_then o (λ whole. pure (again whole))) (same_joined_with m lower lower' same left place op rest le)) (λ rest le. refl) ts
       (omega arith)
 
   same_climb : (left : Expression) → Same m (climb lower (suc j) left) (climb lower' (suc j) left)

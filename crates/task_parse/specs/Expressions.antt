@@ -1,5 +1,6 @@
 -- Reading expressions.
 use Rattle.std.specs.Prelude.{ℕ, zero, suc, ◌==◌, if◌then◌else◌, length, Option, Some, None}
+use Rattle.alp_text.specs.declared.lines.Span.{Span}
 use Rattle.task_lex.specs.declared.token.Token.{Token}
 use Rattle.task_lex.specs.declared.token.Kind.{Kind}
 use Rattle.task_lex.specs.declared.token.Kind.TheVariants as k
@@ -7,8 +8,8 @@ use Rattle.task_parse.specs.Parsed.{Expression}
 use Rattle.task_ast.specs.Tree as node
 use Rattle.task_parse.specs.declared.operators.Infix.{Infix}
 use Rattle.task_parse.specs.declared.operators.Infix.TheVariants.{Binary, Shift, ShortCircuit}
-use Rattle.task_parse.specs.Grammar.{prefix_of, infix_of, weakest, literal_of}
-use Rattle.task_parse.specs.Reading.{Parser, ◌>>=◌, pure, refuse, token, by, accept, Turn, again, over, repeat}
+use Rattle.task_parse.specs.Grammar.{prefix_of, infix_of, weakest, placed, long_worth, literal_of}
+use Rattle.task_parse.specs.Reading.{Parser, ◌>>=◌, pure, refuse, token, by, accept, accept_at, Turn, again, over, repeat}
 
 -- the operator, if it has the precedence
 abbrev pub of_precedence : ℕ → Option (ℕ × Infix) → Option Infix
@@ -20,15 +21,18 @@ unfoldable pub infix_at : ℕ → Kind → Option Infix
 infix_at j kind = of_precedence j (infix_of kind)
 
 -- the right side of an operator, a number for a shift, put together with the left one
-abbrev pub joined_with : Parser Expression → Expression → Infix → Parser Expression
-joined_with tighter left (Binary op) = tighter >>= λ right. pure (node.binary op left right)
-joined_with tighter left (ShortCircuit op) = tighter >>= λ right. pure (node.short_circuit op left right)
-joined_with tighter left (Shift op) = token k.Number >>= λ n. pure (node.shift op left (literal_of n))
+abbrev pub joined_with : Parser Expression → Expression → Span → Infix → Parser Expression
+joined_with tighter left place (Binary op) = tighter >>= λ right. pure (node.binary (placed op place) left right)
+joined_with tighter left place (ShortCircuit op) = tighter >>= λ right. pure (node.short_circuit op left right)
+joined_with tighter left place (Shift op) = token k.Number >>= λ n. pure (node.shift op left (literal_of n))
+
+-- both sides are the left one of what goes on
+abbrev pub climb_on : Parser Expression → Expression → Span → Infix → Parser (Turn Expression Expression)
+climb_on tighter left place op = joined_with tighter left place op >>= λ whole. pure (again whole)
 
 -- goes on from the left side, with an operator of the precedence
 unfoldable pub climb_turn : Parser Expression → ℕ → Expression → Parser (Turn Expression Expression)
-climb_turn tighter j left =
-    accept (infix_at j) (λ op. joined_with tighter left op >>= λ whole. pure (again whole)) (pure (over left))
+climb_turn tighter j left = accept_at (infix_at j) (climb_on tighter left) (pure (over left))
 
 -- goes on with such operators, as long as they come: to the left
 abbrev pub climb : Parser Expression → ℕ → Expression → Parser Expression
@@ -37,6 +41,10 @@ climb tighter j = repeat (climb_turn tighter j)
 -- a number
 unfoldable pub number : Parser Expression
 number = token k.Number >>= λ t. pure (node.number t.value)
+
+-- a long number
+unfoldable pub long_number : Parser Expression
+long_number = token k.LongNumber >>= λ t. pure (node.long_number (long_worth t))
 
 -- `sense()`
 unfoldable pub sense : Parser Expression
@@ -65,6 +73,7 @@ module _ (expression : Parser Expression) where
   -- by the next token
   abbrev pub primary_by : Option Kind → Parser Expression
   primary_by (Some k.Number) = number
+  primary_by (Some k.LongNumber) = long_number
   primary_by (Some k.Name) = named
   primary_by (Some k.Sense) = sense
   primary_by (Some k.Open) = bracketed

@@ -1,7 +1,8 @@
 -- Which tokens spell which program: the grammar of the language, by cases. Expressions are C's, with C's precedences
 -- (ISO C, 6.5), but that a shift has a literal count; tasks and `transition_to` are those of Alpaca (Maeng, Colin,
 -- Lucia: OOPSLA 2017).
-use Rattle.std.specs.Prelude.{◌≡◌, ℕ, suc, ◌-◌, ◌%◌, List, [], ◌∷◌, ◌++◌, Option, Some, None}
+use Rattle.std.specs.Prelude.{◌≡◌, ℕ, suc, ◌+◌, ◌-◌, ◌*◌, ◌^◌, ◌%◌, List, [], ◌∷◌, ◌++◌, Option, Some, None}
+use Rattle.alp_text.specs.declared.lines.Span.{Span}
 use Rattle.task_lex.specs.declared.token.Token.{Token}
 use Rattle.task_lex.specs.declared.token.Kind.{Kind}
 use Rattle.task_lex.specs.declared.token.Kind.TheVariants as k
@@ -9,6 +10,7 @@ use Rattle.task_ast.specs.declared.UnaryOperator.{UnaryOperator}
 use Rattle.task_ast.specs.declared.UnaryOperator.TheVariants as unary
 use Rattle.task_ast.specs.declared.BinaryOperator.{BinaryOperator}
 use Rattle.task_ast.specs.declared.BinaryOperator.TheVariants as binary
+use Rattle.task_ast.specs.declared.PlacedOperator.{PlacedOperator}
 use Rattle.task_ast.specs.declared.ShiftOperator.{ShiftOperator}
 use Rattle.task_ast.specs.declared.ShiftOperator.TheVariants as shift
 use Rattle.task_ast.specs.declared.ShortCircuitOperator.{ShortCircuitOperator}
@@ -58,6 +60,14 @@ infix_of _ = None
 abbrev pub weakest : ℕ
 weakest = 10
 
+-- an operator with its place
+abbrev pub placed : BinaryOperator → Span → PlacedOperator
+placed op place = record { operator = op; span = place }
+
+-- what a long number is worth
+abbrev pub long_worth : Token → ℕ
+long_worth n = n.value + 65536 * n.high
+
 -- a number with its place
 abbrev pub literal_of : Token → Literal
 literal_of n = record { value = n.value; span = n.span }
@@ -67,6 +77,8 @@ literal_of n = record { value = n.value; span = n.span }
 pub data IsExpression : ℕ → List Token → Expression → Type 0 where
   -- a number
   number : (n : Token) → n.kind ≡ k.Number → IsExpression 0 (n ∷ []) (node.number n.value)
+  -- a long number
+  long_number : (n : Token) → n.kind ≡ k.LongNumber → IsExpression 0 (n ∷ []) (node.long_number (long_worth n))
   -- a name
   name : (n : Token) → n.kind ≡ k.Name → IsExpression 0 (n ∷ []) (node.name n.span)
   -- `name [ index ]`
@@ -87,7 +99,7 @@ pub data IsExpression : ℕ → List Token → Expression → Type 0 where
   -- an operator between two sides: the left one of its precedence, the right one tighter
   joined : (j : ℕ) (t : Token) (op : BinaryOperator) (xs ys : List Token) (a b : Expression) → IsExpression (suc j) xs a
       → infix_of t.kind ≡ Some (suc j, Binary op) → IsExpression j ys b
-      → IsExpression (suc j) (xs ++ t ∷ ys) (node.binary op a b)
+      → IsExpression (suc j) (xs ++ t ∷ ys) (node.binary (placed op t.span) a b)
   -- `&&` or `||` between two sides, in the same way
   short_circuited : (j : ℕ) (t : Token) (op : ShortCircuitOperator) (xs ys : List Token) (a b : Expression)
       → IsExpression (suc j) xs a → infix_of t.kind ≡ Some (suc j, ShortCircuit op) → IsExpression j ys b
@@ -198,15 +210,37 @@ pub data IsExtent : List Token → Extent → Type 0 where
   negative : (q m n : Token) → q.kind ≡ k.Assign → m.kind ≡ k.Minus → n.kind ≡ k.Number
       → IsExtent (q ∷ m ∷ n ∷ []) (extent.Scalar (negated n.value))
 
+-- 2^32 - n modulo 2^32
+abbrev pub long_negated : ℕ → ℕ
+long_negated n = (2 ^ 32 - n) % 2 ^ 32
+
+-- the token is a number or a long number, and is worth this
+pub data IsWorth : Token → ℕ → Type 0 where
+  number : (n : Token) → n.kind ≡ k.Number → IsWorth n n.value
+  long_number : (n : Token) → n.kind ≡ k.LongNumber → IsWorth n (long_worth n)
+
+-- what stands behind the name of a long: nothing, or an initial value with or without a minus
+pub data IsLongExtent : List Token → Extent → Type 0 where
+  -- nothing
+  no_value : IsLongExtent [] (extent.Long 0)
+  -- `= number`
+  long_value : (q n : Token) (w : ℕ) → q.kind ≡ k.Assign → IsWorth n w → IsLongExtent (q ∷ n ∷ []) (extent.Long w)
+  -- `= - number`
+  long_negative : (q m n : Token) (w : ℕ) → q.kind ≡ k.Assign → m.kind ≡ k.Minus → IsWorth n w
+      → IsLongExtent (q ∷ m ∷ n ∷ []) (extent.Long (long_negated w))
+
 -- a shared declaration
 abbrev pub shared_from : WordType → Token → Extent → SharedDeclaration
 shared_from of n found = record { word_type = of; name = n.span; extent = found }
 
--- `shared type name extent ;`
+-- `shared type name extent ;`, or `shared unsigned long name extent ;`
 pub data IsShared : List Token → SharedDeclaration → Type 0 where
   shared : (h t n z : Token) (of : WordType) (ts : List Token) (found : Extent) → h.kind ≡ k.Shared
       → type_of t.kind ≡ Some of → n.kind ≡ k.Name → IsExtent ts found → z.kind ≡ k.Semicolon
       → IsShared (h ∷ t ∷ n ∷ ts ++ z ∷ []) (shared_from of n found)
+  long : (h t l n z : Token) (ts : List Token) (found : Extent) → h.kind ≡ k.Shared → t.kind ≡ k.Unsigned → l.kind ≡ k.Long
+      → n.kind ≡ k.Name → IsLongExtent ts found → z.kind ≡ k.Semicolon
+      → IsShared (h ∷ t ∷ l ∷ n ∷ ts ++ z ∷ []) (shared_from word.Long n found)
 
 -- a task
 abbrev pub task_from : Token → Block → Task

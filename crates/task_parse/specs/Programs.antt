@@ -1,13 +1,15 @@
 -- Reading programs.
-use Rattle.std.specs.Prelude.{Bool, true, false, List, [], ◌∷◌, ◌++◌, Option, Some}
+use Rattle.std.specs.Prelude.{ℕ, Bool, true, false, List, [], ◌∷◌, ◌++◌, Option, Some}
 use Rattle.task_lex.specs.declared.token.Kind.{Kind}
 use Rattle.task_lex.specs.declared.token.Kind.TheVariants as k
+use Rattle.task_ast.specs.declared.WordType.{WordType}
+use Rattle.task_ast.specs.declared.WordType.TheVariants as word
 use Rattle.task_ast.specs.declared.Extent.{Extent}
 use Rattle.task_ast.specs.declared.Extent.TheVariants as extent
 use Rattle.task_ast.specs.declared.SharedDeclaration.{SharedDeclaration}
 use Rattle.task_parse.specs.Parsed.{Task, Program}
-use Rattle.task_parse.specs.Grammar.{shared_from, task_from, program_from, negated}
-use Rattle.task_parse.specs.Reading.{done, fault, Parser, ◌>>=◌, pure, token, by, Turn, again, over, repeat}
+use Rattle.task_parse.specs.Grammar.{shared_from, task_from, program_from, negated, long_negated, long_worth}
+use Rattle.task_parse.specs.Reading.{done, fault, Parser, ◌>>=◌, pure, refuse, token, by, Turn, again, over, repeat}
 use Rattle.task_parse.specs.Statements.{typed, block}
 
 -- items, as long as the next token begins one
@@ -39,10 +41,46 @@ extent_by _ = pure (extent.Scalar 0)
 unfoldable pub extents : Parser Extent
 extents = by extent_by
 
+-- a number or a long number, by the next token
+abbrev pub worth_by : Option Kind → Parser ℕ
+worth_by (Some k.LongNumber) = token k.LongNumber >>= λ n. pure (long_worth n)
+worth_by _ = token k.Number >>= λ n. pure n.value
+
+unfoldable pub worth : Parser ℕ
+worth = by worth_by
+
+-- the initial value of a long, behind its `=`
+abbrev pub long_valued_by : Option Kind → Parser Extent
+long_valued_by (Some k.Minus) = token k.Minus >>= λ m. worth >>= λ w. pure (extent.Long (long_negated w))
+long_valued_by _ = worth >>= λ w. pure (extent.Long w)
+
+-- by the token behind the name of a long
+abbrev pub long_extent_by : Option Kind → Parser Extent
+long_extent_by (Some k.Assign) = token k.Assign >>= λ q. by long_valued_by
+long_extent_by _ = pure (extent.Long 0)
+
+-- what stands behind the name of a long
+unfoldable pub long_extents : Parser Extent
+long_extents = by long_extent_by
+
+-- a declaration of this type, from its name on
+abbrev pub named_of : WordType → Parser Extent → Parser SharedDeclaration
+named_of of extent = token k.Name >>= λ n. extent >>= λ found. token k.Semicolon >>= λ z. pure (shared_from of n found)
+
+-- a long: `long` stands behind `unsigned` alone
+abbrev pub long_behind : WordType → Parser SharedDeclaration
+long_behind word.Unsigned = token k.Long >>= λ l. named_of word.Long long_extents
+long_behind word.Int = refuse
+long_behind word.Long = refuse
+
+-- by the token behind the type
+abbrev pub shared_by : Option Kind → WordType → Parser SharedDeclaration
+shared_by (Some k.Long) of = long_behind of
+shared_by _ of = named_of of extents
+
 -- a shared declaration
 unfoldable pub shared : Parser SharedDeclaration
-shared = token k.Shared >>= λ h. typed >>= λ of. token k.Name >>= λ n. extents >>= λ found. token k.Semicolon >>= λ z.
-    pure (shared_from of n found)
+shared = token k.Shared >>= λ h. typed >>= λ of. by (λ kind. shared_by kind of)
 
 -- a task
 unfoldable pub task : Parser Task

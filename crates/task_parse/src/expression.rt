@@ -11,10 +11,10 @@ ghost use Rattle.task_parse.specs.Nesting.{nesting, row_length};
 
 use crate::fault::Stop;
 use crate::operators::{Infix, infix_at, prefix_of};
-use crate::tokens::{after, kind_of, take};
+use crate::tokens::{after, kind_of, long_worth, place_of, take};
 use alp_text::Span;
 use std::alloc::{AllocError, Global};
-use task_ast::{BinaryOperator, Expr, Literal, ShiftOperator, ShortCircuitOperator, UnaryOperator};
+use task_ast::{Expr, Literal, PlacedOperator, ShiftOperator, ShortCircuitOperator, UnaryOperator};
 use task_lex::{Kind, Token};
 
 // The precedence of the operators that bind least.
@@ -34,7 +34,7 @@ fn unary_node(alloc: Global, op: UnaryOperator, inner: Expr<Span>) -> Result<Exp
 
 fn binary_node(
     alloc: Global,
-    op: BinaryOperator,
+    op: PlacedOperator,
     left: Expr<Span>,
     right: Expr<Span>,
 ) -> Result<Expr<Span>, AllocError>
@@ -111,7 +111,7 @@ fn sensed<'a>(tokens: &'a [Token]) -> Result<(Expr<Span>, &'a [Token]), Stop<'a>
 
 // A number, a name with or without an index, `sense()`, or an expression in brackets.
 #[cycle(expression)]
-#[tactic(auto, unfolding(crate::specs::Expressions::primary, crate::specs::Expressions::number, crate::specs::Expressions::bracketed))]
+#[tactic(auto, unfolding(crate::specs::Expressions::primary, crate::specs::Expressions::number, crate::specs::Expressions::long_number, crate::specs::Expressions::bracketed))]
 fn primary<'a>(alloc: Global, tokens: &'a [Token]) -> Result<(Expr<Span>, &'a [Token]), Stop<'a>>
     ensures value { Gives (λ x. reading.done (expression_of x.0) x.1.now)
         (spec.primary spec.expression tokens.now) result }
@@ -123,6 +123,10 @@ fn primary<'a>(alloc: Global, tokens: &'a [Token]) -> Result<(Expr<Span>, &'a [T
         Some(Kind::Number) => {
             let (number, rest) = take(Kind::Number, tokens)?;
             Ok((Expr::Number(number.value), rest))
+        }
+        Some(Kind::LongNumber) => {
+            let (number, rest) = take(Kind::LongNumber, tokens)?;
+            Ok((Expr::LongNumber(long_worth(number)), rest))
         }
         Some(Kind::Name) => named(alloc, tokens),
         Some(Kind::Sense) => sensed(tokens),
@@ -177,7 +181,8 @@ fn up_to<'a>(
     }
     let (mut left, mut rest) = up_to(alloc, precedence - 1, tokens)?;
     'operators: while let Some(op) = operator_in_front(precedence, rest) {
-        let (whole, next) = joined(alloc, precedence, left, op, after(rest))?;
+        let place = place_of(rest);
+        let (whole, next) = joined(alloc, precedence, left, place, op, after(rest))?;
         left = whole;
         rest = next;
     }
@@ -201,13 +206,14 @@ fn joined<'a>(
     alloc: Global,
     precedence: u8,
     left: Expr<Span>,
+    place: Span,
     op: Infix,
     tokens: &'a [Token],
 ) -> Result<(Expr<Span>, &'a [Token]), Stop<'a>>
     requires some { 0 < precedence }
     requires most { precedence ≤ 10 }
     ensures value { Gives (λ x. reading.done (expression_of x.0) x.1.now)
-        (spec.joined_with (spec.up_to spec.unary (precedence - 1)) (expression_of left) op tokens.now) result }
+        (spec.joined_with (spec.up_to spec.unary (precedence - 1)) (expression_of left) place op tokens.now) result }
     ensures shorter { IfOk result (λ x. length x.1.now < length tokens.now) }
     ensures nests { IfOk result (λ x. nesting x.1.now ≤ nesting tokens.now) }
     ensures row { IfOk result (λ x. row_length x.1.now ≤ row_length tokens.now) }
@@ -215,6 +221,10 @@ fn joined<'a>(
     match op {
         Infix::Binary(op) => {
             let (right, rest) = up_to(alloc, precedence - 1, tokens)?;
+            let op = PlacedOperator {
+                operator: op,
+                span: place,
+            };
             Ok((binary_node(alloc, op, left, right)?, rest))
         }
         Infix::ShortCircuit(op) => {

@@ -1,9 +1,9 @@
 -- Scalars that are marked are at most as many as are counted.
-use Rattle.std.proofs.Common.{◌≡◌, ℕ, zero, suc, ◌+◌, ◌<◌, ◌≤◌, Bool, true, List, [], ◌∷◌, length, get_or, arith, refl, sym, ap, ◌∙◌}
+use Rattle.std.proofs.Common.{◌≡◌, ℕ, zero, suc, ◌+◌, ◌<◌, ◌≤◌, Bool, true, List, [], ◌∷◌, length, get_or, arith, sym, ap, ◌∙◌}
 use Rattle.std.specs.Prelude.{All, AllPairs}
 use Rattle.std.proofs.lemmas.List.Elements.{All-head, All-tail}
 use Rattle.task_ast.specs.declared.Extent.{Extent}
-use Rattle.task_ast.specs.declared.Extent.TheVariants.{Scalar, Array}
+use Rattle.task_ast.specs.declared.Extent.TheVariants.{Scalar, Long, Array}
 use Rattle.task_ast.specs.declared.SharedDeclaration.{SharedDeclaration}
 use Rattle.cost_bound.specs.Allowance.{shared_sum_from, shared_sum, scalar_part}
 use Rattle.war_analysis.specs.Plans.{is_scalar, IsScalarAt}
@@ -27,8 +27,9 @@ module _ (marks : ℕ → Bool) where
       by zero e s = absurd (omega (arith, l, e))
       by (suc j) e s = record { behind = j; is = omega (arith, e); scalar = s; marked = h.marked }
 
-  one_counted : (b : Bool) (e : Extent) → b ≡ true → is_scalar e ≡ true → scalar_part b e ≡ 1
-  one_counted true (Scalar w) h s = refl
+  one_counted : (b : Bool) (e : Extent) → b ≡ true → is_scalar e ≡ true → 1 ≤ scalar_part b e
+  one_counted true (Scalar w) h s = omega arith
+  one_counted true (Long n) h s = omega arith
   one_counted true (Array n) h s = cc
   one_counted b e h s = cc
 
@@ -48,7 +49,7 @@ module _ (marks : ℕ → Bool) where
       by : (j : ℕ) → x ≡ k + j → IsScalarAt (d ∷ ds) j → length (x ∷ xs) ≤ counted k (d ∷ ds)
       by zero e s =
           let at : x ≡ k = omega (arith, e) in
-          let one : scalar_part (marks k) d.extent ≡ 1 = one_counted (marks k) d.extent (sym (ap marks at) ∙ first.marked) s in
+          let one : 1 ≤ scalar_part (marks k) d.extent = one_counted (marks k) d.extent (sym (ap marks at) ∙ first.marked) s in
           let rest = others (λ j n l. let lower = above j n l in
           not_first k d ds (get_or xs j n) (omega (arith, lower, at)) (All-tail (IsMarked k (d ∷ ds)) x xs h j n l)) in
           omega (arith, one, rest)

@@ -1,7 +1,7 @@
 -- What tasks work on in copies (Maeng, Colin, Lucia: Alpaca, OOPSLA 2017): private scalars and versioned arrays.
 use Rattle.std.specs.Prelude.{◌≡◌, ◌<◌, ℕ, Bool, true, false, List, length, All, AllPairs, Contains, slice_get, Some, IsSomeAnd}
 use Rattle.task_ast.specs.declared.Extent.{Extent}
-use Rattle.task_ast.specs.declared.Extent.TheVariants.{Scalar, Array}
+use Rattle.task_ast.specs.declared.Extent.TheVariants.{Scalar, Long, Array}
 use Rattle.task_ast.specs.declared.SharedDeclaration.{SharedDeclaration}
 use Rattle.task_ast.specs.declared.names.Variable.TheVariants.{Shared}
 use Rattle.cost_bound.specs.path_sums.Access.{writes, SomePath, IsPrivate}
@@ -9,9 +9,10 @@ use Rattle.cost_bound.specs.Counts.{Code}
 use Rattle.cost_bound.specs.Allowance.{CheckedTask, CheckedProgram}
 use Rattle.war_analysis.specs.PlanValue.{TaskPlanValue}
 
--- whether it is a scalar
+-- whether it is a scalar, which may be a long
 abbrev pub is_scalar : Extent → Bool
 is_scalar (Scalar _) = true
+is_scalar (Long _) = true
 is_scalar (Array _) = false
 
 -- the shared variable of a number is a scalar

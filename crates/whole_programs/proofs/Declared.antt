@@ -4,6 +4,9 @@ use Rattle.lower.specs.alp_text.declared.lines.Span.{Span}
 use Rattle.lower.specs.task_ast.declared.SharedDeclaration.{SharedDeclaration}
 use Rattle.lower.specs.task_ast.Tree as t
 use Rattle.lower.specs.task_ast.Tree.{Expression, Statement, Choice, Block, Task, Program}
+use Rattle.lower.specs.task_ast.declared.WordType.{WordType}
+use Rattle.lower.specs.task_check.SharedTypes.{shared_type}
+use Rattle.lower.specs.task_check.Occurrences.{element_front}
 use Rattle.lower.specs.task_check.declared.occurrence.Role.{Role}
 use Rattle.lower.specs.task_check.declared.occurrence.Role.TheVariants as role
 use Rattle.lower.specs.task_check.declared.occurrence.Occurrence.{Occurrence}
@@ -20,7 +23,7 @@ DeclaresOf shared n role.Scalar = Unit {0}
 DeclaresOf shared n role.Element = Unit {0}
 DeclaresOf shared n role.Counter = Unit {0}
 DeclaresOf shared n role.Target = Unit {0}
-DeclaresOf shared n (role.Count k) = Unit {0}
+DeclaresOf shared n (role.Operand refused kept) = Unit {0}
 
 -- so does each of these names
 abbrev pub Declared : List SharedDeclaration → List Occurrence → Type 0
@@ -36,7 +39,7 @@ DeclaresNone role.Scalar = Unit {0}
 DeclaresNone role.Element = Unit {0}
 DeclaresNone role.Counter = Unit {0}
 DeclaresNone role.Target = Unit {0}
-DeclaresNone (role.Count k) = Unit {0}
+DeclaresNone (role.Operand refused kept) = Unit {0}
 
 abbrev DeclareNone : List Occurrence → Type 0
 DeclareNone [] = Unit {0}
@@ -50,55 +53,65 @@ none_declares shared n role.Scalar h = tt
 none_declares shared n role.Element h = tt
 none_declares shared n role.Counter h = tt
 none_declares shared n role.Target h = tt
-none_declares shared n (role.Count k) h = tt
+none_declares shared n (role.Operand refused kept) h = tt
 
 in_front : (behind : List Occurrence) (s : Span) (r : Role) → DeclareNone behind → DeclaresNone r → DeclareNone (and_front behind s r)
 in_front [] s r h k = (k, tt)
 in_front (o ∷ more) s r h k = (h.0, in_front more s r h.1 k)
 
-expression_none : (e : Expression Span) (behind : List Occurrence) → DeclareNone behind → DeclareNone (expression_names e behind)
-expression_none (t.number n) behind h = h
-expression_none (t.name s) behind h = in_front behind s role.Scalar h tt
-expression_none (t.element s index) behind h = in_front (expression_names index behind) s role.Element (expression_none index behind h) tt
-expression_none t.sense behind h = h
-expression_none (t.unary op a) behind h = expression_none a behind h
-expression_none (t.binary op a b) behind h = expression_none a (expression_names b behind) (expression_none b behind h)
-expression_none (t.shift op a count) behind h = expression_none a _ (in_front behind count.span (role.Count count.value) h tt)
-expression_none (t.short_circuit op a b) behind h = expression_none a (expression_names b behind) (expression_none b behind h)
+element_none : (types : Span → WordType) (s : Span) (index : Expression Span) (behind : List Occurrence) → DeclareNone behind
+    → DeclareNone (element_front types s index behind)
+element_none types s index behind h = in_front _ s role.Element (in_front behind s _ h tt) tt
 
-value_none : (e : Option (Expression Span)) (behind : List Occurrence) → DeclareNone behind → DeclareNone (value_names e behind)
-value_none None behind h = h
-value_none (Some e) behind h = expression_none e behind h
+expression_none : (types : Span → WordType) (e : Expression Span) (behind : List Occurrence) → DeclareNone behind
+    → DeclareNone (expression_names types e behind)
+expression_none types (t.number n) behind h = h
+expression_none types (t.long_number n) behind h = h
+expression_none types (t.name s) behind h = in_front behind s role.Scalar h tt
+expression_none types (t.element s index) behind h = element_none types s index (expression_names types index behind) (expression_none types index behind h)
+expression_none types t.sense behind h = h
+expression_none types (t.unary op a) behind h = expression_none types a behind h
+expression_none types (t.binary op a b) behind h =
+    expression_none types a _ (in_front (expression_names types b behind) op.span _ (expression_none types b behind h) tt)
+expression_none types (t.shift op a count) behind h = expression_none types a _ (in_front behind count.span _ h tt)
+expression_none types (t.short_circuit op a b) behind h = expression_none types a (expression_names types b behind) (expression_none types b behind h)
+
+value_none : (types : Span → WordType) (e : Option (Expression Span)) (behind : List Occurrence) → DeclareNone behind → DeclareNone (value_names types e behind)
+value_none types None behind h = h
+value_none types (Some e) behind h = expression_none types e behind h
 
 mutual
-  statement_none : (end : ℕ) (x : Statement Span Span) (behind : List Occurrence) → DeclareNone behind → DeclareNone (statement_names end x behind)
-  statement_none end (t.declare of s value) behind h = in_front (value_names value behind) s (role.Local of (length behind) end) (value_none value behind h) tt
-  statement_none end (t.assign s e) behind h = in_front (expression_names e behind) s role.Scalar (expression_none e behind h) tt
-  statement_none end (t.store s index e) behind h =
-      in_front (expression_names index (expression_names e behind)) s role.Element
-      (expression_none index (expression_names e behind) (expression_none e behind h)) tt
-  statement_none end (t.choose c) behind h = choice_none c behind h
-  statement_none end (t.loop v from w below u body) behind h =
-      in_front _ v role.Counter (in_front _ w role.Counter (in_front _ u role.Counter (block_none (length behind) body behind h) tt) tt) tt
-  statement_none end (t.emit e) behind h = expression_none e behind h
-  statement_none end (t.transition s) behind h = in_front behind s role.Target h tt
+  statement_none : (types : Span → WordType) (end : ℕ) (x : Statement Span Span) (behind : List Occurrence) → DeclareNone behind
+      → DeclareNone (statement_names types end x behind)
+  statement_none types end (t.declare of s value) behind h =
+      in_front (value_names types value behind) s (role.Local of (length behind) end) (value_none types value behind h) tt
+  statement_none types end (t.assign s e) behind h = in_front (expression_names types e behind) s role.Scalar (expression_none types e behind h) tt
+  statement_none types end (t.store s index e) behind h =
+      element_none types s index (expression_names types index (expression_names types e behind))
+      (expression_none types index (expression_names types e behind) (expression_none types e behind h))
+  statement_none types end (t.choose c) behind h = choice_none types c behind h
+  statement_none types end (t.loop v from w below u body) behind h =
+      in_front _ v role.Counter (in_front _ w role.Counter (in_front _ u role.Counter (block_none types (length behind) body behind h) tt) tt) tt
+  statement_none types end (t.emit e) behind h = expression_none types e behind h
+  statement_none types end (t.transition s) behind h = in_front behind s role.Target h tt
 
-  choice_none : (c : Choice Span Span) (behind : List Occurrence) → DeclareNone behind → DeclareNone (choice_names c behind)
-  choice_none t.nothing behind h = h
-  choice_none (t.otherwise b) behind h = block_none (length behind) b behind h
-  choice_none (t.test e b more) behind h =
-      let rest = choice_names more behind in
-      expression_none e (names_up_to (length rest) b rest) (block_none (length rest) b rest (choice_none more behind h))
+  choice_none : (types : Span → WordType) (c : Choice Span Span) (behind : List Occurrence) → DeclareNone behind → DeclareNone (choice_names types c behind)
+  choice_none types t.nothing behind h = h
+  choice_none types (t.otherwise b) behind h = block_none types (length behind) b behind h
+  choice_none types (t.test e b more) behind h =
+      let rest = choice_names types more behind in
+      expression_none types e (names_up_to types (length rest) b rest) (block_none types (length rest) b rest (choice_none types more behind h))
 
-  block_none : (end : ℕ) (b : Block Span Span) (behind : List Occurrence) → DeclareNone behind → DeclareNone (names_up_to end b behind)
-  block_none end t.end behind h = h
-  block_none end (t.step s more) behind h = statement_none end s (names_up_to end more behind) (block_none end more behind h)
+  block_none : (types : Span → WordType) (end : ℕ) (b : Block Span Span) (behind : List Occurrence) → DeclareNone behind
+      → DeclareNone (names_up_to types end b behind)
+  block_none types end t.end behind h = h
+  block_none types end (t.step s more) behind h = statement_none types end s (names_up_to types end more behind) (block_none types end more behind h)
 
-tasks_none : (ts : List (Task Span Span)) (behind : List Occurrence) → DeclareNone behind → DeclareNone (task_names ts behind)
-tasks_none [] behind h = h
-tasks_none (k ∷ more) behind h =
-    let rest = task_names more behind in
-    in_front (names_up_to (length rest) k.body rest) k.name role.Task (block_none (length rest) k.body rest (tasks_none more behind h)) tt
+tasks_none : (types : Span → WordType) (ts : List (Task Span Span)) (behind : List Occurrence) → DeclareNone behind → DeclareNone (task_names types ts behind)
+tasks_none types [] behind h = h
+tasks_none types (k ∷ more) behind h =
+    let rest = task_names types more behind in
+    in_front (names_up_to types (length rest) k.body rest) k.name role.Task (block_none types (length rest) k.body rest (tasks_none types more behind h)) tt
 
 -- names that declare none, in front of which stand such
 behind_declared : (shared : List SharedDeclaration) (xs front : List Occurrence) → DeclareNone xs → Declared shared front → Declared shared (xs ++ front)
@@ -131,9 +144,10 @@ append_none : (xs : List Occurrence) → xs ++ [] ≡ xs
 append_none [] = refl
 append_none (x ∷ xs) = ap (λ l. x ∷ l) (append_none xs)
 
-pub program_declared : (p : Program Span Span) → Declared p.shared (program_names p)
+pub program_declared : (source : List ℕ) (p : Program Span Span) → Declared p.shared (program_names source p)
 unfolding program_names
-program_declared p =
-    let behind = task_names p.tasks (and_front [] p.entry role.Target) in
-    let none = tasks_none p.tasks (and_front [] p.entry role.Target) (tt, tt) in
+program_declared source p =
+    let types = shared_type source p.shared in
+    let behind = task_names types p.tasks (and_front [] p.entry role.Target) in
+    let none = tasks_none types p.tasks (and_front [] p.entry role.Target) (tt, tt) in
     subst (Declared p.shared) (append_none (shared_names p.shared behind)) (shared_declared [] p.shared behind [] none tt refl)

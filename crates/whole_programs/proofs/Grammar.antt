@@ -15,7 +15,7 @@ use Rattle.source_meaning.specs.task_parse.declared.operators.Infix.{Infix}
 use Rattle.source_meaning.specs.task_parse.Parsed.{Expression, Statement, Block, Tested, Task, Program}
 use Rattle.source_meaning.specs.task_parse.Grammar.{prefix_of, infix_of, weakest, type_of, IsExpression, IsGiven, IsStatement, IsElses, IsArm, IsBlock}
 use Rattle.source_meaning.specs.task_parse.Grammar.{IsStatements, Row}
-use Rattle.source_meaning.specs.task_parse.Grammar.{IsExtent, IsShared, IsTask, IsProgram}
+use Rattle.source_meaning.specs.task_parse.Grammar.{IsExtent, IsWorth, IsLongExtent, IsShared, IsTask, IsProgram}
 use Rattle.source_meaning.specs.task_parse.Grammar as grammar
 use Rattle.whole_programs.specs.Needs.{ExpressionFits, StatementFits, ChoiceFits, BlockFits}
 use Rattle.whole_programs.proofs.Tokens.{AreSound}
@@ -74,7 +74,8 @@ HasRoom room d beneath j = (d ≤ 64) × (beneath + j + 641 ≤ room + 10 * d)
 pub expression_fits : (room j : ℕ) (ts : List Token) (e : Expression) → IsExpression j ts e → (d beneath : ℕ) (rest : List Token) → HasRoom room d beneath j
     → AreSound d (ts ++ rest)
     → ExpressionFits room beneath e × AreSound d rest
-expression_fits room j ts e (grammar.number n is) d beneath rest l h = ((omega (arith, l.0, l.1), h.1), behind d n rest k.Number is h)
+expression_fits room j ts e (grammar.number n is) d beneath rest l h = ((omega (arith, l.0, l.1), h.1.0), behind d n rest k.Number is h)
+expression_fits room j ts e (grammar.long_number n is) d beneath rest l h = (omega (arith, l.0, l.1), behind d n rest k.LongNumber is h)
 expression_fits room j ts e (grammar.name n is) d beneath rest l h = (omega (arith, l.0, l.1), behind d n rest k.Name is h)
 expression_fits room j ts e (grammar.element n o c xs index is_n is_o inner is_c) d beneath rest l h =
     let a = behind d n (o ∷ ((xs ++ c ∷ []) ++ rest)) k.Name is_n h in
@@ -105,7 +106,7 @@ expression_fits room j ts e (grammar.short_circuited i t op xs ys a b is_a is is
 expression_fits room j ts e (grammar.shifted i t n op xs a is_a is is_n) d beneath rest l h =
     let x = expression_fits room (suc i) xs a is_a d beneath (t ∷ n ∷ rest) l (apart d xs (t ∷ n ∷ []) rest h) in
     let y = past d t (n ∷ rest) (infix_keeps t.kind _ is) x.1 in
-    ((x.0, y.1), behind d n rest k.Number is_n y)
+    ((x.0, y.1.0), behind d n rest k.Number is_n y)
 
 given_fits : (room : ℕ) (ts : List Token) (value : Expression) → IsGiven ts value → (d beneath : ℕ) (rest : List Token) → HasRoom room d beneath weakest
     → AreSound d (ts ++ rest)
@@ -183,7 +184,7 @@ module _ (room : ℕ) (enough : 652 ≤ room) where
         let h12 = behind (d + 1) p r0 k.PlusPlus is_p h11 in
         let h13 = closed d (xs ++ rest) (behind (d + 1) c (xs ++ rest) k.Close is_c h12) in
         let i = block_fits xs body is d rest l h13 in
-        ((h4.1, h8.1, i.0), i.1)
+        ((h4.1.0, h8.1.0, i.0), i.1)
 
     elses_fit : (ts : List Token) (arms : List Tested) (last : Option Block) → IsElses ts arms last → (d : ℕ) (rest : List Token) → d ≤ 64
         → AreSound d (ts ++ rest)
@@ -231,6 +232,16 @@ module _ (room : ℕ) (enough : 652 ≤ room) where
   extent_passes ts e (grammar.negative q m n is_q is_m is_n) d rest h =
       behind d n rest k.Number is_n (behind d m (n ∷ rest) k.Minus is_m (behind d q (m ∷ n ∷ rest) k.Assign is_q h))
 
+  worth_passes : (t : Token) (w : ℕ) → IsWorth t w → (d : ℕ) (rest : List Token) → AreSound d (t ∷ rest) → AreSound d rest
+  worth_passes t w (grammar.number n is) d rest h = behind d n rest k.Number is h
+  worth_passes t w (grammar.long_number n is) d rest h = behind d n rest k.LongNumber is h
+
+  long_extent_passes : (ts : List Token) (e : Extent) → IsLongExtent ts e → (d : ℕ) (rest : List Token) → AreSound d (ts ++ rest) → AreSound d rest
+  long_extent_passes ts e grammar.no_value d rest h = h
+  long_extent_passes ts e (grammar.long_value q n w is_q is_n) d rest h = worth_passes n w is_n d rest (behind d q (n ∷ rest) k.Assign is_q h)
+  long_extent_passes ts e (grammar.long_negative q m n w is_q is_m is_n) d rest h =
+      worth_passes n w is_n d rest (behind d m (n ∷ rest) k.Minus is_m (behind d q (m ∷ n ∷ rest) k.Assign is_q h))
+
   shared_passes : (ts : List Token) (s : SharedDeclaration) → IsShared ts s → (d : ℕ) (rest : List Token) → AreSound d (ts ++ rest) → AreSound d rest
   shared_passes ts s (grammar.shared h t n z of xs found is_h is_t is_n is is_z) d rest sound =
       let tail = (xs ++ z ∷ []) ++ rest in
@@ -238,6 +249,12 @@ module _ (room : ℕ) (enough : 652 ≤ room) where
       let b = past d t (n ∷ tail) (type_keeps t.kind of is_t) a in
       let c = apart d xs (z ∷ []) rest (behind d n tail k.Name is_n b) in
       behind d z rest k.Semicolon is_z (extent_passes xs found is d (z ∷ rest) c)
+  shared_passes ts s (grammar.long h t m n z xs found is_h is_t is_m is_n is is_z) d rest sound =
+      let tail = (xs ++ z ∷ []) ++ rest in
+      let a = behind d h (t ∷ m ∷ n ∷ tail) k.Shared is_h sound in
+      let b = behind d m (n ∷ tail) k.Long is_m (behind d t (m ∷ n ∷ tail) k.Unsigned is_t a) in
+      let c = apart d xs (z ∷ []) rest (behind d n tail k.Name is_n b) in
+      behind d z rest k.Semicolon is_z (long_extent_passes xs found is d (z ∷ rest) c)
 
   shareds_pass : (ts : List Token) (all : List SharedDeclaration) → Row IsShared ts all → (d : ℕ) (rest : List Token) → AreSound d (ts ++ rest)
       → AreSound d rest

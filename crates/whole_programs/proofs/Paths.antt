@@ -15,6 +15,7 @@ use Rattle.lower.specs.path_checks.Unassigned.{is_unassigned}
 -- the names of an expression, on the path that evaluates both sides of each `&&` and `||`
 abbrev pub names_read : CheckedExpression → List Access
 names_read (t.number w) = []
+names_read (t.long_number w) = []
 names_read (t.name x) = read x ∷ []
 names_read (t.element x index) = names_read index ++ read x ∷ []
 names_read t.sense = []
@@ -25,6 +26,7 @@ names_read (t.short_circuit op a b) = names_read a ++ names_read b
 
 pub is_path : (e : CheckedExpression) → ExpressionPath e (names_read e)
 is_path (t.number w) = path.number w
+is_path (t.long_number w) = path.long_number w
 is_path (t.name x) = path.name x
 is_path (t.element x index) = path.element x index (names_read index) (is_path index)
 is_path t.sense = path.sense
@@ -111,6 +113,7 @@ behind_both u (unset n ∷ xs) ys = behind_both (forgotten u n) xs ys
 -- an expression leaves them
 pub behind_names : (u : ℕ → Bool) (e : CheckedExpression) → behind u (names_read e) ≡ u
 behind_names u (t.number w) = refl
+behind_names u (t.long_number w) = refl
 behind_names u (t.name x) = refl
 behind_names u (t.element x index) = behind_both u (names_read index) (read x ∷ []) ∙ behind_names u index
 behind_names u t.sense = refl

@@ -14,6 +14,7 @@ use Rattle.whole_programs.proofs.Grammar.{program_fits}
 
 expression_there : (room beneath : ℕ) (e : Expression VariableName) → ExpressionFits room beneath (expression_back e) → ExpressionFits room beneath e
 expression_there room beneath (t.number w) h = h
+expression_there room beneath (t.long_number w) h = h
 expression_there room beneath (t.name x) h = h
 expression_there room beneath (t.element x index) h = expression_there room beneath index h
 expression_there room beneath t.sense h = h

@@ -10,7 +10,7 @@ use Rattle.lower.specs.task_ast.Paths.{CheckedExpression, CheckedStatement, Chec
 use Rattle.lower.specs.task_ast.declared.SharedDeclaration.{SharedDeclaration}
 use Rattle.lower.specs.task_ast.declared.UnaryOperator.{UnaryOperator}
 use Rattle.lower.specs.task_ast.declared.UnaryOperator.TheVariants as unary_operator
-use Rattle.lower.specs.task_ast.declared.BinaryOperator.{BinaryOperator}
+use Rattle.lower.specs.task_ast.declared.PlacedOperator.{PlacedOperator}
 use Rattle.lower.specs.task_ast.declared.ShortCircuitOperator.{ShortCircuitOperator}
 use Rattle.lower.specs.task_ast.declared.ShortCircuitOperator.TheVariants.{And as BothHold, Or as OneHolds}
 use Rattle.lower.specs.task_ast.declared.names.Variable.{Variable}
@@ -123,6 +123,7 @@ module _ (p : Places) (n : ℕ) where
 
   lowering_spares : (e : CheckedExpression) → LoweringSpares (lowering p e)
   lowering_spares (t.number w) = ((tt, tt), (tt, tt))
+  lowering_spares (t.long_number w) = ((tt, tt), (tt, tt))
   lowering_spares (t.name x) = let s = read_spares x.variable in ((s, tt), (s, tt))
   lowering_spares (t.element x index) =
       let last = one (element_step p x.variable) in
@@ -130,7 +131,7 @@ module _ (p : Places) (n : ℕ) where
   lowering_spares t.sense = ((tt, tt), (tt, tt))
   lowering_spares (t.unary op e) = unary_spares op (lowering p e) (lowering_spares e)
   lowering_spares (t.binary op a b) =
-      binary_spares (binary_meaning op (joined_type (type_of a) (type_of b))) (joined (lowered_expression p a) (lowered_expression p b))
+      binary_spares (binary_meaning op.operator (joined_type (type_of a) (type_of b))) (joined (lowered_expression p a) (lowered_expression p b))
       (spares_joined n (lowered_expression p a) (lowered_expression p b) (lowering_spares a).0 (lowering_spares b).0)
   lowering_spares (t.shift op e count) =
       let last = one (shift (shift_operation op (type_of e)) count.value) in
@@ -147,14 +148,14 @@ module _ (p : Places) (n : ℕ) where
       spares_joined n (index_and_value p index e) (one s)
       (spares_joined n (lowered_expression p index) (lowered_expression p e) (expression_spares index) (expression_spares e)) (h, tt)
 
-  element_sides_spare : (x : Variable) (index : CheckedExpression) (op : BinaryOperator) (a b : CheckedExpression) (o : Option PlainOperation)
+  element_sides_spare : (x : Variable) (index : CheckedExpression) (op : PlacedOperator) (a b : CheckedExpression) (o : Option PlainOperation)
       → Spares n (element_sides_set p x index op a b o)
   element_sides_spare x index op a b None = index_and_value_spare index (t.binary op a b) (store_step p x) tt
   element_sides_spare x index op a b (Some o) = index_and_value_spare index b (update_element_step p o x) tt
 
   -- the first clause makes it a proof by cases
   element_assignment_spares : (x : Variable) (index e : CheckedExpression) → Spares n (element_assignment p x index e)
-  element_assignment_spares x index (t.binary op a b) = element_sides_spare x index op a b (element_updating x index op a)
+  element_assignment_spares x index (t.binary op a b) = element_sides_spare x index op a b (element_updating x index op.operator a)
   element_assignment_spares x index e = index_and_value_spare index e (store_step p x) tt
 
   entries_spare : (count list : ℕ) (runs : List Run) → Spares n (entries count list runs)
@@ -194,7 +195,7 @@ module _ (p : Places) (shared : List SharedDeclaration) (y : ℕ) (low : y < 256
   setting_spares x e n h =
       spares_joined (y % 65536) (lowered_expression p e) (one (write_step p x)) (expression_spares p (y % 65536) e) (word_spares x n h, tt)
 
-  sides_set_spares : (x : Variable) (op : BinaryOperator) (a b : CheckedExpression) (o : Option PlainOperation) → IsWordName shared x
+  sides_set_spares : (x : Variable) (op : PlacedOperator) (a b : CheckedExpression) (o : Option PlainOperation) → IsWordName shared x
       → is_same_local x (Local y) ≡ false → Spares (y % 65536) (sides_set p x op a b o)
   sides_set_spares x op a b None n h = setting_spares x (t.binary op a b) n h
   sides_set_spares x op a b (Some o) n h =
@@ -204,7 +205,7 @@ module _ (p : Places) (shared : List SharedDeclaration) (y : ℕ) (low : y < 256
   -- the first clause makes it a proof by cases
   assignment_spares : (x : Variable) (e : CheckedExpression) → IsWordName shared x → is_same_local x (Local y) ≡ false
       → Spares (y % 65536) (assignment p x e)
-  assignment_spares x (t.binary op a b) n h = sides_set_spares x op a b (updating x op a) n h
+  assignment_spares x (t.binary op a b) n h = sides_set_spares x op a b (updating x op.operator a) n h
   assignment_spares x e n h = setting_spares x e n h
 
   loop_apart : (v : Variable) → IsLocalName v → is_same_local v (Local y) ≡ false → loop_local v ≢ y % 65536

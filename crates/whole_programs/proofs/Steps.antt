@@ -7,7 +7,7 @@ use Rattle.lower.specs.task_ast.Paths.{CheckedExpression, CheckedStatement, Chec
 use Rattle.lower.specs.task_ast.declared.SharedDeclaration.{SharedDeclaration}
 use Rattle.lower.specs.task_ast.declared.UnaryOperator.{UnaryOperator}
 use Rattle.lower.specs.task_ast.declared.UnaryOperator.TheVariants as unary_operator
-use Rattle.lower.specs.task_ast.declared.BinaryOperator.{BinaryOperator}
+use Rattle.lower.specs.task_ast.declared.PlacedOperator.{PlacedOperator}
 use Rattle.lower.specs.task_ast.declared.ShortCircuitOperator.{ShortCircuitOperator}
 use Rattle.lower.specs.task_ast.declared.ShortCircuitOperator.TheVariants.{And as BothHold, Or as OneHolds}
 use Rattle.lower.specs.task_ast.declared.names.Variable.{Variable}
@@ -182,6 +182,8 @@ module _ (p : Places) (words : PlacesOfWords p) where
 
     lowering_sound : (room beneath : ℕ) (e : CheckedExpression) → ExpressionFits room beneath e → ExpressionUses shared e → LoweringSound (lowering p e)
     lowering_sound room beneath (t.number w) f n = sound_word (one (number w)) (sound_one (number w) (tt, tt, f.1))
+    lowering_sound room beneath (t.long_number w) f n =
+        let low : w % 65536 < 65536 = omega arith in sound_word (one (number (w % 65536))) (sound_one (number (w % 65536)) (tt, tt, low))
     lowering_sound room beneath (t.name x) f n =
         sound_word (one (read_step p x.variable)) (sound_one (read_step p x.variable) (read_sound x.variable n))
     lowering_sound room beneath (t.element x index) f n =
@@ -189,7 +191,7 @@ module _ (p : Places) (words : PlacesOfWords p) where
     lowering_sound room beneath t.sense f n = sound_word (one sense) (sound_one sense (tt, tt, tt))
     lowering_sound room beneath (t.unary op e) f n = sound_unary op (lowering p e) (lowering_sound room beneath e f n)
     lowering_sound room beneath (t.binary op a b) f n =
-        sound_binary (binary_meaning op (joined_type (type_of a) (type_of b))) (joined (lowered_expression p a) (lowered_expression p b))
+        sound_binary (binary_meaning op.operator (joined_type (type_of a) (type_of b))) (joined (lowered_expression p a) (lowered_expression p b))
         (sound_joined (lowered_expression p a) (lowered_expression p b) (lowering_sound room beneath a f.0 n.0).0 (lowering_sound room _ b f.1 n.1).0)
     lowering_sound room beneath (t.shift op e count) f n =
         sound_last (lowered_expression p e) (shift (shift_operation op (type_of e)) count.value) (lowering_sound room beneath e f.0 n).0 (tt, tt, f.1)
@@ -230,7 +232,7 @@ module _ (p : Places) (words : PlacesOfWords p) where
         → Sound (setting p x e)
     setting_sound room x e w f n = sound_behind (lowered_expression p e) (write_step p x) (expression_sound room 0 e f n) (write_sound x w)
 
-    sides_set_sound : (room : ℕ) (x : Variable) (op : BinaryOperator) (a b : CheckedExpression) (o : Option PlainOperation) → IsWordName shared x
+    sides_set_sound : (room : ℕ) (x : Variable) (op : PlacedOperator) (a b : CheckedExpression) (o : Option PlainOperation) → IsWordName shared x
         → ExpressionFits room 0 (t.binary op a b) → ExpressionUses shared (t.binary op a b) → Sound (sides_set p x op a b o)
     sides_set_sound room x op a b None w f n = setting_sound room x (t.binary op a b) w f n
     sides_set_sound room x op a b (Some o) w f n =
@@ -239,7 +241,7 @@ module _ (p : Places) (words : PlacesOfWords p) where
     -- the first clause makes it a proof by cases
     assignment_sound : (room : ℕ) (x : Variable) (e : CheckedExpression) → IsWordName shared x → ExpressionFits room 0 e → ExpressionUses shared e
         → Sound (assignment p x e)
-    assignment_sound room x (t.binary op a b) w f n = sides_set_sound room x op a b (updating x op a) w f n
+    assignment_sound room x (t.binary op a b) w f n = sides_set_sound room x op a b (updating x op.operator a) w f n
     assignment_sound room x e w f n = setting_sound room x e w f n
 
     -- a step behind an index and a value
@@ -253,7 +255,7 @@ module _ (p : Places) (words : PlacesOfWords p) where
     element_setting_sound room x index e f g m n =
         index_and_value_sound index e (store_step p x) (expression_sound room 0 index f m) (expression_sound room 1 e g n) (store_sound x)
 
-    element_sides_sound : (room : ℕ) (x : Variable) (index : CheckedExpression) (op : BinaryOperator) (a b : CheckedExpression) (o : Option PlainOperation)
+    element_sides_sound : (room : ℕ) (x : Variable) (index : CheckedExpression) (op : PlacedOperator) (a b : CheckedExpression) (o : Option PlainOperation)
         → ExpressionFits room 0 index → ExpressionFits room 1 (t.binary op a b) → ExpressionUses shared index → ExpressionUses shared (t.binary op a b)
         → Sound (element_sides_set p x index op a b o)
     element_sides_sound room x index op a b None f g m n = element_setting_sound room x index (t.binary op a b) f g m n
@@ -264,7 +266,7 @@ module _ (p : Places) (words : PlacesOfWords p) where
     -- the first clause makes it a proof by cases
     element_assignment_sound : (room : ℕ) (x : Variable) (index e : CheckedExpression) → ExpressionFits room 0 index → ExpressionFits room 1 e
         → ExpressionUses shared index → ExpressionUses shared e → Sound (element_assignment p x index e)
-    element_assignment_sound room x index (t.binary op a b) f g m n = element_sides_sound room x index op a b (element_updating x index op a) f g m n
+    element_assignment_sound room x index (t.binary op a b) f g m n = element_sides_sound room x index op a b (element_updating x index op.operator a) f g m n
     element_assignment_sound room x index e f g m n = element_setting_sound room x index e f g m n
 
     -- a loop by its local

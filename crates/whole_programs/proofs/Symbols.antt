@@ -61,11 +61,16 @@ scalar_there : (shared : List SharedDeclaration) (n w : ℕ) (d : SharedDeclarat
     → IsScalarAt shared n
 scalar_there shared n w d e f = rw (e, f) refl
 
+long_there : (shared : List SharedDeclaration) (n w : ℕ) (d : SharedDeclaration) → slice_get shared n ≡ Some d → d.extent ≡ extent.Long w
+    → IsScalarAt shared n
+long_there shared n w d e f = rw (e, f) refl
+
 array_there : (shared : List SharedDeclaration) (n w : ℕ) (d : SharedDeclaration) → slice_get shared n ≡ Some d → d.extent ≡ extent.Array w → IsArrayAt shared n
 array_there shared n w d e f = rw (e, f) refl
 
 global_declared : (shared : List SharedDeclaration) (r : Role) (front n tasks : ℕ) → DeclaresOf shared n r → GlobalSound shared (global_with r front n tasks)
 global_declared shared (role.Shared of (extent.Scalar w)) front n tasks h = scalar_there shared n w h.0 h.1 h.2
+global_declared shared (role.Shared of (extent.Long w)) front n tasks h = long_there shared n w h.0 h.1 h.2
 global_declared shared (role.Shared of (extent.Array w)) front n tasks h = array_there shared n w h.0 h.1 h.2
 global_declared shared role.Task front n tasks h = tt
 global_declared shared (role.Local of begin end) front n tasks h = tt
@@ -73,7 +78,7 @@ global_declared shared role.Scalar front n tasks h = tt
 global_declared shared role.Element front n tasks h = tt
 global_declared shared role.Counter front n tasks h = tt
 global_declared shared role.Target front n tasks h = tt
-global_declared shared (role.Count k) front n tasks h = tt
+global_declared shared (role.Operand refused kept) front n tasks h = tt
 
 global_sound : (source name : List ℕ) (shared : List SharedDeclaration) (all : List Occurrence) → Declared shared all
     → GlobalSound shared (global_in source name all)
@@ -107,7 +112,7 @@ one_more role.Scalar shared tasks n h e = h
 one_more role.Element shared tasks n h e = h
 one_more role.Counter shared tasks n h e = h
 one_more role.Target shared tasks n h e = h
-one_more (role.Count k) shared tasks n h e = h
+one_more (role.Operand refused kept) shared tasks n h e = h
 
 not_too_many : (source : List ℕ) (o : Occurrence) (front : List Occurrence) → Few source (o ∷ front)
     → is_too_many o.role (shared_in front) (tasks_in front) (locals_in front) ≡ false
@@ -130,7 +135,7 @@ local_declared role.Scalar shared tasks n h e = tt
 local_declared role.Element shared tasks n h e = tt
 local_declared role.Counter shared tasks n h e = tt
 local_declared role.Target shared tasks n h e = tt
-local_declared (role.Count k) shared tasks n h e = tt
+local_declared (role.Operand refused kept) shared tasks n h e = tt
 
 local_sound : (source name : List ℕ) (front : List Occurrence) → Few source front → IfLocal (local_in source name front)
 local_sound source name [] e = tt
@@ -164,7 +169,7 @@ by_role shared role.Scalar all tasks n found h e k = k
 by_role shared role.Element all tasks n found h e k = k
 by_role shared role.Counter all tasks n found h e k = k
 by_role shared role.Target all tasks n found h e k = k
-by_role shared (role.Count c) all tasks n found h e k = tt
+by_role shared (role.Operand refused kept) all tasks n found h e k = tt
 
 -- each name stands for what was declared
 pub symbol_sound : (source : List ℕ) (shared : List SharedDeclaration) (all : List Occurrence) (o : Occurrence) (front : List Occurrence) → Declared shared all

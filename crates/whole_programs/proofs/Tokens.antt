@@ -1,6 +1,8 @@
--- The tokens of a text: no more than 64 brackets are open behind any of them, and each number is a word.
-use Rattle.std.proofs.Common.{◌≡◌, ℕ, zero, suc, ◌+◌, ◌-◌, ◌≤◌, Bool, true, false, cond, ◌&&◌, ◌==◌, not, nat_lt, nat_le, List, [], ◌∷◌, length, drop, take}
+-- The tokens of a text: no more than 64 brackets are open behind any of them, and each number is a word or two.
+use Rattle.std.proofs.Common.{◌≡◌, ℕ, zero, suc, ◌+◌, ◌-◌, ◌/◌, ◌%◌, ◌≤◌, Bool, true, false, cond, ◌&&◌, ◌==◌, not, nat_lt, nat_le, List, [], ◌∷◌, length}
+use Rattle.std.proofs.Common.{drop, take}
 use Rattle.std.proofs.Common.{refl, subst, arith, Option, Some, None, Result, Ok, Err}
+use Rattle.std.proofs.lemmas.Bool.Decides.{nat_tests}
 use Rattle.lower.specs.alp_words.Words.{IsWord}
 use Rattle.lower.specs.alp_text.Numbers.{number_of}
 use Rattle.lower.specs.alp_text.declared.numbers.NumberFault.{NumberFault}
@@ -9,52 +11,88 @@ use Rattle.lower.specs.task_lex.declared.token.Kind.{Kind}
 use Rattle.lower.specs.task_lex.declared.token.Kind.TheVariants as k
 use Rattle.lower.specs.task_lex.declared.piece.Piece.{Piece}
 use Rattle.lower.specs.task_lex.declared.piece.Piece.TheVariants as piece
+use Rattle.lower.specs.task_lex.declared.piece.Numeral.{Numeral}
 use Rattle.lower.specs.task_lex.declared.step.Place.{Place}
 use Rattle.lower.specs.task_lex.declared.step.Step.{Step}
 use Rattle.lower.specs.task_lex.declared.step.Step.TheVariants.{Skip, Take, Fails}
 use Rattle.lower.specs.task_lex.declared.fault.Flaw.TheVariants as flaw
-use Rattle.lower.specs.task_lex.Pieces.{is_zero_led, to_65535, piece_of, number, word_kind}
+use Rattle.lower.specs.task_lex.Pieces.{is_zero_led, up_to, piece_of, number_to, has_suffix, word_numeral, long_numeral, numeral, word_kind}
 use Rattle.lower.specs.task_lex.Lex.{Lexed, tokens, fault, with_front, after, step, step_by, counted, numbered, is_opening, is_closing, is_end, depth_after}
 use Rattle.lower.specs.task_lex.Lex.{width_after, lex_within, lex_from, lexed}
 use Rattle.lower.proofs.task_lex.Interface.{deep}
 
+-- the number of a token is of words
+abbrev pub OfWords : Token → Type 0
+OfWords t = IsWord t.value × IsWord t.high
+
 -- behind so many open brackets, tokens with no more than 64 open brackets behind any of them, and with words for numbers
 abbrev pub AreSound : ℕ → List Token → Type 0
 AreSound depth [] = Unit {0}
-AreSound depth (t ∷ ts) = (depth_after t.kind depth ≤ 64) × IsWord t.value × AreSound (depth_after t.kind depth) ts
+AreSound depth (t ∷ ts) = (depth_after t.kind depth ≤ 64) × OfWords t × AreSound (depth_after t.kind depth) ts
 
 -- ---- numerals are worth words
 
-to_word : (r : Result ℕ NumberFault) (value : ℕ) → to_65535 r ≡ Some value → IsWord value
-to_word (Ok n) value h = go (nat_le n 65535) refl h
+at_most : (most : ℕ) (r : Result ℕ NumberFault) (value : ℕ) → up_to most r ≡ Some value → value ≤ most
+at_most most (Ok n) value h = go (nat_le n most) refl h
   where
-    go : (b : Bool) → nat_le n 65535 ≡ b → cond b (Some n) None ≡ Some value → IsWord value
-    go true e h = let same : n ≡ value = cc in grind arith
+    go : (b : Bool) → nat_le n most ≡ b → cond b (Some n) None ≡ Some value → value ≤ most
+    go true e h = let same : n ≡ value = cc in let within : n ≤ most = grind (arith, nat_tests, e) in omega (arith, same, within)
     go false e h = absurd (cc)
-to_word (Err e) value h = absurd (cc)
+at_most most (Err e) value h = absurd (cc)
 
-number_is_word : (w : List ℕ) (value : ℕ) → number w ≡ Some value → IsWord value
-unfolding number
-number_is_word w value h = go (is_zero_led w) h
+number_at_most : (most : ℕ) (w : List ℕ) (value : ℕ) → number_to most w ≡ Some value → value ≤ most
+unfolding number_to
+number_at_most most w value h = go (is_zero_led w) h
   where
-    go : (b : Bool) → cond b None (to_65535 (number_of w)) ≡ Some value → IsWord value
+    go : (b : Bool) → cond b None (up_to most (number_of w)) ≡ Some value → value ≤ most
     go true h = absurd (cc)
-    go false h = to_word (number_of w) value h
+    go false h = at_most most (number_of w) value h
+
+-- the number of a numeral is of words
+abbrev NumeralOfWords : Numeral → Type 0
+NumeralOfWords x = IsWord x.value × IsWord x.high
+
+word_of_words : (o : Option ℕ) (x : Numeral) → ((n : ℕ) → o ≡ Some n → n ≤ 65535) → word_numeral o ≡ Some x → NumeralOfWords x
+word_of_words None x most h = absurd (cc)
+word_of_words (Some n) x most h =
+    let one : Numeral = record { kind = k.Number; value = n; high = 0 } in
+    let is : one ≡ x = cc in
+    let within = most n refl in
+    subst NumeralOfWords is (omega (arith, within), omega arith)
+
+long_of_words : (o : Option ℕ) (x : Numeral) → ((n : ℕ) → o ≡ Some n → n ≤ 4294967295) → long_numeral o ≡ Some x → NumeralOfWords x
+long_of_words None x most h = absurd (cc)
+long_of_words (Some n) x most h =
+    let one : Numeral = record { kind = k.LongNumber; value = n % 65536; high = n / 65536 } in
+    let is : one ≡ x = cc in
+    let within = most n refl in
+    subst NumeralOfWords is (omega arith, omega (arith, within))
+
+numeral_of_words : (w : List ℕ) (x : Numeral) → numeral w ≡ Some x → NumeralOfWords x
+unfolding numeral
+numeral_of_words w x h = go (has_suffix w) h
+  where
+    digits : List ℕ
+    digits = take (length w - 2) w
+
+    go : (b : Bool) → cond b (long_numeral (number_to 4294967295 digits)) (word_numeral (number_to 65535 w)) ≡ Some x → NumeralOfWords x
+    go true h = long_of_words (number_to 4294967295 digits) x (λ n e. number_at_most 4294967295 digits n e) h
+    go false h = word_of_words (number_to 65535 w) x (λ n e. number_at_most 65535 w n e) h
 
 -- ---- steps
 
 -- what a step takes is sound, and counts the brackets on
 abbrev StepSound : Place → Step → Type 0
 StepSound p (Skip q) = q.depth ≡ p.depth
-StepSound p (Take t q) = (q.depth ≡ depth_after t.kind p.depth) × (q.depth ≤ 64) × IsWord t.value
+StepSound p (Take t q) = (q.depth ≡ depth_after t.kind p.depth) × (q.depth ≤ 64) × OfWords t
 StepSound p (Fails f) = Unit {0}
 
-counted_sound : (p : Place) (n : ℕ) (kind : Kind) (value : ℕ) → p.depth ≤ 64 → IsWord value → StepSound p (counted p n kind value)
+counted_sound : (p : Place) (n : ℕ) (kind : Kind) (value high : ℕ) → p.depth ≤ 64 → IsWord value × IsWord high → StepSound p (counted p n kind value high)
 unfolding counted
-counted_sound p n kind value depth word = go (is_opening kind && p.depth == 64) (not (is_end kind) && p.width == 256) refl
+counted_sound p n kind value high depth words = go (is_opening kind && p.depth == 64) (not (is_end kind) && p.width == 256) refl
   where
     taken : Token
-    taken = record { kind = kind; span = record { from = p.at; to = p.at + n }; value = value }
+    taken = record { kind = kind; span = record { from = p.at; to = p.at + n }; value = value; high = high }
 
     next : Place
     next = record { at = p.at + n; depth = depth_after kind (p.depth); width = width_after kind (p.width) }
@@ -62,21 +100,21 @@ counted_sound p n kind value depth word = go (is_opening kind && p.depth == 64) 
     go : (a b : Bool) → (is_opening kind && p.depth == 64) ≡ a → StepSound p (cond a (Fails flaw.TooDeep) (cond b (Fails flaw.TooWide) (Take taken next)))
     go true b e = tt
     go false true e = tt
-    go false false e = (refl, deep (is_opening kind) (is_closing kind) p.depth depth e, word)
+    go false false e = (refl, deep (is_opening kind) (is_closing kind) p.depth depth e, words)
 
 sound_by : (text : List ℕ) (p : Place) (found : Piece) (n : ℕ) → p.depth ≤ 64 → StepSound p (step_by text p found n)
 sound_by text p piece.Blank n depth = refl
 sound_by text p piece.Word n depth = go (nat_lt 31 n)
   where
-    go : (b : Bool) → StepSound p (cond b (Fails flaw.BadName) (counted p n (word_kind (take n text)) 0))
+    go : (b : Bool) → StepSound p (cond b (Fails flaw.BadName) (counted p n (word_kind (take n text)) 0 0))
     go true = tt
-    go false = counted_sound p n (word_kind (take n text)) 0 depth (omega arith)
-sound_by text p piece.Numeral n depth = go (number (take n text)) refl
+    go false = counted_sound p n (word_kind (take n text)) 0 0 depth (omega arith, omega arith)
+sound_by text p piece.Numeral n depth = go (numeral (take n text)) refl
   where
-    go : (o : Option ℕ) → number (take n text) ≡ o → StepSound p (numbered p n o)
+    go : (o : Option Numeral) → numeral (take n text) ≡ o → StepSound p (numbered p n o)
     go None e = tt
-    go (Some value) e = counted_sound p n k.Number value depth (number_is_word (take n text) value e)
-sound_by text p (piece.Mark kind) n depth = counted_sound p n kind 0 depth (omega arith)
+    go (Some x) e = counted_sound p n x.kind x.value x.high depth (numeral_of_words (take n text) x e)
+sound_by text p (piece.Mark kind) n depth = counted_sound p n kind 0 0 depth (omega arith, omega arith)
 sound_by text p piece.Bad n depth = tt
 
 step_sound : (source : List ℕ) (p : Place) → p.depth ≤ 64 → StepSound p (step source p)
@@ -89,7 +127,7 @@ abbrev Sound : ℕ → Lexed → Type 0
 Sound depth (tokens ts) = AreSound depth ts
 Sound depth (fault f at) = Unit {0}
 
-sound_front : (depth : ℕ) (t : Token) (rest : Lexed) → depth_after t.kind depth ≤ 64 → IsWord t.value → Sound (depth_after t.kind depth) rest
+sound_front : (depth : ℕ) (t : Token) (rest : Lexed) → depth_after t.kind depth ≤ 64 → OfWords t → Sound (depth_after t.kind depth) rest
     → Sound depth (with_front (t ∷ []) rest)
 sound_front depth t (tokens ts) a b h = (a, b, h)
 sound_front depth t (fault f at) a b h = tt
@@ -97,7 +135,7 @@ sound_front depth t (fault f at) a b h = tt
 sound_after : (go : Place → Lexed) (p : Place) (s : Step) → p.depth ≤ 64 → StepSound p s → ((q : Place) → q.depth ≤ 64 → Sound (q.depth) (go q))
     → Sound (p.depth) (after go (p.at) s)
 sound_after go p (Skip q) depth h next = subst (λ d. Sound d (go q)) h (next q (omega arith))
-sound_after go p (Take t q) depth h next = sound_front (p.depth) t (go q) (omega arith) h.2 (subst (λ d. Sound d (go q)) h.0 (next q h.1))
+sound_after go p (Take t q) depth h next = sound_front (p.depth) t (go q) (omega (arith, h.0, h.1)) h.2 (subst (λ d. Sound d (go q)) h.0 (next q h.1))
 sound_after go p (Fails f) depth h next = tt
 
 module _ (source : List ℕ) where

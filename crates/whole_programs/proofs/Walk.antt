@@ -40,7 +40,7 @@ use_of (role.Local of begin end) = declared ∷ []
 use_of role.Target = []
 use_of role.Task = []
 use_of (role.Shared of e) = []
-use_of (role.Count n) = []
+use_of (role.Operand refused what) = []
 
 -- those of names, in the text's order
 abbrev pub uses_in : List Occurrence → List Use
@@ -96,7 +96,7 @@ one_used source shared o (role.Local of begin end) n s e f h = (h, tt)
 one_used source shared o role.Target n s e f h = tt
 one_used source shared o role.Task n s e f h = tt
 one_used source shared o (role.Shared of x) n s e f h = tt
-one_used source shared o (role.Count k) n s e f h = tt
+one_used source shared o (role.Operand refused what) n s e f h = tt
 
 -- names without a fault
 pub record AreClean (source : List ℕ) (all front : List Occurrence) : Type 0 where

@@ -10,7 +10,7 @@ use Rattle.lower.specs.task_ast.Paths as path
 use Rattle.lower.specs.task_ast.declared.SharedDeclaration.{SharedDeclaration}
 use Rattle.lower.specs.task_ast.declared.UnaryOperator.{UnaryOperator}
 use Rattle.lower.specs.task_ast.declared.UnaryOperator.TheVariants as unary_operator
-use Rattle.lower.specs.task_ast.declared.BinaryOperator.{BinaryOperator}
+use Rattle.lower.specs.task_ast.declared.PlacedOperator.{PlacedOperator}
 use Rattle.lower.specs.task_ast.declared.ShortCircuitOperator.{ShortCircuitOperator}
 use Rattle.lower.specs.task_ast.declared.ShortCircuitOperator.TheVariants.{And as BothHold, Or as OneHolds}
 use Rattle.lower.specs.task_ast.declared.names.Variable.{Variable}
@@ -78,6 +78,7 @@ ReadOf a (Local n) = a (n % 65536) ≡ true
 
 abbrev ReadsAssigned : (ℕ → Bool) → CheckedExpression → Type 0
 ReadsAssigned a (t.number w) = Unit {0}
+ReadsAssigned a (t.long_number w) = Unit {0}
 ReadsAssigned a (t.name x) = ReadOf a x.variable
 ReadsAssigned a (t.element x index) = ReadsAssigned a index
 ReadsAssigned a t.sense = Unit {0}
@@ -89,6 +90,7 @@ ReadsAssigned a (t.short_circuit op b c) = ReadsAssigned a b × ReadsAssigned a 
 -- an expression leaves a word
 some_room : (room d : ℕ) (e : CheckedExpression) → ExpressionFits room d e → d < room
 some_room room d (t.number w) h = h.0
+some_room room d (t.long_number w) h = h
 some_room room d (t.name x) h = h
 some_room room d (t.element x index) h = some_room room d index h
 some_room room d t.sense h = h
@@ -100,6 +102,7 @@ some_room room d (t.short_circuit op a b) h = some_room room d a h.0
 -- with fewer words beneath
 fits_above : (room d : ℕ) (e : CheckedExpression) → ExpressionFits room (suc d) e → ExpressionFits room d e
 fits_above room d (t.number w) h = (omega (arith, h.0), h.1)
+fits_above room d (t.long_number w) h = omega arith
 fits_above room d (t.name x) h = omega arith
 fits_above room d (t.element x index) h = fits_above room d index h
 fits_above room d t.sense h = omega arith
@@ -198,6 +201,7 @@ module _ (room : ℕ) (p : Places) where
 
   lowering_way : (d : ℕ) (a : ℕ → Bool) (e : CheckedExpression) → ExpressionFits room d e → ReadsAssigned a e → HasWays d a (lowering p e)
   lowering_way d a (t.number w) f r = by_word d a _ f.0 (λ next x. pushed d a next f.0 x)
+  lowering_way d a (t.long_number w) f r = by_word d a _ f (λ next x. pushed d a next f x)
   lowering_way d a (t.name x) f r = by_word d a _ f (λ next y. read_way d a x.variable next f r y)
   lowering_way d a (t.element x index) f r =
       let few = some_room room d index f in
@@ -209,7 +213,7 @@ module _ (room : ℕ) (p : Places) where
   lowering_way d a (t.binary op b c) f r =
       let first = lowered_expression p b in
       let second = lowered_expression p c in
-      binary_way d a (binary_meaning op (joined_type (type_of b) (type_of c))) (joined first second) (some_room room d b f.0)
+      binary_way d a (binary_meaning op.operator (joined_type (type_of b) (type_of c))) (joined first second) (some_room room d b f.0)
       (λ next x. joined_way room first second next (at d a)
       ((lowering_way d a b f.0 r.0).word (EachWay room second next) ((lowering_way (suc d) a c f.1 r.1).word next x)))
   lowering_way d a (t.shift op e count) f r =
@@ -268,6 +272,7 @@ covers_forgotten u a x c y l h = c y l (by_test (is_local y x.variable) h)
 reads_assigned : (shared : List SharedDeclaration) (u a : ℕ → Bool) (e : CheckedExpression) → Covers u a → ExpressionUses shared e → Safe u (names_read e)
     → ReadsAssigned a e
 reads_assigned shared u a (t.number w) c n s = tt
+reads_assigned shared u a (t.long_number w) c n s = tt
 reads_assigned shared u a (t.name x) c n s = by_variable x.variable n s.0
   where
     by_variable : (v : Variable) → IsWordName shared v → IsAssigned u v → ReadOf a v
@@ -353,12 +358,12 @@ module _ (room : ℕ) (p : Places) (shared : List SharedDeclaration) (even : p.m
       joined_way room (lowered_expression p e) (one (write_step p x.variable)) next (at 0 a)
       (expression_way room p 0 a e _ f r (write_behind u a x e next c h))
 
-  sides_set_way : (u a : ℕ → Bool) (x : VariableName) (op : BinaryOperator) (b e : CheckedExpression) (o : Option PlainOperation) (next : Place → Type 0)
-      → updating x.variable op b ≡ o → ExpressionFits room 0 (t.binary op b e) → Covers u a → ReadsAssigned a (t.binary op b e)
+  sides_set_way : (u a : ℕ → Bool) (x : VariableName) (op : PlacedOperator) (b e : CheckedExpression) (o : Option PlainOperation) (next : Place → Type 0)
+      → updating x.variable op.operator b ≡ o → ExpressionFits room 0 (t.binary op b e) → Covers u a → ReadsAssigned a (t.binary op b e)
       → Written u x (t.binary op b e) next → EachWay room (sides_set p x.variable op b e o) next (at 0 a)
   sides_set_way u a x op b e None next is f c r h = setting_way u a x (t.binary op b e) next f c r h
   sides_set_way u a x op b e (Some o) next is f c r h =
-      let update = is_update x.variable op b o is in
+      let update = is_update x.variable op.operator b o is in
       let own : ReadOf a x.variable = subst (ReadOf a) update.same (subst (ReadsAssigned a) update.is r.0) in
       joined_way room (lowered_expression p e) (one (update_step p o x.variable)) next (at 0 a)
       (expression_way room p 0 a e _ (fits_above room 0 e f.1) r.1
@@ -367,7 +372,7 @@ module _ (room : ℕ) (p : Places) (shared : List SharedDeclaration) (even : p.m
   -- the first clause makes it a proof by cases
   assignment_way : (u a : ℕ → Bool) (x : VariableName) (e : CheckedExpression) (next : Place → Type 0) → ExpressionFits room 0 e → Covers u a
       → ReadsAssigned a e → Written u x e next → EachWay room (assignment p x.variable e) next (at 0 a)
-  assignment_way u a x (t.binary op b e) next f c r h = sides_set_way u a x op b e (updating x.variable op b) next refl f c r h
+  assignment_way u a x (t.binary op b e) next f c r h = sides_set_way u a x op b e (updating x.variable op.operator b) next refl f c r h
   assignment_way u a x e next f c r h = setting_way u a x e next f c r h
 
   assigned_way : (u a : ℕ → Bool) (x : VariableName) (e : CheckedExpression) (next : Place → Type 0) → ExpressionFits room 0 e → ExpressionUses shared e
@@ -396,7 +401,7 @@ module _ (room : ℕ) (p : Places) (shared : List SharedDeclaration) (even : p.m
       (joined_way room (lowered_expression p index) (lowered_expression p e) (EachWay room (one s) next) (at 0 a)
       (expression_way room p 0 a index _ f q (expression_way room p 1 a e _ g r h)))
 
-  element_sides_way : (a : ℕ → Bool) (x : Variable) (index : CheckedExpression) (op : BinaryOperator) (b e : CheckedExpression) (o : Option PlainOperation)
+  element_sides_way : (a : ℕ → Bool) (x : Variable) (index : CheckedExpression) (op : PlacedOperator) (b e : CheckedExpression) (o : Option PlainOperation)
       (next : Place → Type 0) → ExpressionFits room 0 index → ExpressionFits room 1 (t.binary op b e)
       → ReadsAssigned a index → ReadsAssigned a (t.binary op b e) → Moves room 2 0 next (at 2 a)
       → EachWay room (element_sides_set p x index op b e o) next (at 0 a)
@@ -409,7 +414,7 @@ module _ (room : ℕ) (p : Places) (shared : List SharedDeclaration) (even : p.m
       → ExpressionFits room 1 e → ReadsAssigned a index → ReadsAssigned a e → Moves room 2 0 next (at 2 a)
       → EachWay room (element_assignment p x index e) next (at 0 a)
   element_assignment_way a x index (t.binary op b e) next f g q r h =
-      element_sides_way a x index op b e (element_updating x index op b) next f g q r h
+      element_sides_way a x index op b e (element_updating x index op.operator b) next f g q r h
   element_assignment_way a x index e next f g q r h = index_and_value_way a index e (store_step p x) next f g q r h
 
   -- of an index and a value

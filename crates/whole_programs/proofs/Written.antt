@@ -71,6 +71,7 @@ no_write v x h = write_is (is_same (Shared v) x) ∙ local_differs v x h
 pub expression_writes_nothing : (x : Variable) (e : CheckedExpression) → (expression_sum (summary x) e).writes ≡ false
 unfolding summary
 expression_writes_nothing x (t.number _) = refl
+expression_writes_nothing x (t.long_number _) = refl
 expression_writes_nothing x (t.name n) = read_writes (is_same x n.variable)
 expression_writes_nothing x (t.element n index) =
     none_late (expression_sum (summary x) index).writes _ _ (expression_writes_nothing x index) (read_writes (is_same x n.variable))
@@ -86,6 +87,7 @@ expression_writes_nothing x (t.short_circuit _ a b) =
 pub expression_goes_on : (x : Variable) (e : CheckedExpression) → (expression_sum (summary x) e).falls_through ≡ true
 unfolding summary
 expression_goes_on x (t.number _) = refl
+expression_goes_on x (t.long_number _) = refl
 expression_goes_on x (t.name n) = read_goes_on (is_same x n.variable)
 expression_goes_on x (t.element n index) =
     and_from (expression_sum (summary x) index).falls_through _ (expression_goes_on x index) (read_goes_on (is_same x n.variable))

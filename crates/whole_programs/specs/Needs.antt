@@ -8,6 +8,7 @@ use Rattle.lower.specs.task_ast.Tree as t
 -- left side of an operator waits beneath the right one; that of `&&` and `||` doesn't
 abbrev pub ExpressionFits : {V : Type 0} → ℕ → ℕ → Expression V → Type 0
 ExpressionFits room beneath (t.number w) = (beneath < room) × IsWord w
+ExpressionFits room beneath (t.long_number w) = beneath < room
 ExpressionFits room beneath (t.name x) = beneath < room
 ExpressionFits room beneath (t.element x index) = ExpressionFits room beneath index
 ExpressionFits room beneath t.sense = beneath < room

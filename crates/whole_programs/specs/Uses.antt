@@ -25,6 +25,7 @@ IsLocalName (Local n) = n < 256
 -- each name in an expression is used so: an array's where there is an index, a word's elsewhere
 abbrev pub ExpressionUses : List SharedDeclaration → CheckedExpression → Type 0
 ExpressionUses shared (t.number w) = Unit {0}
+ExpressionUses shared (t.long_number w) = Unit {0}
 ExpressionUses shared (t.name x) = IsWordName shared x.variable
 ExpressionUses shared (t.element x index) = IsArrayName shared x.variable × ExpressionUses shared index
 ExpressionUses shared t.sense = Unit {0}

@@ -1,5 +1,4 @@
-use Rattle.std.proofs.Common.{◌≡◌, drop}
-use Rattle.codegen.specs.Code.{is_bounded}
+use Rattle.codegen.proofs.Names.{◌≡◌, drop, is_bounded}
 use Rattle.codegen.proofs.bounds.is_bounded.Given as goal
 
 abbrev pub invariant-loop-bound : goal.invariant-loop-bound

@@ -1,5 +1,4 @@
-use Rattle.std.proofs.Common.{◌≡◌, ◌+◌, length, drop}
-use Rattle.code_forms.specs.Placed.{words_of as instruction_words}
+use Rattle.codegen.proofs.Names.{◌≡◌, ◌+◌, length, drop, instruction_words}
 use Rattle.codegen.proofs.decisions.code_words.Given as goal
 
 abbrev pub invariant-loop-instruction : goal.invariant-loop-instruction

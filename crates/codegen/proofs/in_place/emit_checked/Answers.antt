@@ -1,9 +1,7 @@
-use Rattle.std.proofs.Common.{◌++◌, ◌∷◌, [], refl, ap, ◌∙◌, arith}
+use Rattle.codegen.proofs.Names.{◌++◌, ◌∷◌, [], refl, ap, ◌∙◌, arith, R4, Number, Calculate, Jump, instruction_of, instructions, size, rest_source}
+use Rattle.codegen.proofs.Names.{inside_update}
 use Rattle.msp_isa.specs.declared.instructions.Condition.TheVariants as condition
 use Rattle.msp_isa.specs.declared.instructions.TwoOp.TheVariants as op
-use Rattle.code_forms.specs.Forms.{R4, Number, Calculate, Jump, instruction_of}
-use Rattle.code_forms.specs.Placed.{instructions}
-use Rattle.codegen.specs.Code.{size, rest_source, inside_update}
 use Rattle.codegen.proofs.UpdateBytes.{reads_bytes, inside_bytes}
 use Rattle.codegen.proofs.UpdateEmitted.{few_words}
 use Rattle.codegen.proofs.Emitted.{cons, own_behind, own_words, on_ok_items}
@@ -39,5 +37,5 @@ returns c =
     let front = Calculate op.Cmp (Number c.args.place.length) R4 ∷ Jump condition.Carry (size ms) ∷ [] in
     let first = c.in_ok-extend_from_slice.ensures.items ∙ ap (λ l. old ++ l) (cons _ _ _ _ c.two.ensures
     (cons _ _ _ _ (c.jump.ensures ∙ ap (λ n. instruction_of (Jump condition.Carry n)) words) refl)) in
-    own_behind c.extend_from_slice-2.result old c.extend_from_slice.new.self.items c.deref-2.result.now _ front ms _ first (c.deref-2.ensures.value ∙ own) refl
+    own_behind c.extend_from_slice-2.result _ _ _ _ front ms _ first (c.deref-2.ensures.value ∙ own) refl
     (on_ok_items c.extend_from_slice-2.result _ _ _ c.extend_from_slice-2.ensures.items)

@@ -1,6 +1,4 @@
-use Rattle.std.proofs.Common.{◌++◌, ◌∷◌, [], refl, ap, ◌∙◌}
-use Rattle.code_forms.specs.Placed.{instructions}
-use Rattle.codegen.specs.Code.{rest_source, made_code, attempt_form, first_code}
+use Rattle.codegen.proofs.Names.{◌++◌, ◌∷◌, [], refl, ap, ◌∙◌, instructions, rest_source, made_code, attempt_form, first_code}
 use Rattle.codegen.proofs.Emitted.{two_behind, part_behind}
 use Rattle.codegen.proofs.in_place.emit_first_update.Goals as goal
 
@@ -13,5 +11,4 @@ returns c =
     let rest = first_code place c.args.list in
     let first = c.in_ok-extend_from_slice.ensures.items ∙ ap (λ i. c.emit_made.new.code.items ++ i ∷ []) c.attempt_number.ensures
     ∙ ap (λ l. l ++ instructions number) c.in_ok-emit_made.ensures ∙ two_behind old made number in
-    part_behind c.emit_first.result old c.extend_from_slice.new.self.items c.emit_first.new.code.items (made ++ number) rest rest _ first refl refl
-    c.emit_first.ensures
+    part_behind c.emit_first.result _ _ _ (made ++ number) rest rest _ first refl refl c.emit_first.ensures

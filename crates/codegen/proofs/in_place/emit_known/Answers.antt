@@ -1,12 +1,7 @@
-use Rattle.std.proofs.Common.{◌++◌, ◌∷◌, [], refl, ap, ap₂, ◌∙◌}
-use Rattle.msp_isa.specs.alp_words.Words.{word_sum}
-use Rattle.msp_isa.specs.alp_words.declared.Width.TheVariants.{Word}
-use Rattle.msp_isa.specs.declared.instructions.Instr.TheVariants.{Two}
+use Rattle.codegen.proofs.Names.{◌++◌, ◌∷◌, [], refl, ap, ap₂, ◌∙◌, word_sum, Word, Two, R4, R6, Number, Fram, ToRegister, Move, Calculate, Update}
+use Rattle.codegen.proofs.Names.{instructions, plain_instruction, rest_source, attempt_form, first_update, by_version}
 use Rattle.msp_isa.specs.declared.instructions.TwoOp.TheVariants as op
 use Rattle.msp_isa.specs.declared.operands.Dst.TheVariants as dst
-use Rattle.code_forms.specs.Forms.{R4, R6, Number, Fram, ToRegister, Move, Calculate, Update}
-use Rattle.code_forms.specs.Placed.{instructions}
-use Rattle.codegen.specs.Code.{plain_instruction, rest_source, attempt_form, first_update, by_version}
 use Rattle.codegen.proofs.UpdateEmitted.{two_ways}
 use Rattle.codegen.proofs.Emitted.{cons, from_source, own_behind}
 use Rattle.codegen.proofs.in_place.emit_known.Goals as goal
@@ -27,5 +22,5 @@ returns c =
     let other = c.deref.ensures.value ∙ c.in_ok-emit_first_update.ensures ∙ ap (λ l. l ++ instructions rest) loaded in
     let looked = c.in_ok-extend_from_slice-2.ensures.items ∙ ap (λ l. old ++ l) (cons _ _ _ _ c.attempt_number.ensures
     (cons _ _ _ _ (from_source _ _ _ _ _ c.two-3.ensures c.absolute.ensures) refl)) in
-    own_behind c.emit_by_version.result old c.extend_from_slice-2.new.self.items _ c.emit_by_version.new.code.items front (by_version again first) _ looked
+    own_behind c.emit_by_version.result _ _ _ c.emit_by_version.new.code.items front (by_version again first) _ looked
     (two_ways (c.two.result ∷ []) c.deref.result.now again first one other) refl c.emit_by_version.ensures

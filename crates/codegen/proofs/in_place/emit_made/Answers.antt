@@ -1,10 +1,6 @@
-use Rattle.std.proofs.Common.{◌++◌, refl, ap, ap₂, ◌∙◌}
-use Rattle.std.proofs.lemmas.Result.{on_ok_weaker}
-use Rattle.msp_isa.specs.alp_words.declared.Width.TheVariants.{Word}
-use Rattle.msp_isa.specs.declared.instructions.Instr.TheVariants.{Two}
+use Rattle.codegen.proofs.Names.{◌++◌, refl, ap, ap₂, ◌∙◌, on_ok_weaker, Word, Two, R7, index_of}
 use Rattle.msp_isa.specs.declared.operands.Dst.TheVariants as dst
 use Rattle.msp_isa.specs.declared.registers.Reg.TheVariants as reg
-use Rattle.code_forms.specs.Forms.{R7, index_of}
 use Rattle.codegen.proofs.Emitted.{cons, from_source, on_ok_items}
 use Rattle.codegen.proofs.in_place.emit_made.Goals as goal
 

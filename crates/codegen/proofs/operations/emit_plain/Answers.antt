@@ -1,11 +1,7 @@
-use Rattle.std.proofs.Common.{◌++◌, ◌∷◌, [], ap, ap₂, ◌∙◌}
-use Rattle.std.proofs.lemmas.Result.{on_ok_weaker}
-use Rattle.msp_isa.specs.alp_words.declared.Width.TheVariants.{Word}
-use Rattle.msp_isa.specs.declared.instructions.Instr.TheVariants.{Two}
+use Rattle.codegen.proofs.Names.{◌++◌, ◌∷◌, [], ap, ap₂, ◌∙◌, on_ok_weaker, Word, Two, R4, index_of, Calculate, instruction_of, top_of, plain_instruction}
+use Rattle.codegen.proofs.Names.{sides, right_source}
 use Rattle.msp_isa.specs.declared.operands.Dst.TheVariants as dst
 use Rattle.msp_isa.specs.declared.registers.Reg.TheVariants as reg
-use Rattle.code_forms.specs.Forms.{R4, index_of, Calculate, instruction_of}
-use Rattle.codegen.specs.Code.{top_of, plain_instruction, sides, right_source}
 use Rattle.codegen.proofs.Emitted.{two_behind}
 use Rattle.codegen.proofs.operations.emit_plain.Goals as goal
 

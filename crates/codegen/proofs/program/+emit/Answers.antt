@@ -1,20 +1,13 @@
-use Rattle.std.proofs.Common.{◌≡◌, ◌+◌, ◌∷◌, ◌++◌, [], drop, not, refl, sym, ap, ◌∙◌, subst, arith, rules, append_assoc, false, true}
-use Rattle.std.proofs.Common.{if◌then◌else◌, lt-ltb, le-ltb, List, append-nil}
-use Rattle.std.specs.Result.{OnOk}
-use Rattle.code_forms.specs.Forms.{Form}
-use Rattle.code_forms.specs.Placed.{instructions}
-use Rattle.codegen.specs.declared.waiting.Waiting.{Waiting}
-use Rattle.code_forms.proofs.Interface.{forms_bytes-append, instructions-append}
-use Rattle.array_versions.specs.View.{step_of, steps_of, test_of}
+use Rattle.codegen.proofs.Names.{◌+◌, ◌∷◌, ◌++◌, [], drop, not, refl, sym, ap, ◌∙◌, subst, arith, rules, append_assoc, false, true, if◌then◌else◌, lt-ltb}
+use Rattle.codegen.proofs.Names.{le-ltb, List, append-nil, Form, instructions, Waiting, forms_bytes-append, step_of, steps_of, test_of, StepLocalsBelow}
+use Rattle.codegen.proofs.Names.{TestLocalsBelow, LocalsBelow, OfWords, words_of, step_words, test_words, flushed, holds_code, compares_code, truth_code, size}
+use Rattle.codegen.proofs.Names.{pass_over, jump_back, number_code, turn_end, turns_code, waiting_after, step_code, test_code, steps_code, bound_of, block_code}
 use Rattle.array_versions.specs.declared.program.WordStep as word_step
-use Rattle.array_versions.specs.Form.{StepLocalsBelow, TestLocalsBelow, LocalsBelow, OfWords, StepOfWords}
-use Rattle.array_versions.specs.Cost.{words_of, step_words, test_words}
 use Rattle.msp_isa.specs.declared.instructions.Condition.TheVariants as condition
-use Rattle.codegen.specs.Code.{flushed, holds_code, compares_code, truth_code, size, pass_over, jump_back, number_code, turn_end, turns_code, waiting_behind}
-use Rattle.codegen.specs.Code.{waiting_after, step_code, test_code, steps_code, bound_of, block_code}
-use Rattle.codegen.proofs.Emitted.{step_of-choose, step_of-read, step_of-write, step_of-update, test_of-holds, test_of-compares, test_of-both, test_of-either}
-use Rattle.codegen.proofs.Emitted.{part_behind, two_behind, own_behind, on_ok_items, words_at_most, own_words, step_owed, left_front}
-use Rattle.codegen.proofs.Lengths.{pass_short, turn_end_short, test_short, inner_short}
+use Rattle.codegen.proofs.Emitted.{made_next, test_items, step_of-choose, step_of-read, step_of-write, step_of-update, test_of-holds, test_of-compares}
+use Rattle.codegen.proofs.Emitted.{test_of-both, test_of-either, part_behind, two_behind, own_behind, on_ok_items, words_at_most, own_words, step_owed}
+use Rattle.codegen.proofs.Emitted.{left_front}
+use Rattle.codegen.proofs.Lengths.{pass_takes, turn_end_takes, inner_takes}
 use Rattle.codegen.proofs.program.+emit.Goals as goal
 
 pub emit_steps-loop-step-preserved : goal.emit_steps-loop-step-preserved
@@ -96,115 +89,83 @@ emit_truth-returns-clause-code t c =
 
 pub emit_step-returns-in-VersionedRead-clause-code : goal.emit_step-returns-in-VersionedRead-clause-code
 emit_step-returns-in-VersionedRead-clause-code t c =
-    let bs = c.args.bounds.now in
-    let is = ap step_of c.in-VersionedRead.is ∙ step_of-read c.in-VersionedRead.place c.in-VersionedRead.list in
-    subst (λ s. OnOk c.emit_versioned_read.result
-    (c.emit_versioned_read.new.code.items ≡ c.args.code.now.items ++ instructions (step_code bs c.args.waiting.now.items s))) (sym is)
-    c.emit_versioned_read.ensures.code
+    rw (ap step_of c.in-VersionedRead.is ∙ step_of-read c.in-VersionedRead.place c.in-VersionedRead.list) c.emit_versioned_read.ensures.code
 
 pub emit_step-returns-in-VersionedRead-clause-waiting : goal.emit_step-returns-in-VersionedRead-clause-waiting
 emit_step-returns-in-VersionedRead-clause-waiting t c =
-    let is = ap step_of c.in-VersionedRead.is ∙ step_of-read c.in-VersionedRead.place c.in-VersionedRead.list in
-    subst (λ s. OnOk c.emit_versioned_read.result (c.emit_versioned_read.new.waiting.items ≡ waiting_behind c.args.waiting.now.items s)) (sym is)
-    c.emit_versioned_read.ensures.waiting
+    rw (ap step_of c.in-VersionedRead.is ∙ step_of-read c.in-VersionedRead.place c.in-VersionedRead.list) c.emit_versioned_read.ensures.waiting
 
 pub emit_step-returns-in-VersionedRead-clause-of_words : goal.emit_step-returns-in-VersionedRead-clause-of_words
 emit_step-returns-in-VersionedRead-clause-of_words t c =
-    let is = ap step_of c.in-VersionedRead.is ∙ step_of-read c.in-VersionedRead.place c.in-VersionedRead.list in
-    subst (λ s. OnOk c.emit_versioned_read.result (StepOfWords s)) (sym is) c.emit_versioned_read.ensures.of_words
+    rw (ap step_of c.in-VersionedRead.is ∙ step_of-read c.in-VersionedRead.place c.in-VersionedRead.list) c.emit_versioned_read.ensures.of_words
 
 pub emit_step-returns-in-VersionedWrite-clause-code : goal.emit_step-returns-in-VersionedWrite-clause-code
 emit_step-returns-in-VersionedWrite-clause-code t c =
-    let bs = c.args.bounds.now in
-    let is = ap step_of c.in-VersionedWrite.is ∙ step_of-write c.in-VersionedWrite.place c.in-VersionedWrite.list in
-    subst (λ s. OnOk c.emit_versioned_write.result
-    (c.emit_versioned_write.new.code.items ≡ c.args.code.now.items ++ instructions (step_code bs c.args.waiting.now.items s))) (sym is)
-    c.emit_versioned_write.ensures.code
+    rw (ap step_of c.in-VersionedWrite.is ∙ step_of-write c.in-VersionedWrite.place c.in-VersionedWrite.list) c.emit_versioned_write.ensures.code
 
 pub emit_step-returns-in-VersionedWrite-clause-waiting : goal.emit_step-returns-in-VersionedWrite-clause-waiting
 emit_step-returns-in-VersionedWrite-clause-waiting t c =
-    let is = ap step_of c.in-VersionedWrite.is ∙ step_of-write c.in-VersionedWrite.place c.in-VersionedWrite.list in
-    subst (λ s. OnOk c.emit_versioned_write.result (c.emit_versioned_write.new.waiting.items ≡ waiting_behind c.args.waiting.now.items s)) (sym is)
-    c.emit_versioned_write.ensures.waiting
+    rw (ap step_of c.in-VersionedWrite.is ∙ step_of-write c.in-VersionedWrite.place c.in-VersionedWrite.list) c.emit_versioned_write.ensures.waiting
 
 pub emit_step-returns-in-VersionedWrite-clause-of_words : goal.emit_step-returns-in-VersionedWrite-clause-of_words
 emit_step-returns-in-VersionedWrite-clause-of_words t c =
-    let is = ap step_of c.in-VersionedWrite.is ∙ step_of-write c.in-VersionedWrite.place c.in-VersionedWrite.list in
-    subst (λ s. OnOk c.emit_versioned_write.result (StepOfWords s)) (sym is) c.emit_versioned_write.ensures.of_words
+    rw (ap step_of c.in-VersionedWrite.is ∙ step_of-write c.in-VersionedWrite.place c.in-VersionedWrite.list) c.emit_versioned_write.ensures.of_words
 
 pub emit_step-returns-in-VersionedUpdate-clause-code : goal.emit_step-returns-in-VersionedUpdate-clause-code
 emit_step-returns-in-VersionedUpdate-clause-code t c =
-    let is = ap step_of c.in-VersionedUpdate.is ∙ step_of-update c.in-VersionedUpdate.operation c.in-VersionedUpdate.place c.in-VersionedUpdate.list in
-    subst (λ s. OnOk c.emit_versioned_update.result
-    (c.emit_versioned_update.new.code.items ≡ c.args.code.now.items ++ instructions (step_code c.args.bounds.now c.args.waiting.now.items s))) (sym is)
-    c.emit_versioned_update.ensures.code
+    let of = c.in-VersionedUpdate in
+    rw (ap step_of of.is ∙ step_of-update of.operation of.place of.list) c.emit_versioned_update.ensures.code
 
 pub emit_step-returns-in-VersionedUpdate-clause-waiting : goal.emit_step-returns-in-VersionedUpdate-clause-waiting
 emit_step-returns-in-VersionedUpdate-clause-waiting t c =
-    let is = ap step_of c.in-VersionedUpdate.is ∙ step_of-update c.in-VersionedUpdate.operation c.in-VersionedUpdate.place c.in-VersionedUpdate.list in
-    subst (λ s. OnOk c.emit_versioned_update.result (c.emit_versioned_update.new.waiting.items ≡ waiting_behind c.args.waiting.now.items s)) (sym is)
-    c.emit_versioned_update.ensures.waiting
+    let of = c.in-VersionedUpdate in
+    rw (ap step_of of.is ∙ step_of-update of.operation of.place of.list) c.emit_versioned_update.ensures.waiting
 
 pub emit_step-returns-in-VersionedUpdate-clause-of_words : goal.emit_step-returns-in-VersionedUpdate-clause-of_words
 emit_step-returns-in-VersionedUpdate-clause-of_words t c =
-    let is = ap step_of c.in-VersionedUpdate.is ∙ step_of-update c.in-VersionedUpdate.operation c.in-VersionedUpdate.place c.in-VersionedUpdate.list in
-    subst (λ s. OnOk c.emit_versioned_update.result (StepOfWords s)) (sym is) c.emit_versioned_update.ensures.of_words
+    let of = c.in-VersionedUpdate in
+    rw (ap step_of of.is ∙ step_of-update of.operation of.place of.list) c.emit_versioned_update.ensures.of_words
 
 pub emit_test-code_words-requires : goal.emit_test-code_words-requires
 emit_test-code_words-requires t c =
     let bs = c.args.bounds.now in
-    let when = c.args.when in
-    let over = c.args.over in
-    let a = test_of c.in-Both.first.value in
-    let u = test_of c.in-Both.second.value in
-    let second = test_code bs u when over in
-    let is = ap test_of c.in-Both.is ∙ test_of-both c.in-Both.first c.in-Both.second in
-    let own = c.in_ok-emit_test-in-Both.ensures.code ∙ ap (λ x. c.new-behind.result.items ++ instructions (test_code bs (test_of x) when over))
-    c.deref-in-Both.ensures
-    ∙ ap (λ l. l ++ instructions second) c.new-behind.ensures.items in
-    let words = own_words c.deref-in-Both-2.result.now second (c.deref-in-Both-2.ensures.value ∙ own) in
-    omega (arith, words, test_short bs u when over, ap test_words is, c.requires.room)
+    let of = c.in-Both in
+    let is = ap test_of of.is ∙ test_of-both of.first of.second in
+    let own = made_next (λ x. test_code bs (test_of x) c.args.when c.args.over) _ _ [] [] _ _ c.in_ok-emit_test-in-Both.ensures.code c.deref-in-Both.ensures
+    c.new-behind.ensures.items in
+    let words = test_items bs (test_of of.second.value) c.args.when c.args.over _ (c.deref-in-Both-2.ensures.value ∙ own) in
+    omega (arith, words, ap test_words is, c.requires.room)
 
 pub emit_test-overflow_add-further : goal.emit_test-overflow_add-further
 emit_test-overflow_add-further t c =
     let bs = c.args.bounds.now in
-    let when = c.args.when in
-    let over = c.args.over in
-    let a = test_of c.in-Both.first.value in
-    let u = test_of c.in-Both.second.value in
-    let second = test_code bs u when over in
-    let is = ap test_of c.in-Both.is ∙ test_of-both c.in-Both.first c.in-Both.second in
-    let own = c.in_ok-emit_test-in-Both.ensures.code ∙ ap (λ x. c.new-behind.result.items ++ instructions (test_code bs (test_of x) when over))
-    c.deref-in-Both.ensures
-    ∙ ap (λ l. l ++ instructions second) c.new-behind.ensures.items in
-    let words = own_words c.deref-in-Both-2.result.now second (c.deref-in-Both-2.ensures.value ∙ own) in
-    omega (arith, words, test_short bs u when over, ap test_words is, c.requires.room, c.code_words.ensures, c.words_if.ensures, words_at_most (not when) over)
+    let of = c.in-Both in
+    let is = ap test_of of.is ∙ test_of-both of.first of.second in
+    let own = made_next (λ x. test_code bs (test_of x) c.args.when c.args.over) _ _ [] [] _ _ c.in_ok-emit_test-in-Both.ensures.code c.deref-in-Both.ensures
+    c.new-behind.ensures.items in
+    let words = test_items bs (test_of of.second.value) c.args.when c.args.over _ (c.deref-in-Both-2.ensures.value ∙ own) in
+    omega (arith, words, ap test_words is, c.requires.room, c.code_words.ensures, c.words_if.ensures, words_at_most (not c.args.when) c.args.over)
 
 pub emit_test-emit_test-requires-in-Both : goal.emit_test-emit_test-requires-in-Both
 emit_test-emit_test-requires-in-Both t c =
     let bs = c.args.bounds.now in
-    let when = c.args.when in
-    let over = c.args.over in
-    let a = test_of c.in-Both.first.value in
-    let u = test_of c.in-Both.second.value in
-    let second = test_code bs u when over in
-    let is = ap test_of c.in-Both.is ∙ test_of-both c.in-Both.first c.in-Both.second in
-    let own = c.in_ok-emit_test-in-Both.ensures.code ∙ ap (λ x. c.new-behind.result.items ++ instructions (test_code bs (test_of x) when over))
-    c.deref-in-Both.ensures
-    ∙ ap (λ l. l ++ instructions second) c.new-behind.ensures.items in
-    let words = own_words c.deref-in-Both-2.result.now second (c.deref-in-Both-2.ensures.value ∙ own) in (
+    let of = c.in-Both in
+    let is = ap test_of of.is ∙ test_of-both of.first of.second in
+    let own = made_next (λ x. test_code bs (test_of x) c.args.when c.args.over) _ _ [] [] _ _ c.in_ok-emit_test-in-Both.ensures.code c.deref-in-Both.ensures
+    c.new-behind.ensures.items in
+    let words = test_items bs (test_of of.second.value) c.args.when c.args.over _ (c.deref-in-Both-2.ensures.value ∙ own) in
+    let first = ap (λ x. test_words (test_of x)) c.deref-in-Both-3.ensures in (
       search (rules, word_step.the_lemmas),
       (
         omega (
           arith,
           words,
-          test_short bs u when over,
+          first,
           ap test_words is,
           c.requires.room,
           c.code_words.ensures,
           c.words_if.ensures,
-          words_at_most (not when) over,
-          ap (λ x. test_words (test_of x)) c.deref-in-Both-3.ensures,
+          words_at_most (not c.args.when) c.args.over,
         ),
         subst (λ x. TestLocalsBelow 1008 (test_of x)) (sym c.deref-in-Both-3.ensures) (subst (TestLocalsBelow 1008) is c.requires.locals).0,
       ),
@@ -213,15 +174,12 @@ emit_test-emit_test-requires-in-Both t c =
 pub emit_test-returns-in_ok-emit_test-in-Both-2-clause-code : goal.emit_test-returns-in_ok-emit_test-in-Both-2-clause-code
 emit_test-returns-in_ok-emit_test-in-Both-2-clause-code t c =
     let bs = c.args.bounds.now in
-    let when = c.args.when in
-    let over = c.args.over in
-    let a = test_of c.in-Both.first.value in
-    let u = test_of c.in-Both.second.value in
-    let second = test_code bs u when over in
-    let is = ap test_of c.in-Both.is ∙ test_of-both c.in-Both.first c.in-Both.second in
-    let own = c.in_ok-emit_test-in-Both.ensures.code ∙ ap (λ x. c.new-behind.result.items ++ instructions (test_code bs (test_of x) when over))
-    c.deref-in-Both.ensures
-    ∙ ap (λ l. l ++ instructions second) c.new-behind.ensures.items in
+    let of = c.in-Both in
+    let is = ap test_of of.is ∙ test_of-both of.first of.second in
+    let own = made_next (λ x. test_code bs (test_of x) c.args.when c.args.over) _ _ [] [] _ _ c.in_ok-emit_test-in-Both.ensures.code c.deref-in-Both.ensures
+    c.new-behind.ensures.items in
+    let a = test_of of.first.value in
+    let second = test_code bs (test_of of.second.value) c.args.when c.args.over in
     let words = own_words c.deref-in-Both-2.result.now second (c.deref-in-Both-2.ensures.value ∙ own) in
     let old = c.args.code.now.items in
     let counted = ap (λ n. n + c.words_if.result) (c.code_words.ensures ∙ words) ∙ ap (λ n. size second + n) c.words_if.ensures in
@@ -229,74 +187,50 @@ emit_test-returns-in_ok-emit_test-in-Both-2-clause-code t c =
     ∙ ap (λ x. old ++ instructions (test_code bs (test_of x) false (c.code_words.result + c.words_if.result))) c.deref-in-Both-3.ensures
     ∙ ap (λ n. old ++ instructions (test_code bs a false n)) counted in
     own_behind c.extend_from_slice.result old c.emit_test-in-Both.new.code.items c.deref-in-Both-4.result.now _
-    (test_code bs a false (size second + (if not when then over else 0))) second _
-    tested (c.deref-in-Both-4.ensures.value ∙ own) (ap (λ q. test_code bs q when over) (sym is))
+    (test_code bs a false (size second + (if not c.args.when then c.args.over else 0))) second _
+    tested (c.deref-in-Both-4.ensures.value ∙ own) (ap (λ q. test_code bs q c.args.when c.args.over) (sym is))
     (on_ok_items c.extend_from_slice.result _ _ _ c.extend_from_slice.ensures.items)
 
 pub emit_test-code_words-requires-in-Either : goal.emit_test-code_words-requires-in-Either
 emit_test-code_words-requires-in-Either t c =
     let bs = c.args.bounds.now in
-    let when = c.args.when in
-    let over = c.args.over in
-    let a = test_of c.in-Either.first.value in
-    let u = test_of c.in-Either.second.value in
-    let second = test_code bs u when over in
-    let is = ap test_of c.in-Either.is ∙ test_of-either c.in-Either.first c.in-Either.second in
-    let own = c.in_ok-emit_test-in-Either.ensures.code ∙ ap (λ x. c.new-behind-in-Either.result.items ++ instructions (test_code bs (test_of x) when over))
-    c.deref-in-Either.ensures
-    ∙ ap (λ l. l ++ instructions second) c.new-behind-in-Either.ensures.items in
-    let words = own_words c.deref-in-Either-2.result.now second (c.deref-in-Either-2.ensures.value ∙ own) in
-    omega (arith, words, test_short bs u when over, ap test_words is, c.requires.room)
+    let of = c.in-Either in
+    let is = ap test_of of.is ∙ test_of-either of.first of.second in
+    let own = made_next (λ x. test_code bs (test_of x) c.args.when c.args.over) _ _ [] [] _ _ c.in_ok-emit_test-in-Either.ensures.code c.deref-in-Either.ensures
+    c.new-behind-in-Either.ensures.items in
+    let words = test_items bs (test_of of.second.value) c.args.when c.args.over _ (c.deref-in-Either-2.ensures.value ∙ own) in
+    omega (arith, words, ap test_words is, c.requires.room)
 
 pub emit_test-overflow_add-further-in-Either : goal.emit_test-overflow_add-further-in-Either
 emit_test-overflow_add-further-in-Either t c =
     let bs = c.args.bounds.now in
-    let when = c.args.when in
-    let over = c.args.over in
-    let a = test_of c.in-Either.first.value in
-    let u = test_of c.in-Either.second.value in
-    let second = test_code bs u when over in
-    let is = ap test_of c.in-Either.is ∙ test_of-either c.in-Either.first c.in-Either.second in
-    let own = c.in_ok-emit_test-in-Either.ensures.code ∙ ap (λ x. c.new-behind-in-Either.result.items ++ instructions (test_code bs (test_of x) when over))
-    c.deref-in-Either.ensures
-    ∙ ap (λ l. l ++ instructions second) c.new-behind-in-Either.ensures.items in
-    let words = own_words c.deref-in-Either-2.result.now second (c.deref-in-Either-2.ensures.value ∙ own) in
-    omega (
-      arith,
-      words,
-      test_short bs u when over,
-      ap test_words is,
-      c.requires.room,
-      c.code_words-in-Either.ensures,
-      c.words_if-in-Either.ensures,
-      words_at_most (when) over,
-    )
+    let of = c.in-Either in
+    let is = ap test_of of.is ∙ test_of-either of.first of.second in
+    let own = made_next (λ x. test_code bs (test_of x) c.args.when c.args.over) _ _ [] [] _ _ c.in_ok-emit_test-in-Either.ensures.code c.deref-in-Either.ensures
+    c.new-behind-in-Either.ensures.items in
+    let words = test_items bs (test_of of.second.value) c.args.when c.args.over _ (c.deref-in-Either-2.ensures.value ∙ own) in
+    omega (arith, words, ap test_words is, c.requires.room, c.code_words-in-Either.ensures, c.words_if-in-Either.ensures, words_at_most c.args.when c.args.over)
 
 pub emit_test-emit_test-requires-in-Either-2 : goal.emit_test-emit_test-requires-in-Either-2
 emit_test-emit_test-requires-in-Either-2 t c =
     let bs = c.args.bounds.now in
-    let when = c.args.when in
-    let over = c.args.over in
-    let a = test_of c.in-Either.first.value in
-    let u = test_of c.in-Either.second.value in
-    let second = test_code bs u when over in
-    let is = ap test_of c.in-Either.is ∙ test_of-either c.in-Either.first c.in-Either.second in
-    let own = c.in_ok-emit_test-in-Either.ensures.code ∙ ap (λ x. c.new-behind-in-Either.result.items ++ instructions (test_code bs (test_of x) when over))
-    c.deref-in-Either.ensures
-    ∙ ap (λ l. l ++ instructions second) c.new-behind-in-Either.ensures.items in
-    let words = own_words c.deref-in-Either-2.result.now second (c.deref-in-Either-2.ensures.value ∙ own) in (
+    let of = c.in-Either in
+    let is = ap test_of of.is ∙ test_of-either of.first of.second in
+    let own = made_next (λ x. test_code bs (test_of x) c.args.when c.args.over) _ _ [] [] _ _ c.in_ok-emit_test-in-Either.ensures.code c.deref-in-Either.ensures
+    c.new-behind-in-Either.ensures.items in
+    let words = test_items bs (test_of of.second.value) c.args.when c.args.over _ (c.deref-in-Either-2.ensures.value ∙ own) in
+    let first = ap (λ x. test_words (test_of x)) c.deref-in-Either-3.ensures in (
       search (rules, word_step.the_lemmas),
       (
         omega (
           arith,
           words,
-          test_short bs u when over,
+          first,
           ap test_words is,
           c.requires.room,
           c.code_words-in-Either.ensures,
           c.words_if-in-Either.ensures,
-          words_at_most (when) over,
-          ap (λ x. test_words (test_of x)) c.deref-in-Either-3.ensures,
+          words_at_most c.args.when c.args.over,
         ),
         subst (λ x. TestLocalsBelow 1008 (test_of x)) (sym c.deref-in-Either-3.ensures) (subst (TestLocalsBelow 1008) is c.requires.locals).0,
       ),
@@ -305,15 +239,12 @@ emit_test-emit_test-requires-in-Either-2 t c =
 pub emit_test-returns-in_ok-emit_test-in-Either-2-clause-code : goal.emit_test-returns-in_ok-emit_test-in-Either-2-clause-code
 emit_test-returns-in_ok-emit_test-in-Either-2-clause-code t c =
     let bs = c.args.bounds.now in
-    let when = c.args.when in
-    let over = c.args.over in
-    let a = test_of c.in-Either.first.value in
-    let u = test_of c.in-Either.second.value in
-    let second = test_code bs u when over in
-    let is = ap test_of c.in-Either.is ∙ test_of-either c.in-Either.first c.in-Either.second in
-    let own = c.in_ok-emit_test-in-Either.ensures.code ∙ ap (λ x. c.new-behind-in-Either.result.items ++ instructions (test_code bs (test_of x) when over))
-    c.deref-in-Either.ensures
-    ∙ ap (λ l. l ++ instructions second) c.new-behind-in-Either.ensures.items in
+    let of = c.in-Either in
+    let is = ap test_of of.is ∙ test_of-either of.first of.second in
+    let own = made_next (λ x. test_code bs (test_of x) c.args.when c.args.over) _ _ [] [] _ _ c.in_ok-emit_test-in-Either.ensures.code c.deref-in-Either.ensures
+    c.new-behind-in-Either.ensures.items in
+    let a = test_of of.first.value in
+    let second = test_code bs (test_of of.second.value) c.args.when c.args.over in
     let words = own_words c.deref-in-Either-2.result.now second (c.deref-in-Either-2.ensures.value ∙ own) in
     let old = c.args.code.now.items in
     let counted = ap (λ n. n + c.words_if-in-Either.result) (c.code_words-in-Either.ensures ∙ words) ∙ ap (λ n. size second + n) c.words_if-in-Either.ensures in
@@ -321,35 +252,34 @@ emit_test-returns-in_ok-emit_test-in-Either-2-clause-code t c =
     ∙ ap (λ x. old ++ instructions (test_code bs (test_of x) true (c.code_words-in-Either.result + c.words_if-in-Either.result))) c.deref-in-Either-3.ensures
     ∙ ap (λ n. old ++ instructions (test_code bs a true n)) counted in
     own_behind c.extend_from_slice-in-Either.result old c.emit_test-in-Either-2.new.code.items c.deref-in-Either-4.result.now _
-    (test_code bs a true (size second + (if when then over else 0))) second _
-    tested (c.deref-in-Either-4.ensures.value ∙ own) (ap (λ q. test_code bs q when over) (sym is))
+    (test_code bs a true (size second + (if c.args.when then c.args.over else 0))) second _
+    tested (c.deref-in-Either-4.ensures.value ∙ own) (ap (λ q. test_code bs q c.args.when c.args.over) (sym is))
     (on_ok_items c.extend_from_slice-in-Either.result _ _ _ c.extend_from_slice-in-Either.ensures.items)
 
 pub emit_loop-code_words-over-requires : goal.emit_loop-code_words-over-requires
 emit_loop-code_words-over-requires t c =
     let inner = bound_of c.args.n c.args.below ∷ c.args.bounds.now in
     let body = steps_of c.args.body.now in
-    let n = c.args.n in
+    let end = turn_end c.args.n c.args.below in
     let made = block_code inner body in
-    let end = turn_end n c.args.below in
-    let turn = c.in_ok-emit_turn_end.ensures ∙ ap (λ l. l ++ instructions end)
-    (c.in_ok-emit_block.ensures.code ∙ ap (λ ws. c.new-turn.result.items ++ instructions (block_code ws (steps_of c.args.body.now)))
-    (c.deref.ensures.value ∙ c.in_ok-inner.ensures) ∙ ap (λ l. l ++ instructions made) c.new-turn.ensures.items) ∙ sym (instructions-append made end) in
+    let block = made_next (λ ws. block_code ws body) _ _ [] [] _ _ c.in_ok-emit_block.ensures.code (c.deref.ensures.value ∙ c.in_ok-inner.ensures)
+    c.new-turn.ensures.items in
+    let turn = made_next (turn_end c.args.n) _ c.args.below made [] _ _ c.in_ok-emit_turn_end.ensures refl block in
     let words = own_words c.deref-then-from-below-2.result.now (made ++ end) (c.deref-then-from-below-2.ensures.value ∙ turn) in
-    omega (arith, words, forms_bytes-append made end, inner_short inner body, turn_end_short n c.args.below, c.requires.room)
+    omega (arith, words, forms_bytes-append made end, (inner_takes inner body).bytes, (turn_end_takes c.args.n c.args.below).bytes, c.requires.room)
 
 pub emit_loop-emit_jump_back-requires : goal.emit_loop-emit_jump_back-requires
 emit_loop-emit_jump_back-requires t c =
     let inner = bound_of c.args.n c.args.below ∷ c.args.bounds.now in
     let body = steps_of c.args.body.now in
-    let n = c.args.n in
+    let end = turn_end c.args.n c.args.below in
     let made = block_code inner body in
-    let end = turn_end n c.args.below in
-    let turn = c.in_ok-emit_turn_end.ensures ∙ ap (λ l. l ++ instructions end)
-    (c.in_ok-emit_block.ensures.code ∙ ap (λ ws. c.new-turn.result.items ++ instructions (block_code ws (steps_of c.args.body.now)))
-    (c.deref.ensures.value ∙ c.in_ok-inner.ensures) ∙ ap (λ l. l ++ instructions made) c.new-turn.ensures.items) ∙ sym (instructions-append made end) in
+    let block = made_next (λ ws. block_code ws body) _ _ [] [] _ _ c.in_ok-emit_block.ensures.code (c.deref.ensures.value ∙ c.in_ok-inner.ensures)
+    c.new-turn.ensures.items in
+    let turn = made_next (turn_end c.args.n) _ c.args.below made [] _ _ c.in_ok-emit_turn_end.ensures refl block in
     let words = own_words c.deref-then-from-below-2.result.now (made ++ end) (c.deref-then-from-below-2.ensures.value ∙ turn) in
-    omega (arith, words, forms_bytes-append made end, inner_short inner body, turn_end_short n c.args.below, c.requires.room, c.code_words-over.ensures)
+    let short = inner_takes inner body in
+    omega (arith, words, forms_bytes-append made end, short.bytes, (turn_end_takes c.args.n c.args.below).bytes, c.requires.room, c.code_words-over.ensures)
 
 pub emit_loop-returns-then-from-below-clause-code : goal.emit_loop-returns-then-from-below-clause-code
 emit_loop-returns-then-from-below-clause-code t c =
@@ -361,10 +291,9 @@ emit_loop-returns-then-from-below-clause-code t c =
     let start = number_code c.args.n c.args.from in
     let turn = made ++ turn_end c.args.n below in
     let back = jump_back condition.NotEqual condition.Equal in
-    let own = c.in_ok-emit_turn_end.ensures ∙ ap (λ l. l ++ instructions (turn_end c.args.n below))
-    (c.in_ok-emit_block.ensures.code ∙ ap (λ ws. c.new-turn.result.items ++ instructions (block_code ws (steps_of c.args.body.now)))
-    (c.deref.ensures.value ∙ c.in_ok-inner.ensures) ∙ ap (λ l. l ++ instructions made) c.new-turn.ensures.items)
-    ∙ sym (instructions-append made (turn_end c.args.n below)) in
+    let block = made_next (λ ws. block_code ws (steps_of c.args.body.now)) _ _ [] [] _ _ c.in_ok-emit_block.ensures.code
+    (c.deref.ensures.value ∙ c.in_ok-inner.ensures) c.new-turn.ensures.items in
+    let own = made_next (turn_end c.args.n) _ below made [] _ _ c.in_ok-emit_turn_end.ensures refl block in
     let words = own_words c.deref-then-from-below-2.result.now turn (c.deref-then-from-below-2.ensures.value ∙ own) in
     let first = c.in_ok-extend_from_slice.ensures.items ∙ ap (λ l. c.emit_number.new.code.items ++ l) (c.deref-then-from-below.ensures.value ∙ own)
     ∙ ap (λ l. l ++ instructions turn) c.in_ok-emit_number.ensures ∙ two_behind c.emit_all.new.code.items start turn
@@ -380,26 +309,22 @@ emit_step-code_words-requires t c =
     let bs = c.args.bounds.now in
     let of = c.in-Choose in
     let is = ap step_of of.is ∙ step_of-choose of.test of.taken of.otherwise in
-    let b = block_code bs (steps_of of.taken.items) in
     let other = block_code bs (steps_of of.otherwise.items) in
-    let otherwise = c.in_ok-emit_block-in-Choose.ensures.code ∙ ap (λ s. c.new-other.result.items ++ instructions (block_code bs (steps_of s)))
-    c.deref.ensures.value
-    ∙ ap (λ l. l ++ instructions other) c.new-other.ensures.items in
+    let otherwise = made_next (λ s. block_code bs (steps_of s)) _ _ [] [] _ _ c.in_ok-emit_block-in-Choose.ensures.code c.deref.ensures.value
+    c.new-other.ensures.items in
     let behind = own_words c.deref-in-Choose-2.result.now other (c.deref-in-Choose-2.ensures.value ∙ otherwise) in
-    omega (arith, behind, inner_short bs (steps_of of.otherwise.items), ap step_words is, c.requires.room)
+    omega (arith, behind, (inner_takes bs (steps_of of.otherwise.items)).bytes, ap step_words is, c.requires.room)
 
 pub emit_step-emit_pass_over-requires : goal.emit_step-emit_pass_over-requires
 emit_step-emit_pass_over-requires t c =
     let bs = c.args.bounds.now in
     let of = c.in-Choose in
     let is = ap step_of of.is ∙ step_of-choose of.test of.taken of.otherwise in
-    let b = block_code bs (steps_of of.taken.items) in
     let other = block_code bs (steps_of of.otherwise.items) in
-    let otherwise = c.in_ok-emit_block-in-Choose.ensures.code ∙ ap (λ s. c.new-other.result.items ++ instructions (block_code bs (steps_of s)))
-    c.deref.ensures.value
-    ∙ ap (λ l. l ++ instructions other) c.new-other.ensures.items in
+    let otherwise = made_next (λ s. block_code bs (steps_of s)) _ _ [] [] _ _ c.in_ok-emit_block-in-Choose.ensures.code c.deref.ensures.value
+    c.new-other.ensures.items in
     let behind = own_words c.deref-in-Choose-2.result.now other (c.deref-in-Choose-2.ensures.value ∙ otherwise) in
-    omega (arith, behind, inner_short bs (steps_of of.otherwise.items), ap step_words is, c.requires.room, c.code_words.ensures)
+    omega (arith, behind, (inner_takes bs (steps_of of.otherwise.items)).bytes, ap step_words is, c.requires.room, c.code_words.ensures)
 
 pub emit_step-code_words-requires-in-Choose : goal.emit_step-code_words-requires-in-Choose
 emit_step-code_words-requires-in-Choose t c =
@@ -409,18 +334,15 @@ emit_step-code_words-requires-in-Choose t c =
     let b = block_code bs (steps_of of.taken.items) in
     let other = block_code bs (steps_of of.otherwise.items) in
     let over = pass_over (size other) in
-    let otherwise = c.in_ok-emit_block-in-Choose.ensures.code ∙ ap (λ s. c.new-other.result.items ++ instructions (block_code bs (steps_of s)))
-    c.deref.ensures.value
-    ∙ ap (λ l. l ++ instructions other) c.new-other.ensures.items in
+    let otherwise = made_next (λ s. block_code bs (steps_of s)) _ _ [] [] _ _ c.in_ok-emit_block-in-Choose.ensures.code c.deref.ensures.value
+    c.new-other.ensures.items in
     let behind = own_words c.deref-in-Choose-2.result.now other (c.deref-in-Choose-2.ensures.value ∙ otherwise) in
-    let taken = c.in_ok-emit_block-in-Choose-2.ensures.code ∙ ap (λ s. c.new-first.result.items ++ instructions (block_code bs (steps_of s)))
-    c.deref-in-Choose.ensures.value
-    ∙ ap (λ l. l ++ instructions b) c.new-first.ensures.items in
-    let first = c.in_ok-emit_pass_over-in-Choose.ensures
-    ∙ ap (λ n. c.emit_block-in-Choose.new.code.items ++ instructions (pass_over n)) (c.code_words.ensures ∙ behind)
-    ∙ ap (λ l. l ++ instructions over) taken ∙ sym (instructions-append b over) in
+    let taken = made_next (λ s. block_code bs (steps_of s)) _ _ [] [] _ _ c.in_ok-emit_block-in-Choose-2.ensures.code c.deref-in-Choose.ensures.value
+    c.new-first.ensures.items in
+    let first = made_next pass_over _ (size other) b [] _ _ c.in_ok-emit_pass_over-in-Choose.ensures (c.code_words.ensures ∙ behind) taken in
     let words = own_words c.deref-in-Choose-3.result.now (b ++ over) (c.deref-in-Choose-3.ensures.value ∙ first) in
-    omega (arith, words, forms_bytes-append b over, inner_short bs (steps_of of.taken.items), pass_short (size other), ap step_words is, c.requires.room)
+    let short = inner_takes bs (steps_of of.taken.items) in
+    omega (arith, words, forms_bytes-append b over, short.bytes, (pass_takes (size other)).bytes, ap step_words is, c.requires.room)
 
 pub emit_step-emit_test-requires : goal.emit_step-emit_test-requires
 emit_step-emit_test-requires t c =
@@ -430,16 +352,12 @@ emit_step-emit_test-requires t c =
     let b = block_code bs (steps_of of.taken.items) in
     let other = block_code bs (steps_of of.otherwise.items) in
     let over = pass_over (size other) in
-    let otherwise = c.in_ok-emit_block-in-Choose.ensures.code ∙ ap (λ s. c.new-other.result.items ++ instructions (block_code bs (steps_of s)))
-    c.deref.ensures.value
-    ∙ ap (λ l. l ++ instructions other) c.new-other.ensures.items in
+    let otherwise = made_next (λ s. block_code bs (steps_of s)) _ _ [] [] _ _ c.in_ok-emit_block-in-Choose.ensures.code c.deref.ensures.value
+    c.new-other.ensures.items in
     let behind = own_words c.deref-in-Choose-2.result.now other (c.deref-in-Choose-2.ensures.value ∙ otherwise) in
-    let taken = c.in_ok-emit_block-in-Choose-2.ensures.code ∙ ap (λ s. c.new-first.result.items ++ instructions (block_code bs (steps_of s)))
-    c.deref-in-Choose.ensures.value
-    ∙ ap (λ l. l ++ instructions b) c.new-first.ensures.items in
-    let first = c.in_ok-emit_pass_over-in-Choose.ensures
-    ∙ ap (λ n. c.emit_block-in-Choose.new.code.items ++ instructions (pass_over n)) (c.code_words.ensures ∙ behind)
-    ∙ ap (λ l. l ++ instructions over) taken ∙ sym (instructions-append b over) in
+    let taken = made_next (λ s. block_code bs (steps_of s)) _ _ [] [] _ _ c.in_ok-emit_block-in-Choose-2.ensures.code c.deref-in-Choose.ensures.value
+    c.new-first.ensures.items in
+    let first = made_next pass_over _ (size other) b [] _ _ c.in_ok-emit_pass_over-in-Choose.ensures (c.code_words.ensures ∙ behind) taken in
     let words = own_words c.deref-in-Choose-3.result.now (b ++ over) (c.deref-in-Choose-3.ensures.value ∙ first) in (
       search (rules, word_step.the_lemmas),
       (
@@ -447,8 +365,8 @@ emit_step-emit_test-requires t c =
           arith,
           words,
           forms_bytes-append b over,
-          inner_short bs (steps_of of.taken.items),
-          pass_short (size other),
+          (inner_takes bs (steps_of of.taken.items)).bytes,
+          (pass_takes (size other)).bytes,
           ap step_words is,
           c.requires.room,
           c.code_words-in-Choose.ensures,
@@ -465,16 +383,12 @@ emit_step-returns-in_ok-extend_from_slice-in-Choose-clause-code t c =
     let b = block_code bs (steps_of of.taken.items) in
     let other = block_code bs (steps_of of.otherwise.items) in
     let over = pass_over (size other) in
-    let otherwise = c.in_ok-emit_block-in-Choose.ensures.code ∙ ap (λ s. c.new-other.result.items ++ instructions (block_code bs (steps_of s)))
-    c.deref.ensures.value
-    ∙ ap (λ l. l ++ instructions other) c.new-other.ensures.items in
+    let otherwise = made_next (λ s. block_code bs (steps_of s)) _ _ [] [] _ _ c.in_ok-emit_block-in-Choose.ensures.code c.deref.ensures.value
+    c.new-other.ensures.items in
     let behind = own_words c.deref-in-Choose-2.result.now other (c.deref-in-Choose-2.ensures.value ∙ otherwise) in
-    let taken = c.in_ok-emit_block-in-Choose-2.ensures.code ∙ ap (λ s. c.new-first.result.items ++ instructions (block_code bs (steps_of s)))
-    c.deref-in-Choose.ensures.value
-    ∙ ap (λ l. l ++ instructions b) c.new-first.ensures.items in
-    let first = c.in_ok-emit_pass_over-in-Choose.ensures
-    ∙ ap (λ n. c.emit_block-in-Choose.new.code.items ++ instructions (pass_over n)) (c.code_words.ensures ∙ behind)
-    ∙ ap (λ l. l ++ instructions over) taken ∙ sym (instructions-append b over) in
+    let taken = made_next (λ s. block_code bs (steps_of s)) _ _ [] [] _ _ c.in_ok-emit_block-in-Choose-2.ensures.code c.deref-in-Choose.ensures.value
+    c.new-first.ensures.items in
+    let first = made_next pass_over _ (size other) b [] _ _ c.in_ok-emit_pass_over-in-Choose.ensures (c.code_words.ensures ∙ behind) taken in
     let words = own_words c.deref-in-Choose-3.result.now (b ++ over) (c.deref-in-Choose-3.ensures.value ∙ first) in
     let old = c.args.code.now.items in
     let test = test_code bs (test_of of.test) false (size (b ++ over)) in

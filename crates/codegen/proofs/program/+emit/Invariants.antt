@@ -1,9 +1,4 @@
-use Rattle.std.proofs.Common.{◌≡◌, ◌≤◌, ◌++◌, drop}
-use Rattle.code_forms.specs.Placed.{instructions}
-use Rattle.array_versions.specs.View.{steps_of}
-use Rattle.array_versions.specs.Form.{LocalsBelow, OfWords}
-use Rattle.array_versions.specs.Cost.{words_of}
-use Rattle.codegen.specs.Code.{waiting_after, steps_code}
+use Rattle.codegen.proofs.Names.{◌≡◌, ◌≤◌, ◌++◌, drop, instructions, steps_of, LocalsBelow, OfWords, words_of, waiting_after, steps_code}
 use Rattle.codegen.proofs.program.+emit.Given as goal
 
 abbrev pub invariant-emit_steps-loop-step : goal.invariant-emit_steps-loop-step

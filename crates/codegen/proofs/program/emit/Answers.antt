@@ -1,6 +1,4 @@
-use Rattle.std.proofs.Common.{sym, subst, arith}
-use Rattle.array_versions.specs.View.{steps_of}
-use Rattle.array_versions.specs.Form.{LocalsBelow}
+use Rattle.codegen.proofs.Names.{sym, subst, arith, steps_of, LocalsBelow}
 use Rattle.codegen.proofs.Emitted.{locals_up}
 use Rattle.codegen.proofs.program.emit.Goals as goal
 

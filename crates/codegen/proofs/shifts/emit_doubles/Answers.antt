@@ -1,4 +1,4 @@
-use Rattle.codegen.specs.Code.{double}
+use Rattle.codegen.proofs.Names.{double}
 use Rattle.codegen.proofs.Emitted.{form_owed}
 use Rattle.codegen.proofs.shifts.emit_doubles.Goals as goal
 

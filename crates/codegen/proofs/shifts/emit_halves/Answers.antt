@@ -1,6 +1,4 @@
-use Rattle.std.proofs.Common.{refl}
-use Rattle.code_forms.specs.Forms.{instruction_of}
-use Rattle.codegen.specs.Code.{halve}
+use Rattle.codegen.proofs.Names.{refl, instruction_of, halve}
 use Rattle.codegen.proofs.Emitted.{form_owed}
 use Rattle.codegen.proofs.shifts.emit_halves.Goals as goal
 

@@ -1,6 +1,4 @@
-use Rattle.std.proofs.Common.{◌≡◌, ◌-◌, ◌++◌}
-use Rattle.code_forms.specs.Placed.{instructions}
-use Rattle.codegen.specs.Code.{repeated, halve}
+use Rattle.codegen.proofs.Names.{◌≡◌, ◌-◌, ◌++◌, instructions, repeated, halve}
 use Rattle.codegen.proofs.shifts.emit_halves.Given as goal
 
 abbrev pub invariant-loop-i : goal.invariant-loop-i

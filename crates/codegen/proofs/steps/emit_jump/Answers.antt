@@ -1,9 +1,8 @@
-use Rattle.code_forms.specs.Forms.{Branch}
-use Rattle.codegen.specs.Code.{flushed}
+use Rattle.codegen.proofs.Names.{Branch, flushed}
 use Rattle.codegen.proofs.Emitted.{one_behind}
 use Rattle.codegen.proofs.steps.emit_jump.Goals as goal
 
 pub returns-clause-code : goal.returns-clause-code
 returns-clause-code c =
-    one_behind c.emit_one.result c.args.code.now.items c.emit_all.new.code.items c.emit_one.new.code.items (flushed c.args.waiting.now.items)
-    (Branch c.args.to) _ c.in_ok-emit_all.ensures.code c.branch-to.ensures c.emit_one.ensures
+    one_behind c.emit_one.result _ _ _ (flushed c.args.waiting.now.items) (Branch c.args.to) _ c.in_ok-emit_all.ensures.code c.branch-to.ensures
+    c.emit_one.ensures

@@ -1,6 +1,4 @@
-use Rattle.std.proofs.Common.{refl}
-use Rattle.code_forms.specs.Forms.{Move, ToFram}
-use Rattle.codegen.specs.Code.{flushed, top_of, source_from, below_top}
+use Rattle.codegen.proofs.Names.{refl, Move, ToFram, flushed, top_of, source_from, below_top}
 use Rattle.codegen.proofs.Emitted.{one_behind, from_source}
 use Rattle.codegen.proofs.steps.emit_keep.Goals as goal
 
@@ -8,5 +6,5 @@ pub returns-clause-code : goal.returns-clause-code
 returns-clause-code c =
     let os = c.args.waiting.now.items in
     let x = source_from (top_of os) in
-    one_behind c.emit_move.result c.args.code.now.items c.emit_below.new.code.items c.emit_move.new.code.items (flushed (below_top os))
-    (Move x (ToFram c.args.address)) _ c.in_ok-source.ensures.code (from_source _ _ _ _ _ refl c.in_ok-source.ensures.source) c.emit_move.ensures
+    one_behind c.emit_move.result _ _ _ (flushed (below_top os)) (Move x (ToFram c.args.address)) _ c.in_ok-source.ensures.code
+    (from_source _ _ _ _ _ refl c.in_ok-source.ensures.source) c.emit_move.ensures

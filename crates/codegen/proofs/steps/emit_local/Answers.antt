@@ -1,23 +1,14 @@
-use Rattle.std.proofs.Common.{◌≡◌, ◌++◌, ◌∷◌, [], sym, ap, ◌∙◌, subst, if◌then◌else◌, le-ltb}
-use Rattle.std.specs.Result.{OnOk}
-use Rattle.msp_isa.specs.declared.instructions.Instr.TheVariants.{One}
+use Rattle.codegen.proofs.Names.{ap, ◌∙◌, le-ltb, One, Word, Push, Ram, flushed, local_address}
 use Rattle.msp_isa.specs.declared.instructions.OneOp.TheVariants as one
 use Rattle.msp_isa.specs.declared.operands.Operand.TheVariants as operand
 use Rattle.msp_isa.specs.declared.operands.Src.TheVariants as src
-use Rattle.msp_isa.specs.alp_words.declared.Width.TheVariants.{Word}
-use Rattle.code_forms.specs.Forms.{Push, Ram}
-use Rattle.code_forms.specs.Placed.{instructions}
-use Rattle.codegen.specs.Code.{flushed, local_address}
 use Rattle.codegen.proofs.Emitted.{one_behind}
 use Rattle.codegen.proofs.steps.emit_local.Goals as goal
 
 pub returns-clause-code : goal.returns-clause-code
 returns-clause-code c =
-    let old = c.args.code.now.items in
     let m = Push (Ram (local_address c.args.n)) in
     let pushes = flushed c.args.waiting.now.items in
-    subst (λ b. OnOk c.emit_one.result (c.emit_one.new.code.items ≡ old ++ instructions (if b then [] else (pushes ++ m ∷ []))))
-    (sym (le-ltb c.args.n 8 c.if-n-lt8.false))
-    (one_behind c.emit_one.result old c.emit_all.new.code.items c.emit_one.new.code.items pushes m _ c.in_ok-emit_all.ensures.code
-    (c.push.ensures ∙ ap (λ s. One (one.Push Word s)) (c.absolute.ensures
-    ∙ ap (λ a. src.Operand (operand.Absolute a)) c.local_address.ensures)) c.emit_one.ensures)
+    rw (le-ltb c.args.n 8 c.if-n-lt8.false) (one_behind c.emit_one.result _ _ _ pushes m _ c.in_ok-emit_all.ensures.code
+    (c.push.ensures ∙ ap (λ s. One (one.Push Word s)) (c.absolute.ensures ∙ ap (λ a. src.Operand (operand.Absolute a)) c.local_address.ensures))
+    c.emit_one.ensures)

@@ -1,7 +1,4 @@
-use Rattle.std.proofs.Common.{◌++◌, ◌∷◌, [], refl, ap, ◌∙◌}
-use Rattle.std.proofs.lemmas.Result.{on_ok_weaker}
-use Rattle.code_forms.specs.Forms.{R4, Sense, instruction_of}
-use Rattle.codegen.specs.Code.{cleared}
+use Rattle.codegen.proofs.Names.{◌++◌, ◌∷◌, [], refl, ap, ◌∙◌, on_ok_weaker, R4, Sense, instruction_of, cleared}
 use Rattle.codegen.proofs.Emitted.{two_behind, from_source}
 use Rattle.codegen.proofs.steps.emit_sense.Goals as goal
 

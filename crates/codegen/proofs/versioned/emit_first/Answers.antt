@@ -1,8 +1,4 @@
-use Rattle.std.proofs.Common.{◌++◌, ap, ◌∙◌}
-use Rattle.msp_isa.specs.alp_words.Words.{word_sum}
-use Rattle.code_forms.specs.Forms.{R4, R7}
-use Rattle.code_forms.specs.Placed.{instructions}
-use Rattle.codegen.specs.Code.{mark_code, last_code, end_test, longer_code, next_code, word_code}
+use Rattle.codegen.proofs.Names.{◌++◌, ap, ◌∙◌, word_sum, R4, R7, instructions, mark_code, last_code, end_test, longer_code, next_code, word_code}
 use Rattle.codegen.proofs.Emitted.{six_behind}
 use Rattle.codegen.proofs.versioned.emit_first.Goals as goal
 

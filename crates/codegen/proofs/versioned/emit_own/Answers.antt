@@ -1,4 +1,4 @@
-use Rattle.std.proofs.Common.{◌++◌, refl, ap, ◌∙◌}
+use Rattle.codegen.proofs.Names.{◌++◌, refl, ap, ◌∙◌}
 use Rattle.codegen.proofs.Emitted.{cons, from_source}
 use Rattle.codegen.proofs.versioned.emit_own.Goals as goal
 

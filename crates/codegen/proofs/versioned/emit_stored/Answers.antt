@@ -1,6 +1,4 @@
-use Rattle.std.proofs.Common.{◌++◌, ap, ◌∙◌, append_assoc}
-use Rattle.code_forms.specs.Placed.{instructions}
-use Rattle.codegen.specs.Code.{copy_code, first_code}
+use Rattle.codegen.proofs.Names.{◌++◌, ap, ◌∙◌, append_assoc, instructions, copy_code, first_code}
 use Rattle.codegen.proofs.versioned.emit_stored.Goals as goal
 
 pub returns : goal.returns

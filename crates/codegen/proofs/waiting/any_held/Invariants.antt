@@ -1,5 +1,4 @@
-use Rattle.std.proofs.Common.{◌≡◌, drop}
-use Rattle.codegen.specs.Code.{any_held}
+use Rattle.codegen.proofs.Names.{◌≡◌, drop, any_held}
 use Rattle.codegen.proofs.waiting.any_held.Given as goal
 
 abbrev pub invariant-loop-word : goal.invariant-loop-word

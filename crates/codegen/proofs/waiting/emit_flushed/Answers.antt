@@ -1,6 +1,4 @@
-use Rattle.std.proofs.Common.{◌-◌, get_or, length, ap, ◌∙◌, rules}
-use Rattle.msp_isa.specs.alp_words.declared.Width.TheVariants.{Word}
-use Rattle.msp_isa.specs.declared.instructions.Instr.TheVariants.{One}
+use Rattle.codegen.proofs.Names.{◌-◌, get_or, length, ap, ◌∙◌, rules, Word, One}
 use Rattle.msp_isa.specs.declared.instructions.OneOp.TheVariants as one
 use Rattle.codegen.specs.declared.waiting.Waiting.TheVariants as waiting
 use Rattle.codegen.proofs.Emitted.{flushed_step}

@@ -1,6 +1,4 @@
-use Rattle.std.proofs.Common.{◌≡◌, ◌-◌, ◌++◌, drop, length}
-use Rattle.code_forms.specs.Placed.{instructions}
-use Rattle.codegen.specs.Code.{flushed}
+use Rattle.codegen.proofs.Names.{◌≡◌, ◌-◌, ◌++◌, drop, length, instructions, flushed}
 use Rattle.codegen.proofs.waiting.emit_flushed.Given as goal
 
 abbrev pub invariant-loop-i : goal.invariant-loop-i

@@ -1,8 +1,5 @@
-use Rattle.std.proofs.Common.{◌++◌, [], List, Option, if◌then◌else◌, ap, ◌∙◌}
-use Rattle.code_forms.specs.Forms.{Form, source_operand}
-use Rattle.code_forms.specs.Placed.{instructions}
-use Rattle.codegen.specs.declared.waiting.Waiting.{Waiting}
-use Rattle.codegen.specs.Code.{top_of, below_top, cleared, four_from, five_from, stays, right_source}
+use Rattle.codegen.proofs.Names.{◌++◌, [], List, Option, if◌then◌else◌, ap, ◌∙◌, Form, source_operand, instructions, Waiting, top_of, below_top, cleared}
+use Rattle.codegen.proofs.Names.{four_from, five_from, stays, right_source}
 use Rattle.codegen.proofs.Emitted.{three_behind}
 use Rattle.codegen.proofs.waiting.emit_sides.Goals as goal
 

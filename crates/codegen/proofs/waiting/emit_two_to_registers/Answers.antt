@@ -1,6 +1,4 @@
-use Rattle.std.proofs.Common.{◌++◌, ap, ◌∙◌, append_assoc}
-use Rattle.code_forms.specs.Placed.{instructions}
-use Rattle.codegen.specs.Code.{top_of, below_top, cleared, four_from, five_from}
+use Rattle.codegen.proofs.Names.{◌++◌, ap, ◌∙◌, append_assoc, instructions, top_of, below_top, cleared, four_from, five_from}
 use Rattle.codegen.proofs.Emitted.{two_behind, part_behind}
 use Rattle.codegen.proofs.waiting.emit_two_to_registers.Goals as goal
 
@@ -15,8 +13,8 @@ returns-clause-code c =
     let right = c.take-right.ensures in
     let left = c.take-left.ensures in
     let below = left.below ∙ ap below_top right.below in
-    let first = c.in_ok-emit_to_five.ensures ∙ ap (λ l. l ++ instructions (five_from c.take-right.result)) (c.in_ok-emit_cleared.ensures.code
-    ∙ ap (λ ws. old ++ instructions (cleared ws)) below) ∙ ap (λ o. (old ++ instructions rest) ++ instructions (five_from o)) right.top
-    ∙ two_behind old rest five in
-    part_behind c.emit_to_four.result old c.emit_to_five.new.code.items c.emit_to_four.new.code.items (rest ++ five) (four_from c.take-left.result) four _
-    first (ap four_from (left.top ∙ ap top_of right.below)) (append_assoc rest five four) c.emit_to_four.ensures
+    let first = c.in_ok-emit_to_five.ensures ∙ ap (λ l. l ++ instructions (five_from c.take-right.result))
+    (c.in_ok-emit_cleared.ensures.code ∙ ap (λ ws. old ++ instructions (cleared ws)) below) ∙ ap (λ o. (old ++ instructions rest) ++ instructions (five_from o))
+    right.top ∙ two_behind old rest five in
+    part_behind c.emit_to_four.result _ _ _ (rest ++ five) (four_from c.take-left.result) four _ first (ap four_from (left.top ∙ ap top_of right.below))
+    (append_assoc rest five four) c.emit_to_four.ensures

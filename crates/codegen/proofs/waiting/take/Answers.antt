@@ -1,4 +1,4 @@
-use Rattle.std.proofs.Common.{◌≡◌, ◌==◌, length, sym, ap, ◌∙◌, arith}
+use Rattle.codegen.proofs.Names.{◌≡◌, ◌==◌, length, sym, ap, ◌∙◌, arith}
 use Rattle.codegen.proofs.Emitted.{taken_is, left_is}
 use Rattle.codegen.proofs.waiting.take.Goals as goal
 

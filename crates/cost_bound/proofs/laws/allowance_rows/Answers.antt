@@ -15,4 +15,6 @@ returns c = record {
   several_versions = refl;
   several_list = refl;
   several_bound = refl;
+  long_sum_bound = refl;
+  long_sum_words = refl;
 }

@@ -6,7 +6,7 @@ use Rattle.privatise.proofs.sizes.boot_words.Given as goal
 
 pub record Summed (n i all sum : ℕ) : Type 0 where
   pub is : n ≡ own_boot_words + sum
-  pub low : n + 4296 * i ≤ own_boot_words + 4296 * all
+  pub low : n + 8392 * i ≤ own_boot_words + 8392 * all
 
 abbrev pub invariant-loop-i : goal.invariant-loop-i
 invariant-loop-i l = Summed l.n l.i (length l.tasks) (total (entry_words l.shared) (map task_of (drop l.i l.tasks)))
