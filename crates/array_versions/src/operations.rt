@@ -1,7 +1,7 @@
 //! The operations on words.
 
 /// An operation on the top of the stack.
-#[derive(Clone, Copy, Debug, PartialEq, Eq)]
+#[derive(Clone, Copy)]
 pub enum UnaryOperation {
     /// The difference from 0, modulo 65536.
     Negate,
@@ -10,7 +10,7 @@ pub enum UnaryOperation {
 }
 
 /// An operation on two words that the machine has an instruction for. Sums and differences are taken modulo 65536.
-#[derive(Clone, Copy, Debug, PartialEq, Eq)]
+#[derive(Clone, Copy)]
 pub enum PlainOperation {
     Add,
     Subtract,
@@ -20,7 +20,7 @@ pub enum PlainOperation {
 }
 
 /// An operation on the two words on top of the stack, the right side being the top. Products are taken modulo 65536.
-#[derive(Clone, Copy, Debug, PartialEq, Eq)]
+#[derive(Clone, Copy)]
 pub enum BinaryOperation {
     Multiply,
     /// The unsigned quotient; 65535 where the right side is 0.
@@ -31,7 +31,7 @@ pub enum BinaryOperation {
 }
 
 /// A comparison of the two words on top of the stack, the right side being the top.
-#[derive(Clone, Copy, Debug, PartialEq, Eq)]
+#[derive(Clone, Copy)]
 pub enum Comparison {
     Equal,
     Below,
@@ -43,7 +43,7 @@ pub enum Comparison {
 }
 
 /// A shift of the top of the stack by a number of bits; by more than 15 it gives 0.
-#[derive(Clone, Copy, Debug, PartialEq, Eq)]
+#[derive(Clone, Copy)]
 pub enum ShiftOperation {
     Left,
     /// Zeros come in.

@@ -12,7 +12,7 @@ use std::alloc::{AllocError, Global};
 
 /// The places of a versioned array: the addresses of its elements, of their copies and of their version words, and its length
 /// in words.
-#[derive(Clone, Copy, Debug, PartialEq, Eq)]
+#[derive(Clone, Copy)]
 pub struct ArrayPlace {
     pub elements: u16,
     pub copies: u16,
@@ -21,7 +21,7 @@ pub struct ArrayPlace {
 }
 
 /// The addresses of the number of this attempt, of the count of the commit list's entries, and of the list.
-#[derive(Clone, Copy, Debug, PartialEq, Eq)]
+#[derive(Clone, Copy)]
 pub struct ListPlace {
     pub ver: u16,
     pub cln: u16,

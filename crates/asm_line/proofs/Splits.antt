@@ -87,9 +87,6 @@ pub record ListLeft (count : ℕ) (left : Option Located) (list : Located) : Typ
   pub counted : count + length (values_of (rest_parts 44 left)) ≡ length (values_of (parts 44 list))
   pub short : count + left_len left ≤ length list.text + 1
 
-pub list_start : (list : Located) → ListLeft 0 (Some list) list
-list_start list = record { all = refl; counted = omega arith; short = omega arith }
-
 pub list_next : (count : ℕ) (p q list : Located) (behind : Option Located) (v : ValueMeaning) → ListLeft count (Some p) list → q ≡ before_mark 44 p
     → behind ≡ behind_mark 44 p
     → Some v ≡ word_value q → ListLeft (count + 1) behind list

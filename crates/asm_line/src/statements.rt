@@ -9,7 +9,7 @@ use crate::values::Value;
 use msp_isa::{Condition, Instr};
 
 /// An instruction in which the values of its operands are still 0, and these values.
-#[derive(Clone, Copy, Debug)]
+#[derive(Clone, Copy)]
 pub struct Template<'a> {
     pub instr: Instr,
     /// The value of the source operand, or of the only one.
@@ -18,7 +18,7 @@ pub struct Template<'a> {
 }
 
 /// The values behind `.word`, as they are written.
-#[derive(Clone, Copy, Debug)]
+#[derive(Clone, Copy)]
 pub struct WordList<'a> {
     pub list: Piece<'a>,
     /// How many values there are.
@@ -27,7 +27,7 @@ pub struct WordList<'a> {
 }
 
 /// What a line does beside its label.
-#[derive(Clone, Copy, Debug)]
+#[derive(Clone, Copy)]
 pub enum Statement<'a> {
     Nothing,
     /// `.org`: the address of what follows.
@@ -40,7 +40,7 @@ pub enum Statement<'a> {
 }
 
 /// A line of an assembler text.
-#[derive(Clone, Copy, Debug)]
+#[derive(Clone, Copy)]
 pub struct Line<'a> {
     pub label: Option<Piece<'a>>,
     pub statement: Statement<'a>,

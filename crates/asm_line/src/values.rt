@@ -12,7 +12,7 @@ use crate::piece::Piece;
 use crate::registers::register_named;
 
 /// A value as it is written.
-#[derive(Clone, Copy, Debug)]
+#[derive(Clone, Copy)]
 pub enum Value<'a> {
     /// A number from -32768 to 65535, modulo 65536.
     Number(u16),

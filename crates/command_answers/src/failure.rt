@@ -6,7 +6,7 @@ ghost use Rattle.command_answers.specs.Outcomes.{FailsRefused};
 use crate::refusal::{self, Refusal};
 
 /// Why a command whose files were read ended otherwise than whole.
-#[derive(Clone, Copy, Debug, PartialEq, Eq)]
+#[derive(Clone, Copy)]
 pub enum Failure<'t> {
     /// The text of the named file is refused, and those before it aren't.
     Refused { file: &'t str, refusal: Refusal<'t> },

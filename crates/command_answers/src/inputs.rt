@@ -7,7 +7,7 @@ use alp_io::{ReadFault, Shelf};
 use std::alloc::Global;
 
 /// Why the files of a command weren't read, and the name of the one that it was.
-#[derive(Clone, Copy, Debug, PartialEq, Eq)]
+#[derive(Clone, Copy)]
 pub enum Unread<'n> {
     /// The file is missing, or its read failed.
     Unreadable(&'n str),

@@ -7,7 +7,7 @@ use alp_text::Span;
 use source_report::spelled;
 
 /// What a fault keeps besides its line.
-#[derive(Clone, Copy, Debug, PartialEq, Eq)]
+#[derive(Clone, Copy)]
 pub enum Detail<'t> {
     Nothing,
     /// A name of the text, or one that the program gives.
@@ -19,7 +19,7 @@ pub enum Detail<'t> {
 }
 
 /// Why a text is refused: the line, from 1, or 0 where the fault is of the whole text; the kind; and what is kept.
-#[derive(Clone, Copy, Debug, PartialEq, Eq)]
+#[derive(Clone, Copy)]
 pub struct Refusal<'t> {
     pub line: u32,
     pub kind: &'static str,

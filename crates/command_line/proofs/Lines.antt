@@ -8,7 +8,7 @@ use Rattle.std.specs.Str.{IsUtf8, bytes_eq}
 use Rattle.std.proofs.Math.Bool.{and-false}
 use Rattle.clap.specs.Walk.{Names, Text, Walk, after_step, idle, answers_to, finished, nothing_held, rows_after, settled, subcommand_met, subcommand_or_other}
 use Rattle.clap.specs.Walk.{walk, walk_from, walked}
-use Rattle.clap.specs.Simple.{App, Shape, built, entered, label_of, new_shape, rows_at, subcommand_of}
+use Rattle.clap.specs.Simple.{App, Shape, entered, label_of, new_shape, rows_at, subcommand_of}
 use Rattle.clap.specs.Kinds.{Kinds, or_else}
 use Rattle.clap.specs.Faults.{bundle_fault, built_fault, check_fault, defaults_fault, entered_fault, fault_of, flag_word_fault, flags_fault, level_fault}
 use Rattle.clap.specs.Faults.{other_fault, settle_fault, step_fault, turn_fault, walk_fault}
@@ -40,10 +40,6 @@ top = record (new_shape (codes "alpaca")) {
 
 abbrev built_app : App
 built_app = record { top = top; subs = map built_subcommand subcommands }
-
-built_is : built alpaca_app ≡ built_app
-unfolding alpaca_app
-built_is = refl
 
 fault_is : (words : List Text) → fault_of alpaca_app words ≡ built_fault built_app nothing_held words
 unfolding alpaca_app

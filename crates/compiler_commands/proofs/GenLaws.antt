@@ -86,15 +86,6 @@ no_fault image trace old new x board after watch now is_board is_watch ends r ca
     go (fault.Bus pc address) q w = let f = is_written _ _ trace old new (Err (fault.Bus pc address)) after now q in faulty (ends at_fault f.0 f.1)
     go fault.Write q w = never (w.failed refl)
 
-pub ran_so : (image : ImageValue) (trace : TraceValue) (old new : Option (List ℕ)) (end : RunEnd) (board after : BoardValue) (watch now : History)
-    → board ≡ fresh image.words trace.readings → watch ≡ start_of image
-    → IsRunOf watch (charges_of trace.charges) board old new (Ok end) after now → RanSo image trace end after now
-ran_so image trace old new end board after watch now is_board is_watch r =
-    let q : IsRunOf (start_of image) (charges_of trace.charges) (fresh image.words trace.readings) old new (Ok end) after now =
-    subst (λ h. IsRunOf h (charges_of trace.charges) (fresh image.words trace.readings) old new (Ok end) after now) is_watch
-    (subst (λ b. IsRunOf watch (charges_of trace.charges) b old new (Ok end) after now) is_board r) in
-    record { outcome = q.0; run = q.1; answer = q.2.answer; at_end = q.2.board; history = q.2.history }
-
 -- the last line is that of the answer
 ended_so : (e : End) (end : RunEnd) (b : BoardValue) (now : History) → Ok end ≡ answer_of e → ended_line end b now ≡ last_line now e b
 ended_so Charges end b now is = let same : end ≡ run_end.Charges = cc in ap (λ x. ended_line x b now) same

@@ -23,7 +23,7 @@ const MAX_CYCLES: u64 = 4_294_967_295;
 const MAX_WORDS: u64 = 22_000;
 
 /// What a source may cost, and the room that its tasks need.
-#[derive(Clone, Copy, Debug, PartialEq, Eq)]
+#[derive(Clone, Copy)]
 pub struct Allow {
     /// The bound, in cycles: enough for a boot, the clearing of the versions, one attempt of any task and its commit.
     pub cycles: u32,

@@ -4,7 +4,7 @@ use alp_text::Span;
 use thiserror::Error;
 
 /// What of a source is too much, in the order in which it is looked at. A count that passes 2^64 - 1 stands there.
-#[derive(Clone, Copy, Debug, PartialEq, Eq, Error)]
+#[derive(Clone, Copy, Debug, Error)]
 pub enum Over {
     /// The first task that counts more than 256 emits: the line of its name in its declaration from 1, the name, and the count.
     #[error("line {line}: a task that counts {count} emits, more than 256")]

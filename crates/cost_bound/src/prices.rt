@@ -12,7 +12,7 @@ use task_ast::types::{joined_type, type_of};
 use task_ast::{Arm, BinaryOperator, Expr, Stmt, TaskName, VariableName, WordType};
 
 /// One column of the table of prices: what each kind of node costs, its parts aside.
-#[derive(Clone, Copy, Debug, PartialEq, Eq)]
+#[derive(Clone, Copy)]
 pub struct Column {
     /// A number, a scalar, a reading.
     pub leaf: u64,

@@ -4,7 +4,7 @@ ghost use Rattle.std.specs.Prelude.{◌≡◌, ◌+◌, ◌-◌, ◌^◌, ◌<�
 ghost use Rattle.fram_board.specs.Board.{next_number, offered_to, accepted_word};
 
 /// The number that it took first, how many words it accepted, and how many repeats it counted. All of them outlive power loss.
-#[derive(Clone, Copy, PartialEq, Eq, Debug)]
+#[derive(Clone, Copy)]
 pub struct Receiver {
     pub first: u16,
     pub accepted: u64,

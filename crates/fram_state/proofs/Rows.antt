@@ -1,9 +1,8 @@
 -- Rows that are written over words, and how long the rows of variables are.
-use Rattle.std.proofs.Common.{◌≡◌, ◌<◌, ◌≤◌, ◌+◌, ◌⊎◌, inl, inr, ◌∙◌, ℕ, zero, suc, Bool, true, false, cond, List, [], ◌∷◌, length, get_or, set, take, drop}
-use Rattle.std.proofs.Common.{map, replicate, Option, Some, None, refl, sym, ap, subst, add-one, arith}
+use Rattle.std.proofs.Common.{◌≡◌, ◌<◌, ◌≤◌, ◌+◌, ◌⊎◌, inl, inr, ◌∙◌, ℕ, zero, suc, Bool, true, false, cond, List, [], ◌∷◌, length, set, take, drop}
+use Rattle.std.proofs.Common.{map, replicate, Option, Some, None, refl, sym, ap, subst, arith}
 use Rattle.std.specs.Prelude.{◌-◌, ◌*◌, nat_lt, nat_le, slice_get, slice_index, unwrap_or, All}
 use Rattle.std.specs.Option.{option_map_or}
-use Rattle.std.proofs.Math.Seq.{drop-cons}
 use Rattle.std.proofs.lemmas.Bool.{cases_lt, leb-true, eqb-true, and_parts}
 use Rattle.std.proofs.lemmas.List.{drop_all, length-set, length-replicate, length-drop, length-take-le, get_or-set_same, get_or-set_other}
 use Rattle.image_text.specs.image_map.declared.parts.Variable.{Variable}
@@ -24,15 +23,6 @@ use Rattle.fram_state.specs.Laid.{with_row}
 use Rattle.fram_state.specs.Editions.{IsEdition}
 
 -- ---- a row over words
-
-pub row_more : (row words : List ℕ) (place i w : ℕ) → i < length row → w ≡ get_or row i w
-    → with_row (place + (i + 1)) (drop (i + 1) row) (set words (place + i) w) ≡ with_row (place + i) (drop i row) words
-row_more row words place i w h at =
-    let next : place + (i + 1) ≡ suc (place + i) = omega arith in
-    sym (ap (λ r. with_row (place + i) r words) (drop-cons row i w h)
-    ∙ ap (λ x. with_row (suc (place + i)) (drop (suc i) row) (set words (place + i) x)) (sym at)
-    ∙ ap (λ k. with_row (suc (place + i)) (drop k row) (set words (place + i) w)) (sym (add-one i))
-    ∙ ap (λ k. with_row k (drop (i + 1) row) (set words (place + i) w)) (sym next))
 
 pub row_end : (row words : List ℕ) (place i : ℕ) → length row ≤ i → with_row place (drop i row) words ≡ words
 row_end row words place i h = ap (λ r. with_row place r words) (drop_all i row h)
@@ -191,12 +181,3 @@ kept_fits old is text d v variable line name row j named kept is_row =
     let from : kept_number old text d ≡ Some j = ap (λ n. kept_from old.text old.program.shared n d) (sym named) ∙ sym kept in
     let same : row_of old text d ≡ row = ap (λ o. option_map_or (words_of old) o (initial_words d.extent)) from ∙ sym is_row in
     subst (λ r. place_of v.address + length r ≤ 24064) same (row_fits old is text d v variable line)
-
--- and so do those that it begins with
-pub initial_fits : (old : EditionValue) → IsEdition old → (text : List ℕ) (d : SharedDeclaration) (v : Variable) → IsVariable v
-    → line_of v ≡ declared_line text d → (row : List ℕ) → row ≡ initial_words d.extent → place_of v.address + length row ≤ 24064
-initial_fits old is text d v variable line row is_row =
-    let long = initial_long d.extent in
-    let lengths : unwrap_or v.length 1 ≡ unwrap_or (length_of d.extent) 1 = ap (λ (l : Line). unwrap_or l.length 1) line in
-    let ends = variable_fits v variable in
-    subst (λ r. place_of v.address + length r ≤ 24064) (sym is_row) (omega arith)

@@ -21,7 +21,7 @@ use thiserror::Error;
 use war_analysis::{Plan, TaskPlan, analyse, one_plan};
 
 /// What keeps an image from being one of a source.
-#[derive(Clone, Copy, Debug, PartialEq, Eq, Error)]
+#[derive(Clone, Copy, Debug, Error)]
 pub enum SuitFault {
     /// The image has no map, or its map has other variables, tasks or private scalars than the source.
     #[error("the map isn't one of the source")]

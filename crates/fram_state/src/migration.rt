@@ -24,7 +24,7 @@ use task_ast::{Extent, Stmt, TaskName, VariableName};
 use thiserror::Error;
 
 /// Why an old state doesn't go on in a new edition of its program.
-#[derive(Clone, Copy, Debug, PartialEq, Eq, Error)]
+#[derive(Clone, Copy, Debug, Error)]
 pub enum MigrateFault {
     /// The commit of the state is pending.
     #[error("a commit is pending")]

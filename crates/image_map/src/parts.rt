@@ -5,7 +5,7 @@ use std::alloc::{AllocError, Global};
 use std::marker::Model;
 
 /// The addresses of the words of the runtime.
-#[derive(Clone, Copy, Debug, PartialEq, Eq)]
+#[derive(Clone, Copy, PartialEq, Eq)]
 pub struct RuntimeWords {
     /// CUR: the number of the task that runs.
     pub current_task: u16,
@@ -26,14 +26,14 @@ pub struct RuntimeWords {
 }
 
 /// Where a list stands, and how many items it has room for.
-#[derive(Clone, Copy, Debug, PartialEq, Eq)]
+#[derive(Clone, Copy, PartialEq, Eq)]
 pub struct Place {
     pub address: u16,
     pub capacity: u32,
 }
 
 /// How a variable's words are read as numbers.
-#[derive(Clone, Copy, Debug, PartialEq, Eq)]
+#[derive(Clone, Copy)]
 pub enum ValueType {
     Unsigned,
     Int,

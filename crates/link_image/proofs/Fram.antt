@@ -1,7 +1,6 @@
 -- The words of an image by their addresses.
-use Rattle.std.proofs.Common.{◌≡◌, ◌≢◌, ◌∙◌, ◌+◌, ◌*◌, ◌%◌, ◌<◌, ◌≤◌, ◌==◌, ◌&&◌, ℕ, zero, suc, Bool, true, false, cond, if◌then◌else◌, nat_lt, nat_le, List}
+use Rattle.std.proofs.Common.{◌≡◌, ◌≢◌, ◌∙◌, ◌+◌, ◌*◌, ◌%◌, ◌<◌, ◌≤◌, ◌==◌, ◌&&◌, ℕ, suc, Bool, true, false, cond, if◌then◌else◌, nat_lt, nat_le, List}
 use Rattle.std.proofs.Common.{[], ◌∷◌, map, length, refl, sym, ap, arith, eqb-true, slice_index, slice_set, get_or-set_same, get_or-set_other}
-use Rattle.std.specs.Prelude.{All}
 use Rattle.std.proofs.lemmas.Bool.Decides.{nat_tests}
 use Rattle.memory_map.specs.address_space.Limits.{fram_first}
 use Rattle.image_text.specs.ImageValue.{place_of}
@@ -69,16 +68,3 @@ none_before from end a (v ∷ vs) (row ∷ rows) order l =
     let low = order.0.from in
     ap (λ b. cond b (word_of_row (home_region v) row a) (shared_word vs rows a)) (outside_before (home_region v) a (omega (arith, l, low)))
     ∙ none_before (end_of (home_region v)) end a vs rows order.1 (omega (arith, l, low))
-
--- a word at most
-pub small_words : (ws : List ℕ) (a : ℕ) → All (λ w. w < 0x10000) ws → fram_of ws a < 0x10000
-small_words ws a h = go ((a % 2 == 0) && is_fram a)
-  where
-    at : (xs : List ℕ) (i : ℕ) → All (λ w. w < 0x10000) xs → slice_index xs i < 0x10000
-    at [] i h = omega arith
-    at (x ∷ xs) zero h = h 0 0 (omega arith)
-    at (x ∷ xs) (suc i) h = at xs i (λ k d l. h (suc k) d (omega (arith, l)))
-
-    go : (b : Bool) → cond b (slice_index ws (place_of a)) 0 < 0x10000
-    go true = at ws (place_of a) h
-    go false = omega arith

@@ -5,7 +5,7 @@ use Rattle.std.proofs.lemmas.Bool.{cases_eq}
 use Rattle.array_versions.specs.fram_board.Bus.{is_fram}
 use Rattle.array_versions.specs.Behaviour.{Behaviour, strays, is_place, at_place}
 use Rattle.memory_map.specs.declared.place.ArrayCopies.{ArrayCopies}
-use Rattle.memory_map.specs.Spots.{Places, IsScalarPlace, IsScalarAt, IsArrayAt, Element, IsElement, IsCopied, Spot, copy, IsSpot, element_in, copy_in}
+use Rattle.memory_map.specs.Spots.{Places, IsScalarPlace, IsScalarAt, IsArrayAt, Element, IsElement, IsCopied, Spot, IsSpot, element_in, copy_in}
 use Rattle.memory_map.specs.Spots.{version_in, element_address, copy_address, version_address, spot_address}
 use Rattle.lower.specs.Spots.{Room, AreApart, AreEven, AreDifferent}
 
@@ -56,6 +56,3 @@ same_or_not x y = ⊎_elim (λ a. ⊎_elim (λ b. inl (same_element x y a b)) (�
     (λ ne. inr (λ e. ne (ap (λ z. z.array) e))) (cases_eq x.array y.array)
 
 -- ---- spots that differ
-
-pub copy_of_another : (x y : Element) → AreDifferent x y → copy x ≡ copy y → ⊥
-copy_of_another x y ne e = let l : x ≡ y = cc in ne l

@@ -2,7 +2,7 @@
 use Rattle.std.proofs.Common.{◌≡◌, ℕ, ◌<◌, ◌≤◌, List, [], ◌∷◌, ◌++◌, length, Option, Some, None, Bool, refl, sym, ap, ◌∙◌, subst, arith, append_assoc}
 use Rattle.std.proofs.Common.{append-nil}
 use Rattle.memory_map.specs.MemoryMap.{word_place}
-use Rattle.memory_map.specs.declared.words.RuntimeWord.TheVariants.{ListLength, EmitCount, Base, Version}
+use Rattle.memory_map.specs.declared.words.RuntimeWord.TheVariants.{ListLength, EmitCount, Version}
 use Rattle.array_versions.specs.fram_board.Effects.{Effect, Store, Take, Send}
 use Rattle.array_versions.specs.machine_effects.World.{put, fram_after}
 use Rattle.array_versions.proofs.machine_effects.Interface.{fram_after-append, put_other}
@@ -72,10 +72,6 @@ stores_keep p written room ver a (Send n w ∷ es) f apart kept h = absurd h
 -- VER is one
 pub keeps_version : (p : Places) (room : Room) → AreApart p room → IsKept p (word_place p.map Version)
 keeps_version p room apart = record { low = omega (arith, apart); not_length = λ e. omega (arith, e, apart); not_count = λ e. omega (arith, e, apart) }
-
--- and BASE is another
-pub keeps_base : (p : Places) (room : Room) → AreApart p room → IsKept p (word_place p.map Base)
-keeps_base p room apart = record { low = omega (arith, apart); not_length = λ e. omega (arith, e, apart); not_count = λ e. omega (arith, e, apart) }
 
 -- readings alone change nothing
 pub takes_keep : (es : List Effect) (f : ℕ → ℕ) → OnlyTakes es → fram_after es f ≡ f

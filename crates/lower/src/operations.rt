@@ -8,7 +8,7 @@ use array_versions::{BinaryOperation, Comparison, PlainOperation, ShiftOperation
 use task_ast::{BinaryOperator, ShiftOperator, WordType};
 
 /// What an operator gives of the words of its two sides.
-#[derive(Clone, Copy, Debug, PartialEq, Eq)]
+#[derive(Clone, Copy)]
 pub enum BinaryMeaning {
     /// What an operation gives.
     Calculates(BinaryOperation),

@@ -5,7 +5,7 @@ use crate::words::RuntimeWord;
 use std::marker::Model;
 
 /// Where the runtime's words stand, and the regions behind them.
-#[derive(Clone, Copy, Debug, PartialEq, Eq)]
+#[derive(Clone, Copy)]
 pub struct Regions {
     /// The address of the first of the runtime's words.
     pub row: u16,

@@ -1,7 +1,7 @@
 //! The words of the runtime.
 
 /// A word of the runtime. They stand side by side, in this order.
-#[derive(Clone, Copy, Debug, PartialEq, Eq)]
+#[derive(Clone, Copy)]
 pub enum RuntimeWord {
     /// CUR: the number of the task that runs.
     CurrentTask,

@@ -9,16 +9,6 @@ use Rattle.msp_asm.specs.Alone.{line_alone}
 use Rattle.msp_asm.specs.Disassembly.{Stands}
 
 -- the first three words, with 0 for those that aren't there
-pub front_real : (xs ws : List ℕ) → IsPrefix xs (get_or ws 0 0 ∷ get_or ws 1 0 ∷ get_or ws 2 0 ∷ []) → length xs ≤ length ws → IsPrefix xs ws
-front_real [] ws p h = tt
-front_real (x ∷ xs) [] p h = absurd (omega arith)
-front_real (x ∷ []) (v ∷ vs) p h = p
-front_real (x ∷ y ∷ xs) (v ∷ []) p h = absurd (omega arith)
-front_real (x ∷ y ∷ []) (v ∷ w ∷ ws) p h = p
-front_real (x ∷ y ∷ z ∷ xs) (v ∷ w ∷ []) p h = absurd (omega arith)
-front_real (x ∷ y ∷ z ∷ []) (v ∷ w ∷ u ∷ ws) (e, (f, (g, r))) h = (e, (f, (g, tt)))
-front_real (x ∷ y ∷ z ∷ t ∷ xs) (v ∷ w ∷ u ∷ ws) (e, (f, (g, r))) h = absurd r
-
 pub front_padded : (xs ws : List ℕ) → IsPrefix xs ws → length xs < 4 → IsPrefix xs (get_or ws 0 0 ∷ get_or ws 1 0 ∷ get_or ws 2 0 ∷ [])
 front_padded [] ws p h = tt
 front_padded (x ∷ xs) [] p h = absurd p
@@ -58,7 +48,3 @@ none_stands a ws j legal whole other i s =
     let same : i ≡ j = is_unique i j ws s.legal legal s.whole whole in
     let P : Instr → Type 0 = λ i. line_alone a (instr_text a i) ≡ Some (encoding i) in
     other (subst P same s.same)
-
--- where an instruction isn't whole, none stands there
-pub none_legal : (a : ℕ) (ws : List ℕ) → ((i : Instr) → IsInstruction i → IsPrefix (encoding i) ws → ⊥) → (i : Instr) → Stands a ws i → ⊥
-none_legal a ws none i s = none i s.legal s.whole

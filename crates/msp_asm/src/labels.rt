@@ -9,7 +9,7 @@ use std::alloc::AllocError;
 use std::collections::BTreeMap;
 
 /// Where a label stands first: its address and its line.
-#[derive(Clone, Copy, Debug, PartialEq, Eq)]
+#[derive(Clone, Copy)]
 pub struct Place {
     pub address: u16,
     pub line: u32,

@@ -51,9 +51,6 @@ pub record IsTwoOperand (i : Instr) (w0 : ℕ) : Type 0 where
   pub src_is : HasFields (source_row src) (w0 / 0x10 % 4) (w0 / 0x100 % 16)
   pub dst_is : HasFields (destination_row dst) (w0 / 0x80 % 2) (w0 % 16)
 
-one_low : (f m r : ℕ) (w : Width) → f ≤ 0x1280 → m < 4 → r < 16 → f + byte_bit w * 0x40 + m * 0x10 + r < 0x4000
-one_low f m r w hf hm hr = let b = byte_below w in omega arith
-
 pub two_fields : (w0 : ℕ) → 0x4000 ≤ w0 → (i : Instr) → IsInstruction i → first_word i ≡ w0 → IsTwoOperand i w0
 two_fields w0 h (Two op w s d) fits e =
     let sb = source_below s in

@@ -186,7 +186,7 @@ pub fn jump_effect(cpu: &mut Cpu, condition: Condition, offset: Offset)
 }
 
 /// The four operations on one place.
-#[derive(Clone, Copy, PartialEq, Eq, Debug)]
+#[derive(Clone, Copy)]
 pub enum Modification {
     Rrc,
     Rra,

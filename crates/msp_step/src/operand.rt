@@ -14,14 +14,14 @@ use alp_words::Width;
 use msp_isa::{Dst, IndexRegister, IndirectRegister, Operand, Reg, SourceRegister, Src};
 
 /// Where an operand is.
-#[derive(Clone, Copy, PartialEq, Eq, Debug)]
+#[derive(Clone, Copy)]
 pub enum Location {
     Register(Reg),
     Memory(u16),
 }
 
 /// An access that the bus can't serve.
-#[derive(Clone, Copy, PartialEq, Eq, Debug)]
+#[derive(Clone, Copy)]
 pub struct Fault {
     pub refused: Refused,
     pub address: u16,

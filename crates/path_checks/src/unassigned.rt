@@ -15,7 +15,7 @@ use task_ast::{Arm, CheckedSource, Expr, Stmt, TaskName, Variable, VariableName}
 
 /// What the paths up to a place have done with the 128 locals from a base on: bit k of a mask is the local `base + k`.
 /// The masks `untouched` and `exposed` count from the start of the innermost turn.
-#[derive(Clone, Copy, Debug, PartialEq, Eq)]
+#[derive(Clone, Copy)]
 pub struct Reached {
     /// Some path comes here.
     pub falls_through: bool,

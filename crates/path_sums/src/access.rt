@@ -10,7 +10,7 @@ ghost use Rattle.path_sums.specs.Access.{is_same, writes, SomePath, IsPrivate, s
 use task_ast::{Arm, Expr, Stmt, TaskName, Variable, VariableName};
 
 /// What the paths of a block do with one variable.
-#[derive(Clone, Copy, Debug, PartialEq, Eq)]
+#[derive(Clone, Copy)]
 pub struct AccessSummary {
     /// Some path goes on behind the block.
     pub falls_through: bool,

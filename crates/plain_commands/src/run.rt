@@ -24,7 +24,7 @@ use std::alloc::Global;
 use std::marker::Brand;
 
 /// How a run ended whose report is whole.
-#[derive(Clone, Copy, Debug, PartialEq, Eq)]
+#[derive(Clone, Copy)]
 pub enum RunEnding {
     /// Its charges or readings ran out, or the CPU was switched off.
     Well,

@@ -8,7 +8,7 @@ use alp_text::number;
 use text_parts::next_field;
 
 /// What a line says that begins a transition or ends a report, as far as the lines before it leave it open.
-#[derive(Clone, Copy, Debug, PartialEq, Eq)]
+#[derive(Clone, Copy)]
 pub enum Entry {
     /// A transition on the readings from position `from` up to and without `to`.
     Transition {

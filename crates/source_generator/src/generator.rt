@@ -3,7 +3,7 @@ ghost use Rattle.std.specs.Prelude.{◌≡◌};
 ghost use Rattle.source_generator.specs.Draws.{next, drawn, behind};
 
 /// A linear congruential generator modulo 2^32, of which each draw gives the upper 16 bits.
-#[derive(Clone, Copy, Debug)]
+#[derive(Clone, Copy)]
 pub struct Generator {
     state: u32,
 }

@@ -8,7 +8,7 @@ use thiserror::Error;
 
 /// The refusal of the first pass that refuses a text, at its first place; or what can't be done with an accepted one. Want of memory
 /// stands alone: no other variant holds it.
-#[derive(Clone, Copy, Debug, PartialEq, Eq, Error)]
+#[derive(Clone, Copy, Debug, Error)]
 pub enum SourceFault {
     /// A text that isn't cut into tokens.
     #[error("{0}")]

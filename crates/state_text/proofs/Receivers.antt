@@ -39,9 +39,6 @@ pub record EndsState (more : List (List ℕ)) (k : ℕ) : Type 0 where
   pub no_map : says_no_map more ≡ true
   pub not_blank : (n : ℕ) → behind_blanks n more ≡ record { rest = more; line = n }
 
-pub nothing_ends : EndsState [] 0
-nothing_ends = record { number = λ n. refl; no_map = refl; not_blank = λ n. refl }
-
 pub receiver_ends : (l : List ℕ) (k : ℕ) → receiver_of l ≡ Some k → EndsState (l ∷ []) k
 receiver_ends l k h = record { number = λ n. rw h refl; no_map = names l k h; not_blank = λ n. rw (not_blank l k h) refl }
 

@@ -1,6 +1,5 @@
 -- A text is read as a state exactly where it is the text of an image, or that and the receiver's line.
 use Rattle.std.proofs.Common.{◌≡◌, ◌<◌, ◌^◌, ℕ, List, [], ◌∷◌, ◌++◌, refl, ap, sym, subst, ◌∙◌, inl, inr, Option, Some, Result, Ok, Err, codes, append_assoc}
-use Rattle.std.proofs.Common.{append-nil}
 use Rattle.std.specs.Fmt.{decimal}
 use Rattle.text_parts.specs.Lines.{lines}
 use Rattle.text_parts.specs.Printed.{spaced, printed}
@@ -21,7 +20,7 @@ use Rattle.state_text.specs.Meaning as meaning
 use Rattle.state_text.specs.Meaning.{IsStateText, WithNumber}
 use Rattle.state_text.specs.Text.{receiver_fields}
 use Rattle.state_text.proofs.Feeds.{printed_part}
-use Rattle.state_text.proofs.Receivers.{EndsState, nothing_ends, receiver_ends, receiver_back, receiver_lines}
+use Rattle.state_text.proofs.Receivers.{EndsState, receiver_ends, receiver_back, receiver_lines}
 use Rattle.state_text.proofs.Tails.{IsTail, tail_behind, tail_is}
 
 -- what is read of an image's lines, with the end of a state behind them
@@ -53,12 +52,6 @@ image_more ls more i k ends h = by_front (front_of ls) (front_ahead ls) h
 pub number_state : (before : List (List ℕ)) (l : List ℕ) (i : ImageValue) (k : ℕ) → image_lines before ≡ Ok i → receiver_of l ≡ Some k
     → state_lines (before ++ l ∷ []) ≡ Ok (record { image = i; receiver = k })
 number_state before l i k h n = image_more before (l ∷ []) i k (receiver_ends l k n) h
-
--- the lines of a state are read as that state
-pub state_read : (ls : List (List ℕ)) (s : State) → IsStateText ls s → state_lines ls ≡ Ok s
-state_read ls s (inl (h, none)) =
-    ap state_lines (sym (append-nil ls)) ∙ image_more ls [] s.image 0 nothing_ends h ∙ ap (λ k. Ok (record { image = s.image; receiver = k })) (sym none)
-state_read ls s (inr w) = ap state_lines w.made ∙ number_state w.before w.line s.image s.receiver w.image w.number
 
 -- what is read as a state is one
 pub state_is : (ls : List (List ℕ)) (s : State) → state_lines ls ≡ Ok s → IsStateText ls s

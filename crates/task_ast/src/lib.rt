@@ -17,7 +17,7 @@ pub enum WordType {
 }
 
 /// An operator in front of its operand: `-`, `~`, `!`.
-#[derive(Clone, Copy, Debug, PartialEq, Eq)]
+#[derive(Clone, Copy)]
 pub enum UnaryOperator {
     Negate,
     Complement,
@@ -25,7 +25,7 @@ pub enum UnaryOperator {
 }
 
 /// An operator that evaluates both sides: `* / % + - < <= > >= == != & ^ |`, in this order.
-#[derive(Clone, Copy, Debug, PartialEq, Eq)]
+#[derive(Clone, Copy)]
 pub enum BinaryOperator {
     Multiply,
     Divide,
@@ -51,21 +51,21 @@ pub struct PlacedOperator {
 }
 
 /// The direction of a shift: `<<`, `>>`.
-#[derive(Clone, Copy, Debug, PartialEq, Eq)]
+#[derive(Clone, Copy)]
 pub enum ShiftOperator {
     Left,
     Right,
 }
 
 /// An operator that evaluates its right side only where the left one leaves it open: `&&`, `||`.
-#[derive(Clone, Copy, Debug, PartialEq, Eq)]
+#[derive(Clone, Copy)]
 pub enum ShortCircuitOperator {
     And,
     Or,
 }
 
 /// A number as it stands in the text, with its place.
-#[derive(Clone, Copy, Debug, PartialEq, Eq)]
+#[derive(Clone, Copy)]
 pub struct Literal {
     pub value: u16,
     pub span: Span,
@@ -122,7 +122,7 @@ pub struct Arm<V, T> {
 }
 
 /// What a shared name stands for.
-#[derive(Clone, Copy, Debug, PartialEq, Eq)]
+#[derive(Clone, Copy)]
 pub enum Extent {
     /// One word, and the word that it starts with: 0 where none is written.
     Scalar(u16),
@@ -133,7 +133,7 @@ pub enum Extent {
 }
 
 /// The declaration of a shared variable.
-#[derive(Clone, Copy, Debug, PartialEq, Eq)]
+#[derive(Clone, Copy)]
 pub struct SharedDeclaration {
     pub word_type: WordType,
     pub name: Span,

@@ -87,14 +87,6 @@ statements_push xs x = map-append statement_of xs (x ∷ [])
 pub tests_push : (xs : List (Arm VariableName TaskName)) (x : Arm VariableName TaskName) → map tested_of (xs ++ x ∷ []) ≡ map tested_of xs ++ tested_of x ∷ []
 tests_push xs x = map-append tested_of xs (x ∷ [])
 
-pub backs_push : (xs : List (Statement VariableName TaskName)) (x : Statement VariableName TaskName)
-    → map statement_back (xs ++ x ∷ []) ≡ map statement_back xs ++ statement_back x ∷ []
-backs_push xs x = map-append statement_back xs (x ∷ [])
-
-pub tests_back_push : (xs : List (Tested VariableName TaskName)) (x : Tested VariableName TaskName)
-    → map tested_back (xs ++ x ∷ []) ≡ map tested_back xs ++ tested_back x ∷ []
-tests_back_push xs x = map-append tested_back xs (x ∷ [])
-
 -- ---- an `if` and its parts
 
 pub if_back_none : (s : Statement VariableName TaskName) (ts : List (Tested VariableName TaskName)) (us : List (Tested Span Span))

@@ -5,7 +5,7 @@ use std::alloc::{AllocError, AllocFailed};
 use thiserror::Error;
 
 /// What a wrong use keeps: the name; the count of a shift where that is at fault; of an operator that takes no long nothing.
-#[derive(Clone, Copy, Debug, PartialEq, Eq)]
+#[derive(Clone, Copy, Debug)]
 pub enum Kept {
     Name(Span),
     Number(u16),
@@ -13,7 +13,7 @@ pub enum Kept {
 }
 
 /// The first fault of the first check that finds one, with its line from 1, in the order of the checks; or want of memory.
-#[derive(Clone, Copy, Debug, PartialEq, Eq, Error)]
+#[derive(Clone, Copy, Debug, Error)]
 pub enum CheckFault {
     /// A name that is declared twice where it must be declared once, at the later of the two declarations.
     #[error("line {line}: a name that is declared already")]

@@ -5,7 +5,7 @@ use alp_text::Span;
 use task_ast::{Extent, WordType};
 
 /// What a name does where it stands. Declarations come first, then uses; among them stands what else can be used wrongly.
-#[derive(Clone, Copy, Debug, PartialEq, Eq)]
+#[derive(Clone, Copy)]
 pub enum Role {
     /// It is declared as a shared variable.
     Shared(WordType, Extent),
@@ -35,7 +35,7 @@ pub enum Role {
 }
 
 /// A name, or what else can be used wrongly: its place in the text, and what it does there.
-#[derive(Clone, Copy, Debug, PartialEq, Eq)]
+#[derive(Clone, Copy)]
 pub struct Occurrence {
     pub span: Span,
     pub role: Role,

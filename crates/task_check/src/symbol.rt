@@ -3,7 +3,7 @@
 use task_ast::{Variable, WordType};
 
 /// What a name stands for: a shared variable or a task, by its number in the source, or a local, by its number in its task.
-#[derive(Clone, Copy, Debug, PartialEq, Eq)]
+#[derive(Clone, Copy)]
 pub enum Symbol {
     Scalar { number: u32, word_type: WordType },
     Array { number: u32, word_type: WordType },
@@ -12,14 +12,14 @@ pub enum Symbol {
 }
 
 /// A shared variable or a task, and how many names stand in front of its declaration.
-#[derive(Clone, Copy, Debug, PartialEq, Eq)]
+#[derive(Clone, Copy)]
 pub struct Global {
     pub front: usize,
     pub symbol: Symbol,
 }
 
 /// A local: the number of tasks declared up to its own, its number there, its type, and where it is known.
-#[derive(Clone, Copy, Debug, PartialEq, Eq)]
+#[derive(Clone, Copy)]
 pub struct Local {
     pub tasks: u32,
     pub number: u32,
@@ -29,14 +29,14 @@ pub struct Local {
 }
 
 /// A variable, and the type of its words.
-#[derive(Clone, Copy, Debug, PartialEq, Eq)]
+#[derive(Clone, Copy)]
 pub struct TypedVariable {
     pub variable: Variable,
     pub word_type: WordType,
 }
 
 /// How many shared variables and tasks are declared in front of a place, and how many locals of the task that it is in.
-#[derive(Clone, Copy, Debug, PartialEq, Eq)]
+#[derive(Clone, Copy)]
 pub struct Counts {
     pub shared: u32,
     pub tasks: u32,

@@ -7,7 +7,7 @@ use std::alloc::{AllocError, AllocFailed};
 use thiserror::Error;
 
 /// The first fault of a text, with its line from 1; or want of memory.
-#[derive(Clone, Copy, Debug, PartialEq, Eq, Error)]
+#[derive(Clone, Copy, Debug, Error)]
 pub enum LexFault {
     /// A byte that begins no token.
     #[error("line {line}: a byte that begins no token")]
@@ -50,7 +50,7 @@ impl<T: Drop> From<AllocFailed<T>> for LexFault {
 }
 
 /// What is wrong at a place, in the order in which it is looked for.
-#[derive(Clone, Copy, Debug, PartialEq, Eq)]
+#[derive(Clone, Copy)]
 pub enum Flaw {
     BadByte,
     BadNumber,

@@ -8,7 +8,7 @@ use task_ast::{BinaryOperator, ShiftOperator, ShortCircuitOperator, UnaryOperato
 use task_lex::Kind;
 
 /// An operator between two sides.
-#[derive(Clone, Copy, Debug, PartialEq, Eq)]
+#[derive(Clone, Copy)]
 pub enum Infix {
     Binary(BinaryOperator),
     Shift(ShiftOperator),
