@@ -1,12 +1,12 @@
 //! What a watch keeps of a run.
-ghost use Rattle.std.specs.Prelude.{◌≡◌, ◌+◌, ◌*◌, ◌<◌, ◌≤◌, ◌++◌, Some, None, OnOk, IfOk, option_map, flat_map, length, vec_len};
+ghost use Rattle.std.specs.Prelude.{◌≡◌, ◌+◌, ◌*◌, ◌<◌, ◌≤◌, ◌++◌, true, Some, None, OnOk, IfOk, option_map, flat_map, length, vec_len};
 ghost use Rattle.alp_io.specs.Count.{HasCause};
 ghost use Rattle.alp_io.specs.Sink.{Writes};
 ghost use Rattle.alp_io.specs.Report.{accepted_line};
 ghost use Rattle.image_text.specs.image_map.MapValue.{MapValue, IsFramWord};
-ghost use Rattle.board_run.specs.History.{word_in, task_name, more_lines, changed_line, changed_lines, number_of, values_in, shared_numbers};
+ghost use Rattle.board_run.specs.History.{word_in, task_name, more_lines, changed_line, changed_lines, number_at, values_in, shared_numbers};
 ghost use Rattle.board_run.specs.History.{is_decide, is_done};
-ghost use Rattle.board_run.specs.State.{placed, StandsInFram};
+ghost use Rattle.board_run.specs.State.{placed};
 
 use crate::numbers::{PlacedNumber, cut_number};
 use alp_io::{Failed, Report, Sink};
@@ -52,14 +52,15 @@ fn long_of(low: u16, high: u16) -> u32
     low as u32 + 65536 * high as u32
 }
 
-// A shared number of the FRAM.
-fn number(board: &Board, place: PlacedNumber<'_>) -> u32
-    requires { StandsInFram (placed place) }
-    ensures { result ≡ number_of (word_in board.now.fram) (placed place) }
+// The number of the FRAM at an address.
+fn number(board: &Board, address: u16, is_long: bool) -> u32
+    requires low { IsFramWord address }
+    requires high { is_long ≡ true → IsFramWord (address + 2) }
+    ensures { result ≡ number_at (word_in board.now.fram) address is_long }
 {
-    let low = word(board, place.address);
-    if place.is_long {
-        long_of(low, word(board, place.address + 2))
+    let low = word(board, address);
+    if is_long {
+        long_of(low, word(board, address + 2))
     } else {
         low as u32
     }
@@ -132,7 +133,7 @@ fn write_changes<S: Sink>(
     let mut i = 0;
     let mut k = 0;
     while let Some((place, behind, next)) = cut_number(rest, i) {
-        let now = number(board, place);
+        let now = number(board, place.address, place.is_long);
         write_number(place, shared[k], now, report)?;
         shared[k] = now;
         rest = behind;
@@ -336,14 +337,15 @@ fn word_of(image: &Image, address: u16) -> u16
     image.word(address).unwrap()
 }
 
-// A shared number of an image.
-fn number_in(image: &Image, place: PlacedNumber<'_>) -> u32
-    requires { StandsInFram (placed place) }
-    ensures { result ≡ number_of (word_in image.now.words) (placed place) }
+// The number of an image at an address.
+fn number_of(image: &Image, address: u16, is_long: bool) -> u32
+    requires low { IsFramWord address }
+    requires high { is_long ≡ true → IsFramWord (address + 2) }
+    ensures { result ≡ number_at (word_in image.now.words) address is_long }
 {
-    let low = word_of(image, place.address);
-    if place.is_long {
-        long_of(low, word_of(image, place.address + 2))
+    let low = word_of(image, address);
+    if is_long {
+        long_of(low, word_of(image, address + 2))
     } else {
         low as u32
     }
@@ -358,7 +360,7 @@ fn shared_of(alloc: Global, image: &Image, map: &Map) -> Result<Vec<u32>, AllocE
     let mut rest = map.variables();
     let mut i = 0;
     while let Some((place, behind, next)) = cut_number(rest, i) {
-        shared.push(number_in(image, place))?;
+        shared.push(number_of(image, place.address, place.is_long))?;
         rest = behind;
         i = next;
     }
