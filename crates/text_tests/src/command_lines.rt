@@ -22,7 +22,15 @@ fn empty_words(rt: HostRuntime) -> Result<(), Fail> {
     let alloc = rt.alloc();
     let words = owned(alloc, &["mean", "mean", ""])?;
     let read = command_of(alloc, words.as_slice());
-    assert!(rt; matches!(read, Ok(Command::Mean { source: "mean", trace: "" })));
+    assert!(rt;
+        matches!(
+            read,
+            Ok(Command::Mean {
+                source: "mean",
+                trace: ""
+            })
+        )
+    );
     assert!(rt; is_usage(alloc, &[""])?);
     assert!(rt; is_usage(alloc, &["gen", "", "i"])?);
     command_lines();
