@@ -92,7 +92,7 @@ behind_array vs v n i h e all len index =
     let rest = rest_are v (behind_first vs) are in
     let v_is = are 0 v (omega arith) in
     let word = in_array v.address n i v_is.address (fits_so v n len v_is) (index_in vs v (behind_first vs) n i split len index) in
-    (rest, begins (behind_first vs) rest, word, λ l. cc)
+    (rest, begins (behind_first vs) rest, (word, λ l. cc))
 
 array_next : (name : List ℕ) (a : ℕ) (t : ValueType) (i n : ℕ) → i < n → numbers_from name a t (Some n) i
     ≡ record { name = name; index = Some i; address = a + 2 * i; is_long = false } ∷ numbers_from name a t (Some n) (i + 1)

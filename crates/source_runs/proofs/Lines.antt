@@ -77,7 +77,7 @@ words_lines name a value_type.Long (Long w) x y is = lone_line (scalar_number na
 lines_both : (ps qs : List SharedNumber) (x y : World) → change_lines (ps ++ qs) x y ≡ change_lines ps x y ++ change_lines qs x y
 lines_both [] qs x y = refl
 lines_both (p ∷ ps) qs x y =
-    let one = changed_line p (x.fram p.address) (y.fram p.address) in
+    let one = changed_line p (number_of x.fram p) (number_of y.fram p) in
     ap (λ l. one ++ l) (lines_both ps qs x y) ∙ sym (append_assoc one (change_lines ps x y) (change_lines qs x y))
 
 module _ (text : List ℕ) (v : Variable) (d : SharedDeclaration) (x y : World) where
