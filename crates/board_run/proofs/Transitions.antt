@@ -7,7 +7,7 @@ use Rattle.alp_io.specs.Report.{accepted_line, step_line}
 use Rattle.alp_io.proofs.Interface.{Progress, progress_start, progress_step, progress_err}
 use Rattle.image_text.specs.image_map.MapValue.{MapValue}
 use Rattle.fram_board.specs.Board.{BoardValue}
-use Rattle.board_run.specs.History.{History, task_name, word_in, more_lines, changed_lines, shared_words, transition_lines, is_done, is_decide, decided}
+use Rattle.board_run.specs.History.{History, task_name, word_in, more_lines, changed_lines, shared_numbers, transition_lines, is_done, is_decide, decided}
 use Rattle.board_run.specs.History.{completed, gated}
 
 -- the parts as they are written
@@ -19,9 +19,9 @@ pub record AreParts (m : MapValue) (h : History) (b : BoardValue) (k : ℕ) (t n
 
 pub parts_are : (m : MapValue) (h : History) (b : BoardValue) (k : ℕ) (task next : Option (List ℕ)) (words : List ℕ) → AreParts m h b k task next words
     → step_line k task next h.span_from h.span_to ++
-    (flat_map accepted_line words ++ (more_lines h.more ++ changed_lines (shared_words m.variables) h.shared b.fram)) ≡ transition_lines m h b
+    (flat_map accepted_line words ++ (more_lines h.more ++ changed_lines (shared_numbers m.variables) h.shared b.fram)) ≡ transition_lines m h b
 parts_are m h b k task next words p =
-    let rest : List ℕ → List ℕ = λ ws. flat_map accepted_line ws ++ (more_lines h.more ++ changed_lines (shared_words m.variables) h.shared b.fram) in
+    let rest : List ℕ → List ℕ = λ ws. flat_map accepted_line ws ++ (more_lines h.more ++ changed_lines (shared_numbers m.variables) h.shared b.fram) in
     ap (λ n. step_line n task next h.span_from h.span_to ++ rest words) p.number
     ∙ ap (λ t. step_line (risen h.completed) t next h.span_from h.span_to ++ rest words) p.task
     ∙ ap (λ t. step_line (risen h.completed) (task_name m.tasks h.task) t h.span_from h.span_to ++ rest words) p.next

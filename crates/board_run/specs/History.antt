@@ -1,12 +1,13 @@
 -- What is known of a run so far, and the lines of its moments.
 -- With a map, events are read off the moments: a boot is a power-up; a decide is an instruction after which GATE is 1 and before
 -- which it wasn't; a done is one after which GATE is 0 and before which it was 1. A transition is completed at its done.
-use Rattle.std.specs.Prelude.{ℕ, zero, suc, ◌+◌, ◌==◌, ◌&&◌, Bool, not, nat_lt, if◌then◌else◌, List, [], ◌∷◌, ◌++◌, length, map, flat_map, sum_by, slice_get}
-use Rattle.std.specs.Prelude.{slice_index, Option, Some, None}
+use Rattle.std.specs.Prelude.{ℕ, zero, suc, ◌+◌, ◌*◌, ◌==◌, ◌&&◌, Bool, true, false, not, nat_lt, if◌then◌else◌, List, [], ◌∷◌, ◌++◌, length, map, flat_map}
+use Rattle.std.specs.Prelude.{sum_by, slice_get, slice_index, Option, Some, None}
 use Rattle.alp_io.specs.Count.{risen}
 use Rattle.alp_io.specs.Report.{accepted_line, more_line, step_line, value_line, bound_line}
+use Rattle.image_text.specs.image_map.declared.parts.ValueType.{ValueType}
 use Rattle.image_text.specs.image_map.declared.parts.Variable.{Variable}
-use Rattle.image_text.specs.image_map.MapValue.{MapValue, TaskValue}
+use Rattle.image_text.specs.image_map.MapValue.{MapValue, TaskValue, is_long}
 use Rattle.image_text.specs.ImageValue.{ImageValue, place_of}
 use Rattle.fram_board.specs.Board.{BoardValue}
 use Rattle.fram_board.specs.Run.{Moment, Action, PowerUp, Execute, word_list}
@@ -17,50 +18,64 @@ pub record History : Type 0 where
   pub gate : ℕ  -- GATE
   pub completed : ℕ  -- how many transitions were completed; a count stands still at 2^64 - 1
   pub task : ℕ  -- CUR at the last done
-  pub shared : List ℕ  -- all shared words at the last done
+  pub shared : List ℕ  -- all shared numbers at the last done
   pub accepted : List ℕ  -- the words accepted since the last done, the first 256 of them
   pub more : ℕ  -- how many words were accepted behind these
   pub since : ℕ  -- how many readings were taken at the last boot or done
   pub span_from : ℕ  -- the span of the last decide: the readings taken between the last boot or done before it and the decide
   pub span_to : ℕ
 
--- a shared word: the name of its variable, its index in an array, and its address
-pub record SharedWord : Type 0 where
+-- a shared number, which is a word or a long: the name of its variable, its index in an array, and the address of its only or its low word
+pub record SharedNumber : Type 0 where
   pub name : List ℕ
   pub index : Option ℕ
   pub address : ℕ
+  pub is_long : Bool
 
 -- so many words of an array from an index on
-abbrev pub array_words : List ℕ → ℕ → ℕ → ℕ → List SharedWord
+abbrev pub array_words : List ℕ → ℕ → ℕ → ℕ → List SharedNumber
 array_words name address i zero = []
-array_words name address i (suc n) = record { name = name; index = Some i; address = address } ∷ array_words name (address + 2) (i + 1) n
+array_words name address i (suc n) = record { name = name; index = Some i; address = address; is_long = false } ∷ array_words name (address + 2) (i + 1) n
 
--- the words of a variable with this length
-abbrev pub variable_words : List ℕ → ℕ → Option ℕ → List SharedWord
-variable_words name address None = record { name = name; index = None; address = address } ∷ []
-variable_words name address (Some n) = array_words name address 0 n
+-- the number of a scalar of this type
+abbrev pub scalar_number : List ℕ → ℕ → ValueType → SharedNumber
+scalar_number name address t = record { name = name; index = None; address = address; is_long = is_long t }
 
--- all shared words, in order of declaration and index
-abbrev pub shared_words : List Variable → List SharedWord
-shared_words vs = flat_map (λ v. variable_words v.name v.address v.length) vs
+-- the numbers of a variable of this type and length
+abbrev pub variable_numbers : List ℕ → ℕ → ValueType → Option ℕ → List SharedNumber
+variable_numbers name address t None = scalar_number name address t ∷ []
+variable_numbers name address t (Some n) = array_words name address 0 n
+
+-- all shared numbers, in order of declaration and index
+abbrev pub shared_numbers : List Variable → List SharedNumber
+shared_numbers vs = flat_map (λ v. variable_numbers v.name v.address v.value_type v.length) vs
 
 -- the word of the FRAM at an address
 abbrev pub word_in : List ℕ → ℕ → ℕ
 word_in fram a = slice_index fram (place_of a)
 
--- what shared words hold
-abbrev pub values_in : List ℕ → List SharedWord → List ℕ
-values_in fram ps = map (λ p. word_in fram p.address) ps
+-- the number that the words at an address and behind it are: of a long the low word comes first
+abbrev pub number_at : (ℕ → ℕ) → ℕ → Bool → ℕ
+number_at word a false = word a
+number_at word a true = word a + 65536 * word (a + 2)
 
--- the line of a shared word, if it isn't what it was
-abbrev pub changed_line : SharedWord → ℕ → ℕ → List ℕ
+-- a shared number, where words are so
+abbrev pub number_of : (ℕ → ℕ) → SharedNumber → ℕ
+number_of word p = number_at word p.address p.is_long
+
+-- what shared numbers are in the FRAM
+abbrev pub values_in : List ℕ → List SharedNumber → List ℕ
+values_in fram ps = map (number_of (word_in fram)) ps
+
+-- the line of a shared number, if it isn't what it was
+abbrev pub changed_line : SharedNumber → ℕ → ℕ → List ℕ
 changed_line p was now = if now == was then [] else value_line p.name p.index now
 
--- the lines of the shared words that differ from what they held
-abbrev pub changed_lines : List SharedWord → List ℕ → List ℕ → List ℕ
+-- the lines of the shared numbers that differ from what they were
+abbrev pub changed_lines : List SharedNumber → List ℕ → List ℕ → List ℕ
 changed_lines [] olds fram = []
 changed_lines (p ∷ ps) [] fram = []
-changed_lines (p ∷ ps) (w ∷ ws) fram = changed_line p w (word_in fram p.address) ++ changed_lines ps ws fram
+changed_lines (p ∷ ps) (w ∷ ws) fram = changed_line p w (number_of (word_in fram) p) ++ changed_lines ps ws fram
 
 -- the name of a task by its number, if it names one
 abbrev pub task_name : List TaskValue → ℕ → Option (List ℕ)
@@ -84,7 +99,7 @@ with_words h (w ∷ ws) = with_words (with_word h w) ws
 abbrev pub transition_lines : MapValue → History → BoardValue → List ℕ
 transition_lines m h b = step_line (risen h.completed) (task_name m.tasks h.task) (task_name m.tasks (word_in b.fram m.words.current_task)) h.span_from
     h.span_to
-    ++ (flat_map accepted_line h.accepted ++ (more_lines h.more ++ changed_lines (shared_words m.variables) h.shared b.fram))
+    ++ (flat_map accepted_line h.accepted ++ (more_lines h.more ++ changed_lines (shared_numbers m.variables) h.shared b.fram))
 
 -- GATE is 1 now and wasn't before
 abbrev pub is_decide : ℕ → ℕ → Bool
@@ -103,7 +118,7 @@ abbrev pub completed : MapValue → History → BoardValue → History
 completed m h b = record h {
   completed = risen h.completed;
   task = word_in b.fram m.words.current_task;
-  shared = values_in b.fram (shared_words m.variables);
+  shared = values_in b.fram (shared_numbers m.variables);
   accepted = [];
   more = 0;
   since = b.taken;
@@ -154,7 +169,7 @@ start_with words (Some m) = record {
   gate = word_in words m.words.gate;
   completed = 0;
   task = word_in words m.words.current_task;
-  shared = values_in words (shared_words m.variables);
+  shared = values_in words (shared_numbers m.variables);
   accepted = [];
   more = 0;
   since = 0;
@@ -171,6 +186,6 @@ abbrev pub bound_lines : Option MapValue → List ℕ
 bound_lines None = []
 bound_lines (Some m) = bound_line m.bound
 
--- the sum of words
+-- the sum of numbers
 abbrev pub total : List ℕ → ℕ
 total ws = sum_by (λ w. w) ws

@@ -1,13 +1,14 @@
 //! What a watch keeps of a run.
-ghost use Rattle.std.specs.Prelude.{◌≡◌, ◌+◌, ◌<◌, ◌≤◌, ◌++◌, Some, None, OnOk, IfOk, option_map, flat_map, length, vec_len};
+ghost use Rattle.std.specs.Prelude.{◌≡◌, ◌+◌, ◌*◌, ◌<◌, ◌≤◌, ◌++◌, true, Some, None, OnOk, IfOk, option_map, flat_map, length, vec_len};
 ghost use Rattle.alp_io.specs.Count.{HasCause};
 ghost use Rattle.alp_io.specs.Sink.{Writes};
 ghost use Rattle.alp_io.specs.Report.{accepted_line};
 ghost use Rattle.image_text.specs.image_map.MapValue.{MapValue, IsFramWord};
-ghost use Rattle.board_run.specs.History.{word_in, task_name, more_lines, changed_line, changed_lines, values_in, shared_words, is_decide, is_done};
-ghost use Rattle.board_run.specs.State.{word_of};
+ghost use Rattle.board_run.specs.History.{word_in, task_name, more_lines, changed_line, changed_lines, number_at, values_in, shared_numbers};
+ghost use Rattle.board_run.specs.History.{is_decide, is_done};
+ghost use Rattle.board_run.specs.State.{placed};
 
-use crate::words::{PlacedWord, cut_word};
+use crate::numbers::{PlacedNumber, cut_number};
 use alp_io::{Failed, Report, Sink};
 use arrayvec::ArrayVec;
 use fram_board::{Board, Stepped};
@@ -23,8 +24,8 @@ pub struct State {
     pub completed: u64,
     /// CUR at the last done.
     pub task: u16,
-    /// All shared words at the last done.
-    pub shared: Vec<u16>,
+    /// All shared numbers at the last done.
+    pub shared: Vec<u32>,
     /// The first 256 words accepted since, and how many came behind them.
     pub accepted: ArrayVec<u16, 256>,
     pub more: u64,
@@ -42,6 +43,27 @@ pub fn word(board: &Board, address: u16) -> u16
     ensures { result ≡ word_in board.now.fram address }
 {
     board.word(address).unwrap()
+}
+
+// The number of a low and a high word.
+fn long_of(low: u16, high: u16) -> u32
+    ensures { result ≡ low + 65536 * high }
+{
+    low as u32 + 65536 * high as u32
+}
+
+// The number of the FRAM at an address.
+fn number(board: &Board, address: u16, is_long: bool) -> u32
+    requires low { IsFramWord address }
+    requires high { is_long ≡ true → IsFramWord (address + 2) }
+    ensures { result ≡ number_at (word_in board.now.fram) address is_long }
+{
+    let low = word(board, address);
+    if is_long {
+        long_of(low, word(board, address + 2))
+    } else {
+        low as u32
+    }
 }
 
 // The name of a task by its number.
@@ -74,45 +96,45 @@ fn write_more<S: Sink>(more: u64, report: &mut Report<'_, S>) -> Result<(), Fail
     report.more(more)
 }
 
-// The line of a shared word, if it isn't what it was.
-fn write_word<S: Sink>(
-    place: PlacedWord<'_>,
-    was: u16,
-    now: u16,
+// The line of a shared number, if it isn't what it was.
+fn write_number<S: Sink>(
+    place: PlacedNumber<'_>,
+    was: u32,
+    now: u32,
     report: &mut Report<'_, S>,
 ) -> Result<(), Failed>
     ensures same_sink { report.new.sink.ghost_name ≡ report.old.sink.ghost_name }
-    ensures bytes { Writes (S.contents report.old.sink.now) (S.contents report.new.sink.now) result (changed_line (word_of place.entry) was now) }
+    ensures bytes { Writes (S.contents report.old.sink.now) (S.contents report.new.sink.now) result (changed_line (placed place.entry) was now) }
     ensures cause { HasCause (S.faults report.old.sink.now) (S.faults report.new.sink.now) result }
 {
     if now == was {
         return Ok(());
     }
-    report.value(place.name, place.index, now as u32)
+    report.value(place.name, place.index, now)
 }
 
-// The lines of the shared words that have changed; they are kept as they are now.
+// The lines of the shared numbers that have changed; they are kept as they are now.
 fn write_changes<S: Sink>(
     map: &Map,
-    shared: &mut Vec<u16>,
+    shared: &mut Vec<u32>,
     board: &Board,
     report: &mut Report<'_, S>,
 ) -> Result<(), Failed>
-    requires { vec_len shared.old ≡ length (shared_words map.now.variables) }
+    requires { vec_len shared.old ≡ length (shared_numbers map.now.variables) }
     ensures same_sink { report.new.sink.ghost_name ≡ report.old.sink.ghost_name }
-    ensures kept { OnOk result (shared.new.items ≡ values_in board.now.fram (shared_words map.now.variables)) }
+    ensures kept { OnOk result (shared.new.items ≡ values_in board.now.fram (shared_numbers map.now.variables)) }
     ensures len { vec_len shared.new ≡ vec_len shared.old }
     ensures bytes { Writes (S.contents report.old.sink.now) (S.contents report.new.sink.now) result
-        (changed_lines (shared_words map.now.variables) shared.old.items board.now.fram) }
+        (changed_lines (shared_numbers map.now.variables) shared.old.items board.now.fram) }
     ensures cause { HasCause (S.faults report.old.sink.now) (S.faults report.new.sink.now) result }
 {
     map.rules();
     let mut rest = map.variables();
     let mut i = 0;
     let mut k = 0;
-    while let Some((place, behind, next)) = cut_word(rest, i) {
-        let now = word(board, place.address);
-        write_word(place, shared[k], now, report)?;
+    while let Some((place, behind, next)) = cut_number(rest, i) {
+        let now = number(board, place.address, place.is_long);
+        write_number(place, shared[k], now, report)?;
         shared[k] = now;
         rest = behind;
         i = next;
@@ -128,7 +150,7 @@ impl State {
     ghost use Rattle.image_text.specs.image_map.MapValue.{MapValue};
     ghost use Rattle.std.specs.Prelude.{[], if◌then◌else◌};
     ghost use Rattle.fram_board.specs.Run.{word_list};
-    ghost use Rattle.board_run.specs.History.{shared_words, with_word, with_words, transition_lines, completed, decided, gated, is_done, behind_instruction};
+    ghost use Rattle.board_run.specs.History.{shared_numbers, with_word, with_words, transition_lines, completed, decided, gated, is_done, behind_instruction};
     ghost use Rattle.board_run.specs.History.{instruction_lines, start_with, start_of};
     ghost use Rattle.board_run.specs.State.{history_of};
 
@@ -162,7 +184,7 @@ impl State {
         board: &Board,
         report: &mut Report<'_, S>,
     ) -> Result<(), Failed>
-        requires { vec_len self.old.shared ≡ length (shared_words map.now.variables) }
+        requires { vec_len self.old.shared ≡ length (shared_numbers map.now.variables) }
         ensures same_sink { report.new.sink.ghost_name ≡ report.old.sink.ghost_name }
         ensures history { OnOk result (history_of (Some map.now) self.new ≡ completed map.now (history_of (Some map.now) self.old) board.now) }
         ensures shadow { vec_len self.new.shared ≡ vec_len self.old.shared }
@@ -199,7 +221,7 @@ impl State {
         board: &Board,
         report: &mut Report<'_, S>,
     ) -> Result<(), Failed>
-        requires { vec_len self.old.shared ≡ length (shared_words map.now.variables) }
+        requires { vec_len self.old.shared ≡ length (shared_numbers map.now.variables) }
         ensures same_sink { report.new.sink.ghost_name ≡ report.old.sink.ghost_name }
         ensures history { OnOk result (history_of (Some map.now) self.new ≡ gated map.now (history_of (Some map.now) self.old) board.now now) }
         ensures shadow { vec_len self.new.shared ≡ vec_len self.old.shared }
@@ -228,7 +250,7 @@ impl State {
         board: &Board,
         report: &mut Report<'_, S>,
     ) -> Result<(), Failed>
-        requires { vec_len self.old.shared ≡ length (shared_words map.now.variables) }
+        requires { vec_len self.old.shared ≡ length (shared_numbers map.now.variables) }
         ensures same_sink { report.new.sink.ghost_name ≡ report.old.sink.ghost_name }
         ensures history { OnOk result (history_of (Some map.now) self.new ≡
             behind_instruction (Some map.now) (history_of (Some map.now) self.old) (word_list done.now.accepted) board.now) }
@@ -315,16 +337,30 @@ fn word_of(image: &Image, address: u16) -> u16
     image.word(address).unwrap()
 }
 
-// What the shared words of a map hold in an image.
-fn shared_of(alloc: Global, image: &Image, map: &Map) -> Result<Vec<u16>, AllocError>
-    ensures { IfOk result (λ v. v.items ≡ values_in image.now.words (shared_words map.now.variables)) }
+// The number of an image at an address.
+fn number_of(image: &Image, address: u16, is_long: bool) -> u32
+    requires low { IsFramWord address }
+    requires high { is_long ≡ true → IsFramWord (address + 2) }
+    ensures { result ≡ number_at (word_in image.now.words) address is_long }
+{
+    let low = word_of(image, address);
+    if is_long {
+        long_of(low, word_of(image, address + 2))
+    } else {
+        low as u32
+    }
+}
+
+// What the shared numbers of a map are in an image.
+fn shared_of(alloc: Global, image: &Image, map: &Map) -> Result<Vec<u32>, AllocError>
+    ensures { IfOk result (λ v. v.items ≡ values_in image.now.words (shared_numbers map.now.variables)) }
 {
     map.rules();
     let mut shared = Vec::new(alloc);
     let mut rest = map.variables();
     let mut i = 0;
-    while let Some((place, behind, next)) = cut_word(rest, i) {
-        shared.push(word_of(image, place.address))?;
+    while let Some((place, behind, next)) = cut_number(rest, i) {
+        shared.push(number_of(image, place.address, place.is_long))?;
         rest = behind;
         i = next;
     }

@@ -13,7 +13,7 @@ use image_text::{Image, Map};
 use std::alloc::{AllocError, Global};
 use std::marker::Model;
 
-/// What is known of a run so far: with a map, its transitions, the shared words at the last one and the words accepted since.
+/// What is known of a run so far: with a map, its transitions, the shared numbers at the last one and the words accepted since.
 #[derive(Drop)]
 pub struct Watch<'a> {
     map: Option<&'a Map>,
@@ -51,7 +51,7 @@ impl<'a> Watch<'a> {
         self.state.completed
     }
 
-    /// The sum, modulo 65536, of all shared words at the last completed transition, at first of the image's; 0 without a map.
+    /// The sum, modulo 65536, of all shared numbers at the last completed transition, at first of the image's; 0 without a map.
     pub fn sum(&self) -> u16
         ensures { result ≡ total self.now.shared % 65536 }
     {
@@ -100,12 +100,12 @@ impl<'a> Watch<'a> {
     }
 }
 
-fn sum_of(words: &[u16]) -> u16
-    ensures { result ≡ total words.now % 65536 }
+fn sum_of(numbers: &[u32]) -> u16
+    ensures { result ≡ total numbers.now % 65536 }
 {
     let mut sum = 0u16;
-    for w in words {
-        sum = sum.wrapping_add(*w);
+    for n in numbers {
+        sum = sum.wrapping_add((*n % 65536) as u16);
     }
     sum
 }

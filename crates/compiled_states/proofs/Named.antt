@@ -1,8 +1,10 @@
 -- What the map of a source names: the words of the runtime, the buffers, the variables and the copies, which are all in front of the code.
 use Rattle.std.proofs.Common.{◌≡◌, ◌⊎◌, inl, inr, ℕ, zero, suc, ◌+◌, ◌*◌, ◌%◌, ◌<◌, ◌≤◌, ◌||◌, Bool, true, false, List, [], ◌∷◌, Some, None, map, refl, sym}
 use Rattle.std.proofs.Common.{ap, arith}
-use Rattle.std.specs.Prelude.{slice_get, unwrap_or}
+use Rattle.std.specs.Prelude.{slice_get}
 use Rattle.std.proofs.lemmas.Bool.{false≢true, cases_lt, or_cases, or_from, or_left, or_right}
+use Rattle.image_reports.specs.layout_facts.task_ast.declared.WordType.{WordType}
+use Rattle.image_reports.specs.layout_facts.task_ast.declared.WordType.TheVariants as word
 use Rattle.image_reports.specs.layout_facts.task_ast.declared.Extent.{Extent}
 use Rattle.image_reports.specs.layout_facts.task_ast.declared.Extent.TheVariants as extent
 use Rattle.image_reports.specs.layout_facts.task_ast.declared.SharedDeclaration.{SharedDeclaration}
@@ -21,9 +23,9 @@ use Rattle.image_reports.specs.layout_facts.Facts.{HasLayout}
 use Rattle.image_reports.proofs.layout_facts.Interface.{shared_words_are_of_variables}
 use Rattle.image_reports.specs.link_image.machine_effects.Machine.{IsFram}
 use Rattle.image_reports.specs.link_image.source_runs.Naming.{length_of}
-use Rattle.image_reports.specs.link_image.source_maps.Maps.{map_words, map_list, map_buffer, variable_of, variables_of, map_of}
+use Rattle.image_reports.specs.link_image.source_maps.Maps.{map_words, map_list, map_buffer, value_type_of, variable_of, variables_of, map_of}
 use Rattle.image_reports.specs.link_image.source_maps.Placing.{IsOfKind, ArePlacesOf}
-use Rattle.image_reports.specs.link_image.image_map.MapValue.{MapValue}
+use Rattle.image_reports.specs.link_image.image_map.MapValue.{MapValue, word_count}
 use Rattle.fram_state.specs.Stretch.{holds, is_held}
 use Rattle.fram_state.specs.Named.{place_words, list_words, variable_words, runtime_words, buffers, is_shared, is_named}
 use Rattle.compiled_states.proofs.Full.{IsFull, layout_is_full}
@@ -32,12 +34,15 @@ use Rattle.compiled_states.proofs.Held.{within, bounds_of, none_held, all_held}
 -- ---- the variables
 
 -- a variable of a map has the words of its place
-pub words_are : (e : Extent) (place : VariablePlace) → IsOfKind e place → unwrap_or (length_of e) 1 ≡ (home_region place).words
-words_are (extent.Scalar w) (Scalar home copy) h = refl
-words_are (extent.Scalar w) (Array elements length copies) h = absurd h
-words_are (extent.Long n) place h = absurd h
-words_are (extent.Array n) (Scalar home copy) h = absurd h
-words_are (extent.Array n) (Array elements length copies) h = sym h
+pub words_are : (w : WordType) (e : Extent) (place : VariablePlace) → IsOfKind e place
+    → word_count (value_type_of w e) (length_of e) ≡ (home_region place).words
+words_are word.Unsigned (extent.Scalar v) (Scalar home copy) h = refl
+words_are word.Int (extent.Scalar v) (Scalar home copy) h = refl
+words_are word.Long (extent.Scalar v) (Scalar home copy) h = refl
+words_are w (extent.Scalar v) (Array elements length copies) h = absurd h
+words_are w (extent.Long n) place h = absurd h
+words_are w (extent.Array n) (Scalar home copy) h = absurd h
+words_are w (extent.Array n) (Array elements length copies) h = sym h
 
 -- a word of a variable lies where the variables are
 shared_between : (text : List ℕ) (ds : List SharedDeclaration) (places : List VariablePlace) (from end a : ℕ) → ArePlacesOf ds places
@@ -49,8 +54,8 @@ shared_between text (d ∷ ds) (place ∷ places) from end a kinds order h =
     by_first (or_cases (holds (variable_words (variable_of text d place)) a) (is_shared (variables_of text ds places) a) h)
     (shared_between text ds places (end_of (home_region place)) end a kinds.1 order.1)
   where
-    size : unwrap_or (length_of d.extent) 1 ≡ (home_region place).words
-    size = words_are d.extent place kinds.0
+    size : word_count (value_type_of d.word_type d.extent) (length_of d.extent) ≡ (home_region place).words
+    size = words_are d.word_type d.extent place kinds.0
 
     begin : from ≤ (home_region place).address
     begin = order.0.from
@@ -60,7 +65,7 @@ shared_between text (d ∷ ds) (place ∷ places) from end a kinds order h =
     by_first (inl here) others =
         let b = bounds_of (variable_words (variable_of text d place)) a here in
         let low : (home_region place).address ≤ a = b.0 in
-        let high : a < (home_region place).address + 2 * unwrap_or (length_of d.extent) 1 = b.1 in
+        let high : a < (home_region place).address + 2 * word_count (value_type_of d.word_type d.extent) (length_of d.extent) = b.1 in
         let behind = in_order_end (end_of (home_region place)) (map home_region places) end order.1 in
         let first = begin in let words = size in
         (omega (arith, first, low), omega (arith, high, words, behind))
@@ -78,7 +83,8 @@ shared_at text [] (other ∷ places) n i a place kinds at below is = absurd kind
 shared_at text (d ∷ ds) [] n i a place kinds at below is = absurd kinds
 shared_at text (d ∷ ds) (other ∷ places) zero i a place kinds at below is =
     let same : other ≡ place = cc in
-    let size : unwrap_or (length_of d.extent) 1 ≡ (home_region other).words = words_are d.extent other kinds.0 in
+    let size : word_count (value_type_of d.word_type d.extent) (length_of d.extent) ≡ (home_region other).words =
+    words_are d.word_type d.extent other kinds.0 in
     let address : (home_region other).address ≡ (home_region place).address = ap (λ v. (home_region v).address) same in
     let words : (home_region other).words ≡ (home_region place).words = ap (λ v. (home_region v).words) same in
     or_left (holds (variable_words (variable_of text d other)) a) (is_shared (variables_of text ds places) a)

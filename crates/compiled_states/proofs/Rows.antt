@@ -1,19 +1,25 @@
 -- The words of variables, row by row: those that a map's variables have at their places, and those that stand there in the FRAM.
 use Rattle.std.proofs.Common.{◌≡◌, ℕ, zero, suc, ◌+◌, ◌-◌, ◌*◌, ◌/◌, ◌%◌, ◌<◌, ◌≤◌, if◌then◌else◌, cond, Bool, true, false, List, [], ◌∷◌, length, map, refl}
-use Rattle.std.proofs.Common.{ap, ap₂, ◌∙◌, Some, None, arith}
+use Rattle.std.proofs.Common.{ap, ap₂, ◌∙◌, Some, None, sym, arith}
 use Rattle.std.specs.Prelude.{slice_index, unwrap_or}
 use Rattle.std.specs.List.{position_from}
 use Rattle.std.proofs.lemmas.Bool.{or_parts}
+use Rattle.std.proofs.lemmas.List.{length-replicate}
+use Rattle.image_reports.specs.layout_facts.task_ast.declared.Extent.{Extent}
+use Rattle.image_reports.specs.layout_facts.task_ast.declared.Extent.TheVariants as extent
 use Rattle.image_reports.specs.layout_facts.task_ast.declared.SharedDeclaration.{SharedDeclaration}
 use Rattle.image_reports.specs.layout_facts.memory_map.declared.place.VariablePlace.{VariablePlace}
+use Rattle.image_reports.specs.layout_facts.memory_map.declared.place.VariablePlace.TheVariants.{Scalar, Array}
 use Rattle.image_reports.specs.layout_facts.memory_map.Places.{end_of, home_region, AreInOrder}
 use Rattle.image_reports.proofs.layout_facts.memory_map.Interface.{in_order_end}
 use Rattle.image_reports.specs.layout_facts.stands_for.StandsFor.{words_at}
 use Rattle.image_reports.specs.layout_facts.compiled_model.View.{row_in}
 use Rattle.image_reports.specs.link_image.image_map.declared.parts.Variable.{Variable}
+use Rattle.image_reports.specs.link_image.image_map.MapValue.{word_count}
+use Rattle.image_reports.specs.link_image.source_values.Runs.{initial_words}
 use Rattle.image_reports.specs.link_image.source_runs.Naming.{length_of}
-use Rattle.image_reports.specs.link_image.source_maps.Maps.{variable_of, variables_of}
-use Rattle.image_reports.specs.link_image.source_maps.Placing.{ArePlacesOf}
+use Rattle.image_reports.specs.link_image.source_maps.Maps.{value_type_of, variable_of, variables_of}
+use Rattle.image_reports.specs.link_image.source_maps.Placing.{IsOfKind, ArePlacesOf}
 use Rattle.image_reports.proofs.link_image.Interface.{half}
 use Rattle.fram_state.specs.Stretch.{holds}
 use Rattle.fram_state.specs.Named.{variable_words, is_shared}
@@ -52,8 +58,16 @@ words_are_row f (w ∷ row) (suc n) a long h =
     next : (i : ℕ) → f (a + 2 + 2 * i) ≡ f (a + 2 * suc i)
     next i = let there : a + 2 + 2 * i ≡ a + 2 * suc i = omega arith in ap f there
 
+-- a place has as many words as its declaration begins with
+begins_with : (e : Extent) (place : VariablePlace) → IsOfKind e place → length (initial_words e) ≡ (home_region place).words
+begins_with (extent.Scalar w) (Scalar home copy) h = refl
+begins_with (extent.Scalar w) (Array elements n copies) h = absurd h
+begins_with (extent.Long m) place h = absurd h
+begins_with (extent.Array m) (Scalar home copy) h = absurd h
+begins_with (extent.Array m) (Array elements n copies) h = length-replicate m 0 ∙ sym h
+
 -- Where a FRAM has the words of rows, one for each declaration and of its length, at the places of the declared variables, the rows stand there.
-module _ (text : List ℕ) (row : SharedDeclaration → List ℕ) (long : (d : SharedDeclaration) → length (row d) ≡ unwrap_or (length_of d.extent) 1)
+module _ (text : List ℕ) (row : SharedDeclaration → List ℕ) (long : (d : SharedDeclaration) → length (row d) ≡ length (initial_words d.extent))
     (f other : ℕ → ℕ) where
   pub rows_stand : (ds : List SharedDeclaration) (places : List VariablePlace) (from end : ℕ) → ArePlacesOf ds places
       → AreInOrder from (map home_region places) end
@@ -64,11 +78,11 @@ module _ (text : List ℕ) (row : SharedDeclaration → List ℕ) (long : (d : S
   rows_stand (d ∷ ds) [] from end kinds order h = absurd kinds
   rows_stand (d ∷ ds) (place ∷ places) from end kinds order h =
       ap₂ (λ (r : List ℕ) (rs : List (List ℕ)). r ∷ rs)
-      (words_are_row f (row d) (home_region place).words (home_region place).address (long d ∙ size) first)
+      (words_are_row f (row d) (home_region place).words (home_region place).address (long d ∙ begins_with d.extent place kinds.0) first)
       (rows_stand ds places (end_of (home_region place)) end kinds.1 order.1 later)
     where
-      size : unwrap_or (length_of d.extent) 1 ≡ (home_region place).words
-      size = words_are d.extent place kinds.0
+      size : word_count (value_type_of d.word_type d.extent) (length_of d.extent) ≡ (home_region place).words
+      size = words_are d.word_type d.extent place kinds.0
 
       begin : from ≤ (home_region place).address
       begin = order.0.from

@@ -1,12 +1,7 @@
 -- The image of an accepted source suits it.
-use Rattle.std.proofs.Common.{◌≡◌, ℕ, suc, true, not, ◌&&◌, List, [], ◌∷◌, length, map, Some, refl, ap, ap₂, ◌∙◌, arith}
-use Rattle.std.specs.Prelude.{All, slice_get}
-use Rattle.std.proofs.lemmas.List.Elements.{All-head, All-tail}
-use Rattle.fram_state.specs.Suits.{line_of, declared_line, are_plain, planned_task, planned_tasks}
-use Rattle.image_reports.specs.layout_facts.task_ast.declared.WordType.{WordType}
-use Rattle.image_reports.specs.layout_facts.task_ast.declared.WordType.TheVariants as word
-use Rattle.image_reports.specs.layout_facts.task_ast.Types.{is_long, IsOneWord}
-use Rattle.image_reports.specs.layout_facts.task_ast.Longs.{IsPlainShared}
+use Rattle.std.proofs.Common.{◌≡◌, ℕ, suc, List, [], ◌∷◌, length, map, Some, refl, ap, ap₂, ◌∙◌, arith}
+use Rattle.std.specs.Prelude.{slice_get}
+use Rattle.fram_state.specs.Suits.{line_of, declared_line, planned_task, planned_tasks}
 use Rattle.image_reports.specs.layout_facts.task_ast.declared.SharedDeclaration.{SharedDeclaration}
 use Rattle.image_reports.specs.layout_facts.cost_bound.Allowance.{CheckedTask}
 use Rattle.image_reports.specs.layout_facts.war_analysis.PlanValue.{TaskPlanValue}
@@ -17,7 +12,6 @@ use Rattle.image_reports.specs.layout_facts.privatise.Layouts.{IsTaskLayout}
 use Rattle.image_reports.specs.link_image.image_map.MapValue.{TaskValue}
 use Rattle.image_reports.specs.link_image.source_maps.Maps.{variables_of, shared_name, task_value_of, tasks_of, map_of}
 use Rattle.image_reports.specs.link_image.source_maps.Placing.{ArePlacesOf}
-use Rattle.image_reports.proofs.link_image.source_meaning.Interface.{text_plain}
 use Rattle.compiled_states.specs.Laws.{ImagesSuitTheirSources}
 use Rattle.compiled_states.proofs.States.{source_map}
 
@@ -28,17 +22,6 @@ lines_are text [] [] kinds = refl
 lines_are text [] (place ∷ places) kinds = absurd kinds
 lines_are text (d ∷ ds) [] kinds = absurd kinds
 lines_are text (d ∷ ds) (place ∷ places) kinds = ap (λ ls. declared_line text d ∷ ls) (lines_are text ds places kinds.1)
-
--- none is a long
-no_long : (t : WordType) → IsOneWord t → not (is_long t) ≡ true
-no_long word.Unsigned h = refl
-no_long word.Int h = refl
-no_long word.Long h = absurd h
-
-plain_there : (ds : List SharedDeclaration) → All IsPlainShared ds → are_plain ds ≡ true
-plain_there [] h = refl
-plain_there (d ∷ ds) h =
-    ap₂ (λ x y. x && y) (no_long d.word_type (All-head IsPlainShared d ds h).0) (plain_there ds (All-tail IsPlainShared d ds h))
 
 -- the names of a task's private scalars, by their numbers
 by_numbers : (name : ℕ → List ℕ) (ss : List PrivateScalar) → map (λ s. name s.number) ss ≡ map name (map (λ s. s.number) ss)
@@ -73,7 +56,6 @@ images_suit_their_sources text p allow image ok c = record {
   named = map_of text p c.layout allow;
   mapped = c.map;
   lines = record {
-    plain = plain_there p.shared (text_plain text p ok.checks c.no_longs).shared;
     variables = lines_are text p.shared c.layout.variables (source_map text p allow image ok c).places;
     tasks = tasks_are text p.shared p.tasks c.plans c.layout.tasks c.is_plan.count c.is_layout.tasks.count c.is_layout.tasks.each;
   };

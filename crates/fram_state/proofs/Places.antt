@@ -6,17 +6,17 @@ use Rattle.std.specs.Prelude.{◌-◌, ◌*◌, ◌/◌, ◌==◌, slice_index, 
 use Rattle.std.proofs.lemmas.Bool.{cases_lt, leb-true, ltb-true, le-leb, lt-ltb, eqb-true, eqb-false, and_parts, and_from}
 use Rattle.std.proofs.lemmas.List.{length-set, get_or-set_same, get_or-set_other}
 use Rattle.image_text.specs.image_map.declared.parts.Variable.{Variable}
-use Rattle.image_text.specs.image_map.MapValue.{IsFramWord, IsVariable}
+use Rattle.image_text.specs.image_map.MapValue.{IsFramWord, IsVariable, word_count}
 use Rattle.image_text.specs.ImageValue.{place_of}
 use Rattle.task_ast.specs.declared.SharedDeclaration.{SharedDeclaration}
 use Rattle.fram_state.specs.Stretch.{holds}
 use Rattle.fram_state.specs.Named.{variable_words}
 use Rattle.fram_state.specs.Runtime.{word_in}
-use Rattle.fram_state.specs.Suits.{Line, line_of, declared_line}
+use Rattle.fram_state.specs.Suits.{line_of, declared_line}
 use Rattle.fram_state.specs.Migrated.{EditionValue, row_of, rows_of, shared_word, AreMigrated}
 use Rattle.fram_state.specs.Laid.{with_row, with_rows, with_word, migrated_words}
 use Rattle.fram_state.specs.Editions.{IsEdition}
-use Rattle.fram_state.proofs.Rows.{row_long, row_out, row_in, variable_fits, row_length}
+use Rattle.fram_state.proofs.Rows.{row_long, row_out, row_in, variable_fits, line_words, row_length}
 
 -- ---- a word at an address
 
@@ -40,7 +40,7 @@ word_put words x w a all is_x is_a = by_same (a == x) refl
 RowsFit : List Variable → List (List ℕ) → Type 0
 RowsFit [] rows = Unit {0}
 RowsFit (v ∷ vs) [] = Unit {0}
-RowsFit (v ∷ vs) (row ∷ rows) = IsVariable v × (length row ≡ unwrap_or v.length 1) × RowsFit vs rows
+RowsFit (v ∷ vs) (row ∷ rows) = IsVariable v × (length row ≡ word_count v.value_type v.length) × RowsFit vs rows
 
 pub rows_long : (vs : List Variable) (rows : List (List ℕ)) (words : List ℕ) → length (with_rows vs rows words) ≡ length words
 rows_long [] [] words = refl
@@ -63,28 +63,29 @@ rows_word (v ∷ vs) (row ∷ rows) words a (variable, long, fit) all is =
     wide : length below ≡ 24064
     wide = rows_long vs rows words ∙ all
 
-    fits : place_of v.address + unwrap_or v.length 1 ≤ 24064
+    fits : place_of v.address + word_count v.value_type v.length ≤ 24064
     fits = variable_fits v variable
 
     outside : holds (variable_words v) a ≡ false → (place_of a < place_of v.address) ⊎ (place_of v.address + length row ≤ place_of a)
-    outside h = by_order (cases_lt a v.address) (cases_lt a (v.address + 2 * unwrap_or v.length 1))
+    outside h = by_order (cases_lt a v.address) (cases_lt a (v.address + 2 * word_count v.value_type v.length))
       where
-        by_order : (a < v.address) ⊎ (v.address ≤ a) → (a < v.address + 2 * unwrap_or v.length 1) ⊎ (v.address + 2 * unwrap_or v.length 1 ≤ a)
+        by_order : (a < v.address) ⊎ (v.address ≤ a)
+            → (a < v.address + 2 * word_count v.value_type v.length) ⊎ (v.address + 2 * word_count v.value_type v.length ≤ a)
             → (place_of a < place_of v.address) ⊎ (place_of v.address + length row ≤ place_of a)
         by_order (inl less) end = inl (omega (arith, variable.address.low, variable.address.even, is.low, is.even))
         by_order (inr from) (inr to) = inr (omega (arith, long, variable.address.low, variable.address.even, is.low, is.even))
         by_order (inr from) (inl to) =
-            let held = and_from (nat_le v.address a) (nat_lt a (v.address + 2 * unwrap_or v.length 1)) (le-leb v.address a from)
-            (lt-ltb a (v.address + 2 * unwrap_or v.length 1) to) in
+            let held = and_from (nat_le v.address a) (nat_lt a (v.address + 2 * word_count v.value_type v.length)) (le-leb v.address a from)
+            (lt-ltb a (v.address + 2 * word_count v.value_type v.length) to) in
             absurd (true≢false (sym held ∙ h))
 
     by_held : word_in (with_rows vs rows words) a ≡ unwrap_or (shared_word vs rows a) (word_in words a) → (b : Bool)
         → holds (variable_words v) a ≡ b → word_in (with_row (place_of v.address) row below) a
         ≡ unwrap_or (cond b (Some (slice_index row ((a - v.address) / 2))) (shared_word vs rows a)) (word_in words a)
     by_held more true h =
-        let both = and_parts (nat_le v.address a) (nat_lt a (v.address + 2 * unwrap_or v.length 1)) h in
+        let both = and_parts (nat_le v.address a) (nat_lt a (v.address + 2 * word_count v.value_type v.length)) h in
         let from : v.address ≤ a = leb-true v.address a both.0 in
-        let to : a < v.address + 2 * unwrap_or v.length 1 = ltb-true a (v.address + 2 * unwrap_or v.length 1) both.1 in
+        let to : a < v.address + 2 * word_count v.value_type v.length = ltb-true a (v.address + 2 * word_count v.value_type v.length) both.1 in
         let index : place_of a - place_of v.address ≡ (a - v.address) / 2 = omega (arith, variable.address.low, variable.address.even, is.low, is.even) in
         row_in row below (place_of v.address) (place_of a) (omega (arith, long, wide, fits)) (omega (arith, variable.address.low))
         (omega (arith, long, variable.address.low, variable.address.even, is.low, is.even)) ∙ ap (slice_index row) index
@@ -98,7 +99,7 @@ rows_fit old is text (v ∷ vs) [] all same = tt
 rows_fit old is text (v ∷ vs) (d ∷ ds) all same =
     let first : line_of v ≡ declared_line text d = cc in
     let rest : map line_of vs ≡ map (declared_line text) ds = cc in
-    let long = row_length old is text d ∙ ap (λ (l : Line). unwrap_or l.length 1) (sym first) in
+    let long = row_length old is text d ∙ sym (line_words text d v first) in
     (all 0 v (omega arith), long, rows_fit old is text vs ds (λ k d h. all (suc k) d (omega arith)) rest)
 
 -- ---- the whole FRAM

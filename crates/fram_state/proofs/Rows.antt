@@ -1,20 +1,24 @@
 -- Rows that are written over words, and how long the rows of variables are.
 use Rattle.std.proofs.Common.{◌≡◌, ◌<◌, ◌≤◌, ◌+◌, ◌⊎◌, inl, inr, ◌∙◌, ℕ, zero, suc, Bool, true, false, cond, List, [], ◌∷◌, length, set, take, drop}
 use Rattle.std.proofs.Common.{map, replicate, Option, Some, None, refl, sym, ap, subst, arith}
-use Rattle.std.specs.Prelude.{◌-◌, ◌*◌, nat_lt, nat_le, slice_get, slice_index, unwrap_or, All}
+use Rattle.std.specs.Prelude.{◌-◌, ◌*◌, ◌%◌, nat_lt, nat_le, slice_get, slice_index, All}
 use Rattle.std.specs.Option.{option_map_or}
 use Rattle.std.proofs.lemmas.Bool.{cases_lt, leb-true, eqb-true, and_parts}
 use Rattle.std.proofs.lemmas.List.{drop_all, length-set, length-replicate, length-drop, length-take-le, get_or-set_same, get_or-set_other}
 use Rattle.image_text.specs.image_map.declared.parts.Variable.{Variable}
-use Rattle.image_text.specs.image_map.MapValue.{IsFramWord, IsVariable, fits}
+use Rattle.image_text.specs.image_map.MapValue.{IsFramWord, IsVariable, fits, word_count}
 use Rattle.image_text.specs.ImageValue.{place_of}
 use Rattle.task_ast.specs.alp_text.Sequence.{◌>>?◌}
+use Rattle.task_ast.specs.declared.WordType.{WordType}
+use Rattle.task_ast.specs.declared.WordType.TheVariants.{Unsigned, Int}
+use Rattle.task_ast.specs.declared.WordType.TheVariants as word_type
 use Rattle.task_ast.specs.declared.Extent.{Extent}
 use Rattle.task_ast.specs.declared.Extent.TheVariants.{Scalar, Long, Array}
 use Rattle.task_ast.specs.declared.SharedDeclaration.{SharedDeclaration}
 use Rattle.source_report.specs.source_values.Runs.{initial_words}
 use Rattle.source_report.specs.SourceReport.{spelled}
 use Rattle.source_maps.specs.source_runs.Naming.{length_of}
+use Rattle.source_maps.specs.Maps.{value_type_of}
 use Rattle.fram_state.specs.Runtime.{words_from}
 use Rattle.fram_state.specs.Suits.{Line, line_of, declared_line}
 use Rattle.fram_state.specs.Kept.{number_of, shared_names, same_type, same_kind, are_alike, if_alike, kept_from}
@@ -64,19 +68,14 @@ row_in (w ∷ row) words place k ends low high =
 
 -- ---- how long the rows of variables are
 
+words_end : (a n : ℕ) → 17408 ≤ a → a % 2 ≡ 0 → fits a n ≡ true → place_of a + n ≤ 24064
+words_end a n low even fit =
+    let high : a + 2 * n ≤ 65536 = leb-true (a + 2 * n) 65536 (and_parts (nat_lt 0 n) (nat_le (a + 2 * n) 65536) fit).1 in
+    omega arith
+
 -- a variable's words end in the FRAM
-pub variable_fits : (v : Variable) → IsVariable v → place_of v.address + unwrap_or v.length 1 ≤ 24064
-variable_fits v is = by_length v.length refl
-  where
-    by_length : (n : Option ℕ) → v.length ≡ n → place_of v.address + unwrap_or v.length 1 ≤ 24064
-    by_length None e =
-        let one : unwrap_or v.length 1 ≡ 1 = ap (λ n. unwrap_or n 1) e in
-        omega (arith, is.address.low, is.address.high, is.address.even)
-    by_length (Some n) e =
-        let many : unwrap_or v.length 1 ≡ n = ap (λ n. unwrap_or n 1) e in
-        let both = and_parts (nat_lt 0 n) (nat_le (v.address + 2 * n) 65536) (subst (λ l. fits v.address l ≡ true) e is.fits) in
-        let high : v.address + 2 * n ≤ 65536 = leb-true (v.address + 2 * n) 65536 both.1 in
-        omega (arith, is.address.low, is.address.even)
+pub variable_fits : (v : Variable) → IsVariable v → place_of v.address + word_count v.value_type v.length ≤ 24064
+variable_fits v is = words_end v.address (word_count v.value_type v.length) is.address.low is.address.even is.fits
 
 -- the line of a declared variable is there, and is its declaration's
 pub line_at : (text : List ℕ) (vs : List Variable) (ds : List SharedDeclaration) (j : ℕ) (d : SharedDeclaration)
@@ -125,51 +124,59 @@ kept_alike text shared name d j h = by_number (number_of (shared_names text shar
     by_number None g = cc
     by_number (Some k) g = alike_at shared d k j g
 
-same_length : (e d : Extent) → same_kind e d ≡ true → length_of e ≡ length_of d
-same_length (Scalar w) (Scalar v) h = refl
-same_length (Scalar w) (Long m) h = cc
-same_length (Scalar w) (Array m) h = cc
-same_length (Long w) (Scalar v) h = cc
-same_length (Long w) (Long v) h = refl
-same_length (Long w) (Array m) h = cc
-same_length (Array n) (Scalar v) h = cc
-same_length (Array n) (Long v) h = cc
-same_length (Array n) (Array m) h = ap Some (eqb-true n m h)
+-- variables of one kind have as many words
+same_words : (e d : Extent) → same_kind e d ≡ true → length (initial_words e) ≡ length (initial_words d)
+same_words (Scalar w) (Scalar v) h = refl
+same_words (Scalar w) (Long m) h = cc
+same_words (Scalar w) (Array m) h = cc
+same_words (Long w) (Scalar v) h = cc
+same_words (Long w) (Long v) h = refl
+same_words (Long w) (Array m) h = cc
+same_words (Array n) (Scalar v) h = cc
+same_words (Array n) (Long v) h = cc
+same_words (Array n) (Array m) h = ap (λ k. length (initial_words (Array k))) (eqb-true n m h)
 
-initial_long : (e : Extent) → length (initial_words e) ≡ unwrap_or (length_of e) 1
-initial_long (Scalar w) = refl
-initial_long (Long w) = refl
-initial_long (Array n) = length-replicate n 0
+declared_words : (w : WordType) (e : Extent) → word_count (value_type_of w e) (length_of e) ≡ length (initial_words e)
+declared_words Unsigned (Scalar v) = refl
+declared_words Int (Scalar v) = refl
+declared_words word_type.Long (Scalar v) = refl
+declared_words w (Long n) = refl
+declared_words w (Array n) = sym (length-replicate n 0)
+
+-- a variable with the line of a declaration has as many words as this begins with
+pub line_words : (text : List ℕ) (d : SharedDeclaration) (v : Variable) → line_of v ≡ declared_line text d
+    → word_count v.value_type v.length ≡ length (initial_words d.extent)
+line_words text d v line = ap (λ (l : Line). word_count l.value_type l.length) line ∙ declared_words d.word_type d.extent
 
 words_long : (words : List ℕ) (v : Variable) → length words ≡ 24064 → IsVariable v
-    → length (words_from words v.address (unwrap_or v.length 1)) ≡ unwrap_or v.length 1
+    → length (words_from words v.address (word_count v.value_type v.length)) ≡ word_count v.value_type v.length
 words_long words v all is =
     let ends = variable_fits v is in
     let behind : length (drop (place_of v.address) words) ≡ length words - place_of v.address = length-drop (place_of v.address) words in
-    length-take-le (unwrap_or v.length 1) (drop (place_of v.address) words) (omega arith)
+    length-take-le (word_count v.value_type v.length) (drop (place_of v.address) words) (omega arith)
 
--- the row of a new variable is as long as the variable
+-- the row of a new variable is as long as the one that it would begin with
 pub row_length : (old : EditionValue) → IsEdition old → (text : List ℕ) (d : SharedDeclaration)
-    → length (row_of old text d) ≡ unwrap_or (length_of d.extent) 1
+    → length (row_of old text d) ≡ length (initial_words d.extent)
 row_length old is text d = by_kept (kept_number old text d) refl
   where
-    by_kept : (o : Option ℕ) → kept_number old text d ≡ o → length (option_map_or (words_of old) o (initial_words d.extent)) ≡ unwrap_or (length_of d.extent) 1
-    by_kept None e = initial_long d.extent
+    by_kept : (o : Option ℕ) → kept_number old text d ≡ o
+        → length (option_map_or (words_of old) o (initial_words d.extent)) ≡ length (initial_words d.extent)
+    by_kept None e = refl
     by_kept (Some j) e =
         let kept = kept_alike old.text old.program.shared (spelled text d.name) d j e in
         let v = line_at old.text old.named.variables old.program.shared j kept.old is.variables kept.at in
         let variable = variable_at old.named.variables j v.0 is.rules.variables v.1 in
         let kind : same_kind kept.old.extent d.extent ≡ true = (and_parts (same_type kept.old.word_type d.word_type) _ kept.alike).1 in
-        let lengths : v.0.length ≡ length_of d.extent = ap (λ (l : Line). l.length) v.2 ∙ same_length kept.old.extent d.extent kind in
-        ap (λ o. length (option_map_or (λ (v : Variable). words_from old.words v.address (unwrap_or v.length 1)) o [])) v.1
-        ∙ words_long old.words v.0 is.words variable ∙ ap (λ n. unwrap_or n 1) lengths
+        ap (λ o. length (option_map_or (λ (v : Variable). words_from old.words v.address (word_count v.value_type v.length)) o [])) v.1
+        ∙ words_long old.words v.0 is.words variable ∙ line_words old.text kept.old v.0 v.2 ∙ same_words kept.old.extent d.extent kind
 
 -- so it fits at the variable's place
 pub row_fits : (old : EditionValue) → IsEdition old → (text : List ℕ) (d : SharedDeclaration) (v : Variable) → IsVariable v
     → line_of v ≡ declared_line text d → place_of v.address + length (row_of old text d) ≤ 24064
 row_fits old is text d v variable line =
     let long = row_length old is text d in
-    let lengths : unwrap_or v.length 1 ≡ unwrap_or (length_of d.extent) 1 = ap (λ (l : Line). unwrap_or l.length 1) line in
+    let words = line_words text d v line in
     let ends = variable_fits v variable in
     omega arith
 

@@ -4,7 +4,7 @@ use Rattle.std.specs.Prelude.{Result, Ok, Err}
 use Rattle.std.specs.Option.{option_map_or}
 use Rattle.state_text.specs.alp_text.declared.lines.Span.{Span}
 use Rattle.image_text.specs.image_map.declared.parts.Variable.{Variable}
-use Rattle.image_text.specs.image_map.MapValue.{MapValue, IsFramWord}
+use Rattle.image_text.specs.image_map.MapValue.{MapValue, IsFramWord, word_count}
 use Rattle.image_text.specs.ImageValue.{ImageValue}
 use Rattle.state_text.specs.declared.state.State.{State}
 use Rattle.task_ast.specs.declared.SharedDeclaration.{SharedDeclaration}
@@ -60,7 +60,7 @@ kept_number old text d = kept_from old.text old.program.shared (spelled text d.n
 
 -- the words of the variable of a number
 abbrev pub words_of : EditionValue → ℕ → List ℕ
-words_of e number = option_map_or (λ v. words_from e.words v.address (unwrap_or v.length 1)) (slice_get e.named.variables number) []
+words_of e number = option_map_or (λ v. words_from e.words v.address (word_count v.value_type v.length)) (slice_get e.named.variables number) []
 
 -- the words that a new variable goes on with: those of the old one from which it is kept, or else those that it begins with
 abbrev pub row_of : EditionValue → List ℕ → SharedDeclaration → List ℕ

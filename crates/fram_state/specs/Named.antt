@@ -1,10 +1,10 @@
 -- The words that a map names: those that runs of a compiled image store to. All others are code, constants and the vector.
-use Rattle.std.specs.Prelude.{ℕ, ◌*◌, ◌||◌, Bool, List, [], ◌∷◌, Option, Some, None, unwrap_or, option_map, find}
+use Rattle.std.specs.Prelude.{ℕ, ◌*◌, ◌||◌, Bool, List, [], ◌∷◌, Option, Some, None, option_map, find}
 use Rattle.std.specs.List.{list_any}
 use Rattle.image_text.specs.image_map.declared.parts.RuntimeWords.{RuntimeWords}
 use Rattle.image_text.specs.image_map.declared.parts.Place.{Place}
 use Rattle.image_text.specs.image_map.declared.parts.Variable.{Variable}
-use Rattle.image_text.specs.image_map.MapValue.{MapValue}
+use Rattle.image_text.specs.image_map.MapValue.{MapValue, word_count}
 use Rattle.fram_state.specs.declared.stretch.Stretch.{Stretch}
 use Rattle.fram_state.specs.Stretch.{words_at, holds, is_held}
 
@@ -30,9 +30,9 @@ abbrev pub runtime_words : RuntimeWords → List Stretch
 runtime_words w = words_at w.current_task 1 ∷ words_at w.next_task 1 ∷ words_at w.gate 1 ∷ words_at w.list_length 1 ∷
     words_at w.emit_count 1 ∷ words_at w.base 1 ∷ words_at w.sent_base 1 ∷ words_at w.version 1 ∷ []
 
--- the word of a scalar, or those of an array
+-- the word of a scalar, the two of a long, or those of an array
 abbrev pub variable_words : Variable → Stretch
-variable_words v = words_at v.address (unwrap_or v.length 1)
+variable_words v = words_at v.address (word_count v.value_type v.length)
 
 -- whether one of these variables has the word at an address
 abbrev pub is_shared : List Variable → ℕ → Bool

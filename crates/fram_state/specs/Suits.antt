@@ -1,12 +1,10 @@
 -- When an image is one of a source: its map has the lines that the source gives, wherever its variables stand.
-use Rattle.std.specs.Prelude.{◌≡◌, ℕ, Bool, true, not, List, [], ◌∷◌, map, Option, Some}
-use Rattle.std.specs.List.{list_all}
+use Rattle.std.specs.Prelude.{◌≡◌, ℕ, List, [], ◌∷◌, map, Option, Some}
 use Rattle.image_text.specs.image_map.declared.parts.ValueType.{ValueType}
 use Rattle.image_text.specs.image_map.declared.parts.Variable.{Variable}
 use Rattle.image_text.specs.image_map.MapValue.{MapValue, TaskValue}
 use Rattle.image_text.specs.ImageValue.{ImageValue}
 use Rattle.task_ast.specs.declared.SharedDeclaration.{SharedDeclaration}
-use Rattle.task_ast.specs.Types.{is_long}
 use Rattle.task_check.specs.path_checks.Firsts.{CheckedTask}
 use Rattle.war_analysis.specs.PlanValue.{TaskPlanValue}
 use Rattle.war_analysis.specs.Plans.{IsPlan}
@@ -27,7 +25,7 @@ line_of v = record { name = v.name; value_type = v.value_type; length = v.length
 
 -- that of a declaration
 abbrev pub declared_line : List ℕ → SharedDeclaration → Line
-declared_line text d = record { name = spelled text d.name; value_type = value_type_of d.word_type; length = length_of d.extent }
+declared_line text d = record { name = spelled text d.name; value_type = value_type_of d.word_type d.extent; length = length_of d.extent }
 
 -- a task with the names of the scalars that are private in it by its plan
 abbrev pub planned_task : List ℕ → List SharedDeclaration → CheckedTask → TaskPlanValue → TaskValue
@@ -38,13 +36,8 @@ abbrev pub planned_tasks : List ℕ → List SharedDeclaration → List CheckedT
 planned_tasks text shared (task ∷ tasks) (plan ∷ plans) = planned_task text shared task plan ∷ planned_tasks text shared tasks plans
 planned_tasks text shared _ _ = []
 
--- whether none of the declarations is a long
-abbrev pub are_plain : List SharedDeclaration → Bool
-are_plain shared = list_all (λ d. not (is_long d.word_type)) shared
-
--- a map has the lines that a source with this plan gives, addresses aside; no map has the type of a long yet
+-- a map has the lines that a source with this plan gives, addresses aside
 pub record HasLinesOf (text : List ℕ) (p : CheckedProgram) (plans : List TaskPlanValue) (m : MapValue) : Type 0 where
-  pub plain : are_plain p.shared ≡ true
   pub variables : map line_of m.variables ≡ map (declared_line text) p.shared
   pub tasks : m.tasks ≡ planned_tasks text p.shared p.tasks plans
 

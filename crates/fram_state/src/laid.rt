@@ -46,7 +46,7 @@ fn words_of<'a>(edition: &Edition<'a>, number: usize) -> &'a [u16]
     edition.map.rules();
     match edition.map.variables().get(number) {
         None => &[],
-        Some(v) => words_from(edition.words, v.address, v.length.unwrap_or(1) as usize),
+        Some(v) => words_from(edition.words, v.address, v.words() as usize),
     }
 }
 

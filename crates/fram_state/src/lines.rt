@@ -4,16 +4,15 @@ ghost use Rattle.task_ast.specs.View.{task_of, program_of};
 ghost use Rattle.source_report.specs.SourceReport.{spelled};
 ghost use Rattle.source_maps.specs.source_runs.Naming.{length_of};
 ghost use Rattle.source_maps.specs.Maps as maps;
-ghost use Rattle.source_maps.specs.Maps.{value_type_of};
+ghost use Rattle.source_maps.specs.Maps.{word_value_type, value_type_of};
 ghost use Rattle.war_analysis.specs.Plans.{IsPlan};
-ghost use Rattle.fram_state.specs.Suits.{line_of, declared_line, are_plain, planned_task, planned_tasks, HasLinesOf, Suits};
+ghost use Rattle.fram_state.specs.Suits.{line_of, declared_line, planned_task, planned_tasks, HasLinesOf, Suits};
 
 use image_map::ValueType;
 use image_text::{Image, Map, Name, Task, Variable};
 use source_meaning::Accepted;
 use source_report::spelled;
 use std::alloc::Global;
-use task_ast::types::is_long;
 use task_ast::{
     CheckedSource, Extent, SharedDeclaration, TaskDeclaration, TaskName, VariableName, WordType,
 };
@@ -30,13 +29,23 @@ pub enum SuitFault {
     Memory,
 }
 
-// Whether a map has this type for that of a declaration.
-fn is_type(value_type: ValueType, word_type: WordType) -> bool
-    ensures { IsTrue result ↔ (value_type ≡ value_type_of word_type) }
+// Whether a map has this type for that of words.
+fn is_word_type(value_type: ValueType, word_type: WordType) -> bool
+    ensures { IsTrue result ↔ (value_type ≡ word_value_type word_type) }
 {
     match word_type {
         WordType::Unsigned | WordType::Long => value_type == ValueType::Unsigned,
         WordType::Int => value_type == ValueType::Int,
+    }
+}
+
+// Whether a map has this type for that of a declaration.
+fn is_type(value_type: ValueType, word_type: WordType, extent: Extent) -> bool
+    ensures { IsTrue result ↔ (value_type ≡ value_type_of word_type extent) }
+{
+    match extent {
+        Extent::Scalar(_) | Extent::Array(_) => is_word_type(value_type, word_type),
+        Extent::Long(_) => value_type == ValueType::Long,
     }
 }
 
@@ -45,8 +54,7 @@ fn is_length(length: Option<u16>, extent: Extent) -> bool
     ensures { IsTrue result ↔ (length ≡ length_of extent) }
 {
     match extent {
-        Extent::Scalar(_) => length.is_none(),
-        Extent::Long(_) => length == Some(2),
+        Extent::Scalar(_) | Extent::Long(_) => length.is_none(),
         Extent::Array(words) => length == Some(words),
     }
 }
@@ -56,7 +64,7 @@ fn is_declared(text: &[u8], declaration: &SharedDeclaration, v: &Variable) -> bo
     ensures { IsTrue result ↔ (line_of v.now ≡ declared_line text.now declaration.now) }
 {
     v.name.as_bytes() == spelled(text, declaration.name)
-        && is_type(v.value_type, declaration.word_type)
+        && is_type(v.value_type, declaration.word_type, declaration.extent)
         && is_length(v.length, declaration.extent)
 }
 
@@ -74,13 +82,6 @@ fn are_declared(text: &[u8], shared: &[SharedDeclaration], variables: &[Variable
         }
     }
     true
-}
-
-// Whether none of the declarations is a long.
-fn are_plain(shared: &[SharedDeclaration]) -> bool
-    ensures { result ≡ are_plain shared.now }
-{
-    shared.iter().all(|d| !is_long(d.word_type))
 }
 
 // The name of the shared variable of a number.
@@ -158,8 +159,7 @@ fn has_lines_of(text: &[u8], source: &CheckedSource, plan: &Plan, map: &Map) -> 
     requires { length plan.now ≡ length source.now.tasks.items }
     ensures { IsTrue result ↔ HasLinesOf text.now (program_of source.now) plan.now map.now }
 {
-    are_plain(source.shared.as_slice())
-        && are_declared(text, source.shared.as_slice(), map.variables())
+    are_declared(text, source.shared.as_slice(), map.variables())
         && are_planned(
             text,
             source.shared.as_slice(),
@@ -170,7 +170,7 @@ fn has_lines_of(text: &[u8], source: &CheckedSource, plan: &Plan, map: &Map) -> 
 }
 
 /// Whether an image is one of a source: it has a map, and the `scalar`, `array`, `task` and `private` lines of this are those that the source
-/// gives, addresses aside. Of a source with longs none is: no map has their type yet.
+/// gives, addresses aside.
 ///
 /// # Errors
 /// `OtherSource` exactly where it isn't; `Memory` where memory was refused.

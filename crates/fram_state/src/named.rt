@@ -33,7 +33,7 @@ pub fn copies_words(copies: Option<Place>) -> Stretch
 fn variable_words(v: &Variable) -> Stretch
     ensures { result ≡ variable_words v.now }
 {
-    Stretch::of_words(v.address, v.length.unwrap_or(1) as u64)
+    Stretch::of_words(v.address, v.words() as u64)
 }
 
 fn runtime_words(words: RuntimeWords) -> [Stretch; 8]

@@ -23,7 +23,7 @@ use Rattle.image_map.specs.declared.parts.ValueType.{ValueType}
 use Rattle.image_map.specs.declared.parts.ValueType.TheVariants as value_type
 use Rattle.image_map.specs.declared.parts.Variable.{Variable}
 use Rattle.image_map.specs.Names.{is_name, is_letter, is_name_byte, name_of}
-use Rattle.image_map.specs.MapValue.{MapValue, TaskValue, IsFramWord, AreFramWords, IsPlace, IsVariable, fits, are_scalars, takes_variable}
+use Rattle.image_map.specs.MapValue.{MapValue, TaskValue, IsFramWord, AreFramWords, IsPlace, IsVariable, fits, word_count, are_scalars, takes_variable}
 use Rattle.image_map.specs.Kept.{IsMap}
 use Rattle.image_map.specs.MapValue.{takes_task, takes_private, with_private}
 use Rattle.image_map.specs.Line.{single_from, line_fields, address_digit, address_of, fram_word, decimal_below, type_of, bound_of, words_of, place_of, start_of}
@@ -65,6 +65,7 @@ name_word (b ∷ bs) ws h l =
 type_word : (t : ValueType) (ws : List (List ℕ)) → AreWords ws → AreWords (type_text t ∷ ws)
 type_word value_type.Unsigned ws l = (omega arith, omega arith, l)
 type_word value_type.Int ws l = (omega arith, omega arith, l)
+type_word value_type.Long ws l = (omega arith, omega arith, l)
 
 -- a printed line has single spaces
 
@@ -116,6 +117,7 @@ decimal_back limit n h k =
 type_back : (t : ValueType) → type_of (type_text t) ≡ Some t
 type_back value_type.Unsigned = refl
 type_back value_type.Int = refl
+type_back value_type.Long = refl
 
 name_back : (n : List ℕ) → is_name n ≡ true → name_of n ≡ Some n
 name_back n h = ap (λ t. if t then Some n else None) h
@@ -218,15 +220,17 @@ copies_read m (Some p) k more h e =
 
 -- the lines of variables and tasks
 
-small_length : (a n : ℕ) → fits a (Some n) ≡ true → n < 2 ^ 16
+small_length : (a n : ℕ) → fits a n ≡ true → n < 2 ^ 16
 small_length a n h = let p = and_parts (nat_lt 0 n) (nat_le (a + 2 * n) 65536) h in let k : nat_le (a + 2 * n) 65536 ≡ true = p.1 in grind (arith, nat_tests, k)
 
-sized_words : (o : Option ℕ) (name : List ℕ) (t : ValueType) (a : ℕ) → IsFramWord a → is_name name ≡ true → fits a o ≡ true → AreWords (sized_fields o name t a)
+sized_words : (o : Option ℕ) (name : List ℕ) (t : ValueType) (a : ℕ) → IsFramWord a → is_name name ≡ true → fits a (word_count t o) ≡ true
+    → AreWords (sized_fields o name t a)
 sized_words None name t a h k f = (omega arith, omega arith, name_word name _ k (type_word t _ (address_word a [] h.high tt)))
 sized_words (Some n) name t a h k f = let l = small_length a n f in
     (omega arith, omega arith, name_word name _ k (type_word t _ (address_word a _ h.high (decimal_word n [] (omega arith) tt))))
 
-variable_step : (o : Option ℕ) (i : ℕ) (m : MapValue) (name : List ℕ) (t : ValueType) (a : ℕ) → IsFramWord a → is_name name ≡ true → fits a o ≡ true
+variable_step : (o : Option ℕ) (i : ℕ) (m : MapValue) (name : List ℕ) (t : ValueType) (a : ℕ) → IsFramWord a → is_name name ≡ true
+    → fits a (word_count t o) ≡ true
     → step i m (sized_fields o name t a) ≡ put_variable i m (Some (record { name = name; value_type = t; address = a; length = o }))
 variable_step None i m name t a h k f = rw (name_back name k, type_back t, address_back a h) refl
 variable_step (Some n) i m name t a h k f =
@@ -324,7 +328,7 @@ read_end m i h =
 -- variables, tasks and the end begin otherwise than with the copies
 
 variable_otherwise : (k : ℕ) (o : Option ℕ) (name : List ℕ) (t : ValueType) (a : ℕ) (more : List (List (List ℕ))) → IsFramWord a → is_name name ≡ true
-    → fits a o ≡ true → BeginsOtherwise k (lines (printed (sized_fields o name t a ∷ more)))
+    → fits a (word_count t o) ≡ true → BeginsOtherwise k (lines (printed (sized_fields o name t a ∷ more)))
 variable_otherwise k None name t a more h n f = other_line k (codes "scalar") _ more (sized_words None name t a h n f) refl
 variable_otherwise k (Some l) name t a more h n f = other_line k (codes "array") _ more (sized_words (Some l) name t a h n f) refl
 

@@ -6,7 +6,8 @@ use Rattle.std.proofs.lemmas.List.Elements.{All-nil, All-cons, All-push}
 use Rattle.std.specs.Str.{bytes_eq}
 use Rattle.std.proofs.lemmas.Bool.{and_parts, and_from}
 use Rattle.image_map.specs.declared.parts.Variable.{Variable}
-use Rattle.image_map.specs.MapValue.{MapValue, TaskValue, IsFramWord, IsVariable, are_different, are_scalars, is_among, is_used, is_fram_word, fits}
+use Rattle.image_map.specs.MapValue.{MapValue, TaskValue, IsFramWord, IsVariable, are_different, are_scalars, is_among, is_used}
+use Rattle.image_map.specs.MapValue.{is_fram_word, word_count, fits, is_kind}
 use Rattle.image_map.specs.Kept.{IsMap}
 use Rattle.image_map.specs.MapValue.{variable_names, task_names, takes_variable, with_variable, takes_task, with_task, takes_private, with_private}
 use Rattle.image_map.specs.MapValue.{last_privates, follow, onto_last}
@@ -53,17 +54,20 @@ pub variable_more : (m : MapValue) (v : Variable) → v.address < 65536 → IsMa
 unfolding takes_variable
 variable_more m v l h t =
     let fresh : Bool = not (is_used m v.name) in
-    let p = and_parts (nat_le (length m.tasks) 0) (nat_lt (length m.variables) 256 && (is_fram_word v.address && (fits v.address v.length && fresh))) t in
-    let q = and_parts (nat_lt (length m.variables) 256) (is_fram_word v.address && (fits v.address v.length && fresh)) p.1 in
-    let r = and_parts (is_fram_word v.address) (fits v.address v.length && fresh) q.1 in
-    let s = and_parts (fits v.address v.length) fresh r.1 in
+    let all : Bool = fits v.address (word_count v.value_type v.length) in
+    let kind : Bool = is_kind v.value_type v.length in
+    let p = and_parts (nat_le (length m.tasks) 0) (nat_lt (length m.variables) 256 && (is_fram_word v.address && (all && (kind && fresh)))) t in
+    let q = and_parts (nat_lt (length m.variables) 256) (is_fram_word v.address && (all && (kind && fresh))) p.1 in
+    let r = and_parts (is_fram_word v.address) (all && (kind && fresh)) q.1 in
+    let s = and_parts all (kind && fresh) r.1 in
+    let k = and_parts kind fresh s.1 in
     let few : nat_lt (length m.variables) 256 ≡ true = q.0 in
     let small : length m.variables < 256 = grind (arith, nat_tests, few) in
     let none : m.tasks ≡ [] = no_tasks m.tasks p.0 in
     let no_names : task_names m.tasks ≡ [] = ap task_names none in
     let old : are_different [] (variable_names m.variables) ≡ true =
     ap (are_different []) (sym (append-nil (variable_names m.variables)) ∙ ap (λ r. variable_names m.variables ++ r) (sym no_names)) ∙ h.different in
-    let new = neither (is_among v.name (variable_names m.variables)) (is_among v.name (task_names m.tasks)) s.1 in
+    let new = neither (is_among v.name (variable_names m.variables)) (is_among v.name (task_names m.tasks)) k.1 in
     let P : List TaskValue → Type 0 = All (λ t. are_scalars t.privates (m.variables ++ v ∷ []) ≡ true) in
     record {
       bound = h.bound;
@@ -72,7 +76,7 @@ variable_more m v l h t =
       emits = h.emits;
       versions = h.versions;
       copies = h.copies;
-      variables = All-push IsVariable m.variables v h.variables (record { address = is_fram v.address l r.0; fits = s.0 });
+      variables = All-push IsVariable m.variables v h.variables (record { address = is_fram v.address l r.0; fits = s.0; kind = k.0 });
       few_variables = omega (arith, length-append m.variables (v ∷ []));
       few_tasks = h.few_tasks;
       different = ap (are_different []) (ap (λ r. variable_names (m.variables ++ v ∷ []) ++ r) no_names ∙ append-nil _ ∙ map_more (λ v. v.name) m.variables v)

@@ -67,7 +67,7 @@ takes_next_variable m done rest v e h =
     ap (λ vs. variable_names vs ++ task_names m.tasks) e ∙ ap (λ ns. ns ++ task_names m.tasks) (map-append (λ v. v.name) done (v ∷ rest))
     ∙ append_assoc (variable_names done) (v.name ∷ variable_names rest) (task_names m.tasks) in
     let fresh = different_there [] (variable_names done) v.name (variable_names rest ++ task_names m.tasks) (sym (ap (are_different []) names) ∙ h.different) in
-    rw (room, fram_test v.address is.address, is.fits) (not_or (is_among v.name (variable_names done)) false fresh refl)
+    rw (room, fram_test v.address is.address, is.fits, is.kind) (not_or (is_among v.name (variable_names done)) false fresh refl)
 
 -- a map with these tasks alone
 abbrev pub tasks_alone : MapValue → List TaskValue → MapValue

@@ -54,7 +54,9 @@ decimal_below limit field = if starts_with nat_eq field (codes "0x") then None e
 -- how a variable's words are read
 abbrev pub type_of : List ℕ → Option ValueType
 type_of field = if bytes_eq field (codes "unsigned") then Some value_type.Unsigned
-    else (if bytes_eq field (codes "int") then Some value_type.Int else None)
+    else (if bytes_eq field (codes "int") then Some value_type.Int
+    else (if bytes_eq field (codes "long") then Some value_type.Long
+    else None))
 
 -- the first field as an address, and the others
 abbrev pub next_address : List (List ℕ) → Option (ℕ × List (List ℕ))

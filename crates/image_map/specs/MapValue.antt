@@ -5,6 +5,8 @@ use Rattle.std.specs.List.{list_any}
 use Rattle.std.specs.Str.{bytes_eq}
 use Rattle.image_map.specs.declared.parts.RuntimeWords.{RuntimeWords}
 use Rattle.image_map.specs.declared.parts.Place.{Place}
+use Rattle.image_map.specs.declared.parts.ValueType.{ValueType}
+use Rattle.image_map.specs.declared.parts.ValueType.TheVariants as value_type
 use Rattle.image_map.specs.declared.parts.Variable.{Variable}
 
 -- a task and the names of its private scalars
@@ -28,10 +30,31 @@ pub record MapValue : Type 0 where
 abbrev pub is_fram_word : ℕ → Bool
 is_fram_word a = nat_le 17408 a && (a % 2 == 0)
 
--- whether the words from an address on are all there: those of an array, of which there is one at least
-abbrev pub fits : ℕ → Option ℕ → Bool
-fits a None = true
-fits a (Some n) = nat_lt 0 n && nat_le (a + 2 * n) 65536
+-- the words of a scalar of this type: a long has two
+abbrev pub scalar_words : ValueType → ℕ
+scalar_words value_type.Unsigned = 1
+scalar_words value_type.Int = 1
+scalar_words value_type.Long = 2
+
+-- how many words a variable of this type and length has
+abbrev pub word_count : ValueType → Option ℕ → ℕ
+word_count t None = scalar_words t
+word_count t (Some n) = n
+
+-- whether so many words from an address on are all there, and there is one at least
+abbrev pub fits : ℕ → ℕ → Bool
+fits a n = nat_lt 0 n && nat_le (a + 2 * n) 65536
+
+-- whether the numbers of this type have two words
+abbrev pub is_long : ValueType → Bool
+is_long value_type.Unsigned = false
+is_long value_type.Int = false
+is_long value_type.Long = true
+
+-- whether a variable may have this type and length: the elements of an array are words
+abbrev pub is_kind : ValueType → Option ℕ → Bool
+is_kind t None = true
+is_kind t (Some n) = not (is_long t)
 
 -- whether a name is one of these
 abbrev pub is_among : List ℕ → List (List ℕ) → Bool
@@ -52,7 +75,7 @@ is_used m name = is_among name (variable_names m.variables) || is_among name (ta
 -- whether a variable may be the next one: no task stands yet, and there is room for one more
 unfoldable pub takes_variable : MapValue → Variable → Bool
 takes_variable m v = nat_le (length m.tasks) 0 && (nat_lt (length m.variables) 256 &&
-    (is_fram_word v.address && (fits v.address v.length && not (is_used m v.name))))
+    (is_fram_word v.address && (fits v.address (word_count v.value_type v.length) && (is_kind v.value_type v.length && not (is_used m v.name)))))
 
 -- whether a name may be the next task's
 unfoldable pub takes_task : MapValue → List ℕ → Bool
@@ -128,10 +151,11 @@ pub record IsPlace (p : Place) : Type 0 where
   pub address : IsFramWord p.address
   pub capacity : p.capacity < 2 ^ 32
 
--- a variable at an even address of the FRAM, whose words all stand in the FRAM
+-- a variable at an even address of the FRAM, whose words all stand in the FRAM; no array is one of longs
 pub record IsVariable (v : Variable) : Type 0 where
   pub address : IsFramWord v.address
-  pub fits : fits v.address v.length ≡ true
+  pub fits : fits v.address (word_count v.value_type v.length) ≡ true
+  pub kind : is_kind v.value_type v.length ≡ true
 
 -- each name differs from all before it
 abbrev pub are_different : List (List ℕ) → List (List ℕ) → Bool

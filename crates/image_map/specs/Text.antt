@@ -26,6 +26,7 @@ place_fields word p = word ∷ address_text p.address ∷ decimal p.capacity ∷
 abbrev pub type_text : ValueType → List ℕ
 type_text value_type.Unsigned = codes "unsigned"
 type_text value_type.Int = codes "int"
+type_text value_type.Long = codes "long"
 
 abbrev pub sized_fields : Option ℕ → List ℕ → ValueType → ℕ → List (List ℕ)
 sized_fields None name t a = codes "scalar" ∷ name ∷ type_text t ∷ address_text a ∷ []

@@ -104,6 +104,8 @@ fn type_of(field: &[u8]) -> Option<ValueType>
         Some(ValueType::Unsigned)
     } else if field == b"int".as_slice() {
         Some(ValueType::Int)
+    } else if field == b"long".as_slice() {
+        Some(ValueType::Long)
     } else {
         None
     }

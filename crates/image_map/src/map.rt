@@ -1,17 +1,18 @@
 //! The type of maps.
 ghost use Rattle.std.specs.Prelude.{◌≡◌, ◌<◌, ◌≤◌, ◌&&◌, ◌++◌, ◌∷◌, [], Some, None, IfOk, OnOk, OnErr, length, map};
 ghost use Rattle.image_map.specs.declared.parts.Variable.{Variable};
-ghost use Rattle.image_map.specs.MapValue.{is_fram_word, fits, is_among, is_scalar_of, names_behind, are_scalars};
+ghost use Rattle.image_map.specs.MapValue.{is_fram_word, fits, is_kind, is_among, is_scalar_of, names_behind, are_scalars};
 
 use crate::name::Name;
-use crate::parts::{Place, RuntimeWords, Task, Variable};
+use crate::parts::{Place, RuntimeWords, Task, ValueType, Variable};
 use std::alloc::{AllocError, Global};
 use std::marker::Model;
 
 /// What an image says of its program: the bound of a transition in cycles, where the runtime's words, the lists and the
 /// shared variables stand, and the tasks.
 ///
-/// A map keeps these rules: each address is even and in the FRAM; an array has a word at least and fits; there are at most
+/// A map keeps these rules: each address is even and in the FRAM; an array has a word at least and fits, and its elements are words; both words
+/// of a long are in the FRAM; there are at most
 /// 256 variables and 64 tasks, each with a name of its own; the private names of a task are scalars in order of declaration.
 #[derive(Drop)]
 pub struct Map {
@@ -45,12 +46,18 @@ pub fn is_fram_word(address: u16) -> bool
     address >= 0x4400 && address % 2 == 0
 }
 
-fn fits(address: u16, length: Option<u16>) -> bool
-    ensures { result ≡ fits address length }
+fn fits(address: u16, words: u16) -> bool
+    ensures { result ≡ fits address words }
+{
+    words > 0 && address as u32 + 2 * words as u32 <= 65536
+}
+
+fn is_kind(value_type: ValueType, length: Option<u16>) -> bool
+    ensures { result ≡ is_kind value_type length }
 {
     match length {
         None => true,
-        Some(n) => n > 0 && address as u32 + 2 * n as u32 <= 65536,
+        Some(_) => !value_type.is_long(),
     }
 }
 
@@ -226,7 +233,8 @@ impl Map {
         self.tasks.is_empty()
             && self.variables.len() < 256
             && is_fram_word(v.address)
-            && fits(v.address, v.length)
+            && fits(v.address, v.words())
+            && is_kind(v.value_type, v.length)
             && !self.is_used(v.name.as_bytes())
     }
 

@@ -1,4 +1,6 @@
 //! What a map names.
+ghost use Rattle.std.specs.Prelude.{◌≡◌};
+ghost use Rattle.image_map.specs.MapValue.{scalar_words};
 
 use crate::name::Name;
 use std::alloc::{AllocError, Global};
@@ -37,6 +39,33 @@ pub struct Place {
 pub enum ValueType {
     Unsigned,
     Int,
+    /// Two words, the low one first, as one number without a sign.
+    Long,
+}
+
+impl ValueType {
+    ghost use Rattle.std.specs.Prelude.{◌≡◌};
+    ghost use Rattle.image_map.specs.MapValue.{is_long};
+
+    /// Whether its numbers have two words.
+    pub fn is_long(self) -> bool
+        ensures { result ≡ is_long self }
+    {
+        match self {
+            ValueType::Unsigned | ValueType::Int => false,
+            ValueType::Long => true,
+        }
+    }
+}
+
+// The words of a scalar of this type.
+fn scalar_words(value_type: ValueType) -> u16
+    ensures { result ≡ scalar_words value_type }
+{
+    match value_type {
+        ValueType::Unsigned | ValueType::Int => 1,
+        ValueType::Long => 2,
+    }
 }
 
 /// A shared variable.
@@ -48,6 +77,21 @@ pub struct Variable {
     pub address: u16,
     /// The words of an array; nothing for a scalar.
     pub length: Option<u16>,
+}
+
+impl Variable {
+    ghost use Rattle.std.specs.Prelude.{◌≡◌};
+    ghost use Rattle.image_map.specs.MapValue.{word_count};
+
+    /// How many words it has: a long has two.
+    pub fn words(&self) -> u16
+        ensures { result ≡ word_count self.now.value_type self.now.length }
+    {
+        match self.length {
+            None => scalar_words(self.value_type),
+            Some(n) => n,
+        }
+    }
 }
 
 /// A task, with the shared scalars that it works on in copies.

@@ -115,6 +115,7 @@ fn type_text<'a>(value_type: ValueType) -> &'a [u8]
     match value_type {
         ValueType::Unsigned => b"unsigned",
         ValueType::Int => b"int",
+        ValueType::Long => b"long",
     }
 }
 

@@ -4,17 +4,18 @@ use Rattle.std.proofs.Common.{map, get_or, Option, Some, None}
 use Rattle.std.proofs.lemmas.List.{length-replicate}
 use Rattle.std.specs.Prelude.{slice_get, slice_index, slice_index_or}
 use Rattle.std.proofs.lemmas.Bool.{and_parts}
+use Rattle.task_ast.specs.declared.WordType.{WordType}
+use Rattle.task_ast.specs.declared.WordType.TheVariants as word_type
 use Rattle.task_ast.specs.declared.SharedDeclaration.{SharedDeclaration}
 use Rattle.task_ast.specs.declared.Extent.{Extent}
-use Rattle.source_maps.specs.board_run.History.{SharedWord, array_words, variable_words}
 use Rattle.task_ast.specs.declared.Extent.TheVariants as extent
 use Rattle.whole_programs.specs.source_values.Runs.{initial_words}
 use Rattle.linked_code.specs.machine_effects.World.{World}
-use Rattle.source_maps.specs.model_runs.Events.{world_values}
 use Rattle.source_maps.specs.source_runs.Naming.{length_of}
-use Rattle.source_maps.specs.source_runs.Transitions.{rows_in}
+use Rattle.source_maps.specs.source_runs.Transitions.{words_at, rows_in}
 use Rattle.compiled_runs.specs.compiled_model.View.{are_words, are_rows}
-use Rattle.source_maps.specs.Maps.{variable_of, variables_of}
+use Rattle.compiled_runs.specs.image_map.MapValue.{scalar_words, word_count}
+use Rattle.source_maps.specs.Maps.{word_value_type, value_type_of, variables_of}
 use Rattle.source_maps.specs.Placing.{IsOfKind}
 use Rattle.memory_map.specs.declared.place.VariablePlace.{VariablePlace}
 use Rattle.memory_map.specs.declared.place.VariablePlace.TheVariants.{Scalar, Array}
@@ -24,14 +25,14 @@ use Rattle.memory_map.specs.Places.{home_region}
 abbrev pub RowStands : World → List ℕ → VariablePlace → Type 0
 RowStands x row place = (i : ℕ) → i < (home_region place).words → x.fram (2 * i + (home_region place).address) ≡ slice_index row i
 
-array_row : (x : World) (name : List ℕ) (a i n : ℕ) (row : List ℕ) → length row ≡ n → ((k : ℕ) → k < n → x.fram (2 * k + a) ≡ slice_index row k)
-    → world_values x (array_words name a i n) ≡ row
-array_row x name a i zero [] e h = refl
-array_row x name a i zero (w ∷ row) e h = absurd (omega (arith, e))
-array_row x name a i (suc n) [] e h = absurd (omega (arith, e))
-array_row x name a i (suc n) (w ∷ row) e h =
+words_row : (x : World) (a n : ℕ) (row : List ℕ) → length row ≡ n → ((k : ℕ) → k < n → x.fram (2 * k + a) ≡ slice_index row k)
+    → words_at x a n ≡ row
+words_row x a zero [] e h = refl
+words_row x a zero (w ∷ row) e h = absurd (omega (arith, e))
+words_row x a (suc n) [] e h = absurd (omega (arith, e))
+words_row x a (suc n) (w ∷ row) e h =
     let here : x.fram a ≡ w = ap x.fram (first a) ∙ h 0 (omega arith) in
-    let more = array_row x name (a + 2) (i + 1) n row (omega (arith, e)) (λ k l. ap x.fram (next k a) ∙ h (suc k) (omega (arith, l))) in
+    let more = words_row x (a + 2) n row (omega (arith, e)) (λ k l. ap x.fram (next k a) ∙ h (suc k) (omega (arith, l))) in
     ap₂ (λ p q. p ∷ q) here more
   where
     first : (a : ℕ) → a ≡ 2 * 0 + a
@@ -40,21 +41,20 @@ array_row x name a i (suc n) (w ∷ row) e h =
     next : (k a : ℕ) → 2 * k + (a + 2) ≡ 2 * suc k + a
     next k a = omega arith
 
-one_row : (x : World) (text : List ℕ) (d : SharedDeclaration) (e : Extent) (place : VariablePlace) (row : List ℕ) → IsOfKind e place
-    → length row ≡ length (initial_words e) → RowStands x row place
-    → world_values x (variable_words (variable_of text d place).name (variable_of text d place).address (length_of e)) ≡ row
-one_row x text d (extent.Scalar w) (Scalar home copy) [] m l h = absurd (cc l)
-one_row x text d (extent.Scalar w) (Scalar home copy) (v ∷ []) m l h =
-    let here : x.fram home ≡ v = ap x.fram (first home) ∙ h 0 (omega arith) in ap (λ p. p ∷ []) here
-  where
-    first : (a : ℕ) → a ≡ 2 * 0 + a
-    first a = omega arith
-one_row x text d (extent.Scalar w) (Scalar home copy) (v ∷ u ∷ row) m l h = absurd (omega (arith, l))
-one_row x text d (extent.Scalar w) (Array elements n copies) row m l h = absurd m
-one_row x text d (extent.Long n) place row m l h = absurd m
-one_row x text d (extent.Array n) (Scalar home copy) row m l h = absurd m
-one_row x text d (extent.Array n) (Array elements k copies) row m l h =
-    array_row x (variable_of text d (Array elements k copies)).name elements 0 n row (l ∙ length-replicate n 0) (λ i below. h i (omega (arith, below, m)))
+-- a declared scalar has one word
+one_word : (w : WordType) → scalar_words (word_value_type w) ≡ 1
+one_word word_type.Unsigned = refl
+one_word word_type.Int = refl
+one_word word_type.Long = refl
+
+one_row : (x : World) (w : WordType) (e : Extent) (place : VariablePlace) (row : List ℕ) → IsOfKind e place → length row ≡ length (initial_words e)
+    → RowStands x row place → words_at x (home_region place).address (word_count (value_type_of w e) (length_of e)) ≡ row
+one_row x w (extent.Scalar v) (Scalar home copy) row m l h = ap (words_at x home) (one_word w) ∙ words_row x home 1 row l h
+one_row x w (extent.Scalar v) (Array elements n copies) row m l h = absurd m
+one_row x w (extent.Long n) place row m l h = absurd m
+one_row x w (extent.Array n) (Scalar home copy) row m l h = absurd m
+one_row x w (extent.Array n) (Array elements k copies) row m l h =
+    words_row x elements n row (l ∙ length-replicate n 0) (λ i below. h i (omega (arith, below, m)))
 
 -- rows that stand at the places of their declarations are those that the map's variables name
 pub all_rows : (x : World) (text : List ℕ) (ds : List SharedDeclaration) (places : List VariablePlace) (rows : List (List ℕ))
@@ -70,5 +70,5 @@ all_rows x text (d ∷ ds) (place ∷ places) (row ∷ rows) count are match sta
     let two = and_parts (length row == length (initial_words d.extent)) (are_words row && are_rows ds rows) are in
     let more = (and_parts (are_words row) (are_rows ds rows) two.1).1 in
     ap₂ (λ p q. p ∷ q)
-    (one_row x text d d.extent place row (match 0 d place refl refl) (eqb-true (length row) (length (initial_words d.extent)) two.0) (stand 0 place refl))
+    (one_row x d.word_type d.extent place row (match 0 d place refl refl) (eqb-true (length row) (length (initial_words d.extent)) two.0) (stand 0 place refl))
     (all_rows x text ds places rows (omega (arith, count)) more (λ v. match (suc v)) (λ v. stand (suc v)))

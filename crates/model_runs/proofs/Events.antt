@@ -13,7 +13,8 @@ use Rattle.crash_rules.specs.image_map.Kept.{IsMap}
 use Rattle.crash_rules.specs.fram_board.Board.{BoardValue}
 use Rattle.crash_rules.specs.fram_board.Effects.{Effect, Send}
 use Rattle.crash_rules.specs.fram_board.Run.{word_list}
-use Rattle.board_run.specs.History.{shared_words, word_in, values_in, task_name, more_lines, changed_lines, transition_lines, with_word, with_words, completed}
+use Rattle.board_run.specs.History.{shared_numbers, word_in, values_in, task_name, more_lines, changed_lines, transition_lines, with_word, with_words}
+use Rattle.board_run.specs.History.{completed}
 use Rattle.board_run.specs.History.{decided}
 use Rattle.board_run.specs.History as board
 use Rattle.crash_rules.specs.machine_effects.World.{World, world_after, readings_taken, EachStore}
@@ -116,7 +117,7 @@ module _ (m : MapValue) (x : World) where
         mapped = a.mapped;
         completed = a.completed ∙ ap (λ ds. counted (length ds)) (sym same);
         task = a.task ∙ ap (λ ds. (last_world x ds).fram m.words.current_task) (sym same);
-        shared = a.shared ∙ ap (λ ds. world_values (last_world x ds) (shared_words m.variables)) (sym same);
+        shared = a.shared ∙ ap (λ ds. world_values (last_world x ds) (shared_numbers m.variables)) (sym same);
         words = a.words ++ ws;
         words_are = f.accepted ∙ ap (λ l. l ++ ws) a.words_are ∙ append_assoc (last_world x k.completed).accepted a.words ws
             ∙ ap (λ ds. (last_world x ds).accepted ++ (a.words ++ ws)) (sym same);
@@ -199,8 +200,8 @@ module _ (m : MapValue) (x : World) (ok : IsMap m) (h : board.History) (k : Hist
         mapped = a.mapped;
         completed = ap risen a.completed ∙ ap counted more;
         task = task_now ∙ ap (λ y. y.fram m.words.current_task) (sym there);
-        shared = values_same b.fram k.world (shared_words m.variables) t.fram (shared_in m.variables ok.variables)
-            ∙ ap (λ y. world_values y (shared_words m.variables)) (sym there);
+        shared = values_same b.fram k.world (shared_numbers m.variables) t.fram (shared_in m.variables ok.variables)
+            ∙ ap (λ y. world_values y (shared_numbers m.variables)) (sym there);
         words = [];
         words_are = ap (λ y. y.accepted) (sym there) ∙ sym (append-nil (last_world x (k.completed ++ done ∷ [])).accepted);
         accepted = refl;
@@ -262,17 +263,17 @@ module _ (m : MapValue) (x : World) (ok : IsMap m) (h : board.History) (k : Hist
       ∙ ap₂ (λ p q. step_line (risen (counted (length k.completed))) (task_name m.tasks (last.fram m.words.current_task))
       (task_name m.tasks (k.world.fram m.words.current_task)) p q) a.span_from a.span_to
 
-  change_same : changed_lines (shared_words m.variables) h.shared b.fram ≡ change_lines (shared_words m.variables) last k.world
+  change_same : changed_lines (shared_numbers m.variables) h.shared b.fram ≡ change_lines (shared_numbers m.variables) last k.world
   change_same =
-      ap (λ l. changed_lines (shared_words m.variables) l b.fram) a.shared
-      ∙ changes_same b.fram last k.world (shared_words m.variables) t.fram (shared_in m.variables ok.variables)
+      ap (λ l. changed_lines (shared_numbers m.variables) l b.fram) a.shared
+      ∙ changes_same b.fram last k.world (shared_numbers m.variables) t.fram (shared_in m.variables ok.variables)
 
-  other_lines : flat_map accepted_line h.accepted ++ (more_lines h.more ++ changed_lines (shared_words m.variables) h.shared b.fram)
-      ≡ word_lines (words_between last k.world) ++ change_lines (shared_words m.variables) last k.world
+  other_lines : flat_map accepted_line h.accepted ++ (more_lines h.more ++ changed_lines (shared_numbers m.variables) h.shared b.fram)
+      ≡ word_lines (words_between last k.world) ++ change_lines (shared_numbers m.variables) last k.world
   other_lines =
-      ap₂ (λ p q. flat_map accepted_line p ++ (more_lines q ++ changed_lines (shared_words m.variables) h.shared b.fram)) a.accepted a.more
+      ap₂ (λ p q. flat_map accepted_line p ++ (more_lines q ++ changed_lines (shared_numbers m.variables) h.shared b.fram)) a.accepted a.more
       ∙ sym (append_assoc (flat_map accepted_line (take 256 a.words)) (more_lines (counted (length a.words - 256)))
-      (changed_lines (shared_words m.variables) h.shared b.fram))
+      (changed_lines (shared_numbers m.variables) h.shared b.fram))
       ∙ ap₂ (λ p q. word_lines p ++ q) (sym words_same) change_same
 
   done_told : Told m x k (behind_done k) (transition_lines m h b)

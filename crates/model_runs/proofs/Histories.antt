@@ -10,7 +10,8 @@ use Rattle.crash_rules.specs.fram_board.Saved.{TakesNextBehind}
 use Rattle.crash_rules.specs.fram_board.Steps.{IsPowerState}
 use Rattle.crash_rules.specs.fram_board.Effects.{Effect}
 use Rattle.crash_rules.specs.fram_board.Run.{PowerUp, Execute, Moment, moment_of, power_up_of, word_list}
-use Rattle.board_run.specs.History.{moment_lines, noted, word_in, with_words, behind_power_up, behind_instruction, instruction_lines, start_with, shared_words}
+use Rattle.board_run.specs.History.{moment_lines, noted, word_in, with_words, behind_power_up, behind_instruction, instruction_lines, start_with}
+use Rattle.board_run.specs.History.{shared_numbers}
 use Rattle.board_run.specs.History as board
 use Rattle.board_run.specs.Report.{lines_from, after_all}
 use Rattle.crash_rules.specs.machine_effects.World.{World, fram_after, world_after}
@@ -261,7 +262,7 @@ first_histories_are_the_same b m x ok s =
       mapped = refl;
       completed = refl;
       task = world_word b.fram x m.words.current_task s.fram ok.words.current_task;
-      shared = values_same b.fram x (shared_words m.variables) s.fram (shared_in m.variables ok.variables);
+      shared = values_same b.fram x (shared_numbers m.variables) s.fram (shared_in m.variables ok.variables);
       words = [];
       words_are = sym (append-nil x.accepted);
       accepted = refl;

@@ -1,15 +1,19 @@
 -- The words of a map in the lists of the board's FRAM and in the FRAM of a world.
-use Rattle.std.proofs.Common.{◌≡◌, ℕ, zero, suc, ◌+◌, ◌*◌, ◌%◌, ◌<◌, ◌≤◌, ◌==◌, ◌&&◌, nat_lt, nat_le, refl, sym, ap, ap₂, ◌∙◌, arith, true, if◌then◌else◌, All}
-use Rattle.std.proofs.Common.{List, [], ◌∷◌, ◌++◌, slice_index, Option, Some, None}
+use Rattle.std.proofs.Common.{◌≡◌, ℕ, zero, suc, ◌+◌, ◌*◌, ◌%◌, ◌<◌, ◌≤◌, ◌==◌, ◌&&◌, nat_lt, nat_le, refl, sym, ap, ap₂, ◌∙◌, arith, Bool, true, false}
+use Rattle.std.proofs.Common.{if◌then◌else◌, All, List, [], ◌∷◌, ◌++◌, slice_index, Option, Some, None}
 use Rattle.std.proofs.lemmas.Bool.Decides.{nat_tests}
 use Rattle.std.proofs.lemmas.Bool.{and_parts}
+use Rattle.crash_rules.specs.image_map.declared.parts.ValueType.{ValueType}
+use Rattle.crash_rules.specs.image_map.declared.parts.ValueType.TheVariants as value_type
 use Rattle.crash_rules.specs.image_map.declared.parts.Variable.{Variable}
-use Rattle.crash_rules.specs.image_map.MapValue.{IsFramWord, IsVariable, fits}
+use Rattle.crash_rules.specs.image_map.MapValue.{IsFramWord, IsVariable, fits, is_long, scalar_words, word_count}
 use Rattle.crash_rules.specs.image_text.ImageValue.{place_of}
 use Rattle.crash_rules.specs.fram_board.Bus.{is_fram}
 use Rattle.crash_rules.specs.machine_effects.World.{World}
 use Rattle.crash_rules.specs.machine_effects.Machine.{fram_of}
-use Rattle.board_run.specs.History.{SharedWord, array_words, variable_words, shared_words, word_in, values_in, changed_line, changed_lines}
+use Rattle.board_run.specs.History.{SharedNumber, array_words, variable_numbers, shared_numbers, word_in, number_at, number_of, values_in, changed_line}
+use Rattle.board_run.specs.History.{changed_lines}
+use Rattle.board_run.specs.State.{StandsInFram}
 use Rattle.model_runs.specs.Events.{world_values, change_lines}
 
 is_there : (a : ℕ) → 17408 ≤ a → a < 65536 → a % 2 ≡ 0 → ((a % 2 == 0) && is_fram a) ≡ true
@@ -23,40 +27,57 @@ fram_word fram a h = ap (λ b. if b then slice_index fram (place_of a) else 0) (
 pub world_word : (fram : List ℕ) (x : World) (a : ℕ) → x.fram ≡ fram_of fram → IsFramWord a → word_in fram a ≡ x.fram a
 world_word fram x a e h = sym (fram_word fram a h) ∙ ap (λ f. f a) (sym e)
 
--- shared words are words of FRAM
-abbrev pub AreInFram : List SharedWord → Type 0
-AreInFram [] = Unit {0}
-AreInFram (p ∷ ps) = IsFramWord p.address × AreInFram ps
+-- and a shared number
+same_number : (fram : List ℕ) (x : World) (a : ℕ) (long : Bool) → x.fram ≡ fram_of fram → IsFramWord a → (long ≡ true → IsFramWord (a + 2))
+    → number_at (word_in fram) a long ≡ number_at x.fram a long
+same_number fram x a false e low high = world_word fram x a e low
+same_number fram x a true e low high = ap₂ (λ l h. l + 65536 * h) (world_word fram x a e low) (world_word fram x (a + 2) e (high refl))
 
-both_in : (ps qs : List SharedWord) → AreInFram ps → AreInFram qs → AreInFram (ps ++ qs)
+world_number : (fram : List ℕ) (x : World) (p : SharedNumber) → x.fram ≡ fram_of fram → StandsInFram p → number_of (word_in fram) p ≡ number_of x.fram p
+world_number fram x p e h = same_number fram x p.address p.is_long e h.0 h.1
+
+-- shared numbers stand in FRAM
+abbrev pub AreInFram : List SharedNumber → Type 0
+AreInFram [] = Unit {0}
+AreInFram (p ∷ ps) = StandsInFram p × AreInFram ps
+
+both_in : (ps qs : List SharedNumber) → AreInFram ps → AreInFram qs → AreInFram (ps ++ qs)
 both_in [] qs h k = k
 both_in (p ∷ ps) qs h k = (h.0, both_in ps qs h.1 k)
 
 array_in : (name : List ℕ) (a i n : ℕ) → 17408 ≤ a → a % 2 ≡ 0 → a + 2 * n ≤ 65536 → AreInFram (array_words name a i n)
 array_in name a i zero l e h = tt
 array_in name a i (suc n) l e h =
-    (record { low = l; high = omega arith; even = e }, array_in name (a + 2) (i + 1) n (omega arith) (omega arith) (omega arith))
+    ((record { low = l; high = omega arith; even = e }, λ i. cc), array_in name (a + 2) (i + 1) n (omega arith) (omega arith) (omega arith))
 
 below_end : (a n : ℕ) → nat_le (a + 2 * n) 65536 ≡ true → a + 2 * n ≤ 65536
 below_end a n h = grind (arith, nat_tests)
 
-variable_in : (name : List ℕ) (a : ℕ) (o : Option ℕ) → IsFramWord a → fits a o ≡ true → AreInFram (variable_words name a o)
-variable_in name a None h f = (h, tt)
-variable_in name a (Some n) h f = array_in name a 0 n h.low h.even (below_end a n (and_parts (nat_lt 0 n) (nat_le (a + 2 * n) 65536) f).1)
+high_in : (t : ValueType) (a : ℕ) → IsFramWord a → fits a (scalar_words t) ≡ true → is_long t ≡ true → IsFramWord (a + 2)
+high_in value_type.Unsigned a h f i = cc
+high_in value_type.Int a h f i = cc
+high_in value_type.Long a h f i =
+    let top : a + 4 ≤ 65536 = below_end a 2 (and_parts true (nat_le (a + 4) 65536) f).1 in
+    record { low = omega (arith, h.low); high = omega arith; even = omega (arith, h.even) }
 
-pub shared_in : (vs : List Variable) → All IsVariable vs → AreInFram (shared_words vs)
+variable_in : (name : List ℕ) (a : ℕ) (t : ValueType) (o : Option ℕ) → IsFramWord a → fits a (word_count t o) ≡ true → AreInFram (variable_numbers name a t o)
+variable_in name a t None h f = ((h, high_in t a h f), tt)
+variable_in name a t (Some n) h f = array_in name a 0 n h.low h.even (below_end a n (and_parts (nat_lt 0 n) (nat_le (a + 2 * n) 65536) f).1)
+
+pub shared_in : (vs : List Variable) → All IsVariable vs → AreInFram (shared_numbers vs)
 shared_in [] all = tt
 shared_in (v ∷ vs) all =
     let here : IsVariable v = all 0 v (omega arith) in
-    both_in (variable_words v.name v.address v.length) (shared_words vs) (variable_in v.name v.address v.length here.address here.fits)
+    both_in (variable_numbers v.name v.address v.value_type v.length) (shared_numbers vs)
+    (variable_in v.name v.address v.value_type v.length here.address here.fits)
     (shared_in vs (λ i d l. all (suc i) d (omega arith)))
 
-pub values_same : (fram : List ℕ) (x : World) (ps : List SharedWord) → x.fram ≡ fram_of fram → AreInFram ps → values_in fram ps ≡ world_values x ps
+pub values_same : (fram : List ℕ) (x : World) (ps : List SharedNumber) → x.fram ≡ fram_of fram → AreInFram ps → values_in fram ps ≡ world_values x ps
 values_same fram x [] e h = refl
-values_same fram x (p ∷ ps) e h = ap₂ (λ w ws. w ∷ ws) (world_word fram x p.address e h.0) (values_same fram x ps e h.1)
+values_same fram x (p ∷ ps) e h = ap₂ (λ w ws. w ∷ ws) (world_number fram x p e h.0) (values_same fram x ps e h.1)
 
-pub changes_same : (fram : List ℕ) (x y : World) (ps : List SharedWord) → y.fram ≡ fram_of fram → AreInFram ps
+pub changes_same : (fram : List ℕ) (x y : World) (ps : List SharedNumber) → y.fram ≡ fram_of fram → AreInFram ps
     → changed_lines ps (world_values x ps) fram ≡ change_lines ps x y
 changes_same fram x y [] e h = refl
 changes_same fram x y (p ∷ ps) e h =
-    ap₂ (λ a b. a ++ b) (ap (changed_line p (x.fram p.address)) (world_word fram y p.address e h.0)) (changes_same fram x y ps e h.1)
+    ap₂ (λ a b. a ++ b) (ap (changed_line p (number_of x.fram p)) (world_number fram y p e h.0)) (changes_same fram x y ps e h.1)

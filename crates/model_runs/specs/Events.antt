@@ -6,7 +6,7 @@ use Rattle.board_run.specs.alp_io.Report.{accepted_line, step_line}
 use Rattle.crash_rules.specs.image_map.MapValue.{MapValue}
 use Rattle.crash_rules.specs.fram_board.Board.{BoardValue}
 use Rattle.crash_rules.specs.fram_board.Saved.{TakesNextBehind}
-use Rattle.board_run.specs.History.{SharedWord, shared_words, task_name, changed_line, more_lines}
+use Rattle.board_run.specs.History.{SharedNumber, number_of, shared_numbers, task_name, changed_line, more_lines}
 use Rattle.board_run.specs.History as board
 use Rattle.crash_rules.specs.machine_effects.Machine.{fram_of}
 use Rattle.crash_rules.specs.machine_effects.World.{World}
@@ -28,22 +28,22 @@ abbrev pub counted : ℕ → ℕ
 counted zero = 0
 counted (suc n) = risen (counted n)
 
--- what shared words hold in a world
-abbrev pub world_values : World → List SharedWord → List ℕ
-world_values x ps = map (λ p. x.fram p.address) ps
+-- what shared numbers are in a world
+abbrev pub world_values : World → List SharedNumber → List ℕ
+world_values x ps = map (number_of x.fram) ps
 
 -- the words accepted from one world to another
 abbrev pub words_between : World → World → List ℕ
 words_between x y = drop (length x.accepted) y.accepted
 
 -- what a report's history and one by effects say alike, where the run began with world x: how many transitions were completed;
--- the task and the shared words at the last done; the words accepted since; the readings taken at the last boot or done; and the
+-- the task and the shared numbers at the last done; the words accepted since; the readings taken at the last boot or done; and the
 -- span of the last decide
 pub record SaysAlike (m : MapValue) (x : World) (h : board.History) (k : History) : Type 0 where
   pub mapped : h.map ≡ Some m
   pub completed : h.completed ≡ counted (length k.completed)
   pub task : h.task ≡ (last_world x k.completed).fram m.words.current_task
-  pub shared : h.shared ≡ world_values (last_world x k.completed) (shared_words m.variables)
+  pub shared : h.shared ≡ world_values (last_world x k.completed) (shared_numbers m.variables)
   pub words : List ℕ
   pub words_are : k.world.accepted ≡ (last_world x k.completed).accepted ++ words
   pub accepted : h.accepted ≡ take 256 words
@@ -61,16 +61,16 @@ pub record SaysTheSame (m : MapValue) (x : World) (h : board.History) (k : Histo
 abbrev pub word_lines : List ℕ → List ℕ
 word_lines ws = flat_map accepted_line (take 256 ws) ++ more_lines (counted (length ws - 256))
 
--- the lines of the shared words that hold another word in the second world
-abbrev pub change_lines : List SharedWord → World → World → List ℕ
-change_lines ps x y = flat_map (λ p. changed_line p (x.fram p.address) (y.fram p.address)) ps
+-- the lines of the shared numbers that are others in the second world
+abbrev pub change_lines : List SharedNumber → World → World → List ℕ
+change_lines ps x y = flat_map (λ p. changed_line p (number_of x.fram p) (number_of y.fram p)) ps
 
 -- the lines of a done by its number and the world behind the done before it: the transition, the words accepted in between, and
--- the shared words that changed
+-- the shared numbers that changed
 abbrev pub done_lines : MapValue → ℕ → World → Done → List ℕ
 done_lines m number x d =
     step_line number (task_name m.tasks (x.fram m.words.current_task)) (task_name m.tasks (d.world.fram m.words.current_task)) d.span_from d.span_to
-    ++ (word_lines (words_between x d.world) ++ change_lines (shared_words m.variables) x d.world)
+    ++ (word_lines (words_between x d.world) ++ change_lines (shared_numbers m.variables) x d.world)
 
 -- the lines of dones behind so many, the first of which follows this world
 abbrev pub dones_lines : MapValue → ℕ → World → List Done → List ℕ

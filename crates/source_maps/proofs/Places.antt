@@ -1,14 +1,15 @@
 -- The variables of a source at their places.
-use Rattle.std.proofs.Common.{◌≡◌, ℕ, suc, ◌+◌, ◌*◌, ◌≤◌, ◌&&◌, Bool, true, nat_lt, nat_le, List, [], ◌∷◌, map, length, refl, ap, subst, arith, Some}
+use Rattle.std.proofs.Common.{◌≡◌, ℕ, suc, ◌+◌, ◌*◌, ◌≤◌, ◌∙◌, Bool, true, false, not, List, [], ◌∷◌, map, length, refl, ap, subst, arith, Some}
 use Rattle.std.specs.Prelude.{All, slice_get}
 use Rattle.std.proofs.lemmas.Bool.Decides.{nat_tests}
 use Rattle.std.proofs.lemmas.List.Elements.{All-nil, All-cons, All-head, All-tail}
+use Rattle.task_ast.specs.declared.WordType.{WordType}
+use Rattle.task_ast.specs.declared.WordType.TheVariants as word_type
 use Rattle.task_ast.specs.declared.Extent.{Extent}
 use Rattle.task_ast.specs.declared.Extent.TheVariants as extent
 use Rattle.task_ast.specs.declared.SharedDeclaration.{SharedDeclaration}
-use Rattle.task_ast.specs.Longs.{IsPlainExtent}
-use Rattle.image_map.specs.MapValue.{IsFramWord, IsVariable, fits, variable_names}
-use Rattle.source_runs.specs.Naming.{length_of, AreVariablesOf}
+use Rattle.image_map.specs.MapValue.{IsFramWord, IsVariable, scalar_words, word_count, fits, is_long, is_kind, variable_names}
+use Rattle.source_runs.specs.Naming.{length_of, is_wide, AreVariablesOf}
 use Rattle.source_report.specs.SourceReport.{spelled}
 use Rattle.memory_map.specs.address_space.Limits.{fram_first, reset_vector}
 use Rattle.memory_map.specs.declared.place.VariablePlace.{VariablePlace}
@@ -16,7 +17,7 @@ use Rattle.memory_map.specs.declared.place.VariablePlace.TheVariants.{Scalar, Ar
 use Rattle.memory_map.specs.Places.{end_of, home_region, AreInOrder}
 use Rattle.privatise.specs.Layouts.{IsPlaceOf}
 use Rattle.source_maps.specs.Names.{HasWords}
-use Rattle.source_maps.specs.Maps.{variable_of, variables_of}
+use Rattle.source_maps.specs.Maps.{word_value_type, value_type_of, variable_of, variables_of}
 use Rattle.source_maps.specs.Placing.{IsOfKind, ArePlacesOf}
 
 -- a place of a declaration is of its kind
@@ -45,16 +46,34 @@ region_words : (e : Extent) (place : VariablePlace) (n : ℕ) → IsOfKind e pla
 region_words e (Scalar home copy) n h is = absurd (subst (λ x. IsOfKind x (Scalar home copy)) is h)
 region_words e (Array elements m copies) n h is = subst (λ x. IsOfKind x (Array elements m copies)) is h
 
-fits_there : (e : Extent) (place : VariablePlace) (end : ℕ) → IsOfKind e place → HasWords e → end_of (home_region place) ≤ end → end ≤ reset_vector
-    → fits (home_region place).address (length_of e) ≡ true
-fits_there (extent.Scalar w) place end h words l m = refl
-fits_there (extent.Long n) place end h words l m = absurd h
-fits_there (extent.Array n) place end h words l m =
+fits_so : (n : ℕ) → (n ≡ 0 → ⊥) → (a : ℕ) → a + 2 * n ≤ 65536 → fits a n ≡ true
+fits_so n words a l = grind (arith, nat_tests, words, l)
+
+one_word : (w : WordType) → scalar_words (word_value_type w) ≡ 1
+one_word word_type.Unsigned = refl
+one_word word_type.Int = refl
+one_word word_type.Long = refl
+
+no_long : (w : WordType) → is_long (word_value_type w) ≡ false
+no_long word_type.Unsigned = refl
+no_long word_type.Int = refl
+no_long word_type.Long = refl
+
+fits_there : (w : WordType) (e : Extent) (place : VariablePlace) (end : ℕ) → IsOfKind e place → HasWords e → end_of (home_region place) ≤ end
+    → end ≤ reset_vector → fits (home_region place).address (word_count (value_type_of w e) (length_of e)) ≡ true
+fits_there w (extent.Scalar v) (Scalar home copy) end h words l m =
+    ap (fits home) (one_word w) ∙ fits_so 1 (λ e. cc) home (omega (arith, l, m))
+fits_there w (extent.Scalar v) (Array elements n copies) end h words l m = absurd h
+fits_there w (extent.Long n) place end h words l m = absurd h
+fits_there w (extent.Array n) place end h words l m =
     let size = region_words (extent.Array n) place n h refl in
-    some n words ((home_region place).address) (omega (arith, size, l, m))
-  where
-    some : (n : ℕ) → (n ≡ 0 → ⊥) → (a : ℕ) → a + 2 * n ≤ 65536 → (nat_lt 0 n && nat_le (a + 2 * n) 65536) ≡ true
-    some n words a l = grind (arith, nat_tests, words, l)
+    fits_so n words ((home_region place).address) (omega (arith, size, l, m))
+
+-- the elements of an array are words
+kind_there : (w : WordType) (e : Extent) → is_kind (value_type_of w e) (length_of e) ≡ true
+kind_there w (extent.Scalar v) = refl
+kind_there w (extent.Long n) = refl
+kind_there w (extent.Array n) = ap not (no_long w)
 
 in_order_end : (from end : ℕ) (ps : List VariablePlace) → AreInOrder from (map home_region ps) end → from ≤ end
 in_order_end from end [] h = h
@@ -75,7 +94,11 @@ variables_are text from end (d ∷ ds) (p ∷ ps) places order low high words =
     let even = order.0.even in
     let address : IsFramWord (home_region p).address = record { low = omega (arith, start, low); high = omega (arith, behind, high); even = even } in
     All-cons IsVariable (variable_of text d p) (variables_of text ds ps)
-    (record { address = address; fits = fits_there d.extent p end places.0 (All-head (λ d. HasWords d.extent) d ds words) behind high })
+    (record {
+      address = address;
+      fits = fits_there d.word_type d.extent p end places.0 (All-head (λ d. HasWords d.extent) d ds words) behind high;
+      kind = kind_there d.word_type d.extent;
+    })
     (variables_are text (end_of (home_region p)) end ds ps places.1 order.1 (omega (arith, start, low)) high (All-tail (λ d. HasWords d.extent) d ds words))
 
 pub variables_count : (text : List ℕ) (ds : List SharedDeclaration) (ps : List VariablePlace) → ArePlacesOf ds ps → length (variables_of text ds ps) ≡ length ds
@@ -91,15 +114,15 @@ names_of_variables text [] (p ∷ ps) h = absurd h
 names_of_variables text (d ∷ ds) [] h = absurd h
 names_of_variables text (d ∷ ds) (p ∷ ps) h = ap (λ l. spelled text d.name ∷ l) (names_of_variables text ds ps h.1)
 
--- what has a place is no long
-plain_there : (e : Extent) (place : VariablePlace) → IsOfKind e place → IsPlainExtent e
-plain_there (extent.Scalar w) place h = tt
-plain_there (extent.Long n) place h = h
-plain_there (extent.Array n) place h = tt
+-- a long has the type of one
+wide_there : (w : WordType) (e : Extent) → is_long (value_type_of w e) ≡ is_wide e
+wide_there w (extent.Scalar v) = no_long w
+wide_there w (extent.Long n) = refl
+wide_there w (extent.Array n) = no_long w
 
 pub of_declarations : (text : List ℕ) (ds : List SharedDeclaration) (ps : List VariablePlace) → ArePlacesOf ds ps
     → AreVariablesOf text (variables_of text ds ps) ds
 of_declarations text [] [] h = tt
 of_declarations text [] (p ∷ ps) h = absurd h
 of_declarations text (d ∷ ds) [] h = absurd h
-of_declarations text (d ∷ ds) (p ∷ ps) h = (refl, refl, plain_there d.extent p h.0, of_declarations text ds ps h.1)
+of_declarations text (d ∷ ds) (p ∷ ps) h = (refl, refl, wide_there d.word_type d.extent, of_declarations text ds ps h.1)

@@ -2,6 +2,8 @@
 use Rattle.std.specs.Prelude.{ℕ, List, [], ◌∷◌, map, Option, Some, None, slice_get}
 use Rattle.task_ast.specs.declared.WordType.{WordType}
 use Rattle.task_ast.specs.declared.WordType.TheVariants as word_type
+use Rattle.task_ast.specs.declared.Extent.{Extent}
+use Rattle.task_ast.specs.declared.Extent.TheVariants as extent
 use Rattle.task_ast.specs.declared.SharedDeclaration.{SharedDeclaration}
 use Rattle.image_map.specs.declared.parts.RuntimeWords.{RuntimeWords}
 use Rattle.image_map.specs.declared.parts.Place.{Place}
@@ -21,17 +23,23 @@ use Rattle.memory_map.specs.declared.words.RuntimeWord.TheVariants.{CurrentTask,
 use Rattle.memory_map.specs.MemoryMap.{MemoryMap, TaskPlace, word_place}
 use Rattle.memory_map.specs.Places.{home_region}
 
--- how a type's words are read as numbers
-abbrev pub value_type_of : WordType → ValueType
-value_type_of word_type.Unsigned = value_type.Unsigned
-value_type_of word_type.Int = value_type.Int
-value_type_of word_type.Long = value_type.Unsigned
+-- how words of a type are read as numbers; which variable is a long its extent says
+abbrev pub word_value_type : WordType → ValueType
+word_value_type word_type.Unsigned = value_type.Unsigned
+word_value_type word_type.Int = value_type.Int
+word_value_type word_type.Long = value_type.Unsigned
+
+-- the type of a variable that is declared so
+abbrev pub value_type_of : WordType → Extent → ValueType
+value_type_of w (extent.Scalar v) = word_value_type w
+value_type_of w (extent.Long n) = value_type.Long
+value_type_of w (extent.Array n) = word_value_type w
 
 -- a shared variable: its name, its type, where its first word stands, and the length of an array
 abbrev pub variable_of : List ℕ → SharedDeclaration → VariablePlace → Variable
 variable_of text d place = record {
   name = spelled text d.name;
-  value_type = value_type_of d.word_type;
+  value_type = value_type_of d.word_type d.extent;
   address = (home_region place).address;
   length = length_of d.extent;
 }

@@ -33,8 +33,8 @@ fn name_at(text: &[u8], span: Span) -> Name
     }
 }
 
-fn value_type_of(word_type: WordType) -> ValueType
-    ensures { result ≡ maps.value_type_of word_type }
+fn word_value_type(word_type: WordType) -> ValueType
+    ensures { result ≡ maps.word_value_type word_type }
 {
     match word_type {
         WordType::Unsigned | WordType::Long => ValueType::Unsigned,
@@ -42,12 +42,20 @@ fn value_type_of(word_type: WordType) -> ValueType
     }
 }
 
+fn value_type_of(word_type: WordType, extent: Extent) -> ValueType
+    ensures { result ≡ maps.value_type_of word_type extent }
+{
+    match extent {
+        Extent::Scalar(_) | Extent::Array(_) => word_value_type(word_type),
+        Extent::Long(_) => ValueType::Long,
+    }
+}
+
 fn length_of(extent: Extent) -> Option<u16>
     ensures { result ≡ length_of extent }
 {
     match extent {
-        Extent::Scalar(_) => None,
-        Extent::Long(_) => Some(2),
+        Extent::Scalar(_) | Extent::Long(_) => None,
         Extent::Array(length) => Some(length),
     }
 }
@@ -68,7 +76,7 @@ fn variable_of(text: &[u8], declaration: &SharedDeclaration, place: VariablePlac
 {
     Variable {
         name: name_at(text, declaration.name),
-        value_type: value_type_of(declaration.word_type),
+        value_type: value_type_of(declaration.word_type, declaration.extent),
         address: home_of(place),
         length: length_of(declaration.extent),
     }

@@ -1,6 +1,6 @@
 -- The lines of a done and of the transition that it stands for.
 use Rattle.std.proofs.Common.{◌≡◌, ℕ, zero, suc, ◌+◌, ◌-◌, ◌^◌, ◌<◌, ◌==◌, min, refl, sym, ap, ap₂, ◌∙◌, subst, arith, if◌then◌else◌, List, [], ◌∷◌, ◌++◌}
-use Rattle.std.proofs.Common.{length, drop, append_assoc, append-nil, Option, Some, None}
+use Rattle.std.proofs.Common.{length, drop, append_assoc, append-nil, false, Option, Some}
 use Rattle.std.proofs.Math.Seq.{drop-append_seam}
 use Rattle.std.proofs.lemmas.Bool.Decides.{nat_tests}
 use Rattle.std.proofs.lemmas.Option.{slice_get-map}
@@ -9,20 +9,22 @@ use Rattle.model_runs.specs.alp_io.Report.{step_line, value_line}
 use Rattle.source_report.specs.task_ast.declared.SharedDeclaration.{SharedDeclaration}
 use Rattle.source_report.specs.task_ast.declared.Extent.{Extent}
 use Rattle.source_report.specs.task_ast.declared.Extent.TheVariants.{Scalar, Long, Array}
-use Rattle.source_report.specs.task_ast.Longs.{IsPlainExtent}
+use Rattle.model_runs.specs.image_map.declared.parts.ValueType.{ValueType}
+use Rattle.model_runs.specs.image_map.declared.parts.ValueType.TheVariants as value_type
 use Rattle.model_runs.specs.image_map.declared.parts.Variable.{Variable}
-use Rattle.model_runs.specs.image_map.MapValue.{MapValue}
-use Rattle.model_runs.specs.board_run.History.{SharedWord, array_words, variable_words, shared_words, changed_line}
+use Rattle.model_runs.specs.image_map.MapValue.{MapValue, is_long, word_count}
+use Rattle.model_runs.specs.board_run.History.{SharedNumber, array_words, scalar_number, number_of, variable_numbers, shared_numbers}
+use Rattle.model_runs.specs.board_run.History.{changed_line}
 use Rattle.model_runs.specs.board_run.History as board
 use Rattle.source_report.specs.source_values.Runs.{CheckedProgram, State, Transition, state_after}
 use Rattle.source_report.specs.SourceReport.{spelled, Committed, emitted_lines, change_line, element_lines, variable_lines, transition_lines, source_report}
 use Rattle.source_report.specs.SourceReport as source
 use Rattle.model_runs.specs.machine_effects.World.{World}
 use Rattle.model_runs.specs.crash_rules.History.{Done}
-use Rattle.model_runs.specs.Events.{counted, world_values, words_between, word_lines, change_lines, done_lines, dones_lines}
+use Rattle.model_runs.specs.Events.{counted, words_between, word_lines, change_lines, done_lines, dones_lines}
 use Rattle.model_runs.proofs.Interface.{few_words_have_lines}
-use Rattle.source_runs.specs.Naming.{length_of, AreVariablesOf, IsMapOf}
-use Rattle.source_runs.specs.Transitions.{rows_in, HasWordsOf, StandsForTransition, StandForTransitions, committed_by}
+use Rattle.source_runs.specs.Naming.{length_of, is_wide, AreVariablesOf, IsMapOf}
+use Rattle.source_runs.specs.Transitions.{words_at, rows_in, HasWordsOf, StandsForTransition, StandForTransitions, committed_by}
 use Rattle.source_runs.specs.EventLaws.{DonesAreTransitions}
 
 -- counts
@@ -40,52 +42,63 @@ counted_below (suc k) top e h =
     let ih = counted_below k top e (omega arith) in
     ap (min (counted k + 1)) (sym e) ∙ one_higher (counted k) k top ih less
 
--- one shared word
+-- one shared number
 same_test : (a b : ℕ) → (a == b) ≡ (b == a)
 same_test a b = grind (arith, nat_tests)
 
-one_line : (p : SharedWord) (before now : ℕ) → changed_line p before now ≡ change_line p.name p.index before now
+one_line : (p : SharedNumber) (before now : ℕ) → changed_line p before now ≡ change_line p.name p.index before now
 one_line p before now = ap (λ b. if b then [] else value_line p.name p.index now) (same_test now before)
+
+lone_line : (p : SharedNumber) (x y : World) → change_lines (p ∷ []) x y ≡ change_line p.name p.index (number_of x.fram p) (number_of y.fram p)
+lone_line p x y =
+    append-nil (changed_line p (number_of x.fram p) (number_of y.fram p))
+    ∙ one_line p (number_of x.fram p) (number_of y.fram p)
 
 -- the lines of an array's words
 array_lines : (name : List ℕ) (a i n : ℕ) (x y : World) → change_lines (array_words name a i n) x y
-    ≡ element_lines name i (world_values x (array_words name a i n)) (world_values y (array_words name a i n))
+    ≡ element_lines name i (words_at x a n) (words_at y a n)
 array_lines name a i zero x y = refl
 array_lines name a i (suc n) x y =
-    ap₂ (λ p q. p ++ q) (one_line (record { name = name; index = Some i; address = a }) (x.fram a) (y.fram a)) (array_lines name (a + 2) (i + 1) n x y)
+    ap₂ (λ p q. p ++ q) (one_line (record { name = name; index = Some i; address = a; is_long = false }) (x.fram a) (y.fram a))
+    (array_lines name (a + 2) (i + 1) n x y)
 
 -- the lines of a variable's words
-words_lines : (name : List ℕ) (a : ℕ) (e : Extent) (x y : World) → IsPlainExtent e → change_lines (variable_words name a (length_of e)) x y
-    ≡ variable_lines name e (world_values x (variable_words name a (length_of e))) (world_values y (variable_words name a (length_of e)))
-words_lines name a (Scalar w) x y plain =
-    append-nil (changed_line (record { name = name; index = None; address = a }) (x.fram a) (y.fram a))
-    ∙ one_line (record { name = name; index = None; address = a }) (x.fram a) (y.fram a)
-words_lines name a (Long w) x y plain = absurd plain
-words_lines name a (Array n) x y plain = array_lines name a 0 n x y
+words_lines : (name : List ℕ) (a : ℕ) (t : ValueType) (e : Extent) (x y : World) → is_long t ≡ is_wide e
+    → change_lines (variable_numbers name a t (length_of e)) x y
+    ≡ variable_lines name e (words_at x a (word_count t (length_of e))) (words_at y a (word_count t (length_of e)))
+words_lines name a t (Array n) x y is = array_lines name a 0 n x y
+words_lines name a value_type.Unsigned (Scalar w) x y is = lone_line (scalar_number name a value_type.Unsigned) x y
+words_lines name a value_type.Int (Scalar w) x y is = lone_line (scalar_number name a value_type.Int) x y
+words_lines name a value_type.Long (Scalar w) x y is = cc
+words_lines name a value_type.Unsigned (Long w) x y is = cc
+words_lines name a value_type.Int (Long w) x y is = cc
+words_lines name a value_type.Long (Long w) x y is = lone_line (scalar_number name a value_type.Long) x y
 
-lines_both : (ps qs : List SharedWord) (x y : World) → change_lines (ps ++ qs) x y ≡ change_lines ps x y ++ change_lines qs x y
+lines_both : (ps qs : List SharedNumber) (x y : World) → change_lines (ps ++ qs) x y ≡ change_lines ps x y ++ change_lines qs x y
 lines_both [] qs x y = refl
 lines_both (p ∷ ps) qs x y =
-    let one = changed_line p (x.fram p.address) (y.fram p.address) in
+    let one = changed_line p (number_of x.fram p) (number_of y.fram p) in
     ap (λ l. one ++ l) (lines_both ps qs x y) ∙ sym (append_assoc one (change_lines ps x y) (change_lines qs x y))
 
-variable_same : (text : List ℕ) (v : Variable) (d : SharedDeclaration) (x y : World) → v.name ≡ spelled text d.name → v.length ≡ length_of d.extent
-    → IsPlainExtent d.extent → change_lines (variable_words v.name v.address v.length) x y ≡ variable_lines (spelled text d.name) d.extent
-    (world_values x (variable_words v.name v.address v.length)) (world_values y (variable_words v.name v.address v.length))
-variable_same text v d x y e l plain =
-    let P : Option ℕ → Type 0 = λ o. change_lines (variable_words v.name v.address o) x y ≡ variable_lines (spelled text d.name) d.extent
-    (world_values x (variable_words v.name v.address o)) (world_values y (variable_words v.name v.address o)) in
-    let Q : List ℕ → Type 0 = λ name. change_lines (variable_words v.name v.address (length_of d.extent)) x y ≡ variable_lines name d.extent
-    (world_values x (variable_words v.name v.address (length_of d.extent))) (world_values y (variable_words v.name v.address (length_of d.extent))) in
-    subst P (sym l) (subst Q e (words_lines v.name v.address d.extent x y plain))
+module _ (text : List ℕ) (v : Variable) (d : SharedDeclaration) (x y : World) where
+  -- the lines of a variable with this name and this length
+  abbrev AreLinesOf : List ℕ → Option ℕ → Type 0
+  AreLinesOf name o = change_lines (variable_numbers v.name v.address v.value_type o) x y
+      ≡ variable_lines name d.extent (words_at x v.address (word_count v.value_type o)) (words_at y v.address (word_count v.value_type o))
+
+  variable_same : v.name ≡ spelled text d.name → v.length ≡ length_of d.extent → is_long v.value_type ≡ is_wide d.extent
+      → AreLinesOf (spelled text d.name) v.length
+  variable_same e l long =
+      subst (AreLinesOf (spelled text d.name)) (sym l)
+      (subst (λ name. AreLinesOf name (length_of d.extent)) e (words_lines v.name v.address v.value_type d.extent x y long))
 
 all_changes : (text : List ℕ) (vs : List Variable) (ds : List SharedDeclaration) (x y : World) → AreVariablesOf text vs ds
-    → change_lines (shared_words vs) x y ≡ source.change_lines text ds (rows_in x vs) (rows_in y vs)
+    → change_lines (shared_numbers vs) x y ≡ source.change_lines text ds (rows_in x vs) (rows_in y vs)
 all_changes text [] [] x y h = refl
 all_changes text [] (d ∷ ds) x y h = absurd h
 all_changes text (v ∷ vs) [] x y h = absurd h
 all_changes text (v ∷ vs) (d ∷ ds) x y h =
-    lines_both (variable_words v.name v.address v.length) (shared_words vs) x y
+    lines_both (variable_numbers v.name v.address v.value_type v.length) (shared_numbers vs) x y
     ∙ ap₂ (λ p q. p ++ q) (variable_same text v d x y h.0 h.1 h.2) (all_changes text vs ds x y h.3)
 
 module _ (text : List ℕ) (program : CheckedProgram) (m : MapValue) (of_source : IsMapOf text program m) where
@@ -111,7 +124,7 @@ module _ (text : List ℕ) (program : CheckedProgram) (m : MapValue) (of_source 
         ap₂ (λ p q. drop (length p) q) here.accepted h.behind.accepted
         ∙ drop-append_seam s.emitted t.emitted
 
-    changes_same : change_lines (shared_words m.variables) x d.world ≡ source.change_lines text program.shared t.before t.after
+    changes_same : change_lines (shared_numbers m.variables) x d.world ≡ source.change_lines text program.shared t.before t.after
     changes_same =
         all_changes text m.variables program.shared x d.world of_source.variables
         ∙ ap₂ (source.change_lines text program.shared) (here.shared ∙ sym h.before) h.behind.shared

@@ -1,17 +1,20 @@
 -- A source's transitions and the dones of a run that stand for them.
-use Rattle.std.specs.Prelude.{◌≡◌, ◌≤◌, ℕ, List, [], ◌∷◌, map, length}
+use Rattle.std.specs.Prelude.{◌≡◌, ◌≤◌, ◌+◌, ℕ, zero, suc, List, [], ◌∷◌, map, length}
 use Rattle.model_runs.specs.image_map.declared.parts.Variable.{Variable}
-use Rattle.model_runs.specs.image_map.MapValue.{MapValue}
-use Rattle.model_runs.specs.board_run.History.{variable_words}
+use Rattle.model_runs.specs.image_map.MapValue.{MapValue, word_count}
 use Rattle.source_report.specs.source_values.Runs.{State, Transition, state_after}
 use Rattle.source_report.specs.SourceReport.{Committed}
 use Rattle.model_runs.specs.machine_effects.World.{World}
 use Rattle.model_runs.specs.crash_rules.History.{Done}
-use Rattle.model_runs.specs.Events.{world_values}
+
+-- so many words of a world, from an address on
+abbrev pub words_at : World → ℕ → ℕ → List ℕ
+words_at x a zero = []
+words_at x a (suc n) = x.fram a ∷ words_at x (a + 2) n
 
 -- the words of variables in a world
 abbrev pub rows_in : World → List Variable → List (List ℕ)
-rows_in x vs = map (λ v. world_values x (variable_words v.name v.address v.length)) vs
+rows_in x vs = map (λ v. words_at x v.address (word_count v.value_type v.length)) vs
 
 -- a world has the words of a state: its current task, its shared words, and the words emitted so far
 pub record HasWordsOf (m : MapValue) (x : World) (s : State) : Type 0 where

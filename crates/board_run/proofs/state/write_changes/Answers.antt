@@ -16,22 +16,22 @@ loop-place-init g c =
       lines = start_lines _ c.args.map.now.variables c.variables-rest.result.now _ _ c.variables-rest.ensures;
     }
 
-pub returns-in_err-write_word-clause-bytes : goal.returns-in_err-write_word-clause-bytes
-returns-in_err-write_word-clause-bytes g c = progress_err _ _ _ _ _ _ _ c.from_residual.ensures.0
-    (next_lines _ _ _ _ _ (lines_of_next _ _ _ _ _ _ _ _ _ _ c.loop-place.invariant.kept c.in-Some.ensures.cut c.word-now.ensures
+pub returns-in_err-write_number-clause-bytes : goal.returns-in_err-write_number-clause-bytes
+returns-in_err-write_number-clause-bytes g c = progress_err _ _ _ _ _ _ _ c.from_residual.ensures.0
+    (next_lines _ _ _ _ _ (lines_of_next _ _ _ _ _ _ _ _ _ _ c.loop-place.invariant.kept c.in-Some.ensures.cut c.number-now.ensures
     (read_old _ _ _ _ _ _ _ _ _ c.loop-place.invariant.kept c.in-Some.ensures.cut c.index.ensures)) c.loop-place.invariant.lines)
-    c.in_err-write_word.ensures.bytes.part
+    c.in_err-write_number.ensures.bytes.part
 
 pub loop-place-preserved : goal.loop-place-preserved
 loop-place-preserved g c = record {
-  same = c.in_ok-write_word.ensures.same_sink ∙ c.loop-place.invariant.same;
-  count = omega (arith, c.in_ok-write_word.ensures.cause.later, c.loop-place.invariant.count);
+  same = c.in_ok-write_number.ensures.same_sink ∙ c.loop-place.invariant.same;
+  count = omega (arith, c.in_ok-write_number.ensures.cause.later, c.loop-place.invariant.count);
   variables = c.in-Some.ensures.next.0;
   index = c.in-Some.ensures.next.1;
-  kept = kept_next _ _ _ _ _ _ _ _ _ c.loop-place.invariant.kept c.in-Some.ensures.cut c.word-now.ensures;
+  kept = kept_next _ _ _ _ _ _ _ _ _ c.loop-place.invariant.kept c.in-Some.ensures.cut c.number-now.ensures;
   len = c.loop-place.invariant.len;
   lines = progress_step _ _ _ _ _ _ (next_lines _ _ _ _ _
-      (lines_of_next _ _ _ _ _ _ _ _ _ _ c.loop-place.invariant.kept c.in-Some.ensures.cut c.word-now.ensures
+      (lines_of_next _ _ _ _ _ _ _ _ _ _ c.loop-place.invariant.kept c.in-Some.ensures.cut c.number-now.ensures
       (read_old _ _ _ _ _ _ _ _ _ c.loop-place.invariant.kept c.in-Some.ensures.cut c.index.ensures)) c.loop-place.invariant.lines)
-      c.in_ok-write_word.ensures.bytes.whole;
+      c.in_ok-write_number.ensures.bytes.whole;
 }
