@@ -15,10 +15,7 @@ pub struct PlacedNumber<'a> {
 }
 
 /// The shared number at an index of the first variable, and behind it the variables and the index of the next one.
-pub fn cut_number(
-    variables: &[Variable],
-    i: u16,
-) -> Option<(PlacedNumber<'_>, &[Variable], u16)>
+pub fn cut_number(variables: &[Variable], i: u16) -> Option<(PlacedNumber<'_>, &[Variable], u16)>
     requires variables { All IsVariable variables.now }
     requires index { HasIndex variables.now i }
     ensures cut { MatchOption result (numbers_left variables.now i ≡ []) (λ cut.

@@ -12,7 +12,6 @@ pub use Rattle.std.proofs.lemmas.Option.{same_Some}
 pub use Rattle.std.proofs.lemmas.Result.{on_ok_weaker}
 pub use Rattle.std.specs.List.{remove, slice_index_or, AllByRecursion}
 pub use Rattle.std.specs.Option.{unwrap_or}
-
 -- words and instructions
 pub use Rattle.msp_isa.specs.Constant.{constant_value}
 pub use Rattle.msp_isa.specs.alp_words.Words.{word_sum, and_of, bit, quotient, remainder, sum_of, word_product, arithmetic_shift, biased, same, is_negative}
@@ -24,7 +23,6 @@ pub use Rattle.msp_isa.specs.declared.instructions.Instr.{Instr}
 pub use Rattle.msp_isa.specs.declared.instructions.Instr.TheVariants.{Two, One}
 pub use Rattle.msp_isa.specs.declared.instructions.TwoOp.{TwoOp}
 pub use Rattle.msp_isa.specs.declared.operands.Konst.{Konst}
-
 -- the machine and its effects
 pub use Rattle.array_versions.proofs.machine_effects.Interface.{put_other, put_same}
 pub use Rattle.array_versions.specs.fram_board.Effects.{Effect, Store, Take}
@@ -33,7 +31,6 @@ pub use Rattle.array_versions.specs.machine_effects.Machine.{IsFram, IsRam, Mach
 pub use Rattle.array_versions.specs.machine_effects.World.{put, IsPrefix}
 pub use Rattle.array_versions.specs.machine_effects.msp_cycles.Cycles.{CycleRow, cycles_of, source_cycles, to_register, to_memory, push}
 pub use Rattle.array_versions.specs.msp_step.Effect.{sum16, distance, is_met, operated, writes_destination}
-
 -- forms of instructions
 pub use Rattle.code_forms.proofs.Interface.{stands_at, stands_front, stands_back, end_of, forms_bytes-append, instructions-append, form_small, bytes_are}
 pub use Rattle.code_forms.proofs.Interface.{form_at, forms_at, forms_behind, first_forms}
@@ -43,7 +40,6 @@ pub use Rattle.code_forms.specs.Forms.{instruction_of, Push, Fram, Ram, ToFram, 
 pub use Rattle.code_forms.specs.Forms.{R7, work_number, Indexed, HasPushRoom, source_operand, source_value, source_read, SourceNeeds, board_of, Modify, sensed}
 pub use Rattle.code_forms.specs.Forms.{flags_after, form_step, FormNeeds, index_of, Sense, IsNotMov}
 pub use Rattle.code_forms.specs.Placed.{instructions, words_of as instruction_words, AreInstructions}
-
 -- word programs
 pub use Rattle.array_versions.proofs.Interface.{put_words, Leaves, leaves, plain_small, Matches, GoesWell, matches_local, start_matches, step_well, well}
 pub use Rattle.array_versions.proofs.Interface.{whole_ends_soundly, local_words, step_words as words_step, words}
@@ -75,7 +71,6 @@ pub use Rattle.array_versions.specs.declared.operations.UnaryOperation.{UnaryOpe
 pub use Rattle.array_versions.specs.declared.operations.UnaryOperation.TheVariants.{Negate, Complement}
 pub use Rattle.array_versions.specs.declared.program.ArrayPlace.{ArrayPlace}
 pub use Rattle.array_versions.specs.declared.program.ListPlace.{ListPlace}
-
 -- this room's own definitions
 pub use Rattle.codegen.specs.Code.{number_source, check_code, zero_code, fetch_code, element_code, emit_code, pair_code, entry_code, compare_form, holding}
 pub use Rattle.codegen.specs.Code.{failing, jump_over, decision, waiting_source, flushed, top_of, below_top, any_held, repeated, size, waiting_behind}
