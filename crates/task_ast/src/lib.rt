@@ -44,7 +44,7 @@ pub enum BinaryOperator {
 }
 
 /// An operator that evaluates both sides as it stands in the text, with its place.
-#[derive(Clone, Copy, Debug, PartialEq, Eq)]
+#[derive(Clone, Copy)]
 pub struct PlacedOperator {
     pub operator: BinaryOperator,
     pub span: Span,
