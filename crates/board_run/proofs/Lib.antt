@@ -4,3 +4,4 @@ pub mod Charges
 pub mod Placed
 pub mod Changes
 pub mod Transitions
+pub mod Interface

@@ -35,8 +35,8 @@ begins (v ∷ vs) h = some_numbers v (h 0 v (omega arith))
 rest_are : (v : Variable) (vs : List Variable) → All IsVariable (v ∷ vs) → All IsVariable vs
 rest_are v vs h = λ i d l. h (suc i) d (omega arith)
 
--- the high word of a long that fits
-high_fits : (t : ValueType) (a : ℕ) → IsFramWord a → fits a (scalar_words t) ≡ true → is_long t ≡ true → IsFramWord (a + 2)
+-- the high word of a long that fits stands in the FRAM
+pub high_fits : (t : ValueType) (a : ℕ) → IsFramWord a → fits a (scalar_words t) ≡ true → is_long t ≡ true → IsFramWord (a + 2)
 high_fits value_type.Unsigned a h f l = cc
 high_fits value_type.Int a h f l = cc
 high_fits value_type.Long a h f l =

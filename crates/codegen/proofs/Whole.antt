@@ -137,7 +137,8 @@ module _ (z : Setting) where
         let mid = pc + forms_bytes front in
         let most = owed os + (8 + (if is_true v then ch t else cf t)) in
         by_form (λ p. Has z R4 p t v) front (zero_test z) (is_true v) 1 most pc condition.NotEqual condition.Equal t u
-        (omega (arith, owed_kept (below_top os), load_owed os)) (popped held r.fit.2.0) (popped failed r.fit.2.1) h fork
+        (omega (arith, owed_kept (below_top os), load_owed os)) (popped held r.fit.2.0)
+        (popped failed r.fit.2.1) h fork
         (λ s. gathered z (top_to_four os) ks pc s (λ s. top_to_four_part z os pc w v us u e s i)) (λ q s k. holds_part z mid v t q words.0 s k)
 
     by_two : (os : List Waiting) (c : Comparison) (pc : ℕ) (w : WordState) (u : Core) (vs : List ℕ) → Stands z.code pc (compares_code os c when d)

@@ -5,7 +5,6 @@ use Rattle.std.proofs.lemmas.List.{length-replicate}
 use Rattle.std.specs.Prelude.{slice_get, slice_index, slice_index_or}
 use Rattle.std.proofs.lemmas.Bool.{and_parts}
 use Rattle.task_ast.specs.declared.WordType.{WordType}
-use Rattle.task_ast.specs.declared.WordType.TheVariants as word_type
 use Rattle.task_ast.specs.declared.SharedDeclaration.{SharedDeclaration}
 use Rattle.task_ast.specs.declared.Extent.{Extent}
 use Rattle.task_ast.specs.declared.Extent.TheVariants as extent
@@ -14,8 +13,9 @@ use Rattle.linked_code.specs.machine_effects.World.{World}
 use Rattle.source_maps.specs.source_runs.Naming.{length_of}
 use Rattle.source_maps.specs.source_runs.Transitions.{words_at, rows_in}
 use Rattle.compiled_runs.specs.compiled_model.View.{are_words, are_rows}
-use Rattle.compiled_runs.specs.image_map.MapValue.{scalar_words, word_count}
-use Rattle.source_maps.specs.Maps.{word_value_type, value_type_of, variables_of}
+use Rattle.compiled_runs.specs.image_map.MapValue.{word_count}
+use Rattle.source_maps.proofs.Interface.{one_word}
+use Rattle.source_maps.specs.Maps.{value_type_of, variables_of}
 use Rattle.source_maps.specs.Placing.{IsOfKind}
 use Rattle.memory_map.specs.declared.place.VariablePlace.{VariablePlace}
 use Rattle.memory_map.specs.declared.place.VariablePlace.TheVariants.{Scalar, Array}
@@ -40,12 +40,6 @@ words_row x a (suc n) (w ∷ row) e h =
 
     next : (k a : ℕ) → 2 * k + (a + 2) ≡ 2 * suc k + a
     next k a = omega arith
-
--- a declared scalar has one word
-one_word : (w : WordType) → scalar_words (word_value_type w) ≡ 1
-one_word word_type.Unsigned = refl
-one_word word_type.Int = refl
-one_word word_type.Long = refl
 
 one_row : (x : World) (w : WordType) (e : Extent) (place : VariablePlace) (row : List ℕ) → IsOfKind e place → length row ≡ length (initial_words e)
     → RowStands x row place → words_at x (home_region place).address (word_count (value_type_of w e) (length_of e)) ≡ row

@@ -4,13 +4,13 @@ use Rattle.std.proofs.Common.{if◌then◌else◌, All, List, [], ◌∷◌, ◌
 use Rattle.std.proofs.lemmas.Bool.Decides.{nat_tests}
 use Rattle.std.proofs.lemmas.Bool.{and_parts}
 use Rattle.crash_rules.specs.image_map.declared.parts.ValueType.{ValueType}
-use Rattle.crash_rules.specs.image_map.declared.parts.ValueType.TheVariants as value_type
 use Rattle.crash_rules.specs.image_map.declared.parts.Variable.{Variable}
-use Rattle.crash_rules.specs.image_map.MapValue.{IsFramWord, IsVariable, fits, is_long, scalar_words, word_count}
+use Rattle.crash_rules.specs.image_map.MapValue.{IsFramWord, IsVariable, fits, word_count}
 use Rattle.crash_rules.specs.image_text.ImageValue.{place_of}
 use Rattle.crash_rules.specs.fram_board.Bus.{is_fram}
 use Rattle.crash_rules.specs.machine_effects.World.{World}
 use Rattle.crash_rules.specs.machine_effects.Machine.{fram_of}
+use Rattle.board_run.proofs.Interface.{high_fits}
 use Rattle.board_run.specs.History.{SharedNumber, array_words, variable_numbers, shared_numbers, word_in, number_at, number_of, values_in, changed_line}
 use Rattle.board_run.specs.History.{changed_lines}
 use Rattle.board_run.specs.State.{StandsInFram}
@@ -53,15 +53,8 @@ array_in name a i (suc n) l e h =
 below_end : (a n : ℕ) → nat_le (a + 2 * n) 65536 ≡ true → a + 2 * n ≤ 65536
 below_end a n h = grind (arith, nat_tests)
 
-high_in : (t : ValueType) (a : ℕ) → IsFramWord a → fits a (scalar_words t) ≡ true → is_long t ≡ true → IsFramWord (a + 2)
-high_in value_type.Unsigned a h f i = cc
-high_in value_type.Int a h f i = cc
-high_in value_type.Long a h f i =
-    let top : a + 4 ≤ 65536 = below_end a 2 (and_parts true (nat_le (a + 4) 65536) f).1 in
-    record { low = omega (arith, h.low); high = omega arith; even = omega (arith, h.even) }
-
 variable_in : (name : List ℕ) (a : ℕ) (t : ValueType) (o : Option ℕ) → IsFramWord a → fits a (word_count t o) ≡ true → AreInFram (variable_numbers name a t o)
-variable_in name a t None h f = ((h, high_in t a h f), tt)
+variable_in name a t None h f = ((h, high_fits t a h f), tt)
 variable_in name a t (Some n) h f = array_in name a 0 n h.low h.even (below_end a n (and_parts (nat_lt 0 n) (nat_le (a + 2 * n) 65536) f).1)
 
 pub shared_in : (vs : List Variable) → All IsVariable vs → AreInFram (shared_numbers vs)

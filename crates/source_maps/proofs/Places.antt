@@ -49,7 +49,8 @@ region_words e (Array elements m copies) n h is = subst (λ x. IsOfKind x (Array
 fits_so : (n : ℕ) → (n ≡ 0 → ⊥) → (a : ℕ) → a + 2 * n ≤ 65536 → fits a n ≡ true
 fits_so n words a l = grind (arith, nat_tests, words, l)
 
-one_word : (w : WordType) → scalar_words (word_value_type w) ≡ 1
+-- a declared scalar has one word
+pub one_word : (w : WordType) → scalar_words (word_value_type w) ≡ 1
 one_word word_type.Unsigned = refl
 one_word word_type.Int = refl
 one_word word_type.Long = refl

@@ -10,7 +10,8 @@ returns-in-None-clause-next c = behind_scalar c.args.variables.now c.v-item.resu
 
 pub returns-then-i-n-clause-cut : goal.returns-then-i-n-clause-cut
 returns-then-i-n-clause-cut c =
-    let P : List ℕ → List SharedNumber = λ name. record { name = name; index = Some c.args.i; address = c.v-item.result.address + 2 * c.args.i; is_long = false }
+    let P : List ℕ → List SharedNumber = λ name.
+    record { name = name; index = Some c.args.i; address = c.v-item.result.address + 2 * c.args.i; is_long = false }
     ∷ numbers_left c.args.variables.now (c.args.i + 1) in
     cut_in_array c.args.variables.now c.v-item.result c.in-Some.n c.args.i c.in-len1-up.len_at_least c.v-item.is c.in-Some.is c.if-i-n.true
     ∙ ap P (sym c.as_bytes-name.ensures.value)
