@@ -15,6 +15,7 @@ mod Middles
 mod Updates
 mod Access
 mod ListParts
+mod LongEmitted
 mod VersionParts
 mod UpdateBytes
 mod Sides
@@ -25,6 +26,8 @@ mod Quotients
 mod Emitted
 mod UpdateEmitted
 mod Prefixes
+mod CodeTakes
+mod LongLengths
 mod Lengths
 mod Whole
 pub mod Interface
