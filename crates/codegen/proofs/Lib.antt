@@ -16,6 +16,7 @@ mod Updates
 mod Access
 mod ListParts
 mod LongEmitted
+mod LongWords
 mod VersionParts
 mod UpdateBytes
 mod Sides
