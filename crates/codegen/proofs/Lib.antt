@@ -17,6 +17,7 @@ mod Access
 mod ListParts
 mod LongEmitted
 mod LongWords
+mod LongSides
 mod VersionParts
 mod UpdateBytes
 mod Sides
