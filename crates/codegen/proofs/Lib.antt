@@ -18,6 +18,7 @@ mod ListParts
 mod LongEmitted
 mod LongWords
 mod LongSides
+mod LongSteps
 mod VersionParts
 mod UpdateBytes
 mod Sides
