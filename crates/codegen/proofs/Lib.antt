@@ -19,6 +19,7 @@ mod LongEmitted
 mod LongWords
 mod LongSides
 mod LongSteps
+mod LongShifts
 mod VersionParts
 mod UpdateBytes
 mod Sides
