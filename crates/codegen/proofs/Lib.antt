@@ -20,6 +20,7 @@ mod LongWords
 mod LongSides
 mod LongSteps
 mod LongShifts
+mod LongResults
 mod VersionParts
 mod UpdateBytes
 mod Sides
