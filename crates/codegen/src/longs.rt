@@ -4,6 +4,7 @@ ghost use Rattle.std.specs.Prelude.{◌≡◌, ◌++◌, ◌∷◌, [], ◌≤�
 ghost use Rattle.code_forms.specs.Forms as form;
 ghost use Rattle.code_forms.specs.Forms.{source_operand};
 ghost use Rattle.code_forms.specs.Placed.{instructions};
+ghost use Rattle.array_versions.specs.Form.{StepOfWords};
 ghost use Rattle.array_versions.specs.Program as value;
 ghost use Rattle.array_versions.specs.declared.operations.LongOperation.TheVariants as long_op;
 ghost use Rattle.codegen.specs.Code as made;
@@ -508,6 +509,7 @@ pub fn emit_long(
     ensures code { OnOk result (code.new.items
         ≡ code.old.items ++ instructions (step_code [] waiting.old.items (value.long operation))) }
     ensures waiting { OnOk result (waiting.new.items ≡ waiting_behind waiting.old.items (value.long operation)) }
+    ensures of_words { OnOk result (StepOfWords (value.long operation)) }
 {
     match operation {
         LongOperation::Calculate(operation) => emit_calculation(operation, waiting, code),
