@@ -166,10 +166,7 @@ fn emit_long_sides(
 }
 
 // The same, what waits being pushed where the low word of the left one would be lost.
-fn emit_longs(
-    waiting: &mut Vec<Waiting>,
-    code: &mut Vec<Instr>,
-) -> Result<RightLong, AllocError>
+fn emit_longs(waiting: &mut Vec<Waiting>, code: &mut Vec<Instr>) -> Result<RightLong, AllocError>
     ensures high { IfOk result (λ right. let os = waiting.old.items in
         right.high ≡ source_operand (high_source (parting (longs_lost os) os))) }
     ensures low { IfOk result (λ right. let os = waiting.old.items in
