@@ -185,14 +185,14 @@ module _ (p : Places) (words : PlacesOfWords p) where
     lowering_sound room beneath (t.long_number w) f n =
         let low : w % 65536 < 65536 = omega arith in sound_word (one (number (w % 65536))) (sound_one (number (w % 65536)) (tt, tt, low))
     lowering_sound room beneath (t.name x) f n =
-        sound_word (one (read_step p x.variable)) (sound_one (read_step p x.variable) (read_sound x.variable n))
+        sound_word (one (read_step p x.variable)) (sound_one (read_step p x.variable) (read_sound x.variable n.0))
     lowering_sound room beneath (t.element x index) f n =
         sound_last (lowered_expression p index) (element_step p x.variable) (lowering_sound room beneath index f n.1).0 (element_sound x.variable)
     lowering_sound room beneath t.sense f n = sound_word (one sense) (sound_one sense (tt, tt, tt))
-    lowering_sound room beneath (t.unary op e) f n = sound_unary op (lowering p e) (lowering_sound room beneath e f n)
+    lowering_sound room beneath (t.unary op e) f n = sound_unary op (lowering p e) (lowering_sound room (beneath + 2) e f n)
     lowering_sound room beneath (t.binary op a b) f n =
         sound_binary (binary_meaning op.operator (joined_type (type_of a) (type_of b))) (joined (lowered_expression p a) (lowered_expression p b))
-        (sound_joined (lowered_expression p a) (lowered_expression p b) (lowering_sound room beneath a f.0 n.0).0 (lowering_sound room _ b f.1 n.1).0)
+        (sound_joined (lowered_expression p a) (lowered_expression p b) (lowering_sound room beneath a f.0 n.0).0 (lowering_sound room (beneath + 2) b f.1 n.1).0)
     lowering_sound room beneath (t.shift op e count) f n =
         sound_last (lowered_expression p e) (shift (shift_operation op (type_of e)) count.value) (lowering_sound room beneath e f.0 n).0 (tt, tt, f.1)
     lowering_sound room beneath (t.short_circuit op a b) f n =
@@ -236,7 +236,7 @@ module _ (p : Places) (words : PlacesOfWords p) where
         → ExpressionFits room 0 (t.binary op a b) → ExpressionUses shared (t.binary op a b) → Sound (sides_set p x op a b o)
     sides_set_sound room x op a b None w f n = setting_sound room x (t.binary op a b) w f n
     sides_set_sound room x op a b (Some o) w f n =
-        sound_behind (lowered_expression p b) (update_step p o x) (expression_sound room 1 b f.1 n.1) (update_sound o x (write_sound x w))
+        sound_behind (lowered_expression p b) (update_step p o x) (expression_sound room 2 b f.1 n.1) (update_sound o x (write_sound x w))
 
     -- the first clause makes it a proof by cases
     assignment_sound : (room : ℕ) (x : Variable) (e : CheckedExpression) → IsWordName shared x → ExpressionFits room 0 e → ExpressionUses shared e
@@ -260,7 +260,7 @@ module _ (p : Places) (words : PlacesOfWords p) where
         → Sound (element_sides_set p x index op a b o)
     element_sides_sound room x index op a b None f g m n = element_setting_sound room x index (t.binary op a b) f g m n
     element_sides_sound room x index op a b (Some o) f g m n =
-        index_and_value_sound index b (update_element_step p o x) (expression_sound room 0 index f m) (expression_sound room 2 b g.1 n.1)
+        index_and_value_sound index b (update_element_step p o x) (expression_sound room 0 index f m) (expression_sound room 3 b g.1 n.1)
         (update_element_sound o x)
 
     -- the first clause makes it a proof by cases
@@ -289,7 +289,7 @@ module _ (p : Places) (words : PlacesOfWords p) where
     mutual
       statement_sound : (room : ℕ) (s : CheckedStatement) → StatementFits room s → StatementUses shared s → GoodStatement s → Sound (lowered_statement p s)
       statement_sound room (t.declare of x None) f n g = (tt, tt, tt)
-      statement_sound room (t.declare of x (Some e)) f n g = assignment_sound room x.variable e (local_word shared x.variable n.0) f n.1
+      statement_sound room (t.declare of x (Some e)) f n g = assignment_sound room x.variable e (local_word shared x.variable n.0) f.1 n.1
       statement_sound room (t.assign x e) f n g = assignment_sound room x.variable e n.0 f n.1
       statement_sound room (t.store x index e) f n g = element_assignment_sound room x.variable index e f.0 f.1 n.1 n.2
       statement_sound room (t.choose choice) f n g = choice_sound room choice f n g

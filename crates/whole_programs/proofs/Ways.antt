@@ -87,29 +87,32 @@ ReadsAssigned a (t.binary op b c) = ReadsAssigned a b × ReadsAssigned a c
 ReadsAssigned a (t.shift op e count) = ReadsAssigned a e
 ReadsAssigned a (t.short_circuit op b c) = ReadsAssigned a b × ReadsAssigned a c
 
--- an expression leaves a word
+-- an expression leaves a word, or two
+two_fit : (room d : ℕ) (e : CheckedExpression) → ExpressionFits room d e → d + 2 ≤ room
+two_fit room d (t.number w) h = h.0
+two_fit room d (t.long_number w) h = h.0
+two_fit room d (t.name x) h = h
+two_fit room d (t.element x index) h = two_fit room d index h
+two_fit room d t.sense h = h
+two_fit room d (t.unary op e) h = let more = two_fit room (d + 2) e h in omega (arith, more)
+two_fit room d (t.binary op a b) h = two_fit room d a h.0
+two_fit room d (t.shift op e count) h = two_fit room d e h.0
+two_fit room d (t.short_circuit op a b) h = two_fit room d a h.0
+
 some_room : (room d : ℕ) (e : CheckedExpression) → ExpressionFits room d e → d < room
-some_room room d (t.number w) h = h.0
-some_room room d (t.long_number w) h = h
-some_room room d (t.name x) h = h
-some_room room d (t.element x index) h = some_room room d index h
-some_room room d t.sense h = h
-some_room room d (t.unary op e) h = some_room room d e h
-some_room room d (t.binary op a b) h = some_room room d a h.0
-some_room room d (t.shift op e count) h = some_room room d e h.0
-some_room room d (t.short_circuit op a b) h = some_room room d a h.0
+some_room room d e h = let two = two_fit room d e h in omega (arith, two)
 
 -- with fewer words beneath
-fits_above : (room d : ℕ) (e : CheckedExpression) → ExpressionFits room (suc d) e → ExpressionFits room d e
-fits_above room d (t.number w) h = (omega (arith, h.0), h.1)
-fits_above room d (t.long_number w) h = omega arith
-fits_above room d (t.name x) h = omega arith
-fits_above room d (t.element x index) h = fits_above room d index h
-fits_above room d t.sense h = omega arith
-fits_above room d (t.unary op e) h = fits_above room d e h
-fits_above room d (t.binary op a b) h = (fits_above room d a h.0, fits_above room (suc d) b h.1)
-fits_above room d (t.shift op e count) h = (fits_above room d e h.0, h.1)
-fits_above room d (t.short_circuit op a b) h = (fits_above room d a h.0, fits_above room d b h.1)
+fits_above : (room d c : ℕ) (e : CheckedExpression) → d ≤ c → ExpressionFits room c e → ExpressionFits room d e
+fits_above room d c (t.number w) l h = let within = h.0 in (omega (arith, within, l), h.1)
+fits_above room d c (t.long_number w) l h = let within = h.0 in (omega (arith, within, l), h.1)
+fits_above room d c (t.name x) l h = omega (arith, h, l)
+fits_above room d c (t.element x index) l h = fits_above room d c index l h
+fits_above room d c t.sense l h = omega (arith, h, l)
+fits_above room d c (t.unary op e) l h = fits_above room (d + 2) (c + 2) e (omega (arith, l)) h
+fits_above room d c (t.binary op a b) l h = (fits_above room d c a l h.0, fits_above room (d + 2) (c + 2) b (omega (arith, l)) h.1)
+fits_above room d c (t.shift op e count) l h = (fits_above room d c e l h.0, h.1)
+fits_above room d c (t.short_circuit op a b) l h = (fits_above room d c a l h.0, fits_above room d c b l h.1)
 
 module _ (room : ℕ) (p : Places) where
   read_way : (d : ℕ) (a : ℕ → Bool) (x : Variable) (next : Place → Type 0) → d < room → ReadOf a x → next (at (suc d) a)
@@ -200,22 +203,24 @@ module _ (room : ℕ) (p : Places) where
   sides_way d a OneHolds b c h k held failed x y = h held (EachTestWay room c held failed) x (k held failed x y)
 
   lowering_way : (d : ℕ) (a : ℕ → Bool) (e : CheckedExpression) → ExpressionFits room d e → ReadsAssigned a e → HasWays d a (lowering p e)
-  lowering_way d a (t.number w) f r = by_word d a _ f.0 (λ next x. pushed d a next f.0 x)
-  lowering_way d a (t.long_number w) f r = by_word d a _ f (λ next x. pushed d a next f x)
-  lowering_way d a (t.name x) f r = by_word d a _ f (λ next y. read_way d a x.variable next f r y)
+  lowering_way d a (t.number w) f r = let l = some_room room d (t.number w) f in by_word d a _ l (λ next x. pushed d a next l x)
+  lowering_way d a (t.long_number w) f r = let l = some_room room d (t.long_number w) f in by_word d a _ l (λ next x. pushed d a next l x)
+  lowering_way d a (t.name x) f r = let l = some_room room d (t.name x) f in by_word d a _ l (λ next y. read_way d a x.variable next l r y)
   lowering_way d a (t.element x index) f r =
       let few = some_room room d index f in
       by_word d a _ few
       (behind_way d a (suc d) (suc d) (lowered_expression p index) (element_step p x.variable) (lowering_way d a index f r).word
       (λ next y. element_way d a x.variable next few y))
-  lowering_way d a t.sense f r = by_word d a _ f (λ next x. pushed d a next f x)
-  lowering_way d a (t.unary op e) f r = unary_way d a op (lowering p e) (some_room room d e f) (lowering_way d a e f r)
+  lowering_way d a t.sense f r = let l = some_room room d t.sense f in by_word d a _ l (λ next x. pushed d a next l x)
+  lowering_way d a (t.unary op e) f r =
+      let inner = fits_above room d (d + 2) e (omega arith) f in unary_way d a op (lowering p e) (some_room room d e inner) (lowering_way d a e inner r)
   lowering_way d a (t.binary op b c) f r =
       let first = lowered_expression p b in
       let second = lowered_expression p c in
       binary_way d a (binary_meaning op.operator (joined_type (type_of b) (type_of c))) (joined first second) (some_room room d b f.0)
       (λ next x. joined_way room first second next (at d a)
-      ((lowering_way d a b f.0 r.0).word (EachWay room second next) ((lowering_way (suc d) a c f.1 r.1).word next x)))
+      ((lowering_way d a b f.0 r.0).word (EachWay room second next)
+      ((lowering_way (suc d) a c (fits_above room (suc d) (d + 2) c (omega arith) f.1) r.1).word next x)))
   lowering_way d a (t.shift op e count) f r =
       let few = some_room room d e f.0 in
       by_word d a _ few
@@ -273,7 +278,7 @@ reads_assigned : (shared : List SharedDeclaration) (u a : ℕ → Bool) (e : Che
     → ReadsAssigned a e
 reads_assigned shared u a (t.number w) c n s = tt
 reads_assigned shared u a (t.long_number w) c n s = tt
-reads_assigned shared u a (t.name x) c n s = by_variable x.variable n s.0
+reads_assigned shared u a (t.name x) c n s = by_variable x.variable n.0 s.0
   where
     by_variable : (v : Variable) → IsWordName shared v → IsAssigned u v → ReadOf a v
     by_variable (Shared v) n s = tt
@@ -366,7 +371,7 @@ module _ (room : ℕ) (p : Places) (shared : List SharedDeclaration) (even : p.m
       let update = is_update x.variable op.operator b o is in
       let own : ReadOf a x.variable = subst (ReadOf a) update.same (subst (ReadsAssigned a) update.is r.0) in
       joined_way room (lowered_expression p e) (one (update_step p o x.variable)) next (at 0 a)
-      (expression_way room p 0 a e _ (fits_above room 0 e f.1) r.1
+      (expression_way room p 0 a e _ (fits_above room 0 2 e (omega arith) f.1) r.1
       (update_way a o x.variable next own (write_behind u a x (t.binary op b e) next c h)))
 
   -- the first clause makes it a proof by cases
@@ -407,7 +412,7 @@ module _ (room : ℕ) (p : Places) (shared : List SharedDeclaration) (even : p.m
       → EachWay room (element_sides_set p x index op b e o) next (at 0 a)
   element_sides_way a x index op b e None next f g q r h = index_and_value_way a index (t.binary op b e) (store_step p x) next f g q r h
   element_sides_way a x index op b e (Some o) next f g q r h =
-      index_and_value_way a index e (update_element_step p o x) next f (fits_above room 1 e g.1) q r.1 h
+      index_and_value_way a index e (update_element_step p o x) next f (fits_above room 1 3 e (omega arith) g.1) q r.1 h
 
   -- the first clause makes it a proof by cases
   element_assignment_way : (a : ℕ → Bool) (x : Variable) (index e : CheckedExpression) (next : Place → Type 0) → ExpressionFits room 0 index
@@ -483,7 +488,7 @@ module _ (room : ℕ) (p : Places) (shared : List SharedDeclaration) (even : p.m
     statement_way (t.declare of x None) u a next f n c h = h.on (unset x ∷ []) (path.declare_unset of x) a (covers_forgotten u a x c)
     statement_way (t.declare of x (Some e)) u a next f n c h =
         let q = path.declare_set of x e (names_read e) (is_path e) in
-        assigned_way u a x e next f n.1 c (h.safe (names_read e ++ write x ∷ []) goes_on q) (h.on (names_read e ++ write x ∷ []) q)
+        assigned_way u a x e next f.1 n.1 c (h.safe (names_read e ++ write x ∷ []) goes_on q) (h.on (names_read e ++ write x ∷ []) q)
     statement_way (t.assign x e) u a next f n c h =
         let q = path.assign x e (names_read e) (is_path e) in
         assigned_way u a x e next f n.1 c (h.safe (names_read e ++ write x ∷ []) goes_on q) (h.on (names_read e ++ write x ∷ []) q)

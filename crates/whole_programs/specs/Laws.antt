@@ -1,7 +1,6 @@
 -- What holds of the word programs of accepted sources.
 use Rattle.std.specs.Prelude.{◌≡◌, ◌≤◌, ℕ, List, All, Some, slice_get, length}
 use Rattle.lower.specs.task_ast.Tree.{Program, Task}
-use Rattle.lower.specs.task_ast.Longs.{IsPlain}
 use Rattle.lower.specs.task_ast.declared.names.VariableName.{VariableName}
 use Rattle.lower.specs.task_ast.declared.names.TaskName.{TaskName}
 use Rattle.lower.specs.cost_bound.declared.allowance.Allow.{Allow}
@@ -14,10 +13,9 @@ use Rattle.privatise.specs.Layouts.{IsLayout}
 use Rattle.lower.specs.array_versions.Form.{IsWhole, OfWords}
 use Rattle.lower.specs.Lowered.{lowered_task, lowered}
 
--- an accepted text without longs, with a plan and a layout of its source: what is compiled
+-- an accepted text, with a plan and a layout of its source
 pub record IsLaidOutText (text : List ℕ) (program : Program VariableName TaskName) (allow : Allow) (plans : List TaskPlanValue) (l : MemoryMap) : Type 0 where
   pub accepted : IsAcceptedText text program allow
-  pub plain : IsPlain program
   pub plan : IsPlan program plans
   pub layout : IsLayout program allow plans l
 
