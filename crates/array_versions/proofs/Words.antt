@@ -101,7 +101,7 @@ long_small ws i h = omega (arith, word_small ws i h, word_small ws (i + 1) h)
 
 -- and such a number is two words
 pub stacked_words : (n : ℕ) → n < 0x100000000 → AreWords (stacked n)
-stacked_words n h = (omega arith, omega arith, tt)
+stacked_words n h = (omega arith, (omega arith, tt))
 
 pub plain_long_small : (op : PlainOperation) (a b : ℕ) → a < 0x100000000 → b < 0x100000000 → plain_long op a b < 0x100000000
 plain_long_small Add a b h k = omega arith
@@ -140,7 +140,7 @@ long_words with_longs.Below ws h = (mask_small (nat_lt (long_at ws 2) (long_at w
 long_words with_longs.Above ws h = (mask_small (nat_lt (long_at ws 0) (long_at ws 2)), tt)
 long_words (with_longs.ShiftLeft k) ws h = stacked_words _ (left_small (long_at ws 0) k)
 long_words (with_longs.ShiftRight k) ws h = stacked_words _ (right_small (long_at ws 0) k (long_small ws 0 h))
-long_words with_longs.Widen ws h = (sign_small (nat_lt (slice_index ws 0) 32768), word_small ws 0 h, tt)
+long_words with_longs.Widen ws h = (sign_small (nat_lt (slice_index ws 0) 32768), (word_small ws 0 h, tt))
 long_words with_longs.LowWord ws h = (word_small ws 1 h, tt)
 long_words with_longs.HighWord ws h = (word_small ws 0 h, tt)
 

@@ -58,7 +58,7 @@ shift_words SignedRight k = if nat_lt k 8 then k else 2 + (k - 8)
 abbrev pub long_cycles : LongOperation → ℕ
 long_cycles (with_longs.Calculate op) = 16
 long_cycles with_longs.Below = 14
-long_cycles with_longs.Above = 14
+long_cycles with_longs.Above = 16
 long_cycles (with_longs.ShiftLeft k) = 32
 long_cycles (with_longs.ShiftRight k) = 32
 long_cycles with_longs.Widen = 12
@@ -69,7 +69,7 @@ long_cycles with_longs.HighWord = 7
 abbrev pub long_words : LongOperation → ℕ
 long_words (with_longs.Calculate op) = 8
 long_words with_longs.Below = 8
-long_words with_longs.Above = 8
+long_words with_longs.Above = 10
 long_words (with_longs.ShiftLeft k) = 26
 long_words (with_longs.ShiftRight k) = 26
 long_words with_longs.Widen = 7
