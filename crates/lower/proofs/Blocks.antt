@@ -21,7 +21,7 @@ use Rattle.task_ast.specs.declared.names.VariableName.{VariableName}
 use Rattle.path_runs.proofs.Interface.{runs_go_on_along_paths}
 use Rattle.array_versions.specs.declared.operations.PlainOperation.{PlainOperation}
 use Rattle.array_versions.specs.Operations.{plain_word}
-use Rattle.array_versions.specs.Program.{Program, emit_word, versioned_write, versioned_update, choose, repeat, nothing, joined}
+use Rattle.array_versions.specs.Program.{Program, keep, emit_word, versioned_write, versioned_update, choose, repeat, nothing, joined}
 use Rattle.array_versions.specs.Behaviour as words
 use Rattle.array_versions.specs.Behaviour.{WordState, Behaviour, then_on}
 use Rattle.array_versions.specs.Behaviour.{local_updated, is_place, at_place, stored, with_local, word_emitted, way_by_top, tested}
@@ -35,12 +35,12 @@ use Rattle.lower.specs.Lowered.{lowered_statement, lowered_choice, lowered_block
 use Rattle.lower.specs.Spots.{listed_of}
 use Rattle.lower.specs.Agreement.{IsTarget, IsWrittenArray, IsLocal, ExpressionFits, StatementFits, ChoiceFits, BlockFits, StandsFor, at_variable}
 use Rattle.lower.specs.Agreement.{at_emit_count, in_buffer, valued, truth_of, AgreesWithValue, BlocksAgree}
-use Rattle.lower.proofs.Addresses.{fram_place, placed, spot_place}
+use Rattle.lower.proofs.Addresses.{fram_place, placed, spot_place, first_address}
 use Rattle.lower.proofs.Updates.{is_update, update_goes_on, is_element_update, stored_value, element_update_goes_on}
 use Rattle.lower.proofs.Values.{small_modulo, holds_bit, truth_pushed, fits_word, lowering_agrees, expressions_agree}
 use Rattle.lower.proofs.Emitted.{EmitsAtMost, statement_emitted, block_emitted}
 use Rattle.lower.proofs.Stored.{same_variables, same_list, same_emits, spot_list, spot_emits, scalar_set, local_holds, after_emit, emit_spots}
-use Rattle.lower.proofs.Stored.{emit_list, emitted_emits, few_entries}
+use Rattle.lower.proofs.Stored.{first_held, emit_list, emitted_emits, few_entries}
 use Rattle.lower.proofs.Neighbours.{runs_are_few}
 use Rattle.lower.proofs.Transitions.{transition_behaves}
 use Rattle.lower.proofs.Ends.{Scene, Does, does_then, does_alone, does_value}
@@ -48,11 +48,40 @@ use Rattle.lower.proofs.Elements.{Begins, few_listed, list_fits, few_emitted, st
 use Rattle.memory_map.specs.MemoryMap.{MemoryMap, TaskPlace, word_place}
 use Rattle.memory_map.specs.declared.words.RuntimeWord.TheVariants.{ListLength, EmitCount, Version}
 use Rattle.memory_map.specs.declared.place.VariablePlace.{VariablePlace}
-use Rattle.memory_map.proofs.Interface.{word_even}
-use Rattle.memory_map.specs.Spots.{address_of, Element, scalar}
+use Rattle.memory_map.proofs.Interface.{word_even, first_word, privates_few}
+use Rattle.memory_map.specs.Spots.{address_of, scalar_address, IsScalarWord, Element, scalar}
 
 module _ (z : Scene) where
   -- ---- assignments
+
+  -- a word of a shared scalar is set
+  word_kept_does : (i j a : ℕ) (m : Attempt) (listed : List Element) (w : WordState) (n : ℕ) (count most : ℕ → ℕ) (v : ℕ) (left : List ℕ)
+      → a ≡ scalar_address z.p i j → IsScalarWord z.p i j → z.written i ≡ true
+      → Begins z m listed w n count most
+      → Does z w.fram most w.stack (behaviour (one (keep a)) (valued w (v, left))) (goes_on (source.assigned (record m { left = left }) (Shared i) j v))
+  word_kept_does i j a m listed w n count most v left e is ok h =
+      let p = z.p in
+      let f = w.fram in
+      let at = scalar_address p i j in
+      let u : WordState = record w { readings = left } in
+      let o : Outcome = goes_on (source.assigned (record m { left = left }) (Shared i) j v) in
+      let Kept : ℕ → Type 0 = λ b. Does z f most w.stack (behaviour (one (keep b)) (valued w (v, left))) o in
+      let P : Behaviour → Type 0 = λ b. Does z f most w.stack (then_on b (behaviour nothing)) o in
+      let fits = list_fits z m listed w n count most h in
+      subst Kept (sym e)
+      (subst P (sym (placed at (words.goes_on (Store at v ∷ []) (stored at v u)) (spot_place p z.room (scalar i j) z.apart z.even is))) (record {
+        stores = (at_variable i j is ok refl, tt);
+        stack_kept = refl;
+        listed = listed;
+        stands = record {
+          variables = scalar_set p z.room i j v m.variables f w.locals z.apart is h.stands.variables;
+          emitted = same_emits p z.room m.emitted f _ (few_emitted z m listed w n count most h)
+              (spot_emits p z.room (scalar i j) v f z.apart is) h.stands.emitted;
+          list = same_list p z.room listed f _ (omega (arith, fits)) (spot_list p z.room (scalar i j) v f z.apart is (λ x e. cc)) h.stands.list;
+          readings = refl;
+        };
+        few = few_listed z m listed w n count most h;
+      }))
 
   write_does : (x : Variable) (m : Attempt) (listed : List Element) (w : WordState) (n : ℕ) (count most : ℕ → ℕ) (v : ℕ) (left : List ℕ)
       → IsTarget z.p z.written x
@@ -71,26 +100,7 @@ module _ (z : Scene) where
     few = few_listed z m listed w n count most h;
   }
   write_does (Shared i) m listed w n count most v left k h =
-      let p = z.p in
-      let a = address_of p i in
-      let f = w.fram in
-      let u : WordState = record w { readings = left } in
-      let P : Behaviour → Type 0 = λ b. Does z f most w.stack (then_on b (behaviour nothing))
-      (goes_on (source.assigned (record m { left = left }) (Shared i) 0 v)) in
-      let fits = list_fits z m listed w n count most h in
-      subst P (sym (placed a (words.goes_on (Store a v ∷ []) (stored a v u)) (spot_place p z.room (scalar i) z.apart z.even k.0))) (record {
-        stores = (at_variable i k.0 k.1 refl, tt);
-        stack_kept = refl;
-        listed = listed;
-        stands = record {
-          variables = scalar_set p z.room i v m.variables f w.locals z.apart k.0 h.stands.variables;
-          emitted = same_emits p z.room m.emitted f _ (few_emitted z m listed w n count most h)
-              (spot_emits p z.room (scalar i) v f z.apart k.0) h.stands.emitted;
-          list = same_list p z.room listed f _ (omega (arith, fits)) (spot_list p z.room (scalar i) v f z.apart k.0 (λ x e. cc)) h.stands.list;
-          readings = refl;
-        };
-        few = few_listed z m listed w n count most h;
-      })
+      word_kept_does i 0 (address_of z.p i) m listed w n count most v left (sym (first_address z.p i)) (first_word z.p i k.0) k.1 h
 
   value_agrees : (e : CheckedExpression) (m : Attempt) (listed : List Element) (w : WordState) → ExpressionFits z.p e → StandsFor z.p m listed w
       → AgreesWithValue w (behaviour (lowered_expression z.p e) w) (value_of e m.variables m.left)
@@ -137,7 +147,8 @@ module _ (z : Scene) where
       let u = plain_word op (w.fram a) v in
       let P : ℕ → Type 0 = λ x. Does z w.fram most w.stack (behaviour (one (write_step z.p (Shared i))) (valued w (u, left)))
       (goes_on (source.assigned (record m { left = left }) (Shared i) 0 x)) in
-      subst P (ap (λ x. plain_word op x v) (h.stands.variables.words i k.0)) (write_does (Shared i) m listed w n count most u left k h)
+      let held = first_held z.p i m.variables w.fram w.locals h.stands.variables k.0 in
+      subst P (ap (λ x. plain_word op x v) held) (write_does (Shared i) m listed w n count most u left k h)
 
   sides_do : (x : Variable) (op : PlacedOperator) (a b : CheckedExpression) (o : Option PlainOperation) (m : Attempt) (listed : List Element) (w : WordState)
       (n : ℕ) (count most : ℕ → ℕ) → updating x op.operator a ≡ o → ExpressionFits z.p (t.binary op a b) → IsTarget z.p z.written x
@@ -347,8 +358,9 @@ module _ (z : Scene) where
   transition_does task m listed w n count most h =
       let entries = few_entries z.p listed w.fram h.stands.list in
       let runs = runs_are_few z.p.privates in
+      let scalars = privates_few z.p.privates in
       let fits = list_fits z m listed w n count most h in
-      let b = transition_behaves z.p z.room task (w.fram (word_place z.p.map ListLength)) w z.apart z.even refl (omega (arith, entries, runs, fits)) in
+      let b = transition_behaves z.p z.room task (w.fram (word_place z.p.map ListLength)) w z.apart z.even refl (omega (arith, entries, runs, scalars, fits)) in
       let P : Behaviour → Type 0 = λ b. Does z w.fram most w.stack b (to_task task m) in
       subst P (sym b.1) (record {
         body = [];

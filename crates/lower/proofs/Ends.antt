@@ -52,7 +52,7 @@ pub record IsKept (p : Places) (a : ℕ) : Type 0 where
 
 store_elsewhere : (p : Places) (written : ℕ → Bool) (room : Room) (ver a b w : ℕ) → AreApart p room → IsKept p a → IsTaskStore p written room ver b w → a ≡ b
     → ⊥
-store_elsewhere p written room ver a b w apart kept (at_variable v is ok e) d = let low = apart.spots (scalar v) is in omega (arith, d, e, low, kept, apart)
+store_elsewhere p written room ver a b w apart kept (at_variable v i is ok e) d = let low = apart.spots (scalar v i) is in omega (arith, d, e, low, kept, apart)
 store_elsewhere p written room ver a b w apart kept (at_copy x is e) d = let low = apart.spots (copy x) is in omega (arith, d, e, low, kept, apart)
 store_elsewhere p written room ver a b w apart kept (at_version x is e f) d = let low = apart.spots (version x) is in omega (arith, d, e, low, kept, apart)
 store_elsewhere p written room ver a b w apart kept (in_list from to) d = omega (arith, d, from, kept)

@@ -1,5 +1,5 @@
 -- The words of a task's code, and the cycles of its expressions, are within the allowance of a source.
-use Rattle.std.proofs.Common.{◌≡◌, ℕ, suc, ◌+◌, ◌*◌, ◌<◌, ◌≤◌, ◌==◌, Bool, true, false, List, [], ◌∷◌, length, Option, Some, None, slice_get, refl}
+use Rattle.std.proofs.Common.{◌≡◌, ℕ, ◌+◌, ◌*◌, ◌<◌, ◌≤◌, ◌==◌, Bool, true, false, List, [], ◌∷◌, length, Option, Some, None, slice_get, refl}
 use Rattle.std.proofs.Common.{arith, if◌then◌else◌}
 use Rattle.std.proofs.lemmas.Bool.Decides.{nat_tests}
 use Rattle.task_ast.specs.Tree as t
@@ -30,9 +30,11 @@ use Rattle.memory_map.specs.declared.words.RuntimeWord.TheVariants.{Gate, ListLe
 use Rattle.memory_map.specs.declared.place.VariablePlace.{VariablePlace}
 use Rattle.memory_map.specs.declared.place.VariablePlace.TheVariants.{Scalar, Array}
 use Rattle.memory_map.specs.declared.place.PrivateScalar.{PrivateScalar}
-use Rattle.memory_map.specs.Spots.{Places}
+use Rattle.memory_map.specs.Places.{scalar_words}
+use Rattle.memory_map.specs.Spots.{Places, private_words}
+use Rattle.memory_map.proofs.Interface.{some_words}
 use Rattle.lower.specs.declared.runs.Run.{Run}
-use Rattle.lower.specs.Runs.{run_at, is_followed_by, runs_from, runs_of}
+use Rattle.lower.specs.Runs.{run_at, is_followed_by, longer, runs_from, runs_of}
 use Rattle.lower.specs.declared.operations.BinaryMeaning.{BinaryMeaning}
 use Rattle.lower.specs.declared.operations.BinaryMeaning.TheVariants.{Calculates, CommonBits, Holds, Fails}
 use Rattle.lower.specs.Operations.{binary_meaning, shift_operation}
@@ -58,7 +60,7 @@ write_words p (Local n) = omega arith
 read_array_words : (p : Places) (place : Option VariablePlace) → step_words (element_read p place) ≤ 18
 read_array_words p (Some (Array elements length (Some c))) = omega arith
 read_array_words p (Some (Array elements length None)) = omega arith
-read_array_words p (Some (Scalar home copy)) = omega arith
+read_array_words p (Some (Scalar home copy width)) = omega arith
 read_array_words p None = omega arith
 
 element_words : (p : Places) (x : Variable) → step_words (element_step p x) ≤ 18
@@ -150,26 +152,26 @@ one_entry words some = by (words == 1) refl
 
 -- the entries of a run and of those behind it
 abbrev FromRun : ℕ → ℕ → Run → List PrivateScalar → Type 0
-FromRun count list r privates = words_of (entries count list (runs_from r privates)) ≤ 16 * (r.words + length privates)
+FromRun count list r privates = words_of (entries count list (runs_from r privates)) ≤ 16 * (r.words + private_words privates)
 
 either_entry : (count list : ℕ) (b : Bool) (r : Run) (s : PrivateScalar) (more : List PrivateScalar) → 0 < r.words
-    → FromRun count list (record r { words = r.words + 1 }) more → FromRun count list (run_at s) more
-    → words_of (entries count list (if b then runs_from (record r { words = r.words + 1 }) more else r ∷ runs_from (run_at s) more))
-    ≤ 16 * (r.words + suc (length more))
+    → FromRun count list (longer r s) more → FromRun count list (run_at s) more
+    → words_of (entries count list (if b then runs_from (longer r s) more else r ∷ runs_from (run_at s) more))
+    ≤ 16 * (r.words + (scalar_words s.width + private_words more))
 either_entry count list true r s more some joined apart = omega (arith, joined)
 either_entry count list false r s more some joined apart = let one = one_entry r.words some in omega (arith, one, apart)
 
 entries_from_run : (count list : ℕ) (r : Run) (privates : List PrivateScalar) → 0 < r.words → FromRun count list r privates
 entries_from_run count list r [] some = let one = one_entry r.words some in omega (arith, one)
 entries_from_run count list r (s ∷ more) some =
-    either_entry count list (is_followed_by r s) r s more some (entries_from_run count list (record r { words = r.words + 1 }) more (omega arith))
-    (entries_from_run count list (run_at s) more (omega arith))
+    either_entry count list (is_followed_by r s) r s more some (entries_from_run count list (longer r s) more (omega (arith, some)))
+    (entries_from_run count list (run_at s) more (some_words s.width))
 
-entries_words : (count list : ℕ) (privates : List PrivateScalar) → words_of (entries count list (runs_of privates)) ≤ 16 * length privates
+entries_words : (count list : ℕ) (privates : List PrivateScalar) → words_of (entries count list (runs_of privates)) ≤ 16 * private_words privates
 entries_words count list [] = omega arith
-entries_words count list (s ∷ more) = let rest = entries_from_run count list (run_at s) more (omega arith) in omega (arith, rest)
+entries_words count list (s ∷ more) = let rest = entries_from_run count list (run_at s) more (some_words s.width) in omega (arith, rest)
 
-transition_words : (p : Places) (s task : ℕ) → length p.privates ≤ s → words_of (lowered_transition p task) ≤ 40 + 16 * s
+transition_words : (p : Places) (s task : ℕ) → private_words p.privates ≤ s → words_of (lowered_transition p task) ≤ 40 + 16 * s
 transition_words p s task few =
     let a = entries_words (word_place p.map ListLength) p.map.list.address p.privates in
     let close : Program = step (move_word (word_place p.map Base) (word_place p.map SentBase))
@@ -224,7 +226,7 @@ element_assignment_words p s x index (t.binary op a b) = element_sides_words p s
 element_assignment_words p s x index e = element_setting_words p s x index e
 
 mutual
-  pub statement_words : (p : Places) (s : ℕ) → length p.privates ≤ s → (x : CheckedStatement)
+  pub statement_words : (p : Places) (s : ℕ) → private_words p.privates ≤ s → (x : CheckedStatement)
       → words_of (lowered_statement p x) ≤ statement_price (words_column s) x
   statement_words p s few (t.declare of x None) = omega arith
   statement_words p s few (t.declare of x (Some e)) = assignment_words p s x.variable e
@@ -238,7 +240,7 @@ mutual
       omega (arith, l, expression_words p s e)
   statement_words p s few (t.transition task) = transition_words p s task.task few
 
-  pub choice_words : (p : Places) (s : ℕ) → length p.privates ≤ s → (c : CheckedChoice)
+  pub choice_words : (p : Places) (s : ℕ) → private_words p.privates ≤ s → (c : CheckedChoice)
       → words_of (lowered_choice p c) ≤ conditions_price (words_column s) c + blocks_price (words_column s) c
   choice_words p s few t.nothing = omega arith
   choice_words p s few (t.otherwise block) = let a = block_words p s few block in omega (arith, a)
@@ -248,7 +250,7 @@ mutual
       let h = lowering_has p s e in
       omega (arith, a, b, h)
 
-  pub block_words : (p : Places) (s : ℕ) → length p.privates ≤ s → (b : CheckedBlock) → words_of (lowered_block p b) ≤ block_price (words_column s) b
+  pub block_words : (p : Places) (s : ℕ) → private_words p.privates ≤ s → (b : CheckedBlock) → words_of (lowered_block p b) ≤ block_price (words_column s) b
   block_words p s few t.end = omega arith
   block_words p s few (t.step x more) =
       let a = statement_words p s few x in
@@ -265,7 +267,7 @@ read_cycles p (Local n) = omega arith
 read_array_cycles : (p : Places) (place : Option VariablePlace) → step_cycles (element_read p place) ≤ 23
 read_array_cycles p (Some (Array elements length (Some c))) = omega arith
 read_array_cycles p (Some (Array elements length None)) = omega arith
-read_array_cycles p (Some (Scalar home copy)) = omega arith
+read_array_cycles p (Some (Scalar home copy width)) = omega arith
 read_array_cycles p None = omega arith
 
 element_cycles : (p : Places) (x : Variable) → step_cycles (element_step p x) ≤ 23

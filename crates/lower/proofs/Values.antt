@@ -36,8 +36,9 @@ use Rattle.memory_map.specs.declared.words.RuntimeWord.TheVariants.{Version}
 use Rattle.memory_map.specs.declared.place.ArrayCopies.{ArrayCopies}
 use Rattle.memory_map.specs.declared.place.VariablePlace.{VariablePlace}
 use Rattle.memory_map.specs.declared.place.VariablePlace.TheVariants.{Array}
-use Rattle.memory_map.proofs.Interface.{word_even}
-use Rattle.memory_map.specs.Spots.{Places, address_of, IsArrayAt, Element, IsElement, IsCopied, scalar, element, copy, version}
+use Rattle.memory_map.proofs.Interface.{word_even, first_word}
+use Rattle.memory_map.specs.Spots.{Places, address_of, scalar_address, IsScalarWord, IsArrayAt, Element, IsElement, IsCopied, scalar, element, copy}
+use Rattle.memory_map.specs.Spots.{version}
 use Rattle.lower.specs.declared.operations.BinaryMeaning.{BinaryMeaning}
 use Rattle.lower.specs.declared.operations.BinaryMeaning.TheVariants.{Calculates, CommonBits, Holds, Fails}
 use Rattle.lower.specs.Operations.{binary_meaning, shift_operation}
@@ -46,7 +47,7 @@ use Rattle.lower.specs.Lowered.{binary_lowering, sides_test}
 use Rattle.lower.specs.Spots.{Room, AreApart, AreEven}
 use Rattle.lower.specs.Agreement.{IsKnown, IsArray, own_word, HoldVariables, TakesAndStores, OnlyTakes, valued, EndsAt, AgreesAt, AgreesWithValue}
 use Rattle.lower.specs.Agreement.{truth_value, truth_of}
-use Rattle.lower.proofs.Addresses.{fram_place, placed, spot_place, element_is, copy_is, version_is, has_element}
+use Rattle.lower.proofs.Addresses.{fram_place, placed, spot_place, first_address, element_is, copy_is, version_is, has_element}
 
 -- ---- effects
 
@@ -118,11 +119,18 @@ load_agrees w a v place is =
     let P : Behaviour → Type 0 = λ b. AgreesWithValue w (then_on b (behaviour nothing)) (Some (v, w.readings)) in
     subst P (sym (placed a (goes_on [] (pushed (w.fram a) w)) place)) (tt, ap (λ x. valued w (x, w.readings)) is)
 
+pub word_read_agrees : (p : Places) (room : Room) (v i a : ℕ) (m : Variables) (w : WordState) → a ≡ scalar_address p v i → AreApart p room → AreEven p
+    → IsScalarWord p v i → HoldVariables p m w.fram w.locals
+    → AgreesWithValue w (behaviour (one (load a)) w) (Some (word_at m (Shared v) i, w.readings))
+word_read_agrees p room v i a m w e apart even k h =
+    let P : ℕ → Type 0 = λ b. AgreesWithValue w (behaviour (one (load b)) w) (Some (word_at m (Shared v) i, w.readings)) in
+    subst P (sym e) (load_agrees w (scalar_address p v i) (word_at m (Shared v) i) (spot_place p room (scalar v i) apart even k) (h.words v i k))
+
 pub read_agrees : (p : Places) (room : Room) (x : Variable) (m : Variables) (w : WordState) → AreApart p room → AreEven p → IsKnown p x
     → HoldVariables p m w.fram w.locals
     → AgreesWithValue w (behaviour (one (read_step p x)) w) (Some (word_at m x 0, w.readings))
 read_agrees p room (Shared v) m w apart even k h =
-    load_agrees w (address_of p v) (word_at m (Shared v) 0) (spot_place p room (scalar v) apart even k) (h.words v k)
+    word_read_agrees p room v 0 (address_of p v) m w (sym (first_address p v)) apart even (first_word p v k) h
 read_agrees p room (Local n) m w apart even k h =
     let P : ℕ → Type 0 = λ j. AgreesWithValue w (behaviour (one (local j)) w) (Some (word_at m (Local n) 0, w.readings)) in
     subst P (sym (small_modulo n k)) (local_agrees w (w.locals n) (word_at m (Local n) 0) (λ u e. h.locals n u e))

@@ -24,8 +24,9 @@ use Rattle.memory_map.specs.declared.words.RuntimeWord.TheVariants.{NextTask, Ga
 use Rattle.memory_map.specs.declared.place.ArrayCopies.{ArrayCopies}
 use Rattle.memory_map.specs.declared.place.VariablePlace.{VariablePlace}
 use Rattle.memory_map.specs.declared.place.VariablePlace.TheVariants.{Scalar, Array}
-use Rattle.memory_map.specs.Spots.{Places, address_of, IsScalarAt, IsArrayAt, Element, IsElement, IsCopied, element_address, copy_address}
-use Rattle.memory_map.specs.Spots.{version_address}
+use Rattle.memory_map.specs.Places.{scalar_words}
+use Rattle.memory_map.specs.Spots.{Places, scalar_address, IsScalarAt, IsScalarWord, IsArrayAt, Element, IsElement, IsCopied}
+use Rattle.memory_map.specs.Spots.{element_address, copy_address, version_address}
 use Rattle.lower.specs.Spots.{Room, AreApart, AreEven, listed_of, AreListed, HasRoom}
 use Rattle.runtime_effects.specs.Places.{CopyPair, entries_from}
 use Rattle.lower.specs.declared.runs.Run.{Run}
@@ -42,7 +43,7 @@ IsKnown p (Local n) = n < 256
 
 -- a long with an address of its own: no local is one
 abbrev pub IsLong : Places → Variable → Type 0
-IsLong p (Shared v) = ⊥
+IsLong p (Shared v) = IsScalarWord p v 1
 IsLong p (Local n) = ⊥
 
 -- a variable of a type
@@ -58,7 +59,7 @@ IsTarget p written (Local n) = n < 256
 
 -- a long that may be assigned
 abbrev pub IsLongTarget : Places → (ℕ → Bool) → Variable → Type 0
-IsLongTarget p written (Shared v) = ⊥
+IsLongTarget p written (Shared v) = IsScalarWord p v 1 × (written v ≡ true)
 IsLongTarget p written (Local n) = ⊥
 
 -- the same of a variable of a type
@@ -134,7 +135,7 @@ abbrev mutual
 
 -- how many words the variable at a place has
 abbrev pub place_length : VariablePlace → ℕ
-place_length (Scalar home copy) = 1
+place_length (Scalar home copy width) = scalar_words width
 place_length (Array elements length copies) = length
 
 -- an element as the attempt has it: its copy where its version word is VER, else the element itself
@@ -142,13 +143,13 @@ abbrev pub own_word : Places → (ℕ → ℕ) → Option VariablePlace → ℕ 
 own_word p f (Some (Array elements length (Some c))) i =
     if f (word_place p.map Version) == f (2 * i + c.versions) then f (2 * i + c.copies) else f (2 * i + elements)
 own_word p f (Some (Array elements length None)) i = f (2 * i + elements)
-own_word p f (Some (Scalar home copy)) i = 0
+own_word p f (Some (Scalar home copy width)) i = 0
 own_word p f None i = 0
 
--- FRAM has each scalar's word at its address in the task, and each element where the attempt has it; and each assigned local has its
+-- FRAM has each word of a scalar at its address in the task, and each element where the attempt has it; and each assigned local has its
 -- word
 pub record HoldVariables (p : Places) (m : Variables) (fram : ℕ → ℕ) (found : ℕ → Option ℕ) : Type 0 where
-  pub words : (v : ℕ) → IsScalarAt p v → fram (address_of p v) ≡ word_at m (Shared v) 0
+  pub words : (v i : ℕ) → IsScalarWord p v i → fram (scalar_address p v i) ≡ word_at m (Shared v) i
   pub elements : (x : Element) → IsElement p x → own_word p fram (slice_get p.map.variables x.array) x.index ≡ word_at m (Shared x.array) x.index
   pub rows : (v : ℕ) (place : VariablePlace) → slice_get p.map.variables v ≡ Some place → v < length m.shared
   pub lengths : (v : ℕ) (place : VariablePlace) → slice_get p.map.variables v ≡ Some place → length (slice_index_or m.shared v []) ≡ place_length place
@@ -196,7 +197,7 @@ OnlyTakes = TakesAndStores (λ a w. ⊥)
 -- what statements store, VER being this number: words of the scalars that they write, copies and version words of elements, entries
 -- of the commit list with their count, and emitted words with theirs
 pub data IsTaskStore (p : Places) (written : ℕ → Bool) (room : Room) (ver : ℕ) (a w : ℕ) : Type 0 where
-  at_variable : (v : ℕ) → IsScalarAt p v → written v ≡ true → a ≡ address_of p v → IsTaskStore p written room ver a w
+  at_variable : (v i : ℕ) → IsScalarWord p v i → written v ≡ true → a ≡ scalar_address p v i → IsTaskStore p written room ver a w
   at_copy : (x : Element) → IsCopied p x → a ≡ copy_address p x → IsTaskStore p written room ver a w
   at_version : (x : Element) → IsCopied p x → a ≡ version_address p x → w ≡ ver → IsTaskStore p written room ver a w
   in_list : p.map.list.address ≤ a → a < p.map.list.address + 6 * room.list → IsTaskStore p written room ver a w

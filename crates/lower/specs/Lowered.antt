@@ -99,7 +99,7 @@ list_place p = record { ver = word_place p.map Version; cln = word_place p.map L
 abbrev pub element_read : Places → Option VariablePlace → Step
 element_read p (Some (Array elements length (Some c))) = versioned_read (array_place elements length c) (list_place p)
 element_read p (Some (Array elements length None)) = element elements length
-element_read p (Some (Scalar home copy)) = element 0 0
+element_read p (Some (Scalar home copy width)) = element 0 0
 element_read p None = element 0 0
 
 -- the same of a variable
@@ -111,7 +111,7 @@ element_step p (Local n) = element 0 0
 abbrev pub written_array : Option VariablePlace → ArrayPlace
 written_array (Some (Array elements length (Some c))) = array_place elements length c
 written_array (Some (Array elements length None)) = no_array
-written_array (Some (Scalar home copy)) = no_array
+written_array (Some (Scalar home copy width)) = no_array
 written_array None = no_array
 
 -- the same by its variable

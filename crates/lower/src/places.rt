@@ -30,7 +30,7 @@ fn copy_among(privates: &[PrivateScalar], number: u32) -> Option<u16>
     None
 }
 
-// The word of a scalar, or the first element of an array; 0 where no variable has this number.
+// The first word of a scalar, or the first element of an array; 0 where no variable has this number.
 fn home_of(variables: &[VariablePlace], number: u32) -> u16
     ensures { result ≡ home_of variables.now number }
 {
@@ -87,7 +87,7 @@ impl<'l> TaskPlaces<'l> {
     ghost use Rattle.lower.specs.Lowered.{list_place, stored_array};
     ghost use Rattle.lower.specs.View.{places_in};
 
-    /// The address of a shared variable in the task: that of its copy where it is private there, else that of its word.
+    /// The address of a shared variable in the task: that of its copy where it is private there, else that of its first word.
     pub fn address_of(&self, number: u32) -> u16
         ensures { result ≡ address_of (places_in self.now) number }
     {
