@@ -1,6 +1,8 @@
 mod Neighbours
 mod Addresses
 mod Values
+mod Longs
+mod EachExpression
 mod Updates
 mod Emitted
 mod Stored
