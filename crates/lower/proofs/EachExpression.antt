@@ -31,13 +31,14 @@ use Rattle.lower.proofs.Addresses.{first_address}
 use Rattle.lower.proofs.Values.{value_done, agrees_then, read_agrees, word_read_agrees, element_agrees, sense_agrees, binary_same, shift_same, sides_of_truth}
 use Rattle.lower.proofs.Values.{sides_are_truth, pair_value, truth_pushed, from_left, LoweringAgrees, by_word, by_test, then_step, SidesAgree, binary_agrees}
 use Rattle.lower.proofs.Values.{not_agrees, unary_agrees, side_agrees}
+use Rattle.lower.proofs.Updates.{joined_words}
 use Rattle.lower.proofs.Longs.{AgreesAs, LongAgrees, LongSidesAgree, made_of, as_one_word, of_one_word, by_long, pair_same, words_agree, word_agrees, long_agrees}
 use Rattle.lower.proofs.Longs.{test_agrees, negated, complemented, long_shifted, long_meaning_type, long_meaning_value, long_same, long_binary_agrees}
 
 -- ---- names
 
 -- the high word of a long stands behind its low one
-high_is : (p : Places) (room : Room) (v : ℕ) → AreApart p room → IsScalarWord p v 1 → high_address (address_of p v) ≡ scalar_address p v 1
+pub high_is : (p : Places) (room : Room) (v : ℕ) → AreApart p room → IsScalarWord p v 1 → high_address (address_of p v) ≡ scalar_address p v 1
 high_is p room v apart k = let below = apart.below (scalar v 1) k in omega (arith, below)
 
 -- two words read one behind the other are a long
@@ -87,16 +88,6 @@ record OperandsAgree (s of : WordType) (w : WordState) (l r : Lowering) (o : Opt
   left : AgreesAs s w l o
   right : (x : ℕ × List ℕ) → AgreesAs of (valued w x) r (second x.1)
   behind_long : (x : ℕ × List ℕ) → AgreesAs of (long_valued w x) r (second x.1)
-
--- operands whose joined type has one word have one word
-joined_words : (s of : WordType) → IsOneWord (joined_type s of) → IsOneWord s × IsOneWord of
-joined_words Long of k = absurd k
-joined_words Int Long k = absurd k
-joined_words Int Int k = (tt, tt)
-joined_words Int Unsigned k = (tt, tt)
-joined_words Unsigned Long k = absurd k
-joined_words Unsigned Int k = (tt, tt)
-joined_words Unsigned Unsigned k = (tt, tt)
 
 -- an operator between words
 words_agree_by : (is : WordType) (op : BinaryOperator) (s of : WordType) → IsOneWord is → joined_type s of ≡ is → (w : WordState) (l r : Lowering)

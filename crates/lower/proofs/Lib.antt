@@ -4,6 +4,7 @@ mod Values
 mod Longs
 mod EachExpression
 mod Updates
+mod Assigned
 mod Emitted
 mod Stored
 mod Transitions
