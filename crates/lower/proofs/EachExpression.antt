@@ -20,7 +20,7 @@ use Rattle.array_versions.specs.Program.{number, shift, sense, load, long, step,
 use Rattle.array_versions.specs.declared.operations.LongOperation.TheVariants as with_longs
 use Rattle.array_versions.specs.Behaviour.{WordState, Behaviour, pushed, behaviour}
 use Rattle.memory_map.specs.Spots.{Places, address_of, scalar_address, IsScalarWord, scalar}
-use Rattle.lower.specs.Operations.{binary_meaning, shift_operation, long_meaning}
+use Rattle.lower.specs.Operations.{binary_meaning, shift_operation, operand_type, long_meaning}
 use Rattle.lower.specs.Lowered.{one, high_address, read_step, read_long, element_step, Lowering, as_word, as_test, word_program, value_test, long_words}
 use Rattle.lower.specs.Lowered.{long_program, name_lowering, operand_lowering, binary_lowering, sides_lowering, shift_lowering}
 use Rattle.lower.specs.Lowered.{sides_test, lowering, lowered_test}
@@ -169,6 +169,19 @@ operands_agree Long op s of e k w l r o second h = longs_agree_by op s of e k w 
 operands_agree Int op s of e k w l r o second h = words_agree_by Int op s of tt e w l r o second h
 operands_agree Unsigned op s of e k w l r o second h = words_agree_by Unsigned op s of tt e w l r o second h
 
+-- an operator that there is for them takes operands of their joined type
+operands_as_joined : (of : WordType) (op : BinaryOperator) → IsOperatorOf of op → operand_type op of ≡ of
+operands_as_joined Long operator.Multiply k = absurd k
+operands_as_joined Long operator.Divide k = absurd k
+operands_as_joined Long operator.Remainder k = absurd k
+operands_as_joined Int operator.Multiply k = refl
+operands_as_joined Int operator.Divide k = refl
+operands_as_joined Int operator.Remainder k = refl
+operands_as_joined Unsigned operator.Multiply k = refl
+operands_as_joined Unsigned operator.Divide k = refl
+operands_as_joined Unsigned operator.Remainder k = refl
+operands_as_joined of _ k = refl
+
 -- a word is shifted as a value of its type
 word_shifted : (of : WordType) → (op : ShiftOperator) (k : ℕ) (w : WordState) (l : Lowering) (o : Option (ℕ × List ℕ)) → LoweringAgrees w l o
     → LoweringAgrees w (as_word (joined (word_program l) (one (shift (shift_operation op of) k)))) (o >>? λ x. Some (shift_value op of x.0 k, x.1))
@@ -211,8 +224,11 @@ lowering_agrees p room (t.binary op a b) m w apart even fits h =
       right = λ x. lowering_agrees p room b m (valued w x) apart even fits.1 h;
       behind_long = λ x. lowering_agrees p room b m (long_valued w x) apart even fits.1 h;
     } in
-    operands_agree (joined_type (type_of a) (type_of b)) op.operator (type_of a) (type_of b) refl fits.2 w (lowering p a) (lowering p b)
-    (value_of a m w.readings) (value_of b m) operands
+    let joined = joined_type (type_of a) (type_of b) in
+    let P : WordType → Type 0 = λ z. AgreesAs (type_of (t.binary op a b)) w
+    (sides_lowering z op.operator (type_of a) (type_of b) (lowering p a) (lowering p b)) (value_of (t.binary op a b) m w.readings) in
+    subst P (sym (operands_as_joined joined op.operator fits.2))
+    (operands_agree joined op.operator (type_of a) (type_of b) refl fits.2 w (lowering p a) (lowering p b) (value_of a m w.readings) (value_of b m) operands)
 lowering_agrees p room (t.shift op e count) m w apart even fits h =
     shift_agrees (type_of e) op count.value w (lowering p e) (value_of e m w.readings) (lowering_agrees p room e m w apart even fits h)
 lowering_agrees p room (t.short_circuit op a b) m w apart even fits h =

@@ -47,7 +47,7 @@ use Rattle.lower.specs.declared.operations.LongQuestion.{LongQuestion}
 use Rattle.lower.specs.declared.operations.LongQuestion.TheVariants as question
 use Rattle.lower.specs.declared.operations.LongMeaning.{LongMeaning}
 use Rattle.lower.specs.declared.operations.LongMeaning.TheVariants as meaning
-use Rattle.lower.specs.Operations.{binary_meaning, plain_operation, shift_operation, long_meaning, long_shift}
+use Rattle.lower.specs.Operations.{binary_meaning, plain_operation, shift_operation, operand_type, long_meaning, long_shift}
 
 -- a program of one step
 abbrev pub one : Step → Program
@@ -209,7 +209,7 @@ long_binary_lowering (meaning.Calculates op) sides = as_long (behind sides (long
 long_binary_lowering (meaning.Holds q) sides = as_test (holds (answer q sides))
 long_binary_lowering (meaning.Fails q) sides = as_test (fails (holds (answer q sides)))
 
--- an operator of two sides of these types, by their joined type: with a long among them both are longs
+-- an operator of two sides of these types, by the type of the operands that it takes: both as words, or both as longs
 abbrev pub sides_lowering : WordType → BinaryOperator → WordType → WordType → Lowering → Lowering → Lowering
 sides_lowering of op s t left right =
     by_width of (binary_lowering (binary_meaning op of) (joined (word_program left) (word_program right)))
@@ -233,7 +233,8 @@ lowering p (t.name x) = name_lowering p x.word_type x.variable
 lowering p (t.element x index) = as_word (behind (word_program (lowering p index)) (element_step p x.variable))
 lowering p t.sense = as_word (one sense)
 lowering p (t.unary op e) = operand_lowering (type_of e) op (lowering p e)
-lowering p (t.binary op a b) = sides_lowering (joined_type (type_of a) (type_of b)) op.operator (type_of a) (type_of b) (lowering p a) (lowering p b)
+lowering p (t.binary op a b) =
+    sides_lowering (operand_type op.operator (joined_type (type_of a) (type_of b))) op.operator (type_of a) (type_of b) (lowering p a) (lowering p b)
 lowering p (t.shift op e count) = shift_lowering (type_of e) op (lowering p e) count.value
 lowering p (t.short_circuit op a b) = as_test (sides_test op (value_test (lowering p a)) (value_test (lowering p b)))
 

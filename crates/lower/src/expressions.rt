@@ -16,7 +16,7 @@ ghost use Rattle.lower.specs.Lowered.{as_word, as_test, as_bits, as_long, lowere
 
 use crate::operations::{
     BinaryMeaning, LongMeaning, LongQuestion, binary_meaning, long_meaning, long_shift,
-    shift_operation,
+    operand_type, shift_operation,
 };
 use crate::places::{TaskPlaces, array_place, high_address, local_number};
 use array_versions::{
@@ -257,6 +257,14 @@ fn calculated(
     Ok(ExpressionProgram::Word(program))
 }
 
+// `!`: the test that fails where the value isn't 0.
+fn turned(alloc: Global, e: ExpressionProgram) -> Result<ExpressionProgram, AllocError>
+    ensures { IfOk result (λ l. lowering_of l ≡ as_test (step.fails (value_test (lowering_of e)))) }
+{
+    let test = WordTest::fails(alloc, into_test(e)?)?;
+    Ok(ExpressionProgram::Test(test))
+}
+
 // An operator in front of a word.
 fn unary(
     alloc: Global,
@@ -268,10 +276,7 @@ fn unary(
     match op {
         UnaryOperator::Negate => calculated(alloc, UnaryOperation::Negate, e),
         UnaryOperator::Complement => calculated(alloc, UnaryOperation::Complement, e),
-        UnaryOperator::Not => {
-            let test = WordTest::fails(alloc, into_test(e)?)?;
-            Ok(ExpressionProgram::Test(test))
-        }
+        UnaryOperator::Not => turned(alloc, e),
     }
 }
 
@@ -308,10 +313,7 @@ fn long_unary(
             program.long(LongOperation::Complement)?;
             Ok(ExpressionProgram::Long(program))
         }
-        UnaryOperator::Not => {
-            let test = WordTest::fails(alloc, into_test(e)?)?;
-            Ok(ExpressionProgram::Test(test))
-        }
+        UnaryOperator::Not => turned(alloc, e),
     }
 }
 
@@ -391,20 +393,20 @@ fn long_binary(
     }
 }
 
-// An operator of two sides, each with its type, by their joined type.
+// An operator of two sides, each with its type, by the type of the operands that it takes.
 fn of_sides(
     alloc: Global,
-    joined: WordType,
+    operands: WordType,
     op: BinaryOperator,
     left: (ExpressionProgram, WordType),
     right: (ExpressionProgram, WordType),
 ) -> Result<ExpressionProgram, AllocError>
     ensures { IfOk result (λ l. lowering_of l
-        ≡ sides_lowering joined op left.1 right.1 (lowering_of left.0) (lowering_of right.0)) }
+        ≡ sides_lowering operands op left.1 right.1 (lowering_of left.0) (lowering_of right.0)) }
 {
     let (first, first_type) = left;
     let (second, second_type) = right;
-    match joined {
+    match operands {
         WordType::Long => {
             let mut sides = into_long(alloc, first_type, first)?;
             append(&mut sides, into_long(alloc, second_type, second)?)?;
@@ -413,7 +415,7 @@ fn of_sides(
         WordType::Int | WordType::Unsigned => {
             let mut sides = into_program(alloc, first)?;
             append(&mut sides, into_program(alloc, second)?)?;
-            binary(alloc, binary_meaning(op, joined), sides)
+            binary(alloc, binary_meaning(op, operands), sides)
         }
     }
 }
@@ -523,7 +525,7 @@ fn lower(
             let (right, right_type) = lower(alloc, b, places)?;
             let program = of_sides(
                 alloc,
-                joined_type(left_type, right_type),
+                operand_type(op.operator, joined_type(left_type, right_type)),
                 op.operator,
                 (left, left_type),
                 (right, right_type),

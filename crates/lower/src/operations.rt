@@ -2,7 +2,9 @@
 ghost use Rattle.std.specs.Prelude.{◌≡◌};
 ghost use Rattle.array_versions.specs.declared.operations.BinaryOperation.TheVariants as binary_op;
 ghost use Rattle.lower.specs.declared.operations.BinaryMeaning.TheVariants as Meaning;
-ghost use Rattle.lower.specs.Operations.{below, above, binary_meaning, plain_operation, shift_operation, long_meaning, long_shift};
+ghost use Rattle.task_ast.specs.Types.{by_width};
+ghost use Rattle.task_ast.specs.declared.WordType.TheVariants.{Unsigned};
+ghost use Rattle.lower.specs.Operations.{below, above, binary_meaning, plain_operation, shift_operation, operand_type, long_meaning, long_shift};
 
 use array_versions::{
     BinaryOperation, Comparison, LongOperation, PlainOperation, ShiftOperation,
@@ -118,7 +120,29 @@ pub enum LongMeaning {
     Fails(LongQuestion),
 }
 
-/// What an operator gives of two longs. The checks refuse `*`, `/` and `%`, for which a sum stands here.
+// The type, or unsigned in place of long.
+fn of_one_word(word_type: WordType) -> WordType
+    ensures { result ≡ by_width word_type word_type Unsigned }
+{
+    match word_type {
+        WordType::Long => WordType::Unsigned,
+        WordType::Int | WordType::Unsigned => word_type,
+    }
+}
+
+/// The type of the two operands that an operator takes, by their joined type. The checks refuse `*`, `/` and `%` of longs, which take
+/// low words.
+pub fn operand_type(op: BinaryOperator, joined: WordType) -> WordType
+    ensures { result ≡ operand_type op joined }
+{
+    match op {
+        BinaryOperator::Multiply | BinaryOperator::Divide | BinaryOperator::Remainder =>
+            of_one_word(joined),
+        _ => joined,
+    }
+}
+
+/// What an operator gives of two longs. `*`, `/` and `%` take none, and a sum stands for them here.
 pub fn long_meaning(op: BinaryOperator) -> LongMeaning
     ensures { result ≡ long_meaning op }
 {
