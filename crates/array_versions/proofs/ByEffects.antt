@@ -8,8 +8,8 @@ use Rattle.machine_effects.proofs.Interface.{fram_after-append, readings_taken-a
 use Rattle.array_versions.specs.declared.program.ArrayPlace.{ArrayPlace}
 use Rattle.array_versions.specs.declared.program.ListPlace.{ListPlace}
 use Rattle.array_versions.specs.declared.operations.PlainOperation.{PlainOperation}
-use Rattle.array_versions.specs.Operations.{plain_word, is_true, compare_words}
-use Rattle.array_versions.specs.Program.{Step, Test, Program, number, load, keep, update, local, set_local, update_local, unary, binary, shift, element}
+use Rattle.array_versions.specs.Operations.{plain_word, is_true, compare_words, long_pops}
+use Rattle.array_versions.specs.Program.{Step, Test, Program, number, load, keep, update, local, set_local, update_local, unary, binary, shift, long, element}
 use Rattle.array_versions.specs.Program.{emit_word}
 use Rattle.array_versions.specs.Program.{list_entry}
 use Rattle.array_versions.specs.Program.{versioned_read, versioned_write, versioned_update, sense, truth, choose, repeat, store_number, move_word, jump, holds}
@@ -17,7 +17,8 @@ use Rattle.array_versions.specs.Program.{compares}
 use Rattle.array_versions.specs.Program.{both, either, fails, nothing, step}
 use Rattle.array_versions.specs.Behaviour.{WordState, End, GoesOn, Jumps, Short, Strays, Broken, Behaviour, behaves, goes_on, strays, broken}
 use Rattle.array_versions.specs.Behaviour.{behind_effects, own_place, own_kept, own_updated, versioned_updated}
-use Rattle.array_versions.specs.Behaviour.{then_on, is_place, at_place, with_top, with_two, with_stack, pushed, stored, with_local, local_pushed, local_updated}
+use Rattle.array_versions.specs.Behaviour.{then_on, is_place, at_place, with_top, with_two, with_words, with_stack, pushed, stored, with_local, local_pushed}
+use Rattle.array_versions.specs.Behaviour.{local_updated}
 use Rattle.array_versions.specs.Behaviour.{reading_pushed, word_stored, element_pushed, word_emitted, entry_stored, ends_before, raised}
 use Rattle.array_versions.specs.Behaviour.{listed_behind, word_listed, own_element, versioned_pushed, first_stored}
 use Rattle.array_versions.specs.Behaviour.{own_stored, versioned_stored, number_pushed, way_by_top, way_by_two, turns, step_behaviour, tested}
@@ -65,6 +66,11 @@ top_by (v ∷ vs) s next h = h v vs
 
 two_by : (vs : List ℕ) (s : WordState) (next : ℕ → ℕ → List ℕ → Behaviour) → ((u v : ℕ) (us : List ℕ) → Good s (next u v us)) → Good s (with_two vs next)
 two_by vs s next h = top_by vs s _ (λ v us. top_by us s _ (λ u rest. h u v rest))
+
+words_by : (n : ℕ) (vs : List ℕ) (s : WordState) (next : List ℕ → List ℕ → Behaviour) → ((ws us : List ℕ) → Good s (next ws us))
+    → Good s (with_words n vs next)
+words_by zero vs s next h = h [] vs
+words_by (suc n) vs s next h = top_by vs s _ (λ v us. words_by n us s _ (λ ws rest. h (v ∷ ws) rest))
 
 local_by : (o : Option ℕ) (s : WordState) → Good s (local_pushed o s)
 local_by None s = tt
@@ -225,6 +231,7 @@ mutual
   step_by (unary op) s = top_by s.stack s _ (λ v vs. (refl, refl))
   step_by (binary op) s = two_by s.stack s _ (λ u v vs. (refl, refl))
   step_by (shift op k) s = top_by s.stack s _ (λ v vs. (refl, refl))
+  step_by (long op) s = words_by (long_pops op) s.stack s _ (λ ws vs. (refl, refl))
   step_by (element base length) s =
       top_by s.stack s _ (λ i vs. unstacked vs s (element_pushed base length i (with_stack vs s)) (element_by (nat_lt i length) base i (with_stack vs s)))
   step_by (emit_word count buffer) s =

@@ -7,13 +7,15 @@ use Rattle.array_versions.specs.declared.operations.BinaryOperation.{BinaryOpera
 use Rattle.array_versions.specs.declared.operations.BinaryOperation.TheVariants.{Multiply}
 use Rattle.array_versions.specs.declared.operations.ShiftOperation.{ShiftOperation}
 use Rattle.array_versions.specs.declared.operations.ShiftOperation.TheVariants.{Left, Right, SignedRight}
-use Rattle.array_versions.specs.Program.{number, load, keep, update, local, set_local, update_local, unary, binary, shift, element, emit_word, list_entry}
-use Rattle.array_versions.specs.Program.{versioned_read}
+use Rattle.array_versions.specs.declared.operations.LongOperation.{LongOperation}
+use Rattle.array_versions.specs.declared.operations.LongOperation.TheVariants.{ShiftLeft}
+use Rattle.array_versions.specs.Program.{number, load, keep, update, local, set_local, update_local, unary, binary, shift, long, element}
+use Rattle.array_versions.specs.Program.{emit_word, list_entry, versioned_read}
 use Rattle.array_versions.specs.Program.{versioned_write, versioned_update, sense, truth, choose, repeat, store_number, move_word, jump, holds}
 use Rattle.array_versions.specs.Program.{compares, both, either}
 use Rattle.array_versions.specs.Program.{fails}
-use Rattle.array_versions.specs.Cost.{unary_cycles, unary_words, binary_cycles, binary_words, right_words, shift_words, cycles_of}
-use Rattle.array_versions.specs.Allowance.{binary_allowance, StepsKeepToCycles, StepsKeepToWords, TestsKeepToCycles, TestsKeepToWords}
+use Rattle.array_versions.specs.Cost.{unary_cycles, unary_words, binary_cycles, binary_words, right_words, shift_words, long_cycles, long_words, cycles_of}
+use Rattle.array_versions.specs.Allowance.{binary_allowance, long_allowance, StepsKeepToCycles, StepsKeepToWords, TestsKeepToCycles, TestsKeepToWords}
 
 unary_cycles_kept : (o : UnaryOperation) → unary_cycles o ≤ 40
 unary_cycles_kept Negate = omega arith
@@ -49,6 +51,14 @@ shift_kept : (b : Bool) (o : ShiftOperation) (k : ℕ) → nat_le k 15 ≡ b →
 shift_kept true o k e = let l : k ≤ 15 = grind (arith, nat_tests) in omega (arith, shift_low o k l)
 shift_kept false o k e = omega arith
 
+long_cycles_kept : (o : LongOperation) → long_cycles o ≤ long_allowance o
+long_cycles_kept (ShiftLeft k) = omega arith
+long_cycles_kept _ = omega arith
+
+long_words_kept : (o : LongOperation) → long_words o ≤ 32
+long_words_kept (ShiftLeft k) = omega arith
+long_words_kept _ = omega arith
+
 pub steps_keep_to_cycles : StepsKeepToCycles
 steps_keep_to_cycles (number w) = omega arith
 steps_keep_to_cycles (load a) = omega arith
@@ -60,6 +70,7 @@ steps_keep_to_cycles (update_local op n) = omega arith
 steps_keep_to_cycles (unary o) = unary_cycles_kept o
 steps_keep_to_cycles (binary o) = binary_cycles_kept o
 steps_keep_to_cycles (shift o k) = omega arith
+steps_keep_to_cycles (long o) = long_cycles_kept o
 steps_keep_to_cycles (element base length) = omega arith
 steps_keep_to_cycles (emit_word count buffer) = omega arith
 steps_keep_to_cycles (list_entry count list home copy words) = omega arith
@@ -91,6 +102,7 @@ steps_keep_to_words (update_local op n) = omega arith
 steps_keep_to_words (unary o) = unary_words_kept o
 steps_keep_to_words (binary o) = binary_words_kept o
 steps_keep_to_words (shift o k) = shift_kept (nat_le k 15) o k refl
+steps_keep_to_words (long o) = long_words_kept o
 steps_keep_to_words (element base length) = omega arith
 steps_keep_to_words (emit_word count buffer) = omega arith
 steps_keep_to_words (list_entry count list home copy words) = entry_kept (words == 1)

@@ -5,15 +5,15 @@ use Rattle.machine_effects.specs.fram_board.Effects.{Store}
 use Rattle.array_versions.specs.declared.program.ArrayPlace.{ArrayPlace}
 use Rattle.array_versions.specs.declared.program.ListPlace.{ListPlace}
 use Rattle.array_versions.specs.declared.operations.PlainOperation.{PlainOperation}
-use Rattle.array_versions.specs.Operations.{plain_word, is_true, compare_words}
-use Rattle.array_versions.specs.Program.{Step, Test, Program, number, load, keep, update, local, set_local, update_local, unary, binary, shift, element}
+use Rattle.array_versions.specs.Operations.{plain_word, is_true, compare_words, long_pops}
+use Rattle.array_versions.specs.Program.{Step, Test, Program, number, load, keep, update, local, set_local, update_local, unary, binary, shift, long, element}
 use Rattle.array_versions.specs.Program.{emit_word}
 use Rattle.array_versions.specs.Program.{list_entry}
 use Rattle.array_versions.specs.Program.{versioned_read, versioned_write, versioned_update, sense, truth, choose, repeat, store_number, move_word, jump, holds}
 use Rattle.array_versions.specs.Program.{compares}
 use Rattle.array_versions.specs.Program.{both, either, fails, nothing, step}
 use Rattle.array_versions.specs.Behaviour.{stored, behind_effects, WordState, assigned, End, GoesOn, Jumps, Short, Strays, Broken, Behaviour, behaves}
-use Rattle.array_versions.specs.Behaviour.{goes_on, strays, broken, on_end, is_place, at_place, with_top, with_stack, pushed, with_local}
+use Rattle.array_versions.specs.Behaviour.{goes_on, strays, broken, on_end, is_place, at_place, with_top, with_words, with_stack, pushed, with_local}
 use Rattle.array_versions.specs.Behaviour.{local_pushed, local_updated, own_place, own_kept, own_updated}
 use Rattle.array_versions.specs.Behaviour.{reading_pushed, entry_stored, ends_before, raised, listed_behind, own_element, first_stored, own_stored}
 use Rattle.array_versions.specs.Behaviour.{number_pushed, way_by_top, way_by_two, turns, step_behaviour, tested, behaviour}
@@ -43,6 +43,11 @@ top_leaves : (n : ℕ) (o : Option ℕ) (vs : List ℕ) (next : ℕ → List ℕ
     → Leaves n o (with_top vs next).end
 top_leaves n o [] next h = tt
 top_leaves n o (v ∷ vs) next h = h v vs
+
+words_leave : (n : ℕ) (o : Option ℕ) (k : ℕ) (vs : List ℕ) (next : List ℕ → List ℕ → Behaviour) → ((ws us : List ℕ) → Leaves n o (next ws us).end)
+    → Leaves n o (with_words k vs next).end
+words_leave n o zero vs next h = h [] vs
+words_leave n o (suc k) vs next h = top_leaves n o vs _ (λ v us. words_leave n o k us _ (λ ws rest. h (v ∷ ws) rest))
 
 local_leaves : (n : ℕ) (o p : Option ℕ) (s : WordState) → s.locals n ≡ o → Leaves n o (local_pushed p s).end
 local_leaves n o None s e = tt
@@ -157,6 +162,7 @@ mutual
   step_leaves n o (unary op) s h e = top_leaves n o s.stack _ (λ v vs. e)
   step_leaves n o (binary op) s h e = top_leaves n o s.stack _ (λ v us. top_leaves n o us _ (λ u vs. e))
   step_leaves n o (shift op k) s h e = top_leaves n o s.stack _ (λ v vs. e)
+  step_leaves n o (long op) s h e = words_leave n o (long_pops op) s.stack _ (λ ws vs. e)
   step_leaves n o (element base length) s h e = top_leaves n o s.stack _ (λ i vs. element_leaves n o (nat_lt i length) base i (with_stack vs s) e)
   step_leaves n o (emit_word count buffer) s h e = top_leaves n o s.stack _
       (λ v vs. guarded n o (is_place count) _ (guarded n o (is_place (2 * s.fram count + buffer)) _ e))

@@ -2,8 +2,8 @@
 use Rattle.std.proofs.Common.{◌≡◌, ℕ, zero, suc, ◌+◌, ◌-◌, ◌*◌, ◌≤◌, max, Bool, true, false, if◌then◌else◌, List, [], ◌∷◌, refl, arith}
 use Rattle.array_versions.specs.declared.operations.Comparison.{Comparison}
 use Rattle.array_versions.specs.Operations.{is_true, compare_words}
-use Rattle.array_versions.specs.Program.{Step, Test, number, load, keep, update, local, set_local, update_local, unary, binary, shift, element, emit_word}
-use Rattle.array_versions.specs.Program.{list_entry}
+use Rattle.array_versions.specs.Program.{Step, Test, number, load, keep, update, local, set_local, update_local, unary, binary, shift, long, element}
+use Rattle.array_versions.specs.Program.{emit_word, list_entry}
 use Rattle.array_versions.specs.Program.{versioned_read, versioned_write, versioned_update, sense, truth, choose, repeat, store_number, move_word, jump, holds}
 use Rattle.array_versions.specs.Program.{compares}
 use Rattle.array_versions.specs.Program.{both, either, fails, nothing, step, joined}
@@ -73,6 +73,7 @@ mutual
   step_most (unary op) s = omega arith
   step_most (binary op) s = omega arith
   step_most (shift op k) s = omega arith
+  step_most (long op) s = omega arith
   step_most (element base length) s = omega arith
   step_most (emit_word count buffer) s = omega arith
   step_most (list_entry count list home copy words) s = omega arith

@@ -1,12 +1,15 @@
 -- A whole program is never broken: along each way the stack is as deep as is said, and the locals that are said to be assigned are.
 use Rattle.std.proofs.Common.{◌≡◌, ℕ, zero, suc, ◌+◌, ◌-◌, ◌*◌, ◌%◌, ◌==◌, ◌≤◌, ◌||◌, List, [], ◌∷◌, length, Option, Some, None, Bool, true, false}
-use Rattle.std.proofs.Common.{nat_eq, nat_lt, refl, sym, ap, ◌∙◌, subst, arith, eq-eqb, if◌then◌else◌}
+use Rattle.std.proofs.Common.{nat_eq, nat_lt, refl, sym, ap, ◌∙◌, ◌++◌, subst, arith, eq-eqb, if◌then◌else◌}
+use Rattle.std.proofs.lemmas.List.{length-append}
 use Rattle.machine_effects.specs.fram_board.Effects.{Store}
 use Rattle.array_versions.specs.declared.program.ArrayPlace.{ArrayPlace}
 use Rattle.array_versions.specs.declared.program.ListPlace.{ListPlace}
 use Rattle.array_versions.specs.declared.operations.PlainOperation.{PlainOperation}
-use Rattle.array_versions.specs.Operations.{plain_word, is_true, compare_words}
-use Rattle.array_versions.specs.Program.{Step, Test, Program, number, load, keep, update, local, set_local, update_local, unary, binary, shift, element}
+use Rattle.array_versions.specs.declared.operations.LongOperation.{LongOperation}
+use Rattle.array_versions.specs.declared.operations.LongOperation.TheVariants.{ShiftLeft}
+use Rattle.array_versions.specs.Operations.{plain_word, is_true, compare_words, long_pops, long_pushes, long_result}
+use Rattle.array_versions.specs.Program.{Step, Test, Program, number, load, keep, update, local, set_local, update_local, unary, binary, shift, long, element}
 use Rattle.array_versions.specs.Program.{emit_word}
 use Rattle.array_versions.specs.Program.{list_entry}
 use Rattle.array_versions.specs.Program.{versioned_read, versioned_write, versioned_update, sense, truth, choose, repeat, store_number, move_word, jump, holds}
@@ -14,7 +17,8 @@ use Rattle.array_versions.specs.Program.{compares}
 use Rattle.array_versions.specs.Program.{both, either, fails, nothing, step}
 use Rattle.array_versions.specs.Behaviour.{stored, behind_effects, WordState, started, End, GoesOn, Jumps, Short, Strays, Broken, Behaviour, behaves}
 use Rattle.array_versions.specs.Behaviour.{goes_on}
-use Rattle.array_versions.specs.Behaviour.{strays, broken, on_end, then_on, is_place, at_place, with_top, with_two, with_stack, pushed, with_local}
+use Rattle.array_versions.specs.Behaviour.{strays, broken, on_end, then_on, is_place, at_place, with_top, with_two, with_words, with_stack, pushed}
+use Rattle.array_versions.specs.Behaviour.{with_local}
 use Rattle.array_versions.specs.Behaviour.{local_pushed, local_updated, reading_pushed, entry_stored, raised, ends_before, listed_behind, own_element}
 use Rattle.array_versions.specs.Behaviour.{first_stored, own_place, own_kept, own_updated}
 use Rattle.array_versions.specs.Behaviour.{own_stored, number_pushed, way_by_top, way_by_two, turns, step_behaviour, tested, behaviour}
@@ -64,6 +68,12 @@ two_well : (next : Place → Type 0) (vs : List ℕ) (go : ℕ → ℕ → List 
 two_well next vs go l h =
     top_well next vs _ (omega arith) (λ v us e. top_well next us _ (omega arith) (λ u rest f. h u v rest (omega arith)))
 
+words_well : (next : Place → Type 0) (n : ℕ) (vs : List ℕ) (go : List ℕ → List ℕ → Behaviour) → n ≤ length vs
+    → ((ws us : List ℕ) → length us + n ≡ length vs → GoesWell next (go ws us).end) → GoesWell next (with_words n vs go).end
+words_well next zero vs go l h = h [] vs (omega arith)
+words_well next (suc n) vs go l h =
+    top_well next vs _ (omega arith) (λ v us e. words_well next n us _ (omega arith) (λ ws rest f. h (v ∷ ws) rest (omega arith)))
+
 -- a place of this depth
 abbrev at_depth : ℕ → Place → Place
 at_depth d q = record q { depth = d }
@@ -101,14 +111,31 @@ pop_well room next q s t h m e f = (
   record { depth = omega (arith, m.depth); assigned = λ n k. subst (λ l. HasWord (l n)) (sym f) (m.assigned n k) },
 )
 
--- words popped, and one pushed
-turn_well : (room pops : ℕ) (next : Place → Type 0) (q : Place) (s t : WordState) → Moves room pops 1 next q → Matches q s
-    → length t.stack + pops ≡ length s.stack + 1 → t.locals ≡ s.locals → GoesWell next (GoesOn t)
-turn_well room pops next q s t h m e f = (
-  at_depth (q.depth - pops + 1) q,
+-- words popped, and others pushed
+moved_well : (room pops pushes : ℕ) (next : Place → Type 0) (q : Place) (s t : WordState) → Moves room pops pushes next q → Matches q s
+    → length t.stack + pops ≡ length s.stack + pushes → t.locals ≡ s.locals → GoesWell next (GoesOn t)
+moved_well room pops pushes next q s t h m e f = (
+  at_depth (q.depth - pops + pushes) q,
   h.2,
   record { depth = let l = h.0 in omega (arith, m.depth); assigned = λ n k. subst (λ l. HasWord (l n)) (sym f) (m.assigned n k) },
 )
+
+-- words popped, and one pushed
+turn_well : (room pops : ℕ) (next : Place → Type 0) (q : Place) (s t : WordState) → Moves room pops 1 next q → Matches q s
+    → length t.stack + pops ≡ length s.stack + 1 → t.locals ≡ s.locals → GoesWell next (GoesOn t)
+turn_well room pops next q s t h m e f = moved_well room pops 1 next q s t h m e f
+
+-- an operation with longs gives as many words as is said
+long_pushes_so : (op : LongOperation) (words : List ℕ) → length (long_result op words) ≡ long_pushes op
+long_pushes_so (ShiftLeft k) words = refl
+long_pushes_so _ words = refl
+
+long_well : (room : ℕ) (op : LongOperation) (next : Place → Type 0) (q : Place) (s : WordState) → Moves room (long_pops op) (long_pushes op) next q
+    → Matches q s → GoesWell next (step_behaviour (long op) s).end
+long_well room op next q s h m =
+    words_well next (long_pops op) s.stack _ (omega (arith, h.0, m.depth)) (λ ws vs e.
+    let size = length-append (long_result op ws) vs in
+    moved_well room (long_pops op) (long_pushes op) next q s _ h m (omega (arith, size, long_pushes_so op ws, e)) refl)
 
 local_well : (room : ℕ) (o : Option ℕ) (next : Place → Type 0) (q : Place) (s : WordState) → HasWord o → Moves room 0 1 next q → Matches q s
     → GoesWell next (local_pushed o s).end
@@ -279,6 +306,7 @@ mutual
       (λ u v vs e. turn_well room 2 next q s _ h m (omega arith) refl)
   step_well room (shift op k) next q s h m = top_well next s.stack _ (omega (arith, h.0, m.depth))
       (λ v vs e. turn_well room 1 next q s _ h m (omega arith) refl)
+  step_well room (long op) next q s h m = long_well room op next q s h m
   step_well room (element base size) next q s h m =
       top_well next s.stack _ (omega (arith, h.0, m.depth))
       (λ i vs e. element_well (nat_lt i size) base i next (with_stack vs s) (λ v. turn_well room 1 next q s _ h m (omega arith) refl))

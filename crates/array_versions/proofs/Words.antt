@@ -1,7 +1,8 @@
 -- From words a program makes words.
 use Rattle.std.proofs.Common.{◌≡◌, ℕ, zero, suc, ◌+◌, ◌-◌, ◌*◌, ◌/◌, ◌%◌, ◌^◌, ◌==◌, ◌<◌, List, [], ◌∷◌, Option, Some, None, Bool, true, false}
 use Rattle.std.proofs.Common.{nat_eq}
-use Rattle.std.proofs.Common.{nat_lt, nat_le, refl, subst, arith, if◌then◌else◌}
+use Rattle.std.proofs.Common.{nat_lt, nat_le, refl, subst, arith, if◌then◌else◌, ◌++◌, ◌≤◌}
+use Rattle.std.specs.Prelude.{slice_index}
 use Rattle.std.specs.List.{AllByRecursion}
 use Rattle.std.proofs.lemmas.Bool.Decides.{nat_tests}
 use Rattle.std.proofs.lemmas.Nat.{and_le_l, or_lt, xor_lt}
@@ -18,10 +19,13 @@ use Rattle.array_versions.specs.declared.operations.PlainOperation.{PlainOperati
 use Rattle.array_versions.specs.declared.operations.PlainOperation.TheVariants.{Add, Subtract, And, Xor, Or}
 use Rattle.array_versions.specs.declared.operations.ShiftOperation.{ShiftOperation}
 use Rattle.array_versions.specs.declared.operations.ShiftOperation.TheVariants.{Left, Right, SignedRight}
-use Rattle.array_versions.specs.Operations.{unary_word, plain_word, binary_word, shifted_word, shift_word, is_true, compare_words}
+use Rattle.array_versions.specs.declared.operations.LongOperation.{LongOperation}
+use Rattle.array_versions.specs.declared.operations.LongOperation.TheVariants as with_longs
+use Rattle.array_versions.specs.Operations.{unary_word, plain_word, binary_word, shifted_word, shift_word, is_true, compare_words, stacked, long_at}
+use Rattle.array_versions.specs.Operations.{plain_long, long_to_left, long_to_right, sign_word, all_bits, long_pops, long_result}
 use Rattle.array_versions.specs.declared.program.ArrayPlace.{ArrayPlace}
 use Rattle.array_versions.specs.declared.program.ListPlace.{ListPlace}
-use Rattle.array_versions.specs.Program.{Step, Test, Program, number, load, keep, update, local, set_local, update_local, unary, binary, shift, element}
+use Rattle.array_versions.specs.Program.{Step, Test, Program, number, load, keep, update, local, set_local, update_local, unary, binary, shift, long, element}
 use Rattle.array_versions.specs.Program.{emit_word}
 use Rattle.array_versions.specs.Program.{list_entry}
 use Rattle.array_versions.specs.Program.{versioned_read, versioned_write, versioned_update, sense, truth, choose, repeat, store_number, move_word, jump, holds}
@@ -29,7 +33,7 @@ use Rattle.array_versions.specs.Program.{compares}
 use Rattle.array_versions.specs.Program.{both, either, fails, nothing, step}
 use Rattle.array_versions.specs.Behaviour.{WordState, End, GoesOn, Jumps, Short, Strays, Broken, Behaviour, behaves, goes_on, strays, broken, on_end}
 use Rattle.array_versions.specs.Behaviour.{is_place}
-use Rattle.array_versions.specs.Behaviour.{at_place, with_top, with_stack, pushed, stored, with_local, local_pushed, local_updated, reading_pushed}
+use Rattle.array_versions.specs.Behaviour.{at_place, with_top, with_words, with_stack, pushed, stored, with_local, local_pushed, local_updated, reading_pushed}
 use Rattle.array_versions.specs.Behaviour.{entry_stored, own_place, own_kept, own_updated}
 use Rattle.array_versions.specs.Behaviour.{ends_before, raised, listed_behind}
 use Rattle.array_versions.specs.Behaviour.{behind_effects, own_element, first_stored, own_stored, number_pushed, way_by_top, way_by_two, turns}
@@ -83,6 +87,72 @@ zero_unless false v h = omega arith
 pub shift_small : (op : ShiftOperation) (y k : ℕ) → y < 0x10000 → shift_word op y k < 0x10000
 shift_small op y k h = zero_unless (nat_le k 15) (shifted_word op y k) (shifted_small op y k h)
 
+-- ---- operations with longs
+
+-- one of words, and 0 past them, is a word
+word_small : (ws : List ℕ) (i : ℕ) → AreWords ws → slice_index ws i < 0x10000
+word_small [] i h = omega arith
+word_small (w ∷ ws) zero h = h.0
+word_small (w ∷ ws) (suc i) h = word_small ws i h.1
+
+-- two words are a number below 2^32
+long_small : (ws : List ℕ) (i : ℕ) → AreWords ws → long_at ws i < 0x100000000
+long_small ws i h = omega (arith, word_small ws i h, word_small ws (i + 1) h)
+
+-- and such a number is two words
+pub stacked_words : (n : ℕ) → n < 0x100000000 → AreWords (stacked n)
+stacked_words n h = (omega arith, (omega arith, tt))
+
+pub plain_long_small : (op : PlainOperation) (a b : ℕ) → a < 0x100000000 → b < 0x100000000 → plain_long op a b < 0x100000000
+plain_long_small Add a b h k = omega arith
+plain_long_small Subtract a b h k = omega arith
+plain_long_small And a b h k = let l = and_le_l a b in omega arith
+plain_long_small Xor a b h k = xor_lt 32 a b h k
+plain_long_small Or a b h k = or_lt 32 a b h k
+
+-- a number below 2^32 or 0
+long_or_zero : (b : Bool) (n : ℕ) → n < 0x100000000 → (if b then n else 0) < 0x100000000
+long_or_zero true n h = h
+long_or_zero false n h = omega arith
+
+pub left_small : (a k : ℕ) → long_to_left a k < 0x100000000
+left_small a k = let p = a * 2 ^ k in long_or_zero (nat_le k 31) (p % 0x100000000) (omega arith)
+
+quotient_at_most : (a d : ℕ) → a / d ≤ a
+quotient_at_most a d = grind arith
+
+pub right_small : (a k : ℕ) → a < 0x100000000 → long_to_right a k < 0x100000000
+right_small a k h = long_or_zero (nat_le k 31) (a / 2 ^ k) (omega (arith, quotient_at_most a (2 ^ k)))
+
+sign_small : (b : Bool) → (if b then 0 else 65535) < 0x10000
+sign_small true = omega arith
+sign_small false = omega arith
+
+mask_small : (b : Bool) → all_bits b < 0x10000
+mask_small true = omega arith
+mask_small false = omega arith
+
+-- an operation with longs gives words
+long_words : (op : LongOperation) (ws : List ℕ) → AreWords ws → AreWords (long_result op ws)
+long_words (with_longs.Calculate op) ws h =
+    stacked_words _ (plain_long_small op (long_at ws 2) (long_at ws 0) (long_small ws 2 h) (long_small ws 0 h))
+long_words with_longs.Below ws h = (mask_small (nat_lt (long_at ws 2) (long_at ws 0)), tt)
+long_words with_longs.Above ws h = (mask_small (nat_lt (long_at ws 0) (long_at ws 2)), tt)
+long_words (with_longs.ShiftLeft k) ws h = stacked_words _ (left_small (long_at ws 0) k)
+long_words (with_longs.ShiftRight k) ws h = stacked_words _ (right_small (long_at ws 0) k (long_small ws 0 h))
+long_words with_longs.Complement ws h = stacked_words _ (omega arith)
+long_words with_longs.Widen ws h =
+    let sign = sign_small (nat_lt (slice_index ws 0) 32768) in
+    stacked_words _ (omega (arith, word_small ws 0 h, sign))
+long_words with_longs.Join ws h = stacked_words _ (long_small ws 0 h)
+long_words with_longs.LowWord ws h = (word_small ws 1 h, tt)
+long_words with_longs.HighWord ws h = (word_small ws 0 h, tt)
+
+-- words on words
+on_words : (vs us : List ℕ) → AreWords vs → AreWords us → AreWords (vs ++ us)
+on_words [] us h k = k
+on_words (v ∷ vs) us h k = (h.0, on_words vs us h.1 k)
+
 put_by : (b : Bool) (v u : ℕ) → v < 0x10000 → u < 0x10000 → (if b then v else u) < 0x10000
 put_by true v u h k = h
 put_by false v u h k = k
@@ -123,6 +193,12 @@ top_words : (vs : List ℕ) (next : ℕ → List ℕ → Behaviour) → AreWords
     → EndsInWords (with_top vs next).end
 top_words [] next w h = tt
 top_words (v ∷ vs) next w h = h v vs w.0 w.1
+
+some_words : (n : ℕ) (vs : List ℕ) (next : List ℕ → List ℕ → Behaviour) → AreWords vs
+    → ((ws us : List ℕ) → AreWords ws → AreWords us → EndsInWords (next ws us).end) → EndsInWords (with_words n vs next).end
+some_words zero vs next w h = h [] vs tt w
+some_words (suc n) vs next w h =
+    top_words vs _ w (λ v us l m. some_words n us _ m (λ ws rest k j. h (v ∷ ws) rest (l, k) j))
 
 pushed_words : (s : WordState) (v : ℕ) → IsStateOfWords s → v < 0x10000 → IsStateOfWords (pushed v s)
 pushed_words s v w h = stack_words s (v ∷ s.stack) w (h, w.stack)
@@ -272,6 +348,8 @@ mutual
   step_words (unary op) s h w = top_words s.stack _ w.stack (λ v vs l m. stack_words s _ w (unary_small op v l, m))
   step_words (binary op) s h w = top_words s.stack _ w.stack (λ v us l m. top_words us _ m (λ u vs k j. stack_words s _ w (binary_small op u v k l, j)))
   step_words (shift op k) s h w = top_words s.stack _ w.stack (λ v vs l m. stack_words s _ w (shift_small op v k l, m))
+  step_words (long op) s h w =
+      some_words (long_pops op) s.stack _ w.stack (λ ws vs k m. stack_words s _ w (on_words (long_result op ws) vs (long_words op ws k) m))
   step_words (element base length) s h w =
       top_words s.stack _ w.stack (λ i vs l m. element_words (nat_lt i length) base i (with_stack vs s) (stack_words s vs w m))
   step_words (emit_word count buffer) s h w =

@@ -2,7 +2,10 @@
 use Rattle.std.specs.Prelude.{ℕ, ◌+◌, ◌-◌, ◌*◌, ◌≤◌, ◌==◌, if◌then◌else◌, max}
 use Rattle.array_versions.specs.declared.operations.BinaryOperation.{BinaryOperation}
 use Rattle.array_versions.specs.declared.operations.BinaryOperation.TheVariants.{Multiply, Divide, Remainder}
-use Rattle.array_versions.specs.Program.{Step, Test, number, load, keep, update, local, set_local, update_local, unary, binary, shift, element, emit_word}
+use Rattle.array_versions.specs.declared.operations.LongOperation.{LongOperation}
+use Rattle.array_versions.specs.declared.operations.LongOperation.TheVariants.{ShiftLeft, ShiftRight}
+use Rattle.array_versions.specs.Program.{Step, Test, number, load, keep, update, local, set_local, update_local, unary, binary, shift, long, element}
+use Rattle.array_versions.specs.Program.{emit_word}
 use Rattle.array_versions.specs.Program.{list_entry}
 use Rattle.array_versions.specs.Program.{versioned_read, versioned_write, versioned_update, sense, truth, choose, repeat, store_number, move_word, jump, holds}
 use Rattle.array_versions.specs.Program.{compares}
@@ -15,6 +18,12 @@ binary_allowance Multiply = 300
 binary_allowance Divide = 400
 binary_allowance Remainder = 400
 binary_allowance _ = 40
+
+-- the cycles of an operation with longs
+abbrev pub long_allowance : LongOperation → ℕ
+long_allowance (ShiftLeft k) = 400
+long_allowance (ShiftRight k) = 400
+long_allowance _ = 80
 
 -- the cycles of a step: of what an expression or a statement is made of, those of its row in the table of the allowance. An entry
 -- of the commit list has 40, and the stores and the jump of a transition have 100 together
@@ -29,6 +38,7 @@ allowed_cycles (update_local op n) = 40
 allowed_cycles (unary op) = 40
 allowed_cycles (binary op) = binary_allowance op
 allowed_cycles (shift op k) = 100
+allowed_cycles (long op) = long_allowance op
 allowed_cycles (element base length) = 60
 allowed_cycles (emit_word count buffer) = 60
 allowed_cycles (list_entry count list home copy words) = 40
@@ -59,6 +69,7 @@ allowed_words (update_local op n) = 24
 allowed_words (unary op) = 16
 allowed_words (binary op) = 16
 allowed_words (shift op k) = 16
+allowed_words (long op) = 32
 allowed_words (element base length) = 24
 allowed_words (emit_word count buffer) = 24
 allowed_words (list_entry count list home copy words) = entry_allowance words

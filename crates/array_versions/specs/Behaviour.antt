@@ -8,8 +8,8 @@ use Rattle.array_versions.specs.declared.program.ArrayPlace.{ArrayPlace}
 use Rattle.array_versions.specs.declared.program.ListPlace.{ListPlace}
 use Rattle.array_versions.specs.declared.operations.PlainOperation.{PlainOperation}
 use Rattle.array_versions.specs.declared.operations.Comparison.{Comparison}
-use Rattle.array_versions.specs.Operations.{unary_word, plain_word, binary_word, shift_word, is_true, compare_words}
-use Rattle.array_versions.specs.Program.{Step, Test, Program, number, load, keep, update, local, set_local, update_local, unary, binary, shift, element}
+use Rattle.array_versions.specs.Operations.{unary_word, plain_word, binary_word, shift_word, is_true, compare_words, long_pops, long_result}
+use Rattle.array_versions.specs.Program.{Step, Test, Program, number, load, keep, update, local, set_local, update_local, unary, binary, shift, long, element}
 use Rattle.array_versions.specs.Program.{emit_word}
 use Rattle.array_versions.specs.Program.{list_entry}
 use Rattle.array_versions.specs.Program.{versioned_read, versioned_write, versioned_update, sense, truth, choose, repeat, store_number, move_word, jump, holds}
@@ -89,6 +89,11 @@ with_top (v ∷ vs) next = next v vs
 -- pops two words, the second one the top
 abbrev pub with_two : List ℕ → (ℕ → ℕ → List ℕ → Behaviour) → Behaviour
 with_two vs next = with_top vs (λ v us. with_top us (λ u rest. next u v rest))
+
+-- pops so many words, which are handed on with the top first
+abbrev pub with_words : ℕ → List ℕ → (List ℕ → List ℕ → Behaviour) → Behaviour
+with_words zero vs next = next [] vs
+with_words (suc n) vs next = with_top vs (λ v us. with_words n us (λ words rest. next (v ∷ words) rest))
 
 -- the state with this stack
 abbrev pub with_stack : List ℕ → WordState → WordState
@@ -264,6 +269,7 @@ abbrev mutual
   step_behaviour (unary op) s = with_top s.stack (λ v vs. goes_on [] (with_stack (unary_word op v ∷ vs) s))
   step_behaviour (binary op) s = with_two s.stack (λ u v vs. goes_on [] (with_stack (binary_word op u v ∷ vs) s))
   step_behaviour (shift op k) s = with_top s.stack (λ v vs. goes_on [] (with_stack (shift_word op v k ∷ vs) s))
+  step_behaviour (long op) s = with_words (long_pops op) s.stack (λ words vs. goes_on [] (with_stack (long_result op words ++ vs) s))
   step_behaviour (element base length) s = with_top s.stack (λ i vs. element_pushed base length i (with_stack vs s))
   step_behaviour (emit_word count buffer) s = with_top s.stack (λ v vs. word_emitted count buffer v (with_stack vs s))
   step_behaviour (list_entry count list home copy words) s = entry_stored count list home copy words s

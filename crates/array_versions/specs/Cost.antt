@@ -7,8 +7,10 @@ use Rattle.array_versions.specs.declared.operations.BinaryOperation.TheVariants.
 use Rattle.array_versions.specs.declared.operations.Comparison.{Comparison}
 use Rattle.array_versions.specs.declared.operations.ShiftOperation.{ShiftOperation}
 use Rattle.array_versions.specs.declared.operations.ShiftOperation.TheVariants.{Left, Right, SignedRight}
+use Rattle.array_versions.specs.declared.operations.LongOperation.{LongOperation}
+use Rattle.array_versions.specs.declared.operations.LongOperation.TheVariants as with_longs
 use Rattle.array_versions.specs.Operations.{is_true, compare_words}
-use Rattle.array_versions.specs.Program.{Step, Test, Program, number, load, keep, update, local, set_local, update_local, unary, binary, shift, element}
+use Rattle.array_versions.specs.Program.{Step, Test, Program, number, load, keep, update, local, set_local, update_local, unary, binary, shift, long, element}
 use Rattle.array_versions.specs.Program.{emit_word}
 use Rattle.array_versions.specs.Program.{list_entry}
 use Rattle.array_versions.specs.Program.{versioned_read, versioned_write, versioned_update, sense, truth, choose, repeat, store_number, move_word, jump, holds}
@@ -52,6 +54,32 @@ shift_words Left k = if nat_lt k 8 then k else 3 + (k - 8)
 shift_words Right k = if nat_lt k 8 then right_words k else 3 + (k - 8)
 shift_words SignedRight k = if nat_lt k 8 then k else 2 + (k - 8)
 
+-- the cycles of an operation with longs
+abbrev pub long_cycles : LongOperation → ℕ
+long_cycles (with_longs.Calculate op) = 16
+long_cycles with_longs.Below = 14
+long_cycles with_longs.Above = 16
+long_cycles (with_longs.ShiftLeft k) = 32
+long_cycles (with_longs.ShiftRight k) = 32
+long_cycles with_longs.Complement = 16
+long_cycles with_longs.Widen = 12
+long_cycles with_longs.Join = 0
+long_cycles with_longs.LowWord = 2
+long_cycles with_longs.HighWord = 7
+
+-- its words
+abbrev pub long_words : LongOperation → ℕ
+long_words (with_longs.Calculate op) = 8
+long_words with_longs.Below = 8
+long_words with_longs.Above = 10
+long_words (with_longs.ShiftLeft k) = 26
+long_words (with_longs.ShiftRight k) = 26
+long_words with_longs.Complement = 8
+long_words with_longs.Widen = 7
+long_words with_longs.Join = 0
+long_words with_longs.LowWord = 1
+long_words with_longs.HighWord = 3
+
 -- the words that store an entry of so many words: 1 takes no word of its own
 abbrev pub entry_words : ℕ → ℕ
 entry_words words = if words == 1 then 16 else 17
@@ -69,6 +97,7 @@ abbrev mutual
   step_cycles (unary op) = unary_cycles op
   step_cycles (binary op) = binary_cycles op
   step_cycles (shift op k) = 15
+  step_cycles (long op) = long_cycles op
   step_cycles (element base length) = 15
   step_cycles (emit_word count buffer) = 16
   step_cycles (list_entry count list home copy words) = 26
@@ -109,6 +138,7 @@ abbrev mutual
   step_words (unary op) = unary_words op
   step_words (binary op) = binary_words op
   step_words (shift op k) = 2 + (if nat_le k 15 then shift_words op k else 1)
+  step_words (long op) = long_words op
   step_words (element base length) = 10
   step_words (emit_word count buffer) = 10
   step_words (list_entry count list home copy words) = entry_words words
@@ -179,6 +209,7 @@ abbrev mutual
   step_spent (unary op) s = step_cycles (unary op)
   step_spent (binary op) s = step_cycles (binary op)
   step_spent (shift op k) s = step_cycles (shift op k)
+  step_spent (long op) s = step_cycles (long op)
   step_spent (element base length) s = step_cycles (element base length)
   step_spent (emit_word count buffer) s = step_cycles (emit_word count buffer)
   step_spent (list_entry count list home copy words) s = step_cycles (list_entry count list home copy words)

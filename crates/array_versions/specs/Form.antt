@@ -4,7 +4,10 @@ use Rattle.std.specs.Prelude.{ℕ, zero, suc, ◌+◌, ◌-◌, ◌*◌, ◌%◌
 use Rattle.machine_effects.specs.alp_words.Words.{IsWord}
 use Rattle.array_versions.specs.declared.program.ArrayPlace.{ArrayPlace}
 use Rattle.array_versions.specs.declared.program.ListPlace.{ListPlace}
-use Rattle.array_versions.specs.Program.{Step, Test, Program, number, load, keep, update, local, set_local, update_local, unary, binary, shift, element}
+use Rattle.array_versions.specs.declared.operations.LongOperation.{LongOperation}
+use Rattle.array_versions.specs.declared.operations.LongOperation.TheVariants as with_longs
+use Rattle.array_versions.specs.Operations.{long_pops, long_pushes}
+use Rattle.array_versions.specs.Program.{Step, Test, Program, number, load, keep, update, local, set_local, update_local, unary, binary, shift, long, element}
 use Rattle.array_versions.specs.Program.{emit_word}
 use Rattle.array_versions.specs.Program.{list_entry}
 use Rattle.array_versions.specs.Program.{versioned_read, versioned_write, versioned_update, sense, truth, choose, repeat, store_number, move_word, jump, holds}
@@ -47,6 +50,7 @@ abbrev mutual
   EachStepWay room (unary op) next p = Moves room 1 1 next p
   EachStepWay room (binary op) next p = Moves room 2 1 next p
   EachStepWay room (shift op k) next p = Moves room 1 1 next p
+  EachStepWay room (long op) next p = Moves room (long_pops op) (long_pushes op) next p
   EachStepWay room (element base length) next p = Moves room 1 1 next p
   EachStepWay room (emit_word count buffer) next p = Moves room 1 0 next p
   EachStepWay room (list_entry count list home copy words) next p = next p
@@ -150,6 +154,12 @@ ArrayOfWords place = IsWord place.elements × IsWord place.copies × IsWord plac
 abbrev pub ListOfWords : ListPlace → Type 0
 ListOfWords list = IsWord list.ver × IsWord list.cln × IsWord list.list
 
+-- the count of a shift is a word
+abbrev pub LongOfWords : LongOperation → Type 0
+LongOfWords (with_longs.ShiftLeft k) = IsWord k
+LongOfWords (with_longs.ShiftRight k) = IsWord k
+LongOfWords _ = Unit {0}
+
 abbrev mutual
   -- each number in a step is a word, as those of a program in memory are
   pub StepOfWords : Step → Type 0
@@ -163,6 +173,7 @@ abbrev mutual
   StepOfWords (unary op) = Unit {0}
   StepOfWords (binary op) = Unit {0}
   StepOfWords (shift op k) = IsWord k
+  StepOfWords (long op) = LongOfWords op
   StepOfWords (element base length) = IsWord base × IsWord length
   StepOfWords (emit_word count buffer) = IsWord count × IsWord buffer
   StepOfWords (list_entry count list home copy words) = IsWord count × IsWord list × IsWord home × IsWord copy × IsWord words

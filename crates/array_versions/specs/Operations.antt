@@ -1,5 +1,6 @@
 -- What the operations give, by the arithmetic of words.
-use Rattle.std.specs.Prelude.{ℕ, ◌^◌, ◌-◌, ◌/◌, ◌==◌, Bool, not, nat_le, nat_lt, bit_and, bit_or, bit_xor, if◌then◌else◌}
+use Rattle.std.specs.Prelude.{ℕ, ◌^◌, ◌+◌, ◌-◌, ◌*◌, ◌/◌, ◌%◌, ◌==◌, Bool, not, nat_le, nat_lt, bit_and, bit_or, bit_xor, if◌then◌else◌, List, [], ◌∷◌}
+use Rattle.std.specs.Prelude.{slice_index}
 use Rattle.machine_effects.specs.alp_words.Words.{word_sum, word_difference, word_product, quotient, remainder, arithmetic_shift, biased}
 use Rattle.array_versions.specs.declared.operations.UnaryOperation.{UnaryOperation}
 use Rattle.array_versions.specs.declared.operations.UnaryOperation.TheVariants.{Negate, Complement}
@@ -11,6 +12,8 @@ use Rattle.array_versions.specs.declared.operations.Comparison.{Comparison}
 use Rattle.array_versions.specs.declared.operations.Comparison.TheVariants.{Equal, Below, Above, SignedBelow, SignedAbove, CommonBit}
 use Rattle.array_versions.specs.declared.operations.ShiftOperation.{ShiftOperation}
 use Rattle.array_versions.specs.declared.operations.ShiftOperation.TheVariants.{Left, Right, SignedRight}
+use Rattle.array_versions.specs.declared.operations.LongOperation.{LongOperation}
+use Rattle.array_versions.specs.declared.operations.LongOperation.TheVariants as with_longs
 
 -- an operation on one word
 abbrev pub unary_word : UnaryOperation → ℕ → ℕ
@@ -54,3 +57,80 @@ shifted_word SignedRight v k = arithmetic_shift v k
 -- a shift by any count: 0 by more than 15 bits
 abbrev pub shift_word : ShiftOperation → ℕ → ℕ → ℕ
 shift_word op v k = if nat_le k 15 then shifted_word op v k else 0
+
+-- ---- longs, which are numbers below 2^32
+
+-- what two words are worth, the low one first
+abbrev pub two_words : ℕ → ℕ → ℕ
+two_words low high = low + 65536 * high
+
+-- a long on the stack: its high word on top
+abbrev pub stacked : ℕ → List ℕ
+stacked n = n / 65536 ∷ n % 65536 ∷ []
+
+-- the long whose high word is at this index of words from the top of the stack on
+abbrev pub long_at : List ℕ → ℕ → ℕ
+long_at words i = two_words (slice_index words (i + 1)) (slice_index words i)
+
+-- an operation on two longs
+abbrev pub plain_long : PlainOperation → ℕ → ℕ → ℕ
+plain_long Add a b = (a + b) % 2 ^ 32
+plain_long Subtract a b = (a + (2 ^ 32 - b)) % 2 ^ 32
+plain_long And a b = bit_and a b
+plain_long Xor a b = bit_xor a b
+plain_long Or a b = bit_or a b
+
+-- a long shifted to the left by any count: 0 by more than 31 bits
+abbrev pub long_to_left : ℕ → ℕ → ℕ
+long_to_left a k = if nat_le k 31 then (a * 2 ^ k) % 2 ^ 32 else 0
+
+-- the same to the right
+abbrev pub long_to_right : ℕ → ℕ → ℕ
+long_to_right a k = if nat_le k 31 then a / 2 ^ k else 0
+
+-- the high word of an int that becomes long: its sign
+abbrev pub sign_word : ℕ → ℕ
+sign_word w = if nat_lt w 32768 then 0 else 65535
+
+-- a word with each bit 1 where this holds, else with none
+abbrev pub all_bits : Bool → ℕ
+all_bits b = if b then 65535 else 0
+
+-- how many words an operation with longs takes from the stack
+abbrev pub long_pops : LongOperation → ℕ
+long_pops (with_longs.Calculate op) = 4
+long_pops with_longs.Below = 4
+long_pops with_longs.Above = 4
+long_pops (with_longs.ShiftLeft k) = 2
+long_pops (with_longs.ShiftRight k) = 2
+long_pops with_longs.Complement = 2
+long_pops with_longs.Widen = 1
+long_pops with_longs.Join = 2
+long_pops with_longs.LowWord = 2
+long_pops with_longs.HighWord = 2
+
+-- and how many it gives
+abbrev pub long_pushes : LongOperation → ℕ
+long_pushes (with_longs.Calculate op) = 2
+long_pushes with_longs.Below = 1
+long_pushes with_longs.Above = 1
+long_pushes (with_longs.ShiftLeft k) = 2
+long_pushes (with_longs.ShiftRight k) = 2
+long_pushes with_longs.Complement = 2
+long_pushes with_longs.Widen = 2
+long_pushes with_longs.Join = 2
+long_pushes with_longs.LowWord = 1
+long_pushes with_longs.HighWord = 1
+
+-- the words that it gives for those that it takes, the top first in both. Of two longs the right side is on top
+abbrev pub long_result : LongOperation → List ℕ → List ℕ
+long_result (with_longs.Calculate op) words = stacked (plain_long op (long_at words 2) (long_at words 0))
+long_result with_longs.Below words = all_bits (nat_lt (long_at words 2) (long_at words 0)) ∷ []
+long_result with_longs.Above words = all_bits (nat_lt (long_at words 0) (long_at words 2)) ∷ []
+long_result (with_longs.ShiftLeft k) words = stacked (long_to_left (long_at words 0) k)
+long_result (with_longs.ShiftRight k) words = stacked (long_to_right (long_at words 0) k)
+long_result with_longs.Complement words = stacked (4294967295 - long_at words 0)
+long_result with_longs.Widen words = stacked (two_words (slice_index words 0) (sign_word (slice_index words 0)))
+long_result with_longs.Join words = stacked (long_at words 0)
+long_result with_longs.LowWord words = slice_index words 1 ∷ []
+long_result with_longs.HighWord words = slice_index words 0 ∷ []

@@ -5,6 +5,7 @@ use Rattle.array_versions.specs.declared.operations.BinaryOperation.{BinaryOpera
 use Rattle.array_versions.specs.declared.operations.PlainOperation.{PlainOperation}
 use Rattle.array_versions.specs.declared.operations.Comparison.{Comparison}
 use Rattle.array_versions.specs.declared.operations.ShiftOperation.{ShiftOperation}
+use Rattle.array_versions.specs.declared.operations.LongOperation.{LongOperation}
 use Rattle.array_versions.specs.declared.program.ArrayPlace.{ArrayPlace}
 use Rattle.array_versions.specs.declared.program.ListPlace.{ListPlace}
 
@@ -21,6 +22,7 @@ mutual
     unary : (operation : UnaryOperation) → Step
     binary : (operation : BinaryOperation) → Step
     shift : (operation : ShiftOperation) → (count : ℕ) → Step
+    long : (operation : LongOperation) → Step
     element : (base length : ℕ) → Step
     emit_word : (count buffer : ℕ) → Step
     list_entry : (count list home copy words : ℕ) → Step

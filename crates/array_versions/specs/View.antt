@@ -24,6 +24,7 @@ step_layer (WordStep-F.UpdateLocal op n) = steps.update_local op n
 step_layer (WordStep-F.Unary op) = steps.unary op
 step_layer (WordStep-F.Binary op) = steps.binary op
 step_layer (WordStep-F.Shift op k) = steps.shift op k
+step_layer (WordStep-F.Long op) = steps.long op
 step_layer (WordStep-F.Element base length) = steps.element base length
 step_layer (WordStep-F.EmitWord count buffer) = steps.emit_word count buffer
 step_layer (WordStep-F.ListEntry count list home copy words) = steps.list_entry count list home copy words

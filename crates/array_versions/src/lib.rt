@@ -6,5 +6,7 @@ pub mod laws;
 mod operations;
 mod program;
 
-pub use operations::{BinaryOperation, Comparison, PlainOperation, ShiftOperation, UnaryOperation};
+pub use operations::{
+    BinaryOperation, Comparison, LongOperation, PlainOperation, ShiftOperation, UnaryOperation,
+};
 pub use program::{ArrayPlace, ListPlace, WordProgram, WordStep, WordTest};

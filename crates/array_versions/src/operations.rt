@@ -42,6 +42,31 @@ pub enum Comparison {
     CommonBit,
 }
 
+/// An operation with longs, which are numbers below 2^32. On the stack a long is two words, the high one on top.
+#[derive(Clone, Copy)]
+pub enum LongOperation {
+    /// An operation on the two longs on top of the stack, the right side being the top. Sums and differences are taken modulo 2^32.
+    Calculate(PlainOperation),
+    /// Of the two longs on top of the stack, the right side being the top: 65535 where the left one is below it, else 0.
+    Below,
+    /// 65535 where the left one is above it, else 0.
+    Above,
+    /// A shift of the long on top of the stack by a number of bits; by more than 31 it gives 0.
+    ShiftLeft(u16),
+    /// The same to the right; zeros come in.
+    ShiftRight(u16),
+    /// Each bit of the long on top of the stack turned.
+    Complement,
+    /// The int on top of the stack as a long: its sign is copied into the high word.
+    Widen,
+    /// The two words on top of the stack as a long, the high one on top.
+    Join,
+    /// The low word of the long on top of the stack.
+    LowWord,
+    /// The high word of the long on top of the stack.
+    HighWord,
+}
+
 /// A shift of the top of the stack by a number of bits; by more than 15 it gives 0.
 #[derive(Clone, Copy)]
 pub enum ShiftOperation {

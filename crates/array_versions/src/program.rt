@@ -6,7 +6,7 @@ ghost use Rattle.array_versions.specs.Program as value;
 ghost use Rattle.array_versions.specs.View.{program_of, step_of, test_of};
 
 use crate::operations::{
-    BinaryOperation, Comparison, PlainOperation, ShiftOperation, UnaryOperation,
+    BinaryOperation, Comparison, LongOperation, PlainOperation, ShiftOperation, UnaryOperation,
 };
 use std::alloc::{AllocError, Global};
 
@@ -50,6 +50,8 @@ pub enum WordStep {
     Binary(BinaryOperation),
     /// A shift by a count of bits.
     Shift(ShiftOperation, u16),
+    /// Pops the words that an operation with longs takes, and pushes those that it gives.
+    Long(LongOperation),
     /// Pops an index and pushes the element of an array: 0 where the index isn't below the length.
     Element {
         base: u16,
@@ -266,6 +268,14 @@ impl WordProgram {
         ensures err { OnErr result (program_of self.new ≡ program_of self.old) }
     {
         self.push(WordStep::Shift(operation, count))
+    }
+
+    /// Pops the words that an operation with longs takes, and pushes those that it gives.
+    pub fn long(&mut self, operation: LongOperation) -> Result<(), AllocError>
+        ensures ok { OnOk result (program_of self.new ≡ behind (program_of self.old) (value.long operation)) }
+        ensures err { OnErr result (program_of self.new ≡ program_of self.old) }
+    {
+        self.push(WordStep::Long(operation))
     }
 
     /// Pops an index and pushes the element of the array at an address: 0 where the index isn't below the length.

@@ -15,6 +15,6 @@ pub use Rattle.lower.proofs.Seen.{places_count, scalar_seen, array_seen, array_r
 -- The words of a task's code, and the cycles of its expressions, are within the allowance of a source.
 pub use Rattle.lower.proofs.Sizes.{blocks_keep_to_words}
 -- Private scalars as runs: no more runs than scalars, the same words.
-pub use Rattle.lower.proofs.Neighbours.{RunOfWords, runs_of_words, pairs_of_run, pairs_of_runs, scalar_pair, runs_pairs, runs_have_words, runs_are_few}
+pub use Rattle.lower.proofs.Neighbours.{RunOfWords, runs_of_words, pairs_of_run, pairs_of_runs, runs_pairs, runs_have_words, runs_are_few}
 -- What tasks spend along the way that they take, against the allowance of a source: the entries of the private scalars are paid for once, at
 pub use Rattle.lower.proofs.Costs.{blocks_keep_to_cycles}
