@@ -95,7 +95,7 @@ module _ (p : Places) (n : ℕ) where
     where
       by_place : (o : Option VariablePlace) → StepSpares n (element_read p o)
       by_place None = tt
-      by_place (Some (Scalar home copy)) = tt
+      by_place (Some (Scalar home copy width)) = tt
       by_place (Some (Array elements length None)) = tt
       by_place (Some (Array elements length (Some c))) = tt
   element_spares (Local m) = tt

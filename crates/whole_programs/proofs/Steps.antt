@@ -56,7 +56,7 @@ CopiesOfWords (Some c) = IsWord c.copies × IsWord c.versions
 -- the addresses and the length of the variable at a place are words
 abbrev pub PlaceOfWords : Option VariablePlace → Type 0
 PlaceOfWords None = Unit {0}
-PlaceOfWords (Some (Scalar home copy)) = IsWord home × IsWord copy
+PlaceOfWords (Some (Scalar home copy width)) = IsWord home × IsWord copy
 PlaceOfWords (Some (Array elements length copies)) = IsWord elements × IsWord length × CopiesOfWords copies
 
 abbrev pub PrivateOfWords : PrivateScalar → Type 0
@@ -147,13 +147,13 @@ module _ (p : Places) (words : PlacesOfWords p) where
 
   element_read_sound : (o : Option VariablePlace) → PlaceOfWords o → StepSound (element_read p o)
   element_read_sound None h = (tt, tt, (zero_is_word, zero_is_word))
-  element_read_sound (Some (Scalar home copy)) h = (tt, tt, (zero_is_word, zero_is_word))
+  element_read_sound (Some (Scalar home copy width)) h = (tt, tt, (zero_is_word, zero_is_word))
   element_read_sound (Some (Array elements length None)) h = (tt, tt, (h.0, h.1))
   element_read_sound (Some (Array elements length (Some c))) h = (tt, tt, ((h.0, h.2.0, h.2.1, h.1), list_of_words))
 
   written_of_words : (o : Option VariablePlace) → PlaceOfWords o → ArrayOfWords (written_array o)
   written_of_words None h = (zero_is_word, zero_is_word, zero_is_word, zero_is_word)
-  written_of_words (Some (Scalar home copy)) h = (zero_is_word, zero_is_word, zero_is_word, zero_is_word)
+  written_of_words (Some (Scalar home copy width)) h = (zero_is_word, zero_is_word, zero_is_word, zero_is_word)
   written_of_words (Some (Array elements length None)) h = (zero_is_word, zero_is_word, zero_is_word, zero_is_word)
   written_of_words (Some (Array elements length (Some c))) h = (h.0, h.2.0, h.2.1, h.1)
 

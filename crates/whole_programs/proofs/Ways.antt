@@ -134,7 +134,7 @@ module _ (room : ℕ) (p : Places) where
     where
       by_place : (o : Option VariablePlace) → EachStepWay room (element_read p o) next (at (suc d) a)
       by_place None = turned d a next l h
-      by_place (Some (Scalar home copy)) = turned d a next l h
+      by_place (Some (Scalar home copy width)) = turned d a next l h
       by_place (Some (Array elements length None)) = turned d a next l h
       by_place (Some (Array elements length (Some c))) = turned d a next l h
   element_way d a (Local n) next l h = turned d a next l h

@@ -1,5 +1,5 @@
 -- What holds of the word programs of accepted sources.
-use Rattle.std.specs.Prelude.{◌≡◌, ◌≤◌, ℕ, List, All, Some, slice_get, length}
+use Rattle.std.specs.Prelude.{◌≡◌, ◌≤◌, ℕ, List, All, Some, slice_get}
 use Rattle.lower.specs.task_ast.Tree.{Program, Task}
 use Rattle.lower.specs.task_ast.declared.names.VariableName.{VariableName}
 use Rattle.lower.specs.task_ast.declared.names.TaskName.{TaskName}
@@ -9,6 +9,7 @@ use Rattle.source_meaning.specs.Acceptance.{IsAcceptedText}
 use Rattle.privatise.specs.war_analysis.PlanValue.{TaskPlanValue}
 use Rattle.privatise.specs.war_analysis.Plans.{IsPlan}
 use Rattle.lower.specs.memory_map.MemoryMap.{MemoryMap, TaskPlace}
+use Rattle.lower.specs.memory_map.Spots.{private_words}
 use Rattle.privatise.specs.Layouts.{IsLayout}
 use Rattle.lower.specs.array_versions.Form.{IsWhole, OfWords}
 use Rattle.lower.specs.Lowered.{lowered_task, lowered}
@@ -37,7 +38,7 @@ TasksAreWhole = OfTasks (λ task l t. IsWhole (lowered_task l t task.body) × Of
 abbrev pub ProgramsAreWhole : Type 0
 ProgramsAreWhole = OfTexts (λ program l. All IsWhole (lowered l program) × All OfWords (lowered l program))
 
--- the private scalars of each task are at most as many as its allowance counts, which counts those on the left of an assignment
+-- the private scalars of each task have at most as many words as its allowance counts, which counts those on the left of an assignment
 abbrev pub PrivatesAreFew : Type 0
 PrivatesAreFew = OfTexts (λ program l. (k : ℕ) (task : Task VariableName TaskName) (t : TaskPlace)
-    → slice_get program.tasks k ≡ Some task → slice_get l.tasks k ≡ Some t → length t.privates ≤ scalars_of program.shared task.body)
+    → slice_get program.tasks k ≡ Some task → slice_get l.tasks k ≡ Some t → private_words t.privates ≤ scalars_of program.shared task.body)

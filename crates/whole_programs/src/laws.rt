@@ -28,7 +28,7 @@ pub fn programs_are_whole()
     ensures { ProgramsAreWhole }
 {}
 
-/// The private scalars of each task are at most as many as its allowance counts.
+/// The private scalars of each task have at most as many words as its allowance counts.
 pub fn privates_are_few()
     ensures { PrivatesAreFew }
 {}
