@@ -132,14 +132,14 @@ expression_fits room j ts e (grammar.brackets o c xs inner is_o is_inner is_c) w
     let i = expression_fits room weakest xs inner is_inner (w + 1) beneath (c ∷ rest) (omega (arith, l)) b in
     (i.0, left_past (w + 1) (w + 1 + 1) c rest (ap is_end is_c) (omega arith) i.1)
 expression_fits room j ts e (grammar.prefixed t op xs inner is is_inner) w beneath rest l h =
-    let i = expression_fits room 0 xs inner is_inner (w + 1) (beneath + 2) rest (omega (arith, l)) (past w t (xs ++ rest) (prefix_in_row t.kind op is) h) in
+    let i = expression_fits room 0 xs inner is_inner (w + 1) (suc (suc beneath)) rest (omega (arith, l)) (past w t (xs ++ rest) (prefix_in_row t.kind op is) h) in
     (i.0, left_since (w + 1) (w + 1 + 1) rest (omega arith) i.1)
 expression_fits room j ts e (grammar.tighter i xs inner is) w beneath rest l h = expression_fits room i xs inner is w beneath rest l h
 expression_fits room j ts e (grammar.joined i t op xs ys a b is_a is is_b) w beneath rest l h =
     let x = expression_fits room (suc i) xs a is_a w beneath (t ∷ (ys ++ rest)) l (apart w xs (t ∷ ys) rest h) in
     let s : Left (w + 1 + 1) (ys ++ rest) = left_past (w + 1 + 1) (w + 1) t (ys ++ rest) (infix_in_row t.kind _ is) (omega arith) x.1 in
     let later = s.later in
-    let y = expression_fits room i ys b is_b s.width (beneath + 2) rest (omega (arith, l, later)) s.sound in
+    let y = expression_fits room i ys b is_b s.width (suc (suc beneath)) rest (omega (arith, l, later)) s.sound in
     ((x.0, y.0), left_since (w + 1) (s.width + 1) rest (omega (arith, later)) y.1)
 expression_fits room j ts e (grammar.short_circuited i t op xs ys a b is_a is is_b) w beneath rest l h =
     let x = expression_fits room (suc i) xs a is_a w beneath (t ∷ (ys ++ rest)) l (apart w xs (t ∷ ys) rest h) in

@@ -1,5 +1,5 @@
 -- What fits of the tree fits with the names looked up.
-use Rattle.std.proofs.Common.{ℕ, ◌+◌, List, [], ◌∷◌, Some, None, map, sym, subst, arith}
+use Rattle.std.proofs.Common.{ℕ, suc, List, [], ◌∷◌, Some, None, map, sym, subst, arith}
 use Rattle.std.specs.Prelude.{All}
 use Rattle.std.proofs.lemmas.List.Elements.{All-nil, All-cons, All-head, All-tail}
 use Rattle.lower.specs.task_ast.Tree.{Expression, Statement, Choice, Block, Task, Program}
@@ -19,8 +19,8 @@ expression_there room beneath (t.long_number w) h = h
 expression_there room beneath (t.name x) h = h
 expression_there room beneath (t.element x index) h = expression_there room beneath index h
 expression_there room beneath t.sense h = h
-expression_there room beneath (t.unary op e) h = expression_there room (beneath + 2) e h
-expression_there room beneath (t.binary op a b) h = (expression_there room beneath a h.0, expression_there room (beneath + 2) b h.1)
+expression_there room beneath (t.unary op e) h = expression_there room (suc (suc beneath)) e h
+expression_there room beneath (t.binary op a b) h = (expression_there room beneath a h.0, expression_there room (suc (suc beneath)) b h.1)
 expression_there room beneath (t.shift op e count) h = (expression_there room beneath e h.0, h.1)
 expression_there room beneath (t.short_circuit op a b) h = (expression_there room beneath a h.0, expression_there room beneath b h.1)
 

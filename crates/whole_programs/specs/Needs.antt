@@ -1,6 +1,6 @@
 -- What the programs of a source's statements need: room for the words of expressions on the stack, numbers that are of words, and locals of
 -- one word.
-use Rattle.std.specs.Prelude.{ℕ, ◌+◌, ◌^◌, ◌<◌, ◌≤◌, Option, Some, None}
+use Rattle.std.specs.Prelude.{ℕ, suc, ◌+◌, ◌^◌, ◌<◌, ◌≤◌, Option, Some, None}
 use Rattle.lower.specs.alp_words.Words.{IsWord}
 use Rattle.lower.specs.task_ast.Tree.{Expression, Statement, Choice, Block}
 use Rattle.lower.specs.task_ast.Tree as t
@@ -15,8 +15,8 @@ ExpressionFits room beneath (t.long_number w) = (beneath + 2 ≤ room) × (w < 2
 ExpressionFits room beneath (t.name x) = beneath + 2 ≤ room
 ExpressionFits room beneath (t.element x index) = ExpressionFits room beneath index
 ExpressionFits room beneath t.sense = beneath + 2 ≤ room
-ExpressionFits room beneath (t.unary op e) = ExpressionFits room (beneath + 2) e
-ExpressionFits room beneath (t.binary op a b) = ExpressionFits room beneath a × ExpressionFits room (beneath + 2) b
+ExpressionFits room beneath (t.unary op e) = ExpressionFits room (suc (suc beneath)) e
+ExpressionFits room beneath (t.binary op a b) = ExpressionFits room beneath a × ExpressionFits room (suc (suc beneath)) b
 ExpressionFits room beneath (t.shift op e count) = ExpressionFits room beneath e × IsWord count.value
 ExpressionFits room beneath (t.short_circuit op a b) = ExpressionFits room beneath a × ExpressionFits room beneath b
 
