@@ -110,7 +110,7 @@ names_fit p allow plans l h t task layout k plain uses =
     have = record {
       scalars = λ v s.
           let place = scalar_has_place p allow plans l h v s in
-          subst spots.IsScalarPlace (sym (scalar_seen (some_path_writes task.body) l.variables v place.0 place.1 place.2)) tt;
+          subst spots.IsScalarPlace (sym (scalar_seen (some_path_writes task.body) l.variables v place.0 place.1 place.2 place.3)) tt;
       arrays = λ v a.
           let d = array_declared p.shared v a in
           let n = array_extent d.0.extent d.2 in

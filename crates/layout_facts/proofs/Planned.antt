@@ -14,6 +14,9 @@ use Rattle.compiled_model.specs.privatise.Layouts.{IsPlaceOf}
 use Rattle.layout_facts.specs.Facts.{HasLayout}
 use Rattle.layout_facts.specs.Laws.{PlacesAreDeclared, PlacesMatch}
 use Rattle.compiled_model.specs.memory_map.declared.place.ArrayCopies.{ArrayCopies}
+use Rattle.compiled_model.specs.memory_map.declared.place.ScalarWidth.{ScalarWidth}
+use Rattle.compiled_model.specs.memory_map.Places.{scalar_words}
+use Rattle.compiled_model.specs.privatise.Sizes.{home_part}
 use Rattle.compiled_model.specs.memory_map.declared.place.VariablePlace.{VariablePlace}
 use Rattle.compiled_model.specs.memory_map.declared.place.VariablePlace.TheVariants.{Scalar, Array}
 use Rattle.compiled_model.specs.memory_map.MemoryMap.{MemoryMap}
@@ -50,10 +53,12 @@ array_extent (extent.Long n) h = let no : true ≡ false = h in cc
 array_extent (extent.Array n) h = (n, refl)
 
 -- the place of a declared scalar, and of an array
-place_scalar : (written : Bool) (e : Extent) (x : VariablePlace) → is_scalar e ≡ true → IsPlaceOf written e x → (home copy : ℕ) × (x ≡ Scalar home copy)
-place_scalar written (extent.Scalar w) (Scalar home copy) s k = (home, copy, refl)
+place_scalar : (written : Bool) (e : Extent) (x : VariablePlace) → is_scalar e ≡ true → IsPlaceOf written e x
+    → (home copy : ℕ) × (width : ScalarWidth) × (x ≡ Scalar home copy width)
+place_scalar written (extent.Scalar w) (Scalar home copy width) s k = (home, copy, width, refl)
+place_scalar written (extent.Long n) (Scalar home copy width) s k = (home, copy, width, refl)
 place_scalar written (extent.Scalar w) (Array _ _ _) s k = absurd k
-place_scalar written (extent.Long n) x s k = absurd k
+place_scalar written (extent.Long n) (Array _ _ _) s k = absurd k
 place_scalar written (extent.Array n) x s k = let no : false ≡ true = s in cc
 
 record ArrayPlace (written : Bool) (n : ℕ) (x : VariablePlace) : Type 0 where
@@ -64,17 +69,24 @@ record ArrayPlace (written : Bool) (n : ℕ) (x : VariablePlace) : Type 0 where
 
 place_array : (written : Bool) (n : ℕ) (e : Extent) (x : VariablePlace) → e ≡ extent.Array n → IsPlaceOf written e x → ArrayPlace written n x
 place_array written n (extent.Scalar w) x s k = let no : extent.Scalar w ≡ extent.Array n = s in cc
-place_array written n (extent.Long m) x s k = absurd k
-place_array written n (extent.Array m) (Scalar _ _) s k = absurd k
+place_array written n (extent.Long m) x s k = let no : extent.Long m ≡ extent.Array n = s in cc
+place_array written n (extent.Array m) (Scalar _ _ _) s k = absurd k
 place_array written n (extent.Array m) (Array elements length copies) s k =
     let same : m ≡ n = cc in
     record { elements = elements; copies = copies; is = ap (λ y. Array elements y copies) (k.0 ∙ same); has = k.1 }
 
 -- the declaration of what has the place of a scalar, or of an array
-extent_scalar : (written : Bool) (e : Extent) (home copy : ℕ) → IsPlaceOf written e (Scalar home copy) → is_scalar e ≡ true
-extent_scalar written (extent.Scalar w) home copy k = refl
-extent_scalar written (extent.Long n) home copy k = refl
-extent_scalar written (extent.Array n) home copy k = absurd k
+extent_scalar : (written : Bool) (e : Extent) (home copy : ℕ) (width : ScalarWidth) → IsPlaceOf written e (Scalar home copy width) → is_scalar e ≡ true
+extent_scalar written (extent.Scalar w) home copy width k = refl
+extent_scalar written (extent.Long n) home copy width k = refl
+extent_scalar written (extent.Array n) home copy width k = absurd k
+
+-- a scalar is as wide as it is declared
+extent_width : (written : Bool) (e : Extent) (home copy : ℕ) (width : ScalarWidth) → IsPlaceOf written e (Scalar home copy width)
+    → scalar_words width ≡ home_part e
+extent_width written (extent.Scalar w) home copy width k = ap scalar_words k
+extent_width written (extent.Long n) home copy width k = ap scalar_words k
+extent_width written (extent.Array n) home copy width k = absurd k
 
 extent_array : (written : Bool) (e : Extent) (elements n : ℕ) (copies : Option ArrayCopies) → IsPlaceOf written e (Array elements n copies)
     → (e ≡ extent.Array n) × (is_some copies ≡ written)
@@ -101,12 +113,13 @@ module _ (p : CheckedProgram) (allow : Allow) (plans : List TaskPlanValue) (l : 
       let d = element p.shared v (omega (arith, lt, count)) in
       (d.0, d.1, h.layout.variables.each v d.0 x d.1 e)
 
-  pub scalar_has_place : (v : ℕ) → IsScalarAt p.shared v → (home copy : ℕ) × (slice_get l.variables v ≡ Some (Scalar home copy))
+  pub scalar_has_place : (v : ℕ) → IsScalarAt p.shared v
+      → (home copy : ℕ) × (width : ScalarWidth) × (slice_get l.variables v ≡ Some (Scalar home copy width))
   scalar_has_place v k =
       let d = scalar_declared p.shared v k in
       let x = its_place v d.0 d.1 in
       let s = place_scalar (is_written p.tasks v) d.0.extent x.0 d.2 x.2 in
-      (s.0, s.1, x.1 ∙ ap (λ y. Some y) s.2)
+      (s.0, s.1, s.2, x.1 ∙ ap (λ y. Some y) s.3)
 
   pub array_has_place : (v n : ℕ) (d : SharedDeclaration) → slice_get p.shared v ≡ Some d → d.extent ≡ extent.Array n
       → (elements : ℕ) × (copies : Option ArrayCopies) × (slice_get l.variables v ≡ Some (Array elements n copies)) × (is_some copies ≡ is_written p.tasks v)
@@ -119,9 +132,11 @@ module _ (p : CheckedProgram) (allow : Allow) (plans : List TaskPlanValue) (l : 
   places_match = record {
     count = h.layout.variables.count;
     scalar = scalar_has_place;
-    is_scalar = λ v home copy e.
-        let d = its_declaration v (Scalar home copy) e in
-        scalar_at p.shared v d.0 d.1 (extent_scalar (is_written p.tasks v) d.0.extent home copy d.2);
+    is_scalar = λ v home copy width e.
+        let d = its_declaration v (Scalar home copy width) e in
+        scalar_at p.shared v d.0 d.1 (extent_scalar (is_written p.tasks v) d.0.extent home copy width d.2);
+    is_wide = λ v home copy width d e at.
+        extent_width (is_written p.tasks v) d.extent home copy width (h.layout.variables.each v d (Scalar home copy width) at e);
     array = array_has_place;
     is_array = λ v elements n copies e.
         let d = its_declaration v (Array elements n copies) e in
