@@ -9,12 +9,14 @@ use Rattle.compiled_model.specs.cost_bound.declared.allowance.Allow.{Allow}
 use Rattle.compiled_model.specs.cost_bound.Allowance.{CheckedProgram, is_written}
 use Rattle.compiled_model.specs.war_analysis.PlanValue.{TaskPlanValue}
 use Rattle.compiled_model.specs.war_analysis.Plans.{is_scalar, IsScalarAt, IsArrayAt}
+use Rattle.compiled_model.specs.source_values.Runs.{is_long_extent}
 use Rattle.compiled_model.proofs.war_analysis.Interface.{element}
 use Rattle.compiled_model.specs.privatise.Layouts.{IsPlaceOf}
 use Rattle.layout_facts.specs.Facts.{HasLayout}
 use Rattle.layout_facts.specs.Laws.{PlacesAreDeclared, PlacesMatch}
 use Rattle.compiled_model.specs.memory_map.declared.place.ArrayCopies.{ArrayCopies}
 use Rattle.compiled_model.specs.memory_map.declared.place.ScalarWidth.{ScalarWidth}
+use Rattle.compiled_model.specs.memory_map.declared.place.ScalarWidth.TheVariants.{TwoWords}
 use Rattle.compiled_model.specs.memory_map.Places.{scalar_words}
 use Rattle.compiled_model.specs.privatise.Sizes.{home_part}
 use Rattle.compiled_model.specs.memory_map.declared.place.VariablePlace.{VariablePlace}
@@ -30,6 +32,16 @@ scalar_declared shared v h = by (slice_get shared v) refl h
   where
     by : (o : Option SharedDeclaration) → slice_get shared v ≡ o → IsSomeAnd o (λ d. is_scalar d.extent ≡ true)
         → (d : SharedDeclaration) × (slice_get shared v ≡ Some d) × (is_scalar d.extent ≡ true)
+    by (Some d) e k = (d, e, k)
+    by None e k = absurd k
+
+-- a long is declared, and its extent is that of one
+pub long_declared : (shared : List SharedDeclaration) (v : ℕ) → IsSomeAnd (slice_get shared v) (λ d. is_long_extent d.extent ≡ true)
+    → (d : SharedDeclaration) × (slice_get shared v ≡ Some d) × (is_long_extent d.extent ≡ true)
+long_declared shared v h = by (slice_get shared v) refl h
+  where
+    by : (o : Option SharedDeclaration) → slice_get shared v ≡ o → IsSomeAnd o (λ d. is_long_extent d.extent ≡ true)
+        → (d : SharedDeclaration) × (slice_get shared v ≡ Some d) × (is_long_extent d.extent ≡ true)
     by (Some d) e k = (d, e, k)
     by None e k = absurd k
 
@@ -60,6 +72,14 @@ place_scalar written (extent.Long n) (Scalar home copy width) s k = (home, copy,
 place_scalar written (extent.Scalar w) (Array _ _ _) s k = absurd k
 place_scalar written (extent.Long n) (Array _ _ _) s k = absurd k
 place_scalar written (extent.Array n) x s k = let no : false ≡ true = s in cc
+
+-- the place of a declared long
+place_long : (written : Bool) (e : Extent) (x : VariablePlace) → is_long_extent e ≡ true → IsPlaceOf written e x
+    → (home copy : ℕ) × (x ≡ Scalar home copy TwoWords)
+place_long written (extent.Scalar w) x s k = let no : false ≡ true = s in cc
+place_long written (extent.Long n) (Scalar home copy width) s k = (home, copy, ap (Scalar home copy) k)
+place_long written (extent.Long n) (Array _ _ _) s k = absurd k
+place_long written (extent.Array n) x s k = let no : false ≡ true = s in cc
 
 record ArrayPlace (written : Bool) (n : ℕ) (x : VariablePlace) : Type 0 where
   elements : ℕ
@@ -120,6 +140,14 @@ module _ (p : CheckedProgram) (allow : Allow) (plans : List TaskPlanValue) (l : 
       let x = its_place v d.0 d.1 in
       let s = place_scalar (is_written p.tasks v) d.0.extent x.0 d.2 x.2 in
       (s.0, s.1, s.2, x.1 ∙ ap (λ y. Some y) s.3)
+
+  -- a long has two words
+  pub long_has_place : (v : ℕ) (d : SharedDeclaration) → slice_get p.shared v ≡ Some d → is_long_extent d.extent ≡ true
+      → (home copy : ℕ) × (slice_get l.variables v ≡ Some (Scalar home copy TwoWords))
+  long_has_place v d e k =
+      let x = its_place v d e in
+      let s = place_long (is_written p.tasks v) d.extent x.0 k x.2 in
+      (s.0, s.1, x.1 ∙ ap (λ y. Some y) s.2)
 
   pub array_has_place : (v n : ℕ) (d : SharedDeclaration) → slice_get p.shared v ≡ Some d → d.extent ≡ extent.Array n
       → (elements : ℕ) × (copies : Option ArrayCopies) × (slice_get l.variables v ≡ Some (Array elements n copies)) × (is_some copies ≡ is_written p.tasks v)

@@ -3,7 +3,6 @@ use Rattle.std.specs.Prelude.{◌≡◌, ◌↔◌, ℕ, ◌+◌, ◌*◌, ◌<�
 use Rattle.std.specs.Prelude.{slice_index, slice_index_or}
 use Rattle.compiled_model.specs.task_ast.declared.Extent.TheVariants as extent
 use Rattle.compiled_model.specs.task_ast.declared.SharedDeclaration.{SharedDeclaration}
-use Rattle.compiled_model.specs.task_ast.Longs.{IsPlainBlock, IsWordVariable}
 use Rattle.compiled_model.specs.cost_bound.declared.allowance.Allow.{Allow}
 use Rattle.compiled_model.specs.cost_bound.Counts.{stores_of, block_assigns}
 use Rattle.compiled_model.specs.cost_bound.Allowance.{CheckedProgram, CheckedTask, is_written, scalars_of}
@@ -179,10 +178,9 @@ pub record AddressIs (p : CheckedProgram) (l : MemoryMap) (task : CheckedTask) (
 abbrev pub AddressesAre : Type 0
 AddressesAre = OfTasks AddressIs
 
--- names that are used as they were declared, none of them a long, fit the task's places, of which it may write what some path writes
+-- names that are used as they were declared fit the task's places, of which it may write what some path writes
 abbrev pub NamesFit : Type 0
-NamesFit = OfTasks (λ p l task layout. IsPlainBlock IsWordVariable task.body → BlockUses p.shared task.body
-    → BlockFits (task_places l task layout) (some_path_writes task.body) task.body)
+NamesFit = OfTasks (λ p l task layout. BlockUses p.shared task.body → BlockFits (task_places l task layout) (some_path_writes task.body) task.body)
 
 -- a task writes the words of a scalar in place exactly where some path of it writes it, and it isn't private there
 abbrev pub InPlaceByPaths : Type 0

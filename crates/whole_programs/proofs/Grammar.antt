@@ -1,5 +1,5 @@
 -- What the grammar reads from sound tokens fits, and what is left of them is sound.
-use Rattle.std.proofs.Common.{◌≡◌, ℕ, suc, ◌+◌, ◌*◌, ◌≤◌, Bool, true, false, cond, List, [], ◌∷◌, ◌++◌, Option, Some, refl, ◌∙◌, ap, subst, arith, append_assoc}
+use Rattle.std.proofs.Common.{◌≡◌, ℕ, suc, ◌+◌, ◌*◌, ◌≤◌, true, false, cond, List, [], ◌∷◌, ◌++◌, Option, Some, refl, ap, subst, arith, append_assoc}
 use Rattle.std.specs.Prelude.{All}
 use Rattle.std.proofs.lemmas.List.Elements.{All-nil, All-cons}
 use Rattle.lower.specs.task_ast.declared.UnaryOperator.{UnaryOperator}
@@ -122,8 +122,7 @@ expression_fits room j ts e (grammar.element n o c xs index is_n is_o inner is_c
 expression_fits room j ts e (grammar.sense s o c is_s is_o is_c) w beneath rest l h =
     let plain : InRow s.kind = ap is_end is_s in
     let a = past w s (o ∷ c ∷ rest) plain h in
-    let b = past (w + 1) o (c ∷ rest) (ap is_end is_o) a in
-    (
+    let b = past (w + 1) o (c ∷ rest) (ap is_end is_o) a in (
       token_room room w beneath l (in_row w s (o ∷ c ∷ rest) plain h),
       left_since (w + 1) (w + 1 + 1 + 1) rest (omega arith) (left (w + 1 + 1 + 1) rest (past (w + 1 + 1) c rest (ap is_end is_c) b)),
     )
@@ -132,7 +131,8 @@ expression_fits room j ts e (grammar.brackets o c xs inner is_o is_inner is_c) w
     let i = expression_fits room weakest xs inner is_inner (w + 1) beneath (c ∷ rest) (omega (arith, l)) b in
     (i.0, left_past (w + 1) (w + 1 + 1) c rest (ap is_end is_c) (omega arith) i.1)
 expression_fits room j ts e (grammar.prefixed t op xs inner is is_inner) w beneath rest l h =
-    let i = expression_fits room 0 xs inner is_inner (w + 1) (suc (suc beneath)) rest (omega (arith, l)) (past w t (xs ++ rest) (prefix_in_row t.kind op is) h) in
+    let a = past w t (xs ++ rest) (prefix_in_row t.kind op is) h in
+    let i = expression_fits room 0 xs inner is_inner (w + 1) (suc (suc beneath)) rest (omega (arith, l)) a in
     (i.0, left_since (w + 1) (w + 1 + 1) rest (omega arith) i.1)
 expression_fits room j ts e (grammar.tighter i xs inner is) w beneath rest l h = expression_fits room i xs inner is w beneath rest l h
 expression_fits room j ts e (grammar.joined i t op xs ys a b is_a is is_b) w beneath rest l h =

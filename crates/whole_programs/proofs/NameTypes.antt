@@ -1,5 +1,6 @@
 -- The types of the names of a source: a name that stands for a shared variable has the type of the first shared variable of that name.
-use Rattle.std.proofs.Common.{◌≡◌, ℕ, ◌+◌, Bool, true, false, cond, List, [], ◌∷◌, ◌++◌, take, drop, length, Option, Some, None, refl, sym, ap, ap₂, ◌∙◌, subst, arith}
+use Rattle.std.proofs.Common.{◌≡◌, ℕ, ◌+◌, Bool, true, false, cond, List, [], ◌∷◌, ◌++◌, take, drop, length, Option, Some, None}
+use Rattle.std.proofs.Common.{refl, sym, ap, ap₂, ◌∙◌, subst, arith}
 use Rattle.std.specs.Prelude.{unwrap_or, ◌&&◌, nat_le, nat_lt}
 use Rattle.std.specs.Option.{option_or}
 use Rattle.std.specs.Str.{bytes_eq}
@@ -19,7 +20,8 @@ use Rattle.lower.specs.task_check.declared.symbol.Symbol.{Symbol}
 use Rattle.lower.specs.task_check.declared.symbol.Symbol.TheVariants as symbol
 use Rattle.lower.specs.task_check.declared.symbol.Global.{Global}
 use Rattle.lower.specs.task_check.declared.symbol.Local.{Local}
-use Rattle.lower.specs.task_check.Scope.{text_of, one_shared, shared_in, tasks_in, shared_symbol, global_with, if_named, global_in, local_in, or_global, meaning}
+use Rattle.lower.specs.task_check.Scope.{text_of, one_shared, shared_in, tasks_in, shared_symbol, global_with, if_named, global_in}
+use Rattle.lower.specs.task_check.Scope.{local_in, or_global, meaning}
 use Rattle.lower.specs.task_check.LookedUp.{symbol_by, behind, symbol_at}
 use Rattle.lower.specs.task_check.SharedTypes.{type_in, shared_type}
 use Rattle.whole_programs.proofs.Declared.{IsDeclaration, DeclaresOf, Declared}
@@ -51,7 +53,8 @@ or_none : (a : Option WordType) → option_or a None ≡ a
 or_none None = refl
 or_none (Some x) = refl
 
-type_append : (source name : List ℕ) (xs ys : List SharedDeclaration) → type_in source name (xs ++ ys) ≡ option_or (type_in source name xs) (type_in source name ys)
+type_append : (source name : List ℕ) (xs ys : List SharedDeclaration)
+    → type_in source name (xs ++ ys) ≡ option_or (type_in source name xs) (type_in source name ys)
 type_append source name [] ys = refl
 type_append source name (d ∷ xs) ys =
     ap (option_or (if_named (bytes_eq (text_of source d.name) name) (Some d.word_type))) (type_append source name xs ys)

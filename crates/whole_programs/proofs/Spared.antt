@@ -111,8 +111,8 @@ module _ (p : Places) (n : ℕ) where
   element_spares (Local m) = tt
 
   read_long_spares : (x : Variable) → Spares n (read_long p x)
-  read_long_spares (Shared v) = (tt, tt, tt, tt)
-  read_long_spares (Local m) = (tt, tt, tt, tt)
+  read_long_spares (Shared v) = (tt, (tt, (tt, tt)))
+  read_long_spares (Local m) = (tt, (tt, (tt, tt)))
 
   -- so does what an expression comes to, as a program, as a test and as a long
   record LoweringSpares (l : Lowering) : Type 0 where
@@ -126,8 +126,8 @@ module _ (p : Places) (n : ℕ) where
 
   widening_spares : (of : WordType) → Spares n (widening of)
   widening_spares Int = (tt, tt)
-  widening_spares Unsigned = (tt, tt, tt)
-  widening_spares Long = (tt, tt, tt)
+  widening_spares Unsigned = (tt, (tt, tt))
+  widening_spares Long = (tt, (tt, tt))
 
   word_spares : (q : Program) → Spares n q → LoweringSpares (as_word q)
   word_spares q h = record { word = h; test = h; long = spares_joined n q (widening Long) h (widening_spares Long) }
@@ -157,7 +157,7 @@ module _ (p : Places) (n : ℕ) where
   operand_spares Int op l h = unary_spares op l h
   operand_spares Unsigned op l h = unary_spares op l h
   operand_spares Long unary_operator.Negate l h =
-      long_spares _ (behind_spares (joined long_zero (long_words l)) (long (with_longs.Calculate Subtract)) (tt, tt, h.long) tt)
+      long_spares _ (behind_spares (joined long_zero (long_words l)) (long (with_longs.Calculate Subtract)) (tt, (tt, h.long)) tt)
   operand_spares Long unary_operator.Complement l h = long_spares _ (behind_spares (long_words l) (long with_longs.Complement) h.long tt)
   operand_spares Long unary_operator.Not l h = test_spares _ h.test
 
@@ -206,7 +206,7 @@ module _ (p : Places) (n : ℕ) where
 
   lowering_spares : (e : CheckedExpression) → LoweringSpares (lowering p e)
   lowering_spares (t.number w) = word_spares _ (tt, tt)
-  lowering_spares (t.long_number w) = long_spares _ (tt, tt, tt)
+  lowering_spares (t.long_number w) = long_spares _ (tt, (tt, tt))
   lowering_spares (t.name x) = name_spares x.word_type x.variable
   lowering_spares (t.element x index) =
       word_spares _ (behind_spares (lowered_expression p index) (element_step p x.variable) (lowering_spares index).word (element_spares x.variable))
@@ -238,7 +238,7 @@ module _ (p : Places) (n : ℕ) where
 
   -- the first clause makes it a proof by cases
   element_assignment_spares : (x : Variable) (index e : CheckedExpression) → Spares n (element_assignment p x index e)
-  element_assignment_spares x index (t.binary op a b) = 
+  element_assignment_spares x index (t.binary op a b) =
       element_sides_spare x index op a b (of_words (joined_type (type_of a) (type_of b)) (element_updating x index op.operator a))
   element_assignment_spares x index e = index_and_value_spare index e (store_step p x) tt
 
@@ -270,8 +270,8 @@ module _ (p : Places) (shared : List SharedDeclaration) (y : ℕ) (low : y < 256
   written_spares (Local m) n h = apart m y n low h
 
   written_long_spares : (x : Variable) → IsWordName shared x → is_same_local x (Local y) ≡ false → Spares (y % 65536) (write_long p x)
-  written_long_spares (Shared v) n h = (tt, tt, tt)
-  written_long_spares (Local m) n h = (tt, apart m y n low h, tt)
+  written_long_spares (Shared v) n h = (tt, (tt, tt))
+  written_long_spares (Local m) n h = (tt, (apart m y n low h, tt))
 
   -- an update is as a write
   update_spares : (o : PlainOperation) (x : Variable) → StepSpares (y % 65536) (write_step p x) → StepSpares (y % 65536) (update_step p o x)
@@ -332,7 +332,7 @@ module _ (p : Places) (shared : List SharedDeclaration) (y : ℕ) (low : y < 256
         let both = or_parts (block_assigns (Local y) b) (choice_assigns (Local y) more) h in
         let taken = block_spares b both.0 n.1 (λ at bad. g at (inl bad)) in
         let passed = choice_spares more both.1 n.2 (λ at bad. g at (inr bad)) in
-        (((lowering_spares p (y % 65536) e).1, taken, passed), tt)
+        (((lowering_spares p (y % 65536) e).test, taken, passed), tt)
 
     pub block_spares : (b : CheckedBlock) → block_assigns (Local y) b ≡ false → BlockUses shared b → GoodBlock b → Spares (y % 65536) (lowered_block p b)
     block_spares t.end h n g = tt

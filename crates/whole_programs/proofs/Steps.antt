@@ -167,7 +167,8 @@ sound_operand : (of : WordType) (op : UnaryOperator) (l : Lowering) → Lowering
 sound_operand Int op l h = sound_unary op l h
 sound_operand Unsigned op l h = sound_unary op l h
 sound_operand Long unary_operator.Negate l h =
-    sound_long_last (joined long_zero (long_words l)) (long (with_longs.Calculate Subtract)) (sound_joined long_zero (long_words l) sound_zero h.long) (tt, tt, tt)
+    sound_long_last (joined long_zero (long_words l)) (long (with_longs.Calculate Subtract))
+    (sound_joined long_zero (long_words l) sound_zero h.long) (tt, tt, tt)
 sound_operand Long unary_operator.Complement l h = sound_long_last (long_words l) (long with_longs.Complement) h.long (tt, tt, tt)
 sound_operand Long unary_operator.Not l h = sound_test (fails (value_test l)) h.test
 

@@ -23,7 +23,7 @@ use Rattle.lower.specs.task_check.declared.fault.Kept.TheVariants as kept
 use Rattle.lower.specs.task_check.SharedTypes.{shared_type}
 use Rattle.lower.specs.task_check.Occurrences.{operator_role, count_role, element_front}
 use Rattle.lower.specs.task_check.Occurrences.{and_front, expression_names, statement_names, choice_names, names_up_to, task_names, shared_names, program_names}
-use Rattle.lower.specs.task_check.LookedUp.{expression_back, statement_back, choice_back, block_back, task_back, program_back, expression_variables}
+use Rattle.lower.specs.task_check.LookedUp.{expression_back, statement_back, choice_back, block_back, task_back, expression_variables}
 use Rattle.lower.specs.task_check.LookedUp.{statement_variables, choice_variables, block_variables, task_variables}
 use Rattle.whole_programs.specs.Uses.{IsWordName, IsLocalName, ExpressionUses, StatementUses, ChoiceUses, BlockUses}
 use Rattle.whole_programs.specs.UseLaws.{NamesAreUsedAsDeclared}
@@ -86,8 +86,7 @@ module _ (shared : List SharedDeclaration) (types : Span → WordType) where
       let l = expression_split a (and_front second op.span here) (expression_variables b vs) h in
       let m = step_front second op.span here _ l.2 in
       let r = expression_split b behind vs m.1 in
-      let wide = joined_as_wide (type_of a) (type_of b) s u l.1 r.1 in
-      (
+      let wide = joined_as_wide (type_of a) (type_of b) s u l.1 r.1 in (
         (l.0, r.0, not_refused op.operator (joined_type (type_of a) (type_of b)) (joined_type s u) wide m.0),
         binary_as_wide op.operator (type_of a) (type_of b) s u l.1 r.1,
         r.2,

@@ -110,7 +110,8 @@ module _ (source : List ℕ) (shared : List SharedDeclaration) (s : Span) where
   counter_used (Some (symbol.Local n of)) e f h t = ((h.0, h.1, word_is_as_wide of (types s) h.1), tt)
   counter_used (Some (symbol.Task n)) e f h t = absurd (cc)
 
-  one_used : (o : Occurrence) (r : Role) (n : ℕ) (found : Option Symbol) → is_unknown r (symbol_by r n found) ≡ false → use_fault_by source o r (symbol_by r n found) ≡ None → AreSound shared (symbol_by r n found)
+  one_used : (o : Occurrence) (r : Role) (n : ℕ) (found : Option Symbol) → is_unknown r (symbol_by r n found) ≡ false
+      → use_fault_by source o r (symbol_by r n found) ≡ None → AreSound shared (symbol_by r n found)
       → Typed first (symbol_by r n found) → AreUsed shared types (use_of s r) (variable_by r (symbol_by r n found))
   one_used o role.Scalar n x e f h t = word_used x e (no_fault (is_no_word x) (fault.WrongUse (line_at source o) (kept.Name o.span)) f) h t
   one_used o role.Element n x e f h t = array_used x (no_fault (is_no_array x) (fault.WrongUse (line_at source o) (kept.Name o.span)) f) h t

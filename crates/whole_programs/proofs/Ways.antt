@@ -488,16 +488,17 @@ module _ (room : ℕ) (p : Places) (shared : List SharedDeclaration) (even : p.m
           (h (λ m. nat_eq m (n % 65536) || a m) (subst (λ v. Covers (written u x) (λ m. nat_eq m (loop_local v) || a m)) is (covers_written u a x c)))
 
   -- the same of a long
-  long_write_way : (u a : ℕ → Bool) (x : VariableName) (next : Place → Type 0) → Covers u a → ((b : ℕ → Bool) → Covers (written u x) b → next (at 0 b))
+  long_write_way : (u a : ℕ → Bool) (x : VariableName) (next : Place → Type 0) → 2 ≤ room → Covers u a
+      → ((b : ℕ → Bool) → Covers (written u x) b → next (at 0 b))
       → EachWay room (write_long p x.variable) next (at 2 a)
-  long_write_way u a x next c h = by_variable x.variable refl
+  long_write_way u a x next l c h = by_variable x.variable refl
     where
       by_variable : (v : Variable) → x.variable ≡ v → EachWay room (write_long p v) next (at 2 a)
       by_variable (Shared v) is =
-          moves room 1 0 2 1 a (Moves room 1 0 next) (omega arith) (omega arith) (omega arith)
+          moves room 1 0 2 1 a (Moves room 1 0 next) (omega arith) (omega arith) (omega (arith, l))
           (moves room 1 0 1 0 a next (omega arith) (omega arith) (omega arith) (h a (covers_shared u a x v is c)))
       by_variable (Local n) is =
-          moves room 2 1 2 1 a (EachStepWay room (write_step p (Local n)) next) (omega arith) (omega arith) (omega arith)
+          moves room 2 1 2 1 a (EachStepWay room (write_step p (Local n)) next) (omega arith) (omega arith) (omega (arith, l))
           (subst (λ v. EachStepWay room (write_step p v) next (at 1 a)) is (write_way u a x next c h))
 
   -- where the variable is assigned it may be updated
@@ -527,7 +528,7 @@ module _ (room : ℕ) (p : Places) (shared : List SharedDeclaration) (even : p.m
   long_setting_way u a x e next f c r h =
       joined_way room (lowered_long p e) (write_long p x.variable) next (at 0 a)
       (long_way room p 0 a (type_of e) (lowering p e) (two_fit room 0 e f) (lowering_way room p 0 a e f r) (EachWay room (write_long p x.variable) next)
-      (long_write_way u a x next c (λ b d. h b (subst (λ v. Covers v b) (sym (behind_expression u e (write x ∷ []))) d))))
+      (long_write_way u a x next (two_fit room 0 e f) c (λ b d. h b (subst (λ v. Covers v b) (sym (behind_expression u e (write x ∷ []))) d))))
 
   sides_set_way : (u a : ℕ → Bool) (x : VariableName) (op : PlacedOperator) (b e : CheckedExpression) (o : Option PlainOperation) (next : Place → Type 0)
       → updating x.variable op.operator b ≡ o → ExpressionFits room 0 (t.binary op b e) → Covers u a → ReadsAssigned a (t.binary op b e)

@@ -1,5 +1,5 @@
 -- Which types are long where others are.
-use Rattle.std.proofs.Common.{◌≡◌, ℕ, Bool, true, false, refl}
+use Rattle.std.proofs.Common.{◌≡◌, true, false, refl}
 use Rattle.lower.specs.task_ast.declared.WordType.{WordType}
 use Rattle.lower.specs.task_ast.declared.WordType.TheVariants.{Unsigned, Int, Long}
 use Rattle.lower.specs.task_ast.declared.UnaryOperator.{UnaryOperator}
