@@ -92,7 +92,7 @@ ExpressionFits p (t.element x index) = IsArray p x.variable × ExpressionFits p 
 ExpressionFits p t.sense = Unit {0}
 ExpressionFits p (t.unary op e) = ExpressionFits p e
 ExpressionFits p (t.binary op a b) =
-      ExpressionFits p a × ExpressionFits p b × (is_refused op.operator (joined_type (type_of a) (type_of b)) ≡ false)
+    ExpressionFits p a × ExpressionFits p b × (is_refused op.operator (joined_type (type_of a) (type_of b)) ≡ false)
 ExpressionFits p (t.shift op e count) = ExpressionFits p e
 ExpressionFits p (t.short_circuit op a b) = ExpressionFits p a × ExpressionFits p b
 

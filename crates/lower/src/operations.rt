@@ -6,9 +6,7 @@ ghost use Rattle.task_ast.specs.Types.{is_long};
 ghost use Rattle.task_ast.specs.declared.WordType.TheVariants.{Unsigned};
 ghost use Rattle.lower.specs.Operations.{below, above, binary_meaning, plain_operation, shift_operation, operand_type, long_meaning, long_shift};
 
-use array_versions::{
-    BinaryOperation, Comparison, LongOperation, PlainOperation, ShiftOperation,
-};
+use array_versions::{BinaryOperation, Comparison, LongOperation, PlainOperation, ShiftOperation};
 use task_ast::{BinaryOperator, ShiftOperator, WordType};
 
 /// What an operator gives of the words of its two sides.
