@@ -1,5 +1,5 @@
 -- The programs of expressions leave their values.
-use Rattle.std.proofs.Common.{◌≡◌, ℕ, ◌+◌, ◌%◌, List, Option, Some, None, refl, sym, ap, ◌∙◌, subst, arith}
+use Rattle.std.proofs.Common.{◌≡◌, ℕ, ◌+◌, ◌%◌, List, Option, Some, None, false, if◌then◌else◌, refl, sym, ap, ◌∙◌, subst, arith}
 use Rattle.task_ast.specs.Tree as t
 use Rattle.task_ast.specs.Paths.{CheckedExpression}
 use Rattle.task_ast.specs.declared.WordType.{WordType}
@@ -13,6 +13,7 @@ use Rattle.task_ast.specs.declared.names.Variable.{Variable}
 use Rattle.task_ast.specs.declared.names.Variable.TheVariants.{Shared, Local}
 use Rattle.task_ast.specs.Types.{IsOneWord, binary_type, unary_type}
 use Rattle.task_ast.proofs.Interface as one_word
+use Rattle.task_check.specs.Occurrences.{is_refused}
 use Rattle.source_values.specs.Values.{◌>>?◌, Variables, word_at, by_width, two_words, converted, type_of, joined_type, value_of}
 use Rattle.source_values.specs.Values.{unary_result, binary_value, binary_result, long_binary_value, shift_value, shift_result}
 use Rattle.array_versions.proofs.Interface.{joined_go_on}
@@ -25,7 +26,7 @@ use Rattle.lower.specs.Lowered.{one, high_address, read_step, read_long, element
 use Rattle.lower.specs.Lowered.{long_program, name_lowering, operand_lowering, binary_lowering, sides_lowering, shift_lowering}
 use Rattle.lower.specs.Lowered.{sides_test, lowering, lowered_test}
 use Rattle.lower.specs.Spots.{Room, AreApart, AreEven}
-use Rattle.lower.specs.Agreement.{IsKnown, IsLong, IsOfType, IsForLongs, IsOperatorOf, ExpressionFits, HoldVariables, valued, long_valued, AgreesWithValue}
+use Rattle.lower.specs.Agreement.{IsKnown, IsLong, IsOfType, ExpressionFits, HoldVariables, valued, long_valued, AgreesWithValue}
 use Rattle.lower.specs.Agreement.{AgreesWithLong, converted_to, truth_of, ExpressionsAgree, LongsAgree, TestsAgree}
 use Rattle.lower.proofs.Addresses.{first_address}
 use Rattle.lower.proofs.Values.{value_done, agrees_then, read_agrees, word_read_agrees, element_agrees, sense_agrees, binary_same, shift_same, sides_of_truth}
@@ -113,16 +114,16 @@ words_agree_by is op s of k e w l r o second h =
         ap (λ z. by_width z (binary_value op z x y) long) e ∙ one_word.by_one_word is (binary_value op is x y) long k
 
 -- the type of what an operator gives of two longs
-long_type : (op : BinaryOperator) (s of : WordType) → joined_type s of ≡ Long → IsForLongs op → long_meaning_type (long_meaning op) ≡ binary_type op s of
+long_type : (op : BinaryOperator) (s of : WordType) → joined_type s of ≡ Long → is_refused op Long ≡ false → long_meaning_type (long_meaning op) ≡ binary_type op s of
 long_type operator.Less s of e k = refl
 long_type operator.LessEqual s of e k = refl
 long_type operator.Greater s of e k = refl
 long_type operator.GreaterEqual s of e k = refl
 long_type operator.Equal s of e k = refl
 long_type operator.NotEqual s of e k = refl
-long_type operator.Multiply s of e k = absurd k
-long_type operator.Divide s of e k = absurd k
-long_type operator.Remainder s of e k = absurd k
+long_type operator.Multiply s of e k = absurd (cc)
+long_type operator.Divide s of e k = absurd (cc)
+long_type operator.Remainder s of e k = absurd (cc)
 long_type _ s of e k = sym e
 
 -- a pair of values that are converted
@@ -138,7 +139,7 @@ pair_converted f s of (Some x) second = by (second x.1)
     by (Some y) = refl
 
 -- an operator with a long among its operands
-longs_agree_by : (op : BinaryOperator) (s of : WordType) → joined_type s of ≡ Long → IsForLongs op → (w : WordState) (l r : Lowering)
+longs_agree_by : (op : BinaryOperator) (s of : WordType) → joined_type s of ≡ Long → is_refused op Long ≡ false → (w : WordState) (l r : Lowering)
     (o : Option (ℕ × List ℕ)) (second : List ℕ → Option (ℕ × List ℕ)) → OperandsAgree s of w l r o second
     → AgreesAs (binary_type op s of) w (sides_lowering Long op s of l r) (pair_value (binary_result op s of) o second)
 longs_agree_by op s of e k w l r o second h =
@@ -162,25 +163,16 @@ longs_agree_by op s of e k w l r o second h =
         let b = converted of Long y in
         long_same op a b k ∙ sym (ap (λ z. by_width z (binary_value op z x y) (long_binary_value op a b)) e)
 
-operands_agree : (is : WordType) (op : BinaryOperator) (s of : WordType) → joined_type s of ≡ is → IsOperatorOf is op → (w : WordState) (l r : Lowering)
+operands_agree : (is : WordType) (op : BinaryOperator) (s of : WordType) → joined_type s of ≡ is → is_refused op is ≡ false → (w : WordState) (l r : Lowering)
     (o : Option (ℕ × List ℕ)) (second : List ℕ → Option (ℕ × List ℕ)) → OperandsAgree s of w l r o second
     → AgreesAs (binary_type op s of) w (sides_lowering is op s of l r) (pair_value (binary_result op s of) o second)
 operands_agree Long op s of e k w l r o second h = longs_agree_by op s of e k w l r o second h
 operands_agree Int op s of e k w l r o second h = words_agree_by Int op s of tt e w l r o second h
 operands_agree Unsigned op s of e k w l r o second h = words_agree_by Unsigned op s of tt e w l r o second h
 
--- an operator that there is for them takes operands of their joined type
-operands_as_joined : (of : WordType) (op : BinaryOperator) → IsOperatorOf of op → operand_type op of ≡ of
-operands_as_joined Long operator.Multiply k = absurd k
-operands_as_joined Long operator.Divide k = absurd k
-operands_as_joined Long operator.Remainder k = absurd k
-operands_as_joined Int operator.Multiply k = refl
-operands_as_joined Int operator.Divide k = refl
-operands_as_joined Int operator.Remainder k = refl
-operands_as_joined Unsigned operator.Multiply k = refl
-operands_as_joined Unsigned operator.Divide k = refl
-operands_as_joined Unsigned operator.Remainder k = refl
-operands_as_joined of _ k = refl
+-- an operator that isn't refused takes operands of their joined type
+operands_as_joined : (of : WordType) (op : BinaryOperator) → is_refused op of ≡ false → operand_type op of ≡ of
+operands_as_joined of op k = ap (λ b. if b then Unsigned else of) k
 
 -- a word is shifted as a value of its type
 word_shifted : (of : WordType) → (op : ShiftOperator) (k : ℕ) (w : WordState) (l : Lowering) (o : Option (ℕ × List ℕ)) → LoweringAgrees w l o

@@ -36,7 +36,8 @@ use Rattle.lower.specs.Lowered.{one, high_address, read_long, Lowering, as_word,
 use Rattle.lower.specs.Lowered.{long_program}
 use Rattle.lower.specs.Lowered.{long_zero, long_unary_lowering, answer, long_binary_lowering}
 use Rattle.lower.specs.Spots.{Room, AreApart, AreEven}
-use Rattle.lower.specs.Agreement.{IsLong, IsForLongs, HoldVariables, valued, long_valued, AgreesAt, AgreesWithValue, AgreesWithLong, converted_to}
+use Rattle.task_check.specs.Occurrences.{is_refused}
+use Rattle.lower.specs.Agreement.{IsLong, HoldVariables, valued, long_valued, AgreesAt, AgreesWithValue, AgreesWithLong, converted_to}
 use Rattle.lower.specs.Agreement.{truth_value, truth_of}
 use Rattle.lower.proofs.Addresses.{first_address}
 use Rattle.lower.proofs.Values.{agrees_then, value_then, word_read_agrees, pair_value, pair_truth, pair_is_truth, truth_pushed, LoweringAgrees, by_word, by_test}
@@ -321,11 +322,11 @@ twice true = refl
 twice false = refl
 
 -- of each operator alike: the first clause makes it a proof by cases
-pub long_same : (op : BinaryOperator) (x y : ℕ) → IsForLongs op → long_meaning_value (long_meaning op) x y ≡ long_binary_value op x y
+pub long_same : (op : BinaryOperator) (x y : ℕ) → is_refused op Long ≡ false → long_meaning_value (long_meaning op) x y ≡ long_binary_value op x y
 long_same operator.Equal x y k = ap bit (twice (x == y))
-long_same operator.Multiply x y k = absurd k
-long_same operator.Divide x y k = absurd k
-long_same operator.Remainder x y k = absurd k
+long_same operator.Multiply x y k = absurd (cc)
+long_same operator.Divide x y k = absurd (cc)
+long_same operator.Remainder x y k = absurd (cc)
 long_same _ x y k = refl
 
 -- where a word is 1 or 0, it is its own truth

@@ -6,7 +6,7 @@ use Rattle.task_ast.specs.Tree as t
 use Rattle.task_ast.specs.Paths.{CheckedExpression, CheckedStatement, CheckedChoice, CheckedBlock}
 use Rattle.task_ast.specs.declared.WordType.{WordType}
 use Rattle.task_ast.specs.declared.WordType.TheVariants.{Unsigned, Int, Long}
-use Rattle.task_ast.specs.Types.{binary_type, unary_type}
+use Rattle.task_ast.specs.Types.{is_long, binary_type, unary_type}
 use Rattle.task_ast.specs.declared.UnaryOperator.{UnaryOperator}
 use Rattle.task_ast.specs.declared.UnaryOperator.TheVariants as unary_operator
 use Rattle.task_ast.specs.declared.BinaryOperator.{BinaryOperator}
@@ -214,7 +214,7 @@ record TakesLongs (s : ℕ) (op : BinaryOperator) (of : WordType) : Type 0 where
   price : operator_price (words_column s) op of ≡ 32
 
 -- in place of long the type is unsigned
-pub no_long : (of : WordType) → by_width of of Unsigned ≡ Long → ⊥
+pub no_long : (of : WordType) → (if is_long of then Unsigned else of) ≡ Long → ⊥
 no_long Long e = absurd (cc)
 no_long Int e = absurd (cc)
 no_long Unsigned e = absurd (cc)

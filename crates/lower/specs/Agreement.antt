@@ -1,6 +1,6 @@
 -- What it is that a word program does what the source does: the state that it works on stands for an attempt of the task, and its end
 -- for the outcome.
-use Rattle.std.specs.Prelude.{◌≡◌, ℕ, ◌+◌, ◌*◌, ◌/◌, ◌%◌, ◌<◌, ◌≤◌, ◌==◌, Bool, true, if◌then◌else◌, Contains, List, [], ◌∷◌, ◌++◌, length, map, Option}
+use Rattle.std.specs.Prelude.{◌≡◌, ℕ, ◌+◌, ◌*◌, ◌/◌, ◌%◌, ◌<◌, ◌≤◌, ◌==◌, Bool, true, false, if◌then◌else◌, Contains, List, [], ◌∷◌, ◌++◌, length, map, Option}
 use Rattle.std.specs.Prelude.{Some, None, slice_get, slice_index, slice_index_or}
 use Rattle.array_versions.specs.fram_board.Effects.{Effect, Store, Take, Send}
 use Rattle.array_versions.specs.machine_effects.World.{fram_after}
@@ -9,8 +9,7 @@ use Rattle.task_ast.specs.Paths.{CheckedExpression, CheckedStatement, CheckedCho
 use Rattle.task_ast.specs.Types.{IsOneWord, joined_type, type_of}
 use Rattle.task_ast.specs.declared.WordType.{WordType}
 use Rattle.task_ast.specs.declared.WordType.TheVariants.{Unsigned, Int, Long}
-use Rattle.task_ast.specs.declared.BinaryOperator.{BinaryOperator}
-use Rattle.task_ast.specs.declared.BinaryOperator.TheVariants as operator
+use Rattle.task_check.specs.Occurrences.{is_refused}
 use Rattle.task_ast.specs.declared.names.Variable.{Variable}
 use Rattle.task_ast.specs.declared.names.Variable.TheVariants.{Shared, Local}
 use Rattle.path_sums.specs.Reaches.{statement_falls_through}
@@ -83,21 +82,8 @@ abbrev pub IsLocal : Variable → Type 0
 IsLocal (Shared v) = ⊥
 IsLocal (Local n) = n < 256
 
--- an operator that there is for longs
-abbrev pub IsForLongs : BinaryOperator → Type 0
-IsForLongs operator.Multiply = ⊥
-IsForLongs operator.Divide = ⊥
-IsForLongs operator.Remainder = ⊥
-IsForLongs _ = Unit {0}
-
--- an operator that there is for operands of a joined type
-abbrev pub IsOperatorOf : WordType → BinaryOperator → Type 0
-IsOperatorOf Long op = IsForLongs op
-IsOperatorOf Int op = Unit {0}
-IsOperatorOf Unsigned op = Unit {0}
-
--- Each variable of an expression is one that the task has, of its type, and an array of words where it is indexed; an index is no long, and
--- longs are under the operators that there are for them
+-- each variable of an expression is one that the task has, of its type, and an array of words where it is indexed; an index is no long, and
+-- no operator is refused
 abbrev pub ExpressionFits : Places → CheckedExpression → Type 0
 ExpressionFits p (t.number w) = Unit {0}
 ExpressionFits p (t.long_number w) = Unit {0}
@@ -105,7 +91,8 @@ ExpressionFits p (t.name x) = IsOfType p x.word_type x.variable
 ExpressionFits p (t.element x index) = IsArray p x.variable × ExpressionFits p index × IsOneWord x.word_type × IsOneWord (type_of index)
 ExpressionFits p t.sense = Unit {0}
 ExpressionFits p (t.unary op e) = ExpressionFits p e
-ExpressionFits p (t.binary op a b) = ExpressionFits p a × ExpressionFits p b × IsOperatorOf (joined_type (type_of a) (type_of b)) op.operator
+ExpressionFits p (t.binary op a b) =
+    ExpressionFits p a × ExpressionFits p b × (is_refused op.operator (joined_type (type_of a) (type_of b)) ≡ false)
 ExpressionFits p (t.shift op e count) = ExpressionFits p e
 ExpressionFits p (t.short_circuit op a b) = ExpressionFits p a × ExpressionFits p b
 

@@ -1,6 +1,6 @@
 -- What the operators of a source stand for.
-use Rattle.std.specs.Prelude.{ℕ, Option, Some, None}
-use Rattle.task_ast.specs.Types.{by_width}
+use Rattle.std.specs.Prelude.{ℕ, if◌then◌else◌, Option, Some, None}
+use Rattle.task_check.specs.Occurrences.{is_refused}
 use Rattle.task_ast.specs.declared.WordType.{WordType}
 use Rattle.task_ast.specs.declared.WordType.TheVariants.{Unsigned, Int, Long}
 use Rattle.task_ast.specs.declared.BinaryOperator.{BinaryOperator}
@@ -69,12 +69,9 @@ shift_operation shift_operator.Right Int = SignedRight
 
 -- ---- the same of longs
 
--- the type of the two operands that an operator takes, by their joined type: the checks refuse `*`, `/` and `%` of longs, which take low words
+-- the type of the two operands that an operator takes, by their joined type: low words, where the checks refuse longs
 abbrev pub operand_type : BinaryOperator → WordType → WordType
-operand_type operator.Multiply of = by_width of of Unsigned
-operand_type operator.Divide of = by_width of of Unsigned
-operand_type operator.Remainder of = by_width of of Unsigned
-operand_type _ of = of
+operand_type op of = if is_refused op of then Unsigned else of
 
 -- what an operator gives of two longs. `*`, `/` and `%` take none, and a sum stands for them here
 abbrev pub long_meaning : BinaryOperator → LongMeaning

@@ -1,14 +1,12 @@
 //! The operations on words that the operators of a source stand for.
-ghost use Rattle.std.specs.Prelude.{◌≡◌};
+ghost use Rattle.std.specs.Prelude.{◌≡◌, if◌then◌else◌};
 ghost use Rattle.array_versions.specs.declared.operations.BinaryOperation.TheVariants as binary_op;
 ghost use Rattle.lower.specs.declared.operations.BinaryMeaning.TheVariants as Meaning;
-ghost use Rattle.task_ast.specs.Types.{by_width};
+ghost use Rattle.task_ast.specs.Types.{is_long};
 ghost use Rattle.task_ast.specs.declared.WordType.TheVariants.{Unsigned};
 ghost use Rattle.lower.specs.Operations.{below, above, binary_meaning, plain_operation, shift_operation, operand_type, long_meaning, long_shift};
 
-use array_versions::{
-    BinaryOperation, Comparison, LongOperation, PlainOperation, ShiftOperation,
-};
+use array_versions::{BinaryOperation, Comparison, LongOperation, PlainOperation, ShiftOperation};
 use task_ast::{BinaryOperator, ShiftOperator, WordType};
 
 /// What an operator gives of the words of its two sides.
@@ -122,7 +120,7 @@ pub enum LongMeaning {
 
 // The type, or unsigned in place of long.
 fn of_one_word(word_type: WordType) -> WordType
-    ensures { result ≡ by_width word_type word_type Unsigned }
+    ensures { result ≡ if is_long word_type then Unsigned else word_type }
 {
     match word_type {
         WordType::Long => WordType::Unsigned,
@@ -130,8 +128,7 @@ fn of_one_word(word_type: WordType) -> WordType
     }
 }
 
-/// The type of the two operands that an operator takes, by their joined type. The checks refuse `*`, `/` and `%` of longs, which take
-/// low words.
+/// The type of the two operands that an operator takes, by their joined type: low words, where the checks refuse longs.
 pub fn operand_type(op: BinaryOperator, joined: WordType) -> WordType
     ensures { result ≡ operand_type op joined }
 {
