@@ -140,7 +140,11 @@ long_words with_longs.Below ws h = (mask_small (nat_lt (long_at ws 2) (long_at w
 long_words with_longs.Above ws h = (mask_small (nat_lt (long_at ws 0) (long_at ws 2)), tt)
 long_words (with_longs.ShiftLeft k) ws h = stacked_words _ (left_small (long_at ws 0) k)
 long_words (with_longs.ShiftRight k) ws h = stacked_words _ (right_small (long_at ws 0) k (long_small ws 0 h))
-long_words with_longs.Widen ws h = (sign_small (nat_lt (slice_index ws 0) 32768), (word_small ws 0 h, tt))
+long_words with_longs.Complement ws h = stacked_words _ (omega arith)
+long_words with_longs.Widen ws h =
+    let sign = sign_small (nat_lt (slice_index ws 0) 32768) in
+    stacked_words _ (omega (arith, word_small ws 0 h, sign))
+long_words with_longs.Join ws h = stacked_words _ (long_small ws 0 h)
 long_words with_longs.LowWord ws h = (word_small ws 1 h, tt)
 long_words with_longs.HighWord ws h = (word_small ws 0 h, tt)
 

@@ -61,7 +61,9 @@ long_cycles with_longs.Below = 14
 long_cycles with_longs.Above = 16
 long_cycles (with_longs.ShiftLeft k) = 32
 long_cycles (with_longs.ShiftRight k) = 32
+long_cycles with_longs.Complement = 16
 long_cycles with_longs.Widen = 12
+long_cycles with_longs.Join = 0
 long_cycles with_longs.LowWord = 2
 long_cycles with_longs.HighWord = 7
 
@@ -72,7 +74,9 @@ long_words with_longs.Below = 8
 long_words with_longs.Above = 10
 long_words (with_longs.ShiftLeft k) = 26
 long_words (with_longs.ShiftRight k) = 26
+long_words with_longs.Complement = 8
 long_words with_longs.Widen = 7
+long_words with_longs.Join = 0
 long_words with_longs.LowWord = 1
 long_words with_longs.HighWord = 3
 

@@ -55,8 +55,12 @@ pub enum LongOperation {
     ShiftLeft(u16),
     /// The same to the right; zeros come in.
     ShiftRight(u16),
+    /// Each bit of the long on top of the stack turned.
+    Complement,
     /// The int on top of the stack as a long: its sign is copied into the high word.
     Widen,
+    /// The two words on top of the stack as a long, the high one on top.
+    Join,
     /// The low word of the long on top of the stack.
     LowWord,
     /// The high word of the long on top of the stack.

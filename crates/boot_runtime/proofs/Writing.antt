@@ -1,14 +1,21 @@
 -- Code that is written part by part.
-use Rattle.std.proofs.Common.{◌≡◌, ℕ, ◌+◌, ◌<◌, length, map, drop, get_or, List, [], ◌∷◌, ◌++◌, sym, ap, ◌∙◌, append_assoc, arith}
+use Rattle.std.proofs.Common.{◌≡◌, ℕ, zero, suc, ◌+◌, ◌*◌, ◌<◌, refl, length, map, drop, get_or, List, [], ◌∷◌, ◌++◌, sym, ap, ◌∙◌, append_assoc, arith}
 use Rattle.std.proofs.lemmas.List.{at_drop_more}
 use Rattle.msp_isa.specs.declared.instructions.Instr.{Instr}
 use Rattle.runtime_code.specs.code_forms.Forms.{Branch, instruction_of}
 use Rattle.runtime_code.specs.code_forms.Placed.{instructions}
 use Rattle.runtime_code.proofs.code_forms.Interface.{instructions-append}
+use Rattle.runtime_code.specs.Counted.{if_any}
+use Rattle.runtime_code.specs.LayoutPlaces.{pairs_of}
 use Rattle.runtime_code.specs.runtime_effects.Places.{CopyPair}
+use Rattle.runtime_code.proofs.runtime_effects.Interface.{scalar_pairs_count}
 use Rattle.boot_runtime.specs.Entries.{entry_of}
-use Rattle.boot_runtime.specs.Listing.{TaskEntry, copies_in, stub_to, stub, stubs, ladder_to, fixed_forms, boot_forms, stubs_address}
+use Rattle.boot_runtime.specs.Listing.{TaskEntry, copies_in, stub_to, stub, stub_bytes, stubs, rung_to, ladder_to, fixed_forms, boot_forms}
+use Rattle.boot_runtime.specs.Listing.{stubs_address}
+use Rattle.memory_map.specs.declared.place.PrivateScalar.{PrivateScalar}
+use Rattle.memory_map.specs.Spots.{private_words}
 use Rattle.memory_map.specs.MemoryMap.{TaskPlace, MemoryMap}
+use Rattle.memory_map.proofs.Interface.{privates_few}
 
 -- a stub, by its parts
 pub stub_written : (is js ks : List Instr) (xs : List CopyPair) (code : ℕ) → 0 < length xs → js ≡ is ++ instructions (copies_in xs)
@@ -50,3 +57,30 @@ next_written is js all xs x i it l written rest =
     ∙ append_assoc is (instructions (stub (entry_of x))) (instructions s)
     ∙ ap (λ l. is ++ l) (sym (instructions-append (stub (entry_of x)) s))
     ∙ sym more ∙ rest
+
+-- ---- stubs
+
+pub if_some : (n k : ℕ) → 0 < n → if_any n k ≡ k
+if_some (suc n) k some = refl
+if_some zero k some = absurd (omega (arith, some))
+
+-- a task with private scalars has words to copy
+pub some_to_copy : (privates : List PrivateScalar) → 0 < length privates → 0 < private_words privates
+some_to_copy privates some = let few = privates_few privates in omega (arith, some, few)
+
+-- the length of a stub, by the words that it copies
+pub stub_is : (t : TaskPlace) → 0 < length t.privates → stub_bytes (entry_of t) ≡ 6 * private_words t.privates + 4
+stub_is t some =
+    let n = private_words t.privates in
+    ap (λ k. 6 * k + if_any k 4) (scalar_pairs_count t.privates) ∙ ap (λ k. 6 * n + k) (if_some n 4 (some_to_copy t.privates some))
+
+rung_of : (stub code : ℕ) (xs : List CopyPair) → 0 < length xs → rung_to stub code xs ≡ stub
+rung_of stub code [] some = absurd (omega (arith, some))
+rung_of stub code (x ∷ xs) some = refl
+
+-- a rung leads to the stub where there is one
+pub some_rung : (stub : ℕ) (t : TaskPlace) → 0 < length t.privates → rung_to stub t.code.address (pairs_of t) ≡ stub
+some_rung stub t some =
+    let count = scalar_pairs_count t.privates in
+    let words = some_to_copy t.privates some in
+    rung_of stub t.code.address (pairs_of t) (omega (arith, count, words))

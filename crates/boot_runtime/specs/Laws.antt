@@ -67,7 +67,7 @@ VersionIsRaised = (code : Code) (m : MemoryMap) (commit : ℕ) (tasks : List Tas
     Comes code (Store (word_place m Version) raised ∷ []) 5 16 u
     (IsAt (start_address at + 36) (put u.fram (word_place m Version) raised) u.readings_left)
 
--- a start without clearing takes 33 cycles at most, and 6 for each private scalar, whatever the arrays
+-- a start without clearing takes 33 cycles at most, and 6 for each word of a private scalar, whatever the arrays
 abbrev pub StartsAreShort : Type 0
 StartsAreShort = (versions privates : ℕ) → start_cycles false versions privates ≤ 33 + 6 * privates
 
@@ -89,7 +89,7 @@ abbrev pub StartStoresInFram : Type 0
 StartStoresInFram = (m : MemoryMap) (privates : ℕ → List CopyPair) (f : ℕ → ℕ) → AreInFram m → All ArePairWords (privates (f (word_place m CurrentTask)))
     → EachStore (λ a w. IsFram a) (start_effects m privates f)
 
--- the words that the allowance has for the entries of tasks: 200 for each, and 16 for each private scalar
+-- the words that the allowance has for the entries of tasks: 200 for each, and 16 for each word of a private scalar
 abbrev pub entry_room : List TaskEntry → ℕ
 entry_room [] = 0
 entry_room (t ∷ ts) = 200 + 16 * length t.privates + entry_room ts

@@ -11,7 +11,7 @@ use Rattle.runtime_code.specs.runtime_effects.Places.{CopyPair}
 use Rattle.memory_map.specs.address_space.Limits.{stack_top}
 use Rattle.runtime_code.specs.Counted.{counted, if_any}
 
--- a task as the boot comes to it: its private scalars, and where its code stands
+-- a task as the boot comes to it: the words of its private scalars with their copies, and where its code stands
 pub record TaskEntry : Type 0 where
   pub privates : List CopyPair
   pub code : ℕ
@@ -20,7 +20,7 @@ pub record TaskEntry : Type 0 where
 abbrev pub entry_at : List TaskEntry → ℕ → TaskEntry
 entry_at tasks k = get_or tasks k (record { privates = []; code = 0 })
 
--- the private scalars of a task by its number
+-- the words of the private scalars of a task by its number
 abbrev pub privates_in : List TaskEntry → ℕ → List CopyPair
 privates_in tasks k = (entry_at tasks k).privates
 
@@ -129,11 +129,11 @@ abbrev pub stubs_bytes : List TaskEntry → ℕ
 stubs_bytes [] = 0
 stubs_bytes (t ∷ ts) = stub_bytes t + stubs_bytes ts
 
--- the length of it all: 34 words, and for each task 2, and where it has private scalars 2 more and 3 for each
+-- the length of it all: 34 words, and for each task 2, and where it has private scalars 2 more and 3 for each of their words
 abbrev pub boot_bytes : List TaskEntry → ℕ
 boot_bytes tasks = ladder_offset + 4 * length tasks + stubs_bytes tasks
 
--- the steps of an attempt's start, by whether the clearing comes first, by the version words and by the private scalars
+-- the steps of an attempt's start, by whether the clearing comes first, by the version words and by the words of private scalars
 abbrev pub start_steps : Bool → ℕ → ℕ → ℕ
 start_steps clears versions privates = 11 + (if clears then 4 + (if_any versions 1 + 4 * versions) else 0) + (if_any privates 1 + privates)
 

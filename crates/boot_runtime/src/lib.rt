@@ -135,11 +135,12 @@ fn fixed_code(alloc: Global, layout: &Layout) -> Result<Vec<Instr>, AllocError>
 /// First GATE is looked at: where it is 1 a branch leads to the commit. Else, and after a commit from 10 bytes behind the address on, an
 /// attempt starts. Where VER is 65535, every version word := 0, then VER := 0. Then VER := VER + 1, CLN := 0, EN := 0; and SP is set, and by
 /// CUR the private scalars of the task are copied, and a branch leads to its code. They take 34 words, and for each task 2, and where it has
-/// private scalars 2 more and 3 for each.
+/// private scalars 2 more and 3 for each of their words.
 pub fn boot_code(alloc: Global, layout: &Layout, at: u16) -> Result<Vec<Instr>, AllocError>
     requires { at + boot_bytes (task_entries layout.now) < 65536 }
     ensures { IfOk result (λ code. code.items ≡ instructions (boot_forms layout.now layout.now.commit.address (task_entries layout.now) at)) }
 {
+    layout.rules();
     let tasks = layout.tasks();
     let mut code = fixed_code(alloc, layout)?;
     push_ladder(&mut code, tasks, at + LADDER + 4 * tasks.len() as u16)?;

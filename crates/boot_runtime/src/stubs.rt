@@ -1,17 +1,20 @@
 //! The ladder of branches to the tasks' stubs, and the stubs.
 
-ghost use Rattle.std.specs.Prelude.{◌≡◌, ◌+◌, ◌*◌, ◌<◌, ◌++◌, ℕ, OnOk, length, map};
+ghost use Rattle.std.specs.Prelude.{◌≡◌, ◌+◌, ◌*◌, ◌<◌, ◌++◌, ℕ, OnOk, All, length, map};
+ghost use Rattle.std.specs.List.{flat_map};
 ghost use Rattle.runtime_code.specs.code_forms.Placed.{instructions};
-ghost use Rattle.runtime_code.specs.LayoutPlaces.{pair_of, pairs_of};
-ghost use Rattle.boot_runtime.specs.Entries.{entry_of};
+ghost use Rattle.memory_map.specs.Spots.{private_words};
+ghost use Rattle.runtime_code.specs.runtime_effects.Places.{run_pairs, scalar_pairs};
+ghost use Rattle.runtime_code.specs.LayoutPlaces.{pairs_of};
+ghost use Rattle.boot_runtime.specs.Entries.{entry_of, EndsInMemory};
 ghost use Rattle.boot_runtime.specs.Listing.{copies_in, stub, stub_bytes, stubs, stubs_bytes, rung_to, ladder_to};
 
-use memory_map::{PrivateScalar, TaskLayout};
+use memory_map::{PrivateScalar, ScalarWidth, TaskLayout};
 use msp_isa::{Dst, Instr};
 use runtime_code::{branch, load, mov};
 use std::alloc::AllocError;
 
-/// The bytes of a copy, and of a branch.
+/// The bytes of a word's copy, and of a branch.
 const COPY: u16 = 6;
 
 const BRANCH: u16 = 4;
@@ -27,6 +30,18 @@ fn rung(task: &TaskLayout, stub: u16) -> u16
     }
 }
 
+// The words of private scalars.
+fn words_of(privates: &[PrivateScalar]) -> u16
+    requires { private_words privates.now < 65536 }
+    ensures { result ≡ private_words privates.now }
+{
+    let mut words = 0;
+    for scalar in privates {
+        words += scalar.width.words();
+    }
+    words
+}
+
 // The bytes of a task's stub.
 fn stub_size(task: &TaskLayout) -> u16
     requires { stub_bytes (entry_of task.now) < 65536 }
@@ -35,7 +50,7 @@ fn stub_size(task: &TaskLayout) -> u16
     if task.privates().is_empty() {
         0
     } else {
-        COPY * task.privates().len() as u16 + BRANCH
+        COPY * words_of(task.privates()) + BRANCH
     }
 }
 
@@ -52,18 +67,40 @@ pub fn push_ladder(code: &mut Vec<Instr>, tasks: &[TaskLayout], at: u16) -> Resu
     Ok(())
 }
 
+// Adds the copy of a word.
+fn push_copy(code: &mut Vec<Instr>, home: u16, copy: u16) -> Result<(), AllocError>
+    ensures { OnOk result (code.new.items ≡ code.old.items ++ instructions (copies_in (run_pairs 1 home copy))) }
+{
+    code.push(mov(load(home), Dst::Absolute(copy)))?;
+    Ok(())
+}
+
+// Adds the copies of a private scalar's words.
+fn push_scalar(code: &mut Vec<Instr>, scalar: &PrivateScalar) -> Result<(), AllocError>
+    requires { EndsInMemory scalar.now }
+    ensures { OnOk result (code.new.items ≡ code.old.items ++ instructions (copies_in (scalar_pairs scalar.now))) }
+{
+    push_copy(code, scalar.home, scalar.copy)?;
+    match scalar.width {
+        ScalarWidth::OneWord => Ok(()),
+        ScalarWidth::TwoWords => push_copy(code, scalar.home + 2, scalar.copy + 2),
+    }
+}
+
 // Adds the copies of a task's private scalars.
 fn push_copies(code: &mut Vec<Instr>, privates: &[PrivateScalar]) -> Result<(), AllocError>
-    ensures { OnOk result (code.new.items ≡ code.old.items ++ instructions (copies_in (map pair_of privates.now))) }
+    requires { All EndsInMemory privates.now }
+    ensures { OnOk result (code.new.items ≡ code.old.items ++ instructions (copies_in (flat_map scalar_pairs privates.now))) }
 {
     for scalar in privates {
-        code.push(mov(load(scalar.home), Dst::Absolute(scalar.copy)))?;
+        push_scalar(code, scalar)?;
     }
     Ok(())
 }
 
 // Adds a task's stub: its private scalars are copied, and a branch leads to its code; or nothing, where it has none.
 fn push_stub(code: &mut Vec<Instr>, task: &TaskLayout) -> Result<(), AllocError>
+    requires { All EndsInMemory task.now.privates }
     ensures { OnOk result (code.new.items ≡ code.old.items ++ instructions (stub (entry_of task.now))) }
 {
     let privates = task.privates();
@@ -77,6 +114,7 @@ fn push_stub(code: &mut Vec<Instr>, task: &TaskLayout) -> Result<(), AllocError>
 
 /// Adds each task's stub.
 pub fn push_stubs(code: &mut Vec<Instr>, tasks: &[TaskLayout]) -> Result<(), AllocError>
+    requires { All (λ t. All EndsInMemory t.privates) tasks.now }
     ensures { OnOk result (code.new.items ≡ code.old.items ++ instructions (stubs (map entry_of tasks.now))) }
 {
     for task in tasks {

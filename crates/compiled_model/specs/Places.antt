@@ -8,6 +8,8 @@ use Rattle.linked_code.specs.cost_bound.Allowance.{list_of}
 use Rattle.linked_code.specs.cost_bound.Counts.{emits_of}
 use Rattle.lower.specs.source_values.Runs.{CheckedProgram, task_body}
 use Rattle.lower.specs.Seen.{some_path_writes}
+use Rattle.linked_code.specs.memory_map.declared.place.ScalarWidth.{ScalarWidth}
+use Rattle.linked_code.specs.memory_map.declared.place.ScalarWidth.TheVariants.{OneWord, TwoWords}
 use Rattle.linked_code.specs.memory_map.declared.place.VariablePlace.{VariablePlace}
 use Rattle.linked_code.specs.memory_map.declared.place.VariablePlace.TheVariants.{Scalar, Array}
 use Rattle.linked_code.specs.memory_map.MemoryMap.{MemoryMap}
@@ -20,10 +22,15 @@ is_private_in body v = private_of (block_sum (summary (Shared v)) body)
 abbrev pub stays_in_place : CheckedBlock → ℕ → Bool
 stays_in_place body v = some_path_writes body v && not (is_private_in body v)
 
--- whether one of the scalars from a number on that are so has its word at an address
+-- whether a scalar has a word at an address
+abbrev pub has_word_at : ℕ → ScalarWidth → ℕ → Bool
+has_word_at home OneWord a = home == a
+has_word_at home TwoWords a = (home == a) || (home + 2 == a)
+
+-- whether one of the scalars from a number on that are so has a word at an address
 abbrev pub some_scalar_at : (ℕ → Bool) → ℕ → List VariablePlace → ℕ → Bool
 some_scalar_at holds v [] a = false
-some_scalar_at holds v (Scalar home copy ∷ places) a = (home == a && holds v) || some_scalar_at holds (v + 1) places a
+some_scalar_at holds v (Scalar home copy width ∷ places) a = (has_word_at home width a && holds v) || some_scalar_at holds (v + 1) places a
 some_scalar_at holds v (Array elements length copies ∷ places) a = some_scalar_at holds (v + 1) places a
 
 -- The memory map, and for how much each task has room. A task writes a scalar in place where some path of it does, and the scalar isn't

@@ -9,17 +9,14 @@ use Rattle.image_reports.specs.text_parts.Printed.{printed}
 use Rattle.plain_commands.specs.alp_io.Report.{bound_line}
 use Rattle.plain_commands.specs.cost_bound.declared.allowance.Allow.{Allow}
 use Rattle.plain_commands.specs.source_meaning.Acceptance.{IsAcceptedText}
-use Rattle.plain_commands.specs.source_meaning.Longs.{HasNoLong}
-use Rattle.plain_commands.specs.source_meaning.declared.fault.SourceFault.{SourceFault}
-use Rattle.link_image.specs.Compiled.{IsCompiled, IsUncompiled}
+use Rattle.link_image.specs.Compiled.{IsCompiled}
 use Rattle.image_reports.specs.ImageLaw.{IsLawful}
 use Rattle.plain_commands.specs.source_values.Runs.{CheckedProgram}
 use Rattle.image_reports.specs.source_runs.Naming.{IsMapOf}
 use Rattle.image_reports.specs.source_runs.Traces.{IsTraceOfWords}
 use Rattle.plain_commands.specs.command_answers.Ending.{well}
 use Rattle.compiler_commands.specs.ToldRuns.{IsTold}
-use Rattle.plain_commands.specs.command_answers.Refusals.{Refusal}
-use Rattle.plain_commands.specs.command_texts.Sources.{source_refusal, SaysSource}
+use Rattle.plain_commands.specs.command_texts.Sources.{RefusesSource, SaysSource}
 use Rattle.plain_commands.specs.command_answers.Promises.{Promise, OfOneText}
 
 -- These bytes are the image text that is printed of an image, and they read back. The image has a map, which names the source's
@@ -45,23 +42,13 @@ pub record Builds (source file output : List ℕ) : Type 0 where
   pub told : (trace : TraceValue) → IsTraceOfWords trace → IsTold source program built.map image trace
   pub lawful : IsLawful source program allow built.compiled.layout image
 
--- a text is one of a source without longs, which is compiled
-abbrev pub SaysCompiled : List ℕ → Type 0
-SaysCompiled text = SaysSource text × HasNoLong text
-
--- the text isn't compiled: the first pass that refuses it does so, or it has longs
-pub record RefusesBuild (text : List ℕ) (r : Refusal) : Type 0 where
-  pub cause : SourceFault
-  pub refused : IsUncompiled text cause
-  pub told : source_refusal text cause ≡ Some r
-
 -- what it promises
 abbrev pub build_promise : (source image : List ℕ) → Promise
 build_promise source image = record {
   reads = source ∷ [];
   judges = source ∷ [];
   puts = Some image;
-  takes = OfOneText SaysCompiled;
+  takes = OfOneText SaysSource;
   makes = λ texts p. OfOneText (λ s. IsSomeAnd p.file (λ file. Builds s file p.output) × (p.ending ≡ well)) texts;
-  refuses = λ texts place r. OfOneText (λ s. RefusesBuild s r × (place ≡ 0)) texts;
+  refuses = λ texts place r. OfOneText (λ s. RefusesSource s r × (place ≡ 0)) texts;
 }

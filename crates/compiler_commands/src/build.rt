@@ -41,7 +41,7 @@ pub fn build_texts<'t, H: Shelf, O: Sink>(
 {
     images_keep_the_laws();
     let source = source_of(alloc, names.0, source)?;
-    let built = built_of(alloc, names.0, &source)?;
+    let built = built_of(alloc, &source)?;
     put_file(alloc, shelf, names.1, built.text.as_slice())?;
     match write_bound(out, source.allow().cycles) {
         Ok(()) => Ok(()),

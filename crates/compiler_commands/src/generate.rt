@@ -123,7 +123,7 @@ pub fn gen_texts<'t, H: Shelf, O: Sink>(
 {
     let source = source_of(alloc, "gen", text)?;
     let trace = trace_of_number(alloc, words.0, source.allow().cycles)?;
-    let built = built_of(alloc, "gen", &source)?;
+    let built = built_of(alloc, &source)?;
     put_generated(alloc, words, &source, &trace, &built, shelf, out)
 }
 

@@ -108,8 +108,8 @@ pub fn try_texts<'t, H: Shelf, O: Sink>(
         (record { old = O.contents out.old; new = O.contents out.new; faults_old = O.faults out.old; faults_new = O.faults out.new })) }
 {
     let source = source_of(alloc, names.0, texts.0)?;
-    let built = built_of(alloc, names.0, &source)?;
     let trace = trace_of(alloc, names.1, texts.1)?;
+    let built = built_of(alloc, &source)?;
     put_trial(alloc, names, texts, &built, &trace, shelf, out)
 }
 

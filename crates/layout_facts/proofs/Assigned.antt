@@ -23,6 +23,7 @@ use Rattle.layout_facts.proofs.Lists.{place_of, contains_at}
 use Rattle.layout_facts.proofs.Privates.{Privates, privates_of, ascending_numbers}
 use Rattle.layout_facts.proofs.Planned.{array_declared, array_extent, array_has_place, places_match}
 use Rattle.compiled_model.specs.memory_map.declared.place.ArrayCopies.{ArrayCopies}
+use Rattle.compiled_model.specs.memory_map.declared.place.ScalarWidth.{ScalarWidth}
 use Rattle.compiled_model.specs.memory_map.declared.place.VariablePlace.TheVariants.{Scalar, Array}
 use Rattle.compiled_model.specs.memory_map.declared.place.PrivateScalar.{PrivateScalar}
 use Rattle.compiled_model.specs.memory_map.MemoryMap.{MemoryMap, TaskPlace}
@@ -125,43 +126,47 @@ module _ (p : CheckedProgram) (allow : Allow) (plans : List TaskPlanValue) (l : 
   }
 
   -- a scalar that is private by the sums has an entry
-  entry_of_private : (v home copy : ℕ) → slice_get l.variables v ≡ Some (Scalar home copy) → is_private_in task.body v ≡ true
+  entry_of_private : (v home copy : ℕ) (width : ScalarWidth) → slice_get l.variables v ≡ Some (Scalar home copy width)
+      → is_private_in task.body v ≡ true
       → (i : ℕ) × (s : PrivateScalar) × (slice_get layout.privates i ≡ Some s) × (s.number ≡ v)
-  entry_of_private v home copy e a =
-      assigned_is v (record { scalar = (places_match p allow plans l h).is_scalar v home copy e; owed = private_is (Shared v) task.body a })
+  entry_of_private v home copy width e a =
+      assigned_is v (record { scalar = (places_match p allow plans l h).is_scalar v home copy width e; owed = private_is (Shared v) task.body a })
 
   address_is : AddressIs p l task layout
   address_is = record { private = private; left = left; each = each }
     where
-      seen : (v home copy : ℕ) → slice_get l.variables v ≡ Some (Scalar home copy)
-          → slice_get (places_seen (some_path_writes task.body) 0 l.variables) v ≡ Some (Scalar home copy)
-      seen v home copy e = scalar_seen (some_path_writes task.body) l.variables v home copy e
+      seen : (v home copy : ℕ) (width : ScalarWidth) → slice_get l.variables v ≡ Some (Scalar home copy width)
+          → slice_get (places_seen (some_path_writes task.body) 0 l.variables) v ≡ Some (Scalar home copy width)
+      seen v home copy width e = scalar_seen (some_path_writes task.body) l.variables v home copy width e
 
-      each : (v home copy : ℕ) → slice_get l.variables v ≡ Some (Scalar home copy) → is_private_in task.body v ≡ true
-          → Contains layout.privates (record { number = v; home = home; copy = copy })
-      each v home copy e a =
-          let i = entry_of_private v home copy e a in
+      each : (v home copy : ℕ) (width : ScalarWidth) → slice_get l.variables v ≡ Some (Scalar home copy width) → is_private_in task.body v ≡ true
+          → Contains layout.privates (record { number = v; home = home; copy = copy; width = width })
+      each v home copy width e a =
+          let i = entry_of_private v home copy width e a in
           let s = i.1 in
           let number : s.number ≡ v = i.3 in
-          let both : Some (Scalar s.home s.copy) ≡ Some (Scalar home copy) = sym (place_is i.0 s i.2).place ∙ ap (slice_get l.variables) number ∙ e in
+          let both : Some (Scalar s.home s.copy s.width) ≡ Some (Scalar home copy width) =
+          sym (place_is i.0 s i.2).place ∙ ap (slice_get l.variables) number ∙ e in
           let its_home : s.home ≡ home = cc in
           let its_copy : s.copy ≡ copy = cc in
-          let same : s ≡ record { number = v; home = home; copy = copy } = λ j. record { number = number j; home = its_home j; copy = its_copy j } in
+          let its_width : s.width ≡ width = cc in
+          let same : s ≡ record { number = v; home = home; copy = copy; width = width } =
+          λ j. record { number = number j; home = its_home j; copy = its_copy j; width = its_width j } in
           contains_at layout.privates i.0 _ (i.2 ∙ ap (λ (x : PrivateScalar). Some x) same)
 
-      private : (v home copy : ℕ) → slice_get l.variables v ≡ Some (Scalar home copy) → is_private_in task.body v ≡ true
+      private : (v home copy : ℕ) (width : ScalarWidth) → slice_get l.variables v ≡ Some (Scalar home copy width) → is_private_in task.body v ≡ true
           → address_of (task_places l task layout) v ≡ copy
-      private v home copy e a =
-          let i = entry_of_private v home copy e a in
+      private v home copy width e a =
+          let i = entry_of_private v home copy width e a in
           let c = among_found layout.privates i.0 i.1 v i.2 i.3 in
           let its = among_is l.variables layout.privates v c.0 mine.places c.1 in
-          let both : Some (Scalar its.0 c.0) ≡ Some (Scalar home copy) = sym its.1 ∙ e in
+          let both : Some (Scalar its.0 c.0 its.1) ≡ Some (Scalar home copy width) = sym its.2 ∙ e in
           let same : c.0 ≡ copy = cc in
           ap (λ o. copy_else o (home_of (map_seen task.body l).variables v)) c.1 ∙ same
 
-      left : (v home copy : ℕ) → slice_get l.variables v ≡ Some (Scalar home copy) → is_private_in task.body v ≡ false
+      left : (v home copy : ℕ) (width : ScalarWidth) → slice_get l.variables v ≡ Some (Scalar home copy width) → is_private_in task.body v ≡ false
           → address_of (task_places l task layout) v ≡ home
-      left v home copy e a = by (copy_among layout.privates v) refl
+      left v home copy width e a = by (copy_among layout.privates v) refl
         where
           by : (o : Option ℕ) → copy_among layout.privates v ≡ o → copy_else o (home_of (map_seen task.body l).variables v) ≡ home
           by (Some c) f =
@@ -169,7 +174,7 @@ module _ (p : CheckedProgram) (allow : Allow) (plans : List TaskPlanValue) (l : 
               let no : is_private_in task.body v ≡ true =
               subst (λ x. is_private_in task.body x ≡ true) i.3 (is_private_of (Shared i.1.number) task.body (private_is_one i.0 i.1 i.2).owed) in
               let clash : true ≡ false = sym no ∙ a in cc
-          by None f = ap home_in (seen v home copy e)
+          by None f = ap home_in (seen v home copy width e)
 
 pub tasks_match : TasksMatch
 tasks_match p allow plans l h t task layout k = task_matches p allow plans l h t task layout k

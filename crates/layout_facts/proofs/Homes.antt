@@ -1,5 +1,5 @@
 -- The words of the variables fill their region.
-use Rattle.std.proofs.Common.{◌≡◌, ℕ, suc, ◌+◌, ◌*◌, ◌%◌, ◌/◌, ◌-◌, ◌<◌, ◌≤◌, ◌⊎◌, inl, inr, Bool, List, [], ◌∷◌, length, map, sym, arith, Some, refl}
+use Rattle.std.proofs.Common.{◌≡◌, ℕ, suc, ◌+◌, ◌*◌, ◌%◌, ◌/◌, ◌-◌, ◌<◌, ◌≤◌, ◌⊎◌, inl, inr, Bool, List, [], ◌∷◌, length, map, sym, ap, arith, Some, refl}
 use Rattle.std.specs.Prelude.{slice_get}
 use Rattle.std.proofs.lemmas.Bool.{cases_lt}
 use Rattle.compiled_model.specs.task_ast.declared.Extent.{Extent}
@@ -9,7 +9,7 @@ use Rattle.compiled_model.specs.cost_bound.Allowance.{shared_sum_from, is_writte
 use Rattle.compiled_model.specs.memory_map.declared.place.Region.{Region}
 use Rattle.compiled_model.specs.memory_map.declared.place.VariablePlace.{VariablePlace}
 use Rattle.compiled_model.specs.memory_map.declared.place.VariablePlace.TheVariants.{Scalar, Array}
-use Rattle.compiled_model.specs.memory_map.Places.{end_of, AreInOrder, home_region}
+use Rattle.compiled_model.specs.memory_map.Places.{end_of, scalar_words, AreInOrder, home_region}
 use Rattle.compiled_model.proofs.memory_map.Interface.{even_of, home_between, one_home}
 use Rattle.compiled_model.specs.privatise.Sizes.{home_part}
 use Rattle.compiled_model.specs.privatise.Layouts.{IsPlaceOf}
@@ -32,11 +32,12 @@ place_words [] = 0
 place_words (v ∷ vs) = (home_region v).words + place_words vs
 
 part_is : (written : Bool) (e : Extent) (v : VariablePlace) → IsPlaceOf written e v → home_part e ≡ (home_region v).words
-part_is written (extent.Scalar w) (Scalar home copy) k = refl
-part_is written (extent.Long n) v k = absurd k
+part_is written (extent.Scalar w) (Scalar home copy width) k = sym (ap scalar_words k)
+part_is written (extent.Long n) (Scalar home copy width) k = sym (ap scalar_words k)
 part_is written (extent.Array n) (Array elements length copies) k = sym k.0
 part_is written (extent.Scalar w) (Array _ _ _) k = absurd k
-part_is written (extent.Array n) (Scalar _ _) k = absurd k
+part_is written (extent.Long n) (Array _ _ _) k = absurd k
+part_is written (extent.Array n) (Scalar _ _ _) k = absurd k
 
 sum_is : (written : ℕ → Bool) (i : ℕ) (ds : List SharedDeclaration) (vs : List VariablePlace) → length vs ≡ length ds
     → ((k : ℕ) (d : SharedDeclaration) (v : VariablePlace) → slice_get ds k ≡ Some d → slice_get vs k ≡ Some v → IsPlaceOf (written k) d.extent v)

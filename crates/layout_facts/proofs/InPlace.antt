@@ -1,7 +1,7 @@
 -- The scalars that a task writes in place, by their addresses.
-use Rattle.std.proofs.Common.{◌≡◌, ℕ, zero, suc, ◌+◌, ◌==◌, Bool, true, false, ◌&&◌, ◌||◌, not, List, [], ◌∷◌, Option, Some, None, refl, sym, ap, ◌∙◌, subst}
+use Rattle.std.proofs.Common.{◌≡◌, ℕ, zero, suc, ◌+◌, ◌*◌, ◌<◌, ◌==◌, Bool, true, false, ◌&&◌, not, List, [], ◌∷◌, Some, None, refl, sym, ap, ◌∙◌, subst}
 use Rattle.std.proofs.Common.{⊎_elim, ◌⊎◌, arith, eq-eqb}
-use Rattle.std.specs.Prelude.{slice_get, ◌↔◌}
+use Rattle.std.specs.Prelude.{slice_get}
 use Rattle.std.proofs.lemmas.Bool.{or_cases, or_left, or_right, and_parts, and_from, eqb-true, not-true, cases_Bool}
 use Rattle.compiled_model.proofs.path_sums.Interface.{some_writes, writes_some, private_is, is_private_of}
 use Rattle.compiled_model.specs.path_sums.Access.{writes, SomePath, IsPrivate}
@@ -12,55 +12,119 @@ use Rattle.compiled_model.specs.lower.Seen.{some_path_writes}
 use Rattle.compiled_model.proofs.memory_map.Interface.{scalar_home}
 use Rattle.layout_facts.specs.Laws.{InPlaceByPaths}
 use Rattle.layout_facts.proofs.Homes.{each_is_one_word}
-use Rattle.compiled_model.specs.Places.{is_private_in, stays_in_place, some_scalar_at, program_places}
+use Rattle.compiled_model.specs.Places.{is_private_in, stays_in_place, has_word_at, some_scalar_at, program_places}
+use Rattle.compiled_model.specs.memory_map.declared.place.ScalarWidth.{ScalarWidth}
+use Rattle.compiled_model.specs.memory_map.declared.place.ScalarWidth.TheVariants.{OneWord, TwoWords}
+use Rattle.compiled_model.specs.memory_map.MemoryMap.{MemoryMap}
+use Rattle.compiled_model.specs.memory_map.Places.{scalar_words}
+use Rattle.compiled_model.specs.memory_map.Spots.{IsWordOf}
 use Rattle.compiled_model.specs.memory_map.declared.place.VariablePlace.{VariablePlace}
 use Rattle.compiled_model.specs.memory_map.declared.place.VariablePlace.TheVariants.{Scalar, Array}
 
--- a scalar that is so, with its word at an address
+-- a scalar has so a word at an address
+record HasWordAt (home : ℕ) (width : ScalarWidth) (a : ℕ) : Type 0 where
+  pub index : ℕ
+  pub below : index < scalar_words width
+  pub address : a ≡ 2 * index + home
+
+word_found : (home : ℕ) (width : ScalarWidth) (a : ℕ) → has_word_at home width a ≡ true → HasWordAt home width a
+word_found home OneWord a h = let e = eqb-true home a h in record { index = 0; below = omega arith; address = omega (arith, e) }
+word_found home TwoWords a h = ⊎_elim low high (or_cases (home == a) (home + 2 == a) h)
+  where
+    low : (home == a) ≡ true → HasWordAt home TwoWords a
+    low h = let e = eqb-true home a h in record { index = 0; below = omega arith; address = omega (arith, e) }
+
+    high : (home + 2 == a) ≡ true → HasWordAt home TwoWords a
+    high h = let e = eqb-true (home + 2) a h in record { index = 1; below = omega arith; address = omega (arith, e) }
+
+word_is : (home : ℕ) (width : ScalarWidth) (i : ℕ) → i < scalar_words width → has_word_at home width (2 * i + home) ≡ true
+word_is home OneWord i l = eq-eqb home (2 * i + home) (omega (arith, l))
+word_is home TwoWords zero l = or_left (home == 2 * 0 + home) (home + 2 == 2 * 0 + home) (eq-eqb home (2 * 0 + home) (omega arith))
+word_is home TwoWords (suc i) l =
+    or_right (home == 2 * suc i + home) (home + 2 == 2 * suc i + home) (eq-eqb (home + 2) (2 * suc i + home) (omega (arith, l)))
+
+-- a scalar that is so, with a word at an address
 pub record ScalarAt (holds : ℕ → Bool) (k : ℕ) (places : List VariablePlace) (a : ℕ) : Type 0 where
   pub behind : ℕ
+  pub home : ℕ
   pub copy : ℕ
-  pub place : slice_get places behind ≡ Some (Scalar a copy)
+  pub width : ScalarWidth
+  pub index : ℕ
+  pub place : slice_get places behind ≡ Some (Scalar home copy width)
+  pub below : index < scalar_words width
+  pub address : a ≡ 2 * index + home
   pub is_so : holds (k + behind) ≡ true
 
 one_further : (holds : ℕ → Bool) (k : ℕ) (x : VariablePlace) (places : List VariablePlace) (a : ℕ) → ScalarAt holds (k + 1) places a
     → ScalarAt holds k (x ∷ places) a
 one_further holds k x places a s =
     let same : k + 1 + s.behind ≡ k + suc s.behind = omega arith in
-    record { behind = suc s.behind; copy = s.copy; place = s.place; is_so = sym (ap holds same) ∙ s.is_so }
+    record {
+      behind = suc s.behind;
+      home = s.home;
+      copy = s.copy;
+      width = s.width;
+      index = s.index;
+      place = s.place;
+      below = s.below;
+      address = s.address;
+      is_so = sym (ap holds same) ∙ s.is_so;
+    }
 
 pub scalar_found : (holds : ℕ → Bool) (k : ℕ) (places : List VariablePlace) (a : ℕ) → some_scalar_at holds k places a ≡ true → ScalarAt holds k places a
 scalar_found holds k [] a h = absurd (let none : false ≡ true = h in cc)
-scalar_found holds k (Scalar home copy ∷ places) a h =
-    by (or_cases (home == a && holds k) (some_scalar_at holds (k + 1) places a) h) (scalar_found holds (k + 1) places a)
+scalar_found holds k (Scalar home copy width ∷ places) a h =
+    by (or_cases (has_word_at home width a && holds k) (some_scalar_at holds (k + 1) places a) h) (scalar_found holds (k + 1) places a)
   where
-    here : (home == a && holds k) ≡ true → ScalarAt holds k (Scalar home copy ∷ places) a
+    here : (has_word_at home width a && holds k) ≡ true → ScalarAt holds k (Scalar home copy width ∷ places) a
     here e =
-        let parts = and_parts (home == a) (holds k) e in
-        let at : home ≡ a = eqb-true home a parts.0 in
+        let parts = and_parts (has_word_at home width a) (holds k) e in
+        let word = word_found home width a parts.0 in
         let same : k ≡ k + 0 = omega arith in
-        record { behind = 0; copy = copy; place = ap (λ n. Some (Scalar n copy)) at; is_so = sym (ap holds same) ∙ parts.1 }
+        record {
+          behind = 0;
+          home = home;
+          copy = copy;
+          width = width;
+          index = word.index;
+          place = refl;
+          below = word.below;
+          address = word.address;
+          is_so = sym (ap holds same) ∙ parts.1;
+        }
 
-    by : ((home == a && holds k) ≡ true) ⊎ (some_scalar_at holds (k + 1) places a ≡ true)
-        → (some_scalar_at holds (k + 1) places a ≡ true → ScalarAt holds (k + 1) places a) → ScalarAt holds k (Scalar home copy ∷ places) a
-    by c more = ⊎_elim here (λ e. one_further holds k (Scalar home copy) places a (more e)) c
+    by : ((has_word_at home width a && holds k) ≡ true) ⊎ (some_scalar_at holds (k + 1) places a ≡ true)
+        → (some_scalar_at holds (k + 1) places a ≡ true → ScalarAt holds (k + 1) places a) → ScalarAt holds k (Scalar home copy width ∷ places) a
+    by c more = ⊎_elim here (λ e. one_further holds k (Scalar home copy width) places a (more e)) c
 scalar_found holds k (Array elements n copies ∷ places) a h =
     one_further holds k (Array elements n copies) places a (scalar_found holds (k + 1) places a h)
 
-pub scalar_is : (holds : ℕ → Bool) (k : ℕ) (places : List VariablePlace) (v home copy : ℕ) → slice_get places v ≡ Some (Scalar home copy)
-    → holds (k + v) ≡ true → some_scalar_at holds k places home ≡ true
-scalar_is holds k [] v home copy e h = absurd (let none : None ≡ Some (Scalar home copy) = e in cc)
-scalar_is holds k (Scalar a c ∷ places) zero home copy e h =
+-- it is a word of that scalar
+pub found_word : (holds : ℕ → Bool) (k : ℕ) (l : MemoryMap) (a : ℕ) → (at : ScalarAt holds k l.variables a) → IsWordOf l at.behind at.index a
+found_word holds k l a at = record { place = Scalar at.home at.copy at.width; at = at.place; below = at.below; address = at.address }
+
+pub scalar_is : (holds : ℕ → Bool) (k : ℕ) (places : List VariablePlace) (v home copy : ℕ) (width : ScalarWidth) (i : ℕ)
+    → slice_get places v ≡ Some (Scalar home copy width) → i < scalar_words width
+    → holds (k + v) ≡ true → some_scalar_at holds k places (2 * i + home) ≡ true
+scalar_is holds k [] v home copy width i e l h = absurd (let none : None ≡ Some (Scalar home copy width) = e in cc)
+scalar_is holds k (Scalar a c w ∷ places) zero home copy width i e l h =
     let at : a ≡ home = cc in
+    let wide : w ≡ width = cc in
     let same : k + 0 ≡ k = omega arith in
-    or_left (a == home && holds k) (some_scalar_at holds (k + 1) places home) (and_from (a == home) (holds k) (eq-eqb a home at) (sym (ap holds same) ∙ h))
-scalar_is holds k (Array a n c ∷ places) zero home copy e h = absurd (let other : Some (Array a n c) ≡ Some (Scalar home copy) = e in cc)
-scalar_is holds k (Scalar a c ∷ places) (suc v) home copy e h =
+    let word : has_word_at a w (2 * i + home) ≡ true =
+    subst (λ x. has_word_at x w (2 * i + home) ≡ true) (sym at)
+    (subst (λ x. has_word_at home x (2 * i + home) ≡ true) (sym wide) (word_is home width i l)) in
+    or_left (has_word_at a w (2 * i + home) && holds k) (some_scalar_at holds (k + 1) places (2 * i + home))
+    (and_from (has_word_at a w (2 * i + home)) (holds k) word (sym (ap holds same) ∙ h))
+scalar_is holds k (Array a n c ∷ places) zero home copy width i e l h =
+    absurd (let other : Some (Array a n c) ≡ Some (Scalar home copy width) = e in cc)
+scalar_is holds k (Scalar a c w ∷ places) (suc v) home copy width i e l h =
     let same : k + suc v ≡ k + 1 + v = omega arith in
-    or_right (a == home && holds k) (some_scalar_at holds (k + 1) places home) (scalar_is holds (k + 1) places v home copy e (sym (ap holds same) ∙ h))
-scalar_is holds k (Array a n c ∷ places) (suc v) home copy e h =
+    or_right (has_word_at a w (2 * i + home) && holds k) (some_scalar_at holds (k + 1) places (2 * i + home))
+    (scalar_is holds (k + 1) places v home copy width i e l (sym (ap holds same) ∙ h))
+scalar_is holds k (Array a n c ∷ places) (suc v) home copy width i e l h =
     let same : k + suc v ≡ k + 1 + v = omega arith in
-    scalar_is holds (k + 1) places v home copy e (sym (ap holds same) ∙ h)
+    scalar_is holds (k + 1) places v home copy width i e l (sym (ap holds same) ∙ h)
 
 -- what stays in place, by paths
 pub in_place_written : (body : Code) (v : ℕ) → stays_in_place body v ≡ true → SomePath body (writes (Shared v))
@@ -75,13 +139,17 @@ stays_by_paths body v w none =
     (⊎_elim (λ e. absurd (none (private_is (Shared v) body e))) (λ e. ap not e) (cases_Bool (is_private_in body v)))
 
 pub in_place_by_paths : InPlaceByPaths
-in_place_by_paths p allow plans l h t v home copy e = (to, from)
+in_place_by_paths p allow plans l h t v home copy width i e below = (to, from)
   where
-    to : (program_places p l).written_in_place t home ≡ true
+    a : ℕ
+    a = 2 * i + home
+
+    to : (program_places p l).written_in_place t a ≡ true
         → SomePath (task_body p t) (writes (Shared v)) × (IsPrivate (task_body p t) (Shared v) → ⊥)
     to w =
-        let at = scalar_found (stays_in_place (task_body p t)) 0 l.variables home w in
-        let same = each_is_one_word p allow plans l h at.behind v 0 0 home (scalar_home l at.behind home at.copy at.place) (scalar_home l v home copy e) in
+        let at = scalar_found (stays_in_place (task_body p t)) 0 l.variables a w in
+        let word = found_word (stays_in_place (task_body p t)) 0 l a at in
+        let same = each_is_one_word p allow plans l h at.behind v at.index i a word (scalar_home l v home copy width i e below) in
         let number : 0 + at.behind ≡ v = let e = same.0 in omega (arith, e) in
         let stays : stays_in_place (task_body p t) v ≡ true = sym (ap (stays_in_place (task_body p t)) number) ∙ at.is_so in (
           in_place_written (task_body p t) v stays,
@@ -89,8 +157,8 @@ in_place_by_paths p allow plans l h t v home copy e = (to, from)
               let clash : true ≡ false = sym (is_private_of (Shared v) (task_body p t) private) ∙ in_place_not_private (task_body p t) v stays in absurd (cc),
         )
 
-    from : SomePath (task_body p t) (writes (Shared v)) × (IsPrivate (task_body p t) (Shared v) → ⊥) → (program_places p l).written_in_place t home ≡ true
+    from : SomePath (task_body p t) (writes (Shared v)) × (IsPrivate (task_body p t) (Shared v) → ⊥) → (program_places p l).written_in_place t a ≡ true
     from w =
         let same : v ≡ 0 + v = omega arith in
-        scalar_is (stays_in_place (task_body p t)) 0 l.variables v home copy e
+        scalar_is (stays_in_place (task_body p t)) 0 l.variables v home copy width i e below
         (sym (ap (stays_in_place (task_body p t)) same) ∙ stays_by_paths (task_body p t) v w.0 w.1)

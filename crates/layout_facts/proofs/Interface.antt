@@ -10,6 +10,8 @@ pub use Rattle.layout_facts.proofs.States.{worlds_have_states}
 pub use Rattle.layout_facts.proofs.Views.{view_has_their_words, rows_fit_places}
 -- The places of the crash theorem, and the room of its buffers.
 pub use Rattle.layout_facts.proofs.Chains.{places_are_apart, tasks_have_room}
+-- Pairs of words and their copies, and private scalars word by word.
+pub use Rattle.layout_facts.proofs.Pairs.{among_either, among_front, among_back, word_pair, IsPairOf, IsOfScalars, among_scalars, scalars_among}
 -- The private scalars of tasks.
 pub use Rattle.layout_facts.proofs.Privates.{privates_are_theirs}
 -- The words that a task works on stand apart, behind what it lists and emits.
@@ -25,4 +27,4 @@ pub use Rattle.layout_facts.proofs.Fits.{names_fit}
 -- What a task sees of a memory map stands in the whole map.
 pub use Rattle.layout_facts.proofs.Seen.{word_of_seen, scalar_of_seen}
 -- The scalars that a task writes in place, by their addresses.
-pub use Rattle.layout_facts.proofs.InPlace.{ScalarAt, scalar_found, scalar_is, in_place_written, in_place_not_private}
+pub use Rattle.layout_facts.proofs.InPlace.{ScalarAt, scalar_found, found_word, scalar_is, in_place_written, in_place_not_private}

@@ -5,6 +5,7 @@ mod Chains
 mod States
 mod Seen
 mod InPlace
+mod Pairs
 mod Privates
 mod Spots
 mod Room

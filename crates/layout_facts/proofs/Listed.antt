@@ -30,8 +30,8 @@ module _ (p : CheckedProgram) (allow : Allow) (plans : List TaskPlanValue) (l : 
       → x.array ≡ v → ⊥
   none v d e s x m at =
       let place = scalar_has_place p allow plans l h v (scalar_at p.shared v d e s) in
-      let both : Some (Array m.elements m.length (Some m.copies)) ≡ Some (Scalar place.0 place.1) =
-      sym m.is_array.place ∙ ap (slice_get l.variables) at ∙ place.2 in
+      let both : Some (Array m.elements m.length (Some m.copies)) ≡ Some (Scalar place.0 place.1 place.2) =
+      sym m.is_array.place ∙ ap (slice_get l.variables) at ∙ place.3 in
       cc
 
   -- an element of an array is below its length

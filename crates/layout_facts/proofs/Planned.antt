@@ -9,11 +9,16 @@ use Rattle.compiled_model.specs.cost_bound.declared.allowance.Allow.{Allow}
 use Rattle.compiled_model.specs.cost_bound.Allowance.{CheckedProgram, is_written}
 use Rattle.compiled_model.specs.war_analysis.PlanValue.{TaskPlanValue}
 use Rattle.compiled_model.specs.war_analysis.Plans.{is_scalar, IsScalarAt, IsArrayAt}
+use Rattle.compiled_model.specs.source_values.Runs.{is_long_extent}
 use Rattle.compiled_model.proofs.war_analysis.Interface.{element}
 use Rattle.compiled_model.specs.privatise.Layouts.{IsPlaceOf}
 use Rattle.layout_facts.specs.Facts.{HasLayout}
 use Rattle.layout_facts.specs.Laws.{PlacesAreDeclared, PlacesMatch}
 use Rattle.compiled_model.specs.memory_map.declared.place.ArrayCopies.{ArrayCopies}
+use Rattle.compiled_model.specs.memory_map.declared.place.ScalarWidth.{ScalarWidth}
+use Rattle.compiled_model.specs.memory_map.declared.place.ScalarWidth.TheVariants.{TwoWords}
+use Rattle.compiled_model.specs.memory_map.Places.{scalar_words}
+use Rattle.compiled_model.specs.privatise.Sizes.{home_part}
 use Rattle.compiled_model.specs.memory_map.declared.place.VariablePlace.{VariablePlace}
 use Rattle.compiled_model.specs.memory_map.declared.place.VariablePlace.TheVariants.{Scalar, Array}
 use Rattle.compiled_model.specs.memory_map.MemoryMap.{MemoryMap}
@@ -27,6 +32,16 @@ scalar_declared shared v h = by (slice_get shared v) refl h
   where
     by : (o : Option SharedDeclaration) → slice_get shared v ≡ o → IsSomeAnd o (λ d. is_scalar d.extent ≡ true)
         → (d : SharedDeclaration) × (slice_get shared v ≡ Some d) × (is_scalar d.extent ≡ true)
+    by (Some d) e k = (d, e, k)
+    by None e k = absurd k
+
+-- a long is declared, and its extent is that of one
+pub long_declared : (shared : List SharedDeclaration) (v : ℕ) → IsSomeAnd (slice_get shared v) (λ d. is_long_extent d.extent ≡ true)
+    → (d : SharedDeclaration) × (slice_get shared v ≡ Some d) × (is_long_extent d.extent ≡ true)
+long_declared shared v h = by (slice_get shared v) refl h
+  where
+    by : (o : Option SharedDeclaration) → slice_get shared v ≡ o → IsSomeAnd o (λ d. is_long_extent d.extent ≡ true)
+        → (d : SharedDeclaration) × (slice_get shared v ≡ Some d) × (is_long_extent d.extent ≡ true)
     by (Some d) e k = (d, e, k)
     by None e k = absurd k
 
@@ -50,11 +65,21 @@ array_extent (extent.Long n) h = let no : true ≡ false = h in cc
 array_extent (extent.Array n) h = (n, refl)
 
 -- the place of a declared scalar, and of an array
-place_scalar : (written : Bool) (e : Extent) (x : VariablePlace) → is_scalar e ≡ true → IsPlaceOf written e x → (home copy : ℕ) × (x ≡ Scalar home copy)
-place_scalar written (extent.Scalar w) (Scalar home copy) s k = (home, copy, refl)
+place_scalar : (written : Bool) (e : Extent) (x : VariablePlace) → is_scalar e ≡ true → IsPlaceOf written e x
+    → (home copy : ℕ) × (width : ScalarWidth) × (x ≡ Scalar home copy width)
+place_scalar written (extent.Scalar w) (Scalar home copy width) s k = (home, copy, width, refl)
+place_scalar written (extent.Long n) (Scalar home copy width) s k = (home, copy, width, refl)
 place_scalar written (extent.Scalar w) (Array _ _ _) s k = absurd k
-place_scalar written (extent.Long n) x s k = absurd k
+place_scalar written (extent.Long n) (Array _ _ _) s k = absurd k
 place_scalar written (extent.Array n) x s k = let no : false ≡ true = s in cc
+
+-- the place of a declared long
+place_long : (written : Bool) (e : Extent) (x : VariablePlace) → is_long_extent e ≡ true → IsPlaceOf written e x
+    → (home copy : ℕ) × (x ≡ Scalar home copy TwoWords)
+place_long written (extent.Scalar w) x s k = let no : false ≡ true = s in cc
+place_long written (extent.Long n) (Scalar home copy width) s k = (home, copy, ap (Scalar home copy) k)
+place_long written (extent.Long n) (Array _ _ _) s k = absurd k
+place_long written (extent.Array n) x s k = let no : false ≡ true = s in cc
 
 record ArrayPlace (written : Bool) (n : ℕ) (x : VariablePlace) : Type 0 where
   elements : ℕ
@@ -64,17 +89,24 @@ record ArrayPlace (written : Bool) (n : ℕ) (x : VariablePlace) : Type 0 where
 
 place_array : (written : Bool) (n : ℕ) (e : Extent) (x : VariablePlace) → e ≡ extent.Array n → IsPlaceOf written e x → ArrayPlace written n x
 place_array written n (extent.Scalar w) x s k = let no : extent.Scalar w ≡ extent.Array n = s in cc
-place_array written n (extent.Long m) x s k = absurd k
-place_array written n (extent.Array m) (Scalar _ _) s k = absurd k
+place_array written n (extent.Long m) x s k = let no : extent.Long m ≡ extent.Array n = s in cc
+place_array written n (extent.Array m) (Scalar _ _ _) s k = absurd k
 place_array written n (extent.Array m) (Array elements length copies) s k =
     let same : m ≡ n = cc in
     record { elements = elements; copies = copies; is = ap (λ y. Array elements y copies) (k.0 ∙ same); has = k.1 }
 
 -- the declaration of what has the place of a scalar, or of an array
-extent_scalar : (written : Bool) (e : Extent) (home copy : ℕ) → IsPlaceOf written e (Scalar home copy) → is_scalar e ≡ true
-extent_scalar written (extent.Scalar w) home copy k = refl
-extent_scalar written (extent.Long n) home copy k = refl
-extent_scalar written (extent.Array n) home copy k = absurd k
+extent_scalar : (written : Bool) (e : Extent) (home copy : ℕ) (width : ScalarWidth) → IsPlaceOf written e (Scalar home copy width) → is_scalar e ≡ true
+extent_scalar written (extent.Scalar w) home copy width k = refl
+extent_scalar written (extent.Long n) home copy width k = refl
+extent_scalar written (extent.Array n) home copy width k = absurd k
+
+-- a scalar is as wide as it is declared
+extent_width : (written : Bool) (e : Extent) (home copy : ℕ) (width : ScalarWidth) → IsPlaceOf written e (Scalar home copy width)
+    → scalar_words width ≡ home_part e
+extent_width written (extent.Scalar w) home copy width k = ap scalar_words k
+extent_width written (extent.Long n) home copy width k = ap scalar_words k
+extent_width written (extent.Array n) home copy width k = absurd k
 
 extent_array : (written : Bool) (e : Extent) (elements n : ℕ) (copies : Option ArrayCopies) → IsPlaceOf written e (Array elements n copies)
     → (e ≡ extent.Array n) × (is_some copies ≡ written)
@@ -101,11 +133,20 @@ module _ (p : CheckedProgram) (allow : Allow) (plans : List TaskPlanValue) (l : 
       let d = element p.shared v (omega (arith, lt, count)) in
       (d.0, d.1, h.layout.variables.each v d.0 x d.1 e)
 
-  pub scalar_has_place : (v : ℕ) → IsScalarAt p.shared v → (home copy : ℕ) × (slice_get l.variables v ≡ Some (Scalar home copy))
+  pub scalar_has_place : (v : ℕ) → IsScalarAt p.shared v
+      → (home copy : ℕ) × (width : ScalarWidth) × (slice_get l.variables v ≡ Some (Scalar home copy width))
   scalar_has_place v k =
       let d = scalar_declared p.shared v k in
       let x = its_place v d.0 d.1 in
       let s = place_scalar (is_written p.tasks v) d.0.extent x.0 d.2 x.2 in
+      (s.0, s.1, s.2, x.1 ∙ ap (λ y. Some y) s.3)
+
+  -- a long has two words
+  pub long_has_place : (v : ℕ) (d : SharedDeclaration) → slice_get p.shared v ≡ Some d → is_long_extent d.extent ≡ true
+      → (home copy : ℕ) × (slice_get l.variables v ≡ Some (Scalar home copy TwoWords))
+  long_has_place v d e k =
+      let x = its_place v d e in
+      let s = place_long (is_written p.tasks v) d.extent x.0 k x.2 in
       (s.0, s.1, x.1 ∙ ap (λ y. Some y) s.2)
 
   pub array_has_place : (v n : ℕ) (d : SharedDeclaration) → slice_get p.shared v ≡ Some d → d.extent ≡ extent.Array n
@@ -119,9 +160,11 @@ module _ (p : CheckedProgram) (allow : Allow) (plans : List TaskPlanValue) (l : 
   places_match = record {
     count = h.layout.variables.count;
     scalar = scalar_has_place;
-    is_scalar = λ v home copy e.
-        let d = its_declaration v (Scalar home copy) e in
-        scalar_at p.shared v d.0 d.1 (extent_scalar (is_written p.tasks v) d.0.extent home copy d.2);
+    is_scalar = λ v home copy width e.
+        let d = its_declaration v (Scalar home copy width) e in
+        scalar_at p.shared v d.0 d.1 (extent_scalar (is_written p.tasks v) d.0.extent home copy width d.2);
+    is_wide = λ v home copy width d e at.
+        extent_width (is_written p.tasks v) d.extent home copy width (h.layout.variables.each v d (Scalar home copy width) at e);
     array = array_has_place;
     is_array = λ v elements n copies e.
         let d = its_declaration v (Array elements n copies) e in

@@ -1,7 +1,8 @@
 -- The private scalars of tasks.
-use Rattle.std.proofs.Common.{◌≡◌, ℕ, zero, suc, ◌+◌, ◌<◌, ◌≤◌, ◌⊎◌, inl, inr, List, [], ◌∷◌, length, map, arith, ap, subst, sym, ◌∙◌, Some, refl, true}
+use Rattle.std.proofs.Common.{◌≡◌, ℕ, zero, suc, ◌+◌, ◌*◌, ◌<◌, ◌≤◌, ◌⊎◌, inl, inr, List, [], ◌∷◌, ◌++◌, length, map, arith, ap, subst, sym, ◌∙◌, Some, refl, true}
 use Rattle.std.proofs.Common.{false, ⊎_elim}
 use Rattle.std.specs.Prelude.{slice_get, All, AllPairs, get_or}
+use Rattle.std.specs.List.{flat_map}
 use Rattle.std.specs.Option.{option_map}
 use Rattle.std.proofs.lemmas.List.{length-map, get_or-map}
 use Rattle.std.proofs.lemmas.Bool.{cases_lt, cases_Bool}
@@ -12,8 +13,8 @@ use Rattle.compiled_model.specs.cost_bound.Allowance.{CheckedProgram, CheckedTas
 use Rattle.compiled_model.specs.war_analysis.PlanValue.{TaskPlanValue}
 use Rattle.compiled_model.specs.war_analysis.Plans.{IsTaskPlan}
 use Rattle.compiled_model.proofs.war_analysis.Interface.{element}
-use Rattle.compiled_model.specs.runtime_effects.Places.{CopyPair}
-use Rattle.compiled_model.specs.runtime_code.LayoutPlaces.{pair_of}
+use Rattle.compiled_model.specs.runtime_effects.Places.{CopyPair, run_pairs, scalar_pairs}
+use Rattle.compiled_model.specs.runtime_code.LayoutPlaces.{pairs_of}
 use Rattle.compiled_model.specs.boot_runtime.Entries.{entry_of, task_entries}
 use Rattle.compiled_model.specs.boot_runtime.Listing.{TaskEntry, privates_in}
 use Rattle.compiled_model.specs.stands_for.Layout.{IsSharedWord, IsCopyWord, IsAmong, ArePrivate}
@@ -24,11 +25,13 @@ use Rattle.compiled_model.specs.Places.{is_private_in, stays_in_place, program_p
 use Rattle.layout_facts.specs.Facts.{HasLayout, IsTaskAt}
 use Rattle.layout_facts.specs.Laws.{PrivatesAreTheirs, ScalarsStand}
 use Rattle.layout_facts.proofs.Homes.{words_of_variables_are_shared, each_is_one_word}
-use Rattle.layout_facts.proofs.InPlace.{scalar_found, in_place_not_private}
+use Rattle.layout_facts.proofs.InPlace.{scalar_found, found_word, in_place_not_private}
+use Rattle.layout_facts.proofs.Pairs.{among_scalars}
 use Rattle.compiled_model.specs.memory_map.declared.place.PrivateScalar.{PrivateScalar}
+use Rattle.compiled_model.specs.memory_map.declared.place.ScalarWidth.{ScalarWidth}
+use Rattle.compiled_model.specs.memory_map.declared.place.ScalarWidth.TheVariants.{OneWord, TwoWords}
 use Rattle.compiled_model.specs.memory_map.MemoryMap.{MemoryMap, TaskPlace}
-use Rattle.compiled_model.specs.memory_map.Places.{end_of, HasItsPlace, copy_regions, IsLaidOut}
-use Rattle.compiled_model.specs.memory_map.Spots.{IsWordOf}
+use Rattle.compiled_model.specs.memory_map.Places.{end_of, scalar_words, HasItsPlace, copy_regions, IsLaidOut}
 use Rattle.compiled_model.proofs.memory_map.Interface.{IsIn, within, before, scalar_copy, scalar_home}
 
 -- ---- a scalar and its copy
@@ -40,9 +43,9 @@ copy_is p l h v i a c =
     record { even = b.even; from = b.from; below = omega (arith, end) }
 
 pub scalars_stand : ScalarsStand
-scalars_stand p allow plans l h v home copy e = record {
-  is_word = scalar_home l v home copy e;
-  is_copy = copy_is p l h.layout.rules v 0 copy (scalar_copy l v home copy e);
+scalars_stand p allow plans l h v home copy width e = record {
+  is_word = λ i below. scalar_home l v home copy width i e below;
+  is_copy = λ i below. copy_is p l h.layout.rules v i (2 * i + copy) (scalar_copy l v home copy width i e below);
 }
 
 -- ---- the private scalars of a task
@@ -65,44 +68,49 @@ first_below s xs k q h e =
 others_ascend : (s : PrivateScalar) (xs : List PrivateScalar) → AllPairs ◌<◌ (map (λ s. s.number) (s ∷ xs)) → AllPairs ◌<◌ (map (λ s. s.number) xs)
 others_ascend s xs h i j d lt k = h (suc i) (suc j) d (omega arith) (omega arith)
 
--- a pair is that of a scalar
-scalar_of : (xs : List PrivateScalar) (q : CopyPair) → IsAmong (map pair_of xs) q → (k : ℕ) × (s : PrivateScalar) × (slice_get xs k ≡ Some s) × (q ≡ pair_of s)
-scalar_of [] q a = absurd a
-scalar_of (s ∷ xs) q (inl e) = (0, s, refl, e)
-scalar_of (s ∷ xs) q (inr a) = let r = scalar_of xs q a in (suc r.0, r.1, r.2, r.3)
-
-copies_differ : (l : MemoryMap) → IsLaidOut l → (s q : PrivateScalar) → HasItsPlace l.variables s → HasItsPlace l.variables q → s.number < q.number
-    → s.copy ≡ q.copy → ⊥
-copies_differ l h s q a b lt e =
-    before copy_regions l.copies.address l.variables (end_of l.copies) s.number q.number 0 0 q.copy h.copies lt
-    (subst (λ c. IsIn copy_regions l.variables s.number 0 c) e (scalar_copy l s.number s.home s.copy a.place)) (scalar_copy l q.number q.home q.copy b.place)
+-- no word of the copy of a scalar is one of a later scalar's copy
+copies_differ : (l : MemoryMap) → IsLaidOut l → (s q : PrivateScalar) (i j : ℕ) → HasItsPlace l.variables s → HasItsPlace l.variables q
+    → s.number < q.number → i < scalar_words s.width → j < scalar_words q.width
+    → 2 * i + s.copy ≡ 2 * j + q.copy → ⊥
+copies_differ l h s q i j a b lt is js e =
+    before copy_regions l.copies.address l.variables (end_of l.copies) s.number q.number i j (2 * j + q.copy) h.copies lt
+    (subst (λ c. IsIn copy_regions l.variables s.number i c) e (scalar_copy l s.number s.home s.copy s.width i a.place is))
+    (scalar_copy l q.number q.home q.copy q.width j b.place js)
 
 -- a private scalar isn't written in place
 not_in_place : (p : CheckedProgram) (allow : Allow) (plans : List TaskPlanValue) (l : MemoryMap) → HasLayout p allow plans l → (t : ℕ) (s : PrivateScalar)
-    → HasItsPlace l.variables s → is_private_in (task_body p t) s.number ≡ true → (program_places p l).written_in_place t s.home ≡ false
-not_in_place p allow plans l h t s place private = ⊎_elim written (λ e. e) (cases_Bool ((program_places p l).written_in_place t s.home))
+    (i : ℕ)
+    → HasItsPlace l.variables s → i < scalar_words s.width → is_private_in (task_body p t) s.number ≡ true
+    → (program_places p l).written_in_place t (2 * i + s.home) ≡ false
+not_in_place p allow plans l h t s i place below private = ⊎_elim written (λ e. e) (cases_Bool ((program_places p l).written_in_place t a))
   where
-    written : (program_places p l).written_in_place t s.home ≡ true → (program_places p l).written_in_place t s.home ≡ false
+    a : ℕ
+    a = 2 * i + s.home
+
+    written : (program_places p l).written_in_place t a ≡ true → (program_places p l).written_in_place t a ≡ false
     written w =
-        let at = scalar_found (stays_in_place (task_body p t)) 0 l.variables s.home w in
-        let same = each_is_one_word p allow plans l h at.behind s.number 0 0 s.home (scalar_home l at.behind s.home at.copy at.place)
-        (scalar_home l s.number s.home s.copy place.place) in
+        let at = scalar_found (stays_in_place (task_body p t)) 0 l.variables a w in
+        let word = found_word (stays_in_place (task_body p t)) 0 l a at in
+        let same = each_is_one_word p allow plans l h at.behind s.number at.index i a word
+        (scalar_home l s.number s.home s.copy s.width i place.place below) in
         let number : 0 + at.behind ≡ s.number = let e = same.0 in omega (arith, e) in
         let other = in_place_not_private (task_body p t) s.number (sym (ap (stays_in_place (task_body p t)) number) ∙ at.is_so) in
         let clash : true ≡ false = sym private ∙ other in absurd (cc)
 
+-- a shared word that a task doesn't write in place, and a copy
+record IsOwn (p : CheckedProgram) (l : MemoryMap) (t home copy : ℕ) : Type 0 where
+  pub word : IsSharedWord (program_places p l) home
+  pub not_in_place : (program_places p l).written_in_place t home ≡ false
+  pub is_copy : IsCopyWord (program_places p l) copy
+
 are_private : (p : CheckedProgram) (allow : Allow) (plans : List TaskPlanValue) (l : MemoryMap) → HasLayout p allow plans l
     → (t : ℕ) (xs : List PrivateScalar)
     → AllPairs ◌<◌ (map (λ s. s.number) xs) → All (HasItsPlace l.variables) xs → All (λ s. is_private_in (task_body p t) s.number ≡ true) xs
-    → ArePrivate (program_places p l) t (map pair_of xs)
+    → ArePrivate (program_places p l) t (flat_map scalar_pairs xs)
 are_private p allow plans l h t [] ascending places private = tt
-are_private p allow plans l h t (s ∷ xs) ascending places private = (
-  words_of_variables_are_shared p allow plans l h s.number 0 s.home (scalar_home l s.number s.home s.copy here.place),
-  not_in_place p allow plans l h t s here (All-head (λ s. is_private_in (task_body p t) s.number ≡ true) s xs private),
-  copy_is p l h.layout.rules s.number 0 s.copy (scalar_copy l s.number s.home s.copy here.place),
-  other,
-  are_private p allow plans l h t xs (others_ascend s xs ascending) behind (All-tail (λ s. is_private_in (task_body p t) s.number ≡ true) s xs private),
-)
+are_private p allow plans l h t (s ∷ xs) ascending places private =
+    by s.width refl (are_private p allow plans l h t xs (others_ascend s xs ascending) behind
+    (All-tail (λ s. is_private_in (task_body p t) s.number ≡ true) s xs private))
   where
     here : HasItsPlace l.variables s
     here = All-head (HasItsPlace l.variables) s xs places
@@ -110,11 +118,46 @@ are_private p allow plans l h t (s ∷ xs) ascending places private = (
     behind : All (HasItsPlace l.variables) xs
     behind = All-tail (HasItsPlace l.variables) s xs places
 
-    other : (q : CopyPair) → IsAmong (map pair_of xs) q → s.copy ≡ q.copy → ⊥
-    other q a e =
-        let r = scalar_of xs q a in
-        let its = subst (HasItsPlace l.variables) (get_or_from_slice_get xs r.0 r.1 r.1 r.2) (behind r.0 r.1 (slice_get_within xs r.0 r.1 r.2)) in
-        copies_differ l h.layout.rules s r.1 here its (first_below s xs r.0 r.1 ascending r.2) (e ∙ ap (λ (x : CopyPair). x.copy) r.3)
+    rest : List CopyPair
+    rest = flat_map scalar_pairs xs
+
+    own : (i home copy : ℕ) → i < scalar_words s.width → home ≡ 2 * i + s.home → copy ≡ 2 * i + s.copy → IsOwn p l t home copy
+    own i home copy below e f =
+        let its = All-head (λ s. is_private_in (task_body p t) s.number ≡ true) s xs private in
+        subst (λ a. IsOwn p l t a copy) (sym e) (subst (IsOwn p l t (2 * i + s.home)) (sym f) (record {
+          word = words_of_variables_are_shared p allow plans l h s.number i (2 * i + s.home)
+              (scalar_home l s.number s.home s.copy s.width i here.place below);
+          not_in_place = not_in_place p allow plans l h t s i here below its;
+          is_copy = copy_is p l h.layout.rules s.number i (2 * i + s.copy) (scalar_copy l s.number s.home s.copy s.width i here.place below);
+        }))
+
+    other : (i copy : ℕ) → i < scalar_words s.width → copy ≡ 2 * i + s.copy → (q : CopyPair) → IsAmong rest q → copy ≡ q.copy → ⊥
+    other i copy below f q a e =
+        let r = among_scalars xs q a in
+        let its = subst (HasItsPlace l.variables) (get_or_from_slice_get xs r.number r.scalar r.scalar r.at)
+        (behind r.number r.scalar (slice_get_within xs r.number r.scalar r.at)) in
+        copies_differ l h.layout.rules s r.scalar i r.pair.index here its (first_below s xs r.number r.scalar ascending r.at) below r.pair.below
+        (sym f ∙ e ∙ ap (λ (x : CopyPair). x.copy) r.pair.is)
+
+    by : (w : ScalarWidth) → s.width ≡ w → ArePrivate (program_places p l) t rest
+        → ArePrivate (program_places p l) t (run_pairs (scalar_words w) s.home s.copy ++ rest)
+    by OneWord e others =
+        let wide : scalar_words s.width ≡ 1 = ap scalar_words e in
+        let one = own 0 s.home s.copy (omega (arith, wide)) (omega arith) (omega arith) in
+        (one.word, one.not_in_place, one.is_copy, other 0 s.copy (omega (arith, wide)) (omega arith), others)
+    by TwoWords e others =
+        let wide : scalar_words s.width ≡ 2 = ap scalar_words e in
+        let low = own 0 s.home s.copy (omega (arith, wide)) (omega arith) (omega arith) in
+        let high = own 1 (s.home + 2) (s.copy + 2) (omega (arith, wide)) (omega arith) (omega arith) in
+        let high_differs : (q : CopyPair) → (q ≡ record { home = s.home + 2; copy = s.copy + 2 }) ⊎ IsAmong rest q → s.copy ≡ q.copy → ⊥ =
+        λ q a c. ⊎_elim {C = ⊥} (λ same. let d = ap (λ (x : CopyPair). x.copy) same in omega (arith, c, d))
+        (λ k. other 0 s.copy (omega (arith, wide)) (omega arith) q k c) a in (
+          low.word,
+          low.not_in_place,
+          low.is_copy,
+          high_differs,
+          (high.word, high.not_in_place, high.is_copy, other 1 (s.copy + 2) (omega (arith, wide)) (omega arith), others),
+        )
 
 -- what the plan and the layout say of a task's private scalars
 pub record Privates (p : CheckedProgram) (l : MemoryMap) (task : CheckedTask) (layout : TaskPlace) : Type 0 where
@@ -155,7 +198,7 @@ private_numbers p l task layout k i d lt =
 
 -- the entry of a number, and that there is none beyond
 entry_is : (l : MemoryMap) (t : ℕ) (layout : TaskPlace) → slice_get l.tasks t ≡ Some layout
-    → privates_in (task_entries l) t ≡ map pair_of layout.privates
+    → privates_in (task_entries l) t ≡ pairs_of layout
 entry_is l t layout e =
     let at : slice_get (task_entries l) t ≡ Some (entry_of layout) = slice_get-map entry_of l.tasks t ∙ ap (option_map entry_of) e in
     ap (λ (x : TaskEntry). x.privates) (get_or_from_slice_get (task_entries l) t (entry_of layout) (record { privates = []; code = 0 }) at)

@@ -1,12 +1,13 @@
 -- What a task sees of a memory map stands in the whole map.
-use Rattle.std.proofs.Common.{◌≡◌, ℕ, ◌+◌, ◌*◌, ◌<◌, true, false, List, Option, Some, None, refl, sym, ap, ◌∙◌, All}
+use Rattle.std.proofs.Common.{◌≡◌, ℕ, ◌+◌, ◌*◌, ◌<◌, Some, refl, ap, ◌∙◌}
 use Rattle.std.specs.Prelude.{slice_get}
 use Rattle.std.proofs.lemmas.List.Elements.{All-weaker}
 use Rattle.compiled_model.specs.lower.Seen.{some_path_writes, places_seen, map_seen}
-use Rattle.compiled_model.specs.lower.Spots.{Room, HasRoom, AreListed}
-use Rattle.compiled_model.proofs.lower.Interface.{scalar_seen, array_seen, array_read, SeenFrom, scalar, array, read, seen_from}
+use Rattle.compiled_model.specs.lower.Spots.{Room, HasRoom}
+use Rattle.compiled_model.proofs.lower.Interface.{SeenFrom, scalar, array, read, seen_from}
 use Rattle.compiled_model.specs.cost_bound.Counts.{Code}
 use Rattle.compiled_model.specs.memory_map.declared.place.ArrayCopies.{ArrayCopies}
+use Rattle.compiled_model.specs.memory_map.declared.place.ScalarWidth.{ScalarWidth}
 use Rattle.compiled_model.specs.memory_map.declared.place.VariablePlace.{VariablePlace}
 use Rattle.compiled_model.specs.memory_map.declared.place.VariablePlace.TheVariants.{Scalar, Array}
 use Rattle.compiled_model.specs.memory_map.MemoryMap.{MemoryMap, TaskPlace}
@@ -20,7 +21,7 @@ module _ (body : Code) (l : MemoryMap) where
     where
       by : (place : VariablePlace) → SeenFrom l.variables v (some_path_writes body v) place → i < (home_region place).words
           → a ≡ 2 * i + (home_region place).address → IsWordOf l v i a
-      by _ (scalar home copy at) b e = record { place = Scalar home copy; at = at; below = b; address = e }
+      by _ (scalar home copy width at) b e = record { place = Scalar home copy width; at = at; below = b; address = e }
       by _ (array elements n copies at written) b e = record { place = Array elements n copies; at = at; below = b; address = e }
       by _ (read elements n copies at unwritten) b e = record { place = Array elements n copies; at = at; below = b; address = e }
 
@@ -31,18 +32,19 @@ module _ (body : Code) (l : MemoryMap) where
     where
       by : (place : VariablePlace) → place ≡ Array elements n (Some c) → SeenFrom l.variables v (some_path_writes body v) place
           → slice_get l.variables v ≡ Some (Array elements n (Some c))
-      by _ is (scalar home copy at) = absurd (cc is)
+      by _ is (scalar home copy width at) = absurd (cc is)
       by _ is (array a m copies at written) = at ∙ ap (λ x. Some x) is
       by _ is (read a m copies at unwritten) = absurd (cc is)
 
   -- a scalar there is one in the whole map
-  pub scalar_of_seen : (v home copy : ℕ) → slice_get (places_seen (some_path_writes body) 0 l.variables) v ≡ Some (Scalar home copy)
-      → slice_get l.variables v ≡ Some (Scalar home copy)
-  scalar_of_seen v home copy e = by (Scalar home copy) refl (seen_from (some_path_writes body) l.variables v (Scalar home copy) e)
+  pub scalar_of_seen : (v home copy : ℕ) (width : ScalarWidth)
+      → slice_get (places_seen (some_path_writes body) 0 l.variables) v ≡ Some (Scalar home copy width)
+      → slice_get l.variables v ≡ Some (Scalar home copy width)
+  scalar_of_seen v home copy width e = by (Scalar home copy width) refl (seen_from (some_path_writes body) l.variables v (Scalar home copy width) e)
     where
-      by : (place : VariablePlace) → place ≡ Scalar home copy → SeenFrom l.variables v (some_path_writes body v) place
-          → slice_get l.variables v ≡ Some (Scalar home copy)
-      by _ is (scalar h c at) = at ∙ ap (λ x. Some x) is
+      by : (place : VariablePlace) → place ≡ Scalar home copy width → SeenFrom l.variables v (some_path_writes body v) place
+          → slice_get l.variables v ≡ Some (Scalar home copy width)
+      by _ is (scalar h c w at) = at ∙ ap (λ x. Some x) is
       by _ is (array a m copies at written) = absurd (cc is)
       by _ is (read a m copies at unwritten) = absurd (cc is)
 

@@ -43,7 +43,7 @@ abbrev rows_in : (ℕ → ℕ) → List VariablePlace → List (List ℕ)
 rows_in f vs = map (λ v. row_in f (home_region v)) vs
 
 place_words : (v : VariablePlace) → place_length v ≡ (home_region v).words
-place_words (Scalar home copy) = refl
+place_words (Scalar home copy width) = refl
 place_words (Array elements length copies) = refl
 
 rows_are : (f : ℕ → ℕ) → HoldsWords f → (written : ℕ → Bool) (ds : List SharedDeclaration) (vs : List VariablePlace) → length vs ≡ length ds

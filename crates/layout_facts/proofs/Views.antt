@@ -14,7 +14,7 @@ use Rattle.compiled_model.specs.source_values.Runs.{initial_words}
 use Rattle.compiled_model.specs.memory_map.declared.place.Region.{Region}
 use Rattle.compiled_model.specs.memory_map.declared.place.VariablePlace.{VariablePlace}
 use Rattle.compiled_model.specs.memory_map.declared.place.VariablePlace.TheVariants.{Scalar, Array}
-use Rattle.compiled_model.specs.memory_map.Places.{end_of, AreInOrder, home_region}
+use Rattle.compiled_model.specs.memory_map.Places.{end_of, scalar_words, AreInOrder, home_region}
 use Rattle.compiled_model.specs.privatise.Layouts.{IsPlaceOf}
 use Rattle.compiled_model.proofs.memory_map.Interface.{in_order_within, mapped}
 use Rattle.compiled_model.specs.lower.Agreement.{place_length}
@@ -66,11 +66,12 @@ row_is (c ∷ ds) (row ∷ rows) (suc v) d r e =
     (omega (arith, lt), k.1)
 
 pub initial_length : (written : Bool) (e : Extent) (v : VariablePlace) → IsPlaceOf written e v → length (initial_words e) ≡ place_length v
-initial_length written (extent.Scalar w) (Scalar home copy) k = refl
-initial_length written (extent.Long n) v k = absurd k
+initial_length written (extent.Scalar w) (Scalar home copy width) k = sym (ap scalar_words k)
+initial_length written (extent.Long n) (Scalar home copy width) k = sym (ap scalar_words k)
 initial_length written (extent.Array n) (Array elements words copies) k = length-replicate n 0 ∙ sym k.0
 initial_length written (extent.Scalar w) (Array _ _ _) k = absurd k
-initial_length written (extent.Array n) (Scalar _ _) k = absurd k
+initial_length written (extent.Long n) (Array _ _ _) k = absurd k
+initial_length written (extent.Array n) (Scalar _ _ _) k = absurd k
 
 pub rows_fit_places : RowsFitPlaces
 rows_fit_places p allow plans l h rows v place r e =

@@ -12,7 +12,7 @@ use Rattle.compiled_model.specs.memory_map.Spots.{Places, places_of}
 use Rattle.compiled_model.specs.lower.Seen.{map_seen}
 use Rattle.compiled_model.specs.lower.Spots.{Room}
 
--- a source costs no more than it may, and has this plan and this layout, and no task has more private scalars than its allowance counts
+-- a source costs no more than it may, and has this plan and this layout, and no task's private scalars have more words than its allowance counts
 pub record HasLayout (p : CheckedProgram) (allow : Allow) (plans : List TaskPlanValue) (l : MemoryMap) : Type 0 where
   pub allowed : IsAllowed p allow
   pub plan : IsPlan p plans

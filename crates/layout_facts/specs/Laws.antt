@@ -3,7 +3,6 @@ use Rattle.std.specs.Prelude.{◌≡◌, ◌↔◌, ℕ, ◌+◌, ◌*◌, ◌<�
 use Rattle.std.specs.Prelude.{slice_index, slice_index_or}
 use Rattle.compiled_model.specs.task_ast.declared.Extent.TheVariants as extent
 use Rattle.compiled_model.specs.task_ast.declared.SharedDeclaration.{SharedDeclaration}
-use Rattle.compiled_model.specs.task_ast.Longs.{IsPlainBlock, IsWordVariable}
 use Rattle.compiled_model.specs.cost_bound.declared.allowance.Allow.{Allow}
 use Rattle.compiled_model.specs.cost_bound.Counts.{stores_of, block_assigns}
 use Rattle.compiled_model.specs.cost_bound.Allowance.{CheckedProgram, CheckedTask, is_written, scalars_of}
@@ -11,17 +10,19 @@ use Rattle.compiled_model.specs.war_analysis.PlanValue.{TaskPlanValue}
 use Rattle.compiled_model.specs.war_analysis.Plans.{IsPrivateIn}
 use Rattle.compiled_model.specs.war_analysis.Plans as plan
 use Rattle.compiled_model.specs.memory_map.declared.place.ArrayCopies.{ArrayCopies}
+use Rattle.compiled_model.specs.memory_map.declared.place.ScalarWidth.{ScalarWidth}
 use Rattle.compiled_model.specs.memory_map.declared.place.VariablePlace.{VariablePlace}
 use Rattle.compiled_model.specs.memory_map.declared.place.VariablePlace.TheVariants.{Scalar, Array}
 use Rattle.compiled_model.specs.memory_map.declared.place.PrivateScalar.{PrivateScalar}
 use Rattle.compiled_model.specs.memory_map.MemoryMap.{MemoryMap, TaskPlace}
-use Rattle.compiled_model.specs.memory_map.Places.{HasItsPlace}
+use Rattle.compiled_model.specs.memory_map.Places.{scalar_words, HasItsPlace}
+use Rattle.compiled_model.specs.privatise.Sizes.{home_part}
 use Rattle.compiled_model.specs.boot_runtime.Entries.{task_entries}
 use Rattle.compiled_model.specs.boot_runtime.Listing.{privates_in}
 use Rattle.compiled_model.specs.memory_map.Laws.{AreApart}
 use Rattle.compiled_model.specs.stands_for.Layout.{HaveRoom, ArePrivate, IsSharedWord, IsCopyWord}
-use Rattle.compiled_model.specs.memory_map.Spots.{Places, places_of, address_of, Element, IsElement, IsCopied, IsScalarAt, element_address, copy_address}
-use Rattle.compiled_model.specs.memory_map.Spots.{version_address, IsWordOf}
+use Rattle.compiled_model.specs.memory_map.Spots.{Places, address_of, Element, IsElement, IsCopied, element_address, copy_address}
+use Rattle.compiled_model.specs.memory_map.Spots.{version_address, IsWordOf, private_words}
 use Rattle.compiled_model.specs.lower.Spots.{HasRoom}
 use Rattle.compiled_model.specs.lower.Spots as spots
 use Rattle.compiled_model.specs.lower.Agreement.{place_length, BlockFits}
@@ -119,22 +120,27 @@ pub record ElementStands (p : CheckedProgram) (l : MemoryMap) (places : Places) 
 abbrev pub ElementsStand : Type 0
 ElementsStand = OfTasks (λ p l task layout. ElementStands p l (task_places l task layout))
 
--- a scalar's word is a word of the variable, its copy a copy
-pub record ScalarStands (p : CheckedProgram) (l : MemoryMap) (v home copy : ℕ) : Type 0 where
-  pub is_word : IsWordOf l v 0 home
-  pub is_copy : IsCopyWord (program_places p l) copy
+-- each word of a scalar is a word of the variable, its copy a copy
+pub record ScalarStands (p : CheckedProgram) (l : MemoryMap) (v home copy : ℕ) (width : ScalarWidth) : Type 0 where
+  pub is_word : (i : ℕ) → i < scalar_words width → IsWordOf l v i (2 * i + home)
+  pub is_copy : (i : ℕ) → i < scalar_words width → IsCopyWord (program_places p l) (2 * i + copy)
 
 -- so with each scalar
 abbrev pub ScalarsStand : Type 0
-ScalarsStand = OfLayouts (λ p l. (v home copy : ℕ) → slice_get l.variables v ≡ Some (Scalar home copy) → ScalarStands p l v home copy)
+ScalarsStand = OfLayouts (λ p l. (v home copy : ℕ) (width : ScalarWidth) → slice_get l.variables v ≡ Some (Scalar home copy width)
+    → ScalarStands p l v home copy width)
 
 -- ---- declarations and places
 
--- a place of a variable is of the kind that the source declares, and an array has copies exactly where some task writes it
+-- a place of a variable is of the kind that the source declares, a scalar as wide, and an array has copies exactly where some task writes
+-- it
 pub record PlacesMatch (p : CheckedProgram) (l : MemoryMap) : Type 0 where
   pub count : length l.variables ≡ length p.shared
-  pub scalar : (v : ℕ) → plan.IsScalarAt p.shared v → (home copy : ℕ) × (slice_get l.variables v ≡ Some (Scalar home copy))
-  pub is_scalar : (v home copy : ℕ) → slice_get l.variables v ≡ Some (Scalar home copy) → plan.IsScalarAt p.shared v
+  pub scalar : (v : ℕ) → plan.IsScalarAt p.shared v
+      → (home copy : ℕ) × (width : ScalarWidth) × (slice_get l.variables v ≡ Some (Scalar home copy width))
+  pub is_scalar : (v home copy : ℕ) (width : ScalarWidth) → slice_get l.variables v ≡ Some (Scalar home copy width) → plan.IsScalarAt p.shared v
+  pub is_wide : (v home copy : ℕ) (width : ScalarWidth) (d : SharedDeclaration) → slice_get l.variables v ≡ Some (Scalar home copy width)
+      → slice_get p.shared v ≡ Some d → scalar_words width ≡ home_part d.extent
   pub array : (v n : ℕ) (d : SharedDeclaration) → slice_get p.shared v ≡ Some d → d.extent ≡ extent.Array n
       → (elements : ℕ) × (copies : Option ArrayCopies)
       × (slice_get l.variables v ≡ Some (Array elements n copies)) × (is_some copies ≡ is_written p.tasks v)
@@ -145,13 +151,13 @@ pub record PlacesMatch (p : CheckedProgram) (l : MemoryMap) : Type 0 where
 abbrev pub PlacesAreDeclared : Type 0
 PlacesAreDeclared = OfLayouts PlacesMatch
 
--- a task's private scalars are exactly those that its paths make private, each once and with its place, and no more than the allowance
--- counts; the layout has copies of the arrays that stand on the left of an assignment in it
+-- a task's private scalars are exactly those that its paths make private, each once and with its place, and of no more words than the
+-- allowance counts; the layout has copies of the arrays that stand on the left of an assignment in it
 pub record TaskMatches (p : CheckedProgram) (l : MemoryMap) (task : CheckedTask) (layout : TaskPlace) : Type 0 where
   pub ascending : AllPairs ◌<◌ (map (λ s. s.number) layout.privates)
   pub only : (s : PrivateScalar) → Contains layout.privates s → IsPrivateIn p.shared task.body s.number × HasItsPlace l.variables s
   pub each : (v : ℕ) → IsPrivateIn p.shared task.body v → (s : PrivateScalar) × Contains layout.privates s × (s.number ≡ v)
-  pub count : length layout.privates ≤ scalars_of p.shared task.body
+  pub count : private_words layout.privates ≤ scalars_of p.shared task.body
   pub stored : (v : ℕ) → plan.IsArrayAt p.shared v → block_assigns v task.body ≡ true
       → (elements n : ℕ) × (copies : ArrayCopies) × (slice_get l.variables v ≡ Some (Array elements n (Some copies)))
 
@@ -159,26 +165,26 @@ pub record TaskMatches (p : CheckedProgram) (l : MemoryMap) (task : CheckedTask)
 abbrev pub TasksMatch : Type 0
 TasksMatch = OfTasks TaskMatches
 
--- a scalar's address in a task is that of its copy where it is private there, else that of its word
+-- a scalar's address in a task is that of its copy where it is private there, else that of its first word
 pub record AddressIs (p : CheckedProgram) (l : MemoryMap) (task : CheckedTask) (layout : TaskPlace) : Type 0 where
-  pub private : (v home copy : ℕ) → slice_get l.variables v ≡ Some (Scalar home copy) → is_private_in task.body v ≡ true
+  pub private : (v home copy : ℕ) (width : ScalarWidth) → slice_get l.variables v ≡ Some (Scalar home copy width) → is_private_in task.body v ≡ true
       → address_of (task_places l task layout) v ≡ copy
-  pub left : (v home copy : ℕ) → slice_get l.variables v ≡ Some (Scalar home copy) → is_private_in task.body v ≡ false
+  pub left : (v home copy : ℕ) (width : ScalarWidth) → slice_get l.variables v ≡ Some (Scalar home copy width) → is_private_in task.body v ≡ false
       → address_of (task_places l task layout) v ≡ home
-  pub each : (v home copy : ℕ) → slice_get l.variables v ≡ Some (Scalar home copy) → is_private_in task.body v ≡ true
-      → Contains layout.privates (record { number = v; home = home; copy = copy })
+  pub each : (v home copy : ℕ) (width : ScalarWidth) → slice_get l.variables v ≡ Some (Scalar home copy width) → is_private_in task.body v ≡ true
+      → Contains layout.privates (record { number = v; home = home; copy = copy; width = width })
 
 -- so in each task
 abbrev pub AddressesAre : Type 0
 AddressesAre = OfTasks AddressIs
 
--- names that are used as they were declared, none of them a long, fit the task's places, of which it may write what some path writes
+-- names that are used as they were declared fit the task's places, of which it may write what some path writes
 abbrev pub NamesFit : Type 0
-NamesFit = OfTasks (λ p l task layout. IsPlainBlock IsWordVariable task.body → BlockUses p.shared task.body
-    → BlockFits (task_places l task layout) (some_path_writes task.body) task.body)
+NamesFit = OfTasks (λ p l task layout. BlockUses p.shared task.body → BlockFits (task_places l task layout) (some_path_writes task.body) task.body)
 
--- a task writes a scalar in place exactly where some path of it writes it, and it isn't private there
+-- a task writes the words of a scalar in place exactly where some path of it writes it, and it isn't private there
 abbrev pub InPlaceByPaths : Type 0
-InPlaceByPaths = OfLayouts (λ p l. (t v home copy : ℕ) → slice_get l.variables v ≡ Some (Scalar home copy)
-    → ((program_places p l).written_in_place t home ≡ true)
+InPlaceByPaths = OfLayouts (λ p l. (t v home copy : ℕ) (width : ScalarWidth) (i : ℕ) → slice_get l.variables v ≡ Some (Scalar home copy width)
+    → i < scalar_words width
+    → ((program_places p l).written_in_place t (2 * i + home) ≡ true)
     ↔ (SomePath (task_body p t) (writes (Shared v)) × (IsPrivate (task_body p t) (Shared v) → ⊥)))

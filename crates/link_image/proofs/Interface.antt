@@ -6,5 +6,3 @@ pub use Rattle.link_image.proofs.States.{maps_find_states, worlds_stand}
 pub use Rattle.link_image.proofs.Fresh.{zero_at, version, half, images_are_fresh}
 -- The text of an image, with its layout.
 pub use Rattle.link_image.proofs.Laid.{laid_out}
--- What keeps a text from being compiled.
-pub use Rattle.link_image.proofs.Uncompiled.{uncompiled_by_pass}

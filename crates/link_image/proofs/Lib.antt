@@ -8,7 +8,6 @@ mod Written
 mod Placing
 mod Ready
 mod Laid
-mod Uncompiled
 pub mod Interface
 pub use Rattle.memory_map.proofs as memory_map
 pub use Rattle.linked_code.proofs.fram_board as fram_board
@@ -18,7 +17,6 @@ pub use Rattle.compiled_runs.proofs.crash_rules as crash_rules
 pub use Rattle.compiled_runs.proofs.stands_for as stands_for
 pub use Rattle.compiled_runs.proofs.run_charges as run_charges
 pub use Rattle.source_maps.proofs.model_runs as model_runs
-pub use Rattle.lower.proofs.task_lex as task_lex
 pub use Rattle.source_meaning.proofs as source_meaning
 pub use Rattle.source_maps.proofs.source_runs as source_runs
 pub use Rattle.source_maps.proofs as source_maps

@@ -3,7 +3,6 @@ use Rattle.std.proofs.Common.{ℕ, List, arith}
 use Rattle.linked_code.specs.cost_bound.declared.allowance.Allow.{Allow}
 use Rattle.whole_programs.specs.source_values.Runs.{CheckedProgram}
 use Rattle.whole_programs.specs.source_values.Running.{IsRunnable}
-use Rattle.task_ast.specs.Longs.{IsPlain}
 use Rattle.source_meaning.specs.Acceptance.{IsAcceptedText}
 use Rattle.war_analysis.specs.PlanValue.{TaskPlanValue}
 use Rattle.war_analysis.specs.Plans.{IsPlan}
@@ -18,11 +17,11 @@ use Rattle.link_image.specs.Needs.{IsReadyToLink}
 use Rattle.link_image.proofs.Fits.{code_fits}
 
 pub ready : LayoutsHaveRoom → BlocksKeepToWords → PrivatesAreFew → ProgramsAreWhole → NamesAreNames → MapsAreOfSources
-    → (text : List ℕ) (p : CheckedProgram) (allow : Allow) (plans : List TaskPlanValue) (l : MemoryMap) → IsAcceptedText text p allow → IsPlain p
-    → IsRunnable p → IsPlan p plans → IsLayout p allow plans l
+    → (text : List ℕ) (p : CheckedProgram) (allow : Allow) (plans : List TaskPlanValue) (l : MemoryMap) → IsAcceptedText text p allow → IsRunnable p
+    → IsPlan p plans → IsLayout p allow plans l
     → IsReadyToLink text p allow l
-ready rooms keep few whole named mapped text p allow plans l accepted plain runnable planned laid =
-    let text_is : IsLaidOutText text p allow plans l = record { accepted = accepted; plain = plain; plan = planned; layout = laid } in
+ready rooms keep few whole named mapped text p allow plans l accepted runnable planned laid =
+    let text_is : IsLaidOutText text p allow plans l = record { accepted = accepted; plan = planned; layout = laid } in
     let programs = whole text p allow plans l text_is in
     let names = named text p accepted.checks in
     let entry = runnable.entry in

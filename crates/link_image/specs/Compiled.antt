@@ -9,19 +9,14 @@ use Rattle.privatise.specs.Layouts.{IsLayout}
 use Rattle.codegen.specs.array_versions.Form.{OfWords}
 use Rattle.image_text.specs.ImageValue.{ImageValue}
 use Rattle.lower.specs.Lowered.{lowered}
-use Rattle.source_meaning.specs.Acceptance.{IsAcceptedText, IsRefusedText}
-use Rattle.source_meaning.specs.Longs.{HasLong, HasNoLong}
-use Rattle.source_meaning.specs.declared.fault.SourceFault.{SourceFault}
-use Rattle.source_meaning.specs.declared.fault.SourceFault.TheVariants as source_fault
+use Rattle.source_meaning.specs.Acceptance.{IsAcceptedText}
 use Rattle.link_image.specs.Words.{AreImageWords}
 use Rattle.source_maps.specs.Maps.{map_of}
 
--- an image has the words and the map of a source's layout, of which there is one: the layout for the source's plan and its allowance; and the
--- text has no longs
+-- an image has the words and the map of a source's layout, of which there is one: the layout for the source's plan and its allowance
 pub record IsCompiled (text : List ℕ) (p : CheckedProgram) (allow : Allow) (image : ImageValue) : Type 0 where
   pub plans : List TaskPlanValue
   pub layout : MemoryMap
-  pub no_longs : HasNoLong text
   pub is_plan : IsPlan p plans
   pub is_layout : IsLayout p allow plans layout
   pub of_words : All OfWords (lowered layout p)
@@ -34,21 +29,3 @@ pub record IsImageOf (text : List ℕ) (image : ImageValue) : Type 0 where
   pub allow : Allow
   pub accepted : IsAcceptedText text program allow
   pub compiled : IsCompiled text program allow image
-
--- the text is accepted, and isn't compiled yet: its first long is on this line
-pub record IsNotYet (text : List ℕ) (line : ℕ) : Type 0 where
-  pub program : CheckedProgram
-  pub allow : Allow
-  pub accepted : IsAcceptedText text program allow
-  pub has_long : HasLong text line
-
--- why there is no image of an accepted text: it has longs, or memory runs out
-abbrev pub IsUnlinked : List ℕ → SourceFault → Type 0
-IsUnlinked text (source_fault.NotYet line) = HasLong text line
-IsUnlinked text source_fault.Memory = Unit {0}
-IsUnlinked text _ = ⊥
-
--- why there is no image of a text: a pass refuses it, or it isn't compiled yet
-abbrev pub IsUncompiled : List ℕ → SourceFault → Type 0
-IsUncompiled text (source_fault.NotYet line) = IsNotYet text line
-IsUncompiled text fault = IsRefusedText text fault

@@ -20,7 +20,6 @@ pub use Rattle.compiled_runs.specs.run_charges as run_charges
 pub use Rattle.source_maps.specs.board_run as board_run
 pub use Rattle.source_maps.specs.model_runs as model_runs
 pub use Rattle.task_ast.specs as task_ast
-pub use Rattle.lower.specs.task_lex as task_lex
 pub use Rattle.linked_code.specs.cost_bound as cost_bound
 pub use Rattle.whole_programs.specs.source_values as source_values
 pub use Rattle.source_meaning.specs as source_meaning

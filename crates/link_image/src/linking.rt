@@ -1,14 +1,12 @@
 //! From a source to its image.
 ghost use Rattle.std.specs.Prelude.{◌≡◌, ◌<◌, ◌^◌, ◌-◌, All, length, IfOk, IfErr};
 ghost use Rattle.task_ast.specs.View.{program_of};
-ghost use Rattle.task_ast.specs.Longs.{IsPlain};
-ghost use Rattle.source_meaning.specs.Acceptance.{IsAcceptedText};
-ghost use Rattle.source_meaning.specs.Longs.{HasNoLong};
+ghost use Rattle.source_meaning.specs.Acceptance.{IsAcceptedText, IsRefusedText};
 ghost use Rattle.war_analysis.specs.Plans.{IsPlan};
 ghost use Rattle.privatise.specs.Layouts.{IsLayout};
 ghost use Rattle.link_image.specs.Needs.{IsReadyToLink};
 ghost use Rattle.link_image.specs.Words.{AreImageWords};
-ghost use Rattle.link_image.specs.Compiled.{IsCompiled, IsImageOf, IsUncompiled, IsUnlinked};
+ghost use Rattle.link_image.specs.Compiled.{IsCompiled, IsImageOf};
 
 use crate::code::code_words;
 use crate::words::put_image;
@@ -19,7 +17,7 @@ use lower::lower;
 use memory_map::Layout;
 use privatise::layout;
 use source_maps::{map_of, maps_are_of_sources, names_are_names};
-use source_meaning::{Accepted, SourceFault, accept, first_long};
+use source_meaning::{Accepted, SourceFault, accept};
 use std::alloc::{AllocError, Global};
 use war_analysis::{Plan, analyse};
 use whole_programs::{privates_are_few, programs_are_whole};
@@ -27,7 +25,6 @@ use whole_programs::{privates_are_few, programs_are_whole};
 // A source with its plan and its layout is ready to be linked: its code has room, and its names can be those of a map.
 fn is_ready(accepted: &Accepted, plan: &Plan, layout: &Layout)
     requires accepted { IsAcceptedText accepted.now.text.items (program_of accepted.now.checked.source) accepted.now.allow }
-    requires plain { IsPlain (program_of accepted.now.checked.source) }
     requires planned { IsPlan (program_of accepted.now.checked.source) plan.now }
     requires laid_out { IsLayout (program_of accepted.now.checked.source) accepted.now.allow plan.now layout.now }
     ensures { IsReadyToLink accepted.now.text.items (program_of accepted.now.checked.source) accepted.now.allow layout.now }
@@ -67,10 +64,9 @@ fn image_of(alloc: Global, accepted: &Accepted, layout: &Layout) -> Result<Image
     Ok(image)
 }
 
-// The image of an accepted source without longs, with a map; or no memory is left.
-fn linked(alloc: Global, accepted: &Accepted) -> Result<Image, AllocError>
-    requires accepted { IsAcceptedText accepted.now.text.items (program_of accepted.now.checked.source) accepted.now.allow }
-    requires no_longs { HasNoLong accepted.now.text.items }
+/// The image of an accepted source, with a map; or no memory is left.
+pub fn link(alloc: Global, accepted: &Accepted) -> Result<Image, AllocError>
+    requires { IsAcceptedText accepted.now.text.items (program_of accepted.now.checked.source) accepted.now.allow }
     ensures { IfOk result (IsCompiled accepted.now.text.items (program_of accepted.now.checked.source) accepted.now.allow) }
 {
     let checked = accepted.checked();
@@ -88,25 +84,15 @@ fn linked(alloc: Global, accepted: &Accepted) -> Result<Image, AllocError>
     Ok(image.with_map(map))
 }
 
-/// The image of an accepted source, with a map. A source with longs isn't compiled yet: it is refused at the line of the first.
-pub fn link(alloc: Global, accepted: &Accepted) -> Result<Image, SourceFault>
-    requires { IsAcceptedText accepted.now.text.items (program_of accepted.now.checked.source) accepted.now.allow }
-    ensures image { IfOk result (IsCompiled accepted.now.text.items (program_of accepted.now.checked.source) accepted.now.allow) }
-    ensures refused { IfErr result (IsUnlinked accepted.now.text.items) }
-{
-    match first_long(alloc, accepted)? {
-        Some(line) => Err(SourceFault::NotYet { line }),
-        None => Ok(linked(alloc, accepted)?),
-    }
-}
-
-/// The image of a source text, with a map; or the refusal of the first pass that refuses it, of which the last is that of longs.
+/// The image of a source text, with a map; or the refusal of the first pass that refuses it.
 pub fn compile(alloc: Global, text: &[u8]) -> Result<Image, SourceFault>
     requires { length text.now < 2 ^ 32 - 1 }
     ensures image { IfOk result (IsImageOf text.now) }
-    ensures refused { IfErr result (IsUncompiled text.now) }
+    ensures refused { IfErr result (λ f. IsRefusedText text.now f) }
 {
     let accepted = accept(alloc, text)?;
-    let image = link(alloc, &accepted)?;
-    Ok(image)
+    match link(alloc, &accepted) {
+        Ok(image) => Ok(image),
+        Err(AllocError) => Err(SourceFault::Memory),
+    }
 }

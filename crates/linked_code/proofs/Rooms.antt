@@ -5,19 +5,19 @@ use Rattle.boot_runtime.specs.task_ast.declared.SharedDeclaration.{SharedDeclara
 use Rattle.boot_runtime.specs.cost_bound.Allowance.{CheckedTask, scalars_of, total}
 use Rattle.boot_runtime.specs.war_analysis.PlanValue.{TaskPlanValue}
 use Rattle.codegen.specs.array_versions.Program.{Program}
-use Rattle.boot_runtime.specs.memory_map.declared.place.PrivateScalar.{PrivateScalar}
 use Rattle.boot_runtime.specs.memory_map.MemoryMap.{TaskPlace}
 use Rattle.boot_runtime.specs.privatise.Sizes.{body_words, entry_words}
-use Rattle.boot_runtime.specs.runtime_code.LayoutPlaces.{pair_of}
+use Rattle.boot_runtime.specs.memory_map.Spots.{private_words}
+use Rattle.boot_runtime.proofs.runtime_effects.Interface.{scalar_pairs_count}
 use Rattle.boot_runtime.specs.Entries.{entry_of, task_entries}
 use Rattle.boot_runtime.specs.Laws.{entry_room}
 use Rattle.boot_runtime.proofs.Interface.{boot_fits}
 use Rattle.linked_code.specs.Linked.{ProgramsFit}
 use Rattle.linked_code.specs.Rooms.{ProgramsKeep, LayoutsHaveRoom}
 
--- a task has the words, and at most the private scalars, that the allowance counts
+-- a task has the words, and at most the words of private scalars, that the allowance counts
 record IsCounted (shared : List SharedDeclaration) (task : CheckedTask) (t : TaskPlace) : Type 0 where
-  pub privates : length t.privates ≤ scalars_of shared task.body
+  pub privates : private_words t.privates ≤ scalars_of shared task.body
   pub words : t.code.words ≡ body_words shared task.body
 
 -- each task has
@@ -36,10 +36,6 @@ are_counted shared (task ∷ tasks) [] n f = absurd (omega (arith, n))
 are_counted shared (task ∷ tasks) (t ∷ ts) n f =
     (f 0 task t refl refl, are_counted shared tasks ts (omega (arith, n)) (λ k u v a b. f (suc k) u v a b))
 
-pairs_count : (xs : List PrivateScalar) → length (map pair_of xs) ≡ length xs
-pairs_count [] = refl
-pairs_count (x ∷ xs) = let e = pairs_count xs in omega (arith, e)
-
 entries_room : (shared : List SharedDeclaration) (tasks : List CheckedTask) (ts : List TaskPlace) → AreCounted shared tasks ts
     → entry_room (map entry_of ts) ≤ total (entry_words shared) tasks
 entries_room shared [] [] h = omega arith
@@ -47,7 +43,7 @@ entries_room shared [] (t ∷ ts) h = absurd h
 entries_room shared (task ∷ tasks) [] h = absurd h
 entries_room shared (task ∷ tasks) (t ∷ ts) h =
     let e = entries_room shared tasks ts h.1 in
-    let d = pairs_count t.privates in
+    let d = scalar_pairs_count t.privates in
     let k = h.0.privates in
     omega (arith, e, d, k)
 

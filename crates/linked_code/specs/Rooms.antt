@@ -7,6 +7,7 @@ use Rattle.boot_runtime.specs.war_analysis.PlanValue.{TaskPlanValue}
 use Rattle.codegen.specs.array_versions.Program.{Program}
 use Rattle.codegen.specs.array_versions.Cost.{words_of}
 use Rattle.boot_runtime.specs.memory_map.MemoryMap.{MemoryMap, TaskPlace}
+use Rattle.boot_runtime.specs.memory_map.Spots.{private_words}
 use Rattle.boot_runtime.specs.privatise.Layouts.{IsLayout}
 use Rattle.boot_runtime.specs.privatise.Sizes.{body_words}
 use Rattle.linked_code.specs.Linked.{CodeFits}
@@ -18,10 +19,10 @@ ProgramsKeep shared [] (q ∷ qs) = ⊥
 ProgramsKeep shared (t ∷ ts) [] = ⊥
 ProgramsKeep shared (t ∷ ts) (q ∷ qs) = (words_of q ≤ body_words shared t.body) × ProgramsKeep shared ts qs
 
--- each task has at most as many private scalars as the allowance counts
+-- each task's private scalars have at most as many words as the allowance counts
 abbrev pub PrivatesAreCounted : CheckedProgram → MemoryMap → Type 0
 PrivatesAreCounted p l = (k : ℕ) (task : CheckedTask) (t : TaskPlace) → slice_get p.tasks k ≡ Some task → slice_get l.tasks k ≡ Some t
-    → length t.privates ≤ scalars_of p.shared task.body
+    → private_words t.privates ≤ scalars_of p.shared task.body
 
 -- the layout of a source that costs no more than it may has room for the code
 abbrev pub LayoutsHaveRoom : Type 0

@@ -2,10 +2,12 @@
 use Rattle.std.proofs.Common.{◌≡◌, ℕ, ◌+◌, ◌*◌, ◌%◌, ◌<◌, ◌≤◌, nat_lt, ◌&&◌, Option, Some, true, ap, ◌∙◌, subst, arith, eq-eqb, le-leb, lt-ltb, inl, inr, ◌⊎◌}
 use Rattle.std.proofs.Common.{⊎_elim, if◌then◌else◌}
 use Rattle.std.proofs.lemmas.Bool.{cases_eq}
+use Rattle.std.specs.Prelude.{slice_get}
 use Rattle.array_versions.specs.fram_board.Bus.{is_fram}
 use Rattle.array_versions.specs.Behaviour.{Behaviour, strays, is_place, at_place}
 use Rattle.memory_map.specs.declared.place.ArrayCopies.{ArrayCopies}
-use Rattle.memory_map.specs.Spots.{Places, IsScalarPlace, IsScalarAt, IsArrayAt, Element, IsElement, IsCopied, Spot, IsSpot, element_in, copy_in}
+use Rattle.memory_map.proofs.Interface.{words_scalar}
+use Rattle.memory_map.specs.Spots.{Places, address_of, scalar_address, IsScalarPlace, IsScalarAt, IsScalarWord, IsArrayAt, Element, IsElement, IsCopied, Spot, IsSpot, element_in, copy_in}
 use Rattle.memory_map.specs.Spots.{version_in, element_address, copy_address, version_address, spot_address}
 use Rattle.lower.specs.Spots.{Room, AreApart, AreEven, AreDifferent}
 
@@ -46,6 +48,14 @@ has_element p x h = record { elements = h.elements; length = h.length; copies = 
 -- an array is no scalar
 pub no_scalar : (p : Places) (v elements length : ℕ) (copies : Option ArrayCopies) → IsArrayAt p v elements length copies → IsScalarAt p v → ⊥
 no_scalar p v elements length copies h k = subst IsScalarPlace h.place k
+
+-- what has a word is a scalar
+pub word_scalar : (p : Places) (v i : ℕ) → IsScalarWord p v i → IsScalarAt p v
+word_scalar p v i k = words_scalar (slice_get p.map.variables v) i k
+
+-- the first word of a scalar stands at its address
+pub first_address : (p : Places) (v : ℕ) → scalar_address p v 0 ≡ address_of p v
+first_address p v = omega arith
 
 pub same_element : (x y : Element) → x.array ≡ y.array → x.index ≡ y.index → x ≡ y
 same_element x y a b =

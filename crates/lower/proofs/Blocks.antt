@@ -1,58 +1,94 @@
 -- The program of statements does what they do.
-use Rattle.std.proofs.Common.{◌≡◌, ℕ, zero, suc, ◌+◌, ◌-◌, ◌*◌, ◌%◌, ◌<◌, ◌≤◌, List, [], ◌∷◌, ◌++◌, length, Option, Some, None, Bool, true, false}
+use Rattle.std.proofs.Common.{◌≡◌, ℕ, zero, suc, ◌+◌, ◌-◌, ◌*◌, ◌/◌, ◌%◌, ◌<◌, ◌≤◌, List, [], ◌∷◌, ◌++◌, length, Option, Some, None, Bool, true, false}
 use Rattle.std.proofs.Common.{refl, sym, ap, ◌∙◌, subst, arith, if◌then◌else◌, le_refl, ⊎_elim}
 use Rattle.std.specs.Prelude.{slice_get, get_or}
 use Rattle.std.proofs.lemmas.Bool.{cases_lt}
 use Rattle.array_versions.specs.fram_board.Effects.{Store}
+use Rattle.array_versions.specs.machine_effects.World.{put}
 use Rattle.task_ast.specs.Tree as t
 use Rattle.task_ast.specs.Paths.{CheckedExpression, CheckedStatement, CheckedChoice, CheckedBlock}
 use Rattle.task_ast.specs.declared.PlacedOperator.{PlacedOperator}
 use Rattle.task_ast.specs.declared.names.Variable.{Variable}
 use Rattle.task_ast.specs.declared.names.Variable.TheVariants.{Shared, Local}
 use Rattle.cost_bound.specs.Allowance.{CheckedTask}
-use Rattle.source_values.specs.Values.{word_at, value_of, holds}
+use Rattle.source_values.specs.Values.{word_at, with_word, converted, value_of, holds}
 use Rattle.source_values.specs.Statements as source
 use Rattle.source_values.specs.Statements.{Attempt, Outcome, goes_on, to_task, if_value, run_statement, run_choice, run_block}
 use Rattle.source_values.specs.Statements.{statement_emits, choice_emits, block_emits}
 use Rattle.cost_bound.specs.Counts.{statement_count, choice_count, block_count, is_shared, is_store_to, stores_of}
-use Rattle.source_values.proofs.Interface.{more_turns, assigned_word, word_as_it_is}
-use Rattle.task_ast.specs.Types.{IsOneWord, type_of}
-use Rattle.task_ast.specs.declared.names.VariableName.{VariableName}
+use Rattle.source_values.proofs.Interface.{more_turns}
+use Rattle.task_ast.specs.Types.{IsOneWord, type_of, joined_type}
+use Rattle.task_ast.specs.declared.WordType.{WordType}
+use Rattle.task_ast.specs.declared.WordType.TheVariants.{Unsigned, Int, Long}
+use Rattle.task_ast.proofs.Interface as one_word
 use Rattle.path_runs.proofs.Interface.{runs_go_on_along_paths}
 use Rattle.array_versions.specs.declared.operations.PlainOperation.{PlainOperation}
 use Rattle.array_versions.specs.Operations.{plain_word}
-use Rattle.array_versions.specs.Program.{Program, emit_word, versioned_write, versioned_update, choose, repeat, nothing, joined}
+use Rattle.array_versions.specs.Program.{Program, keep, emit_word, versioned_write, versioned_update, choose, repeat, nothing, step, joined}
 use Rattle.array_versions.specs.Behaviour as words
-use Rattle.array_versions.specs.Behaviour.{WordState, Behaviour, then_on}
+use Rattle.array_versions.specs.Behaviour.{WordState, Behaviour, behind_effects, then_on}
 use Rattle.array_versions.specs.Behaviour.{local_updated, is_place, at_place, stored, with_local, word_emitted, way_by_top, tested}
 use Rattle.array_versions.specs.Behaviour.{behaviour}
 use Rattle.array_versions.proofs.Interface.{joined_go_on, joined_assoc, decided_by_truth}
-use Rattle.lower.specs.Lowered.{update_step, setting, updating, sides_set}
+use Rattle.lower.specs.Lowered.{update_step, write_long, setting, long_setting, updating, of_words, sides_set, scalar_assignment, lowering, lowered_long}
 use Rattle.lower.specs.Lowered.{one, write_step, written_array, list_place, store_step, update_element_step, loop_local, assignment}
 use Rattle.lower.specs.Lowered.{index_and_value, element_setting, element_updating, element_sides_set, element_assignment}
 use Rattle.lower.specs.Lowered.{lowered_transition, lowered_expression, lowered_test}
 use Rattle.lower.specs.Lowered.{lowered_statement, lowered_choice, lowered_block, lowered_task, lowered_tasks}
 use Rattle.lower.specs.Spots.{listed_of}
-use Rattle.lower.specs.Agreement.{IsTarget, IsWrittenArray, IsLocal, ExpressionFits, StatementFits, ChoiceFits, BlockFits, StandsFor, at_variable}
-use Rattle.lower.specs.Agreement.{at_emit_count, in_buffer, valued, truth_of, AgreesWithValue, BlocksAgree}
-use Rattle.lower.proofs.Addresses.{fram_place, placed, spot_place}
-use Rattle.lower.proofs.Updates.{is_update, update_goes_on, is_element_update, stored_value, element_update_goes_on}
-use Rattle.lower.proofs.Values.{small_modulo, holds_bit, truth_pushed, fits_word, lowering_agrees, expressions_agree}
+use Rattle.lower.specs.Agreement.{HoldVariables, IsTarget, IsWrittenArray, IsLocal, ExpressionFits, StatementFits, ChoiceFits, BlockFits, StandsFor, at_variable}
+use Rattle.lower.specs.Agreement.{IsLongTarget, IsTargetOf, at_emit_count, in_buffer, valued, long_valued, converted_to, truth_of, AgreesWithValue}
+use Rattle.lower.specs.Agreement.{AgreesWithLong, BlocksAgree}
+use Rattle.lower.proofs.Addresses.{fram_place, placed, spot_place, first_address}
+use Rattle.lower.proofs.Updates.{is_update, update_goes_on, is_element_update, element_update_goes_on, is_of_words, joined_words}
+use Rattle.lower.proofs.Assigned.{word_value, word_as_value, if_same, if_converted, both_assigned, assigned_as, same_conversion, words_commute}
+use Rattle.lower.proofs.Values.{small_modulo, holds_bit, truth_pushed}
+use Rattle.lower.proofs.Longs.{test_agrees}
+use Rattle.lower.proofs.EachExpression.{high_is, lowering_agrees, expressions_agree, longs_agree}
 use Rattle.lower.proofs.Emitted.{EmitsAtMost, statement_emitted, block_emitted}
 use Rattle.lower.proofs.Stored.{same_variables, same_list, same_emits, spot_list, spot_emits, scalar_set, local_holds, after_emit, emit_spots}
-use Rattle.lower.proofs.Stored.{emit_list, emitted_emits, few_entries}
+use Rattle.lower.proofs.Stored.{first_held, emit_list, emitted_emits, few_entries}
 use Rattle.lower.proofs.Neighbours.{runs_are_few}
 use Rattle.lower.proofs.Transitions.{transition_behaves}
-use Rattle.lower.proofs.Ends.{Scene, Does, does_then, does_alone, does_value}
+use Rattle.lower.proofs.Ends.{Scene, Does, does_then, does_alone, does_at, does_value}
 use Rattle.lower.proofs.Elements.{Begins, few_listed, list_fits, few_emitted, store_does, element_update_does}
 use Rattle.memory_map.specs.MemoryMap.{MemoryMap, TaskPlace, word_place}
 use Rattle.memory_map.specs.declared.words.RuntimeWord.TheVariants.{ListLength, EmitCount, Version}
 use Rattle.memory_map.specs.declared.place.VariablePlace.{VariablePlace}
-use Rattle.memory_map.proofs.Interface.{word_even}
-use Rattle.memory_map.specs.Spots.{address_of, Element, scalar}
+use Rattle.memory_map.proofs.Interface.{word_even, first_word, privates_few}
+use Rattle.memory_map.specs.Spots.{address_of, scalar_address, IsScalarWord, Element, scalar}
 
 module _ (z : Scene) where
   -- ---- assignments
+
+  -- a word of a shared scalar is set
+  word_kept_does : (i j a : ℕ) (m : Attempt) (listed : List Element) (w : WordState) (n : ℕ) (count most : ℕ → ℕ) (v : ℕ) (left : List ℕ)
+      → a ≡ scalar_address z.p i j → IsScalarWord z.p i j → z.written i ≡ true
+      → Begins z m listed w n count most
+      → Does z w.fram most w.stack (behaviour (one (keep a)) (valued w (v, left))) (goes_on (source.assigned (record m { left = left }) (Shared i) j v))
+  word_kept_does i j a m listed w n count most v left e is ok h =
+      let p = z.p in
+      let f = w.fram in
+      let at = scalar_address p i j in
+      let u : WordState = record w { readings = left } in
+      let o : Outcome = goes_on (source.assigned (record m { left = left }) (Shared i) j v) in
+      let Kept : ℕ → Type 0 = λ b. Does z f most w.stack (behaviour (one (keep b)) (valued w (v, left))) o in
+      let P : Behaviour → Type 0 = λ b. Does z f most w.stack (then_on b (behaviour nothing)) o in
+      let fits = list_fits z m listed w n count most h in
+      subst Kept (sym e)
+      (subst P (sym (placed at (words.goes_on (Store at v ∷ []) (stored at v u)) (spot_place p z.room (scalar i j) z.apart z.even is))) (record {
+        stores = (at_variable i j is ok refl, tt);
+        stack_kept = refl;
+        listed = listed;
+        stands = record {
+          variables = scalar_set p z.room i j v m.variables f w.locals z.apart is h.stands.variables;
+          emitted = same_emits p z.room m.emitted f _ (few_emitted z m listed w n count most h)
+              (spot_emits p z.room (scalar i j) v f z.apart is) h.stands.emitted;
+          list = same_list p z.room listed f _ (omega (arith, fits)) (spot_list p z.room (scalar i j) v f z.apart is (λ x e. cc)) h.stands.list;
+          readings = refl;
+        };
+        few = few_listed z m listed w n count most h;
+      }))
 
   write_does : (x : Variable) (m : Attempt) (listed : List Element) (w : WordState) (n : ℕ) (count most : ℕ → ℕ) (v : ℕ) (left : List ℕ)
       → IsTarget z.p z.written x
@@ -71,43 +107,28 @@ module _ (z : Scene) where
     few = few_listed z m listed w n count most h;
   }
   write_does (Shared i) m listed w n count most v left k h =
-      let p = z.p in
-      let a = address_of p i in
-      let f = w.fram in
-      let u : WordState = record w { readings = left } in
-      let P : Behaviour → Type 0 = λ b. Does z f most w.stack (then_on b (behaviour nothing))
-      (goes_on (source.assigned (record m { left = left }) (Shared i) 0 v)) in
-      let fits = list_fits z m listed w n count most h in
-      subst P (sym (placed a (words.goes_on (Store a v ∷ []) (stored a v u)) (spot_place p z.room (scalar i) z.apart z.even k.0))) (record {
-        stores = (at_variable i k.0 k.1 refl, tt);
-        stack_kept = refl;
-        listed = listed;
-        stands = record {
-          variables = scalar_set p z.room i v m.variables f w.locals z.apart k.0 h.stands.variables;
-          emitted = same_emits p z.room m.emitted f _ (few_emitted z m listed w n count most h)
-              (spot_emits p z.room (scalar i) v f z.apart k.0) h.stands.emitted;
-          list = same_list p z.room listed f _ (omega (arith, fits)) (spot_list p z.room (scalar i) v f z.apart k.0 (λ x e. cc)) h.stands.list;
-          readings = refl;
-        };
-        few = few_listed z m listed w n count most h;
-      })
+      word_kept_does i 0 (address_of z.p i) m listed w n count most v left (sym (first_address z.p i)) (first_word z.p i k.0) k.1 h
 
   value_agrees : (e : CheckedExpression) (m : Attempt) (listed : List Element) (w : WordState) → ExpressionFits z.p e → StandsFor z.p m listed w
-      → AgreesWithValue w (behaviour (lowered_expression z.p e) w) (value_of e m.variables m.left)
+      → AgreesWithValue w (behaviour (lowered_expression z.p e) w) (word_value e m.variables m.left)
   value_agrees e m listed w fits h =
-      let P : List ℕ → Type 0 = λ l. AgreesWithValue w (behaviour (lowered_expression z.p e) w) (value_of e m.variables l) in
+      let P : List ℕ → Type 0 = λ l. AgreesWithValue w (behaviour (lowered_expression z.p e) w) (word_value e m.variables l) in
       subst P h.readings (expressions_agree z.p z.room e m.variables w z.apart z.even fits h.variables)
+
+  -- a variable of one word is set to a value as one word
+  abbrev Sets : Variable → CheckedExpression → Attempt → WordState → (ℕ → ℕ) → Program → Type 0
+  Sets x e m w most q =
+      Does z w.fram most w.stack (behaviour q w) (if_value (word_value e m.variables m.left) m (λ v s. goes_on (source.assigned s x 0 v)))
 
   setting_does : (x : Variable) (e : CheckedExpression) (m : Attempt) (listed : List Element) (w : WordState) (n : ℕ) (count most : ℕ → ℕ)
       → ExpressionFits z.p e → IsTarget z.p z.written x
       → Begins z m listed w n count most
-      → Does z w.fram most w.stack (behaviour (setting z.p x e) w)
-      (if_value (value_of e m.variables m.left) m (λ v s. goes_on (source.assigned s x 0 v)))
+      → Sets x e m w most (setting z.p x e)
   setting_does x e m listed w n count most fits target h =
       let P : Behaviour → Type 0 = λ b. Does z w.fram most w.stack b
-      (if_value (value_of e m.variables m.left) m (λ v s. goes_on (source.assigned s x 0 v))) in
+      (if_value (word_value e m.variables m.left) m (λ v s. goes_on (source.assigned s x 0 v))) in
       subst P (sym (joined_go_on (lowered_expression z.p e) (one (write_step z.p x)) w))
-      (does_value z most w.stack w (behaviour (lowered_expression z.p e) w) (value_of e m.variables m.left) (behaviour (one (write_step z.p x))) m
+      (does_value z most w.stack w (behaviour (lowered_expression z.p e) w) (word_value e m.variables m.left) (behaviour (one (write_step z.p x))) m
       (λ v s. goes_on (source.assigned s x 0 v))
       (value_agrees e m listed w fits h.stands) (λ y. write_does x m listed w n count most y.0 y.1 target h))
 
@@ -137,48 +158,129 @@ module _ (z : Scene) where
       let u = plain_word op (w.fram a) v in
       let P : ℕ → Type 0 = λ x. Does z w.fram most w.stack (behaviour (one (write_step z.p (Shared i))) (valued w (u, left)))
       (goes_on (source.assigned (record m { left = left }) (Shared i) 0 x)) in
-      subst P (ap (λ x. plain_word op x v) (h.stands.variables.words i k.0)) (write_does (Shared i) m listed w n count most u left k h)
+      let held = first_held z.p i m.variables w.fram w.locals h.stands.variables k.0 in
+      subst P (ap (λ x. plain_word op x v) held) (write_does (Shared i) m listed w n count most u left k h)
 
+  -- in place, where both sides are of one word
   sides_do : (x : Variable) (op : PlacedOperator) (a b : CheckedExpression) (o : Option PlainOperation) (m : Attempt) (listed : List Element) (w : WordState)
-      (n : ℕ) (count most : ℕ → ℕ) → updating x op.operator a ≡ o → ExpressionFits z.p (t.binary op a b) → IsTarget z.p z.written x
+      (n : ℕ) (count most : ℕ → ℕ) → of_words (joined_type (type_of a) (type_of b)) (updating x op.operator a) ≡ o → ExpressionFits z.p (t.binary op a b)
+      → IsTarget z.p z.written x
       → Begins z m listed w n count most
-      → Does z w.fram most w.stack (behaviour (sides_set z.p x op a b o) w)
-      (if_value (value_of (t.binary op a b) m.variables m.left) m (λ v s. goes_on (source.assigned s x 0 v)))
+      → Sets x (t.binary op a b) m w most (sides_set z.p x op a b o)
   sides_do x op a b None m listed w n count most is fits target h = setting_does x (t.binary op a b) m listed w n count most fits target h
   sides_do x op a b (Some o) m listed w n count most is fits target h =
+      let word = is_of_words (joined_type (type_of a) (type_of b)) (updating x op.operator a) o is in
+      let types = joined_words (type_of a) (type_of b) word.word in
+      let whole = one_word.binary_word op.operator (type_of a) (type_of b) types.0 types.1 in
+      let given : ℕ → Attempt → Outcome = λ v s. goes_on (source.assigned s x 0 v) in
       let next : ℕ → Attempt → Outcome = λ v s. goes_on (source.assigned s x 0 (plain_word o (word_at m.variables x 0) v)) in
       let last = one (update_step z.p o x) in
-      let same = update_goes_on x op a b o m (is_update x op.operator a o is) (fits_word z.p a fits.0) (fits_word z.p b fits.1) in
+      let value = word_value b m.variables m.left in
+      let same = ap (λ r. if_value r m given) (word_as_value (t.binary op a b) m.variables m.left whole)
+      ∙ update_goes_on x op a b o m (is_update x op.operator a o word.is) types.0 types.1
+      ∙ sym (ap (λ r. if_value r m next) (word_as_value b m.variables m.left types.1)) in
       subst (Does z w.fram most w.stack (behaviour (sides_set z.p x op a b (Some o)) w)) (sym same)
-      (subst (λ r. Does z w.fram most w.stack r (if_value (value_of b m.variables m.left) m next)) (sym (joined_go_on (lowered_expression z.p b) last w))
-      (does_value z most w.stack w (behaviour (lowered_expression z.p b) w) (value_of b m.variables m.left) (behaviour last) m next
+      (subst (λ r. Does z w.fram most w.stack r (if_value value m next)) (sym (joined_go_on (lowered_expression z.p b) last w))
+      (does_value z most w.stack w (behaviour (lowered_expression z.p b) w) value (behaviour last) m next
       (value_agrees b m listed w fits.1 h.stands) (λ y. update_does o x m listed w n count most y.0 y.1 target h)))
 
   -- by the kind of the expression: the first clause makes it a proof by cases
   assignment_does : (x : Variable) (e : CheckedExpression) (m : Attempt) (listed : List Element) (w : WordState) (n : ℕ) (count most : ℕ → ℕ)
       → ExpressionFits z.p e → IsTarget z.p z.written x
       → Begins z m listed w n count most
-      → Does z w.fram most w.stack (behaviour (assignment z.p x e) w)
-      (if_value (value_of e m.variables m.left) m (λ v s. goes_on (source.assigned s x 0 v)))
+      → Sets x e m w most (assignment z.p x e)
   assignment_does x (t.binary op a b) m listed w n count most fits target h =
-      sides_do x op a b (updating x op.operator a) m listed w n count most refl fits target h
+      sides_do x op a b (of_words (joined_type (type_of a) (type_of b)) (updating x op.operator a)) m listed w n count most refl fits target h
   assignment_does x e m listed w n count most fits target h = setting_does x e m listed w n count most fits target h
 
-  -- a variable of one word is set to the value as it is
-  set_as_it_is : (x : VariableName) (e : CheckedExpression) (m : Attempt) (o : Option (ℕ × List ℕ)) → IsOneWord (type_of e) → IsOneWord x.word_type
-      → if_value o m (λ v s. goes_on (source.assigned_value s x e v)) ≡ if_value o m (λ v s. goes_on (source.assigned s x.variable 0 v))
-  set_as_it_is x e m None of_value of_variable = refl
-  set_as_it_is x e m (Some y) of_value of_variable = ap goes_on (assigned_word (record m { left = y.1 }) x e y.0 of_value of_variable)
-
-  set_does : (x : VariableName) (e : CheckedExpression) (m : Attempt) (listed : List Element) (w : WordState) (n : ℕ) (count most : ℕ → ℕ)
-      → ExpressionFits z.p e → IsTarget z.p z.written x.variable → IsOneWord x.word_type
+  -- both words of a long, the high one first
+  write_long_does : (x : Variable) (m : Attempt) (listed : List Element) (w : WordState) (n : ℕ) (count most : ℕ → ℕ) (v : ℕ) (left : List ℕ)
+      → IsLongTarget z.p z.written x
       → Begins z m listed w n count most
-      → Does z w.fram most w.stack (behaviour (assignment z.p x.variable e) w)
-      (if_value (value_of e m.variables m.left) m (λ v s. goes_on (source.assigned_value s x e v)))
-  set_does x e m listed w n count most fits target word h =
-      subst (Does z w.fram most w.stack (behaviour (assignment z.p x.variable e) w))
-      (sym (set_as_it_is x e m (value_of e m.variables m.left) (fits_word z.p e fits) word))
-      (assignment_does x.variable e m listed w n count most fits target h)
+      → Does z w.fram most w.stack (behaviour (write_long z.p x) (long_valued w (v, left))) (goes_on (both_assigned (record m { left = left }) x v))
+  write_long_does (Local i) m listed w n count most v left k h = absurd k
+  write_long_does (Shared i) m listed w n count most v left k h =
+      let p = z.p in
+      let f = w.fram in
+      let first : IsScalarWord p i 0 = let is = k.0 in omega (arith, is) in
+      let a = scalar_address p i 0 in
+      let b = scalar_address p i 1 in
+      let low = v % 65536 in
+      let high = v / 65536 in
+      let once = put f b high in
+      let u : WordState = record w { stack = low ∷ w.stack; readings = left } in
+      let t : WordState = record w { fram = once; readings = left } in
+      let o : Outcome = goes_on (both_assigned (record m { left = left }) (Shared i) v) in
+      let Kept : ℕ → ℕ → Type 0 = λ c d. Does z f most w.stack (behaviour (step (keep c) (one (keep d))) (long_valued w (v, left))) o in
+      let P : Behaviour → Type 0 = λ c. Does z f most w.stack (then_on c (behaviour (one (keep a)))) o in
+      let Q : Behaviour → Type 0 = λ c. Does z f most w.stack (behind_effects (Store b high ∷ []) (then_on c (behaviour nothing))) o in
+      let kept_high = placed b (words.goes_on (Store b high ∷ []) (stored b high u)) (spot_place p z.room (scalar i 1) z.apart z.even k.0) in
+      let kept_low = placed a (words.goes_on (Store a low ∷ []) (stored a low t)) (spot_place p z.room (scalar i 0) z.apart z.even first) in
+      let fits = list_fits z m listed w n count most h in
+      let few = few_emitted z m listed w n count most h in
+      let room : length listed ≤ z.room.list = omega (arith, fits) in
+      let variables = scalar_set p z.room i 1 high m.variables f w.locals z.apart k.0 h.stands.variables in
+      let emitted = same_emits p z.room m.emitted f once few (spot_emits p z.room (scalar i 1) high f z.apart k.0) h.stands.emitted in
+      let list = same_list p z.room listed f once room (spot_list p z.room (scalar i 1) high f z.apart k.0 (λ x e. cc)) h.stands.list in
+      subst (λ c. Kept c (address_of p i)) (sym (high_is p z.room i z.apart k.0)) (subst (Kept b) (first_address p i)
+      (subst P (sym kept_high) (subst Q (sym kept_low) (record {
+        stores = (at_variable i 1 k.0 k.1 refl, (at_variable i 0 first k.1 refl, tt));
+        stack_kept = refl;
+        listed = listed;
+        stands = record {
+          variables = subst (λ x. HoldVariables p x (put once a low) w.locals) (words_commute m.variables i high low)
+              (scalar_set p z.room i 0 low (with_word m.variables (Shared i) 1 high) once w.locals z.apart first variables);
+          emitted = same_emits p z.room m.emitted once _ few (spot_emits p z.room (scalar i 0) low once z.apart first) emitted;
+          list = same_list p z.room listed once _ room (spot_list p z.room (scalar i 0) low once z.apart first (λ x e. cc)) list;
+          readings = refl;
+        };
+        few = few_listed z m listed w n count most h;
+      }))))
+
+  long_setting_does : (x : Variable) (e : CheckedExpression) (m : Attempt) (listed : List Element) (w : WordState) (n : ℕ) (count most : ℕ → ℕ)
+      → ExpressionFits z.p e → IsLongTarget z.p z.written x
+      → Begins z m listed w n count most
+      → Does z w.fram most w.stack (behaviour (long_setting z.p x e) w)
+      (if_value (converted_to (type_of e) Long (value_of e m.variables m.left)) m (λ v s. goes_on (both_assigned s x v)))
+  long_setting_does x e m listed w n count most fits target h =
+      let value : List ℕ → Option (ℕ × List ℕ) = λ l. converted_to (type_of e) Long (value_of e m.variables l) in
+      let given : ℕ → Attempt → Outcome = λ v s. goes_on (both_assigned s x v) in
+      let q = lowered_long z.p e in
+      let agrees = subst (λ l. AgreesWithLong w (behaviour q w) (value l)) h.stands.readings
+      (longs_agree z.p z.room e m.variables w z.apart z.even fits h.stands.variables) in
+      subst (λ b. Does z w.fram most w.stack b (if_value (value m.left) m given)) (sym (joined_go_on q (write_long z.p x) w))
+      (does_at z most w.stack w (long_valued w) (behaviour q w) (value m.left) (behaviour (write_long z.p x)) m given agrees
+      (λ y. write_long_does x m listed w n count most y.0 y.1 target h))
+
+  -- a variable of one word takes the value as one word
+  word_assigned_does : (of : WordType) (x : Variable) (e : CheckedExpression) (m : Attempt) (listed : List Element) (w : WordState) (n : ℕ)
+      (count most : ℕ → ℕ) → IsOneWord of → ExpressionFits z.p e → IsTarget z.p z.written x
+      → Begins z m listed w n count most
+      → Does z w.fram most w.stack (behaviour (assignment z.p x e) w)
+      (if_value (value_of e m.variables m.left) m (λ v s. goes_on (assigned_as of s x (type_of e) v)))
+  word_assigned_does of x e m listed w n count most word fits target h =
+      let o = value_of e m.variables m.left in
+      subst (Does z w.fram most w.stack (behaviour (assignment z.p x e) w))
+      (if_converted (type_of e) Unsigned o m (λ v s. goes_on (source.assigned s x 0 v))
+      ∙ if_same o m _ _ (λ v s. ap goes_on (same v s)))
+      (assignment_does x e m listed w n count most fits target h)
+    where
+      same : (v : ℕ) (s : Attempt) → source.assigned s x 0 (converted (type_of e) Unsigned v) ≡ assigned_as of s x (type_of e) v
+      same v s = ap (source.assigned s x 0) (same_conversion (type_of e) of v word)
+          ∙ sym (one_word.by_one_word of (source.assigned s x 0 (converted (type_of e) of v)) (both_assigned s x (converted (type_of e) of v)) word)
+
+  -- an assignment to a scalar of a type
+  scalar_does : (of : WordType) (x : Variable) (e : CheckedExpression) (m : Attempt) (listed : List Element) (w : WordState) (n : ℕ) (count most : ℕ → ℕ)
+      → ExpressionFits z.p e → IsTargetOf z.p z.written of x
+      → Begins z m listed w n count most
+      → Does z w.fram most w.stack (behaviour (scalar_assignment z.p of x e) w)
+      (if_value (value_of e m.variables m.left) m (λ v s. goes_on (assigned_as of s x (type_of e) v)))
+  scalar_does Long x e m listed w n count most fits target h =
+      subst (Does z w.fram most w.stack (behaviour (long_setting z.p x e) w))
+      (if_converted (type_of e) Long (value_of e m.variables m.left) m (λ v s. goes_on (both_assigned s x v)))
+      (long_setting_does x e m listed w n count most fits target h)
+  scalar_does Int x e m listed w n count most fits target h = word_assigned_does Int x e m listed w n count most tt fits target h
+  scalar_does Unsigned x e m listed w n count most fits target h = word_assigned_does Unsigned x e m listed w n count most tt fits target h
 
   -- ---- stores to elements
 
@@ -213,28 +315,31 @@ module _ (z : Scene) where
       → ((i v : ℕ) (left : List ℕ) → Does z w.fram most w.stack (behaviour last (record w { stack = v ∷ i ∷ w.stack; readings = left }))
       (given i v (record m { left = left })))
       → Does z w.fram most w.stack (behaviour (joined (index_and_value z.p index e) last) w)
-      (if_value (value_of index m.variables m.left) m (λ i s. if_value (value_of e s.variables s.left) s (given i)))
+      (if_value (word_value index m.variables m.left) m (λ i s. if_value (word_value e s.variables s.left) s (given i)))
   index_and_value_do index e last given m listed w most of_index of_e h k =
       let first = lowered_expression z.p index in
       let second = lowered_expression z.p e in
-      let more : ℕ → Attempt → Outcome = λ i s. if_value (value_of e s.variables s.left) s (given i) in
-      let P : Behaviour → Type 0 = λ b. Does z w.fram most w.stack b (if_value (value_of index m.variables m.left) m more) in
+      let more : ℕ → Attempt → Outcome = λ i s. if_value (word_value e s.variables s.left) s (given i) in
+      let P : Behaviour → Type 0 = λ b. Does z w.fram most w.stack b (if_value (word_value index m.variables m.left) m more) in
       subst P (sym (ap (λ q. behaviour q w) (joined_assoc first second last) ∙ joined_go_on first (joined second last) w))
-      (does_value z most w.stack w (behaviour first w) (value_of index m.variables m.left) (behaviour (joined second last)) m more
+      (does_value z most w.stack w (behaviour first w) (word_value index m.variables m.left) (behaviour (joined second last)) m more
       (value_agrees index m listed w of_index h)
       (λ i.
       let u : WordState = valued w i in
       let n : Attempt = record m { left = i.1 } in
       let Q : Behaviour → Type 0 = λ b. Does z w.fram most w.stack b (more i.0 n) in
       subst Q (sym (joined_go_on second last u))
-      (does_value z most w.stack u (behaviour second u) (value_of e n.variables n.left) (behaviour last) n (given i.0)
+      (does_value z most w.stack u (behaviour second u) (word_value e n.variables n.left) (behaviour last) n (given i.0)
       (expressions_agree z.p z.room e m.variables u z.apart z.even of_e h.variables)
       (λ v. k i.0 v.0 v.1))))
 
-  -- an assignment to an element does what the source's does
+  -- an assignment to an element does what the source's does: the index and the value are taken as one word
+  abbrev stored_word : Variable → CheckedExpression → ℕ → Attempt → Outcome
+  stored_word x e i s = if_value (word_value e s.variables s.left) s (λ v s. goes_on (source.assigned s x i v))
+
   abbrev AssignsElement : Variable → CheckedExpression → CheckedExpression → Attempt → WordState → (ℕ → ℕ) → Program → Type 0
   AssignsElement x index e m w most q =
-      Does z w.fram most w.stack (behaviour q w) (if_value (value_of index m.variables m.left) m (stored_value x e))
+      Does z w.fram most w.stack (behaviour q w) (if_value (word_value index m.variables m.left) m (stored_word x e))
 
   element_setting_does : (x : Variable) (index e : CheckedExpression) (m : Attempt) (listed : List Element) (w : WordState) (most : ℕ → ℕ)
       → IsWrittenArray z.p x → ExpressionFits z.p index → ExpressionFits z.p e
@@ -244,59 +349,62 @@ module _ (z : Scene) where
       index_and_value_do index e (one (store_step z.p x)) (λ i v s. goes_on (source.assigned s x i v)) m listed w most of_index of_e h.stands
       (λ i v left. store_step_does x i v m listed w left most array h)
 
+  -- what is given of an index and of a value, as of expressions of one word
+  as_values : (index e : CheckedExpression) (m : Attempt) (given : ℕ → ℕ → Attempt → Outcome) → IsOneWord (type_of index) → IsOneWord (type_of e)
+      → if_value (word_value index m.variables m.left) m (λ i s. if_value (word_value e s.variables s.left) s (given i))
+      ≡ if_value (value_of index m.variables m.left) m (λ i s. if_value (value_of e s.variables s.left) s (given i))
+  as_values index e m given of_index of_e =
+      let more : ℕ → Attempt → Outcome = λ i s. if_value (value_of e s.variables s.left) s (given i) in
+      if_same (word_value index m.variables m.left) m _ more (λ i s. ap (λ r. if_value r s (given i)) (word_as_value e s.variables s.left of_e))
+      ∙ ap (λ r. if_value r m more) (word_as_value index m.variables m.left of_index)
+
+  -- in place, where both sides are of one word
   element_sides_do : (x : Variable) (index : CheckedExpression) (op : PlacedOperator) (a b : CheckedExpression) (o : Option PlainOperation) (m : Attempt)
-      (listed : List Element) (w : WordState) (most : ℕ → ℕ) → element_updating x index op.operator a ≡ o
-      → IsWrittenArray z.p x → ExpressionFits z.p index → ExpressionFits z.p (t.binary op a b)
+      (listed : List Element) (w : WordState) (most : ℕ → ℕ)
+      → of_words (joined_type (type_of a) (type_of b)) (element_updating x index op.operator a) ≡ o
+      → IsWrittenArray z.p x → ExpressionFits z.p index → IsOneWord (type_of index) → ExpressionFits z.p (t.binary op a b)
       → Begins z m listed w 0 (λ u. if is_shared u x then 1 else 0) most
       → AssignsElement x index (t.binary op a b) m w most (element_sides_set z.p x index op a b o)
-  element_sides_do x index op a b None m listed w most is array of_index of_e h =
+  element_sides_do x index op a b None m listed w most is array of_index index_word of_e h =
       element_setting_does x index (t.binary op a b) m listed w most array of_index of_e h
-  element_sides_do x index op a b (Some o) m listed w most is array of_index of_e h =
-      let u = is_element_update x index op.operator a o is in
+  element_sides_do x index op a b (Some o) m listed w most is array of_index index_word of_e h =
+      let word = is_of_words (joined_type (type_of a) (type_of b)) (element_updating x index op.operator a) o is in
+      let types = joined_words (type_of a) (type_of b) word.word in
+      let whole = one_word.binary_word op.operator (type_of a) (type_of b) types.0 types.1 in
+      let u = is_element_update x index op.operator a o word.is in
       let element = subst (ExpressionFits z.p) u.is of_e.0 in
-      subst (Does z w.fram most w.stack (behaviour (element_sides_set z.p x index op a b (Some o)) w))
-      (sym (element_update_goes_on x index op a b o m u (record {
-        index = fits_word z.p index of_index;
-        other = fits_word z.p u.other element.1;
-        left = fits_word z.p a of_e.0;
-        right = fits_word z.p b of_e.1;
-      })))
-      (index_and_value_do index b (one (update_element_step z.p o x))
-      (λ i v s. goes_on (source.assigned s x i (plain_word o (word_at m.variables x i) v))) m listed w most of_index of_e.1 h.stands
+      let given : ℕ → ℕ → Attempt → Outcome = λ i v s. goes_on (source.assigned s x i v) in
+      let next : ℕ → ℕ → Attempt → Outcome = λ i v s. goes_on (source.assigned s x i (plain_word o (word_at m.variables x i) v)) in
+      let same = as_values index (t.binary op a b) m given index_word whole
+      ∙ element_update_goes_on x index op a b o m u (record { index = index_word; other = element.3; left = types.0; right = types.1 })
+      ∙ sym (as_values index b m next index_word types.1) in
+      subst (Does z w.fram most w.stack (behaviour (element_sides_set z.p x index op a b (Some o)) w)) (sym same)
+      (index_and_value_do index b (one (update_element_step z.p o x)) next m listed w most of_index of_e.1 h.stands
       (λ i v left. update_step_does o x i v m listed w left most array h))
 
   -- by the kind of the expression: the first clause makes it a proof by cases
   element_does : (x : Variable) (index e : CheckedExpression) (m : Attempt) (listed : List Element) (w : WordState) (most : ℕ → ℕ) → IsWrittenArray z.p x
-      → ExpressionFits z.p index → ExpressionFits z.p e
+      → ExpressionFits z.p index → IsOneWord (type_of index) → ExpressionFits z.p e
       → Begins z m listed w 0 (λ u. if is_shared u x then 1 else 0) most
       → AssignsElement x index e m w most (element_assignment z.p x index e)
-  element_does x index (t.binary op a b) m listed w most array of_index of_e h =
-      element_sides_do x index op a b (element_updating x index op.operator a) m listed w most refl array of_index of_e h
-  element_does x index e m listed w most array of_index of_e h = element_setting_does x index e m listed w most array of_index of_e h
-
-  -- an element is set to a value of one word as it is
-  value_as_it_is : (x : Variable) (i : ℕ) (e : CheckedExpression) (s : Attempt) (o : Option (ℕ × List ℕ)) → IsOneWord (type_of e)
-      → if_value o s (λ v s. goes_on (source.assigned s x i (source.word_of e v))) ≡ if_value o s (λ v s. goes_on (source.assigned s x i v))
-  value_as_it_is x i e s None of_value = refl
-  value_as_it_is x i e s (Some y) of_value =
-      ap (λ v. goes_on (source.assigned (record s { left = y.1 }) x i v)) (word_as_it_is e y.0 of_value)
-
-  stored_as_it_is : (x : Variable) (e : CheckedExpression) (m : Attempt) (o : Option (ℕ × List ℕ)) → IsOneWord (type_of e)
-      → if_value o m (λ i s. if_value (value_of e s.variables s.left) s (λ v s. goes_on (source.assigned s x i (source.word_of e v))))
-      ≡ if_value o m (stored_value x e)
-  stored_as_it_is x e m None of_value = refl
-  stored_as_it_is x e m (Some y) of_value = value_as_it_is x y.0 e (record m { left = y.1 }) (value_of e m.variables y.1) of_value
+  element_does x index (t.binary op a b) m listed w most array of_index index_word of_e h =
+      element_sides_do x index op a b (of_words (joined_type (type_of a) (type_of b)) (element_updating x index op.operator a)) m listed w most refl array
+      of_index index_word of_e h
+  element_does x index e m listed w most array of_index index_word of_e h = element_setting_does x index e m listed w most array of_index of_e h
 
   element_store_does : (x : Variable) (index e : CheckedExpression) (m : Attempt) (listed : List Element) (w : WordState) (most : ℕ → ℕ) → IsWrittenArray z.p x
-      → ExpressionFits z.p index → ExpressionFits z.p e
+      → ExpressionFits z.p index → IsOneWord (type_of index) → ExpressionFits z.p e
       → Begins z m listed w 0 (λ u. if is_shared u x then 1 else 0) most
       → Does z w.fram most w.stack (behaviour (element_assignment z.p x index e) w)
       (if_value (value_of index m.variables m.left) m
       (λ i s. if_value (value_of e s.variables s.left) s (λ v s. goes_on (source.assigned s x i (source.word_of e v)))))
-  element_store_does x index e m listed w most array of_index of_e h =
-      subst (Does z w.fram most w.stack (behaviour (element_assignment z.p x index e) w))
-      (sym (stored_as_it_is x e m (value_of index m.variables m.left) (fits_word z.p e of_e)))
-      (element_does x index e m listed w most array of_index of_e h)
+  element_store_does x index e m listed w most array of_index index_word of_e h =
+      let given : ℕ → ℕ → Attempt → Outcome = λ i v s. goes_on (source.assigned s x i v) in
+      let same = ap (λ r. if_value r m (stored_word x e)) (word_as_value index m.variables m.left index_word)
+      ∙ if_same (value_of index m.variables m.left) m (stored_word x e) _
+      (λ i s. if_converted (type_of e) Unsigned (value_of e s.variables s.left) s (given i)) in
+      subst (Does z w.fram most w.stack (behaviour (element_assignment z.p x index e) w)) same
+      (element_does x index e m listed w most array of_index index_word of_e h)
 
   -- ---- emits
 
@@ -347,8 +455,9 @@ module _ (z : Scene) where
   transition_does task m listed w n count most h =
       let entries = few_entries z.p listed w.fram h.stands.list in
       let runs = runs_are_few z.p.privates in
+      let scalars = privates_few z.p.privates in
       let fits = list_fits z m listed w n count most h in
-      let b = transition_behaves z.p z.room task (w.fram (word_place z.p.map ListLength)) w z.apart z.even refl (omega (arith, entries, runs, fits)) in
+      let b = transition_behaves z.p z.room task (w.fram (word_place z.p.map ListLength)) w z.apart z.even refl (omega (arith, entries, runs, scalars, fits)) in
       let P : Behaviour → Type 0 = λ b. Does z w.fram most w.stack b (to_task task m) in
       subst P (sym b.1) (record {
         body = [];
@@ -469,7 +578,8 @@ module _ (z : Scene) where
       let ways = way_by_top (behaviour taken) (behaviour otherwise) in
       let decided = decided_by_truth c (behaviour taken) (behaviour otherwise) w in
       let agrees = subst (λ l. AgreesWithValue w (truth_pushed c w) (truth_of (value_of e m.variables l))) h.readings
-      (lowering_agrees z.p z.room e m.variables w z.apart z.even fits h.variables).test in
+      (test_agrees (type_of e) w (lowering z.p e) (value_of e m.variables w.readings)
+      (lowering_agrees z.p z.room e m.variables w z.apart z.even fits h.variables)) in
       does_alone z w.fram most w.stack (tested c (behaviour taken) (behaviour otherwise) w) (if_value o m run)
       (subst (λ r. Does z w.fram most w.stack r (if_value o m run)) (sym decided)
       (subst (Does z w.fram most w.stack (then_on (truth_pushed c w) ways)) (by_truth o m f g)
@@ -500,22 +610,24 @@ module _ (z : Scene) where
         → Does z w.fram most w.stack (behaviour (lowered_statement z.p s) w) (run_statement s m)
     statement_does (t.declare of x None) m listed w most fits h = record
         { stores = tt; stack_kept = refl; listed = listed; stands = h.stands; few = few_listed z m listed w _ _ most h }
-    statement_does (t.declare of x (Some e)) m listed w most fits h = set_does x e m listed w _ _ most fits.0 fits.1 fits.2 h
-    statement_does (t.assign x e) m listed w most fits h = set_does x e m listed w _ _ most fits.0 fits.1 fits.2 h
-    statement_does (t.store x index e) m listed w most fits h = element_store_does x.variable index e m listed w most fits.0 fits.1 fits.2 h
+    statement_does (t.declare of x (Some e)) m listed w most fits h =
+        word_assigned_does x.word_type x.variable e m listed w _ _ most fits.2 fits.0 fits.1 h
+    statement_does (t.assign x e) m listed w most fits h = scalar_does x.word_type x.variable e m listed w _ _ most fits.0 fits.1 h
+    statement_does (t.store x index e) m listed w most fits h = element_store_does x.variable index e m listed w most fits.0 fits.1 fits.3 fits.2 h
     statement_does (t.choose choice) m listed w most fits h = choice_does choice m listed w most fits h
     statement_does (t.loop x from tested below stepped body) m listed w most fits h =
         loop_does x.variable from below (lowered_block z.p body) (run_block body) (block_emits body) (λ v. block_count (is_store_to v) body) fits.0
         (λ some u listing s few k. block_does body u listing s few (fits.1 some) k) (block_emitted body) m listed w most h
     statement_does (t.emit e) m listed w most fits h =
         let last = one (emit_word (word_place z.p.map EmitCount) z.p.map.emits.address) in
+        let given : ℕ → Attempt → Outcome = λ v s. goes_on (record s { emitted = s.emitted ++ v ∷ [] }) in
+        let value = word_value e m.variables m.left in
         let P : Behaviour → Type 0 = λ b. Does z w.fram most w.stack b (run_statement (t.emit e) m) in
         subst P (sym (joined_go_on (lowered_expression z.p e) last w))
-        (does_value z most w.stack w (behaviour (lowered_expression z.p e) w) (value_of e m.variables m.left) (behaviour last) m
-        (λ v s. goes_on (record s { emitted = s.emitted ++ source.word_of e v ∷ [] }))
-        (value_agrees e m listed w fits h.stands) (λ y.
-        subst (λ word. Does z w.fram most w.stack (behaviour last (valued w y)) (goes_on (record m { emitted = m.emitted ++ word ∷ []; left = y.1 })))
-        (sym (word_as_it_is e y.0 (fits_word z.p e fits))) (emit_does m listed w _ most y.0 y.1 h)))
+        (subst (Does z w.fram most w.stack (then_on (behaviour (lowered_expression z.p e) w) (behaviour last)))
+        (if_converted (type_of e) Unsigned (value_of e m.variables m.left) m given)
+        (does_value z most w.stack w (behaviour (lowered_expression z.p e) w) value (behaviour last) m given
+        (value_agrees e m listed w fits h.stands) (λ y. emit_does m listed w _ most y.0 y.1 h)))
     statement_does (t.transition task) m listed w most fits h = transition_does task.task m listed w _ _ most h
 
     choice_does : (c : CheckedChoice) (m : Attempt) (listed : List Element) (w : WordState) (most : ℕ → ℕ) → ChoiceFits z.p z.written c

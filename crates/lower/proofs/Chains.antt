@@ -11,7 +11,7 @@ use Rattle.array_versions.specs.Program.{Program, list_entry, step, nothing, joi
 use Rattle.array_versions.specs.View.{step_of, steps_of}
 use Rattle.array_versions.proofs.Interface.{joined_assoc, joined_nothing}
 use Rattle.lower.specs.declared.runs.Run.{Run}
-use Rattle.lower.specs.Runs.{run_at, is_followed_by, runs_from}
+use Rattle.lower.specs.Runs.{run_at, is_followed_by, longer, runs_from}
 use Rattle.lower.specs.Lowered.{entries, lowered_statement, lowered_block}
 use Rattle.memory_map.specs.declared.place.PrivateScalar.{PrivateScalar}
 use Rattle.memory_map.specs.Spots.{Places}
@@ -23,13 +23,13 @@ steps_of_joined (w ∷ a) b = ap (step (step_of w)) (steps_of_joined a b)
 -- a scalar that follows a run belongs to it
 pub entries_joined : (count list : ℕ) (r : Run) (privates : List PrivateScalar) (i : ℕ) (d : PrivateScalar) → i < length privates
     → is_followed_by r (get_or privates i d) ≡ true
-    → entries count list (runs_from (record r { words = r.words + 1 }) (drop (i + 1) privates)) ≡ entries count list (runs_from r (drop i privates))
+    → entries count list (runs_from (longer r (get_or privates i d)) (drop (i + 1) privates)) ≡ entries count list (runs_from r (drop i privates))
 entries_joined count list r privates i d h e =
     let s = get_or privates i d in
-    let longer : Run = record r { words = r.words + 1 } in
+    let joined_run : Run = longer r s in
     let rest = drop (suc i) privates in
-    ap (λ j. entries count list (runs_from longer (drop j privates))) (add-one i)
-    ∙ ap (λ b. entries count list (if b then runs_from longer rest else r ∷ runs_from (run_at s) rest)) (sym e)
+    ap (λ j. entries count list (runs_from joined_run (drop j privates))) (add-one i)
+    ∙ ap (λ b. entries count list (if b then runs_from joined_run rest else r ∷ runs_from (run_at s) rest)) (sym e)
     ∙ sym (ap (λ l. entries count list (runs_from r l)) (drop-cons privates i d h))
 
 -- another one begins a run
@@ -39,12 +39,12 @@ pub entries_apart : (count list : ℕ) (r : Run) (privates : List PrivateScalar)
     ≡ joined p (entries count list (runs_from r (drop i privates)))
 entries_apart count list r privates i d p h e =
     let s = get_or privates i d in
-    let longer : Run = record r { words = r.words + 1 } in
+    let joined_run : Run = longer r s in
     let one = list_entry count list r.home r.copy r.words in
     let rest = drop (suc i) privates in
     joined_assoc p (step one nothing) (entries count list (runs_from (run_at s) (drop (i + 1) privates)))
     ∙ ap (λ j. joined p (step one (entries count list (runs_from (run_at s) (drop j privates))))) (add-one i)
-    ∙ ap (λ b. joined p (entries count list (if b then runs_from longer rest else r ∷ runs_from (run_at s) rest))) (sym e)
+    ∙ ap (λ b. joined p (entries count list (if b then runs_from joined_run rest else r ∷ runs_from (run_at s) rest))) (sym e)
     ∙ sym (ap (λ l. joined p (entries count list (runs_from r l))) (drop-cons privates i d h))
 
 -- behind the last one

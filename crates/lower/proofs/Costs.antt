@@ -7,7 +7,9 @@ use Rattle.task_ast.specs.Paths.{CheckedExpression, CheckedStatement, CheckedCho
 use Rattle.task_ast.specs.declared.PlacedOperator.{PlacedOperator}
 use Rattle.task_ast.specs.declared.names.Variable.{Variable}
 use Rattle.task_ast.specs.declared.names.Variable.TheVariants.{Shared, Local}
-use Rattle.task_ast.proofs.Interface.{width_least}
+use Rattle.task_ast.specs.declared.WordType.{WordType}
+use Rattle.task_ast.specs.declared.WordType.TheVariants.{Unsigned, Int, Long}
+use Rattle.task_ast.specs.Types.{by_width, joined_type, type_of}
 use Rattle.cost_bound.specs.Table.{cycles_column, expression_price, statement_price, conditions_price, blocks_price, block_price}
 use Rattle.memory_map.specs.MemoryMap.{word_place}
 use Rattle.memory_map.specs.declared.words.RuntimeWord.TheVariants.{NextTask, Gate, ListLength, EmitCount, Base, SentBase}
@@ -26,13 +28,13 @@ use Rattle.array_versions.specs.Cost.{step_cycles, test_cycles, cycles_of, spent
 use Rattle.array_versions.specs.Cost.{test_spent, spent}
 use Rattle.array_versions.proofs.Interface.{joined_go_on, joined_cycles, joined_spend, ways_keep_to_cycles}
 use Rattle.memory_map.specs.Spots.{Places}
-use Rattle.lower.specs.Lowered.{update_step, setting, updating, sides_set}
+use Rattle.lower.specs.Lowered.{write_long, update_step, setting, long_setting, updating, of_words, sides_set, scalar_assignment, lowered_long}
 use Rattle.lower.specs.Lowered.{update_element_step, index_and_value, element_setting, element_updating, element_sides_set}
 use Rattle.lower.specs.Lowered.{one, write_step, store_step, assignment, element_assignment, entries, lowered_transition, loop_local}
 use Rattle.lower.specs.Lowered.{lowered_expression}
 use Rattle.lower.specs.Lowered.{lowered_test, lowered_statement, lowered_choice, lowered_block}
 use Rattle.lower.specs.Sizes.{entry_cycles, BlocksKeepToCycles}
-use Rattle.lower.proofs.Sizes.{expression_cycles, test_cycles_kept}
+use Rattle.lower.proofs.Sizes.{expression_cycles, long_cycles_kept, test_cycles_kept}
 
 -- an end within an allowance and, where it leaves, the entries
 abbrev Within : Places → ℕ → End → ℕ → Type 0
@@ -228,8 +230,24 @@ sides_set_cycles p x op a b (Some o) =
 
 -- the first clause makes it a proof by cases
 assignment_cycles : (p : Places) (x : Variable) (e : CheckedExpression) → cycles_of (assignment p x e) ≤ 40 + expression_price cycles_column e
-assignment_cycles p x (t.binary op a b) = sides_set_cycles p x op a b (updating x op.operator a)
+assignment_cycles p x (t.binary op a b) =
+    sides_set_cycles p x op a b (of_words (joined_type (type_of a) (type_of b)) (updating x op.operator a))
 assignment_cycles p x e = setting_cycles p x e
+
+long_setting_cycles : (p : Places) (x : Variable) (e : CheckedExpression) → cycles_of (long_setting p x e) ≤ 80 + expression_price cycles_column e
+long_setting_cycles p x e =
+    let l = joined_cycles (lowered_long p e) (write_long p x) in
+    omega (arith, l, write_cycles x, long_cycles_kept p e)
+  where
+    write_cycles : (x : Variable) → cycles_of (write_long p x) ≤ 10
+    write_cycles (Shared v) = omega arith
+    write_cycles (Local n) = omega arith
+
+scalar_cycles : (p : Places) (of : WordType) (x : Variable) (e : CheckedExpression)
+    → cycles_of (scalar_assignment p of x e) ≤ by_width of 40 80 + expression_price cycles_column e
+scalar_cycles p Long x e = long_setting_cycles p x e
+scalar_cycles p Int x e = assignment_cycles p x e
+scalar_cycles p Unsigned x e = assignment_cycles p x e
 
 -- the cycles of an assignment to an element are within its row and those of its parts
 abbrev ElementCycles : CheckedExpression → CheckedExpression → Program → Type 0
@@ -251,7 +269,8 @@ element_sides_cycles p x index op a b (Some o) =
 
 -- the first clause makes it a proof by cases
 element_cycles : (p : Places) (x : Variable) (index e : CheckedExpression) → ElementCycles index e (element_assignment p x index e)
-element_cycles p x index (t.binary op a b) = element_sides_cycles p x index op a b (element_updating x index op.operator a)
+element_cycles p x index (t.binary op a b) =
+    element_sides_cycles p x index op a b (of_words (joined_type (type_of a) (type_of b)) (element_updating x index op.operator a))
 element_cycles p x index e = element_setting_cycles p x index e
 
 mutual
@@ -260,8 +279,7 @@ mutual
   statement_spends p (t.declare of x None) w = omega arith
   statement_spends p (t.declare of x (Some e)) w = plain p (assignment p x.variable e) _ w (assignment_cycles p x.variable e)
   statement_spends p (t.assign x e) w =
-      plain p (assignment p x.variable e) _ w
-      (omega (arith, assignment_cycles p x.variable e, width_least x.word_type 40 40 80 (omega arith) (omega arith)))
+      plain p (scalar_assignment p x.word_type x.variable e) _ w (scalar_cycles p x.word_type x.variable e)
   statement_spends p (t.store x index e) w = plain p (element_assignment p x.variable index e) _ w (element_cycles p x.variable index e)
   statement_spends p (t.choose choice) w = let a = choice_spends p choice w in omega (arith, a)
   statement_spends p (t.loop x from tested below stepped body) w =

@@ -22,7 +22,7 @@ use Rattle.memory_map.specs.declared.place.ArrayCopies.{ArrayCopies}
 use Rattle.memory_map.specs.declared.place.VariablePlace.{VariablePlace}
 use Rattle.memory_map.specs.declared.place.VariablePlace.TheVariants.{Array}
 use Rattle.memory_map.proofs.Interface.{word_even}
-use Rattle.memory_map.specs.Spots.{Places, IsArrayAt, Element, IsCopied, element, copy, version, element_address, copy_address, version_address}
+use Rattle.memory_map.specs.Spots.{Places, private_words, IsArrayAt, Element, IsCopied, element, copy, version, element_address, copy_address, version_address}
 use Rattle.lower.specs.Lowered.{array_place, list_place}
 use Rattle.lower.specs.Spots.{listed_of}
 use Rattle.lower.specs.Agreement.{own_word, element_pair, at_copy, at_version, HoldVariables, StandsFor, WentOn}
@@ -48,7 +48,7 @@ pub few_listed : (z : Scene) (m : Attempt) (listed : List Element) (w : WordStat
 few_listed z m listed w emits count most h v = let a = h.lists v in omega (arith, a)
 
 pub list_fits : (z : Scene) (m : Attempt) (listed : List Element) (w : WordState) (emits : ℕ) (count most : ℕ → ℕ) → Begins z m listed w emits count most
-    → length listed + length z.p.privates ≤ z.room.list
+    → length listed + private_words z.p.privates ≤ z.room.list
 list_fits z m listed w emits count most h =
     z.has_room listed h.stands.list.are_listed (λ v. let a = h.lists v in let b = h.within v in omega (arith, a, b))
 
@@ -64,7 +64,7 @@ past_set p n i v elements len c m f locals at past h =
     let row = h.rows n (Array elements len (Some c)) at.place in
     let l = h.lengths n (Array elements len (Some c)) at.place in
     let short : length (get_or m.shared n []) ≤ i = omega (arith, l, past) in
-    set_holds p n i v m f f locals row h (λ u is. h.words u is ∙ sym (word_past m n i v u 0 row short))
+    set_holds p n i v m f f locals row h (λ u j is. h.words u j is ∙ sym (word_past m n i v u j row short))
     (λ x is. h.elements x is ∙ sym (word_past m n i v x.array x.index row short))
 
 -- a store to an element of array n

@@ -14,7 +14,7 @@ use Rattle.array_versions.proofs.Interface.{behaves_by_effects}
 use Rattle.memory_map.specs.Spots.{Places, Element, scalar, copy, version}
 use Rattle.lower.specs.Spots.{Room, AreApart, AreEven, listed_of, HasRoom}
 use Rattle.lower.specs.Agreement.{TakesAndStores, OnlyTakes, IsTaskStore, at_variable, at_copy, at_version, in_list, at_list_length, at_emit_count, in_buffer}
-use Rattle.lower.specs.Agreement.{StandsFor, valued, EndsWithValue, AgreesWithValue, Bounds, Left, EndsAs, Agrees}
+use Rattle.lower.specs.Agreement.{StandsFor, valued, EndsAt, AgreesAt, AgreesWithValue, Bounds, Left, EndsAs, Agrees}
 use Rattle.lower.proofs.Values.{takes_append, only_takes}
 use Rattle.lower.proofs.Emitted.{EmitsAtMost}
 
@@ -52,7 +52,7 @@ pub record IsKept (p : Places) (a : ℕ) : Type 0 where
 
 store_elsewhere : (p : Places) (written : ℕ → Bool) (room : Room) (ver a b w : ℕ) → AreApart p room → IsKept p a → IsTaskStore p written room ver b w → a ≡ b
     → ⊥
-store_elsewhere p written room ver a b w apart kept (at_variable v is ok e) d = let low = apart.spots (scalar v) is in omega (arith, d, e, low, kept, apart)
+store_elsewhere p written room ver a b w apart kept (at_variable v i is ok e) d = let low = apart.spots (scalar v i) is in omega (arith, d, e, low, kept, apart)
 store_elsewhere p written room ver a b w apart kept (at_copy x is e) d = let low = apart.spots (copy x) is in omega (arith, d, e, low, kept, apart)
 store_elsewhere p written room ver a b w apart kept (at_version x is e f) d = let low = apart.spots (version x) is in omega (arith, d, e, low, kept, apart)
 store_elsewhere p written room ver a b w apart kept (in_list from to) d = omega (arith, d, from, kept)
@@ -188,18 +188,18 @@ does_alone z start most stack b o h = go b.effects b.end h
     go es Strays h = absurd h
     go es Broken h = tt
 
--- a value, and what is done with it
-pub does_value : (z : Scene) (most : ℕ → ℕ) (stack : List ℕ) (w : WordState) (b : Behaviour) (o : Option (ℕ × List ℕ)) (next : WordState → Behaviour)
-    (m : Attempt) (more : ℕ → Attempt → Outcome)
-    → AgreesWithValue w b o → ((x : ℕ × List ℕ) → Does z w.fram most stack (next (valued w x)) (more x.0 (record m { left = x.1 })))
+-- the state that a value makes, and what is done with it
+pub does_at : (z : Scene) (most : ℕ → ℕ) (stack : List ℕ) (w : WordState) (there : ℕ × List ℕ → WordState) (b : Behaviour) (o : Option (ℕ × List ℕ))
+    (next : WordState → Behaviour) (m : Attempt) (more : ℕ → Attempt → Outcome)
+    → AgreesAt there b o → ((x : ℕ × List ℕ) → Does z w.fram most stack (next (there x)) (more x.0 (record m { left = x.1 })))
     → Does z w.fram most stack (then_on b next) (if_value o m more)
-does_value z most stack w b o next m more h k = go b.effects b.end o h.0 h.1
+does_at z most stack w there b o next m more h k = go b.effects b.end o h.0 h.1
   where
-    go : (es : List Effect) (e : End) (o : Option (ℕ × List ℕ)) → OnlyTakes es → EndsWithValue w e o
+    go : (es : List Effect) (e : End) (o : Option (ℕ × List ℕ)) → OnlyTakes es → EndsAt there e o
         → Does z w.fram most stack (behind_effects es (on_end e next)) (if_value o m more)
     go es (GoesOn s) (Some x) h e =
         let P : WordState → Type 0 = λ s. Does z w.fram most stack (behind_effects es (next s)) (more x.0 (record m { left = x.1 })) in
-        let b = next (valued w x) in
+        let b = next (there x) in
         subst P (sym e) (ends_behind z w.fram w.fram most stack es b.effects b.end (more x.0 (record m { left = x.1 })) (sym (takes_keep es w.fram h))
         (only_takes (IsTaskStore z.p z.written z.room z.ver) es h) (k x))
     go es (GoesOn s) None h e = absurd e
@@ -208,3 +208,10 @@ does_value z most stack w b o next m more h k = go b.effects b.end o h.0 h.1
     go es Short None h e = ends_alone z w.fram most stack es Short short (only_takes (IsTaskStore z.p z.written z.room z.ver) es h)
     go es Strays o h e = absurd e
     go es Broken o h e = tt
+
+-- a value, and what is done with it
+pub does_value : (z : Scene) (most : ℕ → ℕ) (stack : List ℕ) (w : WordState) (b : Behaviour) (o : Option (ℕ × List ℕ)) (next : WordState → Behaviour)
+    (m : Attempt) (more : ℕ → Attempt → Outcome)
+    → AgreesWithValue w b o → ((x : ℕ × List ℕ) → Does z w.fram most stack (next (valued w x)) (more x.0 (record m { left = x.1 })))
+    → Does z w.fram most stack (then_on b next) (if_value o m more)
+does_value z most stack w b o next m more h k = does_at z most stack w (valued w) b o next m more h k

@@ -7,7 +7,7 @@ pub use Rattle.lower.proofs.Updates.{IsUpdate, is_update}
 -- What an entry more of the commit list leaves, and that no run is without a word.
 pub use Rattle.lower.proofs.Transitions.{after_entry}
 pub use Rattle.lower.proofs.Lists.{entered_pairs}
-pub use Rattle.lower.proofs.Stored.{few_entries}
+pub use Rattle.lower.proofs.Stored.{few_entries, word_same, word_other, row_length}
 -- The program of statements does what they do.
 pub use Rattle.lower.proofs.Blocks.{blocks_agree, program_at}
 -- A memory map as a task sees it.
@@ -15,6 +15,6 @@ pub use Rattle.lower.proofs.Seen.{places_count, scalar_seen, array_seen, array_r
 -- The words of a task's code, and the cycles of its expressions, are within the allowance of a source.
 pub use Rattle.lower.proofs.Sizes.{blocks_keep_to_words}
 -- Private scalars as runs: no more runs than scalars, the same words.
-pub use Rattle.lower.proofs.Neighbours.{RunOfWords, runs_of_words, pairs_of_run, pairs_of_runs, scalar_pair, runs_pairs, runs_have_words, runs_are_few}
+pub use Rattle.lower.proofs.Neighbours.{RunOfWords, runs_of_words, pairs_of_run, pairs_of_runs, runs_pairs, runs_have_words, runs_are_few}
 -- What tasks spend along the way that they take, against the allowance of a source: the entries of the private scalars are paid for once, at
 pub use Rattle.lower.proofs.Costs.{blocks_keep_to_cycles}

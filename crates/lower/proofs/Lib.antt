@@ -1,7 +1,10 @@
 mod Neighbours
 mod Addresses
 mod Values
+mod Longs
+mod EachExpression
 mod Updates
+mod Assigned
 mod Emitted
 mod Stored
 mod Transitions

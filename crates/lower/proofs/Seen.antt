@@ -6,11 +6,12 @@ use Rattle.std.specs.List.{flat_map}
 use Rattle.std.proofs.lemmas.List.Elements.{All-weaker}
 use Rattle.memory_map.specs.declared.place.Region.{Region}
 use Rattle.memory_map.specs.declared.place.ArrayCopies.{ArrayCopies}
+use Rattle.memory_map.specs.declared.place.ScalarWidth.{ScalarWidth}
 use Rattle.memory_map.specs.declared.place.VariablePlace.{VariablePlace}
 use Rattle.memory_map.specs.declared.place.VariablePlace.TheVariants.{Scalar, Array}
 use Rattle.memory_map.specs.declared.place.PrivateScalar.{PrivateScalar}
 use Rattle.memory_map.specs.MemoryMap.{MemoryMap, TaskPlace}
-use Rattle.memory_map.specs.Places.{end_of, AreInOrder, home_region, copy_regions, version_regions, HasItsPlace, IsLaidOut}
+use Rattle.memory_map.specs.Places.{end_of, scalar_words, AreInOrder, home_region, copy_regions, version_regions, HasItsPlace, IsLaidOut}
 use Rattle.memory_map.proofs.Interface.{in_order_append}
 use Rattle.lower.specs.Seen.{place_seen, places_seen}
 
@@ -35,7 +36,7 @@ without_first from r rs end h = let b = h.0 in in_order_append from [] (end_of r
 
 homes_same : (written : ℕ → Bool) (k : ℕ) (xs : List VariablePlace) → map home_region (places_seen written k xs) ≡ map home_region xs
 homes_same written k [] = refl
-homes_same written k (Scalar home copy ∷ xs) = ap (λ rs. record { address = home; words = 1 } ∷ rs) (homes_same written (k + 1) xs)
+homes_same written k (Scalar home copy width ∷ xs) = ap (λ rs. record { address = home; words = scalar_words width } ∷ rs) (homes_same written (k + 1) xs)
 homes_same written k (Array elements length copies ∷ xs) = by (written k) (homes_same written (k + 1) xs)
   where
     by : (b : Bool) → map home_region (places_seen written (k + 1) xs) ≡ map home_region xs
@@ -47,7 +48,7 @@ homes_same written k (Array elements length copies ∷ xs) = by (written k) (hom
 copies_in_order : (written : ℕ → Bool) (k : ℕ) (xs : List VariablePlace) (from end : ℕ) → AreInOrder from (flat_map copy_regions xs) end
     → AreInOrder from (flat_map copy_regions (places_seen written k xs)) end
 copies_in_order written k [] from end h = h
-copies_in_order written k (Scalar home copy ∷ xs) from end h = (h.0, copies_in_order written (k + 1) xs (copy + 2 * 1) end h.1)
+copies_in_order written k (Scalar home copy width ∷ xs) from end h = (h.0, copies_in_order written (k + 1) xs (copy + 2 * scalar_words width) end h.1)
 copies_in_order written k (Array elements length None ∷ xs) from end h = by (written k) (copies_in_order written (k + 1) xs from end h)
   where
     by : (b : Bool) → AreInOrder from (flat_map copy_regions (places_seen written (k + 1) xs)) end
@@ -67,7 +68,7 @@ copies_in_order written k (Array elements length (Some c) ∷ xs) from end h =
 versions_in_order : (written : ℕ → Bool) (k : ℕ) (xs : List VariablePlace) (from end : ℕ) → AreInOrder from (flat_map version_regions xs) end
     → AreInOrder from (flat_map version_regions (places_seen written k xs)) end
 versions_in_order written k [] from end h = h
-versions_in_order written k (Scalar home copy ∷ xs) from end h = versions_in_order written (k + 1) xs from end h
+versions_in_order written k (Scalar home copy width ∷ xs) from end h = versions_in_order written (k + 1) xs from end h
 versions_in_order written k (Array elements length None ∷ xs) from end h = by (written k) (versions_in_order written (k + 1) xs from end h)
   where
     by : (b : Bool) → AreInOrder from (flat_map version_regions (places_seen written (k + 1) xs)) end
@@ -87,9 +88,10 @@ versions_in_order written k (Array elements length (Some c) ∷ xs) from end h =
 -- ---- one place
 
 -- a scalar's place is the same
-pub scalar_seen : (written : ℕ → Bool) (xs : List VariablePlace) (v home copy : ℕ) → slice_get xs v ≡ Some (Scalar home copy)
-    → slice_get (places_seen written 0 xs) v ≡ Some (Scalar home copy)
-scalar_seen written xs v home copy e = place_at written 0 xs v ∙ ap (option_map (place_seen (written (0 + v)))) e
+pub scalar_seen : (written : ℕ → Bool) (xs : List VariablePlace) (v home copy : ℕ) (width : ScalarWidth)
+    → slice_get xs v ≡ Some (Scalar home copy width)
+    → slice_get (places_seen written 0 xs) v ≡ Some (Scalar home copy width)
+scalar_seen written xs v home copy width e = place_at written 0 xs v ∙ ap (option_map (place_seen (written (0 + v)))) e
 
 -- an array has its elements, and its copies where it is written
 pub array_seen : (written : ℕ → Bool) (xs : List VariablePlace) (v elements length : ℕ) (copies : Option ArrayCopies)
@@ -110,7 +112,7 @@ array_read written xs v elements length copies e w =
 
 -- what a seen place is of
 pub data SeenFrom (xs : List VariablePlace) (v : ℕ) (written : Bool) : VariablePlace → Type 0 where
-  scalar : (home copy : ℕ) → slice_get xs v ≡ Some (Scalar home copy) → SeenFrom xs v written (Scalar home copy)
+  scalar : (home copy : ℕ) (width : ScalarWidth) → slice_get xs v ≡ Some (Scalar home copy width) → SeenFrom xs v written (Scalar home copy width)
   array : (elements length : ℕ) (copies : Option ArrayCopies) → slice_get xs v ≡ Some (Array elements length copies) → written ≡ true
       → SeenFrom xs v written (Array elements length copies)
   read : (elements length : ℕ) (copies : Option ArrayCopies) → slice_get xs v ≡ Some (Array elements length copies) → written ≡ false
@@ -125,7 +127,7 @@ seen_from written xs v place e =
     same = omega arith
 
     by_place : (x : VariablePlace) (b : Bool) → slice_get xs v ≡ Some x → written v ≡ b → place_seen b x ≡ place → SeenFrom xs v (written v) place
-    by_place (Scalar home copy) b at w is = subst (SeenFrom xs v (written v)) is (scalar home copy at)
+    by_place (Scalar home copy width) b at w is = subst (SeenFrom xs v (written v)) is (scalar home copy width at)
     by_place (Array elements length copies) true at w is = subst (SeenFrom xs v (written v)) is (array elements length copies at w)
     by_place (Array elements length copies) false at w is = subst (SeenFrom xs v (written v)) is (read elements length copies at w)
 
@@ -141,7 +143,7 @@ seen_from written xs v place e =
 -- ---- the map
 
 private_seen : (written : ℕ → Bool) (xs : List VariablePlace) (s : PrivateScalar) → HasItsPlace xs s → HasItsPlace (places_seen written 0 xs) s
-private_seen written xs s h = record { place = scalar_seen written xs s.number s.home s.copy h.place }
+private_seen written xs s h = record { place = scalar_seen written xs s.number s.home s.copy s.width h.place }
 
 pub privates_seen : (written : ℕ → Bool) (xs : List VariablePlace) (privates : List PrivateScalar) → All (HasItsPlace xs) privates
     → All (HasItsPlace (places_seen written 0 xs)) privates

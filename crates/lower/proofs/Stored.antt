@@ -14,15 +14,16 @@ use Rattle.source_values.specs.Values.{Variables, word_at, with_word}
 use Rattle.array_versions.specs.Behaviour.{assigned}
 use Rattle.lower.specs.Spots.{Room, AreApart}
 use Rattle.lower.specs.Agreement.{own_word, HoldVariables, HoldEmits, element_pair, HoldList}
-use Rattle.lower.proofs.Addresses.{element_is, copy_is, version_is, no_scalar}
+use Rattle.lower.proofs.Addresses.{element_is, copy_is, version_is, no_scalar, word_scalar, first_address}
 use Rattle.lower.proofs.Values.{small_modulo}
 use Rattle.memory_map.specs.MemoryMap.{word_place}
 use Rattle.memory_map.specs.declared.words.RuntimeWord.TheVariants.{ListLength, EmitCount, Version}
 use Rattle.memory_map.specs.declared.place.ArrayCopies.{ArrayCopies}
 use Rattle.memory_map.specs.declared.place.VariablePlace.{VariablePlace}
 use Rattle.memory_map.specs.declared.place.VariablePlace.TheVariants.{Scalar, Array}
-use Rattle.memory_map.specs.Spots.{Places, address_of, IsScalarPlace, IsScalarAt, IsArrayAt, Element, IsElement, IsCopied, Spot, scalar, element, copy}
-use Rattle.memory_map.specs.Spots.{version, IsSpot, element_address, copy_address, version_address, spot_address}
+use Rattle.memory_map.proofs.Interface.{first_word}
+use Rattle.memory_map.specs.Spots.{Places, address_of, scalar_address, IsScalarAt, words_at, IsScalarWord, IsArrayAt, Element, IsElement, IsCopied}
+use Rattle.memory_map.specs.Spots.{Spot, scalar, element, copy, version, IsSpot, element_address, copy_address, version_address, spot_address}
 
 -- ---- another word of a shared variable
 
@@ -66,7 +67,7 @@ word_past m v i w u j h past = ⊎_elim (λ a. ⊎_elim (both a) (λ d. word_oth
         (get_or_past (get_or (with_word m (Shared v) i w).shared v []) i 0 (omega (arith, l, past)) ∙ sym (get_or_past (get_or m.shared v []) i 0 past)))
 
 pub set_holds : (p : Places) (v i w : ℕ) (m : Variables) (f g : ℕ → ℕ) (locals : ℕ → Option ℕ) → v < length m.shared → HoldVariables p m f locals
-    → ((u : ℕ) → IsScalarAt p u → g (address_of p u) ≡ word_at (with_word m (Shared v) i w) (Shared u) 0)
+    → ((u j : ℕ) → IsScalarWord p u j → g (scalar_address p u j) ≡ word_at (with_word m (Shared v) i w) (Shared u) j)
     → ((x : Element) → IsElement p x → own_word p g (slice_get p.map.variables x.array) x.index ≡ word_at (with_word m (Shared v) i w) (Shared x.array) x.index)
     → HoldVariables p (with_word m (Shared v) i w) g locals
 set_holds p v i w m f g locals inside h words elements = record {
@@ -118,7 +119,7 @@ pub record SpotsStay (p : Places) (f g : ℕ → ℕ) : Type 0 where
 pub same_variables : (p : Places) (m : Variables) (f g : ℕ → ℕ) (locals : ℕ → Option ℕ) → SpotsStay p f g → HoldVariables p m f locals
     → HoldVariables p m g locals
 same_variables p m f g locals k h = record {
-  words = λ u is. k.spots (scalar u) is ∙ h.words u is;
+  words = λ u i is. k.spots (scalar u i) is ∙ h.words u i is;
   elements = λ x is. own_same p f g x is k.version (k.spots (element x) is) (k.spots (copy x)) (k.spots (version x)) ∙ h.elements x is;
   rows = h.rows;
   lengths = h.lengths;
@@ -196,45 +197,61 @@ spot_emits p room s w f apart is =
       buffer = λ i l. put_other f a w (2 * i + p.map.emits.address) (λ e. omega (arith, e, low, l));
     }
 
--- ---- an assignment to a shared scalar
+-- ---- an assignment to a word of a shared scalar
 
-scalar_row : (p : Places) (v : ℕ) (o : Option VariablePlace) (m : Variables) (f : ℕ → ℕ) (locals : ℕ → Option ℕ) → slice_get p.map.variables v ≡ o
-    → IsScalarPlace o → HoldVariables p m f locals
-    → (v < length m.shared) × (0 < length (get_or m.shared v []))
-scalar_row p v (Some (Scalar home other)) m f locals at is h =
-    let l = h.lengths v (Scalar home other) at in
-    (h.rows v (Scalar home other) at, omega (arith, l))
-scalar_row p v (Some (Array elements length copies)) m f locals at is h = absurd is
-scalar_row p v None m f locals at is h = absurd is
+-- the first word of a scalar stands at its address in the task
+pub first_held : (p : Places) (v : ℕ) (m : Variables) (f : ℕ → ℕ) (locals : ℕ → Option ℕ) → HoldVariables p m f locals → IsScalarAt p v
+    → f (address_of p v) ≡ word_at m (Shared v) 0
+first_held p v m f locals h is = ap f (sym (first_address p v)) ∙ h.words v 0 (first_word p v is)
 
-pub scalar_set : (p : Places) (room : Room) (v w : ℕ) (m : Variables) (f : ℕ → ℕ) (locals : ℕ → Option ℕ) → AreApart p room → IsScalarAt p v
-    → HoldVariables p m f locals → HoldVariables p (with_word m (Shared v) 0 w) (put f (address_of p v) w) locals
-scalar_set p room v w m f locals apart is h =
-    set_holds p v 0 w m f (put f (address_of p v) w) locals row.0 h (λ u k. ⊎_elim (same u) (other u k) (cases_eq u v)) elements
+scalar_row : (p : Places) (v i : ℕ) (o : Option VariablePlace) (m : Variables) (f : ℕ → ℕ) (locals : ℕ → Option ℕ) → slice_get p.map.variables v ≡ o
+    → i < words_at o → HoldVariables p m f locals
+    → (v < length m.shared) × (i < length (get_or m.shared v []))
+scalar_row p v i (Some (Scalar home other width)) m f locals at is h =
+    let place : VariablePlace = Scalar home other width in
+    let l = h.lengths v place at in
+    (h.rows v place at, omega (arith, l, is))
+scalar_row p v i (Some (Array elements length copies)) m f locals at is h = absurd (omega (arith, is))
+scalar_row p v i None m f locals at is h = absurd (omega (arith, is))
+
+pub scalar_set : (p : Places) (room : Room) (v i w : ℕ) (m : Variables) (f : ℕ → ℕ) (locals : ℕ → Option ℕ) → AreApart p room → IsScalarWord p v i
+    → HoldVariables p m f locals → HoldVariables p (with_word m (Shared v) i w) (put f (scalar_address p v i) w) locals
+scalar_set p room v i w m f locals apart is h = set_holds p v i w m f g locals row.0 h words elements
   where
-    row : (v < length m.shared) × (0 < length (get_or m.shared v []))
-    row = scalar_row p v (slice_get p.map.variables v) m f locals refl is h
+    g : ℕ → ℕ
+    g = put f (scalar_address p v i) w
 
-    same : (u : ℕ) → u ≡ v → put f (address_of p v) w (address_of p u) ≡ word_at (with_word m (Shared v) 0 w) (Shared u) 0
-    same u e =
-        let P : ℕ → Type 0 = λ j. put f (address_of p v) w (address_of p j) ≡ word_at (with_word m (Shared v) 0 w) (Shared j) 0 in
-        subst P (sym e) (put_at f (address_of p v) w (address_of p v) refl ∙ sym (word_same m v 0 w row.0 row.1))
+    row : (v < length m.shared) × (i < length (get_or m.shared v []))
+    row = scalar_row p v i (slice_get p.map.variables v) m f locals refl is h
 
-    keeps : (s : Spot) → IsSpot p s → (s ≡ scalar v → ⊥) → put f (address_of p v) w (spot_address p s) ≡ f (spot_address p s)
-    keeps s k ne = put_other f (address_of p v) w (spot_address p s) (λ e. ne (apart.distinct s (scalar v) k is e))
+    Held : ℕ → ℕ → Type 0
+    Held u j = g (scalar_address p u j) ≡ word_at (with_word m (Shared v) i w) (Shared u) j
 
-    other : (u : ℕ) → IsScalarAt p u → (u ≡ v → ⊥) → put f (address_of p v) w (address_of p u) ≡ word_at (with_word m (Shared v) 0 w) (Shared u) 0
-    other u k ne =
-        keeps (scalar u) k (λ e. let d : u ≡ v = cc in ne d) ∙ h.words u k ∙ sym (word_other m v 0 w u 0 row.0 (λ e. absurd (ne e)))
+    same : (u j : ℕ) → u ≡ v → j ≡ i → Held u j
+    same u j e d =
+        let here = put_at f (scalar_address p v i) w (scalar_address p v i) refl ∙ sym (word_same m v i w row.0 row.1) in
+        subst (λ x. Held x j) (sym e) (subst (Held v) (sym d) here)
+
+    keeps : (s : Spot) → IsSpot p s → (s ≡ scalar v i → ⊥) → g (spot_address p s) ≡ f (spot_address p s)
+    keeps s k ne = put_other f (scalar_address p v i) w (spot_address p s) (λ e. ne (apart.distinct s (scalar v i) k is e))
+
+    other : (u j : ℕ) → IsScalarWord p u j → (u ≡ v → j ≡ i → ⊥) → Held u j
+    other u j k ne =
+        let differ : scalar u j ≡ scalar v i → ⊥ = λ e. let a : u ≡ v = cc in let b : j ≡ i = cc in ne a b in
+        keeps (scalar u j) k differ ∙ h.words u j k ∙ sym (word_other m v i w u j row.0 ne)
+
+    words : (u j : ℕ) → IsScalarWord p u j → Held u j
+    words u j k = ⊎_elim (λ e. ⊎_elim (same u j e) (λ ne. other u j k (λ a b. ne b)) (cases_eq j i)) (λ ne. other u j k (λ a b. ne a)) (cases_eq u v)
 
     elements : (x : Element) → IsElement p x
-        → own_word p (put f (address_of p v) w) (slice_get p.map.variables x.array) x.index ≡ word_at (with_word m (Shared v) 0 w) (Shared x.array) x.index
+        → own_word p g (slice_get p.map.variables x.array) x.index ≡ word_at (with_word m (Shared v) i w) (Shared x.array) x.index
     elements x k =
-        let low = apart.spots (scalar v) is in
-        let ver = put_other f (address_of p v) w (word_place p.map Version) (λ e. omega (arith, e, low, apart)) in
-        let array : x.array ≡ v → ⊥ = λ e. no_scalar p x.array k.elements k.length k.copies k.is_array (subst (IsScalarAt p) (sym e) is) in
-        own_same p f (put f (address_of p v) w) x k ver (keeps (element x) k (λ e. cc)) (λ c. keeps (copy x) c (λ e. cc)) (λ c. keeps (version x) c (λ e. cc))
-        ∙ h.elements x k ∙ sym (word_other m v 0 w x.array x.index row.0 (λ e. absurd (array e)))
+        let low = apart.spots (scalar v i) is in
+        let ver = put_other f (scalar_address p v i) w (word_place p.map Version) (λ e. omega (arith, e, low, apart)) in
+        let array : x.array ≡ v → ⊥ =
+        λ e. no_scalar p x.array k.elements k.length k.copies k.is_array (subst (IsScalarAt p) (sym e) (word_scalar p v i is)) in
+        own_same p f g x k ver (keeps (element x) k (λ e. cc)) (λ c. keeps (copy x) c (λ e. cc)) (λ c. keeps (version x) c (λ e. cc))
+        ∙ h.elements x k ∙ sym (word_other m v i w x.array x.index row.0 (λ e. absurd (array e)))
 
 -- ---- an assignment to a local
 

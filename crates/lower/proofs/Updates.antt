@@ -4,6 +4,7 @@ use Rattle.std.proofs.lemmas.Bool.{eqb-true, and_parts}
 use Rattle.task_ast.specs.Tree as t
 use Rattle.task_ast.specs.Paths.{CheckedExpression}
 use Rattle.task_ast.specs.declared.WordType.{WordType}
+use Rattle.task_ast.specs.declared.WordType.TheVariants.{Unsigned, Int, Long}
 use Rattle.task_ast.specs.declared.BinaryOperator.{BinaryOperator}
 use Rattle.task_ast.specs.declared.BinaryOperator.TheVariants as operator
 use Rattle.task_ast.specs.declared.names.Variable.{Variable}
@@ -19,7 +20,27 @@ use Rattle.array_versions.specs.declared.operations.PlainOperation.{PlainOperati
 use Rattle.array_versions.specs.declared.operations.PlainOperation.TheVariants as plain
 use Rattle.array_versions.specs.Operations.{plain_word}
 use Rattle.lower.specs.Operations.{plain_operation}
-use Rattle.lower.specs.Lowered.{is_same, is_name, updating, is_number, are_alike, element_updating}
+use Rattle.lower.specs.Lowered.{is_same, is_name, updating, of_words, is_number, are_alike, element_updating}
+
+-- an operation that is one of words
+pub record IsOfWords (of : WordType) (o : Option PlainOperation) (p : PlainOperation) : Type 0 where
+  pub word : IsOneWord of
+  pub is : o ≡ Some p
+
+pub is_of_words : (of : WordType) (o : Option PlainOperation) (p : PlainOperation) → of_words of o ≡ Some p → IsOfWords of o p
+is_of_words Long o p h = absurd (cc)
+is_of_words Int o p h = record { word = tt; is = h }
+is_of_words Unsigned o p h = record { word = tt; is = h }
+
+-- operands whose joined type has one word have one word
+pub joined_words : (s of : WordType) → IsOneWord (joined_type s of) → IsOneWord s × IsOneWord of
+joined_words Long of k = absurd k
+joined_words Int Long k = absurd k
+joined_words Int Int k = (tt, tt)
+joined_words Int Unsigned k = (tt, tt)
+joined_words Unsigned Long k = absurd k
+joined_words Unsigned Int k = (tt, tt)
+joined_words Unsigned Unsigned k = (tt, tt)
 
 -- the left side is the variable alone, and the operator has an operation that is one instruction
 pub record IsUpdate (x : Variable) (op : BinaryOperator) (a : CheckedExpression) (o : PlainOperation) : Type 0 where

@@ -1,12 +1,10 @@
--- The program of an expression leaves its value.
+-- The programs of expressions of words leave their values.
 use Rattle.std.proofs.Common.{◌≡◌, ℕ, ◌+◌, ◌*◌, ◌%◌, ◌==◌, ◌<◌, ◌≤◌, List, [], ◌∷◌, ◌++◌, Option, Some, None, Bool, true, false, not}
 use Rattle.std.proofs.Common.{nat_le, nat_lt, refl, sym, ap, ◌∙◌, subst, arith, le-ltb, lt-ltb, get_or, ⊎_elim, if◌then◌else◌, bit_and}
 use Rattle.array_versions.specs.alp_words.Words.{bit}
 use Rattle.array_versions.specs.fram_board.Effects.{Effect, Store, Take, Send}
 use Rattle.std.proofs.lemmas.Bool.{cases_lt}
 use Rattle.std.proofs.lemmas.List.{get_or_past}
-use Rattle.task_ast.specs.Tree as t
-use Rattle.task_ast.specs.Paths.{CheckedExpression}
 use Rattle.task_ast.specs.declared.WordType.{WordType}
 use Rattle.task_ast.specs.declared.WordType.TheVariants.{Unsigned, Int, Long}
 use Rattle.task_ast.specs.declared.UnaryOperator.{UnaryOperator}
@@ -19,12 +17,8 @@ use Rattle.task_ast.specs.declared.ShortCircuitOperator.{ShortCircuitOperator}
 use Rattle.task_ast.specs.declared.ShortCircuitOperator.TheVariants.{And as BothHold, Or as OneHolds}
 use Rattle.task_ast.specs.declared.names.Variable.{Variable}
 use Rattle.task_ast.specs.declared.names.Variable.TheVariants.{Shared, Local}
-use Rattle.source_values.specs.Values.{◌>>?◌, Variables, word_at, type_of, joined_type, holds, unary_value, binary_value, shift_value, shifted_value}
-use Rattle.source_values.specs.Values.{unary_result, binary_result, shift_result}
-use Rattle.source_values.proofs.Interface.{scalar_word}
-use Rattle.task_ast.specs.Types.{IsOneWord}
-use Rattle.task_ast.proofs.Interface as one_word
-use Rattle.source_values.specs.Values.{is_settled, next_reading, value_of}
+use Rattle.source_values.specs.Values.{◌>>?◌, Variables, word_at, holds, unary_value, binary_value, shift_value, shifted_value}
+use Rattle.source_values.specs.Values.{is_settled, next_reading}
 use Rattle.array_versions.specs.declared.operations.UnaryOperation.{UnaryOperation}
 use Rattle.array_versions.specs.declared.operations.UnaryOperation.TheVariants.{Negate, Complement}
 use Rattle.array_versions.specs.declared.operations.BinaryOperation.{BinaryOperation}
@@ -32,7 +26,7 @@ use Rattle.array_versions.specs.declared.operations.BinaryOperation.TheVariants.
 use Rattle.array_versions.specs.declared.operations.PlainOperation.TheVariants.{And}
 use Rattle.array_versions.specs.declared.operations.Comparison.TheVariants.{CommonBit}
 use Rattle.array_versions.specs.Operations.{unary_word, binary_word, shift_word, shifted_word, compare_words}
-use Rattle.array_versions.specs.Program.{Test, Program, number, load, local, unary, binary, shift, sense, compares, fails, nothing, joined}
+use Rattle.array_versions.specs.Program.{Test, Program, load, local, unary, binary, compares, fails, nothing, joined}
 use Rattle.array_versions.specs.Behaviour.{WordState, End, GoesOn, Jumps, Short, Strays, Broken, Behaviour, goes_on, behind_effects, on_end, then_on}
 use Rattle.array_versions.specs.Behaviour.{is_place, at_place, pushed, number_pushed, local_pushed, reading_pushed, way_by_top, way_by_two, tested}
 use Rattle.array_versions.specs.Behaviour.{behaviour}
@@ -42,17 +36,18 @@ use Rattle.memory_map.specs.declared.words.RuntimeWord.TheVariants.{Version}
 use Rattle.memory_map.specs.declared.place.ArrayCopies.{ArrayCopies}
 use Rattle.memory_map.specs.declared.place.VariablePlace.{VariablePlace}
 use Rattle.memory_map.specs.declared.place.VariablePlace.TheVariants.{Array}
-use Rattle.memory_map.proofs.Interface.{word_even}
-use Rattle.memory_map.specs.Spots.{Places, address_of, IsArrayAt, Element, IsElement, IsCopied, scalar, element, copy, version}
+use Rattle.memory_map.proofs.Interface.{word_even, first_word}
+use Rattle.memory_map.specs.Spots.{Places, address_of, scalar_address, IsScalarWord, IsArrayAt, Element, IsElement, IsCopied, scalar, element, copy}
+use Rattle.memory_map.specs.Spots.{version}
 use Rattle.lower.specs.declared.operations.BinaryMeaning.{BinaryMeaning}
 use Rattle.lower.specs.declared.operations.BinaryMeaning.TheVariants.{Calculates, CommonBits, Holds, Fails}
 use Rattle.lower.specs.Operations.{binary_meaning, shift_operation}
 use Rattle.lower.specs.Lowered.{one, read_step, element_read, element_step, Lowering, as_word, as_test, word_program, value_test, unary_lowering}
-use Rattle.lower.specs.Lowered.{binary_lowering, sides_test, lowering, lowered_test}
+use Rattle.lower.specs.Lowered.{binary_lowering, sides_test}
 use Rattle.lower.specs.Spots.{Room, AreApart, AreEven}
-use Rattle.lower.specs.Agreement.{IsKnown, IsArray, own_word, HoldVariables, TakesAndStores, OnlyTakes, valued, EndsWithValue, AgreesWithValue}
-use Rattle.lower.specs.Agreement.{ExpressionFits, truth_value, truth_of, ExpressionsAgree, TestsAgree}
-use Rattle.lower.proofs.Addresses.{fram_place, placed, spot_place, element_is, copy_is, version_is, has_element}
+use Rattle.lower.specs.Agreement.{IsKnown, IsArray, own_word, HoldVariables, TakesAndStores, OnlyTakes, valued, EndsAt, AgreesAt, AgreesWithValue}
+use Rattle.lower.specs.Agreement.{truth_value, truth_of}
+use Rattle.lower.proofs.Addresses.{fram_place, placed, spot_place, first_address, element_is, copy_is, version_is, has_element}
 
 -- ---- effects
 
@@ -71,17 +66,18 @@ only_takes P (Send n w ∷ es) h = h
 
 -- ---- one behind the other
 
-pub value_then : (w v : WordState) (b : Behaviour) (o : Option (ℕ × List ℕ)) (next : WordState → Behaviour) (more : ℕ × List ℕ → Option (ℕ × List ℕ))
-    → AgreesWithValue v b o → ((x : ℕ × List ℕ) → AgreesWithValue w (next (valued v x)) (more x))
-    → AgreesWithValue w (then_on b next) (o >>? more)
-value_then w v b o next more h k = go b.effects b.end o h.0 h.1
+pub agrees_then : (there last : ℕ × List ℕ → WordState) (b : Behaviour) (o : Option (ℕ × List ℕ)) (next : WordState → Behaviour)
+    (more : ℕ × List ℕ → Option (ℕ × List ℕ))
+    → AgreesAt there b o → ((x : ℕ × List ℕ) → AgreesAt last (next (there x)) (more x))
+    → AgreesAt last (then_on b next) (o >>? more)
+agrees_then there last b o next more h k = go b.effects b.end o h.0 h.1
   where
-    go : (es : List Effect) (e : End) (o : Option (ℕ × List ℕ)) → OnlyTakes es → EndsWithValue v e o
-        → AgreesWithValue w (behind_effects es (on_end e next)) (o >>? more)
+    go : (es : List Effect) (e : End) (o : Option (ℕ × List ℕ)) → OnlyTakes es → EndsAt there e o
+        → AgreesAt last (behind_effects es (on_end e next)) (o >>? more)
     go es (GoesOn s) (Some x) h e =
-        let P : WordState → Type 0 = λ s. AgreesWithValue w (behind_effects es (next s)) (more x) in
+        let P : WordState → Type 0 = λ s. AgreesAt last (behind_effects es (next s)) (more x) in
         let n = k x in
-        subst P (sym e) (takes_append (λ a w. ⊥) es (next (valued v x)).effects h n.0, n.1)
+        subst P (sym e) (takes_append (λ a w. ⊥) es (next (there x)).effects h n.0, n.1)
     go es (GoesOn s) None h e = absurd e
     go es (Jumps to s) o h e = absurd e
     go es Short (Some x) h e = absurd e
@@ -89,11 +85,17 @@ value_then w v b o next more h k = go b.effects b.end o h.0 h.1
     go es Strays o h e = absurd e
     go es Broken o h e = (takes_append (λ a w. ⊥) es [] h tt, tt)
 
+-- of a value that is pushed
+pub value_then : (w v : WordState) (b : Behaviour) (o : Option (ℕ × List ℕ)) (next : WordState → Behaviour) (more : ℕ × List ℕ → Option (ℕ × List ℕ))
+    → AgreesWithValue v b o → ((x : ℕ × List ℕ) → AgreesWithValue w (next (valued v x)) (more x))
+    → AgreesWithValue w (then_on b next) (o >>? more)
+value_then w v b o next more h k = agrees_then (valued v) (valued w) b o next more h k
+
 -- nothing behind
 pub value_done : (w : WordState) (b : Behaviour) (o : Option (ℕ × List ℕ)) → AgreesWithValue w b o → AgreesWithValue w (then_on b (behaviour nothing)) o
 value_done w b o h = go b.effects b.end o h.0 h.1
   where
-    go : (es : List Effect) (e : End) (o : Option (ℕ × List ℕ)) → OnlyTakes es → EndsWithValue w e o
+    go : (es : List Effect) (e : End) (o : Option (ℕ × List ℕ)) → OnlyTakes es → EndsAt (valued w) e o
         → AgreesWithValue w (behind_effects es (on_end e (behaviour nothing))) o
     go es (GoesOn s) o h e = (takes_append (λ a w. ⊥) es [] h tt, e)
     go es (Jumps to s) o h e = absurd e
@@ -117,16 +119,23 @@ load_agrees w a v place is =
     let P : Behaviour → Type 0 = λ b. AgreesWithValue w (then_on b (behaviour nothing)) (Some (v, w.readings)) in
     subst P (sym (placed a (goes_on [] (pushed (w.fram a) w)) place)) (tt, ap (λ x. valued w (x, w.readings)) is)
 
-read_agrees : (p : Places) (room : Room) (x : Variable) (m : Variables) (w : WordState) → AreApart p room → AreEven p → IsKnown p x
+pub word_read_agrees : (p : Places) (room : Room) (v i a : ℕ) (m : Variables) (w : WordState) → a ≡ scalar_address p v i → AreApart p room → AreEven p
+    → IsScalarWord p v i → HoldVariables p m w.fram w.locals
+    → AgreesWithValue w (behaviour (one (load a)) w) (Some (word_at m (Shared v) i, w.readings))
+word_read_agrees p room v i a m w e apart even k h =
+    let P : ℕ → Type 0 = λ b. AgreesWithValue w (behaviour (one (load b)) w) (Some (word_at m (Shared v) i, w.readings)) in
+    subst P (sym e) (load_agrees w (scalar_address p v i) (word_at m (Shared v) i) (spot_place p room (scalar v i) apart even k) (h.words v i k))
+
+pub read_agrees : (p : Places) (room : Room) (x : Variable) (m : Variables) (w : WordState) → AreApart p room → AreEven p → IsKnown p x
     → HoldVariables p m w.fram w.locals
     → AgreesWithValue w (behaviour (one (read_step p x)) w) (Some (word_at m x 0, w.readings))
 read_agrees p room (Shared v) m w apart even k h =
-    load_agrees w (address_of p v) (word_at m (Shared v) 0) (spot_place p room (scalar v) apart even k) (h.words v k)
+    word_read_agrees p room v 0 (address_of p v) m w (sym (first_address p v)) apart even (first_word p v k) h
 read_agrees p room (Local n) m w apart even k h =
     let P : ℕ → Type 0 = λ j. AgreesWithValue w (behaviour (one (local j)) w) (Some (word_at m (Local n) 0, w.readings)) in
     subst P (sym (small_modulo n k)) (local_agrees w (w.locals n) (word_at m (Local n) 0) (λ u e. h.locals n u e))
 
-sense_agrees : (w : WordState) (rs : List ℕ) → AgreesWithValue w (then_on (reading_pushed rs w) (behaviour nothing)) (next_reading rs)
+pub sense_agrees : (w : WordState) (rs : List ℕ) → AgreesWithValue w (then_on (reading_pushed rs w) (behaviour nothing)) (next_reading rs)
 sense_agrees w [] = (tt, tt)
 sense_agrees w (r ∷ rs) = (tt, refl)
 
@@ -205,7 +214,7 @@ array_agrees p room v elements length i (Some c) m w left apart even at h =
     (subst Q at.place (h.elements x (has_element p x is)))))
     (past_end p v elements length i (Some c) m w.fram w.locals at h)
 
-element_agrees : (p : Places) (room : Room) (x : Variable) (i : ℕ) (m : Variables) (w : WordState) (left : List ℕ) → AreApart p room → AreEven p → IsArray p x
+pub element_agrees : (p : Places) (room : Room) (x : Variable) (i : ℕ) (m : Variables) (w : WordState) (left : List ℕ) → AreApart p room → AreEven p → IsArray p x
     → HoldVariables p m w.fram w.locals → AgreesWithValue w (behaviour (one (element_step p x)) (valued w (i, left))) (Some (word_at m x i, left))
 element_agrees p room (Shared v) i m w left apart even k h =
     let P : Option VariablePlace → Type 0 =
@@ -223,7 +232,7 @@ meaning_word (Holds c) u v = bit (compare_words c u v)
 meaning_word (Fails c) u v = bit (not (compare_words c u v))
 
 -- an order looks at signs, and all others are alike
-binary_same : (op : BinaryOperator) (of : WordType) (u v : ℕ) → meaning_word (binary_meaning op of) u v ≡ binary_value op of u v
+pub binary_same : (op : BinaryOperator) (of : WordType) (u v : ℕ) → meaning_word (binary_meaning op of) u v ≡ binary_value op of u v
 binary_same operator.Less Int u v = refl
 binary_same operator.Less Unsigned u v = refl
 binary_same operator.Less Long u v = refl
@@ -244,7 +253,7 @@ shifted_same shift_operator.Right Int v k = refl
 shifted_same shift_operator.Right Unsigned v k = refl
 shifted_same shift_operator.Right Long v k = refl
 
-shift_same : (op : ShiftOperator) (of : WordType) (v k : ℕ) → shift_word (shift_operation op of) v k ≡ shift_value op of v k
+pub shift_same : (op : ShiftOperator) (of : WordType) (v k : ℕ) → shift_word (shift_operation op of) v k ≡ shift_value op of v k
 shift_same op of v k = ap (λ x. if nat_le k 15 then x else 0) (shifted_same op of v k)
 
 -- ---- the truth of a value
@@ -263,11 +272,11 @@ truth_twice None = refl
 truth_twice (Some x) = bit_is_truth (holds x.0) x.1
 
 -- the word that the values of two sides make, the second from the readings that the first leaves
-abbrev pair_value : (ℕ → ℕ → ℕ) → Option (ℕ × List ℕ) → (List ℕ → Option (ℕ × List ℕ)) → Option (ℕ × List ℕ)
+abbrev pub pair_value : (ℕ → ℕ → ℕ) → Option (ℕ × List ℕ) → (List ℕ → Option (ℕ × List ℕ)) → Option (ℕ × List ℕ)
 pair_value f o second = o >>? λ x. second x.1 >>? λ y. Some (f x.0 y.0, y.1)
 
 -- the truth of such a word
-pair_truth : (f : ℕ → ℕ → ℕ) (o : Option (ℕ × List ℕ)) (second : List ℕ → Option (ℕ × List ℕ))
+pub pair_truth : (f : ℕ → ℕ → ℕ) (o : Option (ℕ × List ℕ)) (second : List ℕ → Option (ℕ × List ℕ))
     → pair_value (λ x y. bit (holds (f x y))) o second ≡ truth_of (pair_value f o second)
 pair_truth f None second = refl
 pair_truth f (Some x) second = by (second x.1)
@@ -277,7 +286,7 @@ pair_truth f (Some x) second = by (second x.1)
     by (Some y) = refl
 
 -- where it is 1 or 0, it is its own truth
-pair_is_truth : (f : ℕ → ℕ → ℕ) (b : ℕ → ℕ → Bool) (o : Option (ℕ × List ℕ)) (second : List ℕ → Option (ℕ × List ℕ))
+pub pair_is_truth : (f : ℕ → ℕ → ℕ) (b : ℕ → ℕ → Bool) (o : Option (ℕ × List ℕ)) (second : List ℕ → Option (ℕ × List ℕ))
     → ((x y : ℕ) → bit (b x y) ≡ f x y) → truth_of (pair_value f o second) ≡ pair_value f o second
 pair_is_truth f b None second e = refl
 pair_is_truth f b (Some x) second e = by (second x.1)
@@ -290,7 +299,7 @@ pair_is_truth f b (Some x) second e = by (second x.1)
     by (Some y) = ap (λ r. Some (r, y.1)) (one_or_zero x.0 y.0)
 
 -- `!` of a value, and of a truth
-abbrev not_value : ℕ × List ℕ → Option (ℕ × List ℕ)
+abbrev pub not_value : ℕ × List ℕ → Option (ℕ × List ℕ)
 not_value x = Some (bit (x.0 == 0), x.1)
 
 abbrev not_truth : ℕ × List ℕ → Option (ℕ × List ℕ)
@@ -310,10 +319,10 @@ not_is_truth None = refl
 not_is_truth (Some x) = bit_is_truth (x.0 == 0) x.1
 
 -- `&&` or `||` of a value by that of its truth, the right side being this of the readings left
-abbrev side_value : ShortCircuitOperator → (List ℕ → Option (ℕ × List ℕ)) → ℕ × List ℕ → Option (ℕ × List ℕ)
+abbrev pub side_value : ShortCircuitOperator → (List ℕ → Option (ℕ × List ℕ)) → ℕ × List ℕ → Option (ℕ × List ℕ)
 side_value op right x = if is_settled op x.0 then Some (bit (holds x.0), x.1) else truth_of (right x.1)
 
-sides_of_truth : (o : Option (ℕ × List ℕ)) (op : ShortCircuitOperator) (right : List ℕ → Option (ℕ × List ℕ))
+pub sides_of_truth : (o : Option (ℕ × List ℕ)) (op : ShortCircuitOperator) (right : List ℕ → Option (ℕ × List ℕ))
     → (truth_of o >>? side_value op right) ≡ (o >>? side_value op right)
 sides_of_truth None op right = refl
 sides_of_truth (Some x) BothHold right = by (holds x.0)
@@ -327,7 +336,7 @@ sides_of_truth (Some x) OneHolds right = by (holds x.0)
     by true = refl
     by false = refl
 
-sides_are_truth : (op : ShortCircuitOperator) (o : Option (ℕ × List ℕ)) (right : List ℕ → Option (ℕ × List ℕ))
+pub sides_are_truth : (op : ShortCircuitOperator) (o : Option (ℕ × List ℕ)) (right : List ℕ → Option (ℕ × List ℕ))
     → (let r = o >>? side_value op right in truth_of r ≡ r)
 sides_are_truth op None right = refl
 sides_are_truth op (Some x) right = by (is_settled op x.0)
@@ -348,23 +357,23 @@ pub record LoweringAgrees (w : WordState) (l : Lowering) (o : Option (ℕ × Lis
   pub test : AgreesWithValue w (truth_pushed (value_test l) w) (truth_of o)
 
 -- 1 is pushed where it holds, else 0
-bit_agrees : (b : Bool) (r : ℕ) (w : WordState) (left : List ℕ) → bit b ≡ r
+pub bit_agrees : (b : Bool) (r : ℕ) (w : WordState) (left : List ℕ) → bit b ≡ r
     → (let u : WordState = record w { readings = left } in AgreesWithValue w (if b then number_pushed 1 u else number_pushed 0 u) (Some (r, left)))
 bit_agrees true r w left e = (tt, ap (λ v. valued w (v, left)) e)
 bit_agrees false r w left e = (tt, ap (λ v. valued w (v, left)) e)
 
 -- 0 is pushed where it holds, else 1
-turned_bit_agrees : (b : Bool) (r : ℕ) (w : WordState) (left : List ℕ) → bit (not b) ≡ r
+pub turned_bit_agrees : (b : Bool) (r : ℕ) (w : WordState) (left : List ℕ) → bit (not b) ≡ r
     → (let u : WordState = record w { readings = left } in AgreesWithValue w (if b then number_pushed 0 u else number_pushed 1 u) (Some (r, left)))
 turned_bit_agrees true r w left e = (tt, ap (λ v. valued w (v, left)) e)
 turned_bit_agrees false r w left e = (tt, ap (λ v. valued w (v, left)) e)
 
 -- what agrees with other readings in front agrees
-from_left : (w : WordState) (left : List ℕ) (b : Behaviour) (o : Option (ℕ × List ℕ)) → AgreesWithValue (record w { readings = left }) b o
+pub from_left : (w : WordState) (left : List ℕ) (b : Behaviour) (o : Option (ℕ × List ℕ)) → AgreesWithValue (record w { readings = left }) b o
     → AgreesWithValue w b o
 from_left w left b o h = (h.0, by b.end o h.1)
   where
-    by : (e : End) (o : Option (ℕ × List ℕ)) → EndsWithValue (record w { readings = left }) e o → EndsWithValue w e o
+    by : (e : End) (o : Option (ℕ × List ℕ)) → EndsAt (valued (record w { readings = left })) e o → EndsAt (valued w) e o
     by (GoesOn s) (Some x) g = g
     by (GoesOn s) None g = g
     by (Jumps to s) o g = g
@@ -374,7 +383,7 @@ from_left w left b o h = (h.0, by b.end o h.1)
     by Broken o g = g
 
 -- by a program that leaves the value
-by_word : (w : WordState) (q : Program) (o : Option (ℕ × List ℕ)) → AgreesWithValue w (behaviour q w) o → LoweringAgrees w (as_word q) o
+pub by_word : (w : WordState) (q : Program) (o : Option (ℕ × List ℕ)) → AgreesWithValue w (behaviour q w) o → LoweringAgrees w (as_word q) o
 by_word w q o h = record {
   word = h;
   test = value_then w w (behaviour q w) o (way_by_top (number_pushed 1) (number_pushed 0)) truth_value h
@@ -382,14 +391,14 @@ by_word w q o h = record {
 }
 
 -- by a test, where the value is 1 or 0
-by_test : (w : WordState) (c : Test) (o : Option (ℕ × List ℕ)) → truth_of o ≡ o → AgreesWithValue w (truth_pushed c w) o → LoweringAgrees w (as_test c) o
+pub by_test : (w : WordState) (c : Test) (o : Option (ℕ × List ℕ)) → truth_of o ≡ o → AgreesWithValue w (truth_pushed c w) o → LoweringAgrees w (as_test c) o
 by_test w c o e h = record {
   word = value_done w (truth_pushed c w) o h;
   test = subst (AgreesWithValue w (truth_pushed c w)) (sym e) h;
 }
 
 -- a value, and what is done with it
-then_step : (w : WordState) (q last : Program) (o : Option (ℕ × List ℕ)) (more : ℕ × List ℕ → Option (ℕ × List ℕ))
+pub then_step : (w : WordState) (q last : Program) (o : Option (ℕ × List ℕ)) (more : ℕ × List ℕ → Option (ℕ × List ℕ))
     → AgreesWithValue w (behaviour q w) o → ((x : ℕ × List ℕ) → AgreesWithValue w (behaviour last (valued w x)) (more x))
     → AgreesWithValue w (behaviour (joined q last) w) (o >>? more)
 then_step w q last o more h k =
@@ -398,9 +407,9 @@ then_step w q last o more h k =
 -- ---- two sides
 
 -- the programs of two sides, the second from any readings on
-record SidesAgree (w : WordState) (a b : Program) (o : Option (ℕ × List ℕ)) (second : List ℕ → Option (ℕ × List ℕ)) : Type 0 where
-  left_side : AgreesWithValue w (behaviour a w) o
-  right_side : (x : ℕ × List ℕ) → AgreesWithValue (valued w x) (behaviour b (valued w x)) (second x.1)
+pub record SidesAgree (w : WordState) (a b : Program) (o : Option (ℕ × List ℕ)) (second : List ℕ → Option (ℕ × List ℕ)) : Type 0 where
+  pub left_side : AgreesWithValue w (behaviour a w) o
+  pub right_side : (x : ℕ × List ℕ) → AgreesWithValue (valued w x) (behaviour b (valued w x)) (second x.1)
 
 -- what is done with both values, which makes this word of them
 abbrev MakesWord : WordState → (WordState → Behaviour) → (ℕ → ℕ → ℕ) → Type 0
@@ -426,7 +435,7 @@ operated_agrees op w a b o second f h e =
     (sides_agree w a b o second f (behaviour (one (binary op))) h (λ x y left. (tt, ap (λ v. valued w (v, left)) (e x y))))
 
 -- an operator of two sides
-binary_agrees : (meaning : BinaryMeaning) (w : WordState) (a b : Program) (o : Option (ℕ × List ℕ)) (second : List ℕ → Option (ℕ × List ℕ)) (f : ℕ → ℕ → ℕ)
+pub binary_agrees : (meaning : BinaryMeaning) (w : WordState) (a b : Program) (o : Option (ℕ × List ℕ)) (second : List ℕ → Option (ℕ × List ℕ)) (f : ℕ → ℕ → ℕ)
     → SidesAgree w a b o second → ((x y : ℕ) → meaning_word meaning x y ≡ f x y)
     → LoweringAgrees w (binary_lowering meaning (joined a b)) (pair_value f o second)
 binary_agrees (Calculates op) w a b o second f h e =
@@ -458,20 +467,24 @@ turned_agrees op w l o h =
     let last = one (unary op) in
     by_word w (joined (word_program l) last) (o >>? turned) (then_step w (word_program l) last o turned h.word (λ x. (tt, refl)))
 
-unary_agrees : (op : UnaryOperator) (w : WordState) (l : Lowering) (o : Option (ℕ × List ℕ)) → LoweringAgrees w l o
-    → LoweringAgrees w (unary_lowering op l) (o >>? λ x. Some (unary_value op x.0, x.1))
-unary_agrees unary_operator.Negate w l o h = turned_agrees Negate w l o h
-unary_agrees unary_operator.Complement w l o h = turned_agrees Complement w l o h
-unary_agrees unary_operator.Not w l o h =
-    let c = value_test l in
+-- `!` of a value by its test
+pub not_agrees : (w : WordState) (c : Test) (o : Option (ℕ × List ℕ)) → AgreesWithValue w (truth_pushed c w) (truth_of o)
+    → LoweringAgrees w (as_test (fails c)) (o >>? not_value)
+not_agrees w c o h =
     let turned = way_by_top (number_pushed 0) (number_pushed 1) in
     let r : Option (ℕ × List ℕ) = o >>? not_value in
     by_test w (fails c) r (not_is_truth o)
     (subst (λ b. AgreesWithValue w b r) (sym (decided_by_truth c (number_pushed 0) (number_pushed 1) w))
     (subst (AgreesWithValue w (then_on (truth_pushed c w) turned)) (not_of_truth o)
-    (value_then w w (truth_pushed c w) (truth_of o) turned not_truth h.test (λ x. turned_bit_agrees (holds x.0) (bit (not (holds x.0))) w x.1 refl))))
+    (value_then w w (truth_pushed c w) (truth_of o) turned not_truth h (λ x. turned_bit_agrees (holds x.0) (bit (not (holds x.0))) w x.1 refl))))
 
-side_agrees : (op : ShortCircuitOperator) (w : WordState) (c d : Test) (o : Option (ℕ × List ℕ)) (right : List ℕ → Option (ℕ × List ℕ))
+pub unary_agrees : (op : UnaryOperator) (w : WordState) (l : Lowering) (o : Option (ℕ × List ℕ)) → LoweringAgrees w l o
+    → LoweringAgrees w (unary_lowering op l) (o >>? λ x. Some (unary_value op x.0, x.1))
+unary_agrees unary_operator.Negate w l o h = turned_agrees Negate w l o h
+unary_agrees unary_operator.Complement w l o h = turned_agrees Complement w l o h
+unary_agrees unary_operator.Not w l o h = not_agrees w (value_test l) o h.test
+
+pub side_agrees : (op : ShortCircuitOperator) (w : WordState) (c d : Test) (o : Option (ℕ × List ℕ)) (right : List ℕ → Option (ℕ × List ℕ))
     → AgreesWithValue w (truth_pushed c w) (truth_of o)
     → ((left : List ℕ) → AgreesWithValue w (truth_pushed d (record w { readings = left })) (truth_of (right left)))
     → AgreesWithValue w (truth_pushed (sides_test op c d) w) (truth_of o >>? side_value op right)
@@ -495,97 +508,3 @@ side_agrees OneHolds w c d o right h k =
         AgreesWithValue w (if b then number_pushed 1 u else truth_pushed d u) (if b then Some (bit b, left) else truth_of (right left)))
     by true left = (tt, refl)
     by false left = k left
-
--- ---- all expressions
-
--- the type of an expression that fits is of one word
-pub fits_word : (p : Places) (e : CheckedExpression) → ExpressionFits p e → IsOneWord (type_of e)
-fits_word p (t.number n) h = one_word.literal_word n
-fits_word p (t.long_number n) h = h
-fits_word p (t.name x) h = h.1
-fits_word p (t.element x index) h = h.2
-fits_word p t.sense h = tt
-fits_word p (t.unary op e) h = one_word.unary_word op (type_of e) (fits_word p e h)
-fits_word p (t.binary op a b) h = one_word.binary_word op.operator (type_of a) (type_of b) (fits_word p a h.0) (fits_word p b h.1)
-fits_word p (t.shift op e count) h = fits_word p e h
-fits_word p (t.short_circuit op a b) h = tt
-
--- an operator in front of a word
-unary_agrees_by : (op : UnaryOperator) (of : WordType) → IsOneWord of → (w : WordState) (l : Lowering) (o : Option (ℕ × List ℕ)) → LoweringAgrees w l o
-    → LoweringAgrees w (unary_lowering op l) (o >>? λ x. Some (unary_result op of x.0, x.1))
-unary_agrees_by op Long k w l o h = absurd k
-unary_agrees_by op Int k w l o h = unary_agrees op w l o h
-unary_agrees_by op Unsigned k w l o h = unary_agrees op w l o h
-
--- an operator between words
-binary_agrees_by : (op : BinaryOperator) (s of : WordType) → IsOneWord s → IsOneWord of → (w : WordState) (left right : Program) (o : Option (ℕ × List ℕ))
-    (second : List ℕ → Option (ℕ × List ℕ)) → SidesAgree w left right o second
-    → LoweringAgrees w (binary_lowering (binary_meaning op (joined_type s of)) (joined left right))
-    (o >>? λ x. second x.1 >>? λ y. Some (binary_result op s of x.0 y.0, y.1))
-binary_agrees_by op Long of h k w left right o second sides = absurd h
-binary_agrees_by op s Long h k w left right o second sides = absurd k
-binary_agrees_by op Int Int h k w left right o second sides =
-    binary_agrees (binary_meaning op Int) w left right o second (binary_value op Int) sides (binary_same op Int)
-binary_agrees_by op Int Unsigned h k w left right o second sides =
-    binary_agrees (binary_meaning op Unsigned) w left right o second (binary_value op Unsigned) sides (binary_same op Unsigned)
-binary_agrees_by op Unsigned Int h k w left right o second sides =
-    binary_agrees (binary_meaning op Unsigned) w left right o second (binary_value op Unsigned) sides (binary_same op Unsigned)
-binary_agrees_by op Unsigned Unsigned h k w left right o second sides =
-    binary_agrees (binary_meaning op Unsigned) w left right o second (binary_value op Unsigned) sides (binary_same op Unsigned)
-
--- a word is shifted as a value of its type
-shift_of_word : (op : ShiftOperator) (of : WordType) (v k : ℕ) → IsOneWord of → shift_word (shift_operation op of) v k ≡ shift_result op of v k
-shift_of_word op Long v k h = absurd h
-shift_of_word op Int v k h = shift_same op Int v k
-shift_of_word op Unsigned v k h = shift_same op Unsigned v k
-
-pub lowering_agrees : (p : Places) (room : Room) (e : CheckedExpression) (m : Variables) (w : WordState) → AreApart p room → AreEven p
-    → ExpressionFits p e → HoldVariables p m w.fram w.locals → LoweringAgrees w (lowering p e) (value_of e m w.readings)
-lowering_agrees p room (t.number n) m w apart even fits h = by_word w (one (number n)) _ (tt, refl)
-lowering_agrees p room (t.long_number n) m w apart even fits h = absurd fits
-lowering_agrees p room (t.name x) m w apart even fits h =
-    let P : ℕ → Type 0 = λ v. AgreesWithValue w (behaviour (one (read_step p x.variable)) w) (Some (v, w.readings)) in
-    by_word w (one (read_step p x.variable)) _
-    (subst P (sym (scalar_word m x fits.1)) (read_agrees p room x.variable m w apart even fits.0 h))
-lowering_agrees p room (t.element x index) m w apart even fits h =
-    let l = lowering p index in
-    let last = one (element_step p x.variable) in
-    by_word w (joined (word_program l) last) _
-    (then_step w (word_program l) last (value_of index m w.readings) (λ i. Some (word_at m x.variable i.0, i.1))
-    (lowering_agrees p room index m w apart even fits.1 h).word (λ i. element_agrees p room x.variable i.0 m w i.1 apart even fits.0 h))
-lowering_agrees p room t.sense m w apart even fits h = by_word w (one sense) _ (sense_agrees w w.readings)
-lowering_agrees p room (t.unary op e) m w apart even fits h =
-    unary_agrees_by op (type_of e) (fits_word p e fits) w (lowering p e) (value_of e m w.readings) (lowering_agrees p room e m w apart even fits h)
-lowering_agrees p room (t.binary op a b) m w apart even fits h =
-    let left = word_program (lowering p a) in
-    let right = word_program (lowering p b) in
-    let o = value_of a m w.readings in
-    let sides : SidesAgree w left right o (value_of b m) = record {
-      left_side = (lowering_agrees p room a m w apart even fits.0 h).word;
-      right_side = λ x. (lowering_agrees p room b m (valued w x) apart even fits.1 h).word;
-    } in
-    binary_agrees_by op.operator (type_of a) (type_of b) (fits_word p a fits.0) (fits_word p b fits.1) w left right o (value_of b m) sides
-lowering_agrees p room (t.shift op e count) m w apart even fits h =
-    let l = lowering p e in
-    let last = one (shift (shift_operation op (type_of e)) count.value) in
-    by_word w (joined (word_program l) last) _
-    (then_step w (word_program l) last (value_of e m w.readings) (λ x. Some (shift_result op (type_of e) x.0 count.value, x.1))
-    (lowering_agrees p room e m w apart even fits h).word
-    (λ x. (tt, ap (λ v. valued w (v, x.1)) (shift_of_word op (type_of e) x.0 count.value (fits_word p e fits)))))
-lowering_agrees p room (t.short_circuit op a b) m w apart even fits h =
-    let c = value_test (lowering p a) in
-    let d = value_test (lowering p b) in
-    let o = value_of a m w.readings in
-    let right = value_of b m in
-    by_test w (sides_test op c d) _ (sides_are_truth op o right)
-    (subst (AgreesWithValue w (truth_pushed (sides_test op c d) w)) (sides_of_truth o op right)
-    (side_agrees op w c d o right (lowering_agrees p room a m w apart even fits.0 h).test
-    (λ left. let u : WordState = record w { readings = left } in
-    from_left w left (truth_pushed d u) (truth_of (right left)) (lowering_agrees p room b m u apart even fits.1 h).test)))
-
-pub expressions_agree : ExpressionsAgree
-expressions_agree p room e m w apart even fits h = (lowering_agrees p room e m w apart even fits h).word
-
-pub tests_agree : TestsAgree
-tests_agree p room e m w apart even fits h =
-    value_done w (truth_pushed (lowered_test p e) w) (truth_of (value_of e m w.readings)) (lowering_agrees p room e m w apart even fits h).test

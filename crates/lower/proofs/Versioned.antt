@@ -18,7 +18,7 @@ use Rattle.array_versions.specs.Behaviour.{WordState, Behaviour, goes_on, behind
 use Rattle.array_versions.specs.Behaviour.{versioned_stored, own_place, own_kept, own_updated, versioned_updated}
 use Rattle.lower.specs.Spots.{Room, AreApart, AreDifferent, AreListed, listed_of}
 use Rattle.lower.specs.Agreement.{own_word, HoldVariables, element_pair, HoldList}
-use Rattle.lower.proofs.Addresses.{placed, has_element, copy_is, version_is, no_scalar, same_element, same_or_not}
+use Rattle.lower.proofs.Addresses.{placed, has_element, copy_is, version_is, no_scalar, word_scalar, same_element, same_or_not}
 use Rattle.lower.proofs.Stored.{word_same, word_other, set_holds, own_same, ListStays, EmitsStay, few_entries, spot_list}
 use Rattle.runtime_effects.specs.Places.{entries_from}
 use Rattle.runtime_effects.proofs.Interface.{entries_alike}
@@ -26,8 +26,8 @@ use Rattle.lower.proofs.Lists.{HaveWords, HasNext, IsElse}
 use Rattle.memory_map.specs.MemoryMap.{word_place}
 use Rattle.memory_map.specs.declared.words.RuntimeWord.TheVariants.{ListLength, EmitCount, Version}
 use Rattle.memory_map.specs.declared.place.VariablePlace.TheVariants.{Array}
-use Rattle.memory_map.specs.Spots.{Places, address_of, IsScalarAt, Element, IsElement, IsCopied, Spot, scalar, element, copy, version, IsSpot, copy_address}
-use Rattle.memory_map.specs.Spots.{version_address, spot_address}
+use Rattle.memory_map.specs.Spots.{Places, scalar_address, IsScalarAt, IsScalarWord, Element, IsElement, IsCopied, Spot, scalar, element, copy, version}
+use Rattle.memory_map.specs.Spots.{IsSpot, copy_address, version_address, spot_address}
 
 -- ---- what the step does
 
@@ -130,11 +130,12 @@ element_set p room x v m f g locals is k h =
     row : x.array < length m.shared
     row = h.rows x.array (Array is.elements is.length (Some is.copies)) is.is_array.place
 
-    words : (u : ℕ) → IsScalarAt p u → g (address_of p u) ≡ word_at (with_word m (Shared x.array) x.index v) (Shared u) 0
-    words u of =
-        let ne : u ≡ x.array → ⊥ = λ e. no_scalar p x.array is.elements is.length (Some is.copies) is.is_array (subst (IsScalarAt p) e of) in
-        k.spots (scalar u) of (λ e. cc) (λ e. cc) ∙ h.words u of
-        ∙ sym (word_other m x.array x.index v u 0 row (λ e. absurd (ne e)))
+    words : (u j : ℕ) → IsScalarWord p u j → g (scalar_address p u j) ≡ word_at (with_word m (Shared x.array) x.index v) (Shared u) j
+    words u j of =
+        let ne : u ≡ x.array → ⊥ =
+        λ e. no_scalar p x.array is.elements is.length (Some is.copies) is.is_array (subst (IsScalarAt p) e (word_scalar p u j of)) in
+        k.spots (scalar u j) of (λ e. cc) (λ e. cc) ∙ h.words u j of
+        ∙ sym (word_other m x.array x.index v u j row (λ e. absurd (ne e)))
 
     same : (y : Element) → x ≡ y
         → own_word p g (slice_get p.map.variables y.array) y.index ≡ word_at (with_word m (Shared x.array) x.index v) (Shared y.array) y.index

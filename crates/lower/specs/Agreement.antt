@@ -1,17 +1,20 @@
 -- What it is that a word program does what the source does: the state that it works on stands for an attempt of the task, and its end
 -- for the outcome.
-use Rattle.std.specs.Prelude.{◌≡◌, ℕ, ◌+◌, ◌*◌, ◌%◌, ◌<◌, ◌≤◌, ◌==◌, Bool, true, if◌then◌else◌, Contains, List, [], ◌∷◌, ◌++◌, length, map, Option}
+use Rattle.std.specs.Prelude.{◌≡◌, ℕ, ◌+◌, ◌*◌, ◌/◌, ◌%◌, ◌<◌, ◌≤◌, ◌==◌, Bool, true, false, if◌then◌else◌, Contains, List, [], ◌∷◌, ◌++◌, length, map, Option}
 use Rattle.std.specs.Prelude.{Some, None, slice_get, slice_index, slice_index_or}
 use Rattle.array_versions.specs.fram_board.Effects.{Effect, Store, Take, Send}
 use Rattle.array_versions.specs.machine_effects.World.{fram_after}
 use Rattle.task_ast.specs.Tree as t
 use Rattle.task_ast.specs.Paths.{CheckedExpression, CheckedStatement, CheckedChoice, CheckedBlock}
-use Rattle.task_ast.specs.Types.{IsOneWord}
+use Rattle.task_ast.specs.Types.{IsOneWord, joined_type, type_of}
+use Rattle.task_ast.specs.declared.WordType.{WordType}
+use Rattle.task_ast.specs.declared.WordType.TheVariants.{Unsigned, Int, Long}
+use Rattle.task_check.specs.Occurrences.{is_refused}
 use Rattle.task_ast.specs.declared.names.Variable.{Variable}
 use Rattle.task_ast.specs.declared.names.Variable.TheVariants.{Shared, Local}
 use Rattle.path_sums.specs.Reaches.{statement_falls_through}
 use Rattle.array_versions.specs.alp_words.Words.{bit}
-use Rattle.source_values.specs.Values.{◌>>?◌, Variables, word_at, holds, value_of}
+use Rattle.source_values.specs.Values.{◌>>?◌, Variables, word_at, converted, holds, value_of}
 use Rattle.source_values.specs.Statements.{Attempt, Outcome, goes_on, to_task, short, run_block, block_emits}
 use Rattle.array_versions.specs.Behaviour.{WordState, End, GoesOn, Jumps, Short, Strays, Broken, Behaviour, behaviour}
 use Rattle.cost_bound.specs.Counts.{stores_of}
@@ -20,14 +23,15 @@ use Rattle.memory_map.specs.declared.words.RuntimeWord.TheVariants.{NextTask, Ga
 use Rattle.memory_map.specs.declared.place.ArrayCopies.{ArrayCopies}
 use Rattle.memory_map.specs.declared.place.VariablePlace.{VariablePlace}
 use Rattle.memory_map.specs.declared.place.VariablePlace.TheVariants.{Scalar, Array}
-use Rattle.memory_map.specs.Spots.{Places, address_of, IsScalarAt, IsArrayAt, Element, IsElement, IsCopied, element_address, copy_address}
-use Rattle.memory_map.specs.Spots.{version_address}
+use Rattle.memory_map.specs.Places.{scalar_words}
+use Rattle.memory_map.specs.Spots.{Places, scalar_address, IsScalarAt, IsScalarWord, IsArrayAt, Element, IsElement, IsCopied}
+use Rattle.memory_map.specs.Spots.{element_address, copy_address, version_address}
 use Rattle.lower.specs.Spots.{Room, AreApart, AreEven, listed_of, AreListed, HasRoom}
 use Rattle.runtime_effects.specs.Places.{CopyPair, entries_from}
 use Rattle.lower.specs.declared.runs.Run.{Run}
 use Rattle.lower.specs.Runs.{runs_of}
 use Rattle.array_versions.specs.Program.{truth}
-use Rattle.lower.specs.Lowered.{one, lowered_expression, lowered_test, lowered_block}
+use Rattle.lower.specs.Lowered.{one, lowered_expression, lowered_long, lowered_test, lowered_block}
 
 -- ---- what is asked of a tree: each name is used as it was declared
 
@@ -36,10 +40,32 @@ abbrev pub IsKnown : Places → Variable → Type 0
 IsKnown p (Shared v) = IsScalarAt p v
 IsKnown p (Local n) = n < 256
 
+-- a long with an address of its own: no local is one
+abbrev pub IsLong : Places → Variable → Type 0
+IsLong p (Shared v) = IsScalarWord p v 1
+IsLong p (Local n) = ⊥
+
+-- a variable of a type
+abbrev pub IsOfType : Places → WordType → Variable → Type 0
+IsOfType p Long x = IsLong p x
+IsOfType p Int x = IsKnown p x
+IsOfType p Unsigned x = IsKnown p x
+
 -- a variable that may be assigned: a shared one is among those that are written
 abbrev pub IsTarget : Places → (ℕ → Bool) → Variable → Type 0
 IsTarget p written (Shared v) = IsScalarAt p v × (written v ≡ true)
 IsTarget p written (Local n) = n < 256
+
+-- a long that may be assigned
+abbrev pub IsLongTarget : Places → (ℕ → Bool) → Variable → Type 0
+IsLongTarget p written (Shared v) = IsScalarWord p v 1 × (written v ≡ true)
+IsLongTarget p written (Local n) = ⊥
+
+-- the same of a variable of a type
+abbrev pub IsTargetOf : Places → (ℕ → Bool) → WordType → Variable → Type 0
+IsTargetOf p written Long x = IsLongTarget p written x
+IsTargetOf p written Int x = IsTarget p written x
+IsTargetOf p written Unsigned x = IsTarget p written x
 
 -- a shared array
 abbrev pub IsArray : Places → Variable → Type 0
@@ -56,15 +82,17 @@ abbrev pub IsLocal : Variable → Type 0
 IsLocal (Shared v) = ⊥
 IsLocal (Local n) = n < 256
 
--- each variable of an expression is one that the task has, and an array where it is indexed; and nothing is long
+-- each variable of an expression is one that the task has, of its type, and an array of words where it is indexed; an index is no long, and
+-- no operator is refused
 abbrev pub ExpressionFits : Places → CheckedExpression → Type 0
 ExpressionFits p (t.number w) = Unit {0}
-ExpressionFits p (t.long_number w) = ⊥
-ExpressionFits p (t.name x) = IsKnown p x.variable × IsOneWord x.word_type
-ExpressionFits p (t.element x index) = IsArray p x.variable × ExpressionFits p index × IsOneWord x.word_type
+ExpressionFits p (t.long_number w) = Unit {0}
+ExpressionFits p (t.name x) = IsOfType p x.word_type x.variable
+ExpressionFits p (t.element x index) = IsArray p x.variable × ExpressionFits p index × IsOneWord x.word_type × IsOneWord (type_of index)
 ExpressionFits p t.sense = Unit {0}
 ExpressionFits p (t.unary op e) = ExpressionFits p e
-ExpressionFits p (t.binary op a b) = ExpressionFits p a × ExpressionFits p b
+ExpressionFits p (t.binary op a b) =
+    ExpressionFits p a × ExpressionFits p b × (is_refused op.operator (joined_type (type_of a) (type_of b)) ≡ false)
 ExpressionFits p (t.shift op e count) = ExpressionFits p e
 ExpressionFits p (t.short_circuit op a b) = ExpressionFits p a × ExpressionFits p b
 
@@ -73,8 +101,9 @@ abbrev mutual
   pub StatementFits : Places → (ℕ → Bool) → CheckedStatement → Type 0
   StatementFits p written (t.declare of x None) = Unit {0}
   StatementFits p written (t.declare of x (Some e)) = ExpressionFits p e × IsTarget p written x.variable × IsOneWord x.word_type
-  StatementFits p written (t.assign x e) = ExpressionFits p e × IsTarget p written x.variable × IsOneWord x.word_type
-  StatementFits p written (t.store x index e) = IsWrittenArray p x.variable × ExpressionFits p index × ExpressionFits p e
+  StatementFits p written (t.assign x e) = ExpressionFits p e × IsTargetOf p written x.word_type x.variable
+  StatementFits p written (t.store x index e) =
+      IsWrittenArray p x.variable × ExpressionFits p index × ExpressionFits p e × IsOneWord (type_of index)
   StatementFits p written (t.choose choice) = ChoiceFits p written choice
   StatementFits p written (t.loop x from tested below stepped body) = IsLocal x.variable × (from < below → BlockFits p written body)
   StatementFits p written (t.emit e) = ExpressionFits p e
@@ -93,7 +122,7 @@ abbrev mutual
 
 -- how many words the variable at a place has
 abbrev pub place_length : VariablePlace → ℕ
-place_length (Scalar home copy) = 1
+place_length (Scalar home copy width) = scalar_words width
 place_length (Array elements length copies) = length
 
 -- an element as the attempt has it: its copy where its version word is VER, else the element itself
@@ -101,13 +130,13 @@ abbrev pub own_word : Places → (ℕ → ℕ) → Option VariablePlace → ℕ 
 own_word p f (Some (Array elements length (Some c))) i =
     if f (word_place p.map Version) == f (2 * i + c.versions) then f (2 * i + c.copies) else f (2 * i + elements)
 own_word p f (Some (Array elements length None)) i = f (2 * i + elements)
-own_word p f (Some (Scalar home copy)) i = 0
+own_word p f (Some (Scalar home copy width)) i = 0
 own_word p f None i = 0
 
--- FRAM has each scalar's word at its address in the task, and each element where the attempt has it; and each assigned local has its
+-- FRAM has each word of a scalar at its address in the task, and each element where the attempt has it; and each assigned local has its
 -- word
 pub record HoldVariables (p : Places) (m : Variables) (fram : ℕ → ℕ) (found : ℕ → Option ℕ) : Type 0 where
-  pub words : (v : ℕ) → IsScalarAt p v → fram (address_of p v) ≡ word_at m (Shared v) 0
+  pub words : (v i : ℕ) → IsScalarWord p v i → fram (scalar_address p v i) ≡ word_at m (Shared v) i
   pub elements : (x : Element) → IsElement p x → own_word p fram (slice_get p.map.variables x.array) x.index ≡ word_at m (Shared x.array) x.index
   pub rows : (v : ℕ) (place : VariablePlace) → slice_get p.map.variables v ≡ Some place → v < length m.shared
   pub lengths : (v : ℕ) (place : VariablePlace) → slice_get p.map.variables v ≡ Some place → length (slice_index_or m.shared v []) ≡ place_length place
@@ -155,7 +184,7 @@ OnlyTakes = TakesAndStores (λ a w. ⊥)
 -- what statements store, VER being this number: words of the scalars that they write, copies and version words of elements, entries
 -- of the commit list with their count, and emitted words with theirs
 pub data IsTaskStore (p : Places) (written : ℕ → Bool) (room : Room) (ver : ℕ) (a w : ℕ) : Type 0 where
-  at_variable : (v : ℕ) → IsScalarAt p v → written v ≡ true → a ≡ address_of p v → IsTaskStore p written room ver a w
+  at_variable : (v i : ℕ) → IsScalarWord p v i → written v ≡ true → a ≡ scalar_address p v i → IsTaskStore p written room ver a w
   at_copy : (x : Element) → IsCopied p x → a ≡ copy_address p x → IsTaskStore p written room ver a w
   at_version : (x : Element) → IsCopied p x → a ≡ version_address p x → w ≡ ver → IsTaskStore p written room ver a w
   in_list : p.map.list.address ≤ a → a < p.map.list.address + 6 * room.list → IsTaskStore p written room ver a w
@@ -182,26 +211,48 @@ transition_effects p task entries base =
 abbrev pub valued : WordState → ℕ × List ℕ → WordState
 valued w x = record w { stack = x.0 ∷ w.stack; readings = x.1 }
 
--- the end leaves the value, or is short where there is none. A program that reads a local before it is assigned is broken, and then
--- nothing is said
-abbrev pub EndsWithValue : WordState → End → Option (ℕ × List ℕ) → Type 0
-EndsWithValue w (GoesOn s) (Some x) = s ≡ valued w x
-EndsWithValue w (GoesOn s) None = ⊥
-EndsWithValue w Short (Some x) = ⊥
-EndsWithValue w Short None = Unit {0}
-EndsWithValue w (Jumps to s) o = ⊥
-EndsWithValue w Strays o = ⊥
-EndsWithValue w Broken o = Unit {0}
+-- the same with a value as a long: its high word is on top
+abbrev pub long_valued : WordState → ℕ × List ℕ → WordState
+long_valued w x = record w { stack = x.0 / 65536 ∷ (x.0 % 65536 ∷ w.stack); readings = x.1 }
 
--- a program takes readings alone, and ends as an expression does: with its value pushed, or short of readings
+-- the end leaves the state that a value makes, or is short where there is none. A program that reads a local before it is assigned is
+-- broken, and then nothing is said
+abbrev pub EndsAt : (ℕ × List ℕ → WordState) → End → Option (ℕ × List ℕ) → Type 0
+EndsAt there (GoesOn s) (Some x) = s ≡ there x
+EndsAt there (GoesOn s) None = ⊥
+EndsAt there Short (Some x) = ⊥
+EndsAt there Short None = Unit {0}
+EndsAt there (Jumps to s) o = ⊥
+EndsAt there Strays o = ⊥
+EndsAt there Broken o = Unit {0}
+
+-- a program takes readings alone, and ends as an expression does: with the state that its value makes, or short of readings
+abbrev pub AgreesAt : (ℕ × List ℕ → WordState) → Behaviour → Option (ℕ × List ℕ) → Type 0
+AgreesAt there b o = OnlyTakes b.effects × EndsAt there b.end o
+
+-- the same with the value pushed
 abbrev pub AgreesWithValue : WordState → Behaviour → Option (ℕ × List ℕ) → Type 0
-AgreesWithValue w b o = OnlyTakes b.effects × EndsWithValue w b.end o
+AgreesWithValue w b o = AgreesAt (valued w) b o
 
--- the program of an expression leaves its value
+-- the same with the value pushed as a long
+abbrev pub AgreesWithLong : WordState → Behaviour → Option (ℕ × List ℕ) → Type 0
+AgreesWithLong w b o = AgreesAt (long_valued w) b o
+
+-- a value of one type as one of another
+abbrev pub converted_to : WordType → WordType → Option (ℕ × List ℕ) → Option (ℕ × List ℕ)
+converted_to from to o = o >>? λ x. Some (converted from to x.0, x.1)
+
+-- the program of an expression leaves its value, as one word
 abbrev pub ExpressionsAgree : Type 0
 ExpressionsAgree = (p : Places) (room : Room) (e : CheckedExpression) (m : Variables) (w : WordState) → AreApart p room → AreEven p
     → ExpressionFits p e → HoldVariables p m w.fram w.locals
-    → AgreesWithValue w (behaviour (lowered_expression p e) w) (value_of e m w.readings)
+    → AgreesWithValue w (behaviour (lowered_expression p e) w) (converted_to (type_of e) Unsigned (value_of e m w.readings))
+
+-- and the other its value as a long
+abbrev pub LongsAgree : Type 0
+LongsAgree = (p : Places) (room : Room) (e : CheckedExpression) (m : Variables) (w : WordState) → AreApart p room → AreEven p
+    → ExpressionFits p e → HoldVariables p m w.fram w.locals
+    → AgreesWithLong w (behaviour (lowered_long p e) w) (converted_to (type_of e) Long (value_of e m w.readings))
 
 -- a value as 1 where it isn't 0, else 0
 abbrev pub truth_value : ℕ × List ℕ → Option (ℕ × List ℕ)

@@ -1,27 +1,31 @@
 -- The word programs of expressions, statements and tasks.
-use Rattle.std.specs.Prelude.{ℕ, ◌%◌, ◌==◌, ◌&&◌, Bool, false, if◌then◌else◌, List, [], ◌∷◌, Option, Some, None, slice_get}
+use Rattle.std.specs.Prelude.{ℕ, ◌+◌, ◌/◌, ◌%◌, ◌==◌, ◌&&◌, Bool, false, if◌then◌else◌, List, [], ◌∷◌, Option, Some, None, slice_get}
 use Rattle.task_ast.specs.Tree as t
 use Rattle.task_ast.specs.Tree.{Task}
 use Rattle.task_ast.specs.Paths.{CheckedExpression, CheckedStatement, CheckedChoice, CheckedBlock}
+use Rattle.task_ast.specs.declared.WordType.{WordType}
+use Rattle.task_ast.specs.declared.WordType.TheVariants.{Unsigned, Int, Long}
 use Rattle.task_ast.specs.declared.UnaryOperator.{UnaryOperator}
 use Rattle.task_ast.specs.declared.UnaryOperator.TheVariants as unary_operator
 use Rattle.task_ast.specs.declared.BinaryOperator.{BinaryOperator}
 use Rattle.task_ast.specs.declared.PlacedOperator.{PlacedOperator}
+use Rattle.task_ast.specs.declared.ShiftOperator.{ShiftOperator}
 use Rattle.task_ast.specs.declared.ShortCircuitOperator.{ShortCircuitOperator}
 use Rattle.task_ast.specs.declared.ShortCircuitOperator.TheVariants.{And as BothHold, Or as OneHolds}
 use Rattle.task_ast.specs.declared.names.Variable.{Variable}
 use Rattle.task_ast.specs.declared.names.Variable.TheVariants.{Shared, Local}
 use Rattle.task_ast.specs.declared.names.VariableName.{VariableName}
 use Rattle.task_ast.specs.declared.names.TaskName.{TaskName}
-use Rattle.source_values.specs.Values.{joined_type, type_of}
+use Rattle.source_values.specs.Values.{by_width, joined_type, type_of}
 use Rattle.source_values.specs.Runs.{CheckedProgram}
 use Rattle.array_versions.specs.declared.operations.UnaryOperation.TheVariants.{Negate, Complement}
 use Rattle.array_versions.specs.declared.operations.PlainOperation.{PlainOperation}
-use Rattle.array_versions.specs.declared.operations.PlainOperation.TheVariants.{And}
+use Rattle.array_versions.specs.declared.operations.PlainOperation.TheVariants.{Subtract, And, Xor, Or}
 use Rattle.array_versions.specs.declared.operations.BinaryOperation.TheVariants.{Plain}
 use Rattle.array_versions.specs.declared.operations.Comparison.TheVariants.{CommonBit}
+use Rattle.array_versions.specs.declared.operations.LongOperation.TheVariants as with_longs
 use Rattle.array_versions.specs.Program.{Step, Test, Program, number, load, keep, update, local, set_local, update_local, unary, binary, shift, element}
-use Rattle.array_versions.specs.Program.{emit_word}
+use Rattle.array_versions.specs.Program.{long, emit_word}
 use Rattle.array_versions.specs.Program.{list_entry, sense}
 use Rattle.array_versions.specs.Program.{truth, choose, repeat, versioned_read, versioned_write, versioned_update, store_number, move_word, jump, holds}
 use Rattle.array_versions.specs.Program.{compares, both, either}
@@ -39,7 +43,11 @@ use Rattle.lower.specs.Runs.{runs_of}
 use Rattle.lower.specs.Seen.{map_seen}
 use Rattle.lower.specs.declared.operations.BinaryMeaning.{BinaryMeaning}
 use Rattle.lower.specs.declared.operations.BinaryMeaning.TheVariants.{Calculates, CommonBits, Holds, Fails}
-use Rattle.lower.specs.Operations.{binary_meaning, plain_operation, shift_operation}
+use Rattle.lower.specs.declared.operations.LongQuestion.{LongQuestion}
+use Rattle.lower.specs.declared.operations.LongQuestion.TheVariants as question
+use Rattle.lower.specs.declared.operations.LongMeaning.{LongMeaning}
+use Rattle.lower.specs.declared.operations.LongMeaning.TheVariants as meaning
+use Rattle.lower.specs.Operations.{binary_meaning, plain_operation, shift_operation, operand_type, long_meaning, long_shift}
 
 -- a program of one step
 abbrev pub one : Step → Program
@@ -60,6 +68,20 @@ abbrev pub update_step : Places → PlainOperation → Variable → Step
 update_step p op (Shared v) = update op (address_of p v)
 update_step p op (Local n) = update_local op (n % 65536)
 
+-- the address of the high word of a long: it stands right behind the low one
+abbrev pub high_address : ℕ → ℕ
+high_address address = (address + 2) % 65536
+
+-- pushes a variable as a long, which is two words with the high one on top. A local has one word
+abbrev pub read_long : Places → Variable → Program
+read_long p (Shared v) = step (load (address_of p v)) (step (load (high_address (address_of p v))) (one (long with_longs.Join)))
+read_long p (Local n) = step (local (n % 65536)) (step (number 0) (one (long with_longs.Join)))
+
+-- pops a long and sets a variable to it, the high word first
+abbrev pub write_long : Places → Variable → Program
+write_long p (Shared v) = step (keep (high_address (address_of p v))) (one (keep (address_of p v)))
+write_long p (Local n) = step (long with_longs.LowWord) (one (set_local (n % 65536)))
+
 -- the elements of an array, their copies and their version words
 abbrev pub array_place : ℕ → ℕ → ArrayCopies → ArrayPlace
 array_place elements length c = record { elements = elements; copies = c.copies; versions = c.versions; length = length }
@@ -77,7 +99,7 @@ list_place p = record { ver = word_place p.map Version; cln = word_place p.map L
 abbrev pub element_read : Places → Option VariablePlace → Step
 element_read p (Some (Array elements length (Some c))) = versioned_read (array_place elements length c) (list_place p)
 element_read p (Some (Array elements length None)) = element elements length
-element_read p (Some (Scalar home copy)) = element 0 0
+element_read p (Some (Scalar home copy width)) = element 0 0
 element_read p None = element 0 0
 
 -- the same of a variable
@@ -89,7 +111,7 @@ element_step p (Local n) = element 0 0
 abbrev pub written_array : Option VariablePlace → ArrayPlace
 written_array (Some (Array elements length (Some c))) = array_place elements length c
 written_array (Some (Array elements length None)) = no_array
-written_array (Some (Scalar home copy)) = no_array
+written_array (Some (Scalar home copy width)) = no_array
 written_array None = no_array
 
 -- the same by its variable
@@ -106,29 +128,67 @@ abbrev pub update_element_step : Places → PlainOperation → Variable → Step
 update_element_step p op x = versioned_update op (stored_array p x) (list_place p)
 
 -- what an expression comes to: a program that leaves its value on top of the stack; a test, its value being 1 where the test holds and else
--- 0; or a program that leaves two words, its value being the bits that are 1 in both
+-- 0; a program that leaves two words, its value being the bits that are 1 in both; or a program that leaves its value as a long
 pub data Lowering : Type 0 where
   as_word : Program → Lowering
   as_test : Test → Lowering
   as_bits : Program → Lowering
+  as_long : Program → Lowering
 
--- the program that leaves the value on top of the stack
+-- the program that leaves the value on top of the stack, as one word
 abbrev pub word_program : Lowering → Program
 word_program (as_word q) = q
 word_program (as_test c) = one (truth c)
 word_program (as_bits q) = behind q (binary (Plain And))
+word_program (as_long q) = behind q (long with_longs.LowWord)
 
 -- the test that the value isn't 0
 abbrev pub value_test : Lowering → Test
 value_test (as_word q) = holds q
 value_test (as_test c) = c
 value_test (as_bits q) = compares CommonBit q
+value_test (as_long q) = holds (behind q (binary (Plain Or)))
 
--- an operator in front: `!` is a test
+-- what makes a long of a word of this type: an int copies its sign
+abbrev pub widening : WordType → Program
+widening Int = one (long with_longs.Widen)
+widening Unsigned = step (number 0) (one (long with_longs.Join))
+widening Long = step (number 0) (one (long with_longs.Join))
+
+-- the program that leaves a long
+abbrev pub long_words : Lowering → Program
+long_words (as_word q) = joined q (widening Long)
+long_words (as_test c) = joined (one (truth c)) (widening Long)
+long_words (as_bits q) = joined (behind q (binary (Plain And))) (widening Long)
+long_words (as_long q) = q
+
+-- the program that leaves the value as a long, by its type
+abbrev pub long_program : WordType → Lowering → Program
+long_program of l = by_width of (joined (word_program l) (widening of)) (long_words l)
+
+-- a variable alone
+abbrev pub name_lowering : Places → WordType → Variable → Lowering
+name_lowering p of x = by_width of (as_word (one (read_step p x))) (as_long (read_long p x))
+
+-- an operator in front of a word: `!` is a test
 abbrev pub unary_lowering : UnaryOperator → Lowering → Lowering
 unary_lowering unary_operator.Negate l = as_word (behind (word_program l) (unary Negate))
 unary_lowering unary_operator.Complement l = as_word (behind (word_program l) (unary Complement))
 unary_lowering unary_operator.Not l = as_test (fails (value_test l))
+
+-- 0 as a long
+abbrev pub long_zero : Program
+long_zero = step (number 0) (one (number 0))
+
+-- the same in front of a long
+abbrev pub long_unary_lowering : UnaryOperator → Lowering → Lowering
+long_unary_lowering unary_operator.Negate l = as_long (behind (joined long_zero (long_words l)) (long (with_longs.Calculate Subtract)))
+long_unary_lowering unary_operator.Complement l = as_long (behind (long_words l) (long with_longs.Complement))
+long_unary_lowering unary_operator.Not l = as_test (fails (value_test l))
+
+-- by the type of the operand
+abbrev pub operand_lowering : WordType → UnaryOperator → Lowering → Lowering
+operand_lowering of op l = by_width of (unary_lowering op l) (long_unary_lowering op l)
 
 -- an operator of two sides, behind the program of both
 abbrev pub binary_lowering : BinaryMeaning → Program → Lowering
@@ -137,36 +197,66 @@ binary_lowering CommonBits sides = as_bits sides
 binary_lowering (Holds c) sides = as_test (compares c sides)
 binary_lowering (Fails c) sides = as_test (fails (compares c sides))
 
+-- behind the program of two longs: a word that isn't 0 where the answer to a question is yes
+abbrev pub answer : LongQuestion → Program → Program
+answer question.Below sides = behind sides (long with_longs.Below)
+answer question.Above sides = behind sides (long with_longs.Above)
+answer question.Differ sides = behind (behind sides (long (with_longs.Calculate Xor))) (binary (Plain Or))
+
+-- an operator of two longs, behind the program of both
+abbrev pub long_binary_lowering : LongMeaning → Program → Lowering
+long_binary_lowering (meaning.Calculates op) sides = as_long (behind sides (long (with_longs.Calculate op)))
+long_binary_lowering (meaning.Holds q) sides = as_test (holds (answer q sides))
+long_binary_lowering (meaning.Fails q) sides = as_test (fails (holds (answer q sides)))
+
+-- an operator of two sides of these types, by the type of the operands that it takes: both as words, or both as longs
+abbrev pub sides_lowering : WordType → BinaryOperator → WordType → WordType → Lowering → Lowering → Lowering
+sides_lowering of op s t left right =
+    by_width of (binary_lowering (binary_meaning op of) (joined (word_program left) (word_program right)))
+    (long_binary_lowering (long_meaning op) (joined (long_program s left) (long_program t right)))
+
+-- a shift, by the type of its left side
+abbrev pub shift_lowering : WordType → ShiftOperator → Lowering → ℕ → Lowering
+shift_lowering of op l count =
+    by_width of (as_word (behind (word_program l) (shift (shift_operation op of) count))) (as_long (behind (long_words l) (long (long_shift op count))))
+
 -- `&&` and `||` as tests
 abbrev pub sides_test : ShortCircuitOperator → Test → Test → Test
 sides_test BothHold c d = both c d
 sides_test OneHolds c d = either c d
 
--- An expression: the parts from left to right, then the operation by their types. Of a long number it is the low word: a source with longs is
--- not compiled.
+-- an expression: the parts from left to right, then the operation by their types
 abbrev pub lowering : Places → CheckedExpression → Lowering
 lowering p (t.number w) = as_word (one (number w))
-lowering p (t.long_number w) = as_word (one (number (w % 65536)))
-lowering p (t.name x) = as_word (one (read_step p x.variable))
+lowering p (t.long_number w) = as_long (step (number (w % 65536)) (one (number (w / 65536))))
+lowering p (t.name x) = name_lowering p x.word_type x.variable
 lowering p (t.element x index) = as_word (behind (word_program (lowering p index)) (element_step p x.variable))
 lowering p t.sense = as_word (one sense)
-lowering p (t.unary op e) = unary_lowering op (lowering p e)
+lowering p (t.unary op e) = operand_lowering (type_of e) op (lowering p e)
 lowering p (t.binary op a b) =
-    binary_lowering (binary_meaning op.operator (joined_type (type_of a) (type_of b))) (joined (word_program (lowering p a)) (word_program (lowering p b)))
-lowering p (t.shift op e count) = as_word (behind (word_program (lowering p e)) (shift (shift_operation op (type_of e)) count.value))
+    sides_lowering (operand_type op.operator (joined_type (type_of a) (type_of b))) op.operator (type_of a) (type_of b) (lowering p a) (lowering p b)
+lowering p (t.shift op e count) = shift_lowering (type_of e) op (lowering p e) count.value
 lowering p (t.short_circuit op a b) = as_test (sides_test op (value_test (lowering p a)) (value_test (lowering p b)))
 
--- an expression's value, on top of the stack
+-- an expression's value as one word, on top of the stack
 abbrev pub lowered_expression : Places → CheckedExpression → Program
 lowered_expression p e = word_program (lowering p e)
+
+-- an expression's value as a long, on top of the stack
+abbrev pub lowered_long : Places → CheckedExpression → Program
+lowered_long p e = long_program (type_of e) (lowering p e)
 
 -- the test that an expression's value isn't 0
 abbrev pub lowered_test : Places → CheckedExpression → Test
 lowered_test p e = value_test (lowering p e)
 
--- sets a variable to an expression's value
+-- sets a variable of one word to an expression's value
 abbrev pub setting : Places → Variable → CheckedExpression → Program
 setting p x e = behind (lowered_expression p e) (write_step p x)
+
+-- sets a long to an expression's value
+abbrev pub long_setting : Places → Variable → CheckedExpression → Program
+long_setting p x e = joined (lowered_long p e) (write_long p x)
 
 -- whether two variables are one
 abbrev pub is_same : Variable → Variable → Bool
@@ -183,15 +273,23 @@ is_name x _ = false
 abbrev pub updating : Variable → BinaryOperator → CheckedExpression → Option PlainOperation
 updating x op a = if is_name x a then plain_operation op else None
 
+-- the operation, where it is one of words
+abbrev pub of_words : WordType → Option PlainOperation → Option PlainOperation
+of_words of o = by_width of o None
+
 -- sets a variable to what an operator gives of two sides: in place, where an operation does
 abbrev pub sides_set : Places → Variable → PlacedOperator → CheckedExpression → CheckedExpression → Option PlainOperation → Program
 sides_set p x op a b None = setting p x (t.binary op a b)
 sides_set p x op a b (Some o) = behind (lowered_expression p b) (update_step p o x)
 
--- an assignment; `x = x + e` and its like are in place, since `e` leaves x
+-- an assignment to a variable of one word; `x = x + e` and its like are in place, since `e` leaves x, where both sides are of one word
 abbrev pub assignment : Places → Variable → CheckedExpression → Program
-assignment p x (t.binary op a b) = sides_set p x op a b (updating x op.operator a)
+assignment p x (t.binary op a b) = sides_set p x op a b (of_words (joined_type (type_of a) (type_of b)) (updating x op.operator a))
 assignment p x e = setting p x e
+
+-- an assignment, by the type of the variable
+abbrev pub scalar_assignment : Places → WordType → Variable → CheckedExpression → Program
+scalar_assignment p of x e = by_width of (assignment p x e) (long_setting p x e)
 
 -- an index and an expression's value, on top of the stack: the index is evaluated first
 abbrev pub index_and_value : Places → CheckedExpression → CheckedExpression → Program
@@ -226,12 +324,14 @@ abbrev pub element_sides_set : Places → Variable → CheckedExpression → Pla
 element_sides_set p x index op a b None = element_setting p x index (t.binary op a b)
 element_sides_set p x index op a b (Some o) = behind (index_and_value p index b) (update_element_step p o x)
 
--- an assignment to an element; `a[i] = a[i] + e` and its like are in place, since `e` leaves the element and its index
+-- an assignment to an element; `a[i] = a[i] + e` and its like are in place, since `e` leaves the element and its index, where both sides are
+-- of one word
 abbrev pub element_assignment : Places → Variable → CheckedExpression → CheckedExpression → Program
-element_assignment p x index (t.binary op a b) = element_sides_set p x index op a b (element_updating x index op.operator a)
+element_assignment p x index (t.binary op a b) =
+    element_sides_set p x index op a b (of_words (joined_type (type_of a) (type_of b)) (element_updating x index op.operator a))
 element_assignment p x index e = element_setting p x index e
 
--- a declaration without a value has no steps
+-- a declaration without a value has no steps; a local has one word
 abbrev pub declaration : Places → Variable → Option CheckedExpression → Program
 declaration p x None = nothing
 declaration p x (Some e) = assignment p x e
@@ -263,7 +363,7 @@ abbrev mutual
   -- what a statement does
   pub lowered_statement : Places → CheckedStatement → Program
   lowered_statement p (t.declare of x value) = declaration p x.variable value
-  lowered_statement p (t.assign x e) = assignment p x.variable e
+  lowered_statement p (t.assign x e) = scalar_assignment p x.word_type x.variable e
   lowered_statement p (t.store x index e) = element_assignment p x.variable index e
   lowered_statement p (t.choose choice) = lowered_choice p choice
   lowered_statement p (t.loop x from tested below stepped body) = one (repeat (loop_local x.variable) from below (lowered_block p body))

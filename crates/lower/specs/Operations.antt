@@ -1,5 +1,6 @@
 -- What the operators of a source stand for.
-use Rattle.std.specs.Prelude.{Option, Some, None}
+use Rattle.std.specs.Prelude.{ℕ, if◌then◌else◌, Option, Some, None}
+use Rattle.task_check.specs.Occurrences.{is_refused}
 use Rattle.task_ast.specs.declared.WordType.{WordType}
 use Rattle.task_ast.specs.declared.WordType.TheVariants.{Unsigned, Int, Long}
 use Rattle.task_ast.specs.declared.BinaryOperator.{BinaryOperator}
@@ -13,8 +14,13 @@ use Rattle.array_versions.specs.declared.operations.Comparison.{Comparison}
 use Rattle.array_versions.specs.declared.operations.Comparison.TheVariants.{Equal, Below, Above, SignedBelow, SignedAbove}
 use Rattle.array_versions.specs.declared.operations.ShiftOperation.{ShiftOperation}
 use Rattle.array_versions.specs.declared.operations.ShiftOperation.TheVariants.{Left, Right, SignedRight}
+use Rattle.array_versions.specs.declared.operations.LongOperation.{LongOperation}
+use Rattle.array_versions.specs.declared.operations.LongOperation.TheVariants.{ShiftLeft, ShiftRight}
 use Rattle.lower.specs.declared.operations.BinaryMeaning.{BinaryMeaning}
 use Rattle.lower.specs.declared.operations.BinaryMeaning.TheVariants.{Calculates, CommonBits, Holds, Fails}
+use Rattle.lower.specs.declared.operations.LongQuestion.TheVariants as question
+use Rattle.lower.specs.declared.operations.LongMeaning.{LongMeaning}
+use Rattle.lower.specs.declared.operations.LongMeaning.TheVariants as meaning
 
 -- whether one word is below another, by their joined type: as signed words where both are ints
 abbrev pub below : WordType → Comparison
@@ -60,3 +66,28 @@ shift_operation shift_operator.Left t = Left
 shift_operation shift_operator.Right Unsigned = Right
 shift_operation shift_operator.Right Long = Right
 shift_operation shift_operator.Right Int = SignedRight
+
+-- ---- the same of longs
+
+-- the type of the two operands that an operator takes, by their joined type: low words, where the checks refuse longs
+abbrev pub operand_type : BinaryOperator → WordType → WordType
+operand_type op of = if is_refused op of then Unsigned else of
+
+-- what an operator gives of two longs. `*`, `/` and `%` take none, and a sum stands for them here
+abbrev pub long_meaning : BinaryOperator → LongMeaning
+long_meaning operator.Subtract = meaning.Calculates plain.Subtract
+long_meaning operator.And = meaning.Calculates plain.And
+long_meaning operator.Xor = meaning.Calculates plain.Xor
+long_meaning operator.Or = meaning.Calculates plain.Or
+long_meaning operator.Less = meaning.Holds question.Below
+long_meaning operator.LessEqual = meaning.Fails question.Above
+long_meaning operator.Greater = meaning.Holds question.Above
+long_meaning operator.GreaterEqual = meaning.Fails question.Below
+long_meaning operator.Equal = meaning.Fails question.Differ
+long_meaning operator.NotEqual = meaning.Holds question.Differ
+long_meaning _ = meaning.Calculates plain.Add
+
+-- the shift of a long by a count of bits
+abbrev pub long_shift : ShiftOperator → ℕ → LongOperation
+long_shift shift_operator.Left k = ShiftLeft k
+long_shift shift_operator.Right k = ShiftRight k

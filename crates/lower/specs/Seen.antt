@@ -14,7 +14,7 @@ some_path_writes body v = (block_sum (summary (Shared v)) body).writes
 
 -- the place of a variable in a task that writes it, and in one that doesn't
 abbrev pub place_seen : Bool → VariablePlace → VariablePlace
-place_seen written (Scalar home copy) = Scalar home copy
+place_seen written (Scalar home copy width) = Scalar home copy width
 place_seen true (Array elements length copies) = Array elements length copies
 place_seen false (Array elements length copies) = Array elements length None
 

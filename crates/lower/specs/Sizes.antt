@@ -4,12 +4,12 @@ use Rattle.task_ast.specs.Paths.{CheckedExpression, CheckedBlock}
 use Rattle.cost_bound.specs.Table.{cycles_column, words_column, expression_price, block_price}
 use Rattle.array_versions.specs.Behaviour.{WordState, End, GoesOn, Jumps, Short, Strays, Broken, behaviour}
 use Rattle.array_versions.specs.Cost.{cycles_of, words_of, spent}
-use Rattle.memory_map.specs.Spots.{Places}
+use Rattle.memory_map.specs.Spots.{Places, private_words}
 use Rattle.lower.specs.Lowered.{lowered_expression, lowered_block}
 
--- the words of statements' code, in a task with at most so many private scalars
+-- the words of statements' code, in a task whose private scalars have at most so many words
 abbrev pub BlocksKeepToWords : Type 0
-BlocksKeepToWords = (p : Places) (scalars : ℕ) (block : CheckedBlock) → length p.privates ≤ scalars
+BlocksKeepToWords = (p : Places) (scalars : ℕ) (block : CheckedBlock) → private_words p.privates ≤ scalars
     → words_of (lowered_block p block) ≤ block_price (words_column scalars) block
 
 -- the cycles of an expression, with 11 to spare: a test has them

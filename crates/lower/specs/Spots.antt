@@ -3,7 +3,7 @@ use Rattle.std.specs.Prelude.{◌≡◌, ℕ, ◌+◌, ◌*◌, ◌%◌, ◌≤�
 use Rattle.memory_map.specs.address_space.Limits.{fram_first, fram_end, reset_vector}
 use Rattle.memory_map.specs.MemoryMap.{row_region}
 use Rattle.memory_map.specs.Places.{end_of}
-use Rattle.memory_map.specs.Spots.{Places, Element, IsCopied, Spot, IsSpot, spot_address}
+use Rattle.memory_map.specs.Spots.{Places, private_words, Element, IsCopied, Spot, IsSpot, spot_address}
 
 -- for how many words an attempt has room: words that it emits, and words that the commit list names
 pub record Room : Type 0 where
@@ -44,6 +44,6 @@ pub record AreListed (p : Places) (xs : List Element) : Type 0 where
   pub copied : All (IsCopied p) xs
   pub different : AllPairs AreDifferent xs
 
--- the commit list has room for the private scalars and for elements of which so many of each array are listed
+-- the commit list has room for the words of the private scalars and for elements of which so many of each array are listed
 abbrev pub HasRoom : Places → (ℕ → ℕ) → Room → Type 0
-HasRoom p stores room = (xs : List Element) → AreListed p xs → ((v : ℕ) → listed_of v xs ≤ stores v) → length xs + length p.privates ≤ room.list
+HasRoom p stores room = (xs : List Element) → AreListed p xs → ((v : ℕ) → listed_of v xs ≤ stores v) → length xs + private_words p.privates ≤ room.list

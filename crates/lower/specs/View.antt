@@ -2,9 +2,9 @@
 use Rattle.array_versions.specs.View.{program_of, test_of}
 use Rattle.memory_map.specs.Spots.{Places}
 use Rattle.lower.specs.declared.expressions.ExpressionProgram.{ExpressionProgram}
-use Rattle.lower.specs.declared.expressions.ExpressionProgram.TheVariants.{Word, Test, Bits}
+use Rattle.lower.specs.declared.expressions.ExpressionProgram.TheVariants.{Word, Test, Bits, Long}
 use Rattle.lower.specs.declared.places.TaskPlaces.{TaskPlaces}
-use Rattle.lower.specs.Lowered.{Lowering, as_word, as_test, as_bits}
+use Rattle.lower.specs.Lowered.{Lowering, as_word, as_test, as_bits, as_long}
 
 -- what a task has of a memory map, as it stands in memory
 abbrev pub places_in : TaskPlaces → Places
@@ -15,3 +15,4 @@ abbrev pub lowering_of : ExpressionProgram → Lowering
 lowering_of (Word p) = as_word (program_of p)
 lowering_of (Test c) = as_test (test_of c)
 lowering_of (Bits p) = as_bits (program_of p)
+lowering_of (Long p) = as_long (program_of p)

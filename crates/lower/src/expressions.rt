@@ -1,24 +1,35 @@
-//! The programs of expressions, which leave the expression's value on top of the stack, and the tests that expressions are.
+//! The programs of expressions, which leave the expression's value on top of the stack, as one word or as a long, and the tests that
+//! expressions are.
 ghost use Rattle.std.specs.Prelude.{◌≡◌, OnOk, IfOk};
 ghost use Rattle.array_versions.specs.Program.{joined, behind};
 ghost use Rattle.array_versions.specs.Program as step;
 ghost use Rattle.array_versions.specs.View.{program_of, test_of};
+ghost use Rattle.array_versions.specs.declared.operations.LongOperation.TheVariants as with_longs;
 ghost use Rattle.task_ast.specs.View.{expression_of};
 ghost use Rattle.source_values.specs.Values.{type_of};
 ghost use Rattle.task_ast.specs.declared.names.Variable.TheVariants.{Shared};
 ghost use Rattle.lower.specs.View.{places_in, lowering_of};
-ghost use Rattle.lower.specs.Lowered.{read_step, element_step, word_program, value_test, unary_lowering, binary_lowering, sides_test, lowering};
-ghost use Rattle.lower.specs.Lowered.{as_word, as_test, lowered_expression, lowered_test};
+ghost use Rattle.lower.specs.Lowered.{one, read_step, read_long, element_step, word_program, value_test, widening, name_lowering};
+ghost use Rattle.lower.specs.Lowered.{long_words, long_program, unary_lowering, long_unary_lowering, operand_lowering, binary_lowering, answer, long_binary_lowering};
+ghost use Rattle.lower.specs.Lowered.{sides_lowering, shift_lowering, sides_test, lowering};
+ghost use Rattle.lower.specs.Lowered.{as_word, as_test, as_bits, as_long, lowered_expression, lowered_long, lowered_test};
 
-use crate::operations::{BinaryMeaning, binary_meaning, shift_operation};
-use crate::places::{TaskPlaces, array_place, local_number};
+use crate::operations::{
+    BinaryMeaning, LongMeaning, LongQuestion, binary_meaning, long_meaning, long_shift,
+    operand_type, shift_operation,
+};
+use crate::places::{TaskPlaces, array_place, high_address, local_number};
 use array_versions::{
-    BinaryOperation, Comparison, PlainOperation, UnaryOperation, WordProgram, WordTest,
+    BinaryOperation, Comparison, LongOperation, PlainOperation, UnaryOperation, WordProgram,
+    WordTest,
 };
 use memory_map::VariablePlace;
 use std::alloc::{AllocError, Global};
 use task_ast::types::{binary_type, joined_type, literal_type, unary_type};
-use task_ast::{Expr, ShortCircuitOperator, UnaryOperator, Variable, VariableName, WordType};
+use task_ast::{
+    BinaryOperator, Expr, ShiftOperator, ShortCircuitOperator, UnaryOperator, Variable,
+    VariableName, WordType,
+};
 
 /// What an expression comes to.
 #[derive(Drop)]
@@ -29,6 +40,8 @@ pub enum ExpressionProgram {
     Test(WordTest),
     /// A program that leaves two words; the value is the bits that are 1 in both.
     Bits(WordProgram),
+    /// A program that leaves the value as a long on top of the stack.
+    Long(WordProgram),
 }
 
 fn read(
@@ -42,6 +55,52 @@ fn read(
     match variable {
         Variable::Shared(number) => program.load(places.address_of(number)),
         Variable::Local(number) => program.local(local_number(number)),
+    }
+}
+
+// A variable as a long. A local has one word.
+#[tactic(auto, using(array_versions::proofs::Interface::joined_assoc))]
+fn read_long(
+    variable: Variable,
+    places: &TaskPlaces<'_>,
+    program: &mut WordProgram,
+) -> Result<(), AllocError>
+    ensures { OnOk result (program_of program.new
+        ≡ joined (program_of program.old) (read_long (places_in places.now) variable)) }
+{
+    match variable {
+        Variable::Shared(number) => {
+            let address = places.address_of(number);
+            program.load(address)?;
+            program.load(high_address(address))?;
+        }
+        Variable::Local(number) => {
+            program.local(local_number(number))?;
+            program.number(0)?;
+        }
+    }
+    program.long(LongOperation::Join)
+}
+
+// A variable alone, by its type.
+fn name(
+    alloc: Global,
+    word_type: WordType,
+    variable: Variable,
+    places: &TaskPlaces<'_>,
+) -> Result<ExpressionProgram, AllocError>
+    ensures { IfOk result (λ l. lowering_of l ≡ name_lowering (places_in places.now) word_type variable) }
+{
+    let mut program = WordProgram::new(alloc);
+    match word_type {
+        WordType::Long => {
+            read_long(variable, places, &mut program)?;
+            Ok(ExpressionProgram::Long(program))
+        }
+        WordType::Int | WordType::Unsigned => {
+            read(variable, places, &mut program)?;
+            Ok(ExpressionProgram::Word(program))
+        }
     }
 }
 
@@ -92,37 +151,99 @@ fn read_element(
     }
 }
 
-// The program that leaves the value on top of the stack.
+// The truth of a test as a word.
+fn truth(alloc: Global, test: WordTest) -> Result<WordProgram, AllocError>
+    ensures { IfOk result (λ p. program_of p ≡ one (step.truth (test_of test))) }
+{
+    let mut program = WordProgram::new(alloc);
+    program.truth(test)?;
+    Ok(program)
+}
+
+// The bits that are 1 in both of the two words that a program leaves.
+fn common_bits(sides: WordProgram) -> Result<WordProgram, AllocError>
+    ensures { IfOk result (λ p. program_of p ≡ word_program (as_bits (program_of sides))) }
+{
+    let mut program = sides;
+    program.binary(BinaryOperation::Plain(PlainOperation::And))?;
+    Ok(program)
+}
+
+// The program that leaves the value on top of the stack, as one word.
 fn into_program(alloc: Global, e: ExpressionProgram) -> Result<WordProgram, AllocError>
     ensures { IfOk result (λ p. program_of p ≡ word_program (lowering_of e)) }
 {
     match e {
         ExpressionProgram::Word(program) => Ok(program),
-        ExpressionProgram::Test(test) => {
-            let mut program = WordProgram::new(alloc);
-            program.truth(test)?;
+        ExpressionProgram::Test(test) => truth(alloc, test),
+        ExpressionProgram::Bits(sides) => common_bits(sides),
+        ExpressionProgram::Long(words) => {
+            let mut program = words;
+            program.long(LongOperation::LowWord)?;
             Ok(program)
         }
-        ExpressionProgram::Bits(sides) => {
-            let mut program = sides;
-            program.binary(BinaryOperation::Plain(PlainOperation::And))?;
-            Ok(program)
+    }
+}
+
+// Makes a long of the word of this type that a program leaves: an int copies its sign.
+#[tactic(auto, using(array_versions::proofs::Interface::joined_assoc))]
+fn widened(word_type: WordType, word: WordProgram) -> Result<WordProgram, AllocError>
+    ensures { IfOk result (λ p. program_of p ≡ joined (program_of word) (widening word_type)) }
+{
+    let mut program = word;
+    match word_type {
+        WordType::Int => program.long(LongOperation::Widen)?,
+        WordType::Unsigned | WordType::Long => {
+            program.number(0)?;
+            program.long(LongOperation::Join)?;
         }
+    }
+    Ok(program)
+}
+
+// The program that leaves a long.
+fn long_words(alloc: Global, e: ExpressionProgram) -> Result<WordProgram, AllocError>
+    ensures { IfOk result (λ p. program_of p ≡ long_words (lowering_of e)) }
+{
+    match e {
+        ExpressionProgram::Word(program) => widened(WordType::Long, program),
+        ExpressionProgram::Test(test) => widened(WordType::Long, truth(alloc, test)?),
+        ExpressionProgram::Bits(sides) => widened(WordType::Long, common_bits(sides)?),
+        ExpressionProgram::Long(program) => Ok(program),
+    }
+}
+
+// The program that leaves the value as a long, by its type.
+fn into_long(
+    alloc: Global,
+    word_type: WordType,
+    e: ExpressionProgram,
+) -> Result<WordProgram, AllocError>
+    ensures { IfOk result (λ p. program_of p ≡ long_program word_type (lowering_of e)) }
+{
+    match word_type {
+        WordType::Long => long_words(alloc, e),
+        WordType::Int | WordType::Unsigned => widened(word_type, into_program(alloc, e)?),
     }
 }
 
 // The test that the value isn't 0.
-fn into_test(e: ExpressionProgram) -> WordTest
-    ensures { test_of result ≡ value_test (lowering_of e) }
+fn into_test(e: ExpressionProgram) -> Result<WordTest, AllocError>
+    ensures { IfOk result (λ c. test_of c ≡ value_test (lowering_of e)) }
 {
     match e {
-        ExpressionProgram::Word(program) => WordTest::holds(program),
-        ExpressionProgram::Test(test) => test,
-        ExpressionProgram::Bits(sides) => WordTest::compares(Comparison::CommonBit, sides),
+        ExpressionProgram::Word(program) => Ok(WordTest::holds(program)),
+        ExpressionProgram::Test(test) => Ok(test),
+        ExpressionProgram::Bits(sides) => Ok(WordTest::compares(Comparison::CommonBit, sides)),
+        ExpressionProgram::Long(words) => {
+            let mut program = words;
+            program.binary(BinaryOperation::Plain(PlainOperation::Or))?;
+            Ok(WordTest::holds(program))
+        }
     }
 }
 
-// An operation on the value.
+// An operation on a word.
 fn calculated(
     alloc: Global,
     operation: UnaryOperation,
@@ -136,7 +257,15 @@ fn calculated(
     Ok(ExpressionProgram::Word(program))
 }
 
-// An operator in front.
+// `!`: the test that fails where the value isn't 0.
+fn turned(alloc: Global, e: ExpressionProgram) -> Result<ExpressionProgram, AllocError>
+    ensures { IfOk result (λ l. lowering_of l ≡ as_test (step.fails (value_test (lowering_of e)))) }
+{
+    let test = WordTest::fails(alloc, into_test(e)?)?;
+    Ok(ExpressionProgram::Test(test))
+}
+
+// An operator in front of a word.
 fn unary(
     alloc: Global,
     op: UnaryOperator,
@@ -147,10 +276,59 @@ fn unary(
     match op {
         UnaryOperator::Negate => calculated(alloc, UnaryOperation::Negate, e),
         UnaryOperator::Complement => calculated(alloc, UnaryOperation::Complement, e),
-        UnaryOperator::Not => {
-            let test = WordTest::fails(alloc, into_test(e))?;
-            Ok(ExpressionProgram::Test(test))
+        UnaryOperator::Not => turned(alloc, e),
+    }
+}
+
+// An operation on two longs, behind the program of both.
+fn long_calculated(
+    operation: PlainOperation,
+    sides: WordProgram,
+) -> Result<ExpressionProgram, AllocError>
+    ensures { IfOk result (λ l. lowering_of l ≡ as_long (behind (program_of sides) (step.long (with_longs.Calculate operation)))) }
+{
+    let mut program = sides;
+    program.long(LongOperation::Calculate(operation))?;
+    Ok(ExpressionProgram::Long(program))
+}
+
+// An operator in front of a long: `-` takes it from 0.
+fn long_unary(
+    alloc: Global,
+    op: UnaryOperator,
+    e: ExpressionProgram,
+) -> Result<ExpressionProgram, AllocError>
+    ensures { IfOk result (λ l. lowering_of l ≡ long_unary_lowering op (lowering_of e)) }
+{
+    match op {
+        UnaryOperator::Negate => {
+            let mut sides = WordProgram::new(alloc);
+            sides.number(0)?;
+            sides.number(0)?;
+            append(&mut sides, long_words(alloc, e)?)?;
+            long_calculated(PlainOperation::Subtract, sides)
         }
+        UnaryOperator::Complement => {
+            let mut program = long_words(alloc, e)?;
+            program.long(LongOperation::Complement)?;
+            Ok(ExpressionProgram::Long(program))
+        }
+        UnaryOperator::Not => turned(alloc, e),
+    }
+}
+
+// An operator in front, by the type of the operand.
+fn of_operand(
+    alloc: Global,
+    word_type: WordType,
+    op: UnaryOperator,
+    e: ExpressionProgram,
+) -> Result<ExpressionProgram, AllocError>
+    ensures { IfOk result (λ l. lowering_of l ≡ operand_lowering word_type op (lowering_of e)) }
+{
+    match word_type {
+        WordType::Long => long_unary(alloc, op, e),
+        WordType::Int | WordType::Unsigned => unary(alloc, op, e),
     }
 }
 
@@ -179,6 +357,93 @@ fn binary(
     }
 }
 
+// Behind the program of two longs: a word that isn't 0 where the answer to a question is yes.
+fn answer(question: LongQuestion, sides: WordProgram) -> Result<WordProgram, AllocError>
+    ensures { IfOk result (λ p. program_of p ≡ answer question (program_of sides)) }
+{
+    let mut program = sides;
+    match question {
+        LongQuestion::Below => program.long(LongOperation::Below)?,
+        LongQuestion::Above => program.long(LongOperation::Above)?,
+        LongQuestion::Differ => {
+            program.long(LongOperation::Calculate(PlainOperation::Xor))?;
+            program.binary(BinaryOperation::Plain(PlainOperation::Or))?;
+        }
+    }
+    Ok(program)
+}
+
+// An operator of two longs, behind the program of both.
+fn long_binary(
+    alloc: Global,
+    meaning: LongMeaning,
+    sides: WordProgram,
+) -> Result<ExpressionProgram, AllocError>
+    ensures { IfOk result (λ l. lowering_of l ≡ long_binary_lowering meaning (program_of sides)) }
+{
+    match meaning {
+        LongMeaning::Calculates(operation) => long_calculated(operation, sides),
+        LongMeaning::Holds(question) => {
+            Ok(ExpressionProgram::Test(WordTest::holds(answer(question, sides)?)))
+        }
+        LongMeaning::Fails(question) => {
+            let test = WordTest::fails(alloc, WordTest::holds(answer(question, sides)?))?;
+            Ok(ExpressionProgram::Test(test))
+        }
+    }
+}
+
+// An operator of two sides, each with its type, by the type of the operands that it takes.
+fn of_sides(
+    alloc: Global,
+    operands: WordType,
+    op: BinaryOperator,
+    left: (ExpressionProgram, WordType),
+    right: (ExpressionProgram, WordType),
+) -> Result<ExpressionProgram, AllocError>
+    ensures { IfOk result (λ l. lowering_of l
+        ≡ sides_lowering operands op left.1 right.1 (lowering_of left.0) (lowering_of right.0)) }
+{
+    let (first, first_type) = left;
+    let (second, second_type) = right;
+    match operands {
+        WordType::Long => {
+            let mut sides = into_long(alloc, first_type, first)?;
+            append(&mut sides, into_long(alloc, second_type, second)?)?;
+            long_binary(alloc, long_meaning(op), sides)
+        }
+        WordType::Int | WordType::Unsigned => {
+            let mut sides = into_program(alloc, first)?;
+            append(&mut sides, into_program(alloc, second)?)?;
+            binary(alloc, binary_meaning(op, operands), sides)
+        }
+    }
+}
+
+// A shift, by the type of its left side.
+fn shifted(
+    alloc: Global,
+    word_type: WordType,
+    op: ShiftOperator,
+    e: ExpressionProgram,
+    count: u16,
+) -> Result<ExpressionProgram, AllocError>
+    ensures { IfOk result (λ l. lowering_of l ≡ shift_lowering word_type op (lowering_of e) count) }
+{
+    match word_type {
+        WordType::Long => {
+            let mut program = long_words(alloc, e)?;
+            program.long(long_shift(op, count))?;
+            Ok(ExpressionProgram::Long(program))
+        }
+        WordType::Int | WordType::Unsigned => {
+            let mut program = into_program(alloc, e)?;
+            program.shift(shift_operation(op, word_type), count)?;
+            Ok(ExpressionProgram::Word(program))
+        }
+    }
+}
+
 // `&&` or `||` of two tests.
 fn short_circuit(
     alloc: Global,
@@ -195,7 +460,7 @@ fn short_circuit(
     Ok(ExpressionProgram::Test(test))
 }
 
-// The program that leaves an expression's value on top of the stack, and its type.
+// The program that leaves an expression's value on top of the stack, as one word, and its type.
 #[cycle(expression)]
 fn value(
     alloc: Global,
@@ -236,13 +501,10 @@ fn lower(
         Expr::LongNumber(n) => {
             let mut program = WordProgram::new(alloc);
             program.number((*n % 65536) as u16)?;
-            Ok((ExpressionProgram::Word(program), WordType::Long))
+            program.number((*n / 65536) as u16)?;
+            Ok((ExpressionProgram::Long(program), WordType::Long))
         }
-        Expr::Name(x) => {
-            let mut program = WordProgram::new(alloc);
-            read(x.variable, places, &mut program)?;
-            Ok((ExpressionProgram::Word(program), x.word_type))
-        }
+        Expr::Name(x) => Ok((name(alloc, x.word_type, x.variable, places)?, x.word_type)),
         Expr::Element(x, index) => {
             let (mut program, _) = value(alloc, index, places)?;
             read_element(x.variable, places, &mut program)?;
@@ -255,33 +517,36 @@ fn lower(
         }
         Expr::Unary(op, operand) => {
             let (operand, word_type) = lower(alloc, operand, places)?;
-            Ok((unary(alloc, *op, operand)?, unary_type(*op, word_type)))
+            let program = of_operand(alloc, word_type, *op, operand)?;
+            Ok((program, unary_type(*op, word_type)))
         }
         Expr::Binary(op, a, b) => {
-            let (mut sides, left) = value(alloc, a, places)?;
-            let (second, right) = value(alloc, b, places)?;
-            append(&mut sides, second)?;
-            let meaning = binary_meaning(op.operator, joined_type(left, right));
-            Ok((
-                binary(alloc, meaning, sides)?,
-                binary_type(op.operator, left, right),
-            ))
+            let (left, left_type) = lower(alloc, a, places)?;
+            let (right, right_type) = lower(alloc, b, places)?;
+            let program = of_sides(
+                alloc,
+                operand_type(op.operator, joined_type(left_type, right_type)),
+                op.operator,
+                (left, left_type),
+                (right, right_type),
+            )?;
+            Ok((program, binary_type(op.operator, left_type, right_type)))
         }
         Expr::Shift(op, operand, count) => {
-            let (mut program, word_type) = value(alloc, operand, places)?;
-            program.shift(shift_operation(*op, word_type), count.value)?;
-            Ok((ExpressionProgram::Word(program), word_type))
+            let (operand, word_type) = lower(alloc, operand, places)?;
+            let program = shifted(alloc, word_type, *op, operand, count.value)?;
+            Ok((program, word_type))
         }
         Expr::ShortCircuit(op, a, b) => {
             let (left, _) = lower(alloc, a, places)?;
             let (right, _) = lower(alloc, b, places)?;
-            let program = short_circuit(alloc, *op, into_test(left), into_test(right))?;
+            let program = short_circuit(alloc, *op, into_test(left)?, into_test(right)?)?;
             Ok((program, WordType::Int))
         }
     }
 }
 
-/// The program that leaves an expression's value on top of the stack.
+/// The program that leaves an expression's value on top of the stack, as one word.
 pub fn lower_expression(
     alloc: Global,
     e: &Expr<VariableName>,
@@ -293,6 +558,18 @@ pub fn lower_expression(
     Ok(program)
 }
 
+/// The program that leaves an expression's value on top of the stack, as a long.
+pub fn lower_long(
+    alloc: Global,
+    e: &Expr<VariableName>,
+    places: &TaskPlaces<'_>,
+) -> Result<WordProgram, AllocError>
+    ensures { IfOk result (λ p. program_of p ≡ lowered_long (places_in places.now) (expression_of e.now)) }
+{
+    let (program, word_type) = lower(alloc, e, places)?;
+    into_long(alloc, word_type, program)
+}
+
 /// The test that an expression's value isn't 0.
 pub fn lower_test(
     alloc: Global,
@@ -302,5 +579,5 @@ pub fn lower_test(
     ensures { IfOk result (λ c. test_of c ≡ lowered_test (places_in places.now) (expression_of e.now)) }
 {
     let (program, _) = lower(alloc, e, places)?;
-    Ok(into_test(program))
+    into_test(program)
 }

@@ -1,11 +1,11 @@
 //! What an assignment in place does: where the left side of its operator is what is assigned.
 ghost use Rattle.std.specs.Prelude.{◌≡◌};
 ghost use Rattle.task_ast.specs.View.{expression_of};
-ghost use Rattle.lower.specs.Lowered.{is_same, is_name, updating, is_number, are_alike, is_element, element_updating};
+ghost use Rattle.lower.specs.Lowered.{is_same, is_name, updating, of_words, is_number, are_alike, is_element, element_updating};
 
 use crate::operations::plain_operation;
 use array_versions::PlainOperation;
-use task_ast::{BinaryOperator, Expr, Variable, VariableName};
+use task_ast::{BinaryOperator, Expr, Variable, VariableName, WordType};
 
 // Whether two variables are one.
 fn is_same(first: Variable, second: Variable) -> bool
@@ -48,6 +48,16 @@ pub fn updating(
         plain_operation(op)
     } else {
         None
+    }
+}
+
+/// The operation, where it is one of words.
+pub fn of_words(word_type: WordType, operation: Option<PlainOperation>) -> Option<PlainOperation>
+    ensures { result ≡ of_words word_type operation }
+{
+    match word_type {
+        WordType::Long => None,
+        WordType::Int | WordType::Unsigned => operation,
     }
 }
 

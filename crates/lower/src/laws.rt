@@ -1,12 +1,17 @@
 //! Laws of the word programs of a source. The functions do nothing: their contracts are the laws.
 
-ghost use Rattle.lower.specs.Agreement.{ExpressionsAgree, TestsAgree, BlocksAgree};
+ghost use Rattle.lower.specs.Agreement.{ExpressionsAgree, LongsAgree, TestsAgree, BlocksAgree};
 ghost use Rattle.lower.specs.Sizes.{BlocksKeepToWords, BlocksKeepToCycles, ExpressionsKeepToCycles};
 
-/// The program of an expression takes readings alone, and leaves the expression's value on top of the stack, with the
-/// readings left as the expression leaves them. It is short exactly where the expression is.
+/// The program of an expression takes readings alone, and leaves the expression's value on top of the stack, of a long its low word,
+/// with the readings left as the expression leaves them. It is short exactly where the expression is.
 pub fn expressions_agree()
     ensures { ExpressionsAgree }
+{}
+
+/// The program of an expression as a long does the same, and leaves the value as a long: one word by zeros, an int by its sign.
+pub fn longs_agree()
+    ensures { LongsAgree }
 {}
 
 /// The test of an expression does the same, and holds exactly where the expression's value isn't 0.

@@ -1,7 +1,7 @@
 //! Where what a task works on stands.
 ghost use Rattle.std.specs.Prelude.{◌≡◌, ◌%◌, slice_get};
 ghost use Rattle.memory_map.specs.Spots.{copy_among, home_of};
-ghost use Rattle.lower.specs.Lowered.{array_place, no_array, written_array};
+ghost use Rattle.lower.specs.Lowered.{high_address, array_place, no_array, written_array};
 
 use array_versions::{ArrayPlace, ListPlace};
 use memory_map::{ArrayCopies, Layout, PrivateScalar, RuntimeWord, VariablePlace};
@@ -30,7 +30,7 @@ fn copy_among(privates: &[PrivateScalar], number: u32) -> Option<u16>
     None
 }
 
-// The word of a scalar, or the first element of an array; 0 where no variable has this number.
+// The first word of a scalar, or the first element of an array; 0 where no variable has this number.
 fn home_of(variables: &[VariablePlace], number: u32) -> u16
     ensures { result ≡ home_of variables.now number }
 {
@@ -87,7 +87,7 @@ impl<'l> TaskPlaces<'l> {
     ghost use Rattle.lower.specs.Lowered.{list_place, stored_array};
     ghost use Rattle.lower.specs.View.{places_in};
 
-    /// The address of a shared variable in the task: that of its copy where it is private there, else that of its word.
+    /// The address of a shared variable in the task: that of its copy where it is private there, else that of its first word.
     pub fn address_of(&self, number: u32) -> u16
         ensures { result ≡ address_of (places_in self.now) number }
     {
@@ -124,4 +124,11 @@ pub fn local_number(number: u32) -> u16
     ensures { result ≡ number % 65536 }
 {
     (number % 65536) as u16
+}
+
+/// The address of the high word of a long: it stands right behind the low one.
+pub fn high_address(address: u16) -> u16
+    ensures { result ≡ high_address address }
+{
+    ((address as u32 + 2) % 65536) as u16
 }

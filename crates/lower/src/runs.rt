@@ -1,8 +1,9 @@
 //! Private scalars whose words and copies are neighbours, joined.
 ghost use Rattle.std.specs.Prelude.{◌≡◌, ◌<◌, ◌+◌, true, OnOk};
+ghost use Rattle.memory_map.specs.Places.{scalar_words};
 ghost use Rattle.array_versions.specs.Program.{joined};
 ghost use Rattle.array_versions.specs.View.{program_of};
-ghost use Rattle.lower.specs.Runs.{run_at, is_followed_by, runs_from, runs_of};
+ghost use Rattle.lower.specs.Runs.{run_at, is_followed_by, longer, runs_from, runs_of};
 ghost use Rattle.lower.specs.Lowered.{entries};
 
 use array_versions::WordProgram;
@@ -24,29 +25,29 @@ fn run_at(scalar: &PrivateScalar) -> Run
     Run {
         home: scalar.home,
         copy: scalar.copy,
-        words: 1,
+        words: scalar.width.words(),
     }
 }
 
-// Whether the word and the copy of a scalar stand right behind a run. Then the run has room for one more.
+// Whether the words and the copy of a scalar stand right behind a run. Then the run has room for them.
 #[tactic(auto, using(crate::proofs::Neighbours::followed_has_room))]
 fn is_followed_by(run: Run, scalar: &PrivateScalar) -> bool
     ensures is { result ≡ is_followed_by run scalar.now }
-    ensures room { result ≡ true → run.words + 1 < 65536 }
+    ensures room { result ≡ true → run.words + scalar_words scalar.now.width < 65536 }
 {
     let bytes = 2 * run.words as u32;
     run.home as u32 + bytes == scalar.home as u32 && run.copy as u32 + bytes == scalar.copy as u32
 }
 
-// One word more.
-fn longer(run: Run) -> Run
-    requires { run.words + 1 < 65536 }
-    ensures { result ≡ record run { words = run.words + 1 } }
+// A run with the words of a scalar more.
+fn longer(run: Run, scalar: &PrivateScalar) -> Run
+    requires { run.words + scalar_words scalar.now.width < 65536 }
+    ensures { result ≡ longer run scalar.now }
 {
     Run {
         home: run.home,
         copy: run.copy,
-        words: run.words + 1,
+        words: run.words + scalar.width.words(),
     }
 }
 
@@ -65,7 +66,7 @@ fn list_from(
     let mut run = first;
     for scalar in privates {
         if is_followed_by(run, scalar) {
-            run = longer(run);
+            run = longer(run, scalar);
         } else {
             program.list_entry(count, list, run.home, run.copy, run.words)?;
             run = run_at(scalar);

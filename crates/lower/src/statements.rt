@@ -8,18 +8,20 @@ ghost use Rattle.task_ast.specs.View.{expression_of, statement_of, tested_of, bl
 ghost use Rattle.task_ast.specs.declared.names.VariableName.{VariableName};
 ghost use Rattle.task_ast.specs.declared.names.TaskName.{TaskName};
 ghost use Rattle.lower.specs.View.{places_in};
-ghost use Rattle.lower.specs.Lowered.{one, write_step, update_step, update_element_step, loop_local, lowered_test, setting, assignment};
+ghost use Rattle.lower.specs.Lowered.{one, write_step, write_long, update_step, update_element_step, loop_local, lowered_test, setting, long_setting};
+ghost use Rattle.lower.specs.Lowered.{assignment, scalar_assignment};
 ghost use Rattle.lower.specs.Lowered.{index_and_value, element_setting, element_assignment, declaration, emission};
 ghost use Rattle.lower.specs.Lowered.{lowered_expression, lowered_transition, lowered_statement, lowered_choice, lowered_block};
 
-use crate::expressions::{append, lower_expression, lower_test};
-use crate::in_place::{element_updating, updating};
-use crate::places::{TaskPlaces, local_number};
+use crate::expressions::{append, lower_expression, lower_long, lower_test};
+use crate::in_place::{element_updating, of_words, updating};
+use crate::places::{TaskPlaces, high_address, local_number};
 use crate::runs::list_entries;
-use array_versions::{PlainOperation, WordProgram};
+use array_versions::{LongOperation, PlainOperation, WordProgram};
 use memory_map::RuntimeWord;
 use std::alloc::{AllocError, Global};
-use task_ast::{Arm, Expr, Stmt, TaskName, Variable, VariableName};
+use task_ast::types::{joined_type, type_of};
+use task_ast::{Arm, Expr, Stmt, TaskName, Variable, VariableName, WordType};
 
 fn write(
     variable: Variable,
@@ -32,6 +34,29 @@ fn write(
     match variable {
         Variable::Shared(number) => program.keep(places.address_of(number)),
         Variable::Local(number) => program.set_local(local_number(number)),
+    }
+}
+
+// The high word is stored first. A local has one word.
+#[tactic(auto, using(array_versions::proofs::Interface::joined_assoc))]
+fn write_long(
+    variable: Variable,
+    places: &TaskPlaces<'_>,
+    program: &mut WordProgram,
+) -> Result<(), AllocError>
+    ensures { OnOk result (program_of program.new
+        ≡ joined (program_of program.old) (write_long (places_in places.now) variable)) }
+{
+    match variable {
+        Variable::Shared(number) => {
+            let address = places.address_of(number);
+            program.keep(high_address(address))?;
+            program.keep(address)
+        }
+        Variable::Local(number) => {
+            program.long(LongOperation::LowWord)?;
+            program.set_local(local_number(number))
+        }
     }
 }
 
@@ -51,7 +76,7 @@ fn update(
     }
 }
 
-// Sets a variable to an expression's value.
+// Sets a variable of one word to an expression's value.
 #[tactic(auto, using(array_versions::proofs::Interface::joined_assoc))]
 fn set(
     alloc: Global,
@@ -65,6 +90,22 @@ fn set(
 {
     append(program, lower_expression(alloc, e, places)?)?;
     write(variable, places, program)
+}
+
+// Sets a long to an expression's value.
+#[tactic(auto, using(array_versions::proofs::Interface::joined_assoc))]
+fn set_long(
+    alloc: Global,
+    variable: Variable,
+    e: &Expr<VariableName>,
+    places: &TaskPlaces<'_>,
+    program: &mut WordProgram,
+) -> Result<(), AllocError>
+    ensures { OnOk result (program_of program.new
+        ≡ joined (program_of program.old) (long_setting (places_in places.now) variable (expression_of e.now))) }
+{
+    append(program, lower_long(alloc, e, places)?)?;
+    write_long(variable, places, program)
 }
 
 // Sets a variable to what an operation gives of it and of an expression's value.
@@ -84,7 +125,7 @@ fn set_in_place(
     update(operation, variable, places, program)
 }
 
-// `x = x + e` and its like are in place.
+// A variable of one word: `x = x + e` and its like are in place, where both sides are of one word.
 fn assign(
     alloc: Global,
     variable: Variable,
@@ -96,7 +137,10 @@ fn assign(
         ≡ joined (program_of program.old) (assignment (places_in places.now) variable (expression_of e.now))) }
 {
     match e {
-        Expr::Binary(op, left, right) => match updating(variable, op.operator, left) {
+        Expr::Binary(op, left, right) => match of_words(
+            joined_type(type_of(left), type_of(right)),
+            updating(variable, op.operator, left),
+        ) {
             Some(operation) => set_in_place(alloc, operation, variable, right, places, program),
             None => set(alloc, variable, e, places, program),
         },
@@ -108,6 +152,24 @@ fn assign(
         | Expr::Unary(..)
         | Expr::Shift(..)
         | Expr::ShortCircuit(..) => set(alloc, variable, e, places, program),
+    }
+}
+
+// An assignment to a variable of this type.
+fn assign_scalar(
+    alloc: Global,
+    word_type: WordType,
+    variable: Variable,
+    e: &Expr<VariableName>,
+    places: &TaskPlaces<'_>,
+    program: &mut WordProgram,
+) -> Result<(), AllocError>
+    ensures { OnOk result (program_of program.new
+        ≡ joined (program_of program.old) (scalar_assignment (places_in places.now) word_type variable (expression_of e.now))) }
+{
+    match word_type {
+        WordType::Long => set_long(alloc, variable, e, places, program),
+        WordType::Int | WordType::Unsigned => assign(alloc, variable, e, places, program),
     }
 }
 
@@ -167,7 +229,7 @@ fn set_element_in_place(
     )
 }
 
-// `a[i] = a[i] + e` and its like are in place.
+// `a[i] = a[i] + e` and its like are in place, where both sides are of one word.
 fn store(
     alloc: Global,
     variable: Variable,
@@ -180,11 +242,9 @@ fn store(
         (element_assignment (places_in places.now) variable (expression_of index.now) (expression_of e.now))) }
 {
     match e {
-        Expr::Binary(op, left, right) => match element_updating(
-            variable,
-            index,
-            op.operator,
-            left,
+        Expr::Binary(op, left, right) => match of_words(
+            joined_type(type_of(left), type_of(right)),
+            element_updating(variable, index, op.operator, left),
         ) {
             Some(operation) => set_element_in_place(
                 alloc, operation, variable, index, right, places, program,
@@ -202,7 +262,7 @@ fn store(
     }
 }
 
-// A declaration without a value has no steps.
+// A declaration without a value has no steps. A local has one word.
 #[tactic(auto, using(array_versions::proofs::Interface::joined_nothing))]
 fn declare(
     alloc: Global,
@@ -282,7 +342,7 @@ fn lower_statement(
 {
     match s {
         Stmt::Declare(_, x, value) => declare(alloc, x.variable, value, places, program),
-        Stmt::Assign(x, e) => assign(alloc, x.variable, e, places, program),
+        Stmt::Assign(x, e) => assign_scalar(alloc, x.word_type, x.variable, e, places, program),
         Stmt::Store(x, index, e) => store(alloc, x.variable, index, e, places, program),
         Stmt::If(arms, None) => {
             let last = WordProgram::new(alloc);

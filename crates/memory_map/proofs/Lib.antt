@@ -5,4 +5,5 @@ mod InRegions
 mod Homes
 mod Addresses
 mod Spots
+mod Privates
 pub mod Interface

@@ -1,17 +1,17 @@
 -- The words that a task works on stand apart.
-use Rattle.std.proofs.Common.{◌≡◌, ℕ, ◌+◌, ◌*◌, ◌%◌, ◌<◌, ◌≤◌, inl, inr, arith, ap, subst, sym, ◌∙◌, Some, refl}
+use Rattle.std.proofs.Common.{◌≡◌, ℕ, ◌≤◌, inl, inr, arith, ap, subst, sym, ◌∙◌, Some, refl}
 use Rattle.std.specs.Prelude.{Option, slice_get, All}
 use Rattle.address_space.specs.Limits.{reset_vector}
 use Rattle.memory_map.specs.declared.place.ArrayCopies.{ArrayCopies}
 use Rattle.memory_map.specs.declared.place.VariablePlace.TheVariants.{Scalar, Array}
 use Rattle.memory_map.specs.MemoryMap.{MemoryMap, TaskPlace}
 use Rattle.memory_map.specs.Places.{end_of, HasItsPlace, copy_regions, version_regions, IsLaidOut}
-use Rattle.memory_map.specs.Spots.{places_of, Element, IsElement, IsCopied, IsScalarAt, IsArrayAt, Spot, scalar, element, copy, version, IsSpot, spot_address}
-use Rattle.memory_map.specs.Spots.{IsWordOf, SpotsAreApart}
+use Rattle.memory_map.specs.Spots.{places_of, Element, IsElement, IsCopied, IsScalarWord, IsArrayAt, Spot, scalar, element, copy, version, IsSpot, spot_address}
+use Rattle.memory_map.specs.Spots.{IsWordOf, SpotsAreApart, scalar_address}
 use Rattle.memory_map.proofs.Parts.{apart_of, parts_in_fram}
 use Rattle.memory_map.proofs.InRegions.{IsIn, IsBetween, within, one_word}
 use Rattle.memory_map.proofs.Homes.{home_between, one_home}
-use Rattle.memory_map.proofs.Addresses.{copies_single, versions_single, element_is, copy_is, version_is, scalar_word, scalar_place, IsScalarWord}
+use Rattle.memory_map.proofs.Addresses.{copies_single, versions_single, element_is, copy_is, version_is, words_scalar, scalar_word, scalar_place, IsHomeOrCopy}
 
 -- ---- spots
 
@@ -22,13 +22,13 @@ pub data Stands (l : MemoryMap) (v i a : ℕ) : Type 0 where
   at_version : IsIn version_regions l.variables v i a → Stands l v i a
 
 abbrev pub number_of : Spot → ℕ
-number_of (scalar v) = v
+number_of (scalar v i) = v
 number_of (element x) = x.array
 number_of (copy x) = x.array
 number_of (version x) = x.array
 
 abbrev pub index_of : Spot → ℕ
-index_of (scalar v) = 0
+index_of (scalar v i) = i
 index_of (element x) = x.index
 index_of (copy x) = x.index
 index_of (version x) = x.index
@@ -90,9 +90,9 @@ module _ (l : MemoryMap) (h : IsLaidOut l) where
 
   module _ (layout : TaskPlace) (places : All (HasItsPlace l.variables) layout.privates) where
     pub stands : (s : Spot) → IsSpot (places_of l layout) s → Stands l (number_of s) (index_of s) (spot_address (places_of l layout) s)
-    stands (scalar v) k = by (scalar_word l layout v places k)
+    stands (scalar v i) k = by (scalar_word l layout v i places k)
       where
-        by : IsScalarWord l v (spot_address (places_of l layout) (scalar v)) → Stands l v 0 (spot_address (places_of l layout) (scalar v))
+        by : IsHomeOrCopy l v i (scalar_address (places_of l layout) v i) → Stands l v i (scalar_address (places_of l layout) v i)
         by (inl w) = at_home w
         by (inr c) = at_copy c
     stands (element x) k = at_home (element_is l layout x k)
@@ -100,36 +100,39 @@ module _ (l : MemoryMap) (h : IsLaidOut l) where
     stands (version x) k = at_version (version_is l layout x k)
 
     -- a scalar is no array
-    no_scalar : (v w elements length : ℕ) (copies : Option ArrayCopies) → IsScalarAt (places_of l layout) v
+    no_scalar : (v i w elements length : ℕ) (copies : Option ArrayCopies) → IsScalarWord (places_of l layout) v i
         → IsArrayAt (places_of l layout) w elements length copies → v ≡ w → ⊥
-    no_scalar v w elements length copies k m e =
-        let place = scalar_place (slice_get l.variables v) k in
-        let both : Some (Scalar place.0 place.1) ≡ Some (Array elements length copies) = sym place.2 ∙ ap (slice_get l.variables) e ∙ m.place in
+    no_scalar v i w elements length copies k m e =
+        let its = scalar_place (slice_get l.variables v) (words_scalar (slice_get l.variables v) i k) in
+        let both : Some (Scalar its.home its.copy its.width) ≡ Some (Array elements length copies) = sym its.place ∙ ap (slice_get l.variables) e ∙ m.place in
         cc
 
     -- a scalar and an element stand apart, a scalar and a copy, a scalar and a version word
-    scalar_element : (v : ℕ) (x : Element) (a : ℕ) → IsScalarAt (places_of l layout) v → IsElement (places_of l layout) x → IsScalarWord l v a
+    scalar_element : (v i : ℕ) (x : Element) (a : ℕ) → IsScalarWord (places_of l layout) v i → IsElement (places_of l layout) x → IsHomeOrCopy l v i a
         → IsWordOf l x.array x.index a → ⊥
-    scalar_element v x a k m (inl w) s = no_scalar v x.array m.elements m.length m.copies k m.is_array (one_home l h v 0 x.array x.index a w s).0
-    scalar_element v x a k m (inr c) s = home_not_copy x.array x.index v 0 a s c
+    scalar_element v i x a k m (inl w) s = no_scalar v i x.array m.elements m.length m.copies k m.is_array (one_home l h v i x.array x.index a w s).0
+    scalar_element v i x a k m (inr c) s = home_not_copy x.array x.index v i a s c
 
-    scalar_copy : (v : ℕ) (x : Element) (a : ℕ) → IsScalarAt (places_of l layout) v → IsCopied (places_of l layout) x → IsScalarWord l v a
+    scalar_copy : (v i : ℕ) (x : Element) (a : ℕ) → IsScalarWord (places_of l layout) v i → IsCopied (places_of l layout) x → IsHomeOrCopy l v i a
         → IsIn copy_regions l.variables x.array x.index a → ⊥
-    scalar_copy v x a k m (inl w) s = home_not_copy v 0 x.array x.index a w s
-    scalar_copy v x a k m (inr c) s = no_scalar v x.array m.elements m.length (Some m.copies) k m.is_array (one_copy v 0 x.array x.index a c s).0
+    scalar_copy v i x a k m (inl w) s = home_not_copy v i x.array x.index a w s
+    scalar_copy v i x a k m (inr c) s = no_scalar v i x.array m.elements m.length (Some m.copies) k m.is_array (one_copy v i x.array x.index a c s).0
 
-    scalar_version : (v : ℕ) (x : Element) (a : ℕ) → IsScalarWord l v a → IsIn version_regions l.variables x.array x.index a → ⊥
-    scalar_version v x a (inl w) s = version_not_home x.array x.index v 0 a s w
-    scalar_version v x a (inr c) s = version_not_copy x.array x.index v 0 a s c
+    scalar_version : (v i : ℕ) (x : Element) (a : ℕ) → IsHomeOrCopy l v i a → IsIn version_regions l.variables x.array x.index a → ⊥
+    scalar_version v i x a (inl w) s = version_not_home x.array x.index v i a s w
+    scalar_version v i x a (inr c) s = version_not_copy x.array x.index v i a s c
 
-    scalar_scalar : (v w a : ℕ) → IsScalarWord l v a → IsScalarWord l w a → v ≡ w
-    scalar_scalar v w a (inl s) (inl t) = (one_home l h v 0 w 0 a s t).0
-    scalar_scalar v w a (inl s) (inr t) = absurd (home_not_copy v 0 w 0 a s t)
-    scalar_scalar v w a (inr s) (inl t) = absurd (home_not_copy w 0 v 0 a t s)
-    scalar_scalar v w a (inr s) (inr t) = (one_copy v 0 w 0 a s t).0
+    scalar_scalar : (v i w j a : ℕ) → IsHomeOrCopy l v i a → IsHomeOrCopy l w j a → (v ≡ w) × (i ≡ j)
+    scalar_scalar v i w j a (inl s) (inl t) = one_home l h v i w j a s t
+    scalar_scalar v i w j a (inl s) (inr t) = absurd (home_not_copy v i w j a s t)
+    scalar_scalar v i w j a (inr s) (inl t) = absurd (home_not_copy w j v i a t s)
+    scalar_scalar v i w j a (inr s) (inr t) = one_copy v i w j a s t
 
-    word_of : (v : ℕ) (b : ℕ) → IsScalarAt (places_of l layout) v → spot_address (places_of l layout) (scalar v) ≡ b → IsScalarWord l v b
-    word_of v b k e = subst (IsScalarWord l v) e (scalar_word l layout v places k)
+    same_scalar : (v i w j : ℕ) → (v ≡ w) × (i ≡ j) → scalar v i ≡ scalar w j
+    same_scalar v i w j e = λ k. scalar (e.0 k) (e.1 k)
+
+    word_of : (v i b : ℕ) → IsScalarWord (places_of l layout) v i → spot_address (places_of l layout) (scalar v i) ≡ b → IsHomeOrCopy l v i b
+    word_of v i b k e = subst (IsHomeOrCopy l v i) e (scalar_word l layout v i places k)
 
     home_at : (x : Element) (b : ℕ) → IsElement (places_of l layout) x → spot_address (places_of l layout) (element x) ≡ b → IsWordOf l x.array x.index b
     home_at x b k e = subst (IsWordOf l x.array x.index) e (element_is l layout x k)
@@ -147,20 +150,20 @@ module _ (l : MemoryMap) (h : IsLaidOut l) where
 
     pub distinct : (s t : Spot) → IsSpot (places_of l layout) s → IsSpot (places_of l layout) t
         → spot_address (places_of l layout) s ≡ spot_address (places_of l layout) t → s ≡ t
-    distinct (scalar v) (scalar w) k m e = ap scalar (scalar_scalar v w _ (word_of v _ k e) (word_of w _ m refl))
-    distinct (scalar v) (element x) k m e = absurd (scalar_element v x _ k m (word_of v _ k e) (home_at x _ m refl))
-    distinct (scalar v) (copy x) k m e = absurd (scalar_copy v x _ k m (word_of v _ k e) (copy_at x _ m refl))
-    distinct (scalar v) (version x) k m e = absurd (scalar_version v x _ (word_of v _ k e) (version_at x _ m refl))
-    distinct (element x) (scalar w) k m e = absurd (scalar_element w x _ m k (word_of w _ m refl) (home_at x _ k e))
+    distinct (scalar v i) (scalar w j) k m e = same_scalar v i w j (scalar_scalar v i w j _ (word_of v i _ k e) (word_of w j _ m refl))
+    distinct (scalar v i) (element x) k m e = absurd (scalar_element v i x _ k m (word_of v i _ k e) (home_at x _ m refl))
+    distinct (scalar v i) (copy x) k m e = absurd (scalar_copy v i x _ k m (word_of v i _ k e) (copy_at x _ m refl))
+    distinct (scalar v i) (version x) k m e = absurd (scalar_version v i x _ (word_of v i _ k e) (version_at x _ m refl))
+    distinct (element x) (scalar w j) k m e = absurd (scalar_element w j x _ m k (word_of w j _ m refl) (home_at x _ k e))
     distinct (element x) (element y) k m e = ap element
         (same_element x y (one_home l h x.array x.index y.array y.index _ (home_at x _ k e) (home_at y _ m refl)))
     distinct (element x) (copy y) k m e = absurd (home_not_copy x.array x.index y.array y.index _ (home_at x _ k e) (copy_at y _ m refl))
     distinct (element x) (version y) k m e = absurd (version_not_home y.array y.index x.array x.index _ (version_at y _ m refl) (home_at x _ k e))
-    distinct (copy x) (scalar w) k m e = absurd (scalar_copy w x _ m k (word_of w _ m refl) (copy_at x _ k e))
+    distinct (copy x) (scalar w j) k m e = absurd (scalar_copy w j x _ m k (word_of w j _ m refl) (copy_at x _ k e))
     distinct (copy x) (element y) k m e = absurd (home_not_copy y.array y.index x.array x.index _ (home_at y _ m refl) (copy_at x _ k e))
     distinct (copy x) (copy y) k m e = ap copy (same_element x y (one_copy x.array x.index y.array y.index _ (copy_at x _ k e) (copy_at y _ m refl)))
     distinct (copy x) (version y) k m e = absurd (version_not_copy y.array y.index x.array x.index _ (version_at y _ m refl) (copy_at x _ k e))
-    distinct (version x) (scalar w) k m e = absurd (scalar_version w x _ (word_of w _ m refl) (version_at x _ k e))
+    distinct (version x) (scalar w j) k m e = absurd (scalar_version w j x _ (word_of w j _ m refl) (version_at x _ k e))
     distinct (version x) (element y) k m e = absurd (version_not_home x.array x.index y.array y.index _ (version_at x _ k e) (home_at y _ m refl))
     distinct (version x) (copy y) k m e = absurd (version_not_copy x.array x.index y.array y.index _ (version_at x _ k e) (copy_at y _ m refl))
     distinct (version x) (version y) k m e =

@@ -4,6 +4,8 @@ use Rattle.std.specs.List.{flat_map}
 use Rattle.address_space.specs.Limits.{fram_first, reset_vector}
 use Rattle.memory_map.specs.declared.place.Region.{Region}
 use Rattle.memory_map.specs.declared.place.ArrayCopies.{ArrayCopies}
+use Rattle.memory_map.specs.declared.place.ScalarWidth.{ScalarWidth}
+use Rattle.memory_map.specs.declared.place.ScalarWidth.TheVariants.{OneWord, TwoWords}
 use Rattle.memory_map.specs.declared.place.VariablePlace.{VariablePlace}
 use Rattle.memory_map.specs.declared.place.VariablePlace.TheVariants.{Scalar, Array}
 use Rattle.memory_map.specs.declared.place.PrivateScalar.{PrivateScalar}
@@ -23,9 +25,14 @@ abbrev pub AreInOrder : ℕ → List Region → ℕ → Type 0
 AreInOrder from [] end = from ≤ end
 AreInOrder from (r ∷ rs) end = IsBehind from r × AreInOrder (end_of r) rs end
 
--- the word of a scalar, or the elements of an array
+-- how many words a scalar has: two where it is a long
+abbrev pub scalar_words : ScalarWidth → ℕ
+scalar_words OneWord = 1
+scalar_words TwoWords = 2
+
+-- the words of a scalar, or the elements of an array
 abbrev pub home_region : VariablePlace → Region
-home_region (Scalar home copy) = record { address = home; words = 1 }
+home_region (Scalar home copy width) = record { address = home; words = scalar_words width }
 home_region (Array elements length copies) = record { address = elements; words = length }
 
 -- so many words at each address there is
@@ -45,21 +52,21 @@ versions_at (Some c) = Some c.versions
 
 -- the copy of a scalar, or those of an array's elements, if there are any
 abbrev pub copy_regions : VariablePlace → List Region
-copy_regions (Scalar home copy) = regions_of 1 (Some copy)
+copy_regions (Scalar home copy width) = regions_of (scalar_words width) (Some copy)
 copy_regions (Array elements length copies) = regions_of length (copies_at copies)
 
 -- the version words of an array's elements, if there are any
 abbrev pub version_regions : VariablePlace → List Region
-version_regions (Scalar home copy) = []
+version_regions (Scalar home copy width) = []
 version_regions (Array elements length copies) = regions_of length (versions_at copies)
 
 -- the words that are kept for an entry of the commit list
 abbrev pub list_entry_room : ℕ
 list_entry_room = 3
 
--- a private scalar has the word and the copy of its variable
+-- a private scalar has the words and the copy of its variable
 pub record HasItsPlace (variables : List VariablePlace) (s : PrivateScalar) : Type 0 where
-  pub place : slice_get variables s.number ≡ Some (Scalar s.home s.copy)
+  pub place : slice_get variables s.number ≡ Some (Scalar s.home s.copy s.width)
 
 -- the rules of a memory map
 pub record IsLaidOut (m : MemoryMap) : Type 0 where

@@ -6,7 +6,7 @@ use Rattle.memory_map.specs.declared.place.VariablePlace.{VariablePlace}
 use Rattle.memory_map.specs.declared.place.VariablePlace.TheVariants.{Scalar, Array}
 use Rattle.memory_map.specs.declared.place.PrivateScalar.{PrivateScalar}
 use Rattle.memory_map.specs.MemoryMap.{MemoryMap, TaskPlace}
-use Rattle.memory_map.specs.Places.{home_region, HasItsPlace, IsLaidOut}
+use Rattle.memory_map.specs.Places.{scalar_words, home_region, HasItsPlace, IsLaidOut}
 
 -- ---- what a task has of a memory map
 
@@ -19,14 +19,19 @@ pub record Places : Type 0 where
 abbrev pub places_of : MemoryMap → TaskPlace → Places
 places_of m t = record { map = m; privates = t.privates }
 
+-- how many words private scalars have
+abbrev pub private_words : List PrivateScalar → ℕ
+private_words [] = 0
+private_words (s ∷ more) = scalar_words s.width + private_words more
+
 -- the copy of the variable of a number, where it is among these private scalars
 abbrev pub copy_among : List PrivateScalar → ℕ → Option ℕ
 copy_among [] number = None
 copy_among (s ∷ more) number = if s.number == number then Some s.copy else copy_among more number
 
--- the word of a scalar, or the first element of an array
+-- the first word of a scalar, or the first element of an array
 abbrev pub home_in : Option VariablePlace → ℕ
-home_in (Some (Scalar home copy)) = home
+home_in (Some (Scalar home copy width)) = home
 home_in (Some (Array elements length copies)) = elements
 home_in None = 0
 
@@ -39,21 +44,35 @@ abbrev pub copy_else : Option ℕ → ℕ → ℕ
 copy_else (Some copy) home = copy
 copy_else None home = home
 
--- the address of a shared variable in a task: that of its copy where it is private there, else that of its word
+-- the address of a shared variable in a task: that of its copy where it is private there, else that of its first word
 abbrev pub address_of : Places → ℕ → ℕ
 address_of p number = copy_else (copy_among p.privates number) (home_of p.map.variables number)
+
+-- that of a word of a scalar
+abbrev pub scalar_address : Places → ℕ → ℕ → ℕ
+scalar_address p v i = 2 * i + address_of p v
 
 -- ---- the variables at these places
 
 -- the place of a scalar
 abbrev pub IsScalarPlace : Option VariablePlace → Type 0
-IsScalarPlace (Some (Scalar home private)) = Unit {0}
+IsScalarPlace (Some (Scalar home copy width)) = Unit {0}
 IsScalarPlace (Some (Array elements length copies)) = ⊥
 IsScalarPlace None = ⊥
 
 -- the number of a shared scalar
 abbrev pub IsScalarAt : Places → ℕ → Type 0
 IsScalarAt p v = IsScalarPlace (slice_get p.map.variables v)
+
+-- how many words the scalar at a place has: none where there is no scalar
+abbrev pub words_at : Option VariablePlace → ℕ
+words_at (Some (Scalar home copy width)) = scalar_words width
+words_at (Some (Array elements length copies)) = 0
+words_at None = 0
+
+-- the shared scalar of a number has a word of this index
+abbrev pub IsScalarWord : Places → ℕ → ℕ → Type 0
+IsScalarWord p v i = i < words_at (slice_get p.map.variables v)
 
 -- the number of a shared array, with its elements and its copies, if it has any
 pub record IsArrayAt (p : Places) (v elements length : ℕ) (copies : Option ArrayCopies) : Type 0 where
@@ -82,16 +101,16 @@ pub record IsCopied (p : Places) (x : Element) : Type 0 where
 
 -- ---- their addresses
 
--- a word that a task works on: a scalar as the task has it, an element, its copy, or its version word
+-- a word that a task works on: a word of a scalar as the task has it, an element, its copy, or its version word
 pub data Spot : Type 0 where
-  scalar : (v : ℕ) → Spot
+  scalar : (v i : ℕ) → Spot
   element : (x : Element) → Spot
   copy : (x : Element) → Spot
   version : (x : Element) → Spot
 
 -- there is such a word
 abbrev pub IsSpot : Places → Spot → Type 0
-IsSpot p (scalar v) = IsScalarAt p v
+IsSpot p (scalar v i) = IsScalarWord p v i
 IsSpot p (element x) = IsElement p x
 IsSpot p (copy x) = IsCopied p x
 IsSpot p (version x) = IsCopied p x
@@ -99,21 +118,21 @@ IsSpot p (version x) = IsCopied p x
 -- the address of word i of the elements, the copies or the version words of the array at a place
 abbrev pub element_in : Option VariablePlace → ℕ → ℕ
 element_in (Some (Array elements length copies)) i = 2 * i + elements
-element_in (Some (Scalar home private)) i = 0
+element_in (Some (Scalar _ _ _)) i = 0
 element_in None i = 0
 
 -- of its copy, 0 where it has none
 abbrev pub copy_in : Option VariablePlace → ℕ → ℕ
 copy_in (Some (Array elements length (Some c))) i = 2 * i + c.copies
 copy_in (Some (Array elements length None)) i = 0
-copy_in (Some (Scalar home private)) i = 0
+copy_in (Some (Scalar _ _ _)) i = 0
 copy_in None i = 0
 
 -- of its version word, 0 where it has none
 abbrev pub version_in : Option VariablePlace → ℕ → ℕ
 version_in (Some (Array elements length (Some c))) i = 2 * i + c.versions
 version_in (Some (Array elements length None)) i = 0
-version_in (Some (Scalar home private)) i = 0
+version_in (Some (Scalar _ _ _)) i = 0
 version_in None i = 0
 
 -- the address of an element
@@ -130,7 +149,7 @@ version_address p x = version_in (slice_get p.map.variables x.array) x.index
 
 -- the address of a word that a task works on
 abbrev pub spot_address : Places → Spot → ℕ
-spot_address p (scalar v) = address_of p v
+spot_address p (scalar v i) = scalar_address p v i
 spot_address p (element x) = element_address p x
 spot_address p (copy x) = copy_address p x
 spot_address p (version x) = version_address p x

@@ -41,7 +41,7 @@ pub fn versions_are_apart()
     ensures { (m : MemoryMap) → IsLaidOut m → VersionsAreApart m }
 {}
 
-/// Each word that a task works on, a scalar as the task has it, an element, a copy or a version word, has an address of its own, behind
+/// Each word that a task works on, a word of a scalar as the task has it, an element, a copy or a version word, has an address of its own, behind
 /// the buffers.
 #[tactic(auto, using(crate::proofs::Spots::spots_are_apart))]
 pub fn spots_are_apart()

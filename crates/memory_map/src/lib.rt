@@ -13,5 +13,5 @@ pub use laws::{
     words_are_fram_words, words_differ,
 };
 pub use layouts::{Layout, Regions, TaskLayout};
-pub use place::{ArrayCopies, PrivateScalar, Region, VariablePlace};
+pub use place::{ArrayCopies, PrivateScalar, Region, ScalarWidth, VariablePlace};
 pub use words::{ROW_WORDS, RuntimeWord};

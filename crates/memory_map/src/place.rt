@@ -14,13 +14,37 @@ pub struct ArrayCopies {
     pub versions: u16,
 }
 
+/// How wide a scalar is: a long has two words, each other scalar one.
+#[derive(Clone, Copy, PartialEq, Eq)]
+pub enum ScalarWidth {
+    OneWord,
+    TwoWords,
+}
+
+impl ScalarWidth {
+    ghost use Rattle.std.specs.Prelude.{◌≡◌};
+    ghost use Rattle.memory_map.specs.Places.{scalar_words};
+
+    /// How many words that is.
+    pub fn words(self) -> u16
+        ensures { result ≡ scalar_words self }
+    {
+        match self {
+            ScalarWidth::OneWord => 1,
+            ScalarWidth::TwoWords => 2,
+        }
+    }
+}
+
 /// Where a shared variable stands.
 #[derive(Clone, Copy, PartialEq, Eq)]
 pub enum VariablePlace {
-    /// A scalar: its word, and the word that a task works on in which the scalar is private.
+    /// A scalar: its first word, the first of the words that a task works on in which the scalar is private, and how wide it is.
+    /// The second word of a long stands right behind its first, and so in its copy.
     Scalar {
         home: u16,
         copy: u16,
+        width: ScalarWidth,
     },
     /// An array: its first element, its length, and copies and versions where some task writes it.
     Array {
@@ -30,10 +54,12 @@ pub enum VariablePlace {
     },
 }
 
-/// A private scalar of a task: the number of the shared variable in order of declaration, its word, and its copy.
+/// A private scalar of a task: the number of the shared variable in order of declaration, its first word, that of its copy, and how
+/// wide it is.
 #[derive(Clone, Copy, PartialEq, Eq)]
 pub struct PrivateScalar {
     pub number: u32,
     pub home: u16,
     pub copy: u16,
+    pub width: ScalarWidth,
 }

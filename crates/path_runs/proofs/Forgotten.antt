@@ -1,5 +1,5 @@
--- Where each path of a block writes a scalar before it reads it and before the transition, it makes no difference which word the scalar
--- held: two runs from attempts that differ in this word alone read none of it while they differ, and don't end before they are one.
+-- Where each path of a block writes a scalar before it reads it and before the transition, it makes no difference which words the scalar
+-- held: two runs from attempts that differ in one of them alone read none of it while they differ, and don't end before they are one.
 use Rattle.std.proofs.Common.{◌≡◌, ℕ, zero, suc, ◌+◌, ◌-◌, ◌==◌, ◌<◌, ◌≤◌, List, [], ◌∷◌, ◌++◌, length, get_or, slice_set, Bool, true, false, ◌&&◌, ◌||◌, ◌/◌}
 use Rattle.std.proofs.Common.{◌%◌, ap₂}
 use Rattle.std.proofs.Common.{Option, Some, None, refl, sym, ap, ◌∙◌, subst, ⊎_elim, eq-eqb, arith, if◌then◌else◌}
@@ -23,7 +23,7 @@ use Rattle.source_values.specs.Values.{unary_result, binary_result, shift_result
 use Rattle.source_values.specs.Statements.{Attempt, Outcome, goes_on, to_task, short, and_then, if_value, assigned, assigned_to, assigned_value, word_of}
 use Rattle.source_values.specs.Statements.{turns, run_statement}
 use Rattle.source_values.specs.Statements.{run_choice, run_block}
-use Rattle.path_runs.specs.Laws.{NoStoreInStatement, NoStoreInChoice, NoStoreIn, FirstWritesForget}
+use Rattle.path_runs.specs.Laws.{HasWords, IsScalarInStatement, IsScalarInChoice, IsScalarIn, FirstWritesForget}
 
 -- ---- tests
 
@@ -109,7 +109,7 @@ bind_same : {A B : Type 0} (o : Option A) (f g : A → Option B) → ((x : A) �
 bind_same None f g h = refl
 bind_same (Some x) f g h = h x
 
-module _ (v word : ℕ) where
+module _ (v n at word : ℕ) (inside : at < n) where
   abbrev of_expression : CheckedExpression → AccessSummary
   of_expression e = expression_sum (summary (Shared v)) e
 
@@ -125,12 +125,12 @@ module _ (v word : ℕ) where
   abbrev of_write : Variable → AccessSummary
   of_write x = if is_same (Shared v) x then summary_write else summary_unit
 
-  -- with the other word
+  -- with the other word at this index
   abbrev other : Variables → Variables
-  other m = with_word m (Shared v) 0 word
+  other m = with_word m (Shared v) at word
 
   abbrev other_in : Attempt → Attempt
-  other_in s = assigned s (Shared v) 0 word
+  other_in s = assigned s (Shared v) at word
 
   -- ---- another variable's words
 
@@ -138,49 +138,86 @@ module _ (v word : ℕ) where
   is_apart u h e = differs (u == v) (eq-eqb u v e) h
 
   word_same : (m : Variables) (x : Variable) (i : ℕ) → is_same (Shared v) x ≡ false → word_at (other m) x i ≡ word_at m x i
-  word_same m (Shared u) i h = ap (λ r. get_or r i 0) (get_or-set_other m.shared v u (slice_set (get_or m.shared v []) 0 word) [] (is_apart u h))
+  word_same m (Shared u) i h = ap (λ r. get_or r i 0) (get_or-set_other m.shared v u (slice_set (get_or m.shared v []) at word) [] (is_apart u h))
   word_same m (Local n) i h = refl
 
   set_later : (m : Variables) (x : Variable) (i w : ℕ) → is_same (Shared v) x ≡ false → with_word (other m) x i w ≡ other (with_word m x i w)
   set_later m (Local n) i w h = refl
   set_later m (Shared u) i w h =
       let apart = is_apart u h in
-      let mine = slice_set (get_or m.shared v []) 0 word in
+      let mine = slice_set (get_or m.shared v []) at word in
       let its = slice_set (get_or m.shared u []) i w in
       let read_its : get_or (slice_set m.shared v mine) u [] ≡ get_or m.shared u [] = get_or-set_other m.shared v u mine [] apart in
       let read_mine : get_or (slice_set m.shared u its) v [] ≡ get_or m.shared v [] = get_or-set_other m.shared u v its [] (λ e. apart (sym e)) in
       ap (λ xs. record m { shared = xs })
       (ap (λ r. slice_set (slice_set m.shared v mine) u (slice_set r i w)) read_its
       ∙ set_swap m.shared v u mine its (λ e. apart (sym e))
-      ∙ sym (ap (λ r. slice_set (slice_set m.shared u its) v (slice_set r 0 word)) read_mine))
+      ∙ sym (ap (λ r. slice_set (slice_set m.shared u its) v (slice_set r at word)) read_mine))
 
-  -- ---- the scalar's own word
+  -- ---- the scalar's own words
 
-  set_row : (rows : List (List ℕ)) (w : ℕ) (row : List ℕ) → get_or rows v [] ≡ row
-      → slice_set (slice_set rows v (slice_set row 0 word)) v (slice_set (get_or (slice_set rows v (slice_set row 0 word)) v []) 0 w)
-      ≡ slice_set rows v (slice_set row 0 w)
-  set_row rows w row is = ⊎_elim inside past (cases_lt v (length rows))
+  -- a change of its row behind the other word is one of the row with that word
+  row_again : (rows : List (List ℕ)) (row : List ℕ) (f : List ℕ → List ℕ) → get_or rows v [] ≡ row
+      → slice_set (slice_set rows v (slice_set row at word)) v (f (get_or (slice_set rows v (slice_set row at word)) v []))
+      ≡ slice_set rows v (f (slice_set row at word))
+  row_again rows row f is = ⊎_elim within past (cases_lt v (length rows))
     where
-      inside : v < length rows → slice_set (slice_set rows v (slice_set row 0 word)) v (slice_set (get_or (slice_set rows v (slice_set row 0 word)) v []) 0 w)
-          ≡ slice_set rows v (slice_set row 0 w)
-      inside l =
-          set-set rows v (slice_set row 0 word) (slice_set (get_or (slice_set rows v (slice_set row 0 word)) v []) 0 w)
-          ∙ ap (λ r. slice_set rows v (slice_set r 0 w)) (get_or-set_same rows v (slice_set row 0 word) [] l)
-          ∙ ap (λ r. slice_set rows v r) (set-set row 0 word w)
+      put : List (List ℕ)
+      put = slice_set rows v (slice_set row at word)
 
-      past : length rows ≤ v → slice_set (slice_set rows v (slice_set row 0 word)) v (slice_set (get_or (slice_set rows v (slice_set row 0 word)) v []) 0 w)
-          ≡ slice_set rows v (slice_set row 0 w)
+      within : v < length rows → slice_set put v (f (get_or put v [])) ≡ slice_set rows v (f (slice_set row at word))
+      within l =
+          set-set rows v (slice_set row at word) (f (get_or put v []))
+          ∙ ap (λ r. slice_set rows v (f r)) (get_or-set_same rows v (slice_set row at word) [] l)
+
+      past : length rows ≤ v → slice_set put v (f (get_or put v [])) ≡ slice_set rows v (f (slice_set row at word))
       past l =
-          set-set rows v (slice_set row 0 word) (slice_set (get_or (slice_set rows v (slice_set row 0 word)) v []) 0 w)
-          ∙ set_past rows v (slice_set (get_or (slice_set rows v (slice_set row 0 word)) v []) 0 w) l
-          ∙ sym (set_past rows v (slice_set row 0 w) l)
+          set-set rows v (slice_set row at word) (f (get_or put v [])) ∙ set_past rows v (f (get_or put v [])) l
+          ∙ sym (set_past rows v (f (slice_set row at word)) l)
 
-  set_shared : (m : Variables) (w : ℕ) → with_word (other m) (Shared v) 0 w ≡ with_word m (Shared v) 0 w
-  set_shared m w = ap (λ xs. record m { shared = xs }) (set_row m.shared w (get_or m.shared v []) refl)
+  own_again : (m : Variables) (w : ℕ) → with_word (other m) (Shared v) at w ≡ with_word m (Shared v) at w
+  own_again m w =
+      let row = get_or m.shared v [] in
+      ap (λ xs. record m { shared = xs })
+      (row_again m.shared row (λ r. slice_set r at w) refl ∙ ap (λ r. slice_set m.shared v r) (set-set row at word w))
 
-  set_again : (m : Variables) (x : Variable) (w : ℕ) → is_same (Shared v) x ≡ true → with_word (other m) x 0 w ≡ with_word m x 0 w
-  set_again m (Shared u) w h = subst (λ z. with_word (other m) (Shared z) 0 w ≡ with_word m (Shared z) 0 w) (sym (eqb-true u v h)) (set_shared m w)
+  -- set again, it is as it was
+  set_again : (m : Variables) (x : Variable) (w : ℕ) → is_same (Shared v) x ≡ true → with_word (other m) x at w ≡ with_word m x at w
+  set_again m (Shared u) w h = subst (λ z. with_word (other m) (Shared z) at w ≡ with_word m (Shared z) at w) (sym (eqb-true u v h)) (own_again m w)
   set_again m (Local n) w h = absurd (let no : false ≡ true = h in cc)
+
+  own_beside : (m : Variables) (j w : ℕ) → (at ≡ j → ⊥) → with_word (other m) (Shared v) j w ≡ other (with_word m (Shared v) j w)
+  own_beside m j w ne =
+      let row = get_or m.shared v [] in
+      let mine : List (List ℕ) = slice_set m.shared v (slice_set row j w) in
+      ap (λ xs. record m { shared = xs })
+      (row_again m.shared row (λ r. slice_set r j w) refl ∙ ap (λ r. slice_set m.shared v r) (set_swap row at j word w ne)
+      ∙ sym (beside m.shared row j w refl))
+    where
+      beside : (rows : List (List ℕ)) (row : List ℕ) (j w : ℕ) → get_or rows v [] ≡ row
+          → slice_set (slice_set rows v (slice_set row j w)) v (slice_set (get_or (slice_set rows v (slice_set row j w)) v []) at word)
+          ≡ slice_set rows v (slice_set (slice_set row j w) at word)
+      beside rows row j w is = ⊎_elim within past (cases_lt v (length rows))
+        where
+          put : List (List ℕ)
+          put = slice_set rows v (slice_set row j w)
+
+          within : v < length rows → slice_set put v (slice_set (get_or put v []) at word) ≡ slice_set rows v (slice_set (slice_set row j w) at word)
+          within l =
+              set-set rows v (slice_set row j w) (slice_set (get_or put v []) at word)
+              ∙ ap (λ r. slice_set rows v (slice_set r at word)) (get_or-set_same rows v (slice_set row j w) [] l)
+
+          past : length rows ≤ v → slice_set put v (slice_set (get_or put v []) at word) ≡ slice_set rows v (slice_set (slice_set row j w) at word)
+          past l =
+              set-set rows v (slice_set row j w) (slice_set (get_or put v []) at word) ∙ set_past rows v (slice_set (get_or put v []) at word) l
+              ∙ sym (set_past rows v (slice_set (slice_set row j w) at word) l)
+
+  -- the scalar's word beside it
+  set_beside : (m : Variables) (x : Variable) (j w : ℕ) → is_same (Shared v) x ≡ true → (at ≡ j → ⊥)
+      → with_word (other m) x j w ≡ other (with_word m x j w)
+  set_beside m (Shared u) j w h ne =
+      subst (λ z. with_word (other m) (Shared z) j w ≡ other (with_word m (Shared z) j w)) (sym (eqb-true u v h)) (own_beside m j w ne)
+  set_beside m (Local n) j w h ne = absurd (let no : false ≡ true = h in cc)
 
   -- ---- an expression that doesn't read it
 
@@ -279,41 +316,66 @@ module _ (v word : ℕ) where
       by None = same refl
       by (Some x) = k x.0 (record s { left = x.1 })
 
-  write_alike : (x : Variable) (w : ℕ) (s : Attempt) → Alike (of_write x).untouched (goes_on (assigned s x 0 w)) (goes_on (assigned (other_in s) x 0 w))
-  write_alike x w s = by (is_same (Shared v) x) refl
+  -- one word is written
+  write_alike : (x : Variable) (w : ℕ) (s : Attempt) → (is_same (Shared v) x ≡ true → n ≤ 1)
+      → Alike (of_write x).untouched (goes_on (assigned s x 0 w)) (goes_on (assigned (other_in s) x 0 w))
+  write_alike x w s its = by (is_same (Shared v) x) refl
     where
+      again : (j : ℕ) → at ≡ j → is_same (Shared v) x ≡ true → with_word (other s.variables) x j w ≡ with_word s.variables x j w
+      again j e h = subst (λ k. with_word (other s.variables) x k w ≡ with_word s.variables x k w) e (set_again s.variables x w h)
+
       by : (b : Bool) → is_same (Shared v) x ≡ b
           → Alike (if b then summary_write else summary_unit).untouched (goes_on (assigned s x 0 w)) (goes_on (assigned (other_in s) x 0 w))
-      by true e = same (ap (λ m. goes_on (record s { variables = m })) (sym (set_again s.variables x w e)))
+      by true e =
+          let one = its e in
+          let first : at ≡ 0 = omega (arith, one, inside) in
+          same (ap (λ m. goes_on (record s { variables = m })) (sym (again 0 first e)))
       by false e = apart (assigned s x 0 w) refl refl (ap (λ m. goes_on (record s { variables = m })) (set_later s.variables x 0 w e))
 
-  write_two_alike : (x : Variable) (low high : ℕ) (s : Attempt) → Alike (of_write x).untouched (goes_on (assigned (assigned s x 0 low) x 1 high))
+  -- two words written hide either of them
+  two_again : (m : Variables) (x : Variable) (low high k : ℕ) → is_same (Shared v) x ≡ true → at ≡ k → k < 2
+      → with_word (with_word (other m) x 0 low) x 1 high ≡ with_word (with_word m x 0 low) x 1 high
+  two_again m x low high zero e first l =
+      let at_zero : at ≡ 0 = first in
+      ap (λ z. with_word z x 1 high) (subst (λ k. with_word (other m) x k low ≡ with_word m x k low) at_zero (set_again m x low e))
+  two_again m x low high (suc zero) e second l =
+      let beside : at ≡ 0 → ⊥ = λ z. omega (arith, z, second) in
+      let at_one : at ≡ 1 = second in
+      ap (λ z. with_word z x 1 high) (set_beside m x 0 low e beside)
+      ∙ subst (λ k. with_word (other (with_word m x 0 low)) x k high ≡ with_word (with_word m x 0 low) x k high) at_one
+      (set_again (with_word m x 0 low) x high e)
+  two_again m x low high (suc (suc k)) e first l = absurd (omega (arith, l))
+
+  write_two_alike : (x : Variable) (low high : ℕ) (s : Attempt) → (is_same (Shared v) x ≡ true → n ≤ 2)
+      → Alike (of_write x).untouched (goes_on (assigned (assigned s x 0 low) x 1 high))
       (goes_on (assigned (assigned (other_in s) x 0 low) x 1 high))
-  write_two_alike x low high s = by (is_same (Shared v) x) refl
+  write_two_alike x low high s its = by (is_same (Shared v) x) refl
     where
       by : (b : Bool) → is_same (Shared v) x ≡ b
           → Alike (if b then summary_write else summary_unit).untouched (goes_on (assigned (assigned s x 0 low) x 1 high))
           (goes_on (assigned (assigned (other_in s) x 0 low) x 1 high))
-      by true e = same (ap (λ m. goes_on (record s { variables = with_word m x 1 high })) (sym (set_again s.variables x low e)))
+      by true e =
+          let two = its e in
+          same (ap (λ m. goes_on (record s { variables = m })) (sym (two_again s.variables x low high at e refl (omega (arith, two, inside)))))
       by false e = apart (assigned (assigned s x 0 low) x 1 high) refl refl
           (ap (λ m. goes_on (record s { variables = with_word m x 1 high })) (set_later s.variables x 0 low e)
           ∙ ap (λ m. goes_on (record s { variables = m })) (set_later (with_word s.variables x 0 low) x 1 high e))
 
-  assigned_alike : (x : VariableName) (w : ℕ) (s : Attempt)
+  assigned_alike : (x : VariableName) (w : ℕ) (s : Attempt) → HasWords v n x
       → Alike (of_write x.variable).untouched (goes_on (assigned_to s x w)) (goes_on (assigned_to (other_in s) x w))
-  assigned_alike x w s = by x.word_type
+  assigned_alike x w s its = by x.word_type its
     where
-      by : (of : WordType) → Alike (of_write x.variable).untouched
+      by : (of : WordType) → (is_same (Shared v) x.variable ≡ true → n ≤ by_width of 1 2) → Alike (of_write x.variable).untouched
           (goes_on (by_width of (assigned s x.variable 0 w) (assigned (assigned s x.variable 0 (w % 65536)) x.variable 1 (w / 65536))))
           (goes_on (by_width of (assigned (other_in s) x.variable 0 w)
           (assigned (assigned (other_in s) x.variable 0 (w % 65536)) x.variable 1 (w / 65536))))
-      by Long = write_two_alike x.variable (w % 65536) (w / 65536) s
-      by Int = write_alike x.variable w s
-      by Unsigned = write_alike x.variable w s
+      by Long two = write_two_alike x.variable (w % 65536) (w / 65536) s two
+      by Int one = write_alike x.variable w s one
+      by Unsigned one = write_alike x.variable w s one
 
   -- ---- turns
 
-  module _ (x : Variable) (body : Attempt → Outcome) (b : AccessSummary)
+  module _ (x : Variable) (its : is_same (Shared v) x ≡ true → n ≤ 1) (body : Attempt → Outcome) (b : AccessSummary)
       (k : IsClean b → (s : Attempt) → Alike b.untouched (body s) (body (other_in s))) where
     abbrev turn : AccessSummary
     turn = summary_seq b (of_write x)
@@ -357,28 +419,31 @@ module _ (v word : ℕ) where
         subst (λ z. Alike (kept (suc n)) (from_turn n i z) (from_turn n i u)) first
         (subst (λ z. Alike (kept (suc n)) (from_turn n i a) (from_turn n i z)) second (f e a))
 
+    counter_alike : (i : ℕ) (s : Attempt) → Alike (of_write x).untouched (goes_on (assigned s x 0 i)) (goes_on (assigned (other_in s) x 0 i))
+    counter_alike i s = write_alike x i s its
+
     turns_alike : (n i : ℕ) (s : Attempt) → ((of_write x).untouched ≡ true → (j : ℕ) → n ≡ suc j → IsClean turn)
         → Alike (kept n) (turns n i x body s) (turns n i x body (other_in s))
     turns_alike zero i s clean =
         alike_if (of_write x).untouched (kept zero) (goes_on (assigned s x 0 i)) (goes_on (assigned (other_in s) x 0 i))
-        (λ e. both_hold (of_write x).untouched true e refl) (write_alike x i s)
+        (λ e. both_hold (of_write x).untouched true e refl) (counter_alike i s)
     turns_alike (suc n) i s clean =
         turn_alike n i (assigned s x 0 i) (assigned (other_in s) x 0 i)
-        (λ e a. body_alike n i (clean e n refl) (λ a. turns_alike n (i + 1) a (λ f j g. clean f n refl)) a) (write_alike x i s)
+        (λ e a. body_alike n i (clean e n refl) (λ a. turns_alike n (i + 1) a (λ f j g. clean f n refl)) a) (counter_alike i s)
 
   -- ---- statements
 
-  set_alike : (x : VariableName) (e : CheckedExpression) → IsClean (summary_seq (of_expression e) (of_write x.variable)) → (a : Attempt)
+  set_alike : (x : VariableName) (e : CheckedExpression) → HasWords v n x → IsClean (summary_seq (of_expression e) (of_write x.variable)) → (a : Attempt)
       → Alike ((of_expression e).untouched && (of_write x.variable).untouched)
       (if_value (value_of e a.variables a.left) a (λ w s. goes_on (assigned_value s x e w)))
       (if_value (value_of e (other a.variables) a.left) (other_in a) (λ w s. goes_on (assigned_value s x e w)))
-  set_alike x e clean a =
+  set_alike x e its clean a =
       let unread = (clean_first (of_expression e) (of_write x.variable) clean).exposed in
       value_alike ((of_expression e).untouched && (of_write x.variable).untouched) e a (λ w s. goes_on (assigned_value s x e w)) unread
       (λ w s. alike_if (of_write x.variable).untouched ((of_expression e).untouched && (of_write x.variable).untouched) (goes_on (assigned_value s x e w))
       (goes_on (assigned_value (other_in s) x e w))
       (λ h. both_hold (of_expression e).untouched (of_write x.variable).untouched (expression_untouched e unread) h)
-      (assigned_alike x (converted (type_of e) x.word_type w) s))
+      (assigned_alike x (converted (type_of e) x.word_type w) s its))
 
   either_alike : (b c d : Bool) → b ≡ true → (o p q r : Outcome) (test : Bool) → Alike c o p → Alike d q r
       → Alike (b && (c || d)) (if test then o else q) (if test then p else r)
@@ -388,11 +453,11 @@ module _ (v word : ℕ) where
   mutual
     unfolding summary
 
-    statement_alike : (s : CheckedStatement) → NoStoreInStatement v s → IsClean (of_statement s) → (a : Attempt)
+    statement_alike : (s : CheckedStatement) → IsScalarInStatement v n s → IsClean (of_statement s) → (a : Attempt)
         → Alike (of_statement s).untouched (run_statement s a) (run_statement s (other_in a))
     statement_alike (t.declare of x None) plain clean a = apart a refl refl refl
-    statement_alike (t.declare of x (Some e)) plain clean a = set_alike x e clean a
-    statement_alike (t.assign x e) plain clean a = set_alike x e clean a
+    statement_alike (t.declare of x (Some e)) plain clean a = set_alike x e plain clean a
+    statement_alike (t.assign x e) plain clean a = set_alike x e plain clean a
     statement_alike (t.store x index e) plain clean a =
         let i = of_expression index in
         let j = of_expression e in
@@ -408,16 +473,16 @@ module _ (v word : ℕ) where
         (ap (λ m. goes_on (record s { variables = m })) (set_later s.variables x.variable i (word_of e w) plain))))
     statement_alike (t.choose c) plain clean a = choice_alike c plain clean a
     statement_alike (t.loop x from tested below stepped body) plain clean a =
-        let n = below - from in
-        turns_alike x.variable (run_block body) (of_block body) (λ h s. block_alike body plain h s) n from a
-        (λ wrote j e. clean_turn (n == 0) (n == 1) (summary_seq (of_block body) (of_write x.variable))
-        (λ none. let zero_turns = eqb-true n 0 none in omega (arith, zero_turns, e)) (clean_second (of_write x.variable) _ clean wrote))
+        let count = below - from in
+        turns_alike x.variable plain.0 (run_block body) (of_block body) (λ h s. block_alike body plain.1 h s) count from a
+        (λ wrote j e. clean_turn (count == 0) (count == 1) (summary_seq (of_block body) (of_write x.variable))
+        (λ none. let zero_turns = eqb-true count 0 none in omega (arith, zero_turns, e)) (clean_second (of_write x.variable) _ clean wrote))
     statement_alike (t.emit e) plain clean a =
         value_alike (of_expression e).untouched e a (λ w s. goes_on (record s { emitted = s.emitted ++ word_of e w ∷ [] })) clean.exposed
         (λ w s. apart (record s { emitted = s.emitted ++ word_of e w ∷ [] }) (expression_untouched e clean.exposed) refl refl)
     statement_alike (t.transition n) plain clean a = absurd (let none : true ≡ false = clean.transitions in cc)
 
-    choice_alike : (c : CheckedChoice) → NoStoreInChoice v c → IsClean (of_choice c) → (a : Attempt)
+    choice_alike : (c : CheckedChoice) → IsScalarInChoice v n c → IsClean (of_choice c) → (a : Attempt)
         → Alike (of_choice c).untouched (run_choice c a) (run_choice c (other_in a))
     choice_alike t.nothing plain clean a = apart a refl refl refl
     choice_alike (t.otherwise b) plain clean a = block_alike b plain clean a
@@ -432,7 +497,7 @@ module _ (v word : ℕ) where
         (run_choice more s) (run_choice more (other_in s)) (holds w) (block_alike b plain.0 (clean_left (of_block b) (of_choice more) behind) s)
         (choice_alike more plain.1 (clean_right (of_block b) (of_choice more) behind) s))
 
-    block_alike : (b : CheckedBlock) → NoStoreIn v b → IsClean (of_block b) → (a : Attempt)
+    block_alike : (b : CheckedBlock) → IsScalarIn v n b → IsClean (of_block b) → (a : Attempt)
         → Alike (of_block b).untouched (run_block b a) (run_block b (other_in a))
     block_alike t.end plain clean a = apart a refl refl refl
     block_alike (t.step s more) plain clean a =
@@ -459,12 +524,12 @@ module _ (b : CheckedBlock) (v : ℕ) (written : SomePath b (writes (Shared v)))
   touched : sum.untouched ≡ false
   touched = (or_none sum.transitions_untouched sum.untouched (or_none sum.exposed (sum.transitions_untouched || sum.untouched) none_amiss).1).1
 
-  forgotten : (w : ℕ) (s : Attempt) → NoStoreIn v b → run_block b (assigned s (Shared v) 0 w) ≡ run_block b s
-  forgotten w s plain = by (block_alike v w b plain clean s)
+  forgotten : (n i w : ℕ) (s : Attempt) → IsScalarIn v n b → i < n → run_block b (assigned s (Shared v) i w) ≡ run_block b s
+  forgotten n i w s plain l = by (block_alike v n i w l b plain clean s)
     where
-      by : Alike v w sum.untouched (run_block b s) (run_block b (assigned s (Shared v) 0 w)) → run_block b (assigned s (Shared v) 0 w) ≡ run_block b s
+      by : Alike v n i w l sum.untouched (run_block b s) (run_block b (assigned s (Shared v) i w)) → run_block b (assigned s (Shared v) i w) ≡ run_block b s
       by (same e) = sym e
       by (apart a e f g) = absurd (differs sum.untouched e touched)
 
 pub first_writes_forget : FirstWritesForget
-first_writes_forget b v w s plain written in_place = forgotten b v written in_place w s plain
+first_writes_forget b v n i w s plain l written in_place = forgotten b v written in_place n i w s plain l

@@ -7,7 +7,7 @@ pub fn runs_go_on_along_paths()
     ensures { RunsGoOnAlongPaths }
 {}
 
-/// Where each path of a block writes a scalar before it reads it and before its transition, it makes no difference which word
+/// Where each path of a block writes a scalar before it reads it and before its transition, it makes no difference which words
 /// the scalar held.
 pub fn first_writes_forget()
     ensures { FirstWritesForget }

@@ -9,7 +9,7 @@ use Rattle.cost_bound.specs.Allowance.{shared_sum_from, version_part}
 use Rattle.memory_map.specs.declared.place.VariablePlace.{VariablePlace}
 use Rattle.memory_map.specs.declared.place.VariablePlace.TheVariants.{Scalar, Array}
 use Rattle.privatise.specs.declared.variables.Free.{Free}
-use Rattle.memory_map.specs.Places.{AreInOrder, home_region, copy_regions, version_regions}
+use Rattle.memory_map.specs.Places.{scalar_words, AreInOrder, home_region, copy_regions, version_regions}
 use Rattle.privatise.specs.Sizes.{home_part, copy_part}
 use Rattle.privatise.specs.Layouts.{IsPlaceOf}
 use Rattle.privatise.specs.Placing.{place_at}
@@ -115,22 +115,35 @@ pub record Split (written : Bool) (e : Extent) (free : Free) (v : VariablePlace)
 
 split : (written : Bool) (e : Extent) (free : Free) (v : VariablePlace) (vs : List VariablePlace) (ends : Ends) → IsPlaceOf written e v
     → Stand free (v ∷ vs) ends → Split written e free v vs ends
-split written (extent.Scalar _) free (Scalar home copy) vs ends k h = record {
+split written (extent.Scalar _) free (Scalar home copy width) vs ends k h = record {
   at = record { home = home; copy = copy; version = free.version };
-  place = refl;
+  place = ap (λ w. Scalar home copy w) k;
   home = h.home.0.from;
   copy = h.copy.0.from;
   version = omega arith;
   behind = record {
-    home = h.home.1;
-    copy = h.copy.1;
+    home = subst (λ w. AreInOrder (home + 2 * scalar_words w) (map home_region vs) ends.home) k h.home.1;
+    copy = subst (λ w. AreInOrder (copy + 2 * scalar_words w) (flat_map copy_regions vs) ends.copy) k h.copy.1;
+    version = subst (λ a. AreInOrder a (flat_map version_regions vs) ends.version) (let e : free.version ≡ free.version + 2 * 0 = omega arith in e)
+        h.version;
+  };
+}
+split written (extent.Long _) free (Scalar home copy width) vs ends k h = record {
+  at = record { home = home; copy = copy; version = free.version };
+  place = ap (λ w. Scalar home copy w) k;
+  home = h.home.0.from;
+  copy = h.copy.0.from;
+  version = omega arith;
+  behind = record {
+    home = subst (λ w. AreInOrder (home + 2 * scalar_words w) (map home_region vs) ends.home) k h.home.1;
+    copy = subst (λ w. AreInOrder (copy + 2 * scalar_words w) (flat_map copy_regions vs) ends.copy) k h.copy.1;
     version = subst (λ a. AreInOrder a (flat_map version_regions vs) ends.version) (let e : free.version ≡ free.version + 2 * 0 = omega arith in e)
         h.version;
   };
 }
 split written (extent.Scalar _) free (Array elements n copies) vs ends k h = absurd k
-split written (extent.Array n) free (Scalar home copy) vs ends k h = absurd k
-split written (extent.Long _) free v vs ends k h = absurd k
+split written (extent.Long _) free (Array elements n copies) vs ends k h = absurd k
+split written (extent.Array n) free (Scalar home copy width) vs ends k h = absurd k
 split true (extent.Array n) free (Array elements m None) vs ends k h = absurd (let clash : false ≡ true = k.1 in cc)
 split false (extent.Array n) free (Array elements m (Some c)) vs ends k h = absurd (let clash : true ≡ false = k.1 in cc)
 split false (extent.Array n) free (Array elements m None) vs ends k h = record {

@@ -35,10 +35,11 @@ same_privates places (x ∷ xs) (y ∷ ys) e a b =
     let number : x.number ≡ y.number = cc in
     let here = (All-head (HasItsPlace places) x xs a).place in
     let there = (All-head (HasItsPlace places) y ys b).place in
-    let both : Some (Scalar x.home x.copy) ≡ Some (Scalar y.home y.copy) = sym here ∙ ap (λ n. slice_get places n) number ∙ there in
+    let both : Some (Scalar x.home x.copy x.width) ≡ Some (Scalar y.home y.copy y.width) = sym here ∙ ap (λ n. slice_get places n) number ∙ there in
     let home : x.home ≡ y.home = cc in
     let copy : x.copy ≡ y.copy = cc in
-    let same : x ≡ y = λ j. record { number = number j; home = home j; copy = copy j } in
+    let width : x.width ≡ y.width = cc in
+    let same : x ≡ y = λ j. record { number = number j; home = home j; copy = copy j; width = width j } in
     let behind : map (λ s. s.number) xs ≡ map (λ s. s.number) ys = cc in
     ap (λ s. s ∷ xs) same ∙ ap (λ s. y ∷ s) (same_privates places xs ys behind (All-tail (HasItsPlace places) x xs a) (All-tail (HasItsPlace places) y ys b))
 

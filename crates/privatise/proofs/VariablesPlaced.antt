@@ -17,7 +17,6 @@ use Rattle.privatise.specs.declared.variables.Free.{Free}
 use Rattle.memory_map.specs.Places.{home_region, copy_regions, version_regions, AreInOrder}
 use Rattle.privatise.specs.Sizes.{home_part, home_words, copy_part}
 use Rattle.privatise.specs.Layouts.{IsPlaceOf}
-use Rattle.task_ast.specs.Longs.{IsPlainExtent}
 use Rattle.privatise.specs.Placing.{place_at, copy_sum, version_sum, IsRoom, ArePlaced}
 use Rattle.memory_map.proofs.Interface.{in_order_append, in_order_higher}
 use Rattle.privatise.proofs.Sums.{sum_step}
@@ -30,11 +29,11 @@ each_push P [] y each new (suc k) x e = let no : None ≡ Some x = e in cc
 each_push P (z ∷ zs) y each new zero x e = each zero x e
 each_push P (z ∷ zs) y each new (suc k) x e = each_push (λ n. P (suc n)) zs y (λ k x h. each (suc k) x h) new k x e
 
-pub kind_at : (written : Bool) (e : Extent) (free : Free) → IsPlainExtent e → IsPlaceOf written e (place_at written e free)
-kind_at written (extent.Scalar _) free h = tt
-kind_at written (extent.Long _) free h = absurd h
-kind_at true (extent.Array n) free h = (refl, refl)
-kind_at false (extent.Array n) free h = (refl, refl)
+pub kind_at : (written : Bool) (e : Extent) (free : Free) → IsPlaceOf written e (place_at written e free)
+kind_at written (extent.Scalar _) free = refl
+kind_at written (extent.Long _) free = refl
+kind_at true (extent.Array n) free = (refl, refl)
+kind_at false (extent.Array n) free = (refl, refl)
 
 home_placed : (written : Bool) (e : Extent) (free : Free) (end : ℕ) → free.home % 2 ≡ 0 → end ≡ free.home + 2 * home_part e
     → AreInOrder free.home (home_region (place_at written e free) ∷ []) end

@@ -1,9 +1,9 @@
 -- The whole layout from its parts.
-use Rattle.std.proofs.Common.{◌≡◌, ℕ, ◌+◌, ◌*◌, ◌%◌, ◌<◌, ◌≤◌, Bool, true, false, List, [], length, map, refl, sym, ◌∙◌, ap, subst, arith, Option, Some, None}
+use Rattle.std.proofs.Common.{◌≡◌, ℕ, ◌+◌, ◌*◌, ◌%◌, ◌<◌, ◌≤◌, Bool, true, false, List, length, map, refl, sym, ◌∙◌, ap, subst, arith, Option, Some, None}
 use Rattle.std.specs.Prelude.{slice_get, slice_index_or, All, IsSomeAnd}
 use Rattle.std.specs.List.{flat_map}
 use Rattle.std.proofs.lemmas.List.Elements.{All-weaker}
-use Rattle.std.proofs.lemmas.Option.{slice_get_within, get_or_from_slice_get}
+use Rattle.std.proofs.lemmas.Option.{slice_get_within}
 use Rattle.task_ast.specs.View.{task_of}
 use Rattle.task_ast.specs.declared.TaskDeclaration.{TaskDeclaration}
 use Rattle.task_ast.specs.declared.names.VariableName.{VariableName}
@@ -11,7 +11,6 @@ use Rattle.task_ast.specs.declared.names.TaskName.{TaskName}
 use Rattle.task_ast.specs.declared.Extent.{Extent}
 use Rattle.task_ast.specs.declared.Extent.TheVariants as extent
 use Rattle.task_ast.specs.declared.SharedDeclaration.{SharedDeclaration}
-use Rattle.task_ast.specs.Longs.{IsPlainShared}
 use Rattle.cost_bound.specs.declared.allowance.Allow.{Allow}
 use Rattle.cost_bound.specs.Counts.{Code, emits_of}
 use Rattle.cost_bound.specs.Allowance.{CheckedProgram, version_part, is_written, total, greatest, list_of, words_of, versions_of, IsAllowed}
@@ -197,16 +196,15 @@ room p allow s r written few h a k g =
       even_version = e.versions;
     }
 
--- the place of a variable of one word is of its kind
+-- the place of each variable is of its kind
 pub variables_are : (p : CheckedProgram) (written : List Bool) (free : Free) (places : List VariablePlace) → length p.shared ≤ 256 → AreWritten p written
-    → ArePlaced p.shared written free places → All IsPlainShared p.shared → AreVariables p places
-variables_are p written free places few h k plain = record {
+    → ArePlaced p.shared written free places → AreVariables p places
+variables_are p written free places few h k = record {
   count = k.count;
   each = λ i d place f g.
       let l = slice_get_within p.shared i d f in
       let its = k.each i d place f g in
-      let one_word : IsPlainShared d = subst IsPlainShared (get_or_from_slice_get p.shared i d d f) (plain i d l) in
-      let kind = kind_at (slice_index_or written i false) d.extent its.0 one_word.1 in
+      let kind = kind_at (slice_index_or written i false) d.extent its.0 in
       subst (λ w. IsPlaceOf w d.extent place) (h i (omega (arith, l, few))) (subst (IsPlaceOf (slice_index_or written i false) d.extent) (sym its.1) kind);
 }
 
@@ -303,16 +301,16 @@ pub whole : (p : CheckedProgram) (allow : Allow) (plans : List TaskPlanValue) (s
     (layouts : List TaskPlace)
     → length p.shared ≤ 256 → AreWritten p written → IsAllowed p allow → AreSizes p s → AreRegions allow s r
     → ArePlaced p.shared written (record { home = r.homes.address; copy = r.copies.address; version = r.versions.address }) places
-    → ArePlacedTasks p.shared places p.tasks plans r.code.address layouts → All IsPlainShared p.shared
+    → ArePlacedTasks p.shared places p.tasks plans r.code.address layouts
     → IsLayout p allow plans (map_with r places layouts)
-whole p allow plans s r written places layouts few h a k g v t plain = record {
+whole p allow plans s r written places layouts few h a k g v t = record {
   rules = laid_out p allow plans s r written places layouts few h a k g v t;
   list = g.entries;
   emits = g.emits_words;
   versions = g.versions_words;
   homes = g.homes_words ∙ k.homes;
   copies = g.copies_words ∙ k.copies;
-  variables = variables_are p written _ places few h v plain;
+  variables = variables_are p written _ places few h v;
   boot = g.boot_words ∙ k.boot;
   commit = g.commit_words;
   code = g.code_words ∙ k.code;

@@ -8,20 +8,22 @@ use Rattle.cost_bound.specs.Counts.{Code}
 use Rattle.cost_bound.specs.Allowance.{CheckedProgram, CheckedTask, is_written, total, words_of}
 use Rattle.war_analysis.specs.PlanValue.{TaskPlanValue}
 use Rattle.memory_map.specs.address_space.Limits.{fram_first}
+use Rattle.memory_map.specs.declared.place.ScalarWidth.TheVariants.{OneWord, TwoWords}
 use Rattle.memory_map.specs.declared.place.VariablePlace.{VariablePlace}
 use Rattle.memory_map.specs.declared.place.VariablePlace.TheVariants.{Scalar, Array}
 use Rattle.memory_map.specs.MemoryMap.{MemoryMap, TaskPlace}
 use Rattle.memory_map.specs.Places.{end_of, IsLaidOut}
 use Rattle.privatise.specs.Sizes.{home_words, copy_words, body_words, boot_words, commit_words}
 
--- a scalar has the place of a scalar; an array one of its length, with copies and versions exactly where some task writes it. A long has none
--- yet
+-- a scalar has the place of a scalar, of one word, or of two where it is a long; an array one of its length, with copies and versions exactly where
+-- some task writes it
 abbrev pub IsPlaceOf : Bool → Extent → VariablePlace → Type 0
-IsPlaceOf written (extent.Scalar _) (Scalar _ _) = Unit {0}
+IsPlaceOf written (extent.Scalar _) (Scalar _ _ width) = width ≡ OneWord
+IsPlaceOf written (extent.Long _) (Scalar _ _ width) = width ≡ TwoWords
 IsPlaceOf written (extent.Array n) (Array _ length copies) = (length ≡ n) × (is_some copies ≡ written)
 IsPlaceOf written (extent.Scalar _) (Array _ _ _) = ⊥
-IsPlaceOf written (extent.Array n) (Scalar _ _) = ⊥
-IsPlaceOf written (extent.Long _) place = ⊥
+IsPlaceOf written (extent.Long _) (Array _ _ _) = ⊥
+IsPlaceOf written (extent.Array n) (Scalar _ _ _) = ⊥
 
 -- each variable has a place, by its number
 pub record AreVariables (p : CheckedProgram) (places : List VariablePlace) : Type 0 where
@@ -40,7 +42,7 @@ pub record AreTasks (p : CheckedProgram) (plans : List TaskPlanValue) (tasks : L
   pub each : (k : ℕ) (task : CheckedTask) (plan : TaskPlanValue) (t : TaskPlace) → slice_get p.tasks k ≡ Some task → slice_get plans k ≡ Some plan
       → slice_get tasks k ≡ Some t → IsTaskLayout p.shared task.body plan t
 
--- The layout of a source, which has no longs: it keeps the rules of layouts, its buffers have room for what the source's allowance says, its variables and
+-- The layout of a source: it keeps the rules of layouts, its buffers have room for what the source's allowance says, its variables and
 -- tasks are those of the source, and the whole takes no more words than the source has, of which the last is the one at FFFE.
 pub record IsLayout (p : CheckedProgram) (allow : Allow) (plans : List TaskPlanValue) (l : MemoryMap) : Type 0 where
   pub rules : IsLaidOut l

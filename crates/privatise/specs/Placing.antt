@@ -11,6 +11,8 @@ use Rattle.war_analysis.specs.PlanValue.{TaskPlanValue}
 use Rattle.memory_map.specs.address_space.Limits.{fram_first, reset_vector}
 use Rattle.memory_map.specs.Words.{row_words}
 use Rattle.memory_map.specs.declared.place.ArrayCopies.{ArrayCopies}
+use Rattle.memory_map.specs.declared.place.ScalarWidth.{ScalarWidth}
+use Rattle.memory_map.specs.declared.place.ScalarWidth.TheVariants.{OneWord, TwoWords}
 use Rattle.memory_map.specs.declared.place.VariablePlace.{VariablePlace}
 use Rattle.memory_map.specs.declared.place.VariablePlace.TheVariants.{Scalar, Array}
 use Rattle.memory_map.specs.declared.place.PrivateScalar.{PrivateScalar}
@@ -26,10 +28,14 @@ use Rattle.privatise.specs.Layouts.{IsTaskLayout}
 abbrev pub copies_where : Bool → Free → Option ArrayCopies
 copies_where written free = if written then Some (record { copies = free.copy; versions = free.version }) else None
 
--- a variable at the free addresses; a long by its first word
+-- a scalar at the free addresses
+abbrev pub scalar_at : ScalarWidth → Free → VariablePlace
+scalar_at width free = Scalar free.home free.copy width
+
+-- a variable at the free addresses
 abbrev pub place_at : Bool → Extent → Free → VariablePlace
-place_at written (extent.Scalar _) free = Scalar free.home free.copy
-place_at written (extent.Long _) free = Scalar free.home free.copy
+place_at written (extent.Scalar _) free = scalar_at OneWord free
+place_at written (extent.Long _) free = scalar_at TwoWords free
 place_at written (extent.Array n) free = Array free.home n (copies_where written free)
 
 -- the words of all copies and versions, where the written arrays are marked
@@ -60,7 +66,7 @@ pub record ArePlaced (shared : List SharedDeclaration) (written : List Bool) (fr
 
 -- whether it is the place of a scalar
 abbrev pub is_scalar_place : VariablePlace → Bool
-is_scalar_place (Scalar _ _) = true
+is_scalar_place (Scalar _ _ _) = true
 is_scalar_place (Array _ _ _) = false
 
 -- the variable of a number has the place of a scalar

@@ -9,5 +9,7 @@ mod tasks;
 mod variables;
 
 pub use laws::one_layout;
-pub use memory_map::{ArrayCopies, Layout, PrivateScalar, Region, TaskLayout, VariablePlace};
+pub use memory_map::{
+    ArrayCopies, Layout, PrivateScalar, Region, ScalarWidth, TaskLayout, VariablePlace,
+};
 pub use placing::layout;

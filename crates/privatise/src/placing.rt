@@ -1,7 +1,6 @@
 //! The layout of a source.
-ghost use Rattle.std.specs.Prelude.{◌≡◌, ◌+◌, ◌*◌, ◌≤◌, All, IfOk, length};
+ghost use Rattle.std.specs.Prelude.{◌≡◌, ◌+◌, ◌*◌, ◌≤◌, IfOk, length};
 ghost use Rattle.task_ast.specs.View.{program_of};
-ghost use Rattle.task_ast.specs.Longs.{IsPlainShared};
 ghost use Rattle.cost_bound.specs.Allowance.{IsAllowed};
 ghost use Rattle.war_analysis.specs.Plans.{IsPlan};
 ghost use Rattle.memory_map.specs.address_space.Limits.{fram_first, reset_vector};
@@ -77,7 +76,7 @@ fn layout_of(
     requires few_tasks { length source.now.tasks.items ≤ 64 }
     requires allowed { IsAllowed (program_of source.now) allow.now }
     requires planned { IsPlan (program_of source.now) plan.now }
-    ensures { IfOk result (λ layout. All IsPlainShared source.now.shared.items → IsLayout (program_of source.now) allow.now plan.now layout) }
+    ensures { IfOk result (IsLayout (program_of source.now) allow.now plan.now) }
 {
     let shared = source.shared.as_slice();
     let tasks = source.tasks.as_slice();
@@ -100,8 +99,7 @@ fn layout_of(
     Ok(Layout::new(regions, variables, layouts))
 }
 
-/// Where the data and the code of a source stand; or no memory is left. The allowance and the plan are those of the source. What is
-/// said of the places is said of a source without longs, until a place knows how wide its variable is.
+/// Where the data and the code of a source stand; or no memory is left. The allowance and the plan are those of the source.
 ///
 /// It takes no more than the words of the allowance, from 0x4400 up, but for the last of them, which is the word at 0xFFFE.
 pub fn layout(
@@ -112,8 +110,7 @@ pub fn layout(
 ) -> Result<Layout, AllocError>
     requires allowed { IsAllowed (program_of checked.now.source) allow.now }
     requires planned { IsPlan (program_of checked.now.source) plan.now }
-    ensures { IfOk result (λ layout. All IsPlainShared checked.now.source.shared.items
-        → IsLayout (program_of checked.now.source) allow.now plan.now layout) }
+    ensures { IfOk result (IsLayout (program_of checked.now.source) allow.now plan.now) }
 {
     let layout = layout_of(alloc, checked.source(), allow, plan)?;
     Ok(layout)

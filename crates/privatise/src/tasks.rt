@@ -21,7 +21,12 @@ fn private_scalar(variables: &[VariablePlace], number: u32) -> PrivateScalar
     ensures number { result.number ≡ number }
 {
     match variables[number as usize] {
-        VariablePlace::Scalar { home, copy } => PrivateScalar { number, home, copy },
+        VariablePlace::Scalar { home, copy, width } => PrivateScalar {
+            number,
+            home,
+            copy,
+            width,
+        },
         VariablePlace::Array { .. } => unreachable!(),
     }
 }

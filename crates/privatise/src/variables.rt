@@ -2,11 +2,11 @@
 ghost use Rattle.std.specs.Prelude.{◌≡◌, ◌+◌, ◌*◌, ◌≤◌, ◌<◌, IfOk, length};
 ghost use Rattle.cost_bound.specs.Allowance.{version_part};
 ghost use Rattle.privatise.specs.Sizes.{home_part, copy_part};
-ghost use Rattle.privatise.specs.Placing.{copies_where, place_at, IsRoom, ArePlaced};
+ghost use Rattle.privatise.specs.Placing.{copies_where, scalar_at, place_at, IsRoom, ArePlaced};
 
 use crate::sizes::{copy_part, home_part, version_part};
 use cost_bound::SHARED;
-use memory_map::{ArrayCopies, VariablePlace};
+use memory_map::{ArrayCopies, ScalarWidth, VariablePlace};
 use std::alloc::{AllocError, Global};
 use task_ast::{Extent, SharedDeclaration};
 
@@ -39,15 +39,23 @@ fn copies_at(written: bool, free: Free) -> Option<ArrayCopies>
     }
 }
 
-// The place of a variable at the free addresses: a long is placed by its first word.
+fn scalar_at(width: ScalarWidth, free: Free) -> VariablePlace
+    ensures { result ≡ scalar_at width free }
+{
+    VariablePlace::Scalar {
+        home: free.home,
+        copy: free.copy,
+        width,
+    }
+}
+
+// The place of a variable at the free addresses.
 fn place_at(extent: Extent, written: bool, free: Free) -> VariablePlace
     ensures { result ≡ place_at written extent free }
 {
     match extent {
-        Extent::Scalar(_) | Extent::Long(_) => VariablePlace::Scalar {
-            home: free.home,
-            copy: free.copy,
-        },
+        Extent::Scalar(_) => scalar_at(ScalarWidth::OneWord, free),
+        Extent::Long(_) => scalar_at(ScalarWidth::TwoWords, free),
         Extent::Array(length) => VariablePlace::Array {
             elements: free.home,
             length,

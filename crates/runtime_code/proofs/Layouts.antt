@@ -1,19 +1,18 @@
 -- The runtime's words and buffers in a memory map.
-use Rattle.std.proofs.Common.{◌≡◌, ℕ, ◌+◌, ◌*◌, ◌%◌, ◌<◌, ◌≤◌, inl, inr, map, arith, refl}
-use Rattle.std.specs.Prelude.{Contains}
-use Rattle.std.specs.List.{All}
-use Rattle.std.proofs.lemmas.List.Elements.{All-weaker, All-map}
+use Rattle.std.proofs.Common.{◌≡◌, ℕ, ◌+◌, ◌*◌, ◌%◌, ◌<◌, ◌≤◌, List, [], ◌∷◌, inl, inr, arith}
+use Rattle.std.specs.List.{All, flat_map}
+use Rattle.std.proofs.lemmas.List.Elements.{All-weaker, All-nil, All-head, All-tail, All-append}
 use Rattle.runtime_effects.specs.address_space.Limits.{IsFramWord, reset_vector}
 use Rattle.runtime_effects.specs.machine_effects.Machine.{IsFram}
-use Rattle.runtime_effects.specs.memory_map.declared.place.Region.{Region}
 use Rattle.runtime_effects.specs.memory_map.declared.place.PrivateScalar.{PrivateScalar}
-use Rattle.runtime_effects.specs.memory_map.declared.place.VariablePlace.TheVariants.{Scalar}
 use Rattle.runtime_effects.specs.memory_map.declared.words.RuntimeWord.TheVariants.{NextTask, EmitCount, SentBase}
 use Rattle.runtime_effects.specs.memory_map.MemoryMap.{MemoryMap, word_place}
-use Rattle.runtime_effects.specs.memory_map.Places.{end_of, home_region, copy_regions, HasItsPlace, IsLaidOut}
-use Rattle.runtime_effects.proofs.memory_map.Interface.{in_order_within, among, mapped, apart_of, parts_in_fram, words_stand}
+use Rattle.runtime_effects.specs.memory_map.Places.{end_of, scalar_words, HasItsPlace, IsLaidOut}
+use Rattle.runtime_effects.proofs.memory_map.Interface.{apart_of, parts_in_fram, words_stand, private_home, private_copy}
 use Rattle.runtime_effects.specs.Needs.{IsRegion, ArePairWords}
-use Rattle.runtime_code.specs.LayoutPlaces.{pair_of, pairs_of}
+use Rattle.runtime_effects.specs.Places.{scalar_pairs}
+use Rattle.runtime_effects.proofs.Interface.{run_all}
+use Rattle.runtime_code.specs.LayoutPlaces.{pairs_of}
 use Rattle.runtime_code.specs.Laws.{PlacesAreInFram, OpeningKeepsTask, HomesLeaveCommit, PrivatesAreWords}
 
 -- a word of the FRAM, as the machine has it
@@ -64,25 +63,27 @@ homes_leave_commit l a h low high =
 
 -- ---- private scalars
 
-pair_words : (l : MemoryMap) → IsLaidOut l → (s : PrivateScalar) → HasItsPlace l.variables s → ArePairWords (pair_of s)
-pair_words l h s p =
-    let place = Scalar s.home s.copy in
-    let its_copy : Region = record { address = s.copy; words = 1 } in
-    let contains : Contains (copy_regions place) its_copy = (0, omega arith, refl) in
-    let home = in_order_within l.homes.address (map home_region l.variables) (end_of l.homes) s.number (home_region place) h.homes
-    (mapped home_region l.variables s.number place p.place) in
-    let copy = among copy_regions l.copies.address l.variables (end_of l.copies) s.number place its_copy h.copies p.place contains in
+word_pairs : (l : MemoryMap) → IsLaidOut l → (s : PrivateScalar) → HasItsPlace l.variables s → All ArePairWords (scalar_pairs s)
+word_pairs l h s p =
+    let home = private_home l h s p in
+    let copy = private_copy l h s p in
     let apart = (apart_of l h).copies in
     let r = parts_in_fram l h in
-    let low = r.homes.from in let homes_end = r.homes.end in let copies_end = r.copies.end in
-    let hf = home.from in let he = home.end in let cf = copy.from in let ce = copy.end in
-    record {
-      home = in_fram s.home home.even (omega (arith, hf, low)) (omega (arith, he, homes_end));
-      copy = in_fram s.copy copy.even (omega (arith, hf, he, low, apart, cf)) (omega (arith, ce, copies_end));
-    }
+    run_all ArePairWords (scalar_words s.width) s.home s.copy (λ i below. record {
+      home = word_in i (scalar_words s.width) s.home l.homes.address (end_of l.homes) below home.even home.from home.end r.homes.from r.homes.end;
+      copy = word_in i (scalar_words s.width) s.copy l.copies.address (end_of l.copies) below copy.even copy.from copy.end r.copies.from r.copies.end;
+    })
+  where
+    word_in : (i n a from end : ℕ) → i < n → a % 2 ≡ 0 → from ≤ a → a + 2 * n ≤ end → 0x4400 ≤ from → end ≤ reset_vector → IsFram (2 * i + a)
+    word_in i n a from end below even low high first last =
+        in_fram (2 * i + a) (omega (arith, even)) (omega (arith, low, first)) (omega (arith, below, high, last))
 
 pub privates_are_words : PrivatesAreWords
 privates_are_words l h =
     All-weaker (λ t. All (HasItsPlace l.variables) t.privates) (λ t. All ArePairWords (pairs_of t))
-    (λ t p. All-map ArePairWords pair_of t.privates (All-weaker (HasItsPlace l.variables) (λ s. ArePairWords (pair_of s)) (pair_words l h) t.privates p))
-    l.tasks h.privates
+    (λ t p. each_pair t.privates p) l.tasks h.privates
+  where
+    each_pair : (xs : List PrivateScalar) → All (HasItsPlace l.variables) xs → All ArePairWords (flat_map scalar_pairs xs)
+    each_pair [] p = All-nil ArePairWords
+    each_pair (s ∷ xs) p = All-append ArePairWords (scalar_pairs s) (flat_map scalar_pairs xs) (word_pairs l h s (All-head (HasItsPlace l.variables) s xs p))
+        (each_pair xs (All-tail (HasItsPlace l.variables) s xs p))

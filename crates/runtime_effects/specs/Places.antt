@@ -1,5 +1,7 @@
 -- The entries of the commit list.
 use Rattle.std.specs.Prelude.{ℕ, zero, suc, ◌+◌, List, [], ◌∷◌, ◌++◌}
+use Rattle.memory_map.specs.declared.place.PrivateScalar.{PrivateScalar}
+use Rattle.memory_map.specs.Places.{scalar_words}
 use Rattle.memory_map.specs.MemoryMap.{MemoryMap, word_place}
 use Rattle.memory_map.specs.declared.words.RuntimeWord.TheVariants.{ListLength}
 
@@ -12,6 +14,10 @@ pub record CopyPair : Type 0 where
 abbrev pub run_pairs : ℕ → ℕ → ℕ → List CopyPair
 run_pairs zero home copy = []
 run_pairs (suc n) home copy = record { home = home; copy = copy } ∷ run_pairs n (home + 2) (copy + 2)
+
+-- a private scalar's words and their copies, the low word of a long first
+abbrev pub scalar_pairs : PrivateScalar → List CopyPair
+scalar_pairs s = run_pairs (scalar_words s.width) s.home s.copy
 
 -- an entry's length in bytes
 abbrev pub entry_bytes : ℕ

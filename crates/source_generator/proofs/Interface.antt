@@ -2,6 +2,3 @@
 
 -- A generated trace is within the limits of a trace.
 pub use Rattle.source_generator.proofs.Limits.{few_charges, each_once, few_readings}
--- The letters of a generated text, by which it has no long.
-pub use Rattle.source_generator.proofs.Letters.{IsPlainLetter, generated_plain}
-unfoldable pub use Rattle.source_generator.proofs.Letters.{HasPlainLetters}

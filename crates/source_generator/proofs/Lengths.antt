@@ -15,7 +15,7 @@ either_le : (c : Bool) (n : ℕ) (xs ys : List ℕ) → length xs ≤ n → leng
 either_le true n xs ys h k = h
 either_le false n xs ys h k = k
 
-pub drawn_small : (s : ℕ) → drawn s < 65536
+drawn_small : (s : ℕ) → drawn s < 65536
 drawn_small s = omega arith
 
 number_le : (n : ℕ) → n < 65536 → length (decimal n) ≤ 5

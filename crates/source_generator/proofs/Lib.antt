@@ -1,5 +1,4 @@
 mod Lengths
-mod Letters
 mod Limits
 mod Pieces
 mod Rows

@@ -4,5 +4,3 @@
 pub use Rattle.source_meaning.proofs.Emits.{emits_same}
 -- An accepted source can be run.
 pub use Rattle.source_meaning.proofs.Runnable.{accepted_texts_run}
--- A text without longs is of a source without longs.
-pub use Rattle.source_meaning.proofs.FirstLong.{text_plain, one_or_none}

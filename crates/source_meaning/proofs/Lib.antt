@@ -6,7 +6,4 @@ mod Lines
 mod Refusals
 mod Unique
 mod OneAnswer
-mod PlainTrees
-mod PlainNames
-mod FirstLong
 pub mod Interface

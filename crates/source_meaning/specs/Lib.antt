@@ -1,5 +1,4 @@
 pub mod Acceptance
 pub mod Props
 pub mod Laws
-pub mod Longs
 pub use Rattle.task_parse.specs as task_parse

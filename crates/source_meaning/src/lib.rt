@@ -3,13 +3,11 @@
 
 mod fault;
 mod laws;
-mod longs;
 mod passes;
 mod state;
 
 pub use fault::SourceFault;
 pub use laws::{accepted_texts_run, one_answer};
-pub use longs::first_long;
 pub use passes::{Accepted, accept};
 pub use source_values::{Done, Short, initial_words};
 pub use state::Meaning;

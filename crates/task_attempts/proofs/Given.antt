@@ -1,11 +1,8 @@
 -- What the proofs take of a source with its layout.
-use Rattle.std.proofs.Common.{get_or, subst}
-use Rattle.std.proofs.lemmas.Option.{slice_get_within, get_or_from_slice_get}
 use Rattle.std.specs.Prelude.{◌≡◌, ℕ, ◌+◌, ◌*◌, ◌<◌, ◌≤◌, true, false, List, [], Contains, length, Some, slice_get, slice_index, slice_index_or}
 use Rattle.layout_facts.specs.cost_bound.declared.allowance.Allow.{Allow}
 use Rattle.layout_facts.proofs.path_sums.Interface.{is_private_of}
 use Rattle.layout_facts.specs.task_ast.declared.names.Variable.TheVariants.{Shared}
-use Rattle.layout_facts.specs.task_ast.Longs.{IsPlain, IsPlainBlock, IsWordVariable}
 use Rattle.layout_facts.specs.path_runs.Laws.{NoStoreIn}
 use Rattle.layout_facts.specs.cost_bound.Counts.{Code, stores_of}
 use Rattle.layout_facts.specs.cost_bound.Allowance.{CheckedTask}
@@ -95,12 +92,6 @@ pub record IsGiven (p : CheckedProgram) (l : MemoryMap) : Type 0 where
   pub tasks : (k : ℕ) (task : CheckedTask) (t : TaskPlace) → slice_get p.tasks k ≡ Some task → slice_get l.tasks k ≡ Some t
       → IsTaskGiven p l task t
 
--- no task has a long
-plain_at : (p : CheckedProgram) → IsPlain p → (k : ℕ) (task : CheckedTask) → slice_get p.tasks k ≡ Some task → IsPlainBlock IsWordVariable task.body
-plain_at p plain k task at =
-    let is : get_or p.tasks k task ≡ task = get_or_from_slice_get p.tasks k task task at in
-    subst (λ t. IsPlainBlock IsWordVariable t.body) is (plain.tasks k task (slice_get_within p.tasks k task at))
-
 module _ (text : List ℕ) (p : CheckedProgram) (allow : Allow) (plans : List TaskPlanValue) (l : MemoryMap) (laid : IsLaidOutText text p allow plans l) where
   has : HasLayout p allow plans l
   has = record { allowed = laid.accepted.allowed; plan = laid.plan; layout = laid.layout; few = privates_are_few text p allow plans l laid }
@@ -129,7 +120,7 @@ module _ (text : List ℕ) (p : CheckedProgram) (allow : Allow) (plans : List Ta
         privates = privates_of k task t at;
         copies = e.copy;
         versions = λ x c. let v = e.version x c in record { number = v.0; below = v.1; is = v.2 };
-        fits = names_fit p allow plans l has k task t at (plain_at p laid.plain k task is_task) uses;
+        fits = names_fit p allow plans l has k task t at uses;
         plain = λ v home copy is. plain_block p.shared v ((places_are_declared p allow plans l has).is_scalar v home copy is) task.body uses;
         whole = w.0;
         of_words = w.1;

@@ -2,5 +2,5 @@
 
 -- What one turn of the loops of the analysis finds.
 pub use Rattle.war_analysis.proofs.Steps.{element}
--- Scalars that are marked are at most as many as are counted.
-pub use Rattle.war_analysis.proofs.Counted.{marked_are_counted}
+-- Scalars that are marked have at most as many words as are counted.
+pub use Rattle.war_analysis.proofs.Counted.{words_of_all, HasWords, marked_are_counted}

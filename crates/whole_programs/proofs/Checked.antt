@@ -62,7 +62,7 @@ task_checked text program checks k task e =
     let paths = checks.checks.paths in
     record {
       fits = all_at (λ task. BlockFits enough task.body) program.tasks k task (sources_fit text program checks) e;
-      uses = all_at (λ task. BlockUses program.shared task.body) program.tasks k task (names_are_used_as_declared text checks.tree program checks.checks) e;
+      uses = all_at (λ task. BlockUses program.shared task.body) program.tasks k task (names_are_used_as_declared text program checks) e;
       good = λ s bad. paths.loops s (some_at (λ task. BadLoopIn task.body s) program.tasks k task e bad);
       safe = safe_paths task.body (λ s bad. paths.assigned s (some_at (λ task. ReadsUnassigned task.body s) program.tasks k task e bad));
       ends = λ xs q. paths.transitions task.name (some_at (λ t. OpenAt t task.name) program.tasks k task e (refl, (xs, q)));

@@ -1,10 +1,14 @@
--- Which shared variables the names of a source declare.
+-- Which variables the names of a source declare.
 use Rattle.std.proofs.Common.{◌≡◌, ℕ, ◌+◌, List, [], ◌∷◌, ◌++◌, length, Option, Some, None, slice_get, refl, sym, ap, ◌∙◌, subst, arith, append_assoc}
+use Rattle.std.specs.Prelude.{All}
+use Rattle.std.proofs.lemmas.List.Elements.{All-head, All-tail}
 use Rattle.lower.specs.alp_text.declared.lines.Span.{Span}
+use Rattle.lower.specs.task_ast.declared.Extent.{Extent}
 use Rattle.lower.specs.task_ast.declared.SharedDeclaration.{SharedDeclaration}
 use Rattle.lower.specs.task_ast.Tree as t
 use Rattle.lower.specs.task_ast.Tree.{Expression, Statement, Choice, Block, Task, Program}
 use Rattle.lower.specs.task_ast.declared.WordType.{WordType}
+use Rattle.lower.specs.task_ast.Types.{IsOneWord}
 use Rattle.lower.specs.task_check.SharedTypes.{shared_type}
 use Rattle.lower.specs.task_check.Occurrences.{element_front}
 use Rattle.lower.specs.task_check.declared.occurrence.Role.{Role}
@@ -13,28 +17,39 @@ use Rattle.lower.specs.task_check.declared.occurrence.Occurrence.{Occurrence}
 use Rattle.lower.specs.task_check.Occurrences.{and_front, expression_names, value_names, statement_names, choice_names, names_up_to, task_names, shared_names}
 use Rattle.lower.specs.task_check.Occurrences.{program_names}
 use Rattle.lower.specs.task_check.Scope.{shared_in}
+use Rattle.whole_programs.specs.Needs.{StatementFits, ChoiceFits, BlockFits}
+use Rattle.whole_programs.specs.Uses.{IsExtentOf, HasItsExtent}
 
--- a name that declares a shared variable has the extent of the declaration of its number
-abbrev pub DeclaresOf : List SharedDeclaration → ℕ → Role → Type 0
-DeclaresOf shared n (role.Shared of e) = (d : SharedDeclaration) × (slice_get shared n ≡ Some d) × (d.extent ≡ e)
-DeclaresOf shared n role.Task = Unit {0}
-DeclaresOf shared n (role.Local of begin end) = Unit {0}
-DeclaresOf shared n role.Scalar = Unit {0}
-DeclaresOf shared n role.Element = Unit {0}
-DeclaresOf shared n role.Counter = Unit {0}
-DeclaresOf shared n role.Target = Unit {0}
-DeclaresOf shared n (role.Operand refused kept) = Unit {0}
+-- a name with a type and an extent is that of the declaration of its number
+pub record IsDeclaration (shared : List SharedDeclaration) (n : ℕ) (name : Span) (of : WordType) (e : Extent) : Type 0 where
+  pub declaration : SharedDeclaration
+  pub at : slice_get shared n ≡ Some declaration
+  pub name_is : declaration.name ≡ name
+  pub type_is : declaration.word_type ≡ of
+  pub extent_is : declaration.extent ≡ e
+  pub typed : IsExtentOf of e
+
+-- a name that declares a shared variable is that of the declaration of its number; a local has one word
+abbrev pub DeclaresOf : List SharedDeclaration → ℕ → Span → Role → Type 0
+DeclaresOf shared n s (role.Shared of e) = IsDeclaration shared n s of e
+DeclaresOf shared n s role.Task = Unit {0}
+DeclaresOf shared n s (role.Local of begin end) = IsOneWord of
+DeclaresOf shared n s role.Scalar = Unit {0}
+DeclaresOf shared n s role.Element = Unit {0}
+DeclaresOf shared n s role.Counter = Unit {0}
+DeclaresOf shared n s role.Target = Unit {0}
+DeclaresOf shared n s (role.Operand refused kept) = Unit {0}
 
 -- so does each of these names
 abbrev pub Declared : List SharedDeclaration → List Occurrence → Type 0
 Declared shared [] = Unit {0}
-Declared shared (o ∷ front) = DeclaresOf shared (shared_in front) o.role × Declared shared front
+Declared shared (o ∷ front) = DeclaresOf shared (shared_in front) o.span o.role × Declared shared front
 
--- a name that declares no shared variable
+-- a name that declares no shared variable, and no local of two words
 abbrev DeclaresNone : Role → Type 0
 DeclaresNone (role.Shared of e) = ⊥
 DeclaresNone role.Task = Unit {0}
-DeclaresNone (role.Local of begin end) = Unit {0}
+DeclaresNone (role.Local of begin end) = IsOneWord of
 DeclaresNone role.Scalar = Unit {0}
 DeclaresNone role.Element = Unit {0}
 DeclaresNone role.Counter = Unit {0}
@@ -45,15 +60,15 @@ abbrev DeclareNone : List Occurrence → Type 0
 DeclareNone [] = Unit {0}
 DeclareNone (o ∷ front) = DeclaresNone o.role × DeclareNone front
 
-none_declares : (shared : List SharedDeclaration) (n : ℕ) (r : Role) → DeclaresNone r → DeclaresOf shared n r
-none_declares shared n (role.Shared of e) h = absurd h
-none_declares shared n role.Task h = tt
-none_declares shared n (role.Local of begin end) h = tt
-none_declares shared n role.Scalar h = tt
-none_declares shared n role.Element h = tt
-none_declares shared n role.Counter h = tt
-none_declares shared n role.Target h = tt
-none_declares shared n (role.Operand refused kept) h = tt
+none_declares : (shared : List SharedDeclaration) (n : ℕ) (s : Span) (r : Role) → DeclaresNone r → DeclaresOf shared n s r
+none_declares shared n s (role.Shared of e) h = absurd h
+none_declares shared n s role.Task h = tt
+none_declares shared n s (role.Local of begin end) h = h
+none_declares shared n s role.Scalar h = tt
+none_declares shared n s role.Element h = tt
+none_declares shared n s role.Counter h = tt
+none_declares shared n s role.Target h = tt
+none_declares shared n s (role.Operand refused kept) h = tt
 
 in_front : (behind : List Occurrence) (s : Span) (r : Role) → DeclareNone behind → DeclaresNone r → DeclareNone (and_front behind s r)
 in_front [] s r h k = (k, tt)
@@ -81,58 +96,72 @@ value_none types None behind h = h
 value_none types (Some e) behind h = expression_none types e behind h
 
 mutual
-  statement_none : (types : Span → WordType) (end : ℕ) (x : Statement Span Span) (behind : List Occurrence) → DeclareNone behind
-      → DeclareNone (statement_names types end x behind)
-  statement_none types end (t.declare of s value) behind h =
-      in_front (value_names types value behind) s (role.Local of (length behind) end) (value_none types value behind h) tt
-  statement_none types end (t.assign s e) behind h = in_front (expression_names types e behind) s role.Scalar (expression_none types e behind h) tt
-  statement_none types end (t.store s index e) behind h =
+  statement_none : (room : ℕ) (types : Span → WordType) (end : ℕ) (x : Statement Span Span) (behind : List Occurrence) → StatementFits room x
+      → DeclareNone behind → DeclareNone (statement_names types end x behind)
+  statement_none room types end (t.declare of s value) behind f h =
+      in_front (value_names types value behind) s (role.Local of (length behind) end) (value_none types value behind h) f.0
+  statement_none room types end (t.assign s e) behind f h = in_front (expression_names types e behind) s role.Scalar (expression_none types e behind h) tt
+  statement_none room types end (t.store s index e) behind f h =
       element_none types s index (expression_names types index (expression_names types e behind))
       (expression_none types index (expression_names types e behind) (expression_none types e behind h))
-  statement_none types end (t.choose c) behind h = choice_none types c behind h
-  statement_none types end (t.loop v from w below u body) behind h =
-      in_front _ v role.Counter (in_front _ w role.Counter (in_front _ u role.Counter (block_none types (length behind) body behind h) tt) tt) tt
-  statement_none types end (t.emit e) behind h = expression_none types e behind h
-  statement_none types end (t.transition s) behind h = in_front behind s role.Target h tt
+  statement_none room types end (t.choose c) behind f h = choice_none room types c behind f h
+  statement_none room types end (t.loop v from w below u body) behind f h =
+      in_front _ v role.Counter
+      (in_front _ w role.Counter (in_front _ u role.Counter (block_none room types (length behind) body behind f.2 h) tt) tt) tt
+  statement_none room types end (t.emit e) behind f h = expression_none types e behind h
+  statement_none room types end (t.transition s) behind f h = in_front behind s role.Target h tt
 
-  choice_none : (types : Span → WordType) (c : Choice Span Span) (behind : List Occurrence) → DeclareNone behind → DeclareNone (choice_names types c behind)
-  choice_none types t.nothing behind h = h
-  choice_none types (t.otherwise b) behind h = block_none types (length behind) b behind h
-  choice_none types (t.test e b more) behind h =
+  choice_none : (room : ℕ) (types : Span → WordType) (c : Choice Span Span) (behind : List Occurrence) → ChoiceFits room c → DeclareNone behind
+      → DeclareNone (choice_names types c behind)
+  choice_none room types t.nothing behind f h = h
+  choice_none room types (t.otherwise b) behind f h = block_none room types (length behind) b behind f h
+  choice_none room types (t.test e b more) behind f h =
       let rest = choice_names types more behind in
-      expression_none types e (names_up_to types (length rest) b rest) (block_none types (length rest) b rest (choice_none types more behind h))
+      expression_none types e (names_up_to types (length rest) b rest)
+      (block_none room types (length rest) b rest f.1 (choice_none room types more behind f.2 h))
 
-  block_none : (types : Span → WordType) (end : ℕ) (b : Block Span Span) (behind : List Occurrence) → DeclareNone behind
+  block_none : (room : ℕ) (types : Span → WordType) (end : ℕ) (b : Block Span Span) (behind : List Occurrence) → BlockFits room b → DeclareNone behind
       → DeclareNone (names_up_to types end b behind)
-  block_none types end t.end behind h = h
-  block_none types end (t.step s more) behind h = statement_none types end s (names_up_to types end more behind) (block_none types end more behind h)
+  block_none room types end t.end behind f h = h
+  block_none room types end (t.step s more) behind f h =
+      statement_none room types end s (names_up_to types end more behind) f.0 (block_none room types end more behind f.1 h)
 
-tasks_none : (types : Span → WordType) (ts : List (Task Span Span)) (behind : List Occurrence) → DeclareNone behind → DeclareNone (task_names types ts behind)
-tasks_none types [] behind h = h
-tasks_none types (k ∷ more) behind h =
+tasks_none : (room : ℕ) (types : Span → WordType) (ts : List (Task Span Span)) (behind : List Occurrence) → All (λ task. BlockFits room task.body) ts
+    → DeclareNone behind → DeclareNone (task_names types ts behind)
+tasks_none room types [] behind f h = h
+tasks_none room types (k ∷ more) behind f h =
     let rest = task_names types more behind in
-    in_front (names_up_to types (length rest) k.body rest) k.name role.Task (block_none types (length rest) k.body rest (tasks_none types more behind h)) tt
+    let here = All-head (λ task. BlockFits room task.body) k more f in
+    let others = tasks_none room types more behind (All-tail (λ task. BlockFits room task.body) k more f) h in
+    in_front (names_up_to types (length rest) k.body rest) k.name role.Task (block_none room types (length rest) k.body rest here others) tt
 
 -- names that declare none, in front of which stand such
 behind_declared : (shared : List SharedDeclaration) (xs front : List Occurrence) → DeclareNone xs → Declared shared front → Declared shared (xs ++ front)
 behind_declared shared [] front h k = k
-behind_declared shared (o ∷ more) front h k = (none_declares shared _ o.role h.0, behind_declared shared more front h.1 k)
+behind_declared shared (o ∷ more) front h k = (none_declares shared _ o.span o.role h.0, behind_declared shared more front h.1 k)
 
 get_middle : (before : List SharedDeclaration) (d : SharedDeclaration) (more : List SharedDeclaration) → slice_get (before ++ d ∷ more) (length before) ≡ Some d
 get_middle [] d more = refl
 get_middle (x ∷ before) d more = get_middle before d more
 
 -- the declarations, in front of which so many stand
-shared_declared : (before ds : List SharedDeclaration) (behind front : List Occurrence) → DeclareNone behind → Declared (before ++ ds) front
-    → shared_in front ≡ length before
+shared_declared : (before ds : List SharedDeclaration) (behind front : List Occurrence) → All HasItsExtent ds → DeclareNone behind
+    → Declared (before ++ ds) front → shared_in front ≡ length before
     → Declared (before ++ ds) (shared_names ds behind ++ front)
-shared_declared before [] behind front h k e = behind_declared (before ++ []) behind front h k
-shared_declared before (d ∷ more) behind front h k e =
+shared_declared before [] behind front typed h k e = behind_declared (before ++ []) behind front h k
+shared_declared before (d ∷ more) behind front typed h k e =
     let o : Occurrence = record { span = d.name; role = role.Shared d.word_type d.extent } in
-    let here : DeclaresOf (before ++ d ∷ more) (shared_in front) o.role = (d, ap (slice_get (before ++ d ∷ more)) e ∙ get_middle before d more, refl) in
+    let here : DeclaresOf (before ++ d ∷ more) (shared_in front) o.span o.role = record {
+      declaration = d;
+      at = ap (slice_get (before ++ d ∷ more)) e ∙ get_middle before d more;
+      name_is = refl;
+      type_is = refl;
+      extent_is = refl;
+      typed = All-head HasItsExtent d more typed;
+    } in
     let count : shared_in (o ∷ front) ≡ length (before ++ d ∷ []) = omega (arith, e, length_behind before d) in
     let again : Declared ((before ++ d ∷ []) ++ more) (o ∷ front) = subst (λ ds. Declared ds (o ∷ front)) (sym (append_assoc before (d ∷ []) more)) (here, k) in
-    let rest = shared_declared (before ++ d ∷ []) more behind (o ∷ front) h again count in
+    let rest = shared_declared (before ++ d ∷ []) more behind (o ∷ front) (All-tail HasItsExtent d more typed) h again count in
     subst (λ ds. Declared ds (shared_names (d ∷ more) behind ++ front)) (append_assoc before (d ∷ []) more)
     (subst (Declared ((before ++ d ∷ []) ++ more)) (sym (append_assoc (shared_names more behind) (o ∷ []) front)) rest)
   where
@@ -144,10 +173,11 @@ append_none : (xs : List Occurrence) → xs ++ [] ≡ xs
 append_none [] = refl
 append_none (x ∷ xs) = ap (λ l. x ∷ l) (append_none xs)
 
-pub program_declared : (source : List ℕ) (p : Program Span Span) → Declared p.shared (program_names source p)
+pub program_declared : (room : ℕ) (source : List ℕ) (p : Program Span Span) → All HasItsExtent p.shared → All (λ task. BlockFits room task.body) p.tasks
+    → Declared p.shared (program_names source p)
 unfolding program_names
-program_declared source p =
+program_declared room source p typed f =
     let types = shared_type source p.shared in
     let behind = task_names types p.tasks (and_front [] p.entry role.Target) in
-    let none = tasks_none types p.tasks (and_front [] p.entry role.Target) (tt, tt) in
-    subst (Declared p.shared) (append_none (shared_names p.shared behind)) (shared_declared [] p.shared behind [] none tt refl)
+    let none = tasks_none room types p.tasks (and_front [] p.entry role.Target) f (tt, tt) in
+    subst (Declared p.shared) (append_none (shared_names p.shared behind)) (shared_declared [] p.shared behind [] typed none tt refl)

@@ -4,7 +4,7 @@
 pub use Rattle.whole_programs.proofs.Checked.{task_checked}
 -- The word programs of an accepted source are whole.
 pub use Rattle.whole_programs.proofs.Whole.{tasks_are_whole}
--- The tokens of a text: no more than 64 brackets are open behind any of them, and each number is a word.
+-- The tokens of a text: no more than 256 of them stand in a row, and each number is a word or two.
 pub use Rattle.whole_programs.proofs.Tokens.{OfWords, AreSound, are_sound}
 -- What a sum over the paths of statements says of the writes of a shared variable.
 pub use Rattle.whole_programs.proofs.Written.{assignment_writes, store_writes, loop_writes, taken_writes, passed_writes, first_writes, others_write}

@@ -5,8 +5,10 @@ mod Spared
 mod Placed
 mod Checked
 mod Whole
+mod Widths
 mod Declared
 mod Symbols
+mod NameTypes
 mod Walk
 mod Tasks
 mod Written

@@ -13,7 +13,7 @@ use Rattle.lower.specs.memory_map.declared.place.VariablePlace.{VariablePlace}
 use Rattle.lower.specs.memory_map.declared.place.VariablePlace.TheVariants.{Scalar, Array}
 use Rattle.lower.specs.memory_map.declared.place.PrivateScalar.{PrivateScalar}
 use Rattle.lower.specs.memory_map.MemoryMap.{MemoryMap, TaskPlace}
-use Rattle.lower.specs.memory_map.Places.{end_of, AreInOrder, home_region, copy_regions, version_regions, HasItsPlace, IsLaidOut}
+use Rattle.lower.specs.memory_map.Places.{end_of, scalar_words, AreInOrder, home_region, copy_regions, version_regions, HasItsPlace, IsLaidOut}
 use Rattle.lower.proofs.memory_map.Interface.{parts_in_fram, words_stand, in_order_within, in_order_split, in_order_end}
 use Rattle.lower.specs.memory_map.Spots.{places_of, copy_among, home_in, home_of, copy_else}
 use Rattle.whole_programs.proofs.Steps.{PlaceOfWords, PrivateOfWords, PlacesOfWords}
@@ -60,10 +60,10 @@ module _ (l : MemoryMap) (laid : IsLaidOut l) where
   one_region low high a words l h = let end = h.1 in omega arith
 
   place_of_words : (i : ℕ) (v : VariablePlace) → slice_get l.variables i ≡ Some v → PlaceOfWords (Some v)
-  place_of_words i (Scalar home copy) e =
-      let a = home_ends i (Scalar home copy) e in
-      let c = copies_end i (Scalar home copy) e in
-      (omega arith, one_region c.0 c.1 copy 1 c.2 c.3)
+  place_of_words i (Scalar home copy width) e =
+      let a = home_ends i (Scalar home copy width) e in
+      let c = copies_end i (Scalar home copy width) e in
+      (omega arith, one_region c.0 c.1 copy (scalar_words width) c.2 c.3)
   place_of_words i (Array elements length None) e = let a = home_ends i (Array elements length None) e in (omega arith, omega arith, tt)
   place_of_words i (Array elements length (Some c)) e =
       let a = home_ends i (Array elements length (Some c)) e in
@@ -77,13 +77,13 @@ module _ (l : MemoryMap) (laid : IsLaidOut l) where
 
   home_is_word : (o : Option VariablePlace) → PlaceOfWords o → IsWord (home_in o)
   home_is_word None h = omega arith
-  home_is_word (Some (Scalar home copy)) h = h.0
+  home_is_word (Some (Scalar home copy width)) h = h.0
   home_is_word (Some (Array elements length copies)) h = h.0
 
   -- ---- private scalars
 
   private_of_words : (s : PrivateScalar) → HasItsPlace l.variables s → PrivateOfWords s
-  private_of_words s h = place_of_words s.number (Scalar s.home s.copy) h.place
+  private_of_words s h = place_of_words s.number (Scalar s.home s.copy s.width) h.place
 
   privates_of_words : (privates : List PrivateScalar) → All (HasItsPlace l.variables) privates → AllByRecursion PrivateOfWords privates
   privates_of_words [] h = tt

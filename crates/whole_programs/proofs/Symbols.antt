@@ -4,12 +4,17 @@ use Rattle.std.proofs.Common.{arith}
 use Rattle.std.specs.Option.{option_or}
 use Rattle.std.specs.Str.{bytes_eq}
 use Rattle.std.proofs.lemmas.Bool.Decides.{nat_tests}
+use Rattle.lower.specs.alp_text.declared.lines.Span.{Span}
+use Rattle.lower.specs.task_ast.declared.WordType.{WordType}
+use Rattle.lower.specs.task_ast.declared.Extent.{Extent}
 use Rattle.lower.specs.task_ast.declared.Extent.TheVariants as extent
+use Rattle.lower.specs.task_ast.Types.{IsOneWord}
+use Rattle.lower.specs.task_ast.declared.names.Variable.TheVariants.{Shared, Local as AsLocal}
 use Rattle.lower.specs.task_ast.declared.SharedDeclaration.{SharedDeclaration}
 use Rattle.lower.specs.task_check.declared.fault.CheckFault.TheVariants as fault
 use Rattle.lower.specs.task_check.declared.occurrence.Role.TheVariants as role
 use Rattle.lower.specs.task_check.declared.symbol.Symbol.TheVariants as symbol
-use Rattle.lower.proofs.task_check.Interface.{no_fault, both_none, IfLocal}
+use Rattle.lower.proofs.task_check.Interface.{no_fault, both_none}
 use Rattle.privatise.specs.war_analysis.Plans.{IsScalarAt, IsArrayAt}
 use Rattle.lower.specs.task_check.declared.fault.CheckFault.{CheckFault}
 use Rattle.lower.specs.task_check.declared.occurrence.Role.{Role}
@@ -22,13 +27,14 @@ use Rattle.lower.specs.task_check.Scope.{or_global}
 use Rattle.lower.specs.task_check.Scope.{meaning}
 use Rattle.lower.specs.task_check.LookedUp.{symbol_by, behind, symbol_at}
 use Rattle.lower.specs.task_check.Faults.{line_at, first_fault, limit_fault, is_too_many}
-use Rattle.whole_programs.proofs.Declared.{DeclaresOf, Declared}
+use Rattle.whole_programs.specs.Uses.{IsOfType}
+use Rattle.whole_programs.proofs.Declared.{IsDeclaration, DeclaresOf, Declared}
 
--- a symbol is of a shared variable as it was declared, or of one of 256 locals
+-- a symbol is of a shared variable as it was declared, or of one of 256 locals, and its type is that of one
 abbrev pub IsSound : List SharedDeclaration → Symbol → Type 0
-IsSound shared (symbol.Scalar n of) = IsScalarAt shared n
-IsSound shared (symbol.Array n of) = IsArrayAt shared n
-IsSound shared (symbol.Local n of) = n < 256
+IsSound shared (symbol.Scalar n of) = IsScalarAt shared n × IsOfType shared of (Shared n)
+IsSound shared (symbol.Array n of) = IsArrayAt shared n × IsOfType shared of (Shared n)
+IsSound shared (symbol.Local n of) = (n < 256) × IsOfType shared of (AsLocal n)
 IsSound shared (symbol.Task n) = Unit {0}
 
 abbrev pub AreSound : List SharedDeclaration → Option Symbol → Type 0
@@ -39,12 +45,17 @@ abbrev GlobalSound : List SharedDeclaration → Option Global → Type 0
 GlobalSound shared None = Unit {0}
 GlobalSound shared (Some g) = IsSound shared g.symbol
 
+-- a local is one of 256, and has one word
+abbrev LocalSound : Option Local → Type 0
+LocalSound None = Unit {0}
+LocalSound (Some l) = (l.number < 256) × IsOneWord l.word_type
+
 -- of two there may be
 global_or : (shared : List SharedDeclaration) (a b : Option Global) → GlobalSound shared a → GlobalSound shared b → GlobalSound shared (option_or a b)
 global_or shared None b h k = k
 global_or shared (Some g) b h k = h
 
-local_or : (a b : Option Local) → IfLocal a → IfLocal b → IfLocal (option_or a b)
+local_or : (a b : Option Local) → LocalSound a → LocalSound b → LocalSound (option_or a b)
 local_or None b h k = k
 local_or (Some l) b h k = h
 
@@ -52,7 +63,7 @@ global_if : (shared : List SharedDeclaration) (c : Bool) (g : Option Global) →
 global_if shared true g h = h
 global_if shared false g h = tt
 
-local_if : (c : Bool) (l : Option Local) → IfLocal l → IfLocal (if_named c l)
+local_if : (c : Bool) (l : Option Local) → LocalSound l → LocalSound (if_named c l)
 local_if true l h = h
 local_if false l h = tt
 
@@ -68,24 +79,33 @@ long_there shared n w d e f = rw (e, f) refl
 array_there : (shared : List SharedDeclaration) (n w : ℕ) (d : SharedDeclaration) → slice_get shared n ≡ Some d → d.extent ≡ extent.Array w → IsArrayAt shared n
 array_there shared n w d e f = rw (e, f) refl
 
-global_declared : (shared : List SharedDeclaration) (r : Role) (front n tasks : ℕ) → DeclaresOf shared n r → GlobalSound shared (global_with r front n tasks)
-global_declared shared (role.Shared of (extent.Scalar w)) front n tasks h = scalar_there shared n w h.0 h.1 h.2
-global_declared shared (role.Shared of (extent.Long w)) front n tasks h = long_there shared n w h.0 h.1 h.2
-global_declared shared (role.Shared of (extent.Array w)) front n tasks h = array_there shared n w h.0 h.1 h.2
-global_declared shared role.Task front n tasks h = tt
-global_declared shared (role.Local of begin end) front n tasks h = tt
-global_declared shared role.Scalar front n tasks h = tt
-global_declared shared role.Element front n tasks h = tt
-global_declared shared role.Counter front n tasks h = tt
-global_declared shared role.Target front n tasks h = tt
-global_declared shared (role.Operand refused kept) front n tasks h = tt
+-- its type is that of one
+type_there : (shared : List SharedDeclaration) (n : ℕ) (s : Span) (of : WordType) (e : Extent) (x : IsDeclaration shared n s of e)
+    → IsOfType shared of (Shared n)
+type_there shared n s of e x = rw (x.at, x.extent_is) x.typed
+
+global_declared : (shared : List SharedDeclaration) (s : Span) (r : Role) (front n tasks : ℕ) → DeclaresOf shared n s r
+    → GlobalSound shared (global_with r front n tasks)
+global_declared shared s (role.Shared of (extent.Scalar w)) front n tasks h =
+    (scalar_there shared n w h.declaration h.at h.extent_is, type_there shared n s of (extent.Scalar w) h)
+global_declared shared s (role.Shared of (extent.Long w)) front n tasks h =
+    (long_there shared n w h.declaration h.at h.extent_is, type_there shared n s of (extent.Long w) h)
+global_declared shared s (role.Shared of (extent.Array w)) front n tasks h =
+    (array_there shared n w h.declaration h.at h.extent_is, type_there shared n s of (extent.Array w) h)
+global_declared shared s role.Task front n tasks h = tt
+global_declared shared s (role.Local of begin end) front n tasks h = tt
+global_declared shared s role.Scalar front n tasks h = tt
+global_declared shared s role.Element front n tasks h = tt
+global_declared shared s role.Counter front n tasks h = tt
+global_declared shared s role.Target front n tasks h = tt
+global_declared shared s (role.Operand refused kept) front n tasks h = tt
 
 global_sound : (source name : List ℕ) (shared : List SharedDeclaration) (all : List Occurrence) → Declared shared all
     → GlobalSound shared (global_in source name all)
 global_sound source name shared [] h = tt
 global_sound source name shared (o ∷ front) h =
     global_or shared (global_in source name front) _ (global_sound source name shared front h.1)
-    (global_if shared (bytes_eq (text_of source o.span) name) _ (global_declared shared o.role (length front) (shared_in front) (tasks_in front) h.0))
+    (global_if shared (bytes_eq (text_of source o.span) name) _ (global_declared shared o.span o.role (length front) (shared_in front) (tasks_in front) h.0))
 
 -- ---- locals
 
@@ -127,28 +147,31 @@ few_locals source (o ∷ front) e =
     one_more o.role (shared_in front) (tasks_in front) (locals_in front) (few_locals source front (front_clean (limit_fault source) o front e))
     (not_too_many source o front e)
 
-local_declared : (r : Role) (shared tasks n : ℕ) → n ≤ 256 → is_too_many r shared tasks n ≡ false → IfLocal (local_with r tasks n)
-local_declared (role.Local of begin end) shared tasks n h e = not_all n h e
-local_declared (role.Shared of x) shared tasks n h e = tt
-local_declared role.Task shared tasks n h e = tt
-local_declared role.Scalar shared tasks n h e = tt
-local_declared role.Element shared tasks n h e = tt
-local_declared role.Counter shared tasks n h e = tt
-local_declared role.Target shared tasks n h e = tt
-local_declared (role.Operand refused kept) shared tasks n h e = tt
+local_declared : (all : List SharedDeclaration) (s : Span) (r : Role) (shared tasks n : ℕ) → DeclaresOf all shared s r → n ≤ 256
+    → is_too_many r shared tasks n ≡ false → LocalSound (local_with r tasks n)
+local_declared all s (role.Local of begin end) shared tasks n d h e = (not_all n h e, d)
+local_declared all s (role.Shared of x) shared tasks n d h e = tt
+local_declared all s role.Task shared tasks n d h e = tt
+local_declared all s role.Scalar shared tasks n d h e = tt
+local_declared all s role.Element shared tasks n d h e = tt
+local_declared all s role.Counter shared tasks n d h e = tt
+local_declared all s role.Target shared tasks n d h e = tt
+local_declared all s (role.Operand refused kept) shared tasks n d h e = tt
 
-local_sound : (source name : List ℕ) (front : List Occurrence) → Few source front → IfLocal (local_in source name front)
-local_sound source name [] e = tt
-local_sound source name (o ∷ front) e =
+local_sound : (source name : List ℕ) (shared : List SharedDeclaration) (front : List Occurrence) → Declared shared front → Few source front
+    → LocalSound (local_in source name front)
+local_sound source name shared [] d e = tt
+local_sound source name shared (o ∷ front) d e =
     let few = front_clean (limit_fault source) o front e in
     local_or _ (local_in source name front)
     (local_if (bytes_eq (text_of source o.span) name) _
-    (local_declared o.role (shared_in front) (tasks_in front) (locals_in front) (few_locals source front few) (not_too_many source o front e)))
-    (local_sound source name front few)
+    (local_declared shared o.span o.role (shared_in front) (tasks_in front) (locals_in front) d.0 (few_locals source front few)
+    (not_too_many source o front e)))
+    (local_sound source name shared front d.1 few)
 
 -- ---- what a name means
 
-meaning_sound : (shared : List SharedDeclaration) (n : ℕ) (l : Option Local) (g : Option Global) → IfLocal l → GlobalSound shared g
+meaning_sound : (shared : List SharedDeclaration) (n : ℕ) (l : Option Local) (g : Option Global) → LocalSound l → GlobalSound shared g
     → AreSound shared (meaning n l g)
 meaning_sound shared n None None h k = tt
 meaning_sound shared n None (Some g) h k = k
@@ -160,24 +183,24 @@ meaning_sound shared n (Some l) g h k = by (nat_le l.end n && nat_lt n l.begin) 
     by false (Some g) k = k
 
 -- by its role
-by_role : (shared : List SharedDeclaration) (r : Role) (all tasks n : ℕ) (found : Option Symbol) → n ≤ 256 → is_too_many r all tasks n ≡ false
-    → AreSound shared found → AreSound shared (symbol_by r n found)
-by_role shared (role.Local of begin end) all tasks n found h e k = not_all n h e
-by_role shared (role.Shared of x) all tasks n found h e k = tt
-by_role shared role.Task all tasks n found h e k = tt
-by_role shared role.Scalar all tasks n found h e k = k
-by_role shared role.Element all tasks n found h e k = k
-by_role shared role.Counter all tasks n found h e k = k
-by_role shared role.Target all tasks n found h e k = k
-by_role shared (role.Operand refused kept) all tasks n found h e k = tt
+by_role : (shared : List SharedDeclaration) (s : Span) (r : Role) (all tasks n : ℕ) (found : Option Symbol) → DeclaresOf shared all s r → n ≤ 256
+    → is_too_many r all tasks n ≡ false → AreSound shared found → AreSound shared (symbol_by r n found)
+by_role shared s (role.Local of begin end) all tasks n found d h e k = (not_all n h e, d)
+by_role shared s (role.Shared of x) all tasks n found d h e k = tt
+by_role shared s role.Task all tasks n found d h e k = tt
+by_role shared s role.Scalar all tasks n found d h e k = k
+by_role shared s role.Element all tasks n found d h e k = k
+by_role shared s role.Counter all tasks n found d h e k = k
+by_role shared s role.Target all tasks n found d h e k = k
+by_role shared s (role.Operand refused kept) all tasks n found d h e k = tt
 
 -- each name stands for what was declared
 pub symbol_sound : (source : List ℕ) (shared : List SharedDeclaration) (all : List Occurrence) (o : Occurrence) (front : List Occurrence) → Declared shared all
-    → Few source (o ∷ front)
+    → Declared shared (o ∷ front) → Few source (o ∷ front)
     → AreSound shared (symbol_at source all o front)
 unfolding symbol_at
-symbol_sound source shared all o front d e =
+symbol_sound source shared all o front d here e =
     let few = front_clean (limit_fault source) o front e in
-    by_role shared o.role (shared_in front) (tasks_in front) (locals_in front) _ (few_locals source front few) (not_too_many source o front e)
+    by_role shared o.span o.role (shared_in front) (tasks_in front) (locals_in front) _ here.0 (few_locals source front few) (not_too_many source o front e)
     (meaning_sound shared (behind all front) (local_in source (text_of source o.span) front) (global_in source (text_of source o.span) all)
-    (local_sound source (text_of source o.span) front few) (global_sound source (text_of source o.span) shared all d))
+    (local_sound source (text_of source o.span) shared front here.1 few) (global_sound source (text_of source o.span) shared all d))

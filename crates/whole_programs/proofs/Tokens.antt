@@ -1,4 +1,4 @@
--- The tokens of a text: no more than 64 brackets are open behind any of them, and each number is a word or two.
+-- The tokens of a text: no more than 256 of them stand in a row, and each number is a word or two.
 use Rattle.std.proofs.Common.{◌≡◌, ℕ, zero, suc, ◌+◌, ◌-◌, ◌/◌, ◌%◌, ◌≤◌, Bool, true, false, cond, ◌&&◌, ◌==◌, not, nat_lt, nat_le, List, [], ◌∷◌, length}
 use Rattle.std.proofs.Common.{drop, take}
 use Rattle.std.proofs.Common.{refl, subst, arith, Option, Some, None, Result, Ok, Err}
@@ -17,18 +17,17 @@ use Rattle.lower.specs.task_lex.declared.step.Step.{Step}
 use Rattle.lower.specs.task_lex.declared.step.Step.TheVariants.{Skip, Take, Fails}
 use Rattle.lower.specs.task_lex.declared.fault.Flaw.TheVariants as flaw
 use Rattle.lower.specs.task_lex.Pieces.{is_zero_led, up_to, piece_of, number_to, has_suffix, word_numeral, long_numeral, numeral, word_kind}
-use Rattle.lower.specs.task_lex.Lex.{Lexed, tokens, fault, with_front, after, step, step_by, counted, numbered, is_opening, is_closing, is_end, depth_after}
-use Rattle.lower.specs.task_lex.Lex.{width_after, lex_within, lex_from, lexed}
-use Rattle.lower.proofs.task_lex.Interface.{deep}
+use Rattle.lower.specs.task_lex.Lex.{Lexed, tokens, fault, with_front, after, step, step_by, counted, numbered, is_opening, is_end, depth_after, width_after}
+use Rattle.lower.specs.task_lex.Lex.{lex_within, lex_from, lexed}
 
 -- the number of a token is of words
 abbrev pub OfWords : Token → Type 0
 OfWords t = IsWord t.value × IsWord t.high
 
--- behind so many open brackets, tokens with no more than 64 open brackets behind any of them, and with words for numbers
+-- behind so many tokens in a row, tokens of which no more than 256 stand in a row, and with words for numbers
 abbrev pub AreSound : ℕ → List Token → Type 0
-AreSound depth [] = Unit {0}
-AreSound depth (t ∷ ts) = (depth_after t.kind depth ≤ 64) × OfWords t × AreSound (depth_after t.kind depth) ts
+AreSound width [] = Unit {0}
+AreSound width (t ∷ ts) = (width_after t.kind width ≤ 256) × OfWords t × AreSound (width_after t.kind width) ts
 
 -- ---- numerals are worth words
 
@@ -81,15 +80,20 @@ numeral_of_words w x h = go (has_suffix w) h
 
 -- ---- steps
 
--- what a step takes is sound, and counts the brackets on
+-- the width behind a token stays within 256 where none is too wide
+wide : (ends : Bool) (width : ℕ) → width ≤ 256 → (not ends && width == 256) ≡ false → cond ends 0 (width + 1) ≤ 256
+wide true width le h = omega arith
+wide false width le h = let other : (width == 256) ≡ false = h in grind arith
+
+-- what a step takes is sound, and counts the row on
 abbrev StepSound : Place → Step → Type 0
-StepSound p (Skip q) = q.depth ≡ p.depth
-StepSound p (Take t q) = (q.depth ≡ depth_after t.kind p.depth) × (q.depth ≤ 64) × OfWords t
+StepSound p (Skip q) = q.width ≡ p.width
+StepSound p (Take t q) = (q.width ≡ width_after t.kind p.width) × (q.width ≤ 256) × OfWords t
 StepSound p (Fails f) = Unit {0}
 
-counted_sound : (p : Place) (n : ℕ) (kind : Kind) (value high : ℕ) → p.depth ≤ 64 → IsWord value × IsWord high → StepSound p (counted p n kind value high)
+counted_sound : (p : Place) (n : ℕ) (kind : Kind) (value high : ℕ) → p.width ≤ 256 → IsWord value × IsWord high → StepSound p (counted p n kind value high)
 unfolding counted
-counted_sound p n kind value high depth words = go (is_opening kind && p.depth == 64) (not (is_end kind) && p.width == 256) refl
+counted_sound p n kind value high width words = go (is_opening kind && p.depth == 64) (not (is_end kind) && p.width == 256) refl
   where
     taken : Token
     taken = record { kind = kind; span = record { from = p.at; to = p.at + n }; value = value; high = high }
@@ -97,60 +101,60 @@ counted_sound p n kind value high depth words = go (is_opening kind && p.depth =
     next : Place
     next = record { at = p.at + n; depth = depth_after kind (p.depth); width = width_after kind (p.width) }
 
-    go : (a b : Bool) → (is_opening kind && p.depth == 64) ≡ a → StepSound p (cond a (Fails flaw.TooDeep) (cond b (Fails flaw.TooWide) (Take taken next)))
+    go : (a b : Bool) → (not (is_end kind) && p.width == 256) ≡ b → StepSound p (cond a (Fails flaw.TooDeep) (cond b (Fails flaw.TooWide) (Take taken next)))
     go true b e = tt
     go false true e = tt
-    go false false e = (refl, deep (is_opening kind) (is_closing kind) p.depth depth e, words)
+    go false false e = (refl, wide (is_end kind) p.width width e, words)
 
-sound_by : (text : List ℕ) (p : Place) (found : Piece) (n : ℕ) → p.depth ≤ 64 → StepSound p (step_by text p found n)
-sound_by text p piece.Blank n depth = refl
-sound_by text p piece.Word n depth = go (nat_lt 31 n)
+sound_by : (text : List ℕ) (p : Place) (found : Piece) (n : ℕ) → p.width ≤ 256 → StepSound p (step_by text p found n)
+sound_by text p piece.Blank n width = refl
+sound_by text p piece.Word n width = go (nat_lt 31 n)
   where
     go : (b : Bool) → StepSound p (cond b (Fails flaw.BadName) (counted p n (word_kind (take n text)) 0 0))
     go true = tt
-    go false = counted_sound p n (word_kind (take n text)) 0 0 depth (omega arith, omega arith)
-sound_by text p piece.Numeral n depth = go (numeral (take n text)) refl
+    go false = counted_sound p n (word_kind (take n text)) 0 0 width (omega arith, omega arith)
+sound_by text p piece.Numeral n width = go (numeral (take n text)) refl
   where
     go : (o : Option Numeral) → numeral (take n text) ≡ o → StepSound p (numbered p n o)
     go None e = tt
-    go (Some x) e = counted_sound p n x.kind x.value x.high depth (numeral_of_words (take n text) x e)
-sound_by text p (piece.Mark kind) n depth = counted_sound p n kind 0 0 depth (omega arith, omega arith)
-sound_by text p piece.Bad n depth = tt
+    go (Some x) e = counted_sound p n x.kind x.value x.high width (numeral_of_words (take n text) x e)
+sound_by text p (piece.Mark kind) n width = counted_sound p n kind 0 0 width (omega arith, omega arith)
+sound_by text p piece.Bad n width = tt
 
-step_sound : (source : List ℕ) (p : Place) → p.depth ≤ 64 → StepSound p (step source p)
+step_sound : (source : List ℕ) (p : Place) → p.width ≤ 256 → StepSound p (step source p)
 unfolding step
-step_sound source p depth = let text = drop (p.at) source in let found = piece_of text in sound_by text p found.0 found.1 depth
+step_sound source p width = let text = drop (p.at) source in let found = piece_of text in sound_by text p found.0 found.1 width
 
 -- ---- the whole text
 
 abbrev Sound : ℕ → Lexed → Type 0
-Sound depth (tokens ts) = AreSound depth ts
-Sound depth (fault f at) = Unit {0}
+Sound width (tokens ts) = AreSound width ts
+Sound width (fault f at) = Unit {0}
 
-sound_front : (depth : ℕ) (t : Token) (rest : Lexed) → depth_after t.kind depth ≤ 64 → OfWords t → Sound (depth_after t.kind depth) rest
-    → Sound depth (with_front (t ∷ []) rest)
-sound_front depth t (tokens ts) a b h = (a, b, h)
-sound_front depth t (fault f at) a b h = tt
+sound_front : (width : ℕ) (t : Token) (rest : Lexed) → width_after t.kind width ≤ 256 → OfWords t → Sound (width_after t.kind width) rest
+    → Sound width (with_front (t ∷ []) rest)
+sound_front width t (tokens ts) a b h = (a, b, h)
+sound_front width t (fault f at) a b h = tt
 
-sound_after : (go : Place → Lexed) (p : Place) (s : Step) → p.depth ≤ 64 → StepSound p s → ((q : Place) → q.depth ≤ 64 → Sound (q.depth) (go q))
-    → Sound (p.depth) (after go (p.at) s)
-sound_after go p (Skip q) depth h next = subst (λ d. Sound d (go q)) h (next q (omega arith))
-sound_after go p (Take t q) depth h next = sound_front (p.depth) t (go q) (omega (arith, h.0, h.1)) h.2 (subst (λ d. Sound d (go q)) h.0 (next q h.1))
-sound_after go p (Fails f) depth h next = tt
+sound_after : (go : Place → Lexed) (p : Place) (s : Step) → p.width ≤ 256 → StepSound p s → ((q : Place) → q.width ≤ 256 → Sound (q.width) (go q))
+    → Sound (p.width) (after go (p.at) s)
+sound_after go p (Skip q) width h next = subst (λ d. Sound d (go q)) h (next q (omega arith))
+sound_after go p (Take t q) width h next = sound_front (p.width) t (go q) (omega (arith, h.0, h.1)) h.2 (subst (λ d. Sound d (go q)) h.0 (next q h.1))
+sound_after go p (Fails f) width h next = tt
 
 module _ (source : List ℕ) where
-  sound_if : (depth : ℕ) (b : Bool) (x : Lexed) → Sound depth x → Sound depth (cond b x (tokens []))
-  sound_if depth true x h = h
-  sound_if depth false x h = tt
+  sound_if : (width : ℕ) (b : Bool) (x : Lexed) → Sound width x → Sound width (cond b x (tokens []))
+  sound_if width true x h = h
+  sound_if width false x h = tt
 
-  sound : (n : ℕ) (p : Place) → p.depth ≤ 64 → Sound (p.depth) (lex_within source n p)
+  sound : (n : ℕ) (p : Place) → p.width ≤ 256 → Sound (p.width) (lex_within source n p)
   unfolding lex_within
-  sound zero p depth = tt
-  sound (suc n) p depth =
-      sound_if (p.depth) (nat_lt (p.at) (length source)) _
-      (sound_after (lex_within source n) p (step source p) depth (step_sound source p depth) (λ q d. sound n q d))
+  sound zero p width = tt
+  sound (suc n) p width =
+      sound_if (p.width) (nat_lt (p.at) (length source)) _
+      (sound_after (lex_within source n) p (step source p) width (step_sound source p width) (λ q w. sound n q w))
 
-  -- lexed tokens have sound brackets
+  -- lexed tokens are sound
   pub are_sound : (ts : List Token) → lexed source ≡ tokens ts → AreSound 0 ts
   unfolding lex_from
   are_sound ts h = subst (Sound 0) h (sound (suc (length source - 0)) (record { at = 0; depth = 0; width = 0 }) (omega arith))

@@ -1,7 +1,9 @@
 -- The variables that the names of a source stand for, each by the use that is made of its name.
-use Rattle.std.proofs.Common.{◌≡◌, ℕ, false, List, [], ◌∷◌, ◌++◌, Option, Some, None}
+use Rattle.std.proofs.Common.{◌≡◌, ℕ, Bool, false, List, [], ◌∷◌, ◌++◌, Option, Some, None}
 use Rattle.std.specs.Option.{is_none}
+use Rattle.lower.specs.alp_text.declared.lines.Span.{Span}
 use Rattle.lower.specs.task_ast.declared.SharedDeclaration.{SharedDeclaration}
+use Rattle.lower.specs.task_ast.declared.WordType.{WordType}
 use Rattle.lower.specs.task_ast.declared.names.Variable.{Variable}
 use Rattle.lower.specs.task_check.declared.fault.CheckFault.TheVariants as fault
 use Rattle.lower.specs.task_check.declared.fault.Kept.TheVariants as kept
@@ -15,88 +17,110 @@ use Rattle.lower.specs.task_check.Scope.{text_of, tasks_in, locals_in, global_in
 use Rattle.lower.specs.task_check.LookedUp.{symbol_by, variable_by, symbol_at, variables_in}
 use Rattle.lower.specs.task_check.Faults.{line_at, first_fault, is_repeated, is_unknown, name_fault, is_no_word, is_no_array, use_fault_by, use_fault}
 use Rattle.lower.specs.task_check.Faults.{limit_fault}
+use Rattle.lower.specs.task_check.SharedTypes.{type_in, shared_type}
 use Rattle.lower.proofs.task_check.Interface.{no_fault, no_name_fault}
-use Rattle.whole_programs.specs.Uses.{IsWordName, IsArrayName, IsLocalName}
+use Rattle.whole_programs.specs.Uses.{IsWordName, IsArrayName, IsLocalName, IsOfType}
 use Rattle.whole_programs.proofs.Declared.{Declared}
 use Rattle.whole_programs.proofs.Symbols.{AreSound, Few, front_clean, here_clean, symbol_sound}
+use Rattle.whole_programs.proofs.NameTypes.{Typed, symbol_typed, as_wide}
+use Rattle.whole_programs.proofs.Widths.{IsAsWide, word_is_as_wide}
 
 -- how a name is used that stands for a variable: as a word, as an array, or it is a local that is declared
-pub data Use : Type 0 where
-  word : Use
-  array : Use
-  declared : Use
+pub data Naming : Type 0 where
+  word : Naming
+  array : Naming
+  declared : Naming
 
-abbrev pub IsUsed : List SharedDeclaration → Use → Variable → Type 0
+-- what is made use of in a text: a name, or operands, by whether their types are refused
+pub data Use : Type 0 where
+  named : Naming → Span → Use
+  operands : Bool → Use
+
+abbrev IsUsed : List SharedDeclaration → Naming → Variable → Type 0
 IsUsed shared word v = IsWordName shared v
 IsUsed shared array v = IsArrayName shared v
 IsUsed shared declared v = IsLocalName v
 
--- the use of a role, if it is that of a variable
-abbrev pub use_of : Role → List Use
-use_of role.Scalar = word ∷ []
-use_of role.Element = array ∷ []
-use_of role.Counter = word ∷ []
-use_of (role.Local of begin end) = declared ∷ []
-use_of role.Target = []
-use_of role.Task = []
-use_of (role.Shared of e) = []
-use_of (role.Operand refused what) = []
+-- the variable of a name is used so, it is of its type, and that is as wide as the type of the name
+abbrev pub IsNamed : List SharedDeclaration → (Span → WordType) → Naming → Span → TypedVariable → Type 0
+IsNamed shared types how s v = IsUsed shared how v.variable × IsOfType shared v.word_type v.variable × IsAsWide v.word_type (types s)
+
+-- the use of a name by its role, if it is that of a variable, and that of operands
+abbrev pub use_of : Span → Role → List Use
+use_of s role.Scalar = named word s ∷ []
+use_of s role.Element = named array s ∷ []
+use_of s role.Counter = named word s ∷ []
+use_of s (role.Local of begin end) = named declared s ∷ []
+use_of s role.Target = []
+use_of s role.Task = []
+use_of s (role.Shared of e) = []
+use_of s (role.Operand refused what) = operands refused ∷ []
 
 -- those of names, in the text's order
 abbrev pub uses_in : List Occurrence → List Use
 uses_in [] = []
-uses_in (o ∷ front) = uses_in front ++ use_of o.role
+uses_in (o ∷ front) = uses_in front ++ use_of o.span o.role
 
--- each variable is used so
-abbrev pub AreUsed : List SharedDeclaration → List Use → List TypedVariable → Type 0
-AreUsed shared [] [] = Unit {0}
-AreUsed shared [] (v ∷ vs) = ⊥
-AreUsed shared (u ∷ us) [] = ⊥
-AreUsed shared (u ∷ us) (v ∷ vs) = IsUsed shared u v.variable × AreUsed shared us vs
+-- each variable is used so, and no operands are refused
+abbrev pub AreUsed : List SharedDeclaration → (Span → WordType) → List Use → List TypedVariable → Type 0
+AreUsed shared types [] [] = Unit {0}
+AreUsed shared types [] (v ∷ vs) = ⊥
+AreUsed shared types (operands refused ∷ us) vs = (refused ≡ false) × AreUsed shared types us vs
+AreUsed shared types (named how s ∷ us) [] = ⊥
+AreUsed shared types (named how s ∷ us) (v ∷ vs) = IsNamed shared types how s v × AreUsed shared types us vs
 
-both_used : (shared : List SharedDeclaration) (us ws : List Use) (vs xs : List TypedVariable) → AreUsed shared us vs → AreUsed shared ws xs
-    → AreUsed shared (us ++ ws) (vs ++ xs)
-both_used shared [] ws [] xs h k = k
-both_used shared [] ws (v ∷ vs) xs h k = absurd h
-both_used shared (u ∷ us) ws [] xs h k = absurd h
-both_used shared (u ∷ us) ws (v ∷ vs) xs h k = (h.0, both_used shared us ws vs xs h.1 k)
+both_used : (shared : List SharedDeclaration) (types : Span → WordType) (us ws : List Use) (vs xs : List TypedVariable) → AreUsed shared types us vs
+    → AreUsed shared types ws xs → AreUsed shared types (us ++ ws) (vs ++ xs)
+both_used shared types [] ws [] xs h k = k
+both_used shared types [] ws (v ∷ vs) xs h k = absurd h
+both_used shared types (operands refused ∷ us) ws vs xs h k = (h.0, both_used shared types us ws vs xs h.1 k)
+both_used shared types (named how s ∷ us) ws [] xs h k = absurd h
+both_used shared types (named how s ∷ us) ws (v ∷ vs) xs h k = (h.0, both_used shared types us ws vs xs h.1 k)
 
--- a name that isn't unknown, is used as what it is, and stands for what was declared
-word_used : (shared : List SharedDeclaration) (s : Option Symbol) → is_none s ≡ false → is_no_word s ≡ false → AreSound shared s
-    → AreUsed shared (word ∷ []) (variable_by role.Scalar s)
-word_used shared None e f h = absurd (cc)
-word_used shared (Some (symbol.Scalar n of)) e f h = (h, tt)
-word_used shared (Some (symbol.Array n of)) e f h = absurd (cc)
-word_used shared (Some (symbol.Local n of)) e f h = (h, tt)
-word_used shared (Some (symbol.Task n)) e f h = absurd (cc)
+module _ (source : List ℕ) (shared : List SharedDeclaration) (s : Span) where
+  -- the type of the first shared variable of the name
+  abbrev first : Option WordType
+  first = type_in source (text_of source s) shared
 
-array_used : (shared : List SharedDeclaration) (s : Option Symbol) → is_no_array s ≡ false → AreSound shared s
-    → AreUsed shared (array ∷ []) (variable_by role.Element s)
-array_used shared None f h = absurd (cc)
-array_used shared (Some (symbol.Scalar n of)) f h = absurd (cc)
-array_used shared (Some (symbol.Array n of)) f h = (h, tt)
-array_used shared (Some (symbol.Local n of)) f h = absurd (cc)
-array_used shared (Some (symbol.Task n)) f h = absurd (cc)
+  abbrev types : Span → WordType
+  types = shared_type source shared
 
-counter_used : (shared : List SharedDeclaration) (s : Option Symbol) → is_none s ≡ false → is_no_word s ≡ false → AreSound shared s
-    → AreUsed shared (word ∷ []) (variable_by role.Counter s)
-counter_used shared None e f h = absurd (cc)
-counter_used shared (Some (symbol.Scalar n of)) e f h = (h, tt)
-counter_used shared (Some (symbol.Array n of)) e f h = absurd (cc)
-counter_used shared (Some (symbol.Local n of)) e f h = (h, tt)
-counter_used shared (Some (symbol.Task n)) e f h = absurd (cc)
+  -- a name that isn't unknown, is used as what it is, and stands for what was declared
+  word_used : (x : Option Symbol) → is_none x ≡ false → is_no_word x ≡ false → AreSound shared x → Typed first x
+      → AreUsed shared types (named word s ∷ []) (variable_by role.Scalar x)
+  word_used None e f h t = absurd (cc)
+  word_used (Some (symbol.Scalar n of)) e f h t = ((h.0, h.1, as_wide source shared s of t), tt)
+  word_used (Some (symbol.Array n of)) e f h t = absurd (cc)
+  word_used (Some (symbol.Local n of)) e f h t = ((h.0, h.1, word_is_as_wide of (types s) h.1), tt)
+  word_used (Some (symbol.Task n)) e f h t = absurd (cc)
 
-one_used : (source : List ℕ) (shared : List SharedDeclaration) (o : Occurrence) (r : Role) (n : ℕ) (found : Option Symbol)
-    → is_unknown r (symbol_by r n found) ≡ false → use_fault_by source o r (symbol_by r n found) ≡ None → AreSound shared (symbol_by r n found)
-    → AreUsed shared (use_of r) (variable_by r (symbol_by r n found))
-one_used source shared o role.Scalar n s e f h = word_used shared s e (no_fault (is_no_word s) (fault.WrongUse (line_at source o) (kept.Name o.span)) f) h
-one_used source shared o role.Element n s e f h = array_used shared s (no_fault (is_no_array s) (fault.WrongUse (line_at source o) (kept.Name o.span)) f) h
-one_used source shared o role.Counter n s e f h = counter_used shared s e (no_fault (is_no_word s) (fault.WrongUse (line_at source o) (kept.Name o.span)) f) h
-one_used source shared o (role.Local of begin end) n s e f h = (h, tt)
-one_used source shared o role.Target n s e f h = tt
-one_used source shared o role.Task n s e f h = tt
-one_used source shared o (role.Shared of x) n s e f h = tt
-one_used source shared o (role.Operand refused what) n s e f h = tt
+  array_used : (x : Option Symbol) → is_no_array x ≡ false → AreSound shared x → Typed first x
+      → AreUsed shared types (named array s ∷ []) (variable_by role.Element x)
+  array_used None f h t = absurd (cc)
+  array_used (Some (symbol.Scalar n of)) f h t = absurd (cc)
+  array_used (Some (symbol.Array n of)) f h t = ((h.0, h.1, as_wide source shared s of t), tt)
+  array_used (Some (symbol.Local n of)) f h t = absurd (cc)
+  array_used (Some (symbol.Task n)) f h t = absurd (cc)
+
+  counter_used : (x : Option Symbol) → is_none x ≡ false → is_no_word x ≡ false → AreSound shared x → Typed first x
+      → AreUsed shared types (named word s ∷ []) (variable_by role.Counter x)
+  counter_used None e f h t = absurd (cc)
+  counter_used (Some (symbol.Scalar n of)) e f h t = ((h.0, h.1, as_wide source shared s of t), tt)
+  counter_used (Some (symbol.Array n of)) e f h t = absurd (cc)
+  counter_used (Some (symbol.Local n of)) e f h t = ((h.0, h.1, word_is_as_wide of (types s) h.1), tt)
+  counter_used (Some (symbol.Task n)) e f h t = absurd (cc)
+
+  one_used : (o : Occurrence) (r : Role) (n : ℕ) (found : Option Symbol) → is_unknown r (symbol_by r n found) ≡ false
+      → use_fault_by source o r (symbol_by r n found) ≡ None → AreSound shared (symbol_by r n found)
+      → Typed first (symbol_by r n found) → AreUsed shared types (use_of s r) (variable_by r (symbol_by r n found))
+  one_used o role.Scalar n x e f h t = word_used x e (no_fault (is_no_word x) (fault.WrongUse (line_at source o) (kept.Name o.span)) f) h t
+  one_used o role.Element n x e f h t = array_used x (no_fault (is_no_array x) (fault.WrongUse (line_at source o) (kept.Name o.span)) f) h t
+  one_used o role.Counter n x e f h t = counter_used x e (no_fault (is_no_word x) (fault.WrongUse (line_at source o) (kept.Name o.span)) f) h t
+  one_used o (role.Local of begin end) n x e f h t = ((h.0, h.1, word_is_as_wide of (types s) h.1), tt)
+  one_used o role.Target n x e f h t = tt
+  one_used o role.Task n x e f h t = tt
+  one_used o (role.Shared of y) n x e f h t = tt
+  one_used o (role.Operand refused what) n x e f h t = (no_fault refused (fault.WrongUse (line_at source o) what) f, tt)
 
 -- names without a fault
 pub record AreClean (source : List ℕ) (all front : List Occurrence) : Type 0 where
@@ -104,20 +128,21 @@ pub record AreClean (source : List ℕ) (all front : List Occurrence) : Type 0 w
   pub uses : first_fault (use_fault source all) front ≡ None
   pub limits : Few source front
 
-pub variables_used : (source : List ℕ) (shared : List SharedDeclaration) (all front : List Occurrence) → Declared shared all → AreClean source all front
-    → AreUsed shared (uses_in front) (variables_in source all front)
+pub variables_used : (source : List ℕ) (shared : List SharedDeclaration) (all front : List Occurrence) → Declared shared all → Declared shared front
+    → AreClean source all front → AreUsed shared (shared_type source shared) (uses_in front) (variables_in source all front)
 unfolding symbol_at name_fault use_fault
-variables_used source shared all [] d c = tt
-variables_used source shared all (o ∷ front) d c =
+variables_used source shared all [] d h c = tt
+variables_used source shared all (o ∷ front) d h c =
     let more : AreClean source all front = record {
       names = front_clean (name_fault source all) o front c.names;
       uses = front_clean (use_fault source all) o front c.uses;
       limits = front_clean (limit_fault source) o front c.limits;
     } in
     let s = symbol_at source all o front in
-    both_used shared (uses_in front) (use_of o.role) (variables_in source all front) (variable_by o.role s) (variables_used source shared all front d more)
-    (one_used source shared o o.role (locals_in front) _
+    both_used shared (shared_type source shared) (uses_in front) (use_of o.span o.role) (variables_in source all front) (variable_by o.role s)
+    (variables_used source shared all front d h.1 more)
+    (one_used source shared o.span o o.role (locals_in front) _
     (no_name_fault source o
     (is_repeated o.role (stands_in_front _ (global_in source (text_of source o.span) all)) (tasks_in front) (local_in source (text_of source o.span) front))
     (is_unknown o.role s) (here_clean (name_fault source all) o front c.names))
-    (here_clean (use_fault source all) o front c.uses) (symbol_sound source shared all o front d c.limits))
+    (here_clean (use_fault source all) o front c.uses) (symbol_sound source shared all o front d h c.limits) (symbol_typed source shared all o front d))

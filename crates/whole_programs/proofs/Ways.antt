@@ -8,6 +8,11 @@ use Rattle.lower.specs.task_ast.Paths.{CheckedExpression, CheckedStatement, Chec
 use Rattle.lower.specs.task_ast.Paths.{goes_to, StatementPath, ChoicePath, TurnsPath, BlockPath}
 use Rattle.lower.specs.task_ast.Paths as path
 use Rattle.lower.specs.task_ast.declared.SharedDeclaration.{SharedDeclaration}
+use Rattle.lower.specs.task_ast.declared.WordType.{WordType}
+use Rattle.lower.specs.task_ast.declared.WordType.TheVariants.{Unsigned, Int, Long}
+use Rattle.lower.specs.task_ast.declared.BinaryOperator.{BinaryOperator}
+use Rattle.lower.specs.task_ast.declared.ShiftOperator.{ShiftOperator}
+use Rattle.lower.specs.task_ast.declared.ShiftOperator.TheVariants as shift_operator
 use Rattle.lower.specs.task_ast.declared.UnaryOperator.{UnaryOperator}
 use Rattle.lower.specs.task_ast.declared.UnaryOperator.TheVariants as unary_operator
 use Rattle.lower.specs.task_ast.declared.PlacedOperator.{PlacedOperator}
@@ -22,9 +27,10 @@ use Rattle.lower.specs.array_versions.declared.operations.UnaryOperation.TheVari
 use Rattle.lower.specs.array_versions.declared.operations.BinaryOperation.{BinaryOperation}
 use Rattle.lower.specs.array_versions.declared.operations.BinaryOperation.TheVariants.{Plain}
 use Rattle.lower.specs.array_versions.declared.operations.PlainOperation.{PlainOperation}
-use Rattle.lower.specs.array_versions.declared.operations.PlainOperation.TheVariants.{And}
-use Rattle.lower.specs.array_versions.Program.{Step, Test, Program, unary, binary, shift, emit_word, store_number, move_word, jump, nothing}
-use Rattle.lower.specs.array_versions.Program.{step, joined}
+use Rattle.lower.specs.array_versions.declared.operations.PlainOperation.TheVariants.{Subtract, And, Xor, Or}
+use Rattle.lower.specs.array_versions.declared.operations.LongOperation.TheVariants as with_longs
+use Rattle.lower.specs.array_versions.Program.{Step, Test, Program, unary, binary, shift, long, emit_word, store_number, move_word, jump, nothing}
+use Rattle.lower.specs.array_versions.Program.{step, joined, truth, holds}
 use Rattle.lower.specs.array_versions.Form.{Place, start, assigning, Moves, EachTurn, EachStepWay, EachTestWay, EachWay}
 use Rattle.lower.specs.memory_map.MemoryMap.{word_place}
 use Rattle.lower.specs.memory_map.declared.words.RuntimeWord.TheVariants.{Gate, ListLength, EmitCount, Base, SentBase}
@@ -35,11 +41,16 @@ use Rattle.lower.specs.Runs.{runs_of}
 use Rattle.lower.specs.memory_map.Spots.{Places}
 use Rattle.lower.specs.declared.operations.BinaryMeaning.{BinaryMeaning}
 use Rattle.lower.specs.declared.operations.BinaryMeaning.TheVariants.{Calculates, CommonBits, Holds, Fails}
-use Rattle.lower.specs.Operations.{binary_meaning, shift_operation}
-use Rattle.lower.specs.Lowered.{one, read_step, write_step, element_read, element_step, store_step, Lowering, as_word, as_test, word_program}
-use Rattle.lower.specs.Lowered.{value_test}
-use Rattle.lower.specs.Lowered.{unary_lowering, binary_lowering, sides_test, lowering, lowered_expression, lowered_test, assignment}
-use Rattle.lower.specs.Lowered.{update_step, setting, updating, sides_set}
+use Rattle.lower.specs.declared.operations.LongMeaning.{LongMeaning}
+use Rattle.lower.specs.declared.operations.LongMeaning.TheVariants as of_longs
+use Rattle.lower.specs.declared.operations.LongQuestion.{LongQuestion}
+use Rattle.lower.specs.declared.operations.LongQuestion.TheVariants as question
+use Rattle.lower.specs.Operations.{binary_meaning, shift_operation, operand_type, long_meaning, long_shift}
+use Rattle.lower.specs.Lowered.{one, read_step, write_step, read_long, write_long, element_read, element_step, store_step, Lowering, as_word, as_test, as_long}
+use Rattle.lower.specs.Lowered.{word_program, value_test, widening, long_words, long_program, name_lowering, unary_lowering, long_zero}
+use Rattle.lower.specs.Lowered.{long_unary_lowering, operand_lowering, binary_lowering, answer, long_binary_lowering, sides_lowering, shift_lowering}
+use Rattle.lower.specs.Lowered.{sides_test, lowering, lowered_expression, lowered_long, lowered_test, assignment, scalar_assignment}
+use Rattle.lower.specs.Lowered.{update_step, setting, long_setting, updating, of_words, sides_set}
 use Rattle.lower.specs.Lowered.{update_element_step, index_and_value, element_updating, element_sides_set, element_assignment}
 use Rattle.lower.specs.Lowered.{loop_local, entries, lowered_transition, lowered_statement, lowered_choice, lowered_block}
 use Rattle.whole_programs.specs.Needs.{ExpressionFits, StatementFits, ChoiceFits, BlockFits}
@@ -87,29 +98,29 @@ ReadsAssigned a (t.binary op b c) = ReadsAssigned a b × ReadsAssigned a c
 ReadsAssigned a (t.shift op e count) = ReadsAssigned a e
 ReadsAssigned a (t.short_circuit op b c) = ReadsAssigned a b × ReadsAssigned a c
 
--- an expression leaves a word
-some_room : (room d : ℕ) (e : CheckedExpression) → ExpressionFits room d e → d < room
-some_room room d (t.number w) h = h.0
-some_room room d (t.long_number w) h = h
-some_room room d (t.name x) h = h
-some_room room d (t.element x index) h = some_room room d index h
-some_room room d t.sense h = h
-some_room room d (t.unary op e) h = some_room room d e h
-some_room room d (t.binary op a b) h = some_room room d a h.0
-some_room room d (t.shift op e count) h = some_room room d e h.0
-some_room room d (t.short_circuit op a b) h = some_room room d a h.0
+-- an expression leaves a word, or two
+two_fit : (room d : ℕ) (e : CheckedExpression) → ExpressionFits room d e → suc (suc d) ≤ room
+two_fit room d (t.number w) h = let l = h.0 in omega (arith, l)
+two_fit room d (t.long_number w) h = let l = h.0 in omega (arith, l)
+two_fit room d (t.name x) h = omega (arith, h)
+two_fit room d (t.element x index) h = two_fit room d index h
+two_fit room d t.sense h = omega (arith, h)
+two_fit room d (t.unary op e) h = let more = two_fit room (suc (suc d)) e h in omega (arith, more)
+two_fit room d (t.binary op a b) h = two_fit room d a h.0
+two_fit room d (t.shift op e count) h = two_fit room d e h.0
+two_fit room d (t.short_circuit op a b) h = two_fit room d a h.0
 
 -- with fewer words beneath
-fits_above : (room d : ℕ) (e : CheckedExpression) → ExpressionFits room (suc d) e → ExpressionFits room d e
-fits_above room d (t.number w) h = (omega (arith, h.0), h.1)
-fits_above room d (t.long_number w) h = omega arith
-fits_above room d (t.name x) h = omega arith
-fits_above room d (t.element x index) h = fits_above room d index h
-fits_above room d t.sense h = omega arith
-fits_above room d (t.unary op e) h = fits_above room d e h
-fits_above room d (t.binary op a b) h = (fits_above room d a h.0, fits_above room (suc d) b h.1)
-fits_above room d (t.shift op e count) h = (fits_above room d e h.0, h.1)
-fits_above room d (t.short_circuit op a b) h = (fits_above room d a h.0, fits_above room d b h.1)
+fits_above : (room d c : ℕ) (e : CheckedExpression) → d ≤ c → ExpressionFits room c e → ExpressionFits room d e
+fits_above room d c (t.number w) l h = let within = h.0 in (omega (arith, within, l), h.1)
+fits_above room d c (t.long_number w) l h = let within = h.0 in (omega (arith, within, l), h.1)
+fits_above room d c (t.name x) l h = omega (arith, h, l)
+fits_above room d c (t.element x index) l h = fits_above room d c index l h
+fits_above room d c t.sense l h = omega (arith, h, l)
+fits_above room d c (t.unary op e) l h = fits_above room (suc (suc d)) (suc (suc c)) e (omega (arith, l)) h
+fits_above room d c (t.binary op a b) l h = (fits_above room d c a l h.0, fits_above room (suc (suc d)) (suc (suc c)) b (omega (arith, l)) h.1)
+fits_above room d c (t.shift op e count) l h = (fits_above room d c e l h.0, h.1)
+fits_above room d c (t.short_circuit op a b) l h = (fits_above room d c a l h.0, fits_above room d c b l h.1)
 
 module _ (room : ℕ) (p : Places) where
   read_way : (d : ℕ) (a : ℕ → Bool) (x : Variable) (next : Place → Type 0) → d < room → ReadOf a x → next (at (suc d) a)
@@ -131,7 +142,7 @@ module _ (room : ℕ) (p : Places) where
     where
       by_place : (o : Option VariablePlace) → EachStepWay room (element_read p o) next (at (suc d) a)
       by_place None = turned d a next l h
-      by_place (Some (Scalar home copy)) = turned d a next l h
+      by_place (Some (Scalar home copy width)) = turned d a next l h
       by_place (Some (Array elements length None)) = turned d a next l h
       by_place (Some (Array elements length (Some c))) = turned d a next l h
   element_way d a (Local n) next l h = turned d a next l h
@@ -144,86 +155,225 @@ module _ (room : ℕ) (p : Places) where
   abbrev Decides : ℕ → (ℕ → Bool) → Test → Type 1
   Decides d a c = (held failed : Place → Type 0) → held (at d a) → failed (at d a) → EachTestWay room c held failed (at d a)
 
-  -- ways through what an expression comes to
-  record HasWays (d : ℕ) (a : ℕ → Bool) (l : Lowering) : Type 1 where
-    word : LeavesDepth d a (suc d) (word_program l)
-    test : Decides d a (value_test l)
-
-  by_word : (d : ℕ) (a : ℕ → Bool) (q : Program) → d < room → LeavesDepth d a (suc d) q → HasWays d a (as_word q)
-  by_word d a q l h = record {
-    word = h;
-    test = λ held failed x y. h (Moves room 1 0 (λ r. held r × failed r))
-        (moves room 1 0 (suc d) d a (λ r. held r × failed r) (omega arith) (omega arith) (omega arith) (x, y));
-  }
-
-  by_test : (d : ℕ) (a : ℕ → Bool) (c : Test) → d < room → Decides d a c → HasWays d a (as_test c)
-  by_test d a c l h = record {
-    word = λ next x. h (Moves room 0 1 next) (Moves room 0 1 next) (pushed d a next l x) (pushed d a next l x);
-    test = h;
-  }
+  -- one program behind another
+  then_way : (d : ℕ) (a : ℕ → Bool) (e f : ℕ) (q r : Program) → LeavesDepth d a e q → LeavesDepth e a f r → LeavesDepth d a f (joined q r)
+  then_way d a e f q r h k next x = joined_way room q r next (at d a) (h (EachWay room r next) (k next x))
 
   -- a step behind a program
   behind_way : (d : ℕ) (a : ℕ → Bool) (e f : ℕ) (q : Program) (s : Step) → LeavesDepth d a e q
       → ((next : Place → Type 0) → next (at f a) → EachStepWay room s next (at e a)) → LeavesDepth d a f (joined q (one s))
-  behind_way d a e f q s h k next x = joined_way room q (one s) next (at d a) (h (EachWay room (one s) next) (k next x))
+  behind_way d a e f q s h k = then_way d a e f q (one s) h k
 
-  unary_way : (d : ℕ) (a : ℕ → Bool) (op : UnaryOperator) (l : Lowering) → d < room → HasWays d a l → HasWays d a (unary_lowering op l)
-  unary_way d a unary_operator.Negate l few h =
-      by_word d a _ few (behind_way d a (suc d) (suc d) (word_program l) (unary Negate) h.word (λ next x. turned d a next few x))
-  unary_way d a unary_operator.Complement l few h =
-      by_word d a _ few (behind_way d a (suc d) (suc d) (word_program l) (unary Complement) h.word (λ next x. turned d a next few x))
-  unary_way d a unary_operator.Not l few h = by_test d a _ few (λ held failed x y. h.test failed held y x)
+  -- ways through what an expression comes to: a word, a test, or a long
+  record HasWays (d : ℕ) (a : ℕ → Bool) (l : Lowering) : Type 1 where
+    word : LeavesDepth d a (suc d) (word_program l)
+    test : Decides d a (value_test l)
+    long : LeavesDepth d a (suc (suc d)) (long_words l)
+
+  -- two words on top of the stack become a long
+  paired : (d : ℕ) (a : ℕ → Bool) (next : Place → Type 0) → suc (suc d) ≤ room → next (at (suc (suc d)) a) → Moves room 2 2 next (at (suc (suc d)) a)
+  paired d a next l h = moves room 2 2 (suc (suc d)) (suc (suc d)) a next (omega arith) (omega arith) l h
+
+  -- a word becomes a long
+  widened : (d : ℕ) (a : ℕ → Bool) (of : WordType) → suc (suc d) ≤ room → LeavesDepth (suc d) a (suc (suc d)) (widening of)
+  widened d a Int l next h = moves room 1 2 (suc d) (suc (suc d)) a next (omega arith) (omega arith) l h
+  widened d a Unsigned l next h = pushed (suc d) a (Moves room 2 2 next) l (paired d a next l h)
+  widened d a Long l next h = pushed (suc d) a (Moves room 2 2 next) l (paired d a next l h)
+
+  -- the test of a word
+  holds_way : (d : ℕ) (a : ℕ → Bool) (q : Program) → suc (suc d) ≤ room → LeavesDepth d a (suc d) q → Decides d a (holds q)
+  holds_way d a q l h held failed x y =
+      h (Moves room 1 0 (λ r. held r × failed r)) (moves room 1 0 (suc d) d a (λ r. held r × failed r) (omega arith) (omega arith) (omega (arith, l)) (x, y))
+
+  by_word : (d : ℕ) (a : ℕ → Bool) (q : Program) → suc (suc d) ≤ room → LeavesDepth d a (suc d) q → HasWays d a (as_word q)
+  by_word d a q l h = record {
+    word = h;
+    test = holds_way d a q l h;
+    long = then_way d a (suc d) (suc (suc d)) q (widening Long) h (widened d a Long l);
+  }
+
+  by_test : (d : ℕ) (a : ℕ → Bool) (c : Test) → suc (suc d) ≤ room → Decides d a c → HasWays d a (as_test c)
+  by_test d a c l h = record {
+    word = word;
+    test = h;
+    long = then_way d a (suc d) (suc (suc d)) (one (truth c)) (widening Long) word (widened d a Long l);
+  }
+    where
+      word : LeavesDepth d a (suc d) (one (truth c))
+      word next x =
+          let few : d < room = omega (arith, l) in
+          h (Moves room 0 1 next) (Moves room 0 1 next) (pushed d a next few x) (pushed d a next few x)
 
   -- two words become one
-  joins : (d : ℕ) (a : ℕ → Bool) (q : Program) (op : BinaryOperation) → d < room → LeavesDepth d a (suc (suc d)) q
+  joins : (d : ℕ) (a : ℕ → Bool) (q : Program) (op : BinaryOperation) → suc (suc d) ≤ room → LeavesDepth d a (suc (suc d)) q
       → LeavesDepth d a (suc d) (joined q (one (binary op)))
-  joins d a q op few h =
+  joins d a q op l h =
       behind_way d a (suc (suc d)) (suc d) q (binary op) h
-      (λ next x. moves room 2 1 (suc (suc d)) (suc d) a next (omega arith) (omega arith) (omega arith) x)
+      (λ next x. moves room 2 1 (suc (suc d)) (suc d) a next (omega arith) (omega arith) (omega (arith, l)) x)
+
+  by_long : (d : ℕ) (a : ℕ → Bool) (q : Program) → suc (suc d) ≤ room → LeavesDepth d a (suc (suc d)) q → HasWays d a (as_long q)
+  by_long d a q l h = record {
+    word =
+        behind_way d a (suc (suc d)) (suc d) q (long with_longs.LowWord) h
+        (λ next x. moves room 2 1 (suc (suc d)) (suc d) a next (omega arith) (omega arith) (omega (arith, l)) x);
+    test = holds_way d a (joined q (one (binary (Plain Or)))) l (joins d a q (Plain Or) l h);
+    long = h;
+  }
+
+  -- a long by the type of what it is made of
+  long_way : (d : ℕ) (a : ℕ → Bool) (of : WordType) (l : Lowering) → suc (suc d) ≤ room → HasWays d a l
+      → LeavesDepth d a (suc (suc d)) (long_program of l)
+  long_way d a Int l two h = then_way d a (suc d) (suc (suc d)) (word_program l) (widening Int) h.word (widened d a Int two)
+  long_way d a Unsigned l two h = then_way d a (suc d) (suc (suc d)) (word_program l) (widening Unsigned) h.word (widened d a Unsigned two)
+  long_way d a Long l two h = h.long
+
+  -- ---- operators in front
+
+  unary_way : (d : ℕ) (a : ℕ → Bool) (op : UnaryOperator) (l : Lowering) → suc (suc d) ≤ room → HasWays d a l → HasWays d a (unary_lowering op l)
+  unary_way d a unary_operator.Negate l two h =
+      by_word d a _ two (behind_way d a (suc d) (suc d) (word_program l) (unary Negate) h.word (λ next x. turned d a next (omega (arith, two)) x))
+  unary_way d a unary_operator.Complement l two h =
+      by_word d a _ two (behind_way d a (suc d) (suc d) (word_program l) (unary Complement) h.word (λ next x. turned d a next (omega (arith, two)) x))
+  unary_way d a unary_operator.Not l two h = by_test d a _ two (λ held failed x y. h.test failed held y x)
+
+  -- two longs become one
+  calculated : (d : ℕ) (a : ℕ → Bool) (q : Program) (op : PlainOperation) → suc (suc d) ≤ room → LeavesDepth d a (suc (suc (suc (suc d)))) q
+      → LeavesDepth d a (suc (suc d)) (joined q (one (long (with_longs.Calculate op))))
+  calculated d a q op l h =
+      behind_way d a (suc (suc (suc (suc d)))) (suc (suc d)) q (long (with_longs.Calculate op)) h
+      (λ next x. moves room 4 2 (suc (suc (suc (suc d)))) (suc (suc d)) a next (omega arith) (omega arith) l x)
+
+  -- two longs become a word
+  asked : (d : ℕ) (a : ℕ → Bool) (next : Place → Type 0) → suc (suc d) ≤ room → next (at (suc d) a) → Moves room 4 1 next (at (suc (suc (suc (suc d)))) a)
+  asked d a next l h = moves room 4 1 (suc (suc (suc (suc d)))) (suc d) a next (omega arith) (omega arith) (omega (arith, l)) h
+
+  zero_way : (d : ℕ) (a : ℕ → Bool) → suc (suc d) ≤ room → LeavesDepth d a (suc (suc d)) long_zero
+  zero_way d a l next h = pushed d a (Moves room 0 1 next) (omega (arith, l)) (pushed (suc d) a next l h)
+
+  -- a long that waits has 0 beneath it
+  long_unary_way : (d : ℕ) (a : ℕ → Bool) (op : UnaryOperator) (l : Lowering) → suc (suc d) ≤ room → HasWays d a l → HasWays (suc (suc d)) a l
+      → HasWays d a (long_unary_lowering op l)
+  long_unary_way d a unary_operator.Negate l two h above =
+      by_long d a _ two
+      (calculated d a (joined long_zero (long_words l)) Subtract two
+      (then_way d a (suc (suc d)) (suc (suc (suc (suc d)))) long_zero (long_words l) (zero_way d a two) above.long))
+  long_unary_way d a unary_operator.Complement l two h above =
+      by_long d a _ two
+      (behind_way d a (suc (suc d)) (suc (suc d)) (long_words l) (long with_longs.Complement) h.long (λ next x. paired d a next two x))
+  long_unary_way d a unary_operator.Not l two h above = by_test d a _ two (λ held failed x y. h.test failed held y x)
+
+  operand_way : (d : ℕ) (a : ℕ → Bool) (of : WordType) (op : UnaryOperator) (l : Lowering) → suc (suc d) ≤ room → HasWays d a l
+      → HasWays (suc (suc d)) a l → HasWays d a (operand_lowering of op l)
+  operand_way d a Int op l two h above = unary_way d a op l two h
+  operand_way d a Unsigned op l two h above = unary_way d a op l two h
+  operand_way d a Long op l two h above = long_unary_way d a op l two h above
+
+  -- ---- operators between two sides
 
   -- two words are popped
-  pops_two : (d : ℕ) (a : ℕ → Bool) (q : Program) → d < room → LeavesDepth d a (suc (suc d)) q → (held failed : Place → Type 0)
+  pops_two : (d : ℕ) (a : ℕ → Bool) (q : Program) → suc (suc d) ≤ room → LeavesDepth d a (suc (suc d)) q → (held failed : Place → Type 0)
       → held (at d a) → failed (at d a) → EachWay room q (Moves room 2 0 (λ r. held r × failed r)) (at d a)
-  pops_two d a q few h held failed x y =
+  pops_two d a q l h held failed x y =
       h (Moves room 2 0 (λ r. held r × failed r))
-      (moves room 2 0 (suc (suc d)) d a (λ r. held r × failed r) (omega arith) (omega arith) (omega arith) (x, y))
+      (moves room 2 0 (suc (suc d)) d a (λ r. held r × failed r) (omega arith) (omega arith) (omega (arith, l)) (x, y))
 
-  binary_way : (d : ℕ) (a : ℕ → Bool) (meaning : BinaryMeaning) (q : Program) → d < room → LeavesDepth d a (suc (suc d)) q
+  binary_way : (d : ℕ) (a : ℕ → Bool) (meaning : BinaryMeaning) (q : Program) → suc (suc d) ≤ room → LeavesDepth d a (suc (suc d)) q
       → HasWays d a (binary_lowering meaning q)
-  binary_way d a (Calculates op) q few h = by_word d a _ few (joins d a q op few h)
-  binary_way d a CommonBits q few h = record { word = joins d a q (Plain And) few h; test = pops_two d a q few h }
-  binary_way d a (Holds c) q few h = by_test d a _ few (pops_two d a q few h)
-  binary_way d a (Fails c) q few h = by_test d a _ few (λ held failed x y. pops_two d a q few h failed held y x)
+  binary_way d a (Calculates op) q l h = by_word d a _ l (joins d a q op l h)
+  binary_way d a CommonBits q l h = record {
+    word = joins d a q (Plain And) l h;
+    test = pops_two d a q l h;
+    long = then_way d a (suc d) (suc (suc d)) (joined q (one (binary (Plain And)))) (widening Long) (joins d a q (Plain And) l h) (widened d a Long l);
+  }
+  binary_way d a (Holds c) q l h = by_test d a _ l (pops_two d a q l h)
+  binary_way d a (Fails c) q l h = by_test d a _ l (λ held failed x y. pops_two d a q l h failed held y x)
 
-  sides_way : (d : ℕ) (a : ℕ → Bool) (op : ShortCircuitOperator) (b c : Test) → Decides d a b → Decides d a c → Decides d a (sides_test op b c)
-  sides_way d a BothHold b c h k held failed x y = h (EachTestWay room c held failed) failed (k held failed x y) y
-  sides_way d a OneHolds b c h k held failed x y = h held (EachTestWay room c held failed) x (k held failed x y)
+  answer_way : (d : ℕ) (a : ℕ → Bool) (asks : LongQuestion) (q : Program) → suc (suc d) ≤ room → LeavesDepth d a (suc (suc (suc (suc d)))) q
+      → LeavesDepth d a (suc d) (answer asks q)
+  answer_way d a question.Below q l h = behind_way d a (suc (suc (suc (suc d)))) (suc d) q (long with_longs.Below) h (λ next x. asked d a next l x)
+  answer_way d a question.Above q l h = behind_way d a (suc (suc (suc (suc d)))) (suc d) q (long with_longs.Above) h (λ next x. asked d a next l x)
+  answer_way d a question.Differ q l h =
+      joins d a (joined q (one (long (with_longs.Calculate Xor)))) (Plain Or) l (calculated d a q Xor l h)
+
+  long_binary_way : (d : ℕ) (a : ℕ → Bool) (meaning : LongMeaning) (q : Program) → suc (suc d) ≤ room → LeavesDepth d a (suc (suc (suc (suc d)))) q
+      → HasWays d a (long_binary_lowering meaning q)
+  long_binary_way d a (of_longs.Calculates op) q l h = by_long d a _ l (calculated d a q op l h)
+  long_binary_way d a (of_longs.Holds asks) q l h = by_test d a _ l (holds_way d a (answer asks q) l (answer_way d a asks q l h))
+  long_binary_way d a (of_longs.Fails asks) q l h =
+      by_test d a _ l (λ held failed x y. holds_way d a (answer asks q) l (answer_way d a asks q l h) failed held y x)
+
+  -- the right side has one word beneath it where both are words, and two where they are longs
+  sides_way : (d : ℕ) (a : ℕ → Bool) (of : WordType) (op : BinaryOperator) (s t : WordType) (left right : Lowering) → suc (suc d) ≤ room
+      → suc (suc (suc (suc d))) ≤ room → HasWays d a left → HasWays (suc d) a right → HasWays (suc (suc d)) a right
+      → HasWays d a (sides_lowering of op s t left right)
+  sides_way d a Long op s t left right two four h one above =
+      long_binary_way d a (long_meaning op) _ two
+      (then_way d a (suc (suc d)) (suc (suc (suc (suc d)))) (long_program s left) (long_program t right) (long_way d a s left two h)
+      (long_way (suc (suc d)) a t right four above))
+  sides_way d a Int op s t left right two four h one above =
+      binary_way d a (binary_meaning op Int) _ two (then_way d a (suc d) (suc (suc d)) (word_program left) (word_program right) h.word one.word)
+  sides_way d a Unsigned op s t left right two four h one above =
+      binary_way d a (binary_meaning op Unsigned) _ two (then_way d a (suc d) (suc (suc d)) (word_program left) (word_program right) h.word one.word)
+
+  shifts_long : (d : ℕ) (a : ℕ → Bool) (op : ShiftOperator) (k : ℕ) (next : Place → Type 0) → suc (suc d) ≤ room → next (at (suc (suc d)) a)
+      → EachStepWay room (long (long_shift op k)) next (at (suc (suc d)) a)
+  shifts_long d a shift_operator.Left k next l h = paired d a next l h
+  shifts_long d a shift_operator.Right k next l h = paired d a next l h
+
+  shift_way : (d : ℕ) (a : ℕ → Bool) (of : WordType) (op : ShiftOperator) (l : Lowering) (k : ℕ) → suc (suc d) ≤ room → HasWays d a l
+      → HasWays d a (shift_lowering of op l k)
+  shift_way d a Long op l k two h =
+      by_long d a _ two
+      (behind_way d a (suc (suc d)) (suc (suc d)) (long_words l) (long (long_shift op k)) h.long (λ next x. shifts_long d a op k next two x))
+  shift_way d a Int op l k two h =
+      by_word d a _ two
+      (behind_way d a (suc d) (suc d) (word_program l) (shift (shift_operation op Int) k) h.word (λ next x. turned d a next (omega (arith, two)) x))
+  shift_way d a Unsigned op l k two h =
+      by_word d a _ two
+      (behind_way d a (suc d) (suc d) (word_program l) (shift (shift_operation op Unsigned) k) h.word (λ next x. turned d a next (omega (arith, two)) x))
+
+  test_sides_way : (d : ℕ) (a : ℕ → Bool) (op : ShortCircuitOperator) (b c : Test) → Decides d a b → Decides d a c → Decides d a (sides_test op b c)
+  test_sides_way d a BothHold b c h k held failed x y = h (EachTestWay room c held failed) failed (k held failed x y) y
+  test_sides_way d a OneHolds b c h k held failed x y = h held (EachTestWay room c held failed) x (k held failed x y)
+
+  -- ---- expressions
+
+  read_long_way : (d : ℕ) (a : ℕ → Bool) (x : Variable) → suc (suc d) ≤ room → ReadOf a x → LeavesDepth d a (suc (suc d)) (read_long p x)
+  read_long_way d a (Shared v) l r next h =
+      pushed d a (Moves room 0 1 (Moves room 2 2 next)) (omega (arith, l)) (pushed (suc d) a (Moves room 2 2 next) l (paired d a next l h))
+  read_long_way d a (Local n) l r next h =
+      (r, pushed d a (Moves room 0 1 (Moves room 2 2 next)) (omega (arith, l)) (pushed (suc d) a (Moves room 2 2 next) l (paired d a next l h)))
+
+  name_way : (d : ℕ) (a : ℕ → Bool) (of : WordType) (x : Variable) → suc (suc d) ≤ room → ReadOf a x → HasWays d a (name_lowering p of x)
+  name_way d a Long x l r = by_long d a _ l (read_long_way d a x l r)
+  name_way d a Int x l r = by_word d a _ l (λ next y. read_way d a x next (omega (arith, l)) r y)
+  name_way d a Unsigned x l r = by_word d a _ l (λ next y. read_way d a x next (omega (arith, l)) r y)
 
   lowering_way : (d : ℕ) (a : ℕ → Bool) (e : CheckedExpression) → ExpressionFits room d e → ReadsAssigned a e → HasWays d a (lowering p e)
-  lowering_way d a (t.number w) f r = by_word d a _ f.0 (λ next x. pushed d a next f.0 x)
-  lowering_way d a (t.long_number w) f r = by_word d a _ f (λ next x. pushed d a next f x)
-  lowering_way d a (t.name x) f r = by_word d a _ f (λ next y. read_way d a x.variable next f r y)
+  lowering_way d a (t.number w) f r = let two = two_fit room d (t.number w) f in by_word d a _ two (λ next x. pushed d a next (omega (arith, two)) x)
+  lowering_way d a (t.long_number w) f r =
+      let two = two_fit room d (t.long_number w) f in
+      by_long d a _ two (λ next x. pushed d a (Moves room 0 1 next) (omega (arith, two)) (pushed (suc d) a next two x))
+  lowering_way d a (t.name x) f r = name_way d a x.word_type x.variable (two_fit room d (t.name x) f) r
   lowering_way d a (t.element x index) f r =
-      let few = some_room room d index f in
-      by_word d a _ few
+      let two = two_fit room d index f in
+      by_word d a _ two
       (behind_way d a (suc d) (suc d) (lowered_expression p index) (element_step p x.variable) (lowering_way d a index f r).word
-      (λ next y. element_way d a x.variable next few y))
-  lowering_way d a t.sense f r = by_word d a _ f (λ next x. pushed d a next f x)
-  lowering_way d a (t.unary op e) f r = unary_way d a op (lowering p e) (some_room room d e f) (lowering_way d a e f r)
+      (λ next y. element_way d a x.variable next (omega (arith, two)) y))
+  lowering_way d a t.sense f r = let two = two_fit room d t.sense f in by_word d a _ two (λ next x. pushed d a next (omega (arith, two)) x)
+  lowering_way d a (t.unary op e) f r =
+      let inner = fits_above room d (suc (suc d)) e (omega arith) f in
+      operand_way d a (type_of e) op (lowering p e) (two_fit room d e inner) (lowering_way d a e inner r) (lowering_way (suc (suc d)) a e f r)
   lowering_way d a (t.binary op b c) f r =
-      let first = lowered_expression p b in
-      let second = lowered_expression p c in
-      binary_way d a (binary_meaning op.operator (joined_type (type_of b) (type_of c))) (joined first second) (some_room room d b f.0)
-      (λ next x. joined_way room first second next (at d a)
-      ((lowering_way d a b f.0 r.0).word (EachWay room second next) ((lowering_way (suc d) a c f.1 r.1).word next x)))
+      let one = fits_above room (suc d) (suc (suc d)) c (omega arith) f.1 in
+      sides_way d a (operand_type op.operator (joined_type (type_of b) (type_of c))) op.operator (type_of b) (type_of c) (lowering p b) (lowering p c)
+      (two_fit room d b f.0) (two_fit room (suc (suc d)) c f.1)
+      (lowering_way d a b f.0 r.0) (lowering_way (suc d) a c one r.1) (lowering_way (suc (suc d)) a c f.1 r.1)
   lowering_way d a (t.shift op e count) f r =
-      let few = some_room room d e f.0 in
-      by_word d a _ few
-      (behind_way d a (suc d) (suc d) (lowered_expression p e) (shift (shift_operation op (type_of e)) count.value) (lowering_way d a e f.0 r).word
-      (λ next x. turned d a next few x))
+      shift_way d a (type_of e) op (lowering p e) count.value (two_fit room d e f.0) (lowering_way d a e f.0 r)
   lowering_way d a (t.short_circuit op b c) f r =
-      by_test d a _ (some_room room d b f.0)
-      (sides_way d a op (lowered_test p b) (lowered_test p c) (lowering_way d a b f.0 r.0).test (lowering_way d a c f.1 r.1).test)
+      by_test d a _ (two_fit room d b f.0)
+      (test_sides_way d a op (lowered_test p b) (lowered_test p c) (lowering_way d a b f.0 r.0).test (lowering_way d a c f.1 r.1).test)
 
   expression_way : (d : ℕ) (a : ℕ → Bool) (e : CheckedExpression) (next : Place → Type 0) → ExpressionFits room d e → ReadsAssigned a e → next (at (suc d) a)
       → EachWay room (lowered_expression p e) next (at d a)
@@ -273,7 +423,7 @@ reads_assigned : (shared : List SharedDeclaration) (u a : ℕ → Bool) (e : Che
     → ReadsAssigned a e
 reads_assigned shared u a (t.number w) c n s = tt
 reads_assigned shared u a (t.long_number w) c n s = tt
-reads_assigned shared u a (t.name x) c n s = by_variable x.variable n s.0
+reads_assigned shared u a (t.name x) c n s = by_variable x.variable n.0 s.0
   where
     by_variable : (v : Variable) → IsWordName shared v → IsAssigned u v → ReadOf a v
     by_variable (Shared v) n s = tt
@@ -337,6 +487,20 @@ module _ (room : ℕ) (p : Places) (shared : List SharedDeclaration) (even : p.m
           moves room 1 0 1 0 a (λ q. next (assigning (n % 65536) q)) (omega arith) (omega arith) (omega arith)
           (h (λ m. nat_eq m (n % 65536) || a m) (subst (λ v. Covers (written u x) (λ m. nat_eq m (loop_local v) || a m)) is (covers_written u a x c)))
 
+  -- the same of a long
+  long_write_way : (u a : ℕ → Bool) (x : VariableName) (next : Place → Type 0) → 2 ≤ room → Covers u a
+      → ((b : ℕ → Bool) → Covers (written u x) b → next (at 0 b))
+      → EachWay room (write_long p x.variable) next (at 2 a)
+  long_write_way u a x next l c h = by_variable x.variable refl
+    where
+      by_variable : (v : Variable) → x.variable ≡ v → EachWay room (write_long p v) next (at 2 a)
+      by_variable (Shared v) is =
+          moves room 1 0 2 1 a (Moves room 1 0 next) (omega arith) (omega arith) (omega (arith, l))
+          (moves room 1 0 1 0 a next (omega arith) (omega arith) (omega arith) (h a (covers_shared u a x v is c)))
+      by_variable (Local n) is =
+          moves room 2 1 2 1 a (EachStepWay room (write_step p (Local n)) next) (omega arith) (omega arith) (omega (arith, l))
+          (subst (λ v. EachStepWay room (write_step p v) next (at 1 a)) is (write_way u a x next c h))
+
   -- where the variable is assigned it may be updated
   update_way : (a : ℕ → Bool) (o : PlainOperation) (v : Variable) (next : Place → Type 0) → ReadOf a v → EachStepWay room (write_step p v) next (at 1 a)
       → EachStepWay room (update_step p o v) next (at 1 a)
@@ -358,6 +522,14 @@ module _ (room : ℕ) (p : Places) (shared : List SharedDeclaration) (even : p.m
       joined_way room (lowered_expression p e) (one (write_step p x.variable)) next (at 0 a)
       (expression_way room p 0 a e _ f r (write_behind u a x e next c h))
 
+  -- so is one of two words
+  long_setting_way : (u a : ℕ → Bool) (x : VariableName) (e : CheckedExpression) (next : Place → Type 0) → ExpressionFits room 0 e → Covers u a
+      → ReadsAssigned a e → Written u x e next → EachWay room (long_setting p x.variable e) next (at 0 a)
+  long_setting_way u a x e next f c r h =
+      joined_way room (lowered_long p e) (write_long p x.variable) next (at 0 a)
+      (long_way room p 0 a (type_of e) (lowering p e) (two_fit room 0 e f) (lowering_way room p 0 a e f r) (EachWay room (write_long p x.variable) next)
+      (long_write_way u a x next (two_fit room 0 e f) c (λ b d. h b (subst (λ v. Covers v b) (sym (behind_expression u e (write x ∷ []))) d))))
+
   sides_set_way : (u a : ℕ → Bool) (x : VariableName) (op : PlacedOperator) (b e : CheckedExpression) (o : Option PlainOperation) (next : Place → Type 0)
       → updating x.variable op.operator b ≡ o → ExpressionFits room 0 (t.binary op b e) → Covers u a → ReadsAssigned a (t.binary op b e)
       → Written u x (t.binary op b e) next → EachWay room (sides_set p x.variable op b e o) next (at 0 a)
@@ -366,19 +538,31 @@ module _ (room : ℕ) (p : Places) (shared : List SharedDeclaration) (even : p.m
       let update = is_update x.variable op.operator b o is in
       let own : ReadOf a x.variable = subst (ReadOf a) update.same (subst (ReadsAssigned a) update.is r.0) in
       joined_way room (lowered_expression p e) (one (update_step p o x.variable)) next (at 0 a)
-      (expression_way room p 0 a e _ (fits_above room 0 e f.1) r.1
+      (expression_way room p 0 a e _ (fits_above room 0 (suc (suc 0)) e (omega arith) f.1) r.1
       (update_way a o x.variable next own (write_behind u a x (t.binary op b e) next c h)))
 
   -- the first clause makes it a proof by cases
   assignment_way : (u a : ℕ → Bool) (x : VariableName) (e : CheckedExpression) (next : Place → Type 0) → ExpressionFits room 0 e → Covers u a
       → ReadsAssigned a e → Written u x e next → EachWay room (assignment p x.variable e) next (at 0 a)
-  assignment_way u a x (t.binary op b e) next f c r h = sides_set_way u a x op b e (updating x.variable op.operator b) next refl f c r h
+  assignment_way u a x (t.binary op b e) next f c r h = by_type (joined_type (type_of b) (type_of e))
+    where
+      by_type : (of : WordType) → EachWay room (sides_set p x.variable op b e (of_words of (updating x.variable op.operator b))) next (at 0 a)
+      by_type Long = setting_way u a x (t.binary op b e) next f c r h
+      by_type Int = sides_set_way u a x op b e (updating x.variable op.operator b) next refl f c r h
+      by_type Unsigned = sides_set_way u a x op b e (updating x.variable op.operator b) next refl f c r h
   assignment_way u a x e next f c r h = setting_way u a x e next f c r h
 
-  assigned_way : (u a : ℕ → Bool) (x : VariableName) (e : CheckedExpression) (next : Place → Type 0) → ExpressionFits room 0 e → ExpressionUses shared e
-      → Covers u a → Safe u (names_read e ++ write x ∷ []) → Written u x e next → EachWay room (assignment p x.variable e) next (at 0 a)
-  assigned_way u a x e next f n c s h =
-      assignment_way u a x e next f c (reads_assigned shared u a e c n (safe_expression u e (write x ∷ []) s).0) h
+  typed_assignment_way : (u a : ℕ → Bool) (of : WordType) (x : VariableName) (e : CheckedExpression) (next : Place → Type 0) → ExpressionFits room 0 e
+      → Covers u a → ReadsAssigned a e → Written u x e next → EachWay room (scalar_assignment p of x.variable e) next (at 0 a)
+  typed_assignment_way u a Long x e next f c r h = long_setting_way u a x e next f c r h
+  typed_assignment_way u a Int x e next f c r h = assignment_way u a x e next f c r h
+  typed_assignment_way u a Unsigned x e next f c r h = assignment_way u a x e next f c r h
+
+  assigned_way : (u a : ℕ → Bool) (of : WordType) (x : VariableName) (e : CheckedExpression) (next : Place → Type 0) → ExpressionFits room 0 e
+      → ExpressionUses shared e → Covers u a → Safe u (names_read e ++ write x ∷ []) → Written u x e next
+      → EachWay room (scalar_assignment p of x.variable e) next (at 0 a)
+  assigned_way u a of x e next f n c s h =
+      typed_assignment_way u a of x e next f c (reads_assigned shared u a e c n (safe_expression u e (write x ∷ []) s).0) h
 
   entries_way : (count list : ℕ) (runs : List Run) (next : Place → Type 0) (o : Place) → next o
       → EachWay room (entries count list runs) next o
@@ -407,14 +591,14 @@ module _ (room : ℕ) (p : Places) (shared : List SharedDeclaration) (even : p.m
       → EachWay room (element_sides_set p x index op b e o) next (at 0 a)
   element_sides_way a x index op b e None next f g q r h = index_and_value_way a index (t.binary op b e) (store_step p x) next f g q r h
   element_sides_way a x index op b e (Some o) next f g q r h =
-      index_and_value_way a index e (update_element_step p o x) next f (fits_above room 1 e g.1) q r.1 h
+      index_and_value_way a index e (update_element_step p o x) next f (fits_above room 1 (suc (suc 1)) e (omega arith) g.1) q r.1 h
 
   -- the first clause makes it a proof by cases
   element_assignment_way : (a : ℕ → Bool) (x : Variable) (index e : CheckedExpression) (next : Place → Type 0) → ExpressionFits room 0 index
       → ExpressionFits room 1 e → ReadsAssigned a index → ReadsAssigned a e → Moves room 2 0 next (at 2 a)
       → EachWay room (element_assignment p x index e) next (at 0 a)
   element_assignment_way a x index (t.binary op b e) next f g q r h =
-      element_sides_way a x index op b e (element_updating x index op.operator b) next f g q r h
+      element_sides_way a x index op b e (of_words (joined_type (type_of b) (type_of e)) (element_updating x index op.operator b)) next f g q r h
   element_assignment_way a x index e next f g q r h = index_and_value_way a index e (store_step p x) next f g q r h
 
   -- of an index and a value
@@ -483,10 +667,10 @@ module _ (room : ℕ) (p : Places) (shared : List SharedDeclaration) (even : p.m
     statement_way (t.declare of x None) u a next f n c h = h.on (unset x ∷ []) (path.declare_unset of x) a (covers_forgotten u a x c)
     statement_way (t.declare of x (Some e)) u a next f n c h =
         let q = path.declare_set of x e (names_read e) (is_path e) in
-        assigned_way u a x e next f n.1 c (h.safe (names_read e ++ write x ∷ []) goes_on q) (h.on (names_read e ++ write x ∷ []) q)
+        assigned_way u a Unsigned x e next f.1 n.1 c (h.safe (names_read e ++ write x ∷ []) goes_on q) (h.on (names_read e ++ write x ∷ []) q)
     statement_way (t.assign x e) u a next f n c h =
         let q = path.assign x e (names_read e) (is_path e) in
-        assigned_way u a x e next f n.1 c (h.safe (names_read e ++ write x ∷ []) goes_on q) (h.on (names_read e ++ write x ∷ []) q)
+        assigned_way u a x.word_type x e next f n.1 c (h.safe (names_read e ++ write x ∷ []) goes_on q) (h.on (names_read e ++ write x ∷ []) q)
     statement_way (t.store x index e) u a next f n c h =
         let q = path.store x index e (names_read index) (names_read e) (is_path index) (is_path e) in
         let xs = names_read index ++ (names_read e ++ write x ∷ []) in

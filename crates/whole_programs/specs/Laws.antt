@@ -1,7 +1,6 @@
 -- What holds of the word programs of accepted sources.
-use Rattle.std.specs.Prelude.{◌≡◌, ◌≤◌, ℕ, List, All, Some, slice_get, length}
+use Rattle.std.specs.Prelude.{◌≡◌, ◌≤◌, ℕ, List, All, Some, slice_get}
 use Rattle.lower.specs.task_ast.Tree.{Program, Task}
-use Rattle.lower.specs.task_ast.Longs.{IsPlain}
 use Rattle.lower.specs.task_ast.declared.names.VariableName.{VariableName}
 use Rattle.lower.specs.task_ast.declared.names.TaskName.{TaskName}
 use Rattle.lower.specs.cost_bound.declared.allowance.Allow.{Allow}
@@ -10,14 +9,14 @@ use Rattle.source_meaning.specs.Acceptance.{IsAcceptedText}
 use Rattle.privatise.specs.war_analysis.PlanValue.{TaskPlanValue}
 use Rattle.privatise.specs.war_analysis.Plans.{IsPlan}
 use Rattle.lower.specs.memory_map.MemoryMap.{MemoryMap, TaskPlace}
+use Rattle.lower.specs.memory_map.Spots.{private_words}
 use Rattle.privatise.specs.Layouts.{IsLayout}
 use Rattle.lower.specs.array_versions.Form.{IsWhole, OfWords}
 use Rattle.lower.specs.Lowered.{lowered_task, lowered}
 
--- an accepted text without longs, with a plan and a layout of its source: what is compiled
+-- an accepted text, with a plan and a layout of its source
 pub record IsLaidOutText (text : List ℕ) (program : Program VariableName TaskName) (allow : Allow) (plans : List TaskPlanValue) (l : MemoryMap) : Type 0 where
   pub accepted : IsAcceptedText text program allow
-  pub plain : IsPlain program
   pub plan : IsPlan program plans
   pub layout : IsLayout program allow plans l
 
@@ -39,7 +38,7 @@ TasksAreWhole = OfTasks (λ task l t. IsWhole (lowered_task l t task.body) × Of
 abbrev pub ProgramsAreWhole : Type 0
 ProgramsAreWhole = OfTexts (λ program l. All IsWhole (lowered l program) × All OfWords (lowered l program))
 
--- the private scalars of each task are at most as many as its allowance counts, which counts those on the left of an assignment
+-- the private scalars of each task have at most as many words as its allowance counts, which counts those on the left of an assignment
 abbrev pub PrivatesAreFew : Type 0
 PrivatesAreFew = OfTexts (λ program l. (k : ℕ) (task : Task VariableName TaskName) (t : TaskPlace)
-    → slice_get program.tasks k ≡ Some task → slice_get l.tasks k ≡ Some t → length t.privates ≤ scalars_of program.shared task.body)
+    → slice_get program.tasks k ≡ Some task → slice_get l.tasks k ≡ Some t → private_words t.privates ≤ scalars_of program.shared task.body)

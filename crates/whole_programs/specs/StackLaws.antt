@@ -6,10 +6,10 @@ use Rattle.lower.specs.task_ast.declared.names.TaskName.{TaskName}
 use Rattle.source_meaning.specs.Acceptance.{Checks}
 use Rattle.whole_programs.specs.Needs.{BlockFits}
 
--- the room that is enough for each expression: ten operators, one weaker than the other, between any two of the brackets, of which no
--- more than 64 are open; one word for the expression within, and one for an index.
+-- the room that is enough for each expression: two words for each of its tokens, of which no more than 256 stand in a row, and one for
+-- an index
 abbrev pub enough : ℕ
-enough = 652
+enough = 513
 
 -- the expressions of a source that no check refuses have room, and its numbers are words
 abbrev pub SourcesFit : Type 0

@@ -1,11 +1,31 @@
--- That the names of a task are used as they were declared.
-use Rattle.std.specs.Prelude.{◌<◌, List, Some, None}
+-- That the names of a task are used as they were declared, and that its operators have operands of their types.
+use Rattle.std.specs.Prelude.{◌≡◌, ◌<◌, true, false, List, Some, None, slice_get, IsSomeAnd}
+use Rattle.lower.specs.task_ast.declared.Extent.{Extent}
 use Rattle.lower.specs.task_ast.declared.SharedDeclaration.{SharedDeclaration}
+use Rattle.lower.specs.task_ast.declared.WordType.{WordType}
+use Rattle.lower.specs.task_ast.declared.WordType.TheVariants.{Unsigned, Int, Long}
 use Rattle.lower.specs.task_ast.declared.names.Variable.{Variable}
 use Rattle.lower.specs.task_ast.declared.names.Variable.TheVariants.{Shared, Local}
 use Rattle.lower.specs.task_ast.Tree as t
 use Rattle.lower.specs.task_ast.Paths.{CheckedExpression, CheckedStatement, CheckedChoice, CheckedBlock}
+use Rattle.lower.specs.task_ast.Types.{IsOneWord, joined_type, type_of}
+use Rattle.lower.specs.task_check.Occurrences.{is_refused}
+use Rattle.lower.specs.source_values.Runs.{is_long_extent}
 use Rattle.privatise.specs.war_analysis.Plans.{IsScalarAt, IsArrayAt}
+
+-- a variable of a type: where the type is long, so is the variable
+abbrev pub IsExtentOf : WordType → Extent → Type 0
+IsExtentOf Long e = is_long_extent e ≡ true
+IsExtentOf Int e = Unit {0}
+IsExtentOf Unsigned e = Unit {0}
+
+abbrev pub HasItsExtent : SharedDeclaration → Type 0
+HasItsExtent d = IsExtentOf d.word_type d.extent
+
+-- the variable of a name of a type: where the type is long, it is a shared long
+abbrev pub IsOfType : List SharedDeclaration → WordType → Variable → Type 0
+IsOfType shared of (Shared v) = IsSomeAnd (slice_get shared v) (λ d. IsExtentOf of d.extent)
+IsOfType shared of (Local n) = IsOneWord of
 
 -- a name without an index: a shared scalar, or a local of at most 256
 abbrev pub IsWordName : List SharedDeclaration → Variable → Type 0
@@ -22,15 +42,18 @@ abbrev pub IsLocalName : Variable → Type 0
 IsLocalName (Shared v) = ⊥
 IsLocalName (Local n) = n < 256
 
--- each name in an expression is used so: an array's where there is an index, a word's elsewhere
+-- each name in an expression is used so: an array's where there is an index, a scalar's elsewhere; an index isn't long, and no operator is
+-- refused to its operands
 abbrev pub ExpressionUses : List SharedDeclaration → CheckedExpression → Type 0
 ExpressionUses shared (t.number w) = Unit {0}
 ExpressionUses shared (t.long_number w) = Unit {0}
-ExpressionUses shared (t.name x) = IsWordName shared x.variable
-ExpressionUses shared (t.element x index) = IsArrayName shared x.variable × ExpressionUses shared index
+ExpressionUses shared (t.name x) = IsWordName shared x.variable × IsOfType shared x.word_type x.variable
+ExpressionUses shared (t.element x index) =
+    IsArrayName shared x.variable × ExpressionUses shared index × IsOfType shared x.word_type x.variable × IsOneWord (type_of index)
 ExpressionUses shared t.sense = Unit {0}
 ExpressionUses shared (t.unary op e) = ExpressionUses shared e
-ExpressionUses shared (t.binary op a b) = ExpressionUses shared a × ExpressionUses shared b
+ExpressionUses shared (t.binary op a b) =
+    ExpressionUses shared a × ExpressionUses shared b × (is_refused op.operator (joined_type (type_of a) (type_of b)) ≡ false)
 ExpressionUses shared (t.shift op e count) = ExpressionUses shared e
 ExpressionUses shared (t.short_circuit op a b) = ExpressionUses shared a × ExpressionUses shared b
 
@@ -38,9 +61,10 @@ abbrev mutual
   -- the same of a statement; what it declares, and what it counts in, is a local
   pub StatementUses : List SharedDeclaration → CheckedStatement → Type 0
   StatementUses shared (t.declare of x None) = IsLocalName x.variable
-  StatementUses shared (t.declare of x (Some e)) = IsLocalName x.variable × ExpressionUses shared e
-  StatementUses shared (t.assign x e) = IsWordName shared x.variable × ExpressionUses shared e
-  StatementUses shared (t.store x index e) = IsArrayName shared x.variable × ExpressionUses shared index × ExpressionUses shared e
+  StatementUses shared (t.declare of x (Some e)) = IsLocalName x.variable × ExpressionUses shared e × IsOfType shared x.word_type x.variable
+  StatementUses shared (t.assign x e) = IsWordName shared x.variable × ExpressionUses shared e × IsOfType shared x.word_type x.variable
+  StatementUses shared (t.store x index e) =
+      IsArrayName shared x.variable × ExpressionUses shared index × ExpressionUses shared e × IsOneWord (type_of index)
   StatementUses shared (t.choose choice) = ChoiceUses shared choice
   StatementUses shared (t.loop x from tested below stepped body) = IsLocalName x.variable × BlockUses shared body
   StatementUses shared (t.emit e) = ExpressionUses shared e

@@ -4,14 +4,14 @@ ghost use Rattle.whole_programs.specs.Laws.{TasksAreWhole, ProgramsAreWhole, Pri
 ghost use Rattle.whole_programs.specs.UseLaws.{NamesAreUsedAsDeclared};
 ghost use Rattle.whole_programs.specs.StackLaws.{SourcesFit};
 
-/// The expressions of a source that no check refuses have room on a stack of 652 words, and its numbers are words.
+/// The expressions of a source that no check refuses have room on a stack of 513 words, its numbers are words, and its locals have one.
 pub fn expressions_have_room()
     ensures { SourcesFit }
 {}
 
 /// In a source that no check refuses scalars stand without an index and arrays with one; each shared variable is one that is
-/// declared, each local one of at most 256, and loops count in locals.
-#[tactic(auto, using(crate::proofs::Tasks::names_are_used_as_declared))]
+/// declared, each local one of at most 256, and loops count in locals. What is long is a shared scalar, no index is long, and no operator
+/// has operands that it doesn't take.
 pub fn names_are_used_as_declared()
     ensures { NamesAreUsedAsDeclared }
 {}
@@ -28,7 +28,7 @@ pub fn programs_are_whole()
     ensures { ProgramsAreWhole }
 {}
 
-/// The private scalars of each task are at most as many as its allowance counts.
+/// The private scalars of each task have at most as many words as its allowance counts.
 pub fn privates_are_few()
     ensures { PrivatesAreFew }
 {}

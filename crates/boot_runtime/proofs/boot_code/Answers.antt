@@ -1,9 +1,14 @@
-use Rattle.std.proofs.Common.{◌+◌, ◌*◌, ap, sym, map, length}
+use Rattle.std.proofs.Common.{◌+◌, ◌*◌, All, ap, sym, subst, map, length}
 use Rattle.std.proofs.lemmas.List.{length-map}
-use Rattle.boot_runtime.specs.Entries.{entry_of, task_entries}
+use Rattle.boot_runtime.specs.Entries.{entry_of, task_entries, EndsInMemory}
 use Rattle.boot_runtime.specs.Listing.{ladder_address}
+use Rattle.boot_runtime.proofs.Entered.{privates_end}
 use Rattle.boot_runtime.proofs.Writing.{boot_written}
 use Rattle.boot_runtime.proofs.boot_code.Goals as goal
+
+pub push_stubs-requires : goal.push_stubs-requires
+push_stubs-requires c =
+    subst (All (λ t. All EndsInMemory t.privates)) (sym c.tasks-tasks.ensures) (privates_end c.args.layout.now c.rules.ensures)
 
 pub returns : goal.returns
 returns c =

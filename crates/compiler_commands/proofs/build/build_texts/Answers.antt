@@ -1,20 +1,16 @@
-use Rattle.std.proofs.Common.{refl, ap, subst}
+use Rattle.std.proofs.Common.{refl, ap}
 use Rattle.plain_commands.specs.alp_io.Report.{bound_line}
-use Rattle.plain_commands.proofs.command_answers.Interface.{refusal_fails, put_whole, put_breaks, put_fails, handed_on}
-use Rattle.compiler_commands.specs.Build.{RefusesBuild}
-use Rattle.compiler_commands.proofs.BuildLaws.{by_pass}
+use Rattle.plain_commands.proofs.command_answers.Interface.{refusal_fails, memory_fails, put_whole, put_breaks, put_fails, handed_on}
 use Rattle.compiler_commands.proofs.PutLaws.{builds}
 use Rattle.compiler_commands.proofs.build.build_texts.Goals as goal
 
 pub returns-in_err-source-clause-failure : goal.returns-in_err-source-clause-failure
 returns-in_err-source-clause-failure g c =
-    handed_on _ _ _ c.from_residual.ensures (refusal_fails _ _ _ _ _ 0 _ _ refl (λ r no. (by_pass r no, refl)) refl refl c.in_err-source.ensures.refused)
+    handed_on _ _ _ c.from_residual.ensures (refusal_fails _ _ _ _ _ 0 _ _ refl (λ r no. (no, refl)) refl refl c.in_err-source.ensures.refused)
 
 pub returns-in_err-built-clause-failure : goal.returns-in_err-built-clause-failure
 returns-in_err-built-clause-failure g c =
-    handed_on _ _ _ c.from_residual-in_err-built.ensures
-    (refusal_fails _ _ _ _ _ 0 _ _ refl (λ r no. (subst (λ t. RefusesBuild t r) c.in_ok-source.ensures.text no, refl)) refl refl
-    c.in_err-built.ensures.failure)
+    handed_on _ _ _ c.from_residual-in_err-built.ensures (memory_fails _ _ _ _ _ c.in_err-built.ensures.failure refl refl)
 
 pub returns-in_err-put_file-clause-failure : goal.returns-in_err-put_file-clause-failure
 returns-in_err-put_file-clause-failure g c =

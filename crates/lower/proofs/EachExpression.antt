@@ -1,0 +1,249 @@
+-- The programs of expressions leave their values.
+use Rattle.std.proofs.Common.{◌≡◌, ℕ, ◌+◌, ◌%◌, List, Option, Some, None, false, if◌then◌else◌, refl, sym, ap, ◌∙◌, subst, arith}
+use Rattle.task_ast.specs.Tree as t
+use Rattle.task_ast.specs.Paths.{CheckedExpression}
+use Rattle.task_ast.specs.declared.WordType.{WordType}
+use Rattle.task_ast.specs.declared.WordType.TheVariants.{Unsigned, Int, Long}
+use Rattle.task_ast.specs.declared.UnaryOperator.{UnaryOperator}
+use Rattle.task_ast.specs.declared.UnaryOperator.TheVariants as unary_operator
+use Rattle.task_ast.specs.declared.BinaryOperator.{BinaryOperator}
+use Rattle.task_ast.specs.declared.BinaryOperator.TheVariants as operator
+use Rattle.task_ast.specs.declared.ShiftOperator.{ShiftOperator}
+use Rattle.task_ast.specs.declared.names.Variable.{Variable}
+use Rattle.task_ast.specs.declared.names.Variable.TheVariants.{Shared, Local}
+use Rattle.task_ast.specs.Types.{IsOneWord, binary_type, unary_type}
+use Rattle.task_ast.proofs.Interface as one_word
+use Rattle.task_check.specs.Occurrences.{is_refused}
+use Rattle.source_values.specs.Values.{◌>>?◌, Variables, word_at, by_width, two_words, converted, type_of, joined_type, value_of}
+use Rattle.source_values.specs.Values.{unary_result, binary_value, binary_result, long_binary_value, shift_value, shift_result}
+use Rattle.array_versions.proofs.Interface.{joined_go_on}
+use Rattle.array_versions.specs.Program.{number, shift, sense, load, long, step, joined}
+use Rattle.array_versions.specs.declared.operations.LongOperation.TheVariants as with_longs
+use Rattle.array_versions.specs.Behaviour.{WordState, Behaviour, pushed, behaviour}
+use Rattle.memory_map.specs.Spots.{Places, address_of, scalar_address, IsScalarWord, scalar}
+use Rattle.lower.specs.Operations.{binary_meaning, shift_operation, operand_type, long_meaning}
+use Rattle.lower.specs.Lowered.{one, high_address, read_step, read_long, element_step, Lowering, as_word, as_test, word_program, value_test, long_words}
+use Rattle.lower.specs.Lowered.{long_program, name_lowering, operand_lowering, binary_lowering, sides_lowering, shift_lowering}
+use Rattle.lower.specs.Lowered.{sides_test, lowering, lowered_test}
+use Rattle.lower.specs.Spots.{Room, AreApart, AreEven}
+use Rattle.lower.specs.Agreement.{IsKnown, IsLong, IsOfType, ExpressionFits, HoldVariables, valued, long_valued, AgreesWithValue}
+use Rattle.lower.specs.Agreement.{AgreesWithLong, converted_to, truth_of, ExpressionsAgree, LongsAgree, TestsAgree}
+use Rattle.lower.proofs.Addresses.{first_address}
+use Rattle.lower.proofs.Values.{value_done, agrees_then, read_agrees, word_read_agrees, element_agrees, sense_agrees, binary_same, shift_same, sides_of_truth}
+use Rattle.lower.proofs.Values.{sides_are_truth, pair_value, truth_pushed, from_left, LoweringAgrees, by_word, by_test, then_step, SidesAgree, binary_agrees}
+use Rattle.lower.proofs.Values.{not_agrees, unary_agrees, side_agrees}
+use Rattle.lower.proofs.Updates.{joined_words}
+use Rattle.lower.proofs.Longs.{AgreesAs, LongAgrees, LongSidesAgree, made_of, as_one_word, of_one_word, by_long, pair_same, words_agree, word_agrees, long_agrees}
+use Rattle.lower.proofs.Longs.{test_agrees, negated, complemented, long_shifted, long_meaning_type, long_meaning_value, long_same, long_binary_agrees}
+
+-- ---- names
+
+-- the high word of a long stands behind its low one
+pub high_is : (p : Places) (room : Room) (v : ℕ) → AreApart p room → IsScalarWord p v 1 → high_address (address_of p v) ≡ scalar_address p v 1
+high_is p room v apart k = let below = apart.below (scalar v 1) k in omega (arith, below)
+
+-- two words read one behind the other are a long
+read_long_agrees : (p : Places) (room : Room) (x : Variable) (m : Variables) (w : WordState) → AreApart p room → AreEven p → IsLong p x
+    → HoldVariables p m w.fram w.locals
+    → AgreesWithLong w (behaviour (read_long p x) w) (Some (two_words (word_at m x 0) (word_at m x 1), w.readings))
+read_long_agrees p room (Shared v) m w apart even k h =
+    let a = address_of p v in
+    let joins = one (long with_longs.Join) in
+    let high = word_at m (Shared v) 1 in
+    let whole : ℕ × List ℕ → Option (ℕ × List ℕ) = λ x. Some (two_words x.0 high, x.1) in
+    let first : IsScalarWord p v 0 = omega (arith, k) in
+    subst (λ b. AgreesWithLong w b (whole (word_at m (Shared v) 0, w.readings))) (sym (joined_go_on (one (load a)) (step (load (high_address a)) joins) w))
+    (agrees_then (valued w) (long_valued w) (behaviour (one (load a)) w) (Some (word_at m (Shared v) 0, w.readings))
+    (behaviour (step (load (high_address a)) joins)) whole (word_read_agrees p room v 0 a m w (sym (first_address p v)) apart even first h) (λ x.
+    subst (λ b. AgreesWithLong w b (whole x)) (sym (joined_go_on (one (load (high_address a))) joins (valued w x)))
+    (agrees_then (valued (valued w x)) (long_valued w) (behaviour (one (load (high_address a))) (valued w x)) (Some (high, x.1)) (behaviour joins)
+    (λ y. Some (two_words x.0 y.0, y.1))
+    (word_read_agrees p room v 1 (high_address a) m (valued w x) (high_is p room v apart k) apart even k h) (λ y. (tt, refl)))))
+read_long_agrees p room (Local n) m w apart even k h = absurd k
+
+name_agrees : (of : WordType) (p : Places) (room : Room) (x : Variable) (m : Variables) (w : WordState) → AreApart p room → AreEven p
+    → IsOfType p of x → HoldVariables p m w.fram w.locals
+    → AgreesAs of w (name_lowering p of x) (Some (by_width of (word_at m x 0) (two_words (word_at m x 0) (word_at m x 1)), w.readings))
+name_agrees Long p room x m w apart even k h = by_long w (read_long p x) _ (read_long_agrees p room x m w apart even k h)
+name_agrees Int p room x m w apart even k h = by_word w (one (read_step p x)) _ (read_agrees p room x m w apart even k h)
+name_agrees Unsigned p room x m w apart even k h = by_word w (one (read_step p x)) _ (read_agrees p room x m w apart even k h)
+
+-- ---- operators
+
+-- of a long, `-` and `~` stand behind its words, and `!` is a test
+long_operand_agrees : (op : UnaryOperator) (w : WordState) (l : Lowering) (o : Option (ℕ × List ℕ)) → LongAgrees w l o → LongAgrees (pushed 0 (pushed 0 w)) l o
+    → AgreesAs (unary_type op Long) w (operand_lowering Long op l) (o >>? λ x. Some (unary_result op Long x.0, x.1))
+long_operand_agrees unary_operator.Negate w l o h k = by_long w _ _ (negated w (long_words l) o (words_agree (pushed 0 (pushed 0 w)) l o k))
+long_operand_agrees unary_operator.Complement w l o h k = by_long w _ _ (complemented w (long_words l) o (words_agree w l o h))
+long_operand_agrees unary_operator.Not w l o h k = not_agrees w (value_test l) o (test_agrees Long w l o h)
+
+operand_agrees : (op : UnaryOperator) (of : WordType) (w : WordState) (l : Lowering) (o : Option (ℕ × List ℕ)) → AgreesAs of w l o
+    → AgreesAs of (pushed 0 (pushed 0 w)) l o
+    → AgreesAs (unary_type op of) w (operand_lowering of op l) (o >>? λ x. Some (unary_result op of x.0, x.1))
+operand_agrees op Long w l o h k = long_operand_agrees op w l o h k
+operand_agrees op Int w l o h k = as_one_word (unary_type op Int) (one_word.unary_word op Int tt) w _ _ (unary_agrees op w l o h)
+operand_agrees op Unsigned w l o h k = as_one_word (unary_type op Unsigned) (one_word.unary_word op Unsigned tt) w _ _ (unary_agrees op w l o h)
+
+-- two operands, the second behind the first as one word, and as a long
+record OperandsAgree (s of : WordType) (w : WordState) (l r : Lowering) (o : Option (ℕ × List ℕ)) (second : List ℕ → Option (ℕ × List ℕ)) : Type 0 where
+  left : AgreesAs s w l o
+  right : (x : ℕ × List ℕ) → AgreesAs of (valued w x) r (second x.1)
+  behind_long : (x : ℕ × List ℕ) → AgreesAs of (long_valued w x) r (second x.1)
+
+-- an operator between words
+words_agree_by : (is : WordType) (op : BinaryOperator) (s of : WordType) → IsOneWord is → joined_type s of ≡ is → (w : WordState) (l r : Lowering)
+    (o : Option (ℕ × List ℕ)) (second : List ℕ → Option (ℕ × List ℕ)) → OperandsAgree s of w l r o second
+    → AgreesAs (binary_type op s of) w (binary_lowering (binary_meaning op is) (joined (word_program l) (word_program r)))
+    (pair_value (binary_result op s of) o second)
+words_agree_by is op s of k e w l r o second h =
+    let words = joined_words s of (subst IsOneWord (sym e) k) in
+    let left = word_program l in
+    let right = word_program r in
+    let sides : SidesAgree w left right o second = record {
+      left_side = (of_one_word s words.0 w l o h.left).word;
+      right_side = λ x. (of_one_word of words.1 (valued w x) r (second x.1) (h.right x)).word;
+    } in
+    as_one_word (binary_type op s of) (one_word.binary_word op s of words.0 words.1) w _ _
+    (subst (LoweringAgrees w (binary_lowering (binary_meaning op is) (joined left right)))
+    (pair_same (binary_value op is) (binary_result op s of) o second (λ x y. sym (same x y)))
+    (binary_agrees (binary_meaning op is) w left right o second (binary_value op is) sides (binary_same op is)))
+  where
+    same : (x y : ℕ) → binary_result op s of x y ≡ binary_value op is x y
+    same x y =
+        let long = long_binary_value op (converted s Long x) (converted of Long y) in
+        ap (λ z. by_width z (binary_value op z x y) long) e ∙ one_word.by_one_word is (binary_value op is x y) long k
+
+-- the type of what an operator gives of two longs
+long_type : (op : BinaryOperator) (s of : WordType) → joined_type s of ≡ Long → is_refused op Long ≡ false → long_meaning_type (long_meaning op) ≡ binary_type op s of
+long_type operator.Less s of e k = refl
+long_type operator.LessEqual s of e k = refl
+long_type operator.Greater s of e k = refl
+long_type operator.GreaterEqual s of e k = refl
+long_type operator.Equal s of e k = refl
+long_type operator.NotEqual s of e k = refl
+long_type operator.Multiply s of e k = absurd (cc)
+long_type operator.Divide s of e k = absurd (cc)
+long_type operator.Remainder s of e k = absurd (cc)
+long_type _ s of e k = sym e
+
+-- a pair of values that are converted
+pair_converted : (f : ℕ → ℕ → ℕ) (s of : WordType) (o : Option (ℕ × List ℕ)) (second : List ℕ → Option (ℕ × List ℕ))
+    → pair_value f (converted_to s Long o) (λ left. converted_to of Long (second left))
+    ≡ pair_value (λ x y. f (converted s Long x) (converted of Long y)) o second
+pair_converted f s of None second = refl
+pair_converted f s of (Some x) second = by (second x.1)
+  where
+    by : (o : Option (ℕ × List ℕ)) → made_of (f (converted s Long x.0)) (converted_to of Long o)
+        ≡ made_of (λ y. f (converted s Long x.0) (converted of Long y)) o
+    by None = refl
+    by (Some y) = refl
+
+-- an operator with a long among its operands
+longs_agree_by : (op : BinaryOperator) (s of : WordType) → joined_type s of ≡ Long → is_refused op Long ≡ false → (w : WordState) (l r : Lowering)
+    (o : Option (ℕ × List ℕ)) (second : List ℕ → Option (ℕ × List ℕ)) → OperandsAgree s of w l r o second
+    → AgreesAs (binary_type op s of) w (sides_lowering Long op s of l r) (pair_value (binary_result op s of) o second)
+longs_agree_by op s of e k w l r o second h =
+    let left = long_program s l in
+    let right = long_program of r in
+    let m = long_meaning op in
+    let first = converted_to s Long o in
+    let others : List ℕ → Option (ℕ × List ℕ) = λ rest. converted_to of Long (second rest) in
+    let sides : LongSidesAgree w left right first others = record {
+      left_side = long_agrees s w l o h.left;
+      right_side = λ x. long_agrees of (long_valued w x) r (second x.1) (h.behind_long x);
+    } in
+    subst (λ z. AgreesAs z w (sides_lowering Long op s of l r) (pair_value (binary_result op s of) o second)) (long_type op s of e k)
+    (subst (AgreesAs (long_meaning_type m) w (sides_lowering Long op s of l r))
+    (pair_converted (long_meaning_value m) s of o second ∙ pair_same _ (binary_result op s of) o second same)
+    (long_binary_agrees m w left right first others sides))
+  where
+    same : (x y : ℕ) → long_meaning_value (long_meaning op) (converted s Long x) (converted of Long y) ≡ binary_result op s of x y
+    same x y =
+        let a = converted s Long x in
+        let b = converted of Long y in
+        long_same op a b k ∙ sym (ap (λ z. by_width z (binary_value op z x y) (long_binary_value op a b)) e)
+
+operands_agree : (is : WordType) (op : BinaryOperator) (s of : WordType) → joined_type s of ≡ is → is_refused op is ≡ false → (w : WordState) (l r : Lowering)
+    (o : Option (ℕ × List ℕ)) (second : List ℕ → Option (ℕ × List ℕ)) → OperandsAgree s of w l r o second
+    → AgreesAs (binary_type op s of) w (sides_lowering is op s of l r) (pair_value (binary_result op s of) o second)
+operands_agree Long op s of e k w l r o second h = longs_agree_by op s of e k w l r o second h
+operands_agree Int op s of e k w l r o second h = words_agree_by Int op s of tt e w l r o second h
+operands_agree Unsigned op s of e k w l r o second h = words_agree_by Unsigned op s of tt e w l r o second h
+
+-- an operator that isn't refused takes operands of their joined type
+operands_as_joined : (of : WordType) (op : BinaryOperator) → is_refused op of ≡ false → operand_type op of ≡ of
+operands_as_joined of op k = ap (λ b. if b then Unsigned else of) k
+
+-- a word is shifted as a value of its type
+word_shifted : (of : WordType) → (op : ShiftOperator) (k : ℕ) (w : WordState) (l : Lowering) (o : Option (ℕ × List ℕ)) → LoweringAgrees w l o
+    → LoweringAgrees w (as_word (joined (word_program l) (one (shift (shift_operation op of) k)))) (o >>? λ x. Some (shift_value op of x.0 k, x.1))
+word_shifted of op k w l o h =
+    let last = one (shift (shift_operation op of) k) in
+    by_word w (joined (word_program l) last) _
+    (then_step w (word_program l) last o (λ x. Some (shift_value op of x.0 k, x.1)) h.word
+    (λ x. (tt, ap (λ v. valued w (v, x.1)) (shift_same op of x.0 k))))
+
+shift_agrees : (of : WordType) (op : ShiftOperator) (k : ℕ) (w : WordState) (l : Lowering) (o : Option (ℕ × List ℕ)) → AgreesAs of w l o
+    → AgreesAs of w (shift_lowering of op l k) (o >>? λ x. Some (shift_result op of x.0 k, x.1))
+shift_agrees Long op k w l o h = by_long w _ _ (long_shifted op k w (long_words l) o (words_agree w l o h))
+shift_agrees Int op k w l o h = word_shifted Int op k w l o h
+shift_agrees Unsigned op k w l o h = word_shifted Unsigned op k w l o h
+
+-- ---- all expressions
+
+pub lowering_agrees : (p : Places) (room : Room) (e : CheckedExpression) (m : Variables) (w : WordState) → AreApart p room → AreEven p
+    → ExpressionFits p e → HoldVariables p m w.fram w.locals → AgreesAs (type_of e) w (lowering p e) (value_of e m w.readings)
+lowering_agrees p room (t.number n) m w apart even fits h =
+    as_one_word (type_of (t.number n)) (one_word.literal_word n) w _ _ (by_word w (one (number n)) _ (tt, refl))
+lowering_agrees p room (t.long_number n) m w apart even fits h = by_long w _ _ (tt, refl)
+lowering_agrees p room (t.name x) m w apart even fits h = name_agrees x.word_type p room x.variable m w apart even fits h
+lowering_agrees p room (t.element x index) m w apart even fits h =
+    let l = lowering p index in
+    let last = one (element_step p x.variable) in
+    let o = value_of index m w.readings in
+    let agrees = of_one_word (type_of index) fits.3 w l o (lowering_agrees p room index m w apart even fits.1 h) in
+    as_one_word x.word_type fits.2 w _ _
+    (by_word w (joined (word_program l) last) _
+    (then_step w (word_program l) last o (λ i. Some (word_at m x.variable i.0, i.1)) agrees.word
+    (λ i. element_agrees p room x.variable i.0 m w i.1 apart even fits.0 h)))
+lowering_agrees p room t.sense m w apart even fits h = by_word w (one sense) _ (sense_agrees w w.readings)
+lowering_agrees p room (t.unary op e) m w apart even fits h =
+    operand_agrees op (type_of e) w (lowering p e) (value_of e m w.readings) (lowering_agrees p room e m w apart even fits h)
+    (lowering_agrees p room e m (pushed 0 (pushed 0 w)) apart even fits h)
+lowering_agrees p room (t.binary op a b) m w apart even fits h =
+    let operands : OperandsAgree (type_of a) (type_of b) w (lowering p a) (lowering p b) (value_of a m w.readings) (value_of b m) = record {
+      left = lowering_agrees p room a m w apart even fits.0 h;
+      right = λ x. lowering_agrees p room b m (valued w x) apart even fits.1 h;
+      behind_long = λ x. lowering_agrees p room b m (long_valued w x) apart even fits.1 h;
+    } in
+    let joined = joined_type (type_of a) (type_of b) in
+    let P : WordType → Type 0 = λ z. AgreesAs (type_of (t.binary op a b)) w
+    (sides_lowering z op.operator (type_of a) (type_of b) (lowering p a) (lowering p b)) (value_of (t.binary op a b) m w.readings) in
+    subst P (sym (operands_as_joined joined op.operator fits.2))
+    (operands_agree joined op.operator (type_of a) (type_of b) refl fits.2 w (lowering p a) (lowering p b) (value_of a m w.readings) (value_of b m) operands)
+lowering_agrees p room (t.shift op e count) m w apart even fits h =
+    shift_agrees (type_of e) op count.value w (lowering p e) (value_of e m w.readings) (lowering_agrees p room e m w apart even fits h)
+lowering_agrees p room (t.short_circuit op a b) m w apart even fits h =
+    let c = value_test (lowering p a) in
+    let d = value_test (lowering p b) in
+    let o = value_of a m w.readings in
+    let right = value_of b m in
+    by_test w (sides_test op c d) _ (sides_are_truth op o right)
+    (subst (AgreesWithValue w (truth_pushed (sides_test op c d) w)) (sides_of_truth o op right)
+    (side_agrees op w c d o right (test_agrees (type_of a) w (lowering p a) o (lowering_agrees p room a m w apart even fits.0 h))
+    (λ left. let u : WordState = record w { readings = left } in
+    from_left w left (truth_pushed d u) (truth_of (right left))
+    (test_agrees (type_of b) u (lowering p b) (right left) (lowering_agrees p room b m u apart even fits.1 h)))))
+
+pub expressions_agree : ExpressionsAgree
+expressions_agree p room e m w apart even fits h =
+    word_agrees (type_of e) w (lowering p e) (value_of e m w.readings) (lowering_agrees p room e m w apart even fits h)
+
+pub longs_agree : LongsAgree
+longs_agree p room e m w apart even fits h =
+    long_agrees (type_of e) w (lowering p e) (value_of e m w.readings) (lowering_agrees p room e m w apart even fits h)
+
+pub tests_agree : TestsAgree
+tests_agree p room e m w apart even fits h =
+    value_done w (truth_pushed (lowered_test p e) w) (truth_of (value_of e m w.readings))
+    (test_agrees (type_of e) w (lowering p e) (value_of e m w.readings) (lowering_agrees p room e m w apart even fits h))

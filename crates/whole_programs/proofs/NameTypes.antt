@@ -1,0 +1,184 @@
+-- The types of the names of a source: a name that stands for a shared variable has the type of the first shared variable of that name.
+use Rattle.std.proofs.Common.{◌≡◌, ℕ, ◌+◌, Bool, true, false, cond, List, [], ◌∷◌, ◌++◌, take, drop, length, Option, Some, None}
+use Rattle.std.proofs.Common.{refl, sym, ap, ap₂, ◌∙◌, subst, arith}
+use Rattle.std.specs.Prelude.{unwrap_or, ◌&&◌, nat_le, nat_lt}
+use Rattle.std.specs.Option.{option_or}
+use Rattle.std.specs.Str.{bytes_eq}
+use Rattle.std.proofs.lemmas.List.{take_more, take-append-drop}
+use Rattle.std.proofs.lemmas.Option.{slice_get_within, get_or_from_slice_get}
+use Rattle.lower.specs.alp_text.declared.lines.Span.{Span}
+use Rattle.lower.specs.task_ast.declared.SharedDeclaration.{SharedDeclaration}
+use Rattle.lower.specs.task_ast.declared.WordType.{WordType}
+use Rattle.lower.specs.task_ast.declared.WordType.TheVariants.{Unsigned}
+use Rattle.lower.specs.task_ast.declared.Extent.{Extent}
+use Rattle.lower.specs.task_ast.declared.Extent.TheVariants as extent
+use Rattle.lower.specs.task_ast.Types.{is_long}
+use Rattle.lower.specs.task_check.declared.occurrence.Role.{Role}
+use Rattle.lower.specs.task_check.declared.occurrence.Role.TheVariants as role
+use Rattle.lower.specs.task_check.declared.occurrence.Occurrence.{Occurrence}
+use Rattle.lower.specs.task_check.declared.symbol.Symbol.{Symbol}
+use Rattle.lower.specs.task_check.declared.symbol.Symbol.TheVariants as symbol
+use Rattle.lower.specs.task_check.declared.symbol.Global.{Global}
+use Rattle.lower.specs.task_check.declared.symbol.Local.{Local}
+use Rattle.lower.specs.task_check.Scope.{text_of, one_shared, shared_in, tasks_in, shared_symbol, global_with, if_named, global_in}
+use Rattle.lower.specs.task_check.Scope.{local_in, or_global, meaning}
+use Rattle.lower.specs.task_check.LookedUp.{symbol_by, behind, symbol_at}
+use Rattle.lower.specs.task_check.SharedTypes.{type_in, shared_type}
+use Rattle.whole_programs.proofs.Declared.{IsDeclaration, DeclaresOf, Declared}
+use Rattle.whole_programs.proofs.Widths.{IsAsWide}
+
+-- a symbol of a shared variable has this type
+abbrev TypedBy : Option WordType → Symbol → Type 0
+TypedBy o (symbol.Scalar n of) = o ≡ Some of
+TypedBy o (symbol.Array n of) = o ≡ Some of
+TypedBy o (symbol.Local n of) = Unit {0}
+TypedBy o (symbol.Task n) = Unit {0}
+
+abbrev pub Typed : Option WordType → Option Symbol → Type 0
+Typed o None = Unit {0}
+Typed o (Some s) = TypedBy o s
+
+-- this is the type of the first global of a name, and there is none where there is no global
+abbrev GlobalTyped : Option WordType → Option Global → Type 0
+GlobalTyped o None = o ≡ None
+GlobalTyped o (Some g) = TypedBy o g.symbol
+
+-- ---- the type of the first shared variable of a name, one declaration after another
+
+or_assoc : (a b c : Option WordType) → option_or (option_or a b) c ≡ option_or a (option_or b c)
+or_assoc None b c = refl
+or_assoc (Some x) b c = refl
+
+or_none : (a : Option WordType) → option_or a None ≡ a
+or_none None = refl
+or_none (Some x) = refl
+
+type_append : (source name : List ℕ) (xs ys : List SharedDeclaration)
+    → type_in source name (xs ++ ys) ≡ option_or (type_in source name xs) (type_in source name ys)
+type_append source name [] ys = refl
+type_append source name (d ∷ xs) ys =
+    ap (option_or (if_named (bytes_eq (text_of source d.name) name) (Some d.word_type))) (type_append source name xs ys)
+    ∙ sym (or_assoc (if_named (bytes_eq (text_of source d.name) name) (Some d.word_type)) (type_in source name xs) (type_in source name ys))
+
+-- one declaration more
+type_more : (source name : List ℕ) (shared : List SharedDeclaration) (n : ℕ) (s : Span) (of : WordType) (e : Extent) → IsDeclaration shared n s of e
+    → type_in source name (take (n + 1) shared)
+    ≡ option_or (type_in source name (take n shared)) (if_named (bytes_eq (text_of source s) name) (Some of))
+type_more source name shared n s of e x =
+    let d = x.declaration in
+    let inside = slice_get_within shared n d x.at in
+    let taken = take_more shared n d inside ∙ ap (λ y. take n shared ++ y ∷ []) (get_or_from_slice_get shared n d d x.at) in
+    let here : type_in source name (d ∷ []) ≡ if_named (bytes_eq (text_of source s) name) (Some of) =
+    or_none _ ∙ ap₂ (λ y t. if_named (bytes_eq (text_of source y) name) (Some t)) x.name_is x.type_is in
+    ap (type_in source name) taken ∙ type_append source name (take n shared) (d ∷ []) ∙ ap (option_or (type_in source name (take n shared))) here
+
+-- a shared variable comes behind those
+typed_behind : (o : Option WordType) (g : Option Global) (b : Bool) (front n : ℕ) (of : WordType) (e : Extent) → GlobalTyped o g
+    → GlobalTyped (option_or o (if_named b (Some of))) (option_or g (if_named b (Some (record { front = front; symbol = shared_symbol n of e }))))
+typed_behind o None b front n of e h = subst (λ x. GlobalTyped (option_or x (if_named b (Some of)))
+    (if_named b (Some (record { front = front; symbol = shared_symbol n of e })))) (sym h) (by b e)
+  where
+    by : (b : Bool) (e : Extent) → GlobalTyped (if_named b (Some of)) (if_named b (Some (record { front = front; symbol = shared_symbol n of e })))
+    by false e = refl
+    by true (extent.Scalar w) = refl
+    by true (extent.Long w) = refl
+    by true (extent.Array w) = refl
+typed_behind o (Some g) b front n of e h = by g.symbol h
+  where
+    by : (s : Symbol) → TypedBy o s → TypedBy (option_or o (if_named b (Some of))) s
+    by (symbol.Scalar m t) h = ap (λ x. option_or x (if_named b (Some of))) h
+    by (symbol.Array m t) h = ap (λ x. option_or x (if_named b (Some of))) h
+    by (symbol.Local m t) h = tt
+    by (symbol.Task m) h = tt
+
+-- a task comes behind those
+task_behind : (o : Option WordType) (g : Option Global) (b : Bool) (front n : ℕ) → GlobalTyped o g
+    → GlobalTyped o (option_or g (if_named b (Some (record { front = front; symbol = symbol.Task n }))))
+task_behind o None true front n h = tt
+task_behind o None false front n h = h
+task_behind o (Some g) b front n h = h
+
+none_behind : (o : Option WordType) (g : Option Global) (b : Bool) → GlobalTyped o g → GlobalTyped o (option_or g (if_named b None))
+none_behind o None true h = h
+none_behind o None false h = h
+none_behind o (Some g) b h = h
+
+module _ (source name : List ℕ) (shared : List SharedDeclaration) where
+  -- the type of the first of so many declarations
+  abbrev first : ℕ → Option WordType
+  first n = type_in source name (take n shared)
+
+  same_count : (n : ℕ) (g : Option Global) → GlobalTyped (first n) g → GlobalTyped (first (n + 0)) g
+  same_count n g h = let e : n ≡ n + 0 = omega arith in subst (λ m. GlobalTyped (first m) g) e h
+
+  one_more : (s : Span) (r : Role) (front n tasks : ℕ) (b : Bool) (g : Option Global) → b ≡ bytes_eq (text_of source s) name → DeclaresOf shared n s r
+      → GlobalTyped (first n) g → GlobalTyped (first (n + one_shared r)) (option_or g (if_named b (global_with r front n tasks)))
+  one_more s (role.Shared of e) front n tasks b g is d h =
+      subst (λ o. GlobalTyped o (option_or g (if_named b (Some (record { front = front; symbol = shared_symbol n of e })))))
+      (ap (λ b. option_or (first n) (if_named b (Some of))) is ∙ sym (type_more source name shared n s of e d)) (typed_behind (first n) g b front n of e h)
+  one_more s role.Task front n tasks b g is d h = same_count n _ (task_behind (first n) g b front tasks h)
+  one_more s (role.Local of begin end) front n tasks b g is d h = same_count n _ (none_behind (first n) g b h)
+  one_more s role.Scalar front n tasks b g is d h = same_count n _ (none_behind (first n) g b h)
+  one_more s role.Element front n tasks b g is d h = same_count n _ (none_behind (first n) g b h)
+  one_more s role.Counter front n tasks b g is d h = same_count n _ (none_behind (first n) g b h)
+  one_more s role.Target front n tasks b g is d h = same_count n _ (none_behind (first n) g b h)
+  one_more s (role.Operand refused kept) front n tasks b g is d h = same_count n _ (none_behind (first n) g b h)
+
+  first_typed : (all : List Occurrence) → Declared shared all → GlobalTyped (first (shared_in all)) (global_in source name all)
+  first_typed [] d = refl
+  first_typed (o ∷ front) d =
+      one_more o.span o.role (length front) (shared_in front) (tasks_in front) (bytes_eq (text_of source o.span) name) (global_in source name front) refl d.0
+      (first_typed front d.1)
+
+  -- the type of a prefix's first is that of all
+  all_typed : (n : ℕ) (of : WordType) → first n ≡ Some of → type_in source name shared ≡ Some of
+  all_typed n of h =
+      ap (type_in source name) (sym (take-append-drop n shared)) ∙ type_append source name (take n shared) (drop n shared)
+      ∙ ap (λ o. option_or o (type_in source name (drop n shared))) h
+
+  global_typed : (g : Option Global) (n : ℕ) → GlobalTyped (first n) g → Typed (type_in source name shared) (or_global None g)
+  global_typed None n h = tt
+  global_typed (Some g) n h = by g.symbol h
+    where
+      by : (s : Symbol) → TypedBy (first n) s → TypedBy (type_in source name shared) s
+      by (symbol.Scalar m of) h = all_typed n of h
+      by (symbol.Array m of) h = all_typed n of h
+      by (symbol.Local m of) h = tt
+      by (symbol.Task m) h = tt
+
+  meaning_typed : (n : ℕ) (l : Option Local) (g : Option Global) → Typed (type_in source name shared) (or_global None g)
+      → Typed (type_in source name shared) (meaning n l g)
+  meaning_typed n None g h = h
+  meaning_typed n (Some l) g h = by (nat_le l.end n && nat_lt n l.begin)
+    where
+      by : (b : Bool) → Typed (type_in source name shared) (or_global (cond b (Some (symbol.Local l.number l.word_type)) None) g)
+      by true = tt
+      by false = h
+
+typed_by_role : (o : Option WordType) (r : Role) (n : ℕ) (found : Option Symbol) → Typed o found → Typed o (symbol_by r n found)
+typed_by_role o (role.Local of begin end) n found h = tt
+typed_by_role o (role.Shared of x) n found h = tt
+typed_by_role o role.Task n found h = tt
+typed_by_role o role.Scalar n found h = h
+typed_by_role o role.Element n found h = h
+typed_by_role o role.Counter n found h = h
+typed_by_role o role.Target n found h = h
+typed_by_role o (role.Operand refused kept) n found h = tt
+
+-- a name that stands for a shared variable has the type of the first of that name
+pub symbol_typed : (source : List ℕ) (shared : List SharedDeclaration) (all : List Occurrence) (o : Occurrence) (front : List Occurrence)
+    → Declared shared all → Typed (type_in source (text_of source o.span) shared) (symbol_at source all o front)
+unfolding symbol_at
+symbol_typed source shared all o front d =
+    let name = text_of source o.span in
+    typed_by_role (type_in source name shared) o.role _ _
+    (meaning_typed source name shared (behind all front) (local_in source name front) (global_in source name all)
+    (global_typed source name shared (global_in source name all) (shared_in all) (first_typed source name shared all d)))
+
+-- so its type is as wide as the checks take it to be
+pub as_wide : (source : List ℕ) (shared : List SharedDeclaration) (s : Span) (of : WordType) → type_in source (text_of source s) shared ≡ Some of
+    → IsAsWide of (shared_type source shared s)
+unfolding shared_type
+as_wide source shared s of h =
+    let is : unwrap_or (type_in source (text_of source s) shared) Unsigned ≡ of = ap (λ o. unwrap_or o Unsigned) h in
+    λ e. subst (λ t. is_long t ≡ true) (sym is) e
