@@ -40,7 +40,8 @@ use Rattle.task_check.specs.Occurrences.{is_refused}
 use Rattle.lower.specs.Agreement.{IsLong, HoldVariables, valued, long_valued, AgreesAt, AgreesWithValue, AgreesWithLong, converted_to}
 use Rattle.lower.specs.Agreement.{truth_value, truth_of}
 use Rattle.lower.proofs.Addresses.{first_address}
-use Rattle.lower.proofs.Values.{agrees_then, value_then, word_read_agrees, pair_value, pair_truth, pair_is_truth, truth_pushed, LoweringAgrees, by_word, by_test}
+use Rattle.lower.proofs.Values.{agrees_then, value_then, word_read_agrees, pair_value, pair_truth, pair_is_truth, truth_pushed, LoweringAgrees, by_word}
+use Rattle.lower.proofs.Values.{by_test}
 use Rattle.lower.proofs.Values.{turned_bit_agrees, holds_bit, not_value, not_agrees}
 
 -- ---- numbers
