@@ -1,23 +1,23 @@
 -- The code of a program is instructions, whose jumps reach no further than ten bits say, and is no longer than its words say.
 use Rattle.codegen.specs.Code.{is_turned, compare_source}
 use Rattle.codegen.proofs.Names.{sides}
-use Rattle.codegen.proofs.Names.{◌≡◌, ℕ, zero, suc, ◌+◌, ◌-◌, ◌*◌, ◌<◌, ◌≤◌, ◌==◌, List, [], ◌∷◌, ◌++◌, length, refl, arith, length-append, Bool, true, false}
-use Rattle.codegen.proofs.Names.{not, nat_le, nat_lt, Option, Some, None, ltb-true, if◌then◌else◌, nat_tests, word_sum, Condition, R4, R5, Register, Constant}
+use Rattle.codegen.proofs.Names.{◌≡◌, ℕ, ◌+◌, ◌-◌, ◌*◌, ◌<◌, ◌≤◌, ◌==◌, List, [], ◌∷◌, ◌++◌, length, refl, arith, length-append, Bool, true, false}
+use Rattle.codegen.proofs.Names.{not, nat_le, nat_lt, Option, Some, None, if◌then◌else◌, nat_tests, word_sum, Condition, R4, R5, Register, Constant}
 use Rattle.codegen.proofs.Names.{Number, Ram, Source, source_bytes, ToRegister, ToRam, ToIndexed, target_bytes, Form, Move, Calculate, Update, Push, Jump, Skip}
 use Rattle.codegen.proofs.Names.{instruction_of, form_bytes, forms_bytes, instruction_words, instructions, bytes_are, forms_bytes-append, UnaryOperation}
-use Rattle.codegen.proofs.Names.{Negate, BinaryOperation, Multiply, Divide, Remainder, Plain, PlainOperation, And, ShiftOperation, Left, Right, SignedRight}
+use Rattle.codegen.proofs.Names.{Negate, BinaryOperation, Multiply, Divide, Remainder, Plain, PlainOperation, And, Left, Right}
 use Rattle.codegen.proofs.Names.{Comparison, Equal, ArrayPlace, ListPlace, Step, Test, Program, number, load, keep, update, local, set_local, update_local}
 use Rattle.codegen.proofs.Names.{unary, binary, shift, long, element, emit_word, list_entry, versioned_read, versioned_write, versioned_update, sense, truth, choose}
 use Rattle.codegen.proofs.Names.{repeat, store_number, move_word, jump, holds, compares, both, either, fails, nothing, step, unary_words, binary_words}
-use Rattle.codegen.proofs.Names.{right_words, shift_words, step_words, test_words, words_of, Bound, Waiting, local_register, local_address, waiting_source}
-use Rattle.codegen.proofs.Names.{flushed, top_of, source_from, below_top, any_held, cleared, kept, number_source, stays, right_source, power, top_power}
-use Rattle.codegen.proofs.Names.{two_code, power_code, power_result, four_from, five_from, top_to_four, top_to_five, two_to_registers, unary_middle}
-use Rattle.codegen.proofs.Names.{binary_middle, binary_result, plain_instruction, update_code, repeated, double, halve, right_code, shift_by, shift_middle}
+use Rattle.codegen.proofs.Names.{right_words, step_words, test_words, words_of, Bound, Waiting, local_register, local_address, waiting_source}
+use Rattle.codegen.proofs.Names.{flushed, top_of, source_from, below_top, kept, stays, right_source, power, top_power}
+use Rattle.codegen.proofs.Names.{two_code, power_code, power_result, five_from, two_to_registers, unary_middle}
+use Rattle.codegen.proofs.Names.{binary_middle, binary_result, plain_instruction, update_code}
 use Rattle.codegen.proofs.Names.{check_code, zero_code, fetch_code, element_code, emit_code, pair_code, own_code, read_code, stored_code, write_code}
 use Rattle.codegen.proofs.Names.{compare_form, holding, failing, size, pass_over, decision, holds_code, compares_code, truth_code, number_code, turn_end}
 use Rattle.codegen.proofs.Names.{turns_code, waiting_behind, waiting_after, step_code, test_code, steps_code, top_number, element_at, bound_of, is_inside}
 use Rattle.codegen.proofs.Names.{block_code, code_of, rests, rest_source, to_rest, indexed_update, known_update, known_index, update_at, CodeHasItsBytes}
-use Rattle.codegen.proofs.Names.{CodeHasItsWords, AreInstructions, made_code, first_update, by_version, inside_update, CodeIsInstructions}
+use Rattle.codegen.proofs.Names.{CodeHasItsWords, made_code, first_update, by_version, inside_update, CodeIsInstructions}
 use Rattle.msp_isa.specs.Encoding.{encoding, IsInstruction}
 use Rattle.msp_isa.specs.declared.instructions.TwoOp.TheVariants as op
 use Rattle.msp_isa.specs.declared.instructions.Condition.TheVariants as condition

@@ -1,7 +1,7 @@
 -- The code of operations with longs takes no more than their words say.
-use Rattle.codegen.proofs.Names.{◌≡◌, ℕ, zero, suc, ◌+◌, ◌-◌, ◌*◌, ◌<◌, ◌≤◌, List, [], ◌∷◌, ◌++◌, refl, arith, Bool, true, false, nat_le, nat_lt, ltb-true}
-use Rattle.codegen.proofs.Names.{if◌then◌else◌, Option, None, Some, R5, R7, WorkRegister, Register, Source, source_bytes, ToRegister, Form, Move, right_words}
-use Rattle.codegen.proofs.Names.{Left, Right, Waiting, flushed, top_of, source_from, below_top, kept, rests}
+use Rattle.codegen.proofs.Names.{◌≡◌, ℕ, zero, suc, ◌+◌, ◌-◌, ◌*◌, ◌<◌, List, [], ◌∷◌, ◌++◌, refl, arith, Bool, true, false, nat_le, nat_lt, ltb-true}
+use Rattle.codegen.proofs.Names.{if◌then◌else◌, R5, R7, WorkRegister, Register, Source, source_bytes, ToRegister, Form, Move, right_words}
+use Rattle.codegen.proofs.Names.{Left, Right, Waiting, top_of, source_from, below_top, kept, rests}
 use Rattle.codegen.specs.declared.waiting.Waiting.TheVariants as waiting
 use Rattle.array_versions.proofs.Interface.{right_low}
 use Rattle.array_versions.specs.Cost.{long_words}

@@ -1,8 +1,8 @@
 -- The code of an operation with longs does what the operation does.
 use Rattle.codegen.proofs.Names.{◌≡◌, ℕ, ◌+◌, ◌-◌, ◌*◌, ◌/◌, ◌%◌, ◌^◌, ◌<◌, ◌≤◌, Bool, true, false, nat_le, nat_lt, if◌then◌else◌, List, [], ◌∷◌, ◌++◌, length}
-use Rattle.codegen.proofs.Names.{Option, None, Some, refl, sym, ap, ap₂, ◌∙◌, subst, arith, le-leb, ltb-true, nat_tests, AllByRecursion, Core, Form, R4, R6, Runs}
-use Rattle.codegen.proofs.Names.{Source, Stands, stands_front, stands_back, forms_bytes, forms_bytes-append, Waiting, WordState, Behaviour, GoesOn, goes_on, broken}
-use Rattle.codegen.proofs.Names.{with_stack, pushed, Left, Right, shift_word, flushed, top_of, below_top, any_held, kept, top_to_four, shift_middle, PlainOperation}
+use Rattle.codegen.proofs.Names.{Option, None, Some, refl, sym, ap, ap₂, ◌∙◌, subst, arith, ltb-true, nat_tests, Core, Form, R4, R6, Runs}
+use Rattle.codegen.proofs.Names.{Source, Stands, forms_bytes, Waiting, WordState, Behaviour, GoesOn, goes_on, broken}
+use Rattle.codegen.proofs.Names.{with_stack, Left, Right, shift_word, flushed, top_of, below_top, any_held, kept, top_to_four, shift_middle, PlainOperation}
 use Rattle.codegen.specs.declared.waiting.Waiting.TheVariants as waiting
 use Rattle.array_versions.specs.Behaviour.{with_words}
 use Rattle.array_versions.specs.Cost.{long_cycles}
@@ -10,15 +10,15 @@ use Rattle.array_versions.specs.Program.{long}
 use Rattle.array_versions.specs.declared.operations.LongOperation.{LongOperation}
 use Rattle.array_versions.specs.declared.operations.LongOperation.TheVariants as with_longs
 use Rattle.array_versions.specs.Operations.{two_words, plain_long, long_to_left, long_to_right, sign_word, all_bits, long_pops, long_pushes, long_result}
-use Rattle.codegen.specs.Code.{below_two, long_waits, parted, parting, in_six, long_sides, low_source, high_source, long_calculation, below_code, above_code}
-use Rattle.codegen.specs.Code.{longs_lost, longs_code, longs_under, pair_lost, pair_to_registers, short_code, short_behind, left_by, right_by, dropped, lifted}
-use Rattle.codegen.specs.Code.{lifted_word, high_code, high_behind, left_code, left_behind, right_shift_code, right_behind, widen_code, long_code, long_behind}
+use Rattle.codegen.specs.Code.{below_two, long_waits, parted, parting, long_sides, low_source, high_source, long_calculation, below_code, above_code}
+use Rattle.codegen.specs.Code.{longs_lost, pair_lost, pair_to_registers, short_code, short_behind, left_by, right_by, dropped, lifted}
+use Rattle.codegen.specs.Code.{high_code, high_behind, left_code, left_behind, right_shift_code, right_behind, widen_code, long_code, long_behind}
 use Rattle.codegen.proofs.Memory.{AreWords}
 use Rattle.codegen.proofs.Stretches.{Setting, two_parts, nothing_run, so_runs, dearer}
-use Rattle.codegen.proofs.Registers.{With, HasWord, Holds, Has}
-use Rattle.codegen.proofs.Operands.{IsThere, owed_by, owed, none_held, clear_cycles, owed_kept, load_cycles, load_owed, Describes, Waits, waiting_word, head_is}
+use Rattle.codegen.proofs.Registers.{HasWord, Holds, Has}
+use Rattle.codegen.proofs.Operands.{owed, none_held, clear_cycles, owed_kept, load_cycles, load_owed, Describes, Waits, waiting_word, head_is}
 use Rattle.codegen.proofs.Operands.{words_same, dressed, flush_part, four_part, five_part, drop_part, top_to_four_part, result_waits, waits_more}
-use Rattle.codegen.proofs.Follows.{reach_more, Pays}
+use Rattle.codegen.proofs.Follows.{reach_more}
 use Rattle.codegen.proofs.Results.{Does, StepDoes, does_behind, made_waits, value_part}
 use Rattle.codegen.proofs.ShiftParts.{shift_part}
 use Rattle.codegen.proofs.LongWords.{Pair, pair, worth, pair_of, AreSmall, worth_small, far_left_high, far_left_low, far_right}

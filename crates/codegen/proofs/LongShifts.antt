@@ -1,14 +1,14 @@
 -- Shifts of longs in registers.
-use Rattle.codegen.proofs.Names.{◌≡◌, ℕ, zero, suc, ◌+◌, ◌-◌, ◌*◌, ◌/◌, ◌%◌, ◌^◌, ◌<◌, ◌≤◌, ◌==◌, Bool, true, false, not, nat_le, nat_lt, if◌then◌else◌, List, []}
-use Rattle.codegen.proofs.Names.{◌∷◌, ◌++◌, refl, sym, ap, ap₂, ◌∙◌, subst, arith, le-leb, ltb-true, nat_tests, bit, bit_and, Core, Form, Calculate, Modify, Register}
-use Rattle.codegen.proofs.Names.{Constant, Number, R4, R6, Runs, Stands, forms_bytes, WordState}
+use Rattle.codegen.proofs.Names.{◌≡◌, ℕ, zero, suc, ◌+◌, ◌-◌, ◌*◌, ◌/◌, ◌%◌, ◌^◌, ◌<◌, ◌≤◌, ◌==◌, Bool, true, false, nat_le, nat_lt, if◌then◌else◌, List, []}
+use Rattle.codegen.proofs.Names.{◌∷◌, ◌++◌, refl, sym, ap, ap₂, ◌∙◌, subst, arith, le-leb, ltb-true, nat_tests, bit, bit_and, Core, Form, Calculate, Modify}
+use Rattle.codegen.proofs.Names.{Constant, R4, R6, Runs, Stands, forms_bytes, WordState}
 use Rattle.msp_isa.specs.declared.instructions.TwoOp.TheVariants as op
 use Rattle.msp_isa.specs.declared.operands.Konst.TheVariants as konst
 use Rattle.array_versions.specs.msp_step.declared.effect.Modification.TheVariants as change
 use Rattle.array_versions.specs.Operations.{long_to_left, long_to_right}
 use Rattle.codegen.specs.Code.{times_code, long_double, long_halve, byte_to_left, byte_to_right, long_right_code, left_by, right_by}
 use Rattle.codegen.proofs.Stretches.{Setting, two_parts, dearer, nothing_run}
-use Rattle.codegen.proofs.Registers.{With, Holds, line}
+use Rattle.codegen.proofs.Registers.{Holds, line}
 use Rattle.codegen.proofs.ShiftParts.{high_byte, low_byte}
 use Rattle.codegen.proofs.LongWords.{pair_of, times, long_twice, half, twice_times, half_times, raised_times, lowered_times, twice_low, twice_high, half_low}
 use Rattle.codegen.proofs.LongWords.{half_high, top_is_zero, no_carry, swap, up_low, up_high, down_low, down_high}

@@ -1,18 +1,18 @@
 -- What instructions make of longs in registers.
-use Rattle.codegen.proofs.Names.{◌≡◌, ℕ, ◌+◌, ◌-◌, ◌%◌, ◌<◌, ◌≤◌, Bool, true, false, not, nat_le, nat_lt, List, [], ◌∷◌, ◌++◌, Some, refl, sym, ap, ap₂, ◌∙◌, subst}
-use Rattle.codegen.proofs.Names.{arith, not-not, bit, bit_and, ◌==◌, Flags, Core, Form, Move, Calculate, Register, Constant, Number, R4, R6, TwoOp, IsNotMov, Word, Runs, Source}
+use Rattle.codegen.proofs.Names.{◌≡◌, ℕ, ◌+◌, ◌-◌, ◌%◌, ◌<◌, ◌≤◌, Bool, true, false, not, nat_le, nat_lt, [], ◌∷◌, ◌++◌, Some, refl, ap, ap₂, ◌∙◌, subst}
+use Rattle.codegen.proofs.Names.{arith, not-not, bit, Flags, Core, Calculate, Constant, R4, R6, TwoOp, IsNotMov, Word, Runs, Source}
 use Rattle.codegen.proofs.Names.{source_operand, source_cycles, source_bytes, to_register, flags_after, operated, writes_destination, instruction_of, Stands}
-use Rattle.codegen.proofs.Names.{forms_bytes, stands_front, stands_back, PlainOperation, Add, Subtract, And, plain_instruction, WordState}
+use Rattle.codegen.proofs.Names.{forms_bytes, PlainOperation, Add, Subtract, plain_instruction, WordState}
 use Rattle.std.specs.Prelude.{bit_xor}
 use Rattle.msp_isa.specs.declared.instructions.TwoOp.TheVariants as op
 use Rattle.msp_isa.specs.declared.operands.Konst.TheVariants as konst
 use Rattle.array_versions.specs.Operations.{plain_long, all_bits, sign_word}
 use Rattle.codegen.specs.Code.{high_instruction, long_calculation, borrow_mask, turn_bits, below_code, above_code, widen_code}
 use Rattle.codegen.proofs.Stretches.{Setting, runs_on, so_runs, two_parts}
-use Rattle.codegen.proofs.Registers.{With, Has, Holds, Flagged, IsCarry, line}
+use Rattle.codegen.proofs.Registers.{Has, Holds, Flagged, IsCarry, line}
 use Rattle.codegen.proofs.Follows.{stands_elsewhere}
 use Rattle.codegen.proofs.Middles.{calculate, plain_needs}
-use Rattle.codegen.proofs.LongWords.{Pair, pair, worth, pair_of, AreSmall, AreMade, are_made, below_carry, above_carry, mask_value, turned_value, no_carry}
+use Rattle.codegen.proofs.LongWords.{Pair, pair, worth, pair_of, AreSmall, are_made, below_carry, above_carry, mask_value, turned_value, no_carry}
 use Rattle.codegen.proofs.LongWords.{sign_value}
 use Rattle.codegen.proofs.LongSides.{HasPair, HasLongs}
 

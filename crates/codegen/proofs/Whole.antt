@@ -12,7 +12,7 @@ use Rattle.codegen.proofs.Names.{EachStepWay, EachTestWay, EachWay, StepLocalsBe
 use Rattle.codegen.proofs.Names.{StepLoopsCount, TestLoopsCount, LoopsCount, StepOfWords, TestOfWords, OfWords, top_spent, spent_by_top, spent_by_two}
 use Rattle.codegen.proofs.Names.{step_spent, spent_on, test_spent, spent, Matches, GoesWell, matches_local, start_matches, step_well, well, whole_ends_soundly}
 use Rattle.codegen.proofs.Names.{local_words, words_step, words, Leaves, leaves, Bound, Waiting, number_source, flushed, below_top, kept, top_to_four}
-use Rattle.codegen.proofs.Names.{two_to_registers, entry_code, compare_form, holding, failing, size, pass_over, decision, holds_code, compares_code, truth_code}
+use Rattle.codegen.proofs.Names.{entry_code, compare_form, holding, failing, size, pass_over, decision, holds_code, compares_code, truth_code}
 use Rattle.codegen.proofs.Names.{number_code, turns_code, waiting_behind, waiting_after, bound_of, step_code, test_code, steps_code, block_code, code_of}
 use Rattle.codegen.proofs.Names.{ComesTo, CodeDoesAsProgram}
 use Rattle.array_versions.specs.Laws.{IsStateOfWords, EndsInWords, IsSound}
@@ -25,7 +25,7 @@ use Rattle.codegen.proofs.Memory.{AreWords, place_is, assigned_same}
 use Rattle.codegen.proofs.Results.{gathered, Does, number_part, load_part, local_by, keep_reaches, update_reaches, set_reaches, update_local_reaches}
 use Rattle.codegen.proofs.Results.{unary_part, binary_part, shift_reaches, element_reaches, emit_reaches, read_reaches, write_reaches, sense_part, alone_part}
 use Rattle.codegen.proofs.Operands.{owed, owed_kept, load_owed, Describes, dressed, flush_part, top_to_four_part}
-use Rattle.codegen.proofs.Sides.{Aiming, compare_sides_part, compare_stays, side_cycles, reading_cycles, side_owed}
+use Rattle.codegen.proofs.Sides.{Aiming, compare_sides_part, compare_stays, reading_cycles, side_owed}
 use Rattle.codegen.specs.Code.{is_turned, compare_sides, compare_source}
 use Rattle.codegen.proofs.Stretches.{Setting, runs_on, nothing_run}
 use Rattle.codegen.proofs.Follows.{StandsFor, Follows, FollowsEnd, OnGoesOn, more_cycles, then_hop, ends_at, guarded, reach_more, reach_way, reaches}

@@ -1,4 +1,4 @@
-use Rattle.codegen.proofs.Names.{◌∷◌, [], refl, ap₂, ◌∙◌, on_ok_weaker, Word, Two, R4, R6, WorkRegister, index_of}
+use Rattle.codegen.proofs.Names.{◌∷◌, [], refl, ap₂, ◌∙◌, on_ok_weaker, Word, Two, R4, R6, index_of}
 use Rattle.codegen.specs.Code.{parted, parting, longs_lost, long_sides, low_source, high_source, long_calculation}
 use Rattle.msp_isa.specs.declared.operands.Dst.TheVariants as dst
 use Rattle.msp_isa.specs.declared.registers.Reg.TheVariants as reg

@@ -1,4 +1,4 @@
-use Rattle.codegen.proofs.Names.{◌++◌, ◌∷◌, [], refl, ap, ◌∙◌, on_ok_weaker, Word, Two, R6, index_of, top_to_four}
+use Rattle.codegen.proofs.Names.{◌++◌, [], refl, ap, ◌∙◌, on_ok_weaker, Word, Two, R6, index_of, top_to_four}
 use Rattle.codegen.specs.Code.{widen_code}
 use Rattle.msp_isa.specs.declared.instructions.TwoOp.TheVariants as op
 use Rattle.msp_isa.specs.declared.operands.Dst.TheVariants as dst
