@@ -9,10 +9,10 @@ use Rattle.codegen.proofs.Names.{Negate, BinaryOperation, Multiply, Divide, Rema
 use Rattle.codegen.proofs.Names.{Comparison, Equal, ArrayPlace, ListPlace, Step, Test, Program, number, load, keep, update, local, set_local, update_local}
 use Rattle.codegen.proofs.Names.{unary, binary, shift, element, emit_word, list_entry, versioned_read, versioned_write, versioned_update, sense, truth, choose}
 use Rattle.codegen.proofs.Names.{repeat, store_number, move_word, jump, holds, compares, both, either, fails, nothing, step, unary_words, binary_words}
-use Rattle.codegen.proofs.Names.{right_words, shift_words, step_words, test_words, words_of, Bound, Waiting, local_register, local_address, waiting_source}
+use Rattle.codegen.proofs.Names.{eqb-true, right_words, shift_words, step_words, test_words, words_of, Bound, Waiting, local_register, local_address, waiting_source}
 use Rattle.codegen.proofs.Names.{flushed, top_of, source_from, below_top, any_held, cleared, kept, number_source, stays, right_source, power, top_power}
 use Rattle.codegen.proofs.Names.{two_code, power_code, power_result, four_from, five_from, top_to_four, top_to_five, two_to_registers, unary_middle}
-use Rattle.codegen.proofs.Names.{binary_middle, binary_result, plain_instruction, update_code, repeated, double, halve, right_code, shift_by, shift_middle}
+use Rattle.codegen.proofs.Names.{binary_middle, binary_result, plain_instruction, update_code, repeated, double, halve, right_code, shift_by, last_bit, shift_code, shift_middle}
 use Rattle.codegen.proofs.Names.{check_code, zero_code, fetch_code, element_code, emit_code, pair_code, own_code, read_code, stored_code, write_code}
 use Rattle.codegen.proofs.Names.{compare_form, holding, failing, size, pass_over, decision, holds_code, compares_code, truth_code, number_code, turn_end}
 use Rattle.codegen.proofs.Names.{turns_code, waiting_behind, waiting_after, step_code, test_code, steps_code, top_number, element_at, bound_of, is_inside}
@@ -114,9 +114,22 @@ shift_by_takes SignedRight k =
     either_takes (nat_lt k 8) (λ b. 2 * (if b then k else 2 + (k - 8))) (repeated_takes halve k tt refl)
     (two_more 2 (k - 8) tt tt refl (repeated_takes halve (k - 8) tt refl))
 
+-- so does a shift by 15, which has fewer words
+last_takes : (o : ShiftOperation) (k : ℕ) → k ≡ 15 → Takes (last_bit o) 0 (2 * shift_words o k)
+last_takes Left k e = record { are = search arith; bytes = rw e omega arith }
+last_takes Right k e = record { are = search arith; bytes = rw e omega arith }
+last_takes SignedRight k e = record { are = search arith; bytes = rw e omega arith }
+
+shift_code_takes : (o : ShiftOperation) (k : ℕ) → Takes (shift_code o k) 0 (2 * shift_words o k)
+shift_code_takes o k = by (k == 15) refl
+  where
+    by : (b : Bool) → (k == 15) ≡ b → Takes (if b then last_bit o else (shift_by o k)) 0 (2 * shift_words o k)
+    by true e = last_takes o k (eqb-true k 15 e)
+    by false e = shift_by_takes o k
+
 shift_takes : (o : ShiftOperation) (k : ℕ) → Takes (shift_middle o k) 0 (2 * (if nat_le k 15 then shift_words o k else 1))
 shift_takes o k =
-    either_takes (nat_le k 15) (λ b. 2 * (if b then shift_words o k else 1)) (shift_by_takes o k) (record { are = (tt, tt); bytes = omega arith })
+    either_takes (nat_le k 15) (λ b. 2 * (if b then shift_words o k else 1)) (shift_code_takes o k) (record { are = (tt, tt); bytes = omega arith })
 
 shift_most : (b c : Bool) (k n : ℕ) → nat_le k 15 ≡ b → nat_lt k 8 ≡ c → n ≤ k + 1 → (if b then (if c then n else (3 + (k - 8))) else 1) ≤ 10
 shift_most true true k n e f l = let less : k < 8 = ltb-true k 8 f in omega arith

@@ -221,15 +221,25 @@ abbrev pub right_code : ℕ → List Form
 right_code zero = []
 right_code (suc k) = Calculate op.Bit (Constant konst.Zero) R4 ∷ Modify change.Rrc R4 ∷ repeated k halve
 
--- a shift of R4 by at most 15 bits: by 8 and more the bytes are exchanged first
+-- a shift of R4 by fewer than 15 bits: by 8 and more the bytes are exchanged first
 abbrev pub shift_by : ShiftOperation → ℕ → List Form
 shift_by Left k = if nat_lt k 8 then repeated k double else (Modify change.Swpb R4 ∷ Calculate op.And (Number 0xFF00) R4 ∷ repeated (k - 8) double)
 shift_by Right k = if nat_lt k 8 then right_code k else (Modify change.Swpb R4 ∷ Calculate op.And (Number 0xFF) R4 ∷ repeated (k - 8) halve)
 shift_by SignedRight k = if nat_lt k 8 then repeated k halve else (Modify change.Swpb R4 ∷ Modify change.Sxt R4 ∷ repeated (k - 8) halve)
 
+-- by 15 bits one is left, which goes through the carry; of a sign there come as many as a word has
+abbrev pub last_bit : ShiftOperation → List Form
+last_bit Left = Modify change.Rra R4 ∷ Move (Constant konst.Zero) (ToRegister R4) ∷ Modify change.Rrc R4 ∷ []
+last_bit Right = double ∷ Move (Constant konst.Zero) (ToRegister R4) ∷ Calculate op.Addc (Register R4) R4 ∷ []
+last_bit SignedRight = double ∷ Calculate op.Subc (Register R4) R4 ∷ Calculate op.Xor (Constant konst.MinusOne) R4 ∷ []
+
+-- by at most 15 bits
+abbrev pub shift_code : ShiftOperation → ℕ → List Form
+shift_code operation k = if k == 15 then last_bit operation else shift_by operation k
+
 -- by more it gives 0
 abbrev pub shift_middle : ShiftOperation → ℕ → List Form
-shift_middle operation k = if nat_le k 15 then shift_by operation k else (Move (Constant konst.Zero) (ToRegister R4) ∷ [])
+shift_middle operation k = if nat_le k 15 then shift_code operation k else (Move (Constant konst.Zero) (ToRegister R4) ∷ [])
 
 -- the index in R4 is compared with a length: where it isn't below it, over so many words
 abbrev pub check_code : ℕ → ℕ → List Form
