@@ -1,8 +1,9 @@
 -- Arithmetic of longs by their words: what the low words carry goes into the high ones.
 use Rattle.codegen.proofs.Names.{◌≡◌, ℕ, zero, suc, ◌+◌, ◌-◌, ◌*◌, ◌/◌, ◌%◌, ◌^◌, ◌<◌, ◌≤◌, ◌==◌, Bool, true, false, not, nat_le, nat_lt, if◌then◌else◌}
-use Rattle.codegen.proofs.Names.{refl, sym, ap, ap₂, ◌∙◌, arith, le-leb, ltb-true, eqb-true, bit, bit_and, nat_tests, and_le_r, mul-mod_first, pow-add, Flags, Word}
+use Rattle.codegen.proofs.Names.{refl, sym, ap, ap₂, ◌∙◌, arith, le-leb, ltb-true, eqb-true, bit, bit_and, and_mask, nat_tests, and_le_r, mul-mod_first, pow-add, Flags, Word}
 use Rattle.codegen.proofs.Names.{operated, flags_after, PlainOperation, Add, Subtract, And, plain_instruction}
 use Rattle.std.specs.Prelude.{bit_or, bit_xor}
+use Rattle.std.specs.Int.Bits.{xor_add_and}
 use Rattle.std.proofs.lemmas.Bool.{leb-true}
 use Rattle.std.proofs.Math.Nat.{div-div-eq-div-mul}
 use Rattle.std.proofs.lemmas.Nat.{and_shr, and_mod, or_shr, or_mod, xor_shr, xor_mod}
@@ -293,3 +294,24 @@ pub far_right : (l h j : ℕ) → l < 0x10000 → two_words l h / 2 ^ (16 + j) �
 far_right l h j s =
     let e : two_words l h / 65536 ≡ h = omega arith in
     ap (λ m. two_words l h / m) (pow-add 2 16 j) ∙ sym (div-div-eq-div-mul (two_words l h) 65536 (2 ^ j)) ∙ ap (λ m. m / 2 ^ j) e
+
+-- ---- each bit turned
+
+pub sign_small : (y : ℕ) → sign_word y < 0x10000
+sign_small y = by (nat_lt y 32768)
+  where
+    by : (b : Bool) → (if b then 0 else 65535) < 0x10000
+    by true = omega arith
+    by false = omega arith
+
+bits_turned : (v : ℕ) → v < 0x10000 → bit_xor v 0xFFFF ≡ 0xFFFF - v
+bits_turned v h =
+    let all = xor_add_and v 0xFFFF in
+    let mask : bit_and v 0xFFFF ≡ v % 2 ^ 16 = and_mask v 16 in
+    omega (arith, all, mask)
+
+pub turned_low : (n : ℕ) → n < 0x100000000 → bit_xor (n % 0x10000) 0xFFFF ≡ (4294967295 - n) % 0x10000
+turned_low n h = bits_turned (n % 0x10000) (omega arith) ∙ omega arith
+
+pub turned_high : (n : ℕ) → n < 0x100000000 → bit_xor (n / 0x10000) 0xFFFF ≡ (4294967295 - n) / 0x10000
+turned_high n h = bits_turned (n / 0x10000) (omega arith) ∙ omega arith
