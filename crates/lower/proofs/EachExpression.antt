@@ -1,5 +1,5 @@
 -- The programs of expressions leave their values.
-use Rattle.std.proofs.Common.{◌≡◌, ℕ, ◌+◌, ◌%◌, List, Option, Some, None, Bool, true, false, nat_le, nat_lt, if◌then◌else◌, refl, sym, ap, ◌∙◌, subst, arith}
+use Rattle.std.proofs.Common.{◌≡◌, ℕ, List, Option, Some, None, Bool, true, false, nat_le, nat_lt, if◌then◌else◌, refl, sym, ap, ◌∙◌, subst, arith}
 use Rattle.task_ast.specs.Tree as t
 use Rattle.task_ast.specs.Paths.{CheckedExpression}
 use Rattle.task_ast.specs.declared.WordType.{WordType}
@@ -20,14 +20,14 @@ use Rattle.source_values.specs.Values.{unary_result, binary_value, binary_result
 use Rattle.array_versions.proofs.Interface.{joined_go_on}
 use Rattle.array_versions.specs.Program.{number, shift, sense, load, long, step, joined}
 use Rattle.array_versions.specs.declared.operations.LongOperation.TheVariants as with_longs
-use Rattle.array_versions.specs.Behaviour.{WordState, Behaviour, pushed, behaviour}
+use Rattle.array_versions.specs.Behaviour.{WordState, pushed, behaviour}
 use Rattle.memory_map.specs.Spots.{Places, address_of, scalar_address, IsScalarWord, scalar}
 use Rattle.lower.specs.Operations.{binary_meaning, shift_operation, operand_type, long_meaning}
-use Rattle.lower.specs.Lowered.{one, high_address, read_step, read_long, element_step, Lowering, as_word, as_test, word_program, value_test, long_words}
+use Rattle.lower.specs.Lowered.{one, high_address, read_step, read_long, element_step, Lowering, as_word, word_program, value_test, long_words}
 use Rattle.lower.specs.Lowered.{long_program, name_lowering, operand_lowering, binary_lowering, sides_lowering, shift_lowering}
 use Rattle.lower.specs.Lowered.{sides_test, widened_type, lowering, lowered_long, lowered_test}
 use Rattle.lower.specs.Spots.{Room, AreApart, AreEven}
-use Rattle.lower.specs.Agreement.{IsKnown, IsLong, IsOfType, ExpressionFits, HoldVariables, valued, long_valued, AgreesWithValue}
+use Rattle.lower.specs.Agreement.{IsLong, IsOfType, ExpressionFits, HoldVariables, valued, long_valued, AgreesWithValue}
 use Rattle.lower.specs.Agreement.{AgreesWithLong, converted_to, truth_of, ExpressionsAgree, LongsAgree, TestsAgree}
 use Rattle.lower.proofs.Addresses.{first_address}
 use Rattle.lower.proofs.Values.{value_done, agrees_then, read_agrees, word_read_agrees, element_agrees, sense_agrees, binary_same, shift_same, sides_of_truth}
