@@ -7,13 +7,13 @@ use Rattle.codegen.proofs.Follows.{stands_elsewhere}
 use Rattle.codegen.proofs.Registers.{Holds}
 use Rattle.codegen.proofs.Sides.{Aiming, is_read, reading_cycles, reading_price, compare_stays}
 use Rattle.codegen.proofs.Names.{form_bytes, ◌≡◌, ℕ, ◌+◌, ◌*◌, ◌%◌, ◌<◌, ◌==◌, not, [], ◌∷◌, Some, refl, sym, ap, ap₂, ◌∙◌, subst, arith, Bool, true, false}
-use Rattle.codegen.proofs.Names.{if◌then◌else◌, not-not, Flags, Word, and_of, Condition, is_met, R4, Core, Constant, Form, Calculate, instruction_of, Stands}
+use Rattle.codegen.proofs.Names.{if◌then◌else◌, not-not, Flags, Word, Condition, is_met, R4, Core, Constant, Form, Calculate, instruction_of, Stands}
 use Rattle.codegen.proofs.Names.{forms_bytes, Runs, Comparison, Above, SignedAbove, CommonBit, is_true, compare_words, WordState, Behaviour, compare_form}
 use Rattle.codegen.proofs.Names.{holding, failing, jump_over, decision}
 use Rattle.msp_isa.specs.declared.instructions.Condition.TheVariants as condition
 use Rattle.msp_isa.specs.declared.instructions.TwoOp.TheVariants as op
 use Rattle.msp_isa.specs.declared.operands.Konst.TheVariants as konst
-use Rattle.codegen.proofs.Registers.{Has, HasTwo, line, equal_flag}
+use Rattle.codegen.proofs.Registers.{Has, line, equal_flag}
 use Rattle.codegen.proofs.Stretches.{Setting, runs_on, so_runs}
 use Rattle.codegen.proofs.Follows.{StandsFor, Follows, then_end}
 use Rattle.codegen.proofs.Jumps.{stands_low, Decided, over_part}

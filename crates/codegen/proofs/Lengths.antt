@@ -1,23 +1,23 @@
 -- The code of a program is instructions, whose jumps reach no further than ten bits say, and is no longer than its words say.
 use Rattle.codegen.specs.Code.{is_turned, compare_source}
 use Rattle.codegen.proofs.Names.{sides}
-use Rattle.codegen.proofs.Names.{◌≡◌, ℕ, zero, suc, ◌+◌, ◌-◌, ◌*◌, ◌<◌, ◌≤◌, ◌==◌, List, [], ◌∷◌, ◌++◌, length, refl, arith, length-append, Bool, true, false}
-use Rattle.codegen.proofs.Names.{not, nat_le, nat_lt, Option, Some, None, ltb-true, if◌then◌else◌, nat_tests, word_sum, Condition, R4, R5, Register, Constant}
+use Rattle.codegen.proofs.Names.{◌≡◌, ℕ, ◌+◌, ◌-◌, ◌*◌, ◌<◌, ◌≤◌, ◌==◌, List, [], ◌∷◌, ◌++◌, length, refl, arith, length-append, Bool, true, false}
+use Rattle.codegen.proofs.Names.{not, nat_le, nat_lt, Option, Some, None, if◌then◌else◌, nat_tests, word_sum, Condition, R4, R5, Register, Constant}
 use Rattle.codegen.proofs.Names.{Number, Ram, Source, source_bytes, ToRegister, ToRam, ToIndexed, target_bytes, Form, Move, Calculate, Update, Push, Jump, Skip}
 use Rattle.codegen.proofs.Names.{instruction_of, form_bytes, forms_bytes, instruction_words, instructions, bytes_are, forms_bytes-append, UnaryOperation}
-use Rattle.codegen.proofs.Names.{Negate, BinaryOperation, Multiply, Divide, Remainder, Plain, PlainOperation, And, ShiftOperation, Left, Right, SignedRight}
+use Rattle.codegen.proofs.Names.{Negate, BinaryOperation, Multiply, Divide, Remainder, Plain, PlainOperation, And, Left, Right}
 use Rattle.codegen.proofs.Names.{Comparison, Equal, ArrayPlace, ListPlace, Step, Test, Program, number, load, keep, update, local, set_local, update_local}
-use Rattle.codegen.proofs.Names.{unary, binary, shift, element, emit_word, list_entry, versioned_read, versioned_write, versioned_update, sense, truth, choose}
+use Rattle.codegen.proofs.Names.{unary, binary, shift, long, element, emit_word, list_entry, versioned_read, versioned_write, versioned_update, sense, truth, choose}
 use Rattle.codegen.proofs.Names.{repeat, store_number, move_word, jump, holds, compares, both, either, fails, nothing, step, unary_words, binary_words}
-use Rattle.codegen.proofs.Names.{right_words, shift_words, step_words, test_words, words_of, Bound, Waiting, local_register, local_address, waiting_source}
-use Rattle.codegen.proofs.Names.{flushed, top_of, source_from, below_top, any_held, cleared, kept, number_source, stays, right_source, power, top_power}
-use Rattle.codegen.proofs.Names.{two_code, power_code, power_result, four_from, five_from, top_to_four, top_to_five, two_to_registers, unary_middle}
-use Rattle.codegen.proofs.Names.{binary_middle, binary_result, plain_instruction, update_code, repeated, double, halve, right_code, shift_by, shift_middle}
+use Rattle.codegen.proofs.Names.{right_words, step_words, test_words, words_of, Bound, Waiting, local_register, local_address, waiting_source}
+use Rattle.codegen.proofs.Names.{flushed, top_of, source_from, below_top, kept, stays, right_source, power, top_power}
+use Rattle.codegen.proofs.Names.{two_code, power_code, power_result, five_from, two_to_registers, unary_middle}
+use Rattle.codegen.proofs.Names.{binary_middle, binary_result, plain_instruction, update_code}
 use Rattle.codegen.proofs.Names.{check_code, zero_code, fetch_code, element_code, emit_code, pair_code, own_code, read_code, stored_code, write_code}
 use Rattle.codegen.proofs.Names.{compare_form, holding, failing, size, pass_over, decision, holds_code, compares_code, truth_code, number_code, turn_end}
 use Rattle.codegen.proofs.Names.{turns_code, waiting_behind, waiting_after, step_code, test_code, steps_code, top_number, element_at, bound_of, is_inside}
 use Rattle.codegen.proofs.Names.{block_code, code_of, rests, rest_source, to_rest, indexed_update, known_update, known_index, update_at, CodeHasItsBytes}
-use Rattle.codegen.proofs.Names.{CodeHasItsWords, AreInstructions, made_code, first_update, by_version, inside_update, CodeIsInstructions}
+use Rattle.codegen.proofs.Names.{CodeHasItsWords, made_code, first_update, by_version, inside_update, CodeIsInstructions}
 use Rattle.msp_isa.specs.Encoding.{encoding, IsInstruction}
 use Rattle.msp_isa.specs.declared.instructions.TwoOp.TheVariants as op
 use Rattle.msp_isa.specs.declared.instructions.Condition.TheVariants as condition
@@ -26,102 +26,16 @@ use Rattle.code_forms.specs.Forms as forms
 use Rattle.codegen.specs.declared.waiting.Waiting.TheVariants as waiting
 use Rattle.array_versions.proofs.Interface.{right_low}
 use Rattle.codegen.proofs.UpdateBytes.{ways_bytes, checked_bytes, known_bytes, reads_bytes, first_bytes, inside_bytes, near_size}
-use Rattle.codegen.proofs.Operands.{number_cases}
-
--- ---- how much code takes
-
--- the forms are instructions
-abbrev Are : List Form → Type 0
-Are ms = AreInstructions (instructions ms)
-
--- they are, and with so many bytes left they take at most so many
-pub record Takes (ms : List Form) (left most : ℕ) : Type 0 where
-  pub are : Are ms
-  pub bytes : forms_bytes ms + left ≤ most
-
-are-append : (a b : List Form) → Are a → Are b → Are (a ++ b)
-are-append [] b h k = k
-are-append (m ∷ a) b h k = (h.0, are-append a b h.1 k)
-
--- two parts, one behind the other
-behind : {a b : List Form} {j k m n : ℕ} → Takes a j m → Takes b k n → Takes (a ++ b) (j + k) (m + n)
-behind {a} {b} x y = record { are = are-append a b x.are y.are; bytes = omega (arith, forms_bytes-append a b, x.bytes, y.bytes) }
-
--- the same by other numbers
-so_takes : {ms : List Form} {j k m n : ℕ} → Takes ms j m → k + m ≤ n + j → Takes ms k n
-so_takes x l = record { are = x.are; bytes = omega (arith, x.bytes, l) }
-
-either_takes : (b : Bool) {x y : List Form} {k : ℕ} (n : Bool → ℕ) → Takes x k (n true) → Takes y k (n false) → Takes (if b then x else y) k (n b)
-either_takes true n h k = h
-either_takes false n h k = k
-
-nothing_takes : (k n : ℕ) → k ≤ n → Takes [] k n
-nothing_takes k n l = record { are = tt; bytes = omega arith }
-
-number_bytes : (n : ℕ) → source_bytes (number_source n) ≤ 2
-number_bytes n = number_cases (λ s. source_bytes s ≤ 2) n (omega arith) (λ k e. omega arith)
-
--- ---- what pushes take
-
--- the bytes of a push that waits, at most
-abbrev pub kept_bytes_of : Waiting → ℕ
-kept_bytes_of (waiting.Number n) = 4
-kept_bytes_of (waiting.Fram a) = 4
-kept_bytes_of (waiting.Local n) = 4
-kept_bytes_of waiting.R4 = 2
-kept_bytes_of waiting.R6 = 2
-
-abbrev pub kept_bytes : List Waiting → ℕ
-kept_bytes [] = 0
-kept_bytes (o ∷ os) = kept_bytes os + kept_bytes_of o
-
-push_short : (o : Waiting) → form_bytes (Push (waiting_source o)) ≤ kept_bytes_of o
-push_short (waiting.Number n) = omega (arith, number_bytes n)
-push_short _ = omega arith
-
--- the top as a source takes no more than its push
-source_short : (os : List Waiting) → source_bytes (source_from (top_of os)) + kept_bytes (below_top os) ≤ kept_bytes os
-source_short (waiting.Number n ∷ os) = omega (arith, number_bytes n)
-source_short _ = omega arith
+use Rattle.codegen.proofs.CodeTakes.{Are, Takes, are-append, behind, so_takes, either_takes, nothing_takes, number_bytes, kept_bytes_of, kept_bytes, source_short}
+use Rattle.codegen.proofs.CodeTakes.{shift_takes, shift_most, flushed_takes, cleared_takes, five_takes, four_takes, top_to_four_takes, top_to_five_takes}
+use Rattle.codegen.proofs.CodeTakes.{two_takes}
+use Rattle.codegen.proofs.LongLengths.{long_takes}
 
 -- ---- the parts of steps
 
 unary_takes : (o : UnaryOperation) → Takes (unary_middle o) 4 (2 * unary_words o)
 unary_takes Negate = record { are = search arith; bytes = omega arith }
 unary_takes _ = record { are = search arith; bytes = omega arith }
-
-repeated_takes : (m : Form) (k : ℕ) → IsInstruction (instruction_of m) → form_bytes m ≡ 2 → Takes (repeated k m) 0 (2 * k)
-repeated_takes m zero h e = nothing_takes 0 0 (omega arith)
-repeated_takes m (suc k) h e = let r = repeated_takes m k h e in record { are = (h, r.are); bytes = omega (arith, e, r.bytes) }
-
--- two instructions in front of the last part of a shift
-two_more : {m n : Form} {ms : List Form} (j k : ℕ) → IsInstruction (instruction_of m) → IsInstruction (instruction_of n)
-    → form_bytes m + form_bytes n ≡ 2 * j → Takes ms 0 (2 * k) → Takes (m ∷ (n ∷ ms)) 0 (2 * (j + k))
-two_more j k h i e x = record { are = (h, (i, x.are)); bytes = omega (arith, e, x.bytes) }
-
-right_takes : (k : ℕ) → Takes (right_code k) 0 (2 * right_words k)
-right_takes zero = nothing_takes 0 0 (omega arith)
-right_takes (suc k) = two_more 2 k tt tt refl (repeated_takes halve k tt refl)
-
-shift_by_takes : (o : ShiftOperation) (k : ℕ) → Takes (shift_by o k) 0 (2 * shift_words o k)
-shift_by_takes Left k =
-    either_takes (nat_lt k 8) (λ b. 2 * (if b then k else 3 + (k - 8))) (repeated_takes double k tt refl)
-    (two_more 3 (k - 8) tt tt refl (repeated_takes double (k - 8) tt refl))
-shift_by_takes Right k =
-    either_takes (nat_lt k 8) (λ b. 2 * (if b then right_words k else 3 + (k - 8))) (right_takes k)
-    (two_more 3 (k - 8) tt tt refl (repeated_takes halve (k - 8) tt refl))
-shift_by_takes SignedRight k =
-    either_takes (nat_lt k 8) (λ b. 2 * (if b then k else 2 + (k - 8))) (repeated_takes halve k tt refl)
-    (two_more 2 (k - 8) tt tt refl (repeated_takes halve (k - 8) tt refl))
-
-shift_takes : (o : ShiftOperation) (k : ℕ) → Takes (shift_middle o k) 0 (2 * (if nat_le k 15 then shift_words o k else 1))
-shift_takes o k =
-    either_takes (nat_le k 15) (λ b. 2 * (if b then shift_words o k else 1)) (shift_by_takes o k) (record { are = (tt, tt); bytes = omega arith })
-
-shift_most : (b c : Bool) (k n : ℕ) → nat_le k 15 ≡ b → nat_lt k 8 ≡ c → n ≤ k + 1 → (if b then (if c then n else (3 + (k - 8))) else 1) ≤ 10
-shift_most true true k n e f l = let less : k < 8 = ltb-true k 8 f in omega arith
-shift_most true false k n e f l = let less : k ≤ 15 = grind (arith, nat_tests) in omega arith
-shift_most false c k n e f l = omega arith
 
 -- of each operation alike: the first clause makes it a proof by cases
 binary_takes : (o : BinaryOperation) → Takes (binary_middle o) (kept_bytes_of (binary_result o) + 4) (2 * binary_words o)
@@ -225,38 +139,6 @@ turns_takes n below body x =
     so_takes (behind (behind x (turn_end_takes n below)) (back_takes (nat_le (size turn) 511) (size turn) refl)) (omega arith)
 
 -- ---- words that wait
-
-flushed_takes : (os : List Waiting) → Takes (flushed os) 0 (kept_bytes os)
-flushed_takes [] = nothing_takes 0 0 (omega arith)
-flushed_takes (o ∷ os) =
-    let push : Takes (Push (waiting_source o) ∷ []) 0 (kept_bytes_of o) = record { are = (tt, tt); bytes = omega (arith, push_short o) } in
-    so_takes (behind (flushed_takes os) push) (omega arith)
-
-cleared_takes : (os : List Waiting) → Takes (cleared os) (kept_bytes (kept os)) (kept_bytes os)
-cleared_takes os = by (any_held os)
-  where
-    by : (b : Bool) → Takes (if b then flushed os else []) (kept_bytes (if b then [] else os)) (kept_bytes os)
-    by true = flushed_takes os
-    by false = nothing_takes (kept_bytes os) (kept_bytes os) (omega arith)
-
-five_takes : (os : List Waiting) → Takes (five_from (top_of os)) (kept_bytes (below_top os)) (2 + kept_bytes os)
-five_takes os = record { are = (tt, tt); bytes = omega (arith, source_short os) }
-
-four_takes : (os : List Waiting) → Takes (four_from (top_of os)) (kept_bytes (below_top os)) (2 + kept_bytes os)
-four_takes (waiting.Number n ∷ os) = record { are = (tt, tt); bytes = omega (arith, number_bytes n) }
-four_takes (waiting.R4 ∷ os) = nothing_takes (kept_bytes os) (2 + (kept_bytes os + 2)) (omega arith)
-four_takes os = record { are = (tt, tt); bytes = omega arith }
-
-top_to_four_takes : (os : List Waiting) → Takes (top_to_four os) (kept_bytes (kept (below_top os))) (2 + kept_bytes os)
-top_to_four_takes os = so_takes (behind (cleared_takes (below_top os)) (four_takes os)) (omega arith)
-
-top_to_five_takes : (os : List Waiting) → Takes (top_to_five os) (kept_bytes (kept (below_top os))) (2 + kept_bytes os)
-top_to_five_takes os = so_takes (behind (cleared_takes (below_top os)) (five_takes os)) (omega arith)
-
-two_takes : (os : List Waiting) → Takes (two_to_registers os) (kept_bytes (kept (below_top (below_top os)))) (4 + kept_bytes os)
-two_takes os =
-    let under = below_top os in
-    so_takes (behind (cleared_takes (below_top under)) (behind (five_takes os) (four_takes under))) (omega arith)
 
 -- what brings the right side to where it is read, with the reading instruction's extension word
 right_side_takes : (b : Bool) (os : List Waiting) → Takes (if b then [] else five_from (top_of os))
@@ -445,6 +327,7 @@ mutual
   step_takes bs (unary o) os = so_takes (behind (top_to_five_takes os) (unary_takes o)) (omega arith)
   step_takes bs (binary o) os = operation_takes o os
   step_takes bs (shift o k) os = so_takes (behind (top_to_four_takes os) (shift_takes o k)) (omega arith)
+  step_takes bs (long operation) os = long_takes operation os
   step_takes bs (element base n) os = element_takes (is_inside bs (top_of os) n) base n os
   step_takes bs (emit_word count buffer) os =
       so_takes (behind (behind (top_to_five_takes os) (flushed_takes (kept (below_top os)))) (emit_takes count buffer)) (omega arith)

@@ -15,6 +15,12 @@ mod Middles
 mod Updates
 mod Access
 mod ListParts
+mod LongEmitted
+mod LongWords
+mod LongSides
+mod LongSteps
+mod LongShifts
+mod LongResults
 mod VersionParts
 mod UpdateBytes
 mod Sides
@@ -25,6 +31,8 @@ mod Quotients
 mod Emitted
 mod UpdateEmitted
 mod Prefixes
+mod CodeTakes
+mod LongLengths
 mod Lengths
 mod Whole
 pub mod Interface

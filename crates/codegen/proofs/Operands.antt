@@ -79,7 +79,7 @@ push_cycles _ = omega arith
 
 -- ---- lists
 
-head_is : {v x : ℕ} {vs xs : List ℕ} → v ∷ vs ≡ x ∷ xs → v ≡ x
+pub head_is : {v x : ℕ} {vs xs : List ℕ} → v ∷ vs ≡ x ∷ xs → v ≡ x
 head_is e = ap (λ (l : List ℕ). get_or l 0 0) e
 
 tail_is : {v x : ℕ} {vs xs : List ℕ} → v ∷ vs ≡ x ∷ xs → vs ≡ xs
@@ -94,7 +94,7 @@ words_append f l g [] b = refl
 words_append f l g (o ∷ a) b = ap (λ xs. waiting_word f l g o ∷ xs) (words_append f l g a b)
 
 -- the words are the same where R4 and R6 are
-words_same : (f : ℕ → ℕ) (l : ℕ → Option ℕ) (g h : ℕ → ℕ) (os : List Waiting) → g 4 ≡ h 4 → g 6 ≡ h 6 → waiting_words f l g os ≡ waiting_words f l h os
+pub words_same : (f : ℕ → ℕ) (l : ℕ → Option ℕ) (g h : ℕ → ℕ) (os : List Waiting) → g 4 ≡ h 4 → g 6 ≡ h 6 → waiting_words f l g os ≡ waiting_words f l h os
 words_same f l g h [] p q = refl
 words_same f l g h (waiting.R4 ∷ os) p q = ap₂ (λ x xs. x ∷ xs) p (words_same f l g h os p q)
 words_same f l g h (waiting.R6 ∷ os) p q = ap₂ (λ x xs. x ∷ xs) q (words_same f l g h os p q)
@@ -389,7 +389,7 @@ module _ (z : Setting) where
       )
 
   -- a word comes to a register in which none of the others waits
-  move_part : (b : WorkRegister) (o : Option Waiting) (os : List Waiting) (pc : ℕ) (w : WordState) (v : ℕ) (vs : List ℕ) (u : Core)
+  pub move_part : (b : WorkRegister) (o : Option Waiting) (os : List Waiting) (pc : ℕ) (w : WordState) (v : ℕ) (vs : List ℕ) (u : Core)
       → ((f : ℕ → ℕ) (y : ℕ) → local_words (put f (work_number b) y) ≡ local_words f)
       → ((f : ℕ → ℕ) (y : ℕ) → waiting_words w.fram w.locals (put f (work_number b) y) os ≡ waiting_words w.fram w.locals f os)
       → (let m = Move (source_from o) (ToRegister b) in Stands z.code pc (m ∷ []) → Top z (source_from o) os pc w v vs u

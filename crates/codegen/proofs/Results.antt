@@ -72,7 +72,7 @@ module _ (z : Setting) where
       → Does (waiting_behind os s) (pc + forms_bytes (step_code bs os s)) (cost + owed os) u b
 
   -- code behind other code
-  does_behind : {l : ℕ} {P : Core → Type 0} (front ms : List Form) (os : List Waiting) (c most pc : ℕ) (u : Core) (b : Behaviour) → l + c ≤ most
+  pub does_behind : {l : ℕ} {P : Core → Type 0} (front ms : List Form) (os : List Waiting) (c most pc : ℕ) (u : Core) (b : Behaviour) → l + c ≤ most
       → Stands z.code pc (front ++ ms) → (Stands z.code pc front → Runs z.code [] l u P)
       → (let mid = pc + forms_bytes front in ((t : Core) → Stands z.code mid ms → P t → Does os (mid + forms_bytes ms) c t b)
       → Does os (pc + forms_bytes (front ++ ms)) most u b)
@@ -96,7 +96,7 @@ module _ (z : Setting) where
   -- ---- values
 
   -- words in registers, what is made of them, and where that waits
-  made_waits : (P : (ℕ → ℕ) → Type 0) (b : WorkRegister) (o : Waiting) (front ms : List Form) (ks : List Waiting) (l c most pc : ℕ) (w : WordState) (r : ℕ)
+  pub made_waits : (P : (ℕ → ℕ) → Type 0) (b : WorkRegister) (o : Waiting) (front ms : List Form) (ks : List Waiting) (l c most pc : ℕ) (w : WordState) (r : ℕ)
       (vs : List ℕ) (u : Core) → any_held ks ≡ false → IsThere z.locals w.locals o → length vs < z.room → l + c + (owed ks + owed_by o) ≤ most
       → ((f : ℕ → ℕ) → waiting_word w.fram w.locals f o ≡ f (work_number b)) → Stands z.code pc (front ++ ms)
       → (let mid = pc + forms_bytes front in (Stands z.code pc front → Runs z.code [] l u (Waits z ks mid (with_stack vs w) P))
@@ -115,7 +115,7 @@ module _ (z : Setting) where
       })
 
   -- code that brings the top to a register, and what is made of it in R4
-  value_part : {os : List Waiting} {pc : ℕ} {w : WordState} {y : ℕ} {rest : List ℕ} {u : Core} (b : WorkRegister) (front ms : List Form) (c most r : ℕ)
+  pub value_part : {os : List Waiting} {pc : ℕ} {w : WordState} {y : ℕ} {rest : List ℕ} {u : Core} (b : WorkRegister) (front ms : List Form) (c most r : ℕ)
       → 5 + c ≤ most → w.stack ≡ y ∷ rest → Describes z os pc w u → Stands z.code pc (front ++ ms)
       → (let ks = kept (below_top os) in let mid = pc + forms_bytes front in
       (Stands z.code pc front → Runs z.code [] (clear_cycles (below_top os) + load_cycles (top_of os)) u (Waits z ks mid (with_stack rest w) (HasWord b y)))

@@ -77,12 +77,12 @@ power_add j = pow-add 2 8 j
 abbrev swap : ℕ → ℕ
 swap v = v % 0x100 * 0x100 + v / 0x100
 
-high_byte : (v : ℕ) → v < 0x10000 → bit_and (swap v) 0xFF00 ≡ (v * 256) % 0x10000
+pub high_byte : (v : ℕ) → v < 0x10000 → bit_and (swap v) 0xFF00 ≡ (v * 256) % 0x10000
 high_byte v h =
     let e = and_high_numeral (swap v) 0xFEFF refl (omega arith) in
     omega (arith, e)
 
-low_byte : (v : ℕ) → v < 0x10000 → bit_and (swap v) 0xFF ≡ v / 256
+pub low_byte : (v : ℕ) → v < 0x10000 → bit_and (swap v) 0xFF ≡ v / 256
 low_byte v h = and_mask (swap v) 8 ∙ omega arith
 
 raised_big : (j v : ℕ) → v < 0x10000 → times j double ((v * 256) % 0x10000) ≡ (v * 2 ^ (8 + j)) % 0x10000

@@ -4,7 +4,7 @@ use Rattle.codegen.proofs.Names.{instruction_of, Condition, Runs, ◌≤◌, R4,
 use Rattle.codegen.proofs.Names.{if◌then◌else◌, List, [], ◌∷◌, ◌++◌, length, All, Some, ◌≢◌, None, refl, sym, ap, subst, arith, AllByRecursion, Effect, Core}
 use Rattle.codegen.proofs.Names.{Form, form_bytes, Move, Branch, Fram, ToFram, Stands, forms_bytes, stands_front, stands_back, forms_behind, forms_bytes-append}
 use Rattle.codegen.proofs.Names.{Comparison, is_true, compare_words, Step, Test, Program, number, load, keep, update, local, set_local, update_local, unary}
-use Rattle.codegen.proofs.Names.{binary, shift, element, emit_word, list_entry, versioned_read, versioned_write, versioned_update, sense, truth, choose, repeat}
+use Rattle.codegen.proofs.Names.{binary, shift, long, element, emit_word, list_entry, versioned_read, versioned_write, versioned_update, sense, truth, choose, repeat}
 use Rattle.codegen.proofs.Names.{store_number, move_word, jump, holds, compares, both, either, fails, nothing, step, WordState, started, End, GoesOn, Jumps}
 use Rattle.codegen.proofs.Names.{Short, Strays, Broken, Behaviour, with_stack, with_local, with_top, with_two, is_place, local_pushed, local_updated}
 use Rattle.codegen.proofs.Names.{number_pushed, way_by_top, way_by_two, step_behaviour, then_on, tested, behaviour, Place, start, assigning, Moves, EachTurn}
@@ -12,7 +12,7 @@ use Rattle.codegen.proofs.Names.{EachStepWay, EachTestWay, EachWay, StepLocalsBe
 use Rattle.codegen.proofs.Names.{StepLoopsCount, TestLoopsCount, LoopsCount, StepOfWords, TestOfWords, OfWords, top_spent, spent_by_top, spent_by_two}
 use Rattle.codegen.proofs.Names.{step_spent, spent_on, test_spent, spent, Matches, GoesWell, matches_local, start_matches, step_well, well, whole_ends_soundly}
 use Rattle.codegen.proofs.Names.{local_words, words_step, words, Leaves, leaves, Bound, Waiting, number_source, flushed, below_top, kept, top_to_four}
-use Rattle.codegen.proofs.Names.{two_to_registers, entry_code, compare_form, holding, failing, size, pass_over, decision, holds_code, compares_code, truth_code}
+use Rattle.codegen.proofs.Names.{entry_code, compare_form, holding, failing, size, pass_over, decision, holds_code, compares_code, truth_code}
 use Rattle.codegen.proofs.Names.{number_code, turns_code, waiting_behind, waiting_after, bound_of, step_code, test_code, steps_code, block_code, code_of}
 use Rattle.codegen.proofs.Names.{ComesTo, CodeDoesAsProgram}
 use Rattle.array_versions.specs.Laws.{IsStateOfWords, EndsInWords, IsSound}
@@ -25,7 +25,7 @@ use Rattle.codegen.proofs.Memory.{AreWords, place_is, assigned_same}
 use Rattle.codegen.proofs.Results.{gathered, Does, number_part, load_part, local_by, keep_reaches, update_reaches, set_reaches, update_local_reaches}
 use Rattle.codegen.proofs.Results.{unary_part, binary_part, shift_reaches, element_reaches, emit_reaches, read_reaches, write_reaches, sense_part, alone_part}
 use Rattle.codegen.proofs.Operands.{owed, owed_kept, load_owed, Describes, dressed, flush_part, top_to_four_part}
-use Rattle.codegen.proofs.Sides.{Aiming, compare_sides_part, compare_stays, side_cycles, reading_cycles, side_owed}
+use Rattle.codegen.proofs.Sides.{Aiming, compare_sides_part, compare_stays, reading_cycles, side_owed}
 use Rattle.codegen.specs.Code.{is_turned, compare_sides, compare_source}
 use Rattle.codegen.proofs.Stretches.{Setting, runs_on, nothing_run}
 use Rattle.codegen.proofs.Follows.{StandsFor, Follows, FollowsEnd, OnGoesOn, more_cycles, then_hop, ends_at, guarded, reach_more, reach_way, reaches}
@@ -36,6 +36,7 @@ use Rattle.codegen.proofs.Loops.{loop_by}
 use Rattle.codegen.proofs.Access.{entry_part}
 use Rattle.codegen.proofs.LoopBounds.{Bounded, Spared, spared_so, bounded_with, bounded_on, step_bounded}
 use Rattle.codegen.proofs.VersionUpdates.{in_place_reaches}
+use Rattle.codegen.proofs.LongResults.{long_reaches}
 
 -- a state from which what follows is fit, which holds words, and in which the local of each loop around is below its number
 record Ready (bs : List Bound) (next : Place → Type 0) (w : WordState) : Type 0 where
@@ -225,6 +226,8 @@ module _ (z : Setting) where
     step_follows bs (unary op) next os pc w u r o l c spared h d = unary_part z op os pc w w.stack u refl r.words_in.stack h d
     step_follows bs (binary op) next os pc w u r o l c spared h d = binary_part z op os pc w w.stack u refl r.words_in.stack h d
     step_follows bs (shift op k) next os pc w u r o l c spared h d = shift_reaches z op k os pc w w.stack u refl r.words_in.stack h d
+    step_follows bs (long op) next os pc w u r o l c spared h d =
+        long_reaches z op os pc w w.stack u refl r.words_in.stack (omega (arith, r.fit.1, r.matches.depth)) h d
     step_follows bs (element base size) next os pc w u r o l c spared h d =
         element_reaches z bs base size os pc w w.stack u o.1 r.bounded refl r.words_in.stack h d
     step_follows bs (emit_word count buffer) next os pc w u r o l c spared h d = emit_reaches z count buffer os pc w w.stack u refl h d

@@ -33,7 +33,9 @@ use Rattle.array_versions.specs.declared.operations.ShiftOperation.{ShiftOperati
 use Rattle.array_versions.specs.declared.operations.ShiftOperation.TheVariants.{Left, Right, SignedRight}
 use Rattle.array_versions.specs.declared.program.ArrayPlace.{ArrayPlace}
 use Rattle.array_versions.specs.declared.program.ListPlace.{ListPlace}
-use Rattle.array_versions.specs.Program.{Step, Test, Program, number, load, keep, update, local, set_local, update_local, unary, binary, shift, element}
+use Rattle.array_versions.specs.declared.operations.LongOperation.{LongOperation}
+use Rattle.array_versions.specs.declared.operations.LongOperation.TheVariants as with_longs
+use Rattle.array_versions.specs.Program.{Step, Test, Program, number, load, keep, update, local, set_local, update_local, unary, binary, shift, long, element}
 use Rattle.array_versions.specs.Program.{emit_word}
 use Rattle.array_versions.specs.Program.{list_entry}
 use Rattle.array_versions.specs.Program.{versioned_read, versioned_write, versioned_update, sense, truth, choose, repeat, store_number, move_word, jump, holds}
@@ -599,6 +601,222 @@ abbrev pub update_at : Option ℕ → Bool → List Waiting → PlainOperation �
 update_at (Some k) sure os o place list = right_to_rest os ++ known_update o (rest_source (top_of os)) place list k
 update_at None sure os o place list = update_sides os ++ indexed_update sure o (rest_source (top_of os)) place list
 
+-- ---- longs: the high word of a long is above its low one
+
+-- a long result waits: its high word in R6, its low one in R4
+abbrev pub long_waits : List Waiting → List Waiting
+long_waits os = waiting.R6 ∷ (waiting.R4 ∷ os)
+
+-- the words that wait below the two on top
+abbrev pub below_two : List Waiting → List Waiting
+below_two os = below_top (below_top os)
+
+-- a word waits in R6
+abbrev pub in_six : Option Waiting → Bool
+in_six (Some waiting.R6) = true
+in_six _ = false
+
+-- The high word of a long comes to R6 first. Where its low one waits there all words are pushed in front of that
+abbrev pub parted : Bool → List Waiting → List Form
+parted lost os = if lost then flushed os else []
+
+-- and those that go on waiting
+abbrev pub parting : Bool → List Waiting → List Waiting
+parting lost os = if lost then [] else os
+
+-- to R6
+abbrev pub six_from : Option Waiting → List Form
+six_from None = pop_to R6 ∷ []
+six_from (Some waiting.R6) = []
+six_from (Some o) = Move (waiting_source o) (ToRegister R6) ∷ []
+
+-- the long on top to R6 and R4
+abbrev pub pair_from : List Waiting → List Form
+pair_from os = six_from (top_of os) ++ four_from (top_of (below_top os))
+
+-- the same, words below it being pushed where one of them waits in a register
+abbrev pub pair_to_registers : List Waiting → List Form
+pair_to_registers os = cleared (below_two os) ++ pair_from os
+
+-- a word of the right side stays where it waits, but for registers for work; else it comes to this register
+abbrev pub side_from : WorkRegister → Option Waiting → List Form
+side_from b o = if rests o then [] else (Move (source_from o) (ToRegister b) ∷ [])
+
+-- the word then
+abbrev pub side_source : WorkRegister → Option Waiting → Source
+side_source b o = if rests o then source_from o else (Register b)
+
+-- two longs: the right side, which is on top, to where it is read, and the left one to R6 and R4
+abbrev pub long_sides : List Waiting → List Form
+long_sides os =
+    let left = below_two os in
+    cleared (below_two left) ++ ((side_from R7 (top_of os) ++ side_from R5 (top_of (below_top os))) ++ pair_from left)
+
+-- the words of the right side then
+abbrev pub high_source : List Waiting → Source
+high_source os = side_source R7 (top_of os)
+
+abbrev pub low_source : List Waiting → Source
+low_source os = side_source R5 (top_of (below_top os))
+
+-- what an operation does with the high words: sums and differences take over what the low ones carry
+abbrev pub high_instruction : PlainOperation → TwoOp
+high_instruction Add = op.Addc
+high_instruction Subtract = op.Subc
+high_instruction And = op.And
+high_instruction Xor = op.Xor
+high_instruction Or = op.Bis
+
+-- an operation on the long in R6 and R4 and one whose words are these sources
+abbrev pub long_calculation : PlainOperation → Source → Source → List Form
+long_calculation o low high = Calculate (plain_instruction o) low R4 ∷ Calculate (high_instruction o) high R6 ∷ []
+
+-- R6 becomes 65535 where there is no carry, else 0
+abbrev pub borrow_mask : Form
+borrow_mask = Calculate op.Subc (Register R6) R6
+
+-- each bit of R6 turned
+abbrev pub turn_bits : Form
+turn_bits = Calculate op.Xor (Constant konst.MinusOne) R6
+
+-- the long is below the other: their difference borrows
+abbrev pub below_code : Source → Source → List Form
+below_code low high = long_calculation Subtract low high ++ borrow_mask ∷ []
+
+-- it is above the other: their difference less 1 doesn't borrow
+abbrev pub above_code : Source → Source → List Form
+above_code low high =
+    Calculate op.Bit (Constant konst.Zero) R4 ∷ Calculate op.Subc low R4 ∷ Calculate op.Subc high R6 ∷ borrow_mask ∷ turn_bits ∷ []
+
+-- forms so many times
+abbrev pub times_code : ℕ → List Form → List Form
+times_code zero ms = []
+times_code (suc k) ms = ms ++ times_code k ms
+
+-- the long in R6 and R4 doubled
+abbrev pub long_double : List Form
+long_double = Calculate op.Add (Register R4) R4 ∷ Calculate op.Addc (Register R6) R6 ∷ []
+
+-- halved, its top bit being 0
+abbrev pub long_halve : List Form
+long_halve = Modify change.Rra R6 ∷ Modify change.Rrc R4 ∷ []
+
+-- eight bits to the left: the bytes of both words are exchanged, and the lower one of the high word then comes from the low word
+abbrev pub byte_to_left : List Form
+byte_to_left =
+    Modify change.Swpb R4 ∷ Modify change.Swpb R6 ∷ Calculate op.And (Number 0xFF00) R6 ∷ Calculate op.Add (Register R4) R6
+    ∷ Calculate op.And (Number 0xFF00) R4 ∷ Calculate op.Sub (Register R4) R6 ∷ []
+
+-- and to the right, the other way round
+abbrev pub byte_to_right : List Form
+byte_to_right =
+    Modify change.Swpb R6 ∷ Modify change.Swpb R4 ∷ Calculate op.And (Number 0xFF) R4 ∷ Calculate op.Add (Register R6) R4
+    ∷ Calculate op.And (Number 0xFF) R6 ∷ Calculate op.Sub (Register R6) R4 ∷ []
+
+-- to the right by fewer than 8 bits: first a 0 comes in
+abbrev pub long_right_code : ℕ → List Form
+long_right_code zero = []
+long_right_code (suc k) =
+    Calculate op.Bit (Constant konst.Zero) R4 ∷ Modify change.Rrc R6 ∷ Modify change.Rrc R4 ∷ times_code k long_halve
+
+-- a long shifted by fewer than 16 bits
+abbrev pub left_by : ℕ → List Form
+left_by k = if nat_lt k 8 then times_code k long_double else (byte_to_left ++ times_code (k - 8) long_double)
+
+abbrev pub right_by : ℕ → List Form
+right_by k = if nat_lt k 8 then long_right_code k else (byte_to_right ++ times_code (k - 8) long_halve)
+
+-- the top isn't wanted: where it doesn't wait it is popped
+abbrev pub dropped : Option Waiting → List Form
+dropped None = pop_to R5 ∷ []
+dropped (Some o) = []
+
+-- the top comes to wait where it doesn't
+abbrev pub lifted : Option Waiting → List Form
+lifted None = pop_to R4 ∷ []
+lifted (Some o) = []
+
+abbrev pub lifted_word : Option Waiting → Waiting
+lifted_word None = waiting.R4
+lifted_word (Some o) = o
+
+-- of the long on top the high word
+abbrev pub high_code : List Waiting → List Form
+high_code os = lifted (top_of os) ++ dropped (top_of (below_top os))
+
+abbrev pub high_behind : List Waiting → List Waiting
+high_behind os = lifted_word (top_of os) ∷ below_two os
+
+-- the low word of the long on top waits in R6
+abbrev pub pair_lost : List Waiting → Bool
+pair_lost os = in_six (top_of (below_top os))
+
+-- the long on top to R6 and R4, and what is made of it there
+abbrev pub short_code : List Waiting → List Form → List Form
+short_code os ms = let lost = pair_lost os in parted lost os ++ (pair_to_registers (parting lost os) ++ ms)
+
+abbrev pub short_behind : List Waiting → List Waiting
+short_behind os = long_waits (kept (below_two (parting (pair_lost os) os)))
+
+-- a shift of the long on top, by whether it is by fewer than 16 bits; else one word is 0, and the other is the other one, shifted by those
+-- that are left
+abbrev pub left_code : Bool → List Waiting → ℕ → List Form
+left_code true os k = short_code os (left_by k)
+left_code false os k = dropped (top_of os) ++ (top_to_four (below_top os) ++ shift_middle Left (k - 16))
+
+abbrev pub left_behind : Bool → List Waiting → List Waiting
+left_behind true os = short_behind os
+left_behind false os = waiting.R4 ∷ (waiting.Number 0 ∷ kept (below_two os))
+
+abbrev pub right_shift_code : Bool → List Waiting → ℕ → List Form
+right_shift_code true os k = short_code os (right_by k)
+right_shift_code false os k = high_code os ++ (top_to_four (high_behind os) ++ shift_middle Right (k - 16))
+
+abbrev pub right_behind : Bool → List Waiting → List Waiting
+right_behind true os = short_behind os
+right_behind false os = waiting.Number 0 ∷ (waiting.R4 ∷ kept (below_two os))
+
+-- an int in R4 becomes long: what its double carries is its sign
+abbrev pub widen_code : List Form
+widen_code = Move (Register R4) (ToRegister R6) ∷ Calculate op.Add (Register R6) R6 ∷ borrow_mask ∷ turn_bits ∷ []
+
+-- the low word of the left one of two longs waits in R6
+abbrev pub longs_lost : List Waiting → Bool
+longs_lost os = in_six (top_of (below_top (below_two os)))
+
+-- an operation on two longs, by what is made of the left one in R6 and R4 and of where the low and the high word of the right one are read
+abbrev pub longs_code : (Source → Source → List Form) → List Waiting → List Form
+longs_code made os =
+    let lost = longs_lost os in
+    let ps = parting lost os in
+    parted lost os ++ (long_sides ps ++ made (low_source ps) (high_source ps))
+
+-- the words that wait below them then
+abbrev pub longs_under : List Waiting → List Waiting
+longs_under os = kept (below_two (below_two (parting (longs_lost os) os)))
+
+-- the code of an operation with longs
+abbrev pub long_code : LongOperation → List Waiting → List Form
+long_code (with_longs.Calculate o) os = longs_code (long_calculation o) os
+long_code with_longs.Below os = longs_code below_code os
+long_code with_longs.Above os = longs_code above_code os
+long_code (with_longs.ShiftLeft k) os = left_code (nat_lt k 16) os k
+long_code (with_longs.ShiftRight k) os = right_shift_code (nat_lt k 16) os k
+long_code with_longs.Widen os = top_to_four os ++ widen_code
+long_code with_longs.LowWord os = dropped (top_of os)
+long_code with_longs.HighWord os = high_code os
+
+-- and what waits behind it
+abbrev pub long_behind : LongOperation → List Waiting → List Waiting
+long_behind (with_longs.Calculate o) os = long_waits (longs_under os)
+long_behind with_longs.Below os = waiting.R6 ∷ longs_under os
+long_behind with_longs.Above os = waiting.R6 ∷ longs_under os
+long_behind (with_longs.ShiftLeft k) os = left_behind (nat_lt k 16) os
+long_behind (with_longs.ShiftRight k) os = right_behind (nat_lt k 16) os
+long_behind with_longs.Widen os = long_waits (kept (below_top os))
+long_behind with_longs.LowWord os = below_top os
+long_behind with_longs.HighWord os = high_behind os
+
 -- a local is pushed where it stands in RAM
 abbrev pub local_code : List Waiting → ℕ → List Form
 local_code os n = if nat_lt n 8 then [] else (flushed os ++ Push (Ram (local_address n)) ∷ [])
@@ -611,6 +829,7 @@ waiting_behind os (local n) = if nat_lt n 8 then waiting.Local n ∷ os else []
 waiting_behind os (unary operation) = waiting.R4 ∷ kept (below_top os)
 waiting_behind os (binary operation) = power_result (top_power (top_of os)) operation ∷ kept (below_top (below_top os))
 waiting_behind os (shift operation k) = waiting.R4 ∷ kept (below_top os)
+waiting_behind os (long operation) = long_behind operation os
 waiting_behind os (element base length) = element_behind (top_number (top_of os)) os base length
 waiting_behind os (versioned_read place list) = waiting.R4 ∷ kept (below_top os)
 waiting_behind os sense = waiting.R4 ∷ kept os
@@ -634,6 +853,7 @@ abbrev mutual
   step_code bs os (unary operation) = top_to_five os ++ unary_middle operation
   step_code bs os (binary operation) = power_code (top_power (top_of os)) os operation
   step_code bs os (shift operation k) = top_to_four os ++ shift_middle operation k
+  step_code bs os (long operation) = long_code operation os
   step_code bs os (element base length) =
       element_at (is_inside bs (top_of os) length) (top_number (top_of os)) os base length
   step_code bs os (emit_word count buffer) = (top_to_five os ++ flushed (kept (below_top os))) ++ emit_code count buffer

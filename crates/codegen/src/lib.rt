@@ -6,6 +6,7 @@ mod decisions;
 mod forms;
 mod in_place;
 pub mod laws;
+mod longs;
 mod operations;
 mod program;
 mod shifts;
@@ -15,7 +16,7 @@ mod waiting;
 
 // What the word programs that `emit` takes are made of, and what it makes of them.
 pub use array_versions::{
-    BinaryOperation, Comparison, PlainOperation, WordProgram, WordStep, WordTest,
+    BinaryOperation, Comparison, LongOperation, PlainOperation, WordProgram, WordStep, WordTest,
 };
 pub use msp_isa::Instr;
 pub use program::emit;

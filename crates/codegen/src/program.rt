@@ -12,6 +12,7 @@ use crate::bounds::{Bound, bounds_within};
 use crate::decisions::{code_words, emit_compares, emit_holds, emit_jump_back, emit_pass_over};
 use crate::forms::{constant, jump, push};
 use crate::in_place::emit_versioned_update;
+use crate::longs::emit_long;
 use crate::operations::{emit_binary, emit_unary};
 use crate::shifts::emit_shift;
 use crate::steps::{
@@ -170,6 +171,7 @@ fn emit_step(
         WordStep::Unary(operation) => emit_unary(*operation, waiting, code),
         WordStep::Binary(operation) => emit_binary(*operation, waiting, code),
         WordStep::Shift(operation, count) => emit_shift(*operation, *count, waiting, code),
+        WordStep::Long(operation) => emit_long(*operation, waiting, code),
         WordStep::Element { base, length } => emit_element(bounds, *base, *length, waiting, code),
         WordStep::EmitWord { count, buffer } => emit_emit(*count, *buffer, waiting, code),
         WordStep::VersionedRead(place, list) => {

@@ -89,8 +89,8 @@ fn emit_signed_right_by(count: u16, code: &mut Vec<Instr>) -> Result<(), AllocEr
     }
 }
 
-// The shift of R4.
-fn emit_shift_middle(
+/// Appends the shift of R4.
+pub fn emit_shift_middle(
     operation: ShiftOperation,
     count: u16,
     code: &mut Vec<Instr>,

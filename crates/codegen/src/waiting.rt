@@ -28,8 +28,8 @@ pub enum Waiting {
     R6,
 }
 
-// A word that waits, as a source.
-fn waiting_source(word: Waiting) -> Src
+/// A word that waits, as a source.
+pub fn waiting_source(word: Waiting) -> Src
     ensures { result ≡ source_operand (made.waiting_source word) }
 {
     match word {
@@ -41,8 +41,8 @@ fn waiting_source(word: Waiting) -> Src
     }
 }
 
-// The top as a source: where it doesn't wait it is popped.
-fn source_from(top: Option<Waiting>) -> Src
+/// The top as a source: where it doesn't wait it is popped.
+pub fn source_from(top: Option<Waiting>) -> Src
     ensures { result ≡ source_operand (made.source_from top) }
 {
     match top {
@@ -180,8 +180,8 @@ pub fn emit_sides(waiting: &mut Vec<Waiting>, code: &mut Vec<Instr>) -> Result<S
     Ok(source)
 }
 
-// The right side of an update stays where it waits, but for registers for work.
-fn rests(right: Option<Waiting>) -> bool
+/// A right side stays where it waits, but for registers for work.
+pub fn rests(right: Option<Waiting>) -> bool
     ensures { result ≡ rests right }
 {
     match right {

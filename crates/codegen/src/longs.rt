@@ -1,0 +1,521 @@
+//! The code of operations with longs: on the stack the high word of a long is above its low one.
+
+ghost use Rattle.std.specs.Prelude.{◌≡◌, ◌++◌, ◌∷◌, [], ◌≤◌, false, OnOk, IfOk};
+ghost use Rattle.code_forms.specs.Forms as form;
+ghost use Rattle.code_forms.specs.Forms.{source_operand};
+ghost use Rattle.code_forms.specs.Placed.{instructions};
+ghost use Rattle.array_versions.specs.Form.{StepOfWords};
+ghost use Rattle.array_versions.specs.Program as value;
+ghost use Rattle.array_versions.specs.declared.operations.LongOperation.TheVariants as long_op;
+ghost use Rattle.codegen.specs.Code as made;
+ghost use Rattle.codegen.specs.Code.{top_of, below_top, below_two, in_six, parted, parting, six_from, four_from, pair_to_registers, kept, side_from, side_source};
+ghost use Rattle.codegen.specs.Code.{long_sides, high_source, low_source, high_instruction, long_waits, longs_code, longs_under, long_calculation, below_code};
+ghost use Rattle.codegen.specs.Code.{above_code, times_code, long_double, long_halve, byte_to_left, byte_to_right, long_right_code, left_by, right_by, dropped};
+ghost use Rattle.codegen.specs.Code.{lifted, high_code, high_behind, pair_lost, short_code, short_behind, left_code, left_behind, right_shift_code, right_behind};
+ghost use Rattle.codegen.specs.Code.{widen_code, longs_lost, long_code, long_behind, step_code, waiting_behind, shift_middle, top_to_four};
+ghost use Rattle.array_versions.specs.declared.operations.ShiftOperation.TheVariants as shift_op;
+
+use crate::forms::{POPPED, R4, R6, R7, TO_R4, TO_R5, TO_R6, TO_R7, constant, two};
+use crate::operations::plain_instruction;
+use crate::shifts::emit_shift_middle;
+use crate::waiting::{
+    Waiting, emit_all, emit_cleared, emit_to_four, emit_to_rest, emit_top_to_four, rest_source,
+    rests, source_from, take, top, under_top, wait, waiting_source,
+};
+use array_versions::{LongOperation, PlainOperation, ShiftOperation};
+use msp_isa::{IndexRegister, Instr, Konst, OneOp, Operand, SourceRegister, Src, TwoOp, Width};
+use std::alloc::AllocError;
+
+const IN_R4: Operand = Operand::Reg(SourceRegister::Index(IndexRegister::R4));
+
+const IN_R6: Operand = Operand::Reg(SourceRegister::Index(IndexRegister::R6));
+
+// Where the words of the right one of two longs are read.
+#[derive(Clone, Copy)]
+struct RightLong {
+    low: Src,
+    high: Src,
+}
+
+// ---- words to registers
+
+// A word waits in R6.
+fn in_six(word: Option<Waiting>) -> bool
+    ensures { result ≡ in_six word }
+{
+    match word {
+        Some(Waiting::R6) => true,
+        None | Some(Waiting::Number(_) | Waiting::Fram(_) | Waiting::Local(_) | Waiting::R4) => {
+            false
+        }
+    }
+}
+
+// The fourth word from the top, where all four wait.
+fn fourth(waiting: &[Waiting]) -> Option<Waiting>
+    ensures { result ≡ top_of (below_top (below_two waiting.now)) }
+{
+    match waiting.get(3) {
+        Some(word) => Some(*word),
+        None => None,
+    }
+}
+
+// The high word of a long comes to R6 first: where its low one waits there all words are pushed.
+fn emit_parted(
+    lost: bool,
+    waiting: &mut Vec<Waiting>,
+    code: &mut Vec<Instr>,
+) -> Result<(), AllocError>
+    ensures code { OnOk result (code.new.items ≡ code.old.items ++ instructions (parted lost waiting.old.items)) }
+    ensures waiting { OnOk result (waiting.new.items ≡ parting lost waiting.old.items) }
+{
+    if lost {
+        emit_all(waiting, code)
+    } else {
+        Ok(())
+    }
+}
+
+// A word, which is taken, to R6.
+fn emit_to_six(word: Option<Waiting>, code: &mut Vec<Instr>) -> Result<(), AllocError>
+    ensures { OnOk result (code.new.items ≡ code.old.items ++ instructions (six_from word)) }
+{
+    match word {
+        None => code.extend_from_slice(&[two(TwoOp::Mov, POPPED, TO_R6)]),
+        Some(Waiting::R6) => Ok(()),
+        Some(word) => code.extend_from_slice(&[two(TwoOp::Mov, waiting_source(word), TO_R6)]),
+    }
+}
+
+// Both words of a long, which are taken, to R6 and R4.
+fn emit_pair(
+    high: Option<Waiting>,
+    low: Option<Waiting>,
+    code: &mut Vec<Instr>,
+) -> Result<(), AllocError>
+    ensures { OnOk result (code.new.items ≡ code.old.items ++ instructions (six_from high ++ four_from low)) }
+{
+    emit_to_six(high, code)?;
+    emit_to_four(low, code)
+}
+
+// Takes the long on top to R6 and R4.
+fn emit_pair_to_registers(
+    waiting: &mut Vec<Waiting>,
+    code: &mut Vec<Instr>,
+) -> Result<(), AllocError>
+    ensures code { OnOk result (code.new.items ≡ code.old.items ++ instructions (pair_to_registers waiting.old.items)) }
+    ensures waiting { OnOk result (waiting.new.items ≡ kept (below_two waiting.old.items)) }
+{
+    let high = take(waiting);
+    let low = take(waiting);
+    emit_cleared(waiting, code)?;
+    emit_pair(high, low, code)
+}
+
+// The high word of the right side, which is taken, to where it is read.
+fn emit_high_side(word: Option<Waiting>, code: &mut Vec<Instr>) -> Result<Src, AllocError>
+    ensures source { IfOk result (λ source. source ≡ source_operand (side_source form.R7 word)) }
+    ensures code { OnOk result (code.new.items ≡ code.old.items ++ instructions (side_from form.R7 word)) }
+{
+    if rests(word) {
+        return Ok(source_from(word));
+    }
+    code.extend_from_slice(&[two(TwoOp::Mov, source_from(word), TO_R7)])?;
+    Ok(R7)
+}
+
+// Both words of the right side, which are taken, to where they are read.
+fn emit_right(
+    high: Option<Waiting>,
+    low: Option<Waiting>,
+    code: &mut Vec<Instr>,
+) -> Result<RightLong, AllocError>
+    ensures high { IfOk result (λ right. right.high ≡ source_operand (side_source form.R7 high)) }
+    ensures low { IfOk result (λ right. right.low ≡ source_operand (side_source form.R5 low)) }
+    ensures code { OnOk result (code.new.items
+        ≡ code.old.items ++ instructions (side_from form.R7 high ++ side_from form.R5 low)) }
+{
+    let source = emit_high_side(high, code)?;
+    emit_to_rest(low, code)?;
+    Ok(RightLong {
+        low: rest_source(low),
+        high: source,
+    })
+}
+
+// Takes two longs: the right one, which is on top, to where it is read, and the left one to R6 and R4.
+fn emit_long_sides(
+    waiting: &mut Vec<Waiting>,
+    code: &mut Vec<Instr>,
+) -> Result<RightLong, AllocError>
+    ensures high { IfOk result (λ right. right.high ≡ source_operand (high_source waiting.old.items)) }
+    ensures low { IfOk result (λ right. right.low ≡ source_operand (low_source waiting.old.items)) }
+    ensures code { OnOk result (code.new.items ≡ code.old.items ++ instructions (long_sides waiting.old.items)) }
+    ensures waiting { OnOk result (waiting.new.items ≡ kept (below_two (below_two waiting.old.items))) }
+{
+    let high = take(waiting);
+    let low = take(waiting);
+    let left_high = take(waiting);
+    let left_low = take(waiting);
+    emit_cleared(waiting, code)?;
+    let right = emit_right(high, low, code)?;
+    emit_pair(left_high, left_low, code)?;
+    Ok(right)
+}
+
+// The same, what waits being pushed where the low word of the left one would be lost.
+fn emit_longs(waiting: &mut Vec<Waiting>, code: &mut Vec<Instr>) -> Result<RightLong, AllocError>
+    ensures high { IfOk result (λ right. let os = waiting.old.items in
+        right.high ≡ source_operand (high_source (parting (longs_lost os) os))) }
+    ensures low { IfOk result (λ right. let os = waiting.old.items in
+        right.low ≡ source_operand (low_source (parting (longs_lost os) os))) }
+    ensures code { OnOk result (let os = waiting.old.items in code.new.items
+        ≡ code.old.items ++ instructions (parted (longs_lost os) os ++ long_sides (parting (longs_lost os) os))) }
+    ensures waiting { OnOk result (waiting.new.items ≡ longs_under waiting.old.items) }
+{
+    let lost = in_six(fourth(waiting));
+    emit_parted(lost, waiting, code)?;
+    emit_long_sides(waiting, code)
+}
+
+// A long result waits.
+fn wait_long(waiting: &mut Vec<Waiting>) -> Result<(), AllocError>
+    ensures { OnOk result (waiting.new.items ≡ long_waits waiting.old.items) }
+{
+    wait(Waiting::R4, waiting)?;
+    wait(Waiting::R6, waiting)
+}
+
+// ---- two longs
+
+// What an operation does with the high words.
+fn high_instruction(operation: PlainOperation) -> TwoOp
+    ensures { result ≡ high_instruction operation }
+{
+    match operation {
+        PlainOperation::Add => TwoOp::Addc,
+        PlainOperation::Subtract => TwoOp::Subc,
+        PlainOperation::And => TwoOp::And,
+        PlainOperation::Xor => TwoOp::Xor,
+        PlainOperation::Or => TwoOp::Bis,
+    }
+}
+
+// An operation on two longs.
+fn emit_calculation(
+    operation: PlainOperation,
+    waiting: &mut Vec<Waiting>,
+    code: &mut Vec<Instr>,
+) -> Result<(), AllocError>
+    ensures code { OnOk result (code.new.items
+        ≡ code.old.items ++ instructions (long_code (long_op.Calculate operation) waiting.old.items)) }
+    ensures waiting { OnOk result (waiting.new.items ≡ long_behind (long_op.Calculate operation) waiting.old.items) }
+{
+    let right = emit_longs(waiting, code)?;
+    code.extend_from_slice(&[
+        two(plain_instruction(operation), right.low, TO_R4),
+        two(high_instruction(operation), right.high, TO_R6),
+    ])?;
+    wait_long(waiting)
+}
+
+// Whether the left one of two longs is below the right one: their difference borrows.
+fn emit_below(waiting: &mut Vec<Waiting>, code: &mut Vec<Instr>) -> Result<(), AllocError>
+    ensures code { OnOk result (code.new.items ≡ code.old.items ++ instructions (long_code long_op.Below waiting.old.items)) }
+    ensures waiting { OnOk result (waiting.new.items ≡ long_behind long_op.Below waiting.old.items) }
+{
+    let right = emit_longs(waiting, code)?;
+    code.extend_from_slice(&[
+        two(TwoOp::Sub, right.low, TO_R4),
+        two(TwoOp::Subc, right.high, TO_R6),
+        two(TwoOp::Subc, R6, TO_R6),
+    ])?;
+    wait(Waiting::R6, waiting)
+}
+
+// Whether it is above it: their difference less 1 doesn't borrow.
+fn emit_above(waiting: &mut Vec<Waiting>, code: &mut Vec<Instr>) -> Result<(), AllocError>
+    ensures code { OnOk result (code.new.items ≡ code.old.items ++ instructions (long_code long_op.Above waiting.old.items)) }
+    ensures waiting { OnOk result (waiting.new.items ≡ long_behind long_op.Above waiting.old.items) }
+{
+    let right = emit_longs(waiting, code)?;
+    code.extend_from_slice(&[
+        two(TwoOp::Bit, constant(Konst::Zero), TO_R4),
+        two(TwoOp::Subc, right.low, TO_R4),
+        two(TwoOp::Subc, right.high, TO_R6),
+        two(TwoOp::Subc, R6, TO_R6),
+        two(TwoOp::Xor, constant(Konst::MinusOne), TO_R6),
+    ])?;
+    wait(Waiting::R6, waiting)
+}
+
+// ---- shifts
+
+// The long in R6 and R4 doubled so many times.
+fn emit_long_doubles(count: u16, code: &mut Vec<Instr>) -> Result<(), AllocError>
+    ensures { OnOk result (code.new.items ≡ code.old.items ++ instructions (times_code count long_double)) }
+{
+    for i in 0..count {
+        code.extend_from_slice(&[two(TwoOp::Add, R4, TO_R4), two(TwoOp::Addc, R6, TO_R6)])?;
+    }
+    Ok(())
+}
+
+// Halved so many times, its top bit being 0.
+fn emit_long_halves(count: u16, code: &mut Vec<Instr>) -> Result<(), AllocError>
+    ensures { OnOk result (code.new.items ≡ code.old.items ++ instructions (times_code count long_halve)) }
+{
+    for i in 0..count {
+        code.extend_from_slice(&[
+            Instr::One(OneOp::Rra(Width::Word, IN_R6)),
+            Instr::One(OneOp::Rrc(Width::Word, IN_R4)),
+        ])?;
+    }
+    Ok(())
+}
+
+// To the left by fewer than 16 bits.
+fn emit_left_by(count: u16, code: &mut Vec<Instr>) -> Result<(), AllocError>
+    ensures { OnOk result (code.new.items ≡ code.old.items ++ instructions (left_by count)) }
+{
+    if count < 8 {
+        return emit_long_doubles(count, code);
+    }
+    code.extend_from_slice(&[
+        Instr::One(OneOp::Swpb(IN_R4)),
+        Instr::One(OneOp::Swpb(IN_R6)),
+        two(TwoOp::And, Src::Immediate(0xff00), TO_R6),
+        two(TwoOp::Add, R4, TO_R6),
+        two(TwoOp::And, Src::Immediate(0xff00), TO_R4),
+        two(TwoOp::Sub, R4, TO_R6),
+    ])?;
+    emit_long_doubles(count - 8, code)
+}
+
+// To the right by fewer than 8 bits.
+fn emit_low_right(count: u16, code: &mut Vec<Instr>) -> Result<(), AllocError>
+    ensures { OnOk result (code.new.items ≡ code.old.items ++ instructions (long_right_code count)) }
+{
+    if count == 0 {
+        return Ok(());
+    }
+    code.extend_from_slice(&[
+        two(TwoOp::Bit, constant(Konst::Zero), TO_R4),
+        Instr::One(OneOp::Rrc(Width::Word, IN_R6)),
+        Instr::One(OneOp::Rrc(Width::Word, IN_R4)),
+    ])?;
+    emit_long_halves(count - 1, code)
+}
+
+// To the right by fewer than 16 bits.
+fn emit_right_by(count: u16, code: &mut Vec<Instr>) -> Result<(), AllocError>
+    ensures { OnOk result (code.new.items ≡ code.old.items ++ instructions (right_by count)) }
+{
+    if count < 8 {
+        return emit_low_right(count, code);
+    }
+    code.extend_from_slice(&[
+        Instr::One(OneOp::Swpb(IN_R6)),
+        Instr::One(OneOp::Swpb(IN_R4)),
+        two(TwoOp::And, Src::Immediate(0xff), TO_R4),
+        two(TwoOp::Add, R6, TO_R4),
+        two(TwoOp::And, Src::Immediate(0xff), TO_R6),
+        two(TwoOp::Sub, R6, TO_R4),
+    ])?;
+    emit_long_halves(count - 8, code)
+}
+
+// Takes the long on top to R6 and R4, what waits being pushed where its low word would be lost.
+fn emit_parted_pair(waiting: &mut Vec<Waiting>, code: &mut Vec<Instr>) -> Result<(), AllocError>
+    ensures code { OnOk result (let os = waiting.old.items in code.new.items
+        ≡ code.old.items ++ instructions (parted (pair_lost os) os ++ pair_to_registers (parting (pair_lost os) os))) }
+    ensures waiting { OnOk result (let os = waiting.old.items in waiting.new.items ≡ kept (below_two (parting (pair_lost os) os))) }
+{
+    let lost = in_six(under_top(waiting));
+    emit_parted(lost, waiting, code)?;
+    emit_pair_to_registers(waiting, code)
+}
+
+// The top isn't wanted.
+fn emit_dropped(top: Option<Waiting>, code: &mut Vec<Instr>) -> Result<(), AllocError>
+    ensures { OnOk result (code.new.items ≡ code.old.items ++ instructions (dropped top)) }
+{
+    match top {
+        None => code.extend_from_slice(&[two(TwoOp::Mov, POPPED, TO_R5)]),
+        Some(_) => Ok(()),
+    }
+}
+
+// The top comes to wait where it doesn't.
+fn emit_lifted(top: Option<Waiting>, code: &mut Vec<Instr>) -> Result<Waiting, AllocError>
+    ensures word { IfOk result (λ word. word ≡ made.lifted_word top) }
+    ensures code { OnOk result (code.new.items ≡ code.old.items ++ instructions (lifted top)) }
+{
+    match top {
+        None => {
+            code.extend_from_slice(&[two(TwoOp::Mov, POPPED, TO_R4)])?;
+            Ok(Waiting::R4)
+        }
+        Some(word) => Ok(word),
+    }
+}
+
+// Of the long on top the high word.
+fn emit_high(waiting: &mut Vec<Waiting>, code: &mut Vec<Instr>) -> Result<(), AllocError>
+    ensures code { OnOk result (code.new.items ≡ code.old.items ++ instructions (high_code waiting.old.items)) }
+    ensures waiting { OnOk result (waiting.new.items ≡ high_behind waiting.old.items) }
+{
+    let high = take(waiting);
+    let low = take(waiting);
+    let word = emit_lifted(high, code)?;
+    emit_dropped(low, code)?;
+    wait(word, waiting)
+}
+
+// A shift of the long on top to the left by fewer than 16 bits.
+fn emit_short_left(
+    count: u16,
+    waiting: &mut Vec<Waiting>,
+    code: &mut Vec<Instr>,
+) -> Result<(), AllocError>
+    ensures code { OnOk result (code.new.items ≡ code.old.items ++ instructions (short_code waiting.old.items (left_by count))) }
+    ensures waiting { OnOk result (waiting.new.items ≡ short_behind waiting.old.items) }
+{
+    emit_parted_pair(waiting, code)?;
+    emit_left_by(count, code)?;
+    wait_long(waiting)
+}
+
+// To the left by more: the low word is 0.
+fn emit_far_left(
+    count: u16,
+    waiting: &mut Vec<Waiting>,
+    code: &mut Vec<Instr>,
+) -> Result<(), AllocError>
+    requires { 16 ≤ count }
+    ensures code { OnOk result (code.new.items ≡ code.old.items ++ instructions (left_code false waiting.old.items count)) }
+    ensures waiting { OnOk result (waiting.new.items ≡ left_behind false waiting.old.items) }
+{
+    let high = take(waiting);
+    emit_dropped(high, code)?;
+    emit_top_to_four(waiting, code)?;
+    emit_shift_middle(ShiftOperation::Left, count - 16, code)?;
+    wait(Waiting::Number(0), waiting)?;
+    wait(Waiting::R4, waiting)
+}
+
+// A shift of the long on top to the right by fewer than 16 bits.
+fn emit_short_right(
+    count: u16,
+    waiting: &mut Vec<Waiting>,
+    code: &mut Vec<Instr>,
+) -> Result<(), AllocError>
+    ensures code { OnOk result (code.new.items ≡ code.old.items ++ instructions (short_code waiting.old.items (right_by count))) }
+    ensures waiting { OnOk result (waiting.new.items ≡ short_behind waiting.old.items) }
+{
+    emit_parted_pair(waiting, code)?;
+    emit_right_by(count, code)?;
+    wait_long(waiting)
+}
+
+// To the right by more: the high word is 0.
+fn emit_far_right(
+    count: u16,
+    waiting: &mut Vec<Waiting>,
+    code: &mut Vec<Instr>,
+) -> Result<(), AllocError>
+    requires { 16 ≤ count }
+    ensures code { OnOk result (code.new.items ≡ code.old.items ++ instructions (right_shift_code false waiting.old.items count)) }
+    ensures waiting { OnOk result (waiting.new.items ≡ right_behind false waiting.old.items) }
+{
+    emit_high(waiting, code)?;
+    emit_top_to_four(waiting, code)?;
+    emit_shift_middle(ShiftOperation::Right, count - 16, code)?;
+    wait(Waiting::R4, waiting)?;
+    wait(Waiting::Number(0), waiting)
+}
+
+// A shift of the long on top to the left.
+fn emit_long_left(
+    count: u16,
+    waiting: &mut Vec<Waiting>,
+    code: &mut Vec<Instr>,
+) -> Result<(), AllocError>
+    ensures code { OnOk result (code.new.items
+        ≡ code.old.items ++ instructions (long_code (long_op.ShiftLeft count) waiting.old.items)) }
+    ensures waiting { OnOk result (waiting.new.items ≡ long_behind (long_op.ShiftLeft count) waiting.old.items) }
+{
+    if count < 16 {
+        emit_short_left(count, waiting, code)
+    } else {
+        emit_far_left(count, waiting, code)
+    }
+}
+
+// And to the right.
+fn emit_long_right(
+    count: u16,
+    waiting: &mut Vec<Waiting>,
+    code: &mut Vec<Instr>,
+) -> Result<(), AllocError>
+    ensures code { OnOk result (code.new.items
+        ≡ code.old.items ++ instructions (long_code (long_op.ShiftRight count) waiting.old.items)) }
+    ensures waiting { OnOk result (waiting.new.items ≡ long_behind (long_op.ShiftRight count) waiting.old.items) }
+{
+    if count < 16 {
+        emit_short_right(count, waiting, code)
+    } else {
+        emit_far_right(count, waiting, code)
+    }
+}
+
+// ---- one word and two
+
+// The int on top as a long.
+fn emit_widen(waiting: &mut Vec<Waiting>, code: &mut Vec<Instr>) -> Result<(), AllocError>
+    ensures code { OnOk result (code.new.items ≡ code.old.items ++ instructions (long_code long_op.Widen waiting.old.items)) }
+    ensures waiting { OnOk result (waiting.new.items ≡ long_behind long_op.Widen waiting.old.items) }
+{
+    emit_top_to_four(waiting, code)?;
+    code.extend_from_slice(&[
+        two(TwoOp::Mov, R4, TO_R6),
+        two(TwoOp::Add, R6, TO_R6),
+        two(TwoOp::Subc, R6, TO_R6),
+        two(TwoOp::Xor, constant(Konst::MinusOne), TO_R6),
+    ])?;
+    wait_long(waiting)
+}
+
+// The low word of the long on top.
+fn emit_low(waiting: &mut Vec<Waiting>, code: &mut Vec<Instr>) -> Result<(), AllocError>
+    ensures code { OnOk result (code.new.items ≡ code.old.items ++ instructions (dropped (top_of waiting.old.items))) }
+    ensures waiting { OnOk result (waiting.new.items ≡ below_top waiting.old.items) }
+{
+    let high = take(waiting);
+    emit_dropped(high, code)
+}
+
+/// Appends the code of an operation with longs.
+pub fn emit_long(
+    operation: LongOperation,
+    waiting: &mut Vec<Waiting>,
+    code: &mut Vec<Instr>,
+) -> Result<(), AllocError>
+    ensures code { OnOk result (code.new.items
+        ≡ code.old.items ++ instructions (step_code [] waiting.old.items (value.long operation))) }
+    ensures waiting { OnOk result (waiting.new.items ≡ waiting_behind waiting.old.items (value.long operation)) }
+    ensures of_words { OnOk result (StepOfWords (value.long operation)) }
+{
+    match operation {
+        LongOperation::Calculate(operation) => emit_calculation(operation, waiting, code),
+        LongOperation::Below => emit_below(waiting, code),
+        LongOperation::Above => emit_above(waiting, code),
+        LongOperation::ShiftLeft(count) => emit_long_left(count, waiting, code),
+        LongOperation::ShiftRight(count) => emit_long_right(count, waiting, code),
+        LongOperation::Widen => emit_widen(waiting, code),
+        LongOperation::LowWord => emit_low(waiting, code),
+        LongOperation::HighWord => emit_high(waiting, code),
+    }
+}
