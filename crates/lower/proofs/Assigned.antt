@@ -4,10 +4,10 @@ use Rattle.task_ast.specs.Paths.{CheckedExpression}
 use Rattle.task_ast.specs.declared.WordType.{WordType}
 use Rattle.task_ast.specs.declared.WordType.TheVariants.{Unsigned, Int, Long}
 use Rattle.task_ast.specs.declared.names.Variable.{Variable}
-use Rattle.task_ast.specs.declared.names.Variable.TheVariants.{Shared, Local}
+use Rattle.task_ast.specs.declared.names.Variable.TheVariants.{Shared}
 use Rattle.task_ast.specs.Types.{IsOneWord, type_of, by_width}
 use Rattle.source_values.specs.Values.{Variables, with_word, converted, value_of}
-use Rattle.source_values.specs.Statements.{Attempt, Outcome, goes_on, if_value, assigned, word_of}
+use Rattle.source_values.specs.Statements.{Attempt, Outcome, if_value, assigned}
 use Rattle.lower.specs.Agreement.{converted_to}
 
 -- the value of an expression as one word

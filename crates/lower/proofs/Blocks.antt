@@ -36,7 +36,8 @@ use Rattle.lower.specs.Lowered.{index_and_value, element_setting, element_updati
 use Rattle.lower.specs.Lowered.{lowered_transition, lowered_expression, lowered_test}
 use Rattle.lower.specs.Lowered.{lowered_statement, lowered_choice, lowered_block, lowered_task, lowered_tasks}
 use Rattle.lower.specs.Spots.{listed_of}
-use Rattle.lower.specs.Agreement.{HoldVariables, IsTarget, IsWrittenArray, IsLocal, ExpressionFits, StatementFits, ChoiceFits, BlockFits, StandsFor, at_variable}
+use Rattle.lower.specs.Agreement.{HoldVariables, IsTarget, IsWrittenArray, IsLocal, ExpressionFits, StatementFits, ChoiceFits, BlockFits, StandsFor}
+use Rattle.lower.specs.Agreement.{at_variable}
 use Rattle.lower.specs.Agreement.{IsLongTarget, IsTargetOf, at_emit_count, in_buffer, valued, long_valued, converted_to, truth_of, AgreesWithValue}
 use Rattle.lower.specs.Agreement.{AgreesWithLong, BlocksAgree}
 use Rattle.lower.proofs.Addresses.{fram_place, placed, spot_place, first_address}

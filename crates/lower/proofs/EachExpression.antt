@@ -1,5 +1,5 @@
 -- The programs of expressions leave their values.
-use Rattle.std.proofs.Common.{◌≡◌, ℕ, ◌+◌, ◌%◌, List, Option, Some, None, false, if◌then◌else◌, refl, sym, ap, ◌∙◌, subst, arith}
+use Rattle.std.proofs.Common.{◌≡◌, ℕ, List, Option, Some, None, Bool, true, false, nat_le, nat_lt, if◌then◌else◌, refl, sym, ap, ◌∙◌, subst, arith}
 use Rattle.task_ast.specs.Tree as t
 use Rattle.task_ast.specs.Paths.{CheckedExpression}
 use Rattle.task_ast.specs.declared.WordType.{WordType}
@@ -11,7 +11,8 @@ use Rattle.task_ast.specs.declared.BinaryOperator.TheVariants as operator
 use Rattle.task_ast.specs.declared.ShiftOperator.{ShiftOperator}
 use Rattle.task_ast.specs.declared.names.Variable.{Variable}
 use Rattle.task_ast.specs.declared.names.Variable.TheVariants.{Shared, Local}
-use Rattle.task_ast.specs.Types.{IsOneWord, binary_type, unary_type}
+use Rattle.std.proofs.lemmas.Bool.Decides.{nat_tests}
+use Rattle.task_ast.specs.Types.{IsOneWord, binary_type, unary_type, literal_type}
 use Rattle.task_ast.proofs.Interface as one_word
 use Rattle.task_check.specs.Occurrences.{is_refused}
 use Rattle.source_values.specs.Values.{◌>>?◌, Variables, word_at, by_width, two_words, converted, type_of, joined_type, value_of}
@@ -19,21 +20,22 @@ use Rattle.source_values.specs.Values.{unary_result, binary_value, binary_result
 use Rattle.array_versions.proofs.Interface.{joined_go_on}
 use Rattle.array_versions.specs.Program.{number, shift, sense, load, long, step, joined}
 use Rattle.array_versions.specs.declared.operations.LongOperation.TheVariants as with_longs
-use Rattle.array_versions.specs.Behaviour.{WordState, Behaviour, pushed, behaviour}
+use Rattle.array_versions.specs.Behaviour.{WordState, pushed, behaviour}
 use Rattle.memory_map.specs.Spots.{Places, address_of, scalar_address, IsScalarWord, scalar}
 use Rattle.lower.specs.Operations.{binary_meaning, shift_operation, operand_type, long_meaning}
-use Rattle.lower.specs.Lowered.{one, high_address, read_step, read_long, element_step, Lowering, as_word, as_test, word_program, value_test, long_words}
+use Rattle.lower.specs.Lowered.{one, high_address, read_step, read_long, element_step, Lowering, as_word, word_program, value_test, long_words}
 use Rattle.lower.specs.Lowered.{long_program, name_lowering, operand_lowering, binary_lowering, sides_lowering, shift_lowering}
-use Rattle.lower.specs.Lowered.{sides_test, lowering, lowered_test}
+use Rattle.lower.specs.Lowered.{sides_test, widened_type, lowering, lowered_long, lowered_test}
 use Rattle.lower.specs.Spots.{Room, AreApart, AreEven}
-use Rattle.lower.specs.Agreement.{IsKnown, IsLong, IsOfType, ExpressionFits, HoldVariables, valued, long_valued, AgreesWithValue}
+use Rattle.lower.specs.Agreement.{IsLong, IsOfType, ExpressionFits, HoldVariables, valued, long_valued, AgreesWithValue}
 use Rattle.lower.specs.Agreement.{AgreesWithLong, converted_to, truth_of, ExpressionsAgree, LongsAgree, TestsAgree}
 use Rattle.lower.proofs.Addresses.{first_address}
 use Rattle.lower.proofs.Values.{value_done, agrees_then, read_agrees, word_read_agrees, element_agrees, sense_agrees, binary_same, shift_same, sides_of_truth}
 use Rattle.lower.proofs.Values.{sides_are_truth, pair_value, truth_pushed, from_left, LoweringAgrees, by_word, by_test, then_step, SidesAgree, binary_agrees}
 use Rattle.lower.proofs.Values.{not_agrees, unary_agrees, side_agrees}
 use Rattle.lower.proofs.Updates.{joined_words}
-use Rattle.lower.proofs.Longs.{AgreesAs, LongAgrees, LongSidesAgree, made_of, as_one_word, of_one_word, by_long, pair_same, words_agree, word_agrees, long_agrees}
+use Rattle.lower.proofs.Longs.{AgreesAs, LongAgrees, LongSidesAgree, made_of, as_one_word, of_one_word, by_long, pair_same, words_agree, word_agrees}
+use Rattle.lower.proofs.Longs.{long_agrees}
 use Rattle.lower.proofs.Longs.{test_agrees, negated, complemented, long_shifted, long_meaning_type, long_meaning_value, long_same, long_binary_agrees}
 
 -- ---- names
@@ -84,18 +86,18 @@ operand_agrees op Long w l o h k = long_operand_agrees op w l o h k
 operand_agrees op Int w l o h k = as_one_word (unary_type op Int) (one_word.unary_word op Int tt) w _ _ (unary_agrees op w l o h)
 operand_agrees op Unsigned w l o h k = as_one_word (unary_type op Unsigned) (one_word.unary_word op Unsigned tt) w _ _ (unary_agrees op w l o h)
 
--- two operands, the second behind the first as one word, and as a long
-record OperandsAgree (s of : WordType) (w : WordState) (l r : Lowering) (o : Option (ℕ × List ℕ)) (second : List ℕ → Option (ℕ × List ℕ)) : Type 0 where
+-- two operands of types s and t, which become long by types u and v: the second behind the first as one word, and both as longs
+record OperandsAgree (s of u v : WordType) (w : WordState) (l r : Lowering) (o : Option (ℕ × List ℕ)) (second : List ℕ → Option (ℕ × List ℕ)) : Type 0 where
   left : AgreesAs s w l o
   right : (x : ℕ × List ℕ) → AgreesAs of (valued w x) r (second x.1)
-  behind_long : (x : ℕ × List ℕ) → AgreesAs of (long_valued w x) r (second x.1)
+  longs : LongSidesAgree w (long_program u l) (long_program v r) (converted_to s Long o) (λ left. converted_to of Long (second left))
 
 -- an operator between words
-words_agree_by : (is : WordType) (op : BinaryOperator) (s of : WordType) → IsOneWord is → joined_type s of ≡ is → (w : WordState) (l r : Lowering)
-    (o : Option (ℕ × List ℕ)) (second : List ℕ → Option (ℕ × List ℕ)) → OperandsAgree s of w l r o second
+words_agree_by : (is : WordType) (op : BinaryOperator) (s of u v : WordType) → IsOneWord is → joined_type s of ≡ is → (w : WordState) (l r : Lowering)
+    (o : Option (ℕ × List ℕ)) (second : List ℕ → Option (ℕ × List ℕ)) → OperandsAgree s of u v w l r o second
     → AgreesAs (binary_type op s of) w (binary_lowering (binary_meaning op is) (joined (word_program l) (word_program r)))
     (pair_value (binary_result op s of) o second)
-words_agree_by is op s of k e w l r o second h =
+words_agree_by is op s of u v k e w l r o second h =
     let words = joined_words s of (subst IsOneWord (sym e) k) in
     let left = word_program l in
     let right = word_program r in
@@ -114,7 +116,8 @@ words_agree_by is op s of k e w l r o second h =
         ap (λ z. by_width z (binary_value op z x y) long) e ∙ one_word.by_one_word is (binary_value op is x y) long k
 
 -- the type of what an operator gives of two longs
-long_type : (op : BinaryOperator) (s of : WordType) → joined_type s of ≡ Long → is_refused op Long ≡ false → long_meaning_type (long_meaning op) ≡ binary_type op s of
+long_type : (op : BinaryOperator) (s of : WordType) → joined_type s of ≡ Long → is_refused op Long ≡ false
+    → long_meaning_type (long_meaning op) ≡ binary_type op s of
 long_type operator.Less s of e k = refl
 long_type operator.LessEqual s of e k = refl
 long_type operator.Greater s of e k = refl
@@ -139,23 +142,16 @@ pair_converted f s of (Some x) second = by (second x.1)
     by (Some y) = refl
 
 -- an operator with a long among its operands
-longs_agree_by : (op : BinaryOperator) (s of : WordType) → joined_type s of ≡ Long → is_refused op Long ≡ false → (w : WordState) (l r : Lowering)
-    (o : Option (ℕ × List ℕ)) (second : List ℕ → Option (ℕ × List ℕ)) → OperandsAgree s of w l r o second
-    → AgreesAs (binary_type op s of) w (sides_lowering Long op s of l r) (pair_value (binary_result op s of) o second)
-longs_agree_by op s of e k w l r o second h =
-    let left = long_program s l in
-    let right = long_program of r in
+longs_agree_by : (op : BinaryOperator) (s of u v : WordType) → joined_type s of ≡ Long → is_refused op Long ≡ false → (w : WordState) (l r : Lowering)
+    (o : Option (ℕ × List ℕ)) (second : List ℕ → Option (ℕ × List ℕ)) → OperandsAgree s of u v w l r o second
+    → AgreesAs (binary_type op s of) w (sides_lowering Long op u v l r) (pair_value (binary_result op s of) o second)
+longs_agree_by op s of u v e k w l r o second h =
     let m = long_meaning op in
-    let first = converted_to s Long o in
     let others : List ℕ → Option (ℕ × List ℕ) = λ rest. converted_to of Long (second rest) in
-    let sides : LongSidesAgree w left right first others = record {
-      left_side = long_agrees s w l o h.left;
-      right_side = λ x. long_agrees of (long_valued w x) r (second x.1) (h.behind_long x);
-    } in
-    subst (λ z. AgreesAs z w (sides_lowering Long op s of l r) (pair_value (binary_result op s of) o second)) (long_type op s of e k)
-    (subst (AgreesAs (long_meaning_type m) w (sides_lowering Long op s of l r))
+    subst (λ z. AgreesAs z w (sides_lowering Long op u v l r) (pair_value (binary_result op s of) o second)) (long_type op s of e k)
+    (subst (AgreesAs (long_meaning_type m) w (sides_lowering Long op u v l r))
     (pair_converted (long_meaning_value m) s of o second ∙ pair_same _ (binary_result op s of) o second same)
-    (long_binary_agrees m w left right first others sides))
+    (long_binary_agrees m w (long_program u l) (long_program v r) (converted_to s Long o) others h.longs))
   where
     same : (x y : ℕ) → long_meaning_value (long_meaning op) (converted s Long x) (converted of Long y) ≡ binary_result op s of x y
     same x y =
@@ -163,12 +159,12 @@ longs_agree_by op s of e k w l r o second h =
         let b = converted of Long y in
         long_same op a b k ∙ sym (ap (λ z. by_width z (binary_value op z x y) (long_binary_value op a b)) e)
 
-operands_agree : (is : WordType) (op : BinaryOperator) (s of : WordType) → joined_type s of ≡ is → is_refused op is ≡ false → (w : WordState) (l r : Lowering)
-    (o : Option (ℕ × List ℕ)) (second : List ℕ → Option (ℕ × List ℕ)) → OperandsAgree s of w l r o second
-    → AgreesAs (binary_type op s of) w (sides_lowering is op s of l r) (pair_value (binary_result op s of) o second)
-operands_agree Long op s of e k w l r o second h = longs_agree_by op s of e k w l r o second h
-operands_agree Int op s of e k w l r o second h = words_agree_by Int op s of tt e w l r o second h
-operands_agree Unsigned op s of e k w l r o second h = words_agree_by Unsigned op s of tt e w l r o second h
+operands_agree : (is : WordType) (op : BinaryOperator) (s of u v : WordType) → joined_type s of ≡ is → is_refused op is ≡ false → (w : WordState)
+    (l r : Lowering) (o : Option (ℕ × List ℕ)) (second : List ℕ → Option (ℕ × List ℕ)) → OperandsAgree s of u v w l r o second
+    → AgreesAs (binary_type op s of) w (sides_lowering is op u v l r) (pair_value (binary_result op s of) o second)
+operands_agree Long op s of u v e k w l r o second h = longs_agree_by op s of u v e k w l r o second h
+operands_agree Int op s of u v e k w l r o second h = words_agree_by Int op s of u v tt e w l r o second h
+operands_agree Unsigned op s of u v e k w l r o second h = words_agree_by Unsigned op s of u v tt e w l r o second h
 
 -- an operator that isn't refused takes operands of their joined type
 operands_as_joined : (of : WordType) (op : BinaryOperator) → is_refused op of ≡ false → operand_type op of ≡ of
@@ -188,6 +184,26 @@ shift_agrees : (of : WordType) (op : ShiftOperator) (k : ℕ) (w : WordState) (l
 shift_agrees Long op k w l o h = by_long w _ _ (long_shifted op k w (long_words l) o (words_agree w l o h))
 shift_agrees Int op k w l o h = word_shifted Int op k w l o h
 shift_agrees Unsigned op k w l o h = word_shifted Unsigned op k w l o h
+
+-- ---- numbers
+
+-- a number of one word becomes long by zeros: where it is an int, its sign is 0
+number_as_long : (n : ℕ) → converted (literal_type n) Long n ≡ n
+number_as_long n = by (nat_le n 32767) refl
+  where
+    by : (b : Bool) → nat_le n 32767 ≡ b → converted (if b then Int else Unsigned) Long n ≡ n
+    by true e =
+        let small : nat_lt n 32768 ≡ true = grind (arith, nat_tests) in
+        ap (λ c. two_words n (if c then 0 else 65535)) small ∙ omega arith
+    by false e = refl
+
+-- its value as a long, by the type by which it becomes one
+widened_agrees : (p : Places) (e : CheckedExpression) (m : Variables) (w : WordState) → AgreesAs (type_of e) w (lowering p e) (value_of e m w.readings)
+    → AgreesWithLong w (behaviour (lowered_long p e) w) (converted_to (type_of e) Long (value_of e m w.readings))
+widened_agrees p (t.number n) m w h =
+    subst (λ v. AgreesWithLong w (behaviour (lowered_long p (t.number n)) w) (Some (v, w.readings))) (sym (number_as_long n))
+    (long_agrees Unsigned w (lowering p (t.number n)) (Some (n, w.readings)) (by_word w (one (number n)) _ (tt, refl)))
+widened_agrees p e m w h = long_agrees (type_of e) w (lowering p e) (value_of e m w.readings) h
 
 -- ---- all expressions
 
@@ -211,16 +227,26 @@ lowering_agrees p room (t.unary op e) m w apart even fits h =
     operand_agrees op (type_of e) w (lowering p e) (value_of e m w.readings) (lowering_agrees p room e m w apart even fits h)
     (lowering_agrees p room e m (pushed 0 (pushed 0 w)) apart even fits h)
 lowering_agrees p room (t.binary op a b) m w apart even fits h =
-    let operands : OperandsAgree (type_of a) (type_of b) w (lowering p a) (lowering p b) (value_of a m w.readings) (value_of b m) = record {
-      left = lowering_agrees p room a m w apart even fits.0 h;
+    let s = type_of a in
+    let of = type_of b in
+    let u = widened_type a in
+    let v = widened_type b in
+    let l = lowering p a in
+    let r = lowering p b in
+    let o = value_of a m w.readings in
+    let left = lowering_agrees p room a m w apart even fits.0 h in
+    let operands : OperandsAgree s of u v w l r o (value_of b m) = record {
+      left = left;
       right = λ x. lowering_agrees p room b m (valued w x) apart even fits.1 h;
-      behind_long = λ x. lowering_agrees p room b m (long_valued w x) apart even fits.1 h;
+      longs = record {
+        left_side = widened_agrees p a m w left;
+        right_side = λ x. widened_agrees p b m (long_valued w x) (lowering_agrees p room b m (long_valued w x) apart even fits.1 h);
+      };
     } in
-    let joined = joined_type (type_of a) (type_of b) in
-    let P : WordType → Type 0 = λ z. AgreesAs (type_of (t.binary op a b)) w
-    (sides_lowering z op.operator (type_of a) (type_of b) (lowering p a) (lowering p b)) (value_of (t.binary op a b) m w.readings) in
-    subst P (sym (operands_as_joined joined op.operator fits.2))
-    (operands_agree joined op.operator (type_of a) (type_of b) refl fits.2 w (lowering p a) (lowering p b) (value_of a m w.readings) (value_of b m) operands)
+    let value = value_of (t.binary op a b) m w.readings in
+    let P : WordType → Type 0 = λ z. AgreesAs (binary_type op.operator s of) w (sides_lowering z op.operator u v l r) value in
+    subst P (sym (operands_as_joined (joined_type s of) op.operator fits.2))
+    (operands_agree (joined_type s of) op.operator s of u v refl fits.2 w l r o (value_of b m) operands)
 lowering_agrees p room (t.shift op e count) m w apart even fits h =
     shift_agrees (type_of e) op count.value w (lowering p e) (value_of e m w.readings) (lowering_agrees p room e m w apart even fits h)
 lowering_agrees p room (t.short_circuit op a b) m w apart even fits h =
@@ -241,7 +267,7 @@ expressions_agree p room e m w apart even fits h =
 
 pub longs_agree : LongsAgree
 longs_agree p room e m w apart even fits h =
-    long_agrees (type_of e) w (lowering p e) (value_of e m w.readings) (lowering_agrees p room e m w apart even fits h)
+    widened_agrees p e m w (lowering_agrees p room e m w apart even fits h)
 
 pub tests_agree : TestsAgree
 tests_agree p room e m w apart even fits h =

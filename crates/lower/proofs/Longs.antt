@@ -1,5 +1,5 @@
 -- The programs of longs leave both words of their values, the high one on top.
-use Rattle.std.proofs.Common.{◌≡◌, ℕ, ◌+◌, ◌-◌, ◌*◌, ◌/◌, ◌%◌, ◌^◌, ◌==◌, List, ◌∷◌, Option, Some, None, Bool, true, false, not, nat_lt}
+use Rattle.std.proofs.Common.{◌≡◌, ℕ, ◌+◌, ◌-◌, ◌*◌, ◌/◌, ◌%◌, ◌==◌, List, Option, Some, None, Bool, true, false, not, nat_lt}
 use Rattle.std.proofs.Common.{refl, sym, ap, ◌∙◌, subst, arith, eq-eqb, ne_eqb, ⊎_elim, bit_or, bit_xor}
 use Rattle.std.proofs.lemmas.Bool.{cases_eq}
 use Rattle.std.proofs.lemmas.Nat.{le_or_l, le_or_r}
@@ -7,41 +7,34 @@ use Rattle.std.specs.Int.Bits.{xor_self, xor_assoc, xor_zero_r}
 use Rattle.array_versions.specs.alp_words.Words.{bit}
 use Rattle.task_ast.specs.declared.WordType.{WordType}
 use Rattle.task_ast.specs.declared.WordType.TheVariants.{Unsigned, Int, Long}
-use Rattle.task_ast.specs.declared.UnaryOperator.{UnaryOperator}
-use Rattle.task_ast.specs.declared.UnaryOperator.TheVariants as unary_operator
 use Rattle.task_ast.specs.declared.BinaryOperator.{BinaryOperator}
 use Rattle.task_ast.specs.declared.BinaryOperator.TheVariants as operator
 use Rattle.task_ast.specs.declared.ShiftOperator.{ShiftOperator}
 use Rattle.task_ast.specs.declared.ShiftOperator.TheVariants as shift_operator
-use Rattle.task_ast.specs.declared.names.Variable.{Variable}
-use Rattle.task_ast.specs.declared.names.Variable.TheVariants.{Shared, Local}
 use Rattle.task_ast.specs.Types.{IsOneWord}
-use Rattle.source_values.specs.Values.{◌>>?◌, Variables, word_at, two_words, holds, converted, long_difference, long_binary_value, long_shift_value}
+use Rattle.source_values.specs.Values.{◌>>?◌, holds, converted, long_difference, long_binary_value, long_shift_value}
 use Rattle.array_versions.specs.declared.operations.PlainOperation.{PlainOperation}
 use Rattle.array_versions.specs.declared.operations.PlainOperation.TheVariants as plain
 use Rattle.array_versions.specs.declared.operations.BinaryOperation.TheVariants.{Plain}
 use Rattle.array_versions.specs.declared.operations.LongOperation.TheVariants as with_longs
 use Rattle.array_versions.specs.Operations.{plain_long, all_bits}
-use Rattle.array_versions.specs.Program.{Test, Program, load, binary, long, holds as holds_test, fails, step, joined}
-use Rattle.array_versions.specs.Behaviour.{WordState, Behaviour, then_on, number_pushed, pushed, way_by_top, behaviour}
-use Rattle.array_versions.proofs.Interface.{joined_go_on, then_on_assoc, decided_by_truth}
-use Rattle.memory_map.specs.Spots.{Places, address_of, scalar_address, scalar}
-use Rattle.memory_map.proofs.Interface.{first_word}
+use Rattle.array_versions.specs.Program.{Test, Program, binary, long, holds as holds_test, fails, joined}
+use Rattle.array_versions.specs.Behaviour.{WordState, Behaviour, then_on, pushed, behaviour}
+use Rattle.array_versions.proofs.Interface.{joined_go_on, then_on_assoc}
 use Rattle.lower.specs.declared.operations.LongQuestion.{LongQuestion}
 use Rattle.lower.specs.declared.operations.LongQuestion.TheVariants as question
 use Rattle.lower.specs.declared.operations.LongMeaning.{LongMeaning}
 use Rattle.lower.specs.declared.operations.LongMeaning.TheVariants as meaning
 use Rattle.lower.specs.Operations.{long_meaning, long_shift}
-use Rattle.lower.specs.Lowered.{one, high_address, read_long, Lowering, as_word, as_test, as_long, word_program, value_test, widening, long_words}
+use Rattle.lower.specs.Lowered.{one, Lowering, as_test, as_long, word_program, value_test, widening, long_words}
 use Rattle.lower.specs.Lowered.{long_program}
-use Rattle.lower.specs.Lowered.{long_zero, long_unary_lowering, answer, long_binary_lowering}
-use Rattle.lower.specs.Spots.{Room, AreApart, AreEven}
+use Rattle.lower.specs.Lowered.{long_zero, answer, long_binary_lowering}
 use Rattle.task_check.specs.Occurrences.{is_refused}
-use Rattle.lower.specs.Agreement.{IsLong, HoldVariables, valued, long_valued, AgreesAt, AgreesWithValue, AgreesWithLong, converted_to}
-use Rattle.lower.specs.Agreement.{truth_value, truth_of}
-use Rattle.lower.proofs.Addresses.{first_address}
-use Rattle.lower.proofs.Values.{agrees_then, value_then, word_read_agrees, pair_value, pair_truth, pair_is_truth, truth_pushed, LoweringAgrees, by_word, by_test}
-use Rattle.lower.proofs.Values.{turned_bit_agrees, holds_bit, not_value, not_agrees}
+use Rattle.lower.specs.Agreement.{valued, long_valued, AgreesAt, AgreesWithValue, AgreesWithLong, converted_to}
+use Rattle.lower.specs.Agreement.{truth_of}
+use Rattle.lower.proofs.Values.{agrees_then, pair_value, pair_truth, pair_is_truth, truth_pushed, LoweringAgrees, by_word}
+use Rattle.lower.proofs.Values.{by_test}
+use Rattle.lower.proofs.Values.{not_value, not_agrees}
 
 -- ---- numbers
 

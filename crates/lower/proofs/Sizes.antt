@@ -1,12 +1,12 @@
 -- The words of a task's code, and the cycles of its expressions, are within the allowance of a source.
 use Rattle.std.proofs.Common.{◌≡◌, ℕ, ◌+◌, ◌*◌, ◌<◌, ◌≤◌, ◌==◌, Bool, true, false, List, [], ◌∷◌, length, Option, Some, None, slice_get, refl}
-use Rattle.std.proofs.Common.{ap, arith, if◌then◌else◌}
+use Rattle.std.proofs.Common.{sym, ap, arith, nat_le, if◌then◌else◌}
 use Rattle.std.proofs.lemmas.Bool.Decides.{nat_tests}
 use Rattle.task_ast.specs.Tree as t
 use Rattle.task_ast.specs.Paths.{CheckedExpression, CheckedStatement, CheckedChoice, CheckedBlock}
 use Rattle.task_ast.specs.declared.WordType.{WordType}
 use Rattle.task_ast.specs.declared.WordType.TheVariants.{Unsigned, Int, Long}
-use Rattle.task_ast.specs.Types.{is_long, binary_type, unary_type}
+use Rattle.task_ast.specs.Types.{is_long, binary_type, unary_type, literal_type}
 use Rattle.task_ast.specs.declared.UnaryOperator.{UnaryOperator}
 use Rattle.task_ast.specs.declared.UnaryOperator.TheVariants as unary_operator
 use Rattle.task_ast.specs.declared.BinaryOperator.{BinaryOperator}
@@ -27,7 +27,7 @@ use Rattle.array_versions.specs.declared.operations.BinaryOperation.TheVariants.
 use Rattle.array_versions.specs.declared.operations.PlainOperation.{PlainOperation}
 use Rattle.array_versions.specs.declared.operations.PlainOperation.TheVariants.{Subtract, And, Xor, Or}
 use Rattle.array_versions.specs.declared.operations.LongOperation.TheVariants as with_longs
-use Rattle.array_versions.specs.Program.{Test, Program, unary, binary, shift, long, emit_word, store_number, move_word, jump, step, joined}
+use Rattle.array_versions.specs.Program.{Test, Program, number, unary, binary, shift, long, emit_word, store_number, move_word, jump, step, joined}
 use Rattle.array_versions.specs.Cost.{binary_cycles, step_cycles, test_cycles, cycles_of, entry_words, step_words, test_words, words_of}
 use Rattle.array_versions.proofs.Interface.{joined_cycles, joined_words, steps_keep_to_words}
 use Rattle.memory_map.specs.MemoryMap.{word_place}
@@ -51,7 +51,8 @@ use Rattle.lower.specs.Sizes.{BlocksKeepToWords}
 use Rattle.lower.specs.Lowered.{one, read_step, write_step, read_long, write_long, element_read, element_step, store_step}
 use Rattle.lower.specs.Lowered.{Lowering, as_word, as_test, as_bits, as_long, word_program, value_test, widening, long_words, long_program, name_lowering}
 use Rattle.lower.specs.Lowered.{unary_lowering, long_zero, long_unary_lowering, operand_lowering, answer, long_binary_lowering, sides_lowering, shift_lowering}
-use Rattle.lower.specs.Lowered.{update_step, setting, long_setting, updating, of_words, sides_set, scalar_assignment, lowered_long}
+use Rattle.lower.specs.Lowered.{update_step, setting, long_setting, updating, of_words, sides_set, scalar_assignment, widened_type}
+use Rattle.lower.specs.Lowered.{lowered_long}
 use Rattle.lower.specs.Lowered.{index_and_value, element_setting, update_element_step, element_updating, element_sides_set}
 use Rattle.lower.specs.Lowered.{binary_lowering, sides_test, lowering, assignment, element_assignment, entries, lowered_transition}
 use Rattle.lower.specs.Lowered.{lowered_expression}
@@ -196,6 +197,18 @@ long_binary_has of (meaning.Calculates op) sides n h =
 long_binary_has of (meaning.Holds q) sides n h = let a = answer_has q sides in test_has of _ (32 + n) (omega (arith, a, h))
 long_binary_has of (meaning.Fails q) sides n h = let a = answer_has q sides in test_has of _ (32 + n) (omega (arith, a, h))
 
+-- a number is widened by no more, with whatever sign
+literal_wider : (n : ℕ) → wider (literal_type n) ≡ 7
+literal_wider n = by (nat_le n 32767)
+  where
+    by : (b : Bool) → wider (if b then Int else Unsigned) ≡ 7
+    by true = refl
+    by false = refl
+
+same_wider : (e : CheckedExpression) → wider (widened_type e) ≡ wider (type_of e)
+same_wider (t.number n) = sym (literal_wider n)
+same_wider e = refl
+
 -- with a long among two operands no more than one is widened
 wider_together : (s of : WordType) → joined_type s of ≡ Long → wider s + wider of ≤ 9
 wider_together Long Long e = omega arith
@@ -225,29 +238,36 @@ takes_longs s operator.Divide of e = absurd (no_long of e)
 takes_longs s operator.Remainder of e = absurd (no_long of e)
 takes_longs s _ of e = record { is_long = e; price = ap (λ z. by_width z 16 32) e }
 
-word_sides_have : (s : ℕ) (is first second of : WordType) (op : BinaryOperator) (l r : Lowering) (m n : ℕ) → HasWords first l m → HasWords second r n
+word_sides_have : (s : ℕ) (is first second u v of : WordType) (op : BinaryOperator) (l r : Lowering) (m n : ℕ) → HasWords u l m → HasWords v r n
     → HasWords of (binary_lowering (binary_meaning op is) (joined (word_program l) (word_program r)))
     (operator_price (words_column s) op (joined_type first second) + m + n)
-word_sides_have s is first second of op l r m n h k =
+word_sides_have s is first second u v of op l r m n h k =
     let sides = joined (word_program l) (word_program r) in
     let row = operator_words s op (joined_type first second) in
     has_more of _ (16 + (m + n)) _ (omega (arith, row))
     (binary_has of (binary_meaning op is) sides (m + n) (omega (arith, joined_words (word_program l) (word_program r), h, k)))
 
-sides_have : (s : ℕ) (is first second : WordType) (op : BinaryOperator) (l r : Lowering) (m n : ℕ) → operand_type op (joined_type first second) ≡ is
-    → HasWords first l m → HasWords second r n
-    → HasWords (binary_type op first second) (sides_lowering is op first second l r)
-    (operator_price (words_column s) op (joined_type first second) + m + n)
-sides_have s Long first second op l r m n e h k =
+-- two operands of these types, which become long by others
+record BothHave (first second u v : WordType) (l r : Lowering) (m n : ℕ) : Type 0 where
+  left : HasWords u l m
+  right : HasWords v r n
+  left_wider : wider u ≡ wider first
+  right_wider : wider v ≡ wider second
+
+sides_have : (s : ℕ) (is first second u v : WordType) (op : BinaryOperator) (l r : Lowering) (m n : ℕ) → operand_type op (joined_type first second) ≡ is
+    → BothHave first second u v l r m n
+    → HasWords (binary_type op first second) (sides_lowering is op u v l r) (operator_price (words_column s) op (joined_type first second) + m + n)
+sides_have s Long first second u v op l r m n e h =
     let takes = takes_longs s op (joined_type first second) e in
-    let sides = joined (long_program first l) (long_program second r) in
+    let sides = joined (long_program u l) (long_program v r) in
     let few = wider_together first second takes.is_long in
     let price = takes.price in
     has_more (binary_type op first second) _ (32 + (m + n)) _ (omega (arith, price))
     (long_binary_has (binary_type op first second) (long_meaning op) sides (m + n)
-    (omega (arith, joined_words (long_program first l) (long_program second r), few, h, k)))
-sides_have s Int first second op l r m n e h k = word_sides_have s Int first second (binary_type op first second) op l r m n h k
-sides_have s Unsigned first second op l r m n e h k = word_sides_have s Unsigned first second (binary_type op first second) op l r m n h k
+    (omega (arith, joined_words (long_program u l) (long_program v r), few, h.left, h.right, h.left_wider, h.right_wider)))
+sides_have s Int first second u v op l r m n e h = word_sides_have s Int first second u v (binary_type op first second) op l r m n h.left h.right
+sides_have s Unsigned first second u v op l r m n e h =
+    word_sides_have s Unsigned first second u v (binary_type op first second) op l r m n h.left h.right
 
 word_shift_has : (of : WordType) (op : ShiftOperator) (l : Lowering) (n k : ℕ) → HasWords of l n
     → HasWords of (as_word (joined (word_program l) (one (shift (shift_operation op of) k)))) (16 + n)
@@ -270,6 +290,11 @@ sides_test_has : (op : ShortCircuitOperator) (c d : Test) → test_words (sides_
 sides_test_has BothHold c d = refl
 sides_test_has OneHolds c d = refl
 
+-- the same by the type by which an expression becomes long
+widened_type_has : (p : Places) (s : ℕ) (e : CheckedExpression) (n : ℕ) → HasWords (type_of e) (lowering p e) n → HasWords (widened_type e) (lowering p e) n
+widened_type_has p s (t.number w) n h = let few = h.word in word_has Unsigned (one (number w)) n few
+widened_type_has p s e n h = h
+
 lowering_has : (p : Places) (s : ℕ) (e : CheckedExpression) → HasWords (type_of e) (lowering p e) (expression_price (words_column s) e)
 lowering_has p s (t.number n) = word_has _ _ _ (omega arith)
 lowering_has p s (t.long_number n) = long_has Long _ _ (omega arith)
@@ -281,8 +306,16 @@ lowering_has p s (t.element x index) =
 lowering_has p s t.sense = word_has Unsigned _ _ (omega arith)
 lowering_has p s (t.unary op e) = operand_has (type_of e) op (lowering p e) (expression_price (words_column s) e) (lowering_has p s e)
 lowering_has p s (t.binary op a b) =
-    sides_have s (operand_type op.operator (joined_type (type_of a) (type_of b))) (type_of a) (type_of b) op.operator (lowering p a) (lowering p b)
-    (expression_price (words_column s) a) (expression_price (words_column s) b) refl (lowering_has p s a) (lowering_has p s b)
+    let m = expression_price (words_column s) a in
+    let n = expression_price (words_column s) b in
+    let both : BothHave (type_of a) (type_of b) (widened_type a) (widened_type b) (lowering p a) (lowering p b) m n = record {
+      left = widened_type_has p s a m (lowering_has p s a);
+      right = widened_type_has p s b n (lowering_has p s b);
+      left_wider = same_wider a;
+      right_wider = same_wider b;
+    } in
+    sides_have s (operand_type op.operator (joined_type (type_of a) (type_of b))) (type_of a) (type_of b) (widened_type a) (widened_type b) op.operator
+    (lowering p a) (lowering p b) m n refl both
 lowering_has p s (t.shift op e count) = shift_has (type_of e) op (lowering p e) (expression_price (words_column s) e) count.value (lowering_has p s e)
 lowering_has p s (t.short_circuit op a b) =
     let first = lowering_has p s a in
@@ -359,8 +392,8 @@ write_long_words p (Local n) = omega arith
 
 long_setting_words : (p : Places) (s : ℕ) (x : Variable) (e : CheckedExpression) → words_of (long_setting p x e) ≤ 40 + expression_price (words_column s) e
 long_setting_words p s x e =
-    let h = lowering_has p s e in
-    let few = most_wider (type_of e) in
+    let h = widened_type_has p s e (expression_price (words_column s) e) (lowering_has p s e) in
+    let few = most_wider (widened_type e) in
     omega (arith, joined_words (lowered_long p e) (write_long p x), write_long_words p x, h, few)
   where
     most_wider : (of : WordType) → wider of ≤ 7
@@ -577,26 +610,26 @@ long_price operator.Divide of e = absurd (no_long of e)
 long_price operator.Remainder of e = absurd (no_long of e)
 long_price _ of e = ap (λ z. by_width z 40 80) e
 
-word_sides_take : (is first second of : WordType) (op : BinaryOperator) (l r : Lowering) (m n : ℕ) → HasCycles first l m → HasCycles second r n
+word_sides_take : (is first second u v of : WordType) (op : BinaryOperator) (l r : Lowering) (m n : ℕ) → HasCycles u l m → HasCycles v r n
     → HasCycles of (binary_lowering (binary_meaning op is) (joined (word_program l) (word_program r)))
     (operator_price cycles_column op (joined_type first second) + m + n)
-word_sides_take is first second of op l r m n h k =
+word_sides_take is first second u v of op l r m n h k =
     let sides = joined (word_program l) (word_program r) in
     let row = operation_most op is (joined_type first second) in
     takes_more of _ (operation_cycles (binary_meaning op is) + 32 + (m + n)) _ (omega (arith, row))
     (binary_takes of (binary_meaning op is) sides (m + n) (omega (arith, joined_cycles (word_program l) (word_program r), h, k)))
 
-sides_take : (is first second : WordType) (op : BinaryOperator) (l r : Lowering) (m n : ℕ) → operand_type op (joined_type first second) ≡ is
-    → HasCycles first l m → HasCycles second r n
-    → HasCycles (binary_type op first second) (sides_lowering is op first second l r) (operator_price cycles_column op (joined_type first second) + m + n)
-sides_take Long first second op l r m n e h k =
-    let sides = joined (long_program first l) (long_program second r) in
+sides_take : (is first second u v : WordType) (op : BinaryOperator) (l r : Lowering) (m n : ℕ) → operand_type op (joined_type first second) ≡ is
+    → HasCycles u l m → HasCycles v r n
+    → HasCycles (binary_type op first second) (sides_lowering is op u v l r) (operator_price cycles_column op (joined_type first second) + m + n)
+sides_take Long first second u v op l r m n e h k =
+    let sides = joined (long_program u l) (long_program v r) in
     let price = long_price op (joined_type first second) e in
     takes_more (binary_type op first second) _ (80 + (m + n)) _ (omega (arith, price))
     (long_binary_takes (binary_type op first second) (long_meaning op) sides (m + n)
-    (omega (arith, joined_cycles (long_program first l) (long_program second r), h, k)))
-sides_take Int first second op l r m n e h k = word_sides_take Int first second (binary_type op first second) op l r m n h k
-sides_take Unsigned first second op l r m n e h k = word_sides_take Unsigned first second (binary_type op first second) op l r m n h k
+    (omega (arith, joined_cycles (long_program u l) (long_program v r), h, k)))
+sides_take Int first second u v op l r m n e h k = word_sides_take Int first second u v (binary_type op first second) op l r m n h k
+sides_take Unsigned first second u v op l r m n e h k = word_sides_take Unsigned first second u v (binary_type op first second) op l r m n h k
 
 word_shift_takes : (of : WordType) (op : ShiftOperator) (l : Lowering) (n k : ℕ) → HasCycles of l n
     → HasCycles of (as_word (joined (word_program l) (one (shift (shift_operation op of) k)))) (100 + n)
@@ -619,6 +652,11 @@ sides_test_takes : (op : ShortCircuitOperator) (c d : Test) → test_cycles (sid
 sides_test_takes BothHold c d = refl
 sides_test_takes OneHolds c d = refl
 
+-- the same by the type by which an expression becomes long
+widened_type_takes : (p : Places) (e : CheckedExpression) (n : ℕ) → HasCycles (type_of e) (lowering p e) n → HasCycles (widened_type e) (lowering p e) n
+widened_type_takes p (t.number w) n h = let few = h.word in word_takes Unsigned (one (number w)) n few
+widened_type_takes p e n h = h
+
 lowering_takes : (p : Places) (e : CheckedExpression) → HasCycles (type_of e) (lowering p e) (expression_price cycles_column e)
 lowering_takes p (t.number n) = word_takes _ _ _ (omega arith)
 lowering_takes p (t.long_number n) = long_takes Long _ _ (omega arith)
@@ -630,8 +668,10 @@ lowering_takes p (t.element x index) =
 lowering_takes p t.sense = word_takes Unsigned _ _ (omega arith)
 lowering_takes p (t.unary op e) = operand_takes (type_of e) op (lowering p e) (expression_price cycles_column e) (lowering_takes p e)
 lowering_takes p (t.binary op a b) =
-    sides_take (operand_type op.operator (joined_type (type_of a) (type_of b))) (type_of a) (type_of b) op.operator (lowering p a) (lowering p b)
-    (expression_price cycles_column a) (expression_price cycles_column b) refl (lowering_takes p a) (lowering_takes p b)
+    let m = expression_price cycles_column a in
+    let n = expression_price cycles_column b in
+    sides_take (operand_type op.operator (joined_type (type_of a) (type_of b))) (type_of a) (type_of b) (widened_type a) (widened_type b) op.operator
+    (lowering p a) (lowering p b) m n refl (widened_type_takes p a m (lowering_takes p a)) (widened_type_takes p b n (lowering_takes p b))
 lowering_takes p (t.shift op e count) = shift_takes (type_of e) op (lowering p e) (expression_price cycles_column e) count.value (lowering_takes p e)
 lowering_takes p (t.short_circuit op a b) =
     let first = lowering_takes p a in
@@ -644,7 +684,7 @@ expression_cycles p e = (lowering_takes p e).word
 
 -- as a long it takes no more than one beside what is allowed
 pub long_cycles_kept : (p : Places) (e : CheckedExpression) → cycles_of (lowered_long p e) ≤ expression_price cycles_column e + 1
-long_cycles_kept p e = (lowering_takes p e).long
+long_cycles_kept p e = (widened_type_takes p e (expression_price cycles_column e) (lowering_takes p e)).long
 
 -- a choice has 3 more for a branch
 pub test_cycles_kept : (p : Places) (e : CheckedExpression) → test_cycles (lowered_test p e) + 3 ≤ expression_price cycles_column e

@@ -214,8 +214,8 @@ array_agrees p room v elements length i (Some c) m w left apart even at h =
     (subst Q at.place (h.elements x (has_element p x is)))))
     (past_end p v elements length i (Some c) m w.fram w.locals at h)
 
-pub element_agrees : (p : Places) (room : Room) (x : Variable) (i : ℕ) (m : Variables) (w : WordState) (left : List ℕ) → AreApart p room → AreEven p → IsArray p x
-    → HoldVariables p m w.fram w.locals → AgreesWithValue w (behaviour (one (element_step p x)) (valued w (i, left))) (Some (word_at m x i, left))
+pub element_agrees : (p : Places) (room : Room) (x : Variable) (i : ℕ) (m : Variables) (w : WordState) (left : List ℕ) → AreApart p room → AreEven p
+    → IsArray p x → HoldVariables p m w.fram w.locals → AgreesWithValue w (behaviour (one (element_step p x)) (valued w (i, left))) (Some (word_at m x i, left))
 element_agrees p room (Shared v) i m w left apart even k h =
     let P : Option VariablePlace → Type 0 =
     λ o. AgreesWithValue w (behaviour (one (element_read p o)) (valued w (i, left))) (Some (word_at m (Shared v) i, left)) in

@@ -209,7 +209,7 @@ long_binary_lowering (meaning.Calculates op) sides = as_long (behind sides (long
 long_binary_lowering (meaning.Holds q) sides = as_test (holds (answer q sides))
 long_binary_lowering (meaning.Fails q) sides = as_test (fails (holds (answer q sides)))
 
--- an operator of two sides of these types, by the type of the operands that it takes: both as words, or both as longs
+-- an operator of two sides that become long by these types, by the type of the operands that it takes: both as words, or both as longs
 abbrev pub sides_lowering : WordType → BinaryOperator → WordType → WordType → Lowering → Lowering → Lowering
 sides_lowering of op s t left right =
     by_width of (binary_lowering (binary_meaning op of) (joined (word_program left) (word_program right)))
@@ -225,6 +225,11 @@ abbrev pub sides_test : ShortCircuitOperator → Test → Test → Test
 sides_test BothHold c d = both c d
 sides_test OneHolds c d = either c d
 
+-- the type by which an expression becomes long: a number of one word has no sign
+abbrev pub widened_type : CheckedExpression → WordType
+widened_type (t.number w) = Unsigned
+widened_type e = type_of e
+
 -- an expression: the parts from left to right, then the operation by their types
 abbrev pub lowering : Places → CheckedExpression → Lowering
 lowering p (t.number w) = as_word (one (number w))
@@ -234,7 +239,8 @@ lowering p (t.element x index) = as_word (behind (word_program (lowering p index
 lowering p t.sense = as_word (one sense)
 lowering p (t.unary op e) = operand_lowering (type_of e) op (lowering p e)
 lowering p (t.binary op a b) =
-    sides_lowering (operand_type op.operator (joined_type (type_of a) (type_of b))) op.operator (type_of a) (type_of b) (lowering p a) (lowering p b)
+    sides_lowering (operand_type op.operator (joined_type (type_of a) (type_of b))) op.operator (widened_type a) (widened_type b)
+    (lowering p a) (lowering p b)
 lowering p (t.shift op e count) = shift_lowering (type_of e) op (lowering p e) count.value
 lowering p (t.short_circuit op a b) = as_test (sides_test op (value_test (lowering p a)) (value_test (lowering p b)))
 
@@ -244,7 +250,7 @@ lowered_expression p e = word_program (lowering p e)
 
 -- an expression's value as a long, on top of the stack
 abbrev pub lowered_long : Places → CheckedExpression → Program
-lowered_long p e = long_program (type_of e) (lowering p e)
+lowered_long p e = long_program (widened_type e) (lowering p e)
 
 -- the test that an expression's value isn't 0
 abbrev pub lowered_test : Places → CheckedExpression → Test

@@ -10,8 +10,9 @@ ghost use Rattle.source_values.specs.Values.{type_of};
 ghost use Rattle.task_ast.specs.declared.names.Variable.TheVariants.{Shared};
 ghost use Rattle.lower.specs.View.{places_in, lowering_of};
 ghost use Rattle.lower.specs.Lowered.{one, read_step, read_long, element_step, word_program, value_test, widening, name_lowering};
-ghost use Rattle.lower.specs.Lowered.{long_words, long_program, unary_lowering, long_unary_lowering, operand_lowering, binary_lowering, answer, long_binary_lowering};
-ghost use Rattle.lower.specs.Lowered.{sides_lowering, shift_lowering, sides_test, lowering};
+ghost use Rattle.lower.specs.Lowered.{long_words, long_program, unary_lowering, long_unary_lowering, operand_lowering, binary_lowering, answer};
+ghost use Rattle.lower.specs.Lowered.{long_binary_lowering};
+ghost use Rattle.lower.specs.Lowered.{sides_lowering, shift_lowering, sides_test, widened_type, lowering};
 ghost use Rattle.lower.specs.Lowered.{as_word, as_test, as_bits, as_long, lowered_expression, lowered_long, lowered_test};
 
 use crate::operations::{
@@ -393,7 +394,25 @@ fn long_binary(
     }
 }
 
-// An operator of two sides, each with its type, by the type of the operands that it takes.
+// The type by which an expression of this type becomes long: a number of one word has no sign.
+fn widened_type(e: &Expr<VariableName>, word_type: WordType) -> WordType
+    requires { word_type ≡ type_of (expression_of e.now) }
+    ensures { result ≡ widened_type (expression_of e.now) }
+{
+    match e {
+        Expr::Number(_) => WordType::Unsigned,
+        Expr::LongNumber(_)
+        | Expr::Name(_)
+        | Expr::Element(..)
+        | Expr::Sense
+        | Expr::Unary(..)
+        | Expr::Binary(..)
+        | Expr::Shift(..)
+        | Expr::ShortCircuit(..) => word_type,
+    }
+}
+
+// An operator of two sides, each with the type by which it becomes long, by the type of the operands that it takes.
 fn of_sides(
     alloc: Global,
     operands: WordType,
@@ -527,8 +546,8 @@ fn lower(
                 alloc,
                 operand_type(op.operator, joined_type(left_type, right_type)),
                 op.operator,
-                (left, left_type),
-                (right, right_type),
+                (left, widened_type(a, left_type)),
+                (right, widened_type(b, right_type)),
             )?;
             Ok((program, binary_type(op.operator, left_type, right_type)))
         }
@@ -567,7 +586,7 @@ pub fn lower_long(
     ensures { IfOk result (λ p. program_of p ≡ lowered_long (places_in places.now) (expression_of e.now)) }
 {
     let (program, word_type) = lower(alloc, e, places)?;
-    into_long(alloc, word_type, program)
+    into_long(alloc, widened_type(e, word_type), program)
 }
 
 /// The test that an expression's value isn't 0.
