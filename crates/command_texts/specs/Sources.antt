@@ -63,7 +63,6 @@ source_refusal text (fault.Lex f) = lex_refusal f
 source_refusal text (fault.Syntax line) = Some (plain line (codes "Syntax"))
 source_refusal text (fault.Check f) = check_refusal text f
 source_refusal text (fault.Over f) = Some (over_refusal f)
-source_refusal text (fault.NotYet line) = Some (plain line (codes "NotYet"))
 source_refusal text fault.Memory = None
 
 -- the first pass that refuses the text does so

@@ -87,7 +87,6 @@ fn source_refusal<'t>(text: &'t [u8], fault: SourceFault) -> Option<Refusal<'t>>
         SourceFault::Syntax { line } => Some(plain(line, "Syntax")),
         SourceFault::Check(fault) => check_refusal(text, fault),
         SourceFault::Over(over) => Some(over_refusal(over)),
-        SourceFault::NotYet { line } => Some(plain(line, "NotYet")),
         SourceFault::Memory => None,
     }
 }

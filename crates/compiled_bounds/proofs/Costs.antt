@@ -1,6 +1,5 @@
 -- Each task keeps to its part of the bound.
 use Rattle.std.proofs.Common.{◌≡◌, ℕ, ◌+◌, ◌*◌, ◌≤◌, sym, ap, ◌∙◌, subst, arith, List, [], length, Some, true}
-use Rattle.std.proofs.lemmas.List.{length-map}
 use Rattle.std.proofs.lemmas.Option.{slice_get-map, get_or_from_slice_get}
 use Rattle.std.specs.Option.{option_map}
 use Rattle.std.specs.Prelude.{slice_get}
@@ -17,7 +16,8 @@ use Rattle.compiled_model.specs.array_versions.Behaviour.{WordState, End, GoesOn
 use Rattle.compiled_model.specs.array_versions.Cost.{spent}
 use Rattle.compiled_model.specs.privatise.Layouts.{IsLayout}
 use Rattle.compiled_model.proofs.lower.Interface.{program_at, blocks_keep_to_cycles}
-use Rattle.compiled_model.specs.runtime_code.LayoutPlaces.{pair_of}
+use Rattle.compiled_model.proofs.runtime_effects.Interface.{scalar_pairs_count}
+use Rattle.compiled_model.proofs.memory_map.Interface.{privates_few}
 use Rattle.compiled_model.specs.boot_runtime.Entries.{entry_of, task_entries}
 use Rattle.compiled_model.specs.boot_runtime.Listing.{privates_in, entry_at, start_cycles}
 use Rattle.compiled_model.specs.lower.Seen.{map_seen}
@@ -31,7 +31,7 @@ use Rattle.compiled_bounds.specs.Laws.{TasksKeepToTheBound}
 use Rattle.compiled_bounds.proofs.Bounds.{bound_is_the_sources}
 use Rattle.compiled_bounds.proofs.Commits.{commit_within_bound}
 use Rattle.compiled_model.specs.memory_map.MemoryMap.{MemoryMap, TaskPlace}
-use Rattle.compiled_model.specs.memory_map.Spots.{places_of}
+use Rattle.compiled_model.specs.memory_map.Spots.{places_of, private_words}
 
 -- what the entries cost at most
 entries_cost : (l : MemoryMap) (layout : TaskPlace) (e : End) → entry_cycles (places_of l layout) e ≤ 26 * length layout.privates
@@ -41,7 +41,7 @@ entries_cost l layout Short = omega arith
 entries_cost l layout Strays = omega arith
 entries_cost l layout Broken = omega arith
 
--- a boot, a start with the clearing of versions and the copies of private scalars, the body, the entries, and the commit
+-- a boot, a start with the clearing of versions and the copies of private words, the body, the entries, and the commit
 all_within : (v1 v2 privates scalars body price list emits : ℕ) → v1 ≡ v2 → privates ≤ scalars → body ≤ price + 26 * privates
     → 9 + start_cycles true v1 privates + body + commit_cycles list list emits
     ≤ 400 + 12 * v2 + 72 * scalars + price + 40 * list + 40 * emits
@@ -63,8 +63,8 @@ module _ (p : CheckedProgram) (allow : Allow) (plans : List TaskPlanValue) (l : 
       get_or_from_slice_get (task_entries l) t (entry_of own) (record { privates = []; code = 0 })
       (slice_get-map entry_of l.tasks t ∙ ap (option_map entry_of) at_own)
 
-  own_privates : length (privates_in (task_entries l) t) ≡ length own.privates
-  own_privates = ap (λ e. length e.privates) mine ∙ length-map own.privates pair_of
+  own_privates : length (privates_in (task_entries l) t) ≡ private_words own.privates
+  own_privates = ap (λ e. length e.privates) mine ∙ scalar_pairs_count own.privates
 
   privates_are : length (privates_in (task_entries l) t) ≤ scalars_of p.shared (task_body p t)
   privates_are =
@@ -82,8 +82,9 @@ module _ (p : CheckedProgram) (allow : Allow) (plans : List TaskPlanValue) (l : 
       let b = entries_cost (map_seen task.body l) own (behaviour q w).end in
       let c : spent (task_program p l t) w ≡ spent q w = ap (λ y. spent y w) program_is in
       let d : block_price cycles_column (task_body p t) ≡ block_price cycles_column task.body = ap (block_price cycles_column) body_is in
-      let e : length (privates_in (task_entries l) t) ≡ length own.privates = own_privates in
-      omega (arith, a, b, c, d, e)
+      let e : length (privates_in (task_entries l) t) ≡ private_words own.privates = own_privates in
+      let f = privates_few own.privates in
+      omega (arith, a, b, c, d, e, f)
 
   within : whole_cycles p l t fram readings ≤ task_bound (versions_of p) p.shared (task_body p t)
   within =

@@ -30,7 +30,7 @@ abbrev pub BoundIsTheSources : Type 0
 BoundIsTheSources = (p : CheckedProgram) (l : MemoryMap) → bound (compiled_model p l) ≡ bound_of p
 
 -- each task of a source that costs no more than it may keeps to its part of the bound, from a boot up to the end of its commit: where no
--- task has more private scalars than its allowance counts. Each pending commit keeps to the bound, whichever task it's of
+-- task's private scalars have more words than its allowance counts. Each pending commit keeps to the bound, whichever task it's of
 abbrev pub TasksKeepToTheBound : Type 0
 TasksKeepToTheBound = (p : CheckedProgram) (allow : Allow) (plans : List TaskPlanValue) (l : MemoryMap) → IsAllowed p allow → PrivatesAreCounted p l
     → IsLayout p allow plans l → CostsAreWithin p l

@@ -3,7 +3,7 @@ use Rattle.std.proofs.Common.{◌≡◌, ◌≤◌, ℕ, suc, List, [], ◌∷�
 use Rattle.compiled_model.specs.task_ast.declared.SharedDeclaration.{SharedDeclaration}
 use Rattle.compiled_model.specs.cost_bound.Allowance.{CheckedTask, scalars_of}
 use Rattle.compiled_model.specs.memory_map.MemoryMap.{MemoryMap, TaskPlace}
-use Rattle.compiled_model.specs.memory_map.Spots.{places_of}
+use Rattle.compiled_model.specs.memory_map.Spots.{places_of, private_words}
 use Rattle.compiled_model.specs.lower.Seen.{map_seen}
 use Rattle.compiled_model.specs.lower.Lowered.{lowered_tasks}
 use Rattle.compiled_model.proofs.lower.Interface.{blocks_keep_to_words}
@@ -13,7 +13,7 @@ use Rattle.compiled_runs.specs.Laws.{SourcesHaveRoom}
 
 programs_keep : (l : MemoryMap) (shared : List SharedDeclaration) (tasks : List CheckedTask) (ts : List TaskPlace) → length ts ≡ length tasks
     → ((k : ℕ) (task : CheckedTask) (t : TaskPlace) → slice_get tasks k ≡ Some task → slice_get ts k ≡ Some t
-    → length t.privates ≤ scalars_of shared task.body) → ProgramsKeep shared tasks (lowered_tasks l tasks ts)
+    → private_words t.privates ≤ scalars_of shared task.body) → ProgramsKeep shared tasks (lowered_tasks l tasks ts)
 programs_keep l shared [] ts n f = tt
 programs_keep l shared (task ∷ tasks) [] n f = absurd (omega (arith, n))
 programs_keep l shared (task ∷ tasks) (t ∷ ts) n f =

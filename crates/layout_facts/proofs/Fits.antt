@@ -7,20 +7,17 @@ use Rattle.compiled_model.specs.task_ast.declared.names.Variable.{Variable}
 use Rattle.compiled_model.specs.task_ast.declared.names.Variable.TheVariants.{Shared, Local}
 use Rattle.compiled_model.specs.task_ast.Tree as t
 use Rattle.compiled_model.specs.task_ast.Paths.{CheckedExpression, CheckedStatement, CheckedChoice, CheckedBlock}
-use Rattle.compiled_model.specs.task_ast.Types.{IsOneWord, joined_type, type_of}
+use Rattle.compiled_model.specs.task_ast.Types.{IsOneWord}
 use Rattle.compiled_model.specs.task_ast.declared.WordType.{WordType}
 use Rattle.compiled_model.specs.task_ast.declared.WordType.TheVariants.{Unsigned, Int, Long}
-use Rattle.compiled_model.specs.task_ast.declared.BinaryOperator.{BinaryOperator}
-use Rattle.compiled_model.specs.task_ast.declared.BinaryOperator.TheVariants as operator
 use Rattle.compiled_model.specs.task_ast.declared.Extent.{Extent}
 use Rattle.compiled_model.specs.task_ast.declared.Extent.TheVariants as extent
 use Rattle.compiled_model.specs.source_values.Runs.{is_long_extent}
-use Rattle.whole_programs.specs.task_check.Occurrences.{is_refused}
 use Rattle.compiled_model.specs.path_sums.Sums.{statement_sum, choice_sum, block_sum}
 use Rattle.compiled_model.specs.path_sums.Access.{summary}
 use Rattle.compiled_model.specs.cost_bound.Counts.{is_shared}
 use Rattle.compiled_model.specs.war_analysis.Plans.{is_scalar, IsScalarAt, IsArrayAt}
-use Rattle.compiled_model.specs.lower.Agreement.{IsKnown, IsTarget, IsTargetOf, IsArray, IsWrittenArray, IsLocal, IsOperatorOf, ExpressionFits, StatementFits}
+use Rattle.compiled_model.specs.lower.Agreement.{IsKnown, IsTarget, IsTargetOf, IsArray, IsWrittenArray, IsLocal, ExpressionFits, StatementFits}
 use Rattle.compiled_model.specs.lower.Agreement.{ChoiceFits, BlockFits}
 use Rattle.compiled_model.specs.lower.Agreement as fits
 use Rattle.whole_programs.specs.Uses.{IsWordName, IsArrayName, IsLocalName, IsOfType, ExpressionUses, StatementUses, ChoiceUses, BlockUses}
@@ -63,15 +60,6 @@ array_word shared Long (Shared v) h t = by (slice_get shared v) h t
 local_word : (shared : List SharedDeclaration) (of : WordType) (x : Variable) → IsLocalName x → IsOfType shared of x → IsOneWord of
 local_word shared of (Shared v) h t = absurd h
 local_word shared of (Local n) h t = t
-
--- an operator that isn't refused is one of its operands' type
-taken : (of : WordType) (op : BinaryOperator) → is_refused op of ≡ false → IsOperatorOf of op
-taken Int op h = tt
-taken Unsigned op h = tt
-taken Long operator.Multiply h = let never : true ≡ false = h in absurd (cc)
-taken Long operator.Divide h = let never : true ≡ false = h in absurd (cc)
-taken Long operator.Remainder h = let never : true ≡ false = h in absurd (cc)
-taken Long _ h = tt
 
 module _ (shared : List SharedDeclaration) (p : Places) (written : ℕ → Bool) (have : Have shared p written) where
   known : (x : Variable) → IsWordName shared x → IsKnown p x
@@ -120,8 +108,7 @@ module _ (shared : List SharedDeclaration) (p : Places) (written : ℕ → Bool)
       (is_array x.variable h.0, expression_fits index h.1, array_word shared x.word_type x.variable h.0 h.2, h.3)
   expression_fits t.sense h = tt
   expression_fits (t.unary op e) h = expression_fits e h
-  expression_fits (t.binary op a b) h =
-      (expression_fits a h.0, expression_fits b h.1, taken (joined_type (type_of a) (type_of b)) op.operator h.2)
+  expression_fits (t.binary op a b) h = (expression_fits a h.0, expression_fits b h.1, h.2)
   expression_fits (t.shift op e count) h = expression_fits e h
   expression_fits (t.short_circuit op a b) h = (expression_fits a h.0, expression_fits b h.1)
 

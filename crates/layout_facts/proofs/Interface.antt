@@ -17,7 +17,7 @@ pub use Rattle.layout_facts.proofs.Privates.{privates_are_theirs}
 -- The words that a task works on stand apart, behind what it lists and emits.
 pub use Rattle.layout_facts.proofs.Spots.{task_places_are_apart, task_places_are_even, elements_stand}
 -- Places are of the kinds that the source declares.
-pub use Rattle.layout_facts.proofs.Planned.{places_are_declared}
+pub use Rattle.layout_facts.proofs.Planned.{scalar_declared, places_are_declared}
 -- What a task assigns, and where it has that.
 pub use Rattle.layout_facts.proofs.Assigned.{tasks_match, addresses_are}
 -- The commit list has room for all that a task may list.

@@ -10,7 +10,7 @@ use Rattle.war_analysis.specs.PlanValue.{TaskPlanValue}
 use Rattle.war_analysis.specs.Plans.{IsPlan}
 use Rattle.memory_map.specs.MemoryMap.{MemoryMap, TaskPlace}
 use Rattle.privatise.specs.Layouts.{IsLayout}
-use Rattle.memory_map.specs.Spots.{places_of}
+use Rattle.memory_map.specs.Spots.{places_of, private_words}
 use Rattle.lower.specs.Seen.{map_seen}
 use Rattle.lower.specs.Lowered.{lowered_tasks, lowered}
 use Rattle.lower.specs.Sizes.{BlocksKeepToWords}
@@ -18,7 +18,7 @@ use Rattle.linked_code.specs.Linked.{CodeFits}
 use Rattle.linked_code.specs.Rooms.{ProgramsKeep, PrivatesAreCounted, LayoutsHaveRoom}
 
 keep_all : BlocksKeepToWords → (l : MemoryMap) (shared : List SharedDeclaration) (tasks : List CheckedTask) (ts : List TaskPlace) → length ts ≡ length tasks
-    → ((k : ℕ) (task : CheckedTask) (t : TaskPlace) → slice_get tasks k ≡ Some task → slice_get ts k ≡ Some t → length t.privates ≤ scalars_of shared task.body)
+    → ((k : ℕ) (task : CheckedTask) (t : TaskPlace) → slice_get tasks k ≡ Some task → slice_get ts k ≡ Some t → private_words t.privates ≤ scalars_of shared task.body)
     → ProgramsKeep shared tasks (lowered_tasks l tasks ts)
 keep_all keep l shared [] [] n f = tt
 keep_all keep l shared [] (t ∷ ts) n f = absurd (omega (arith, n))

@@ -1,7 +1,8 @@
 -- Behind the last store of a transition the world is decided to the state that the source comes to.
-use Rattle.std.proofs.Common.{◌≡◌, ℕ, ◌+◌, ◌-◌, ◌*◌, ◌%◌, ◌<◌, ◌≤◌, List, [], ◌∷◌, ◌++◌, length, length-append, map, get_or, Some, None, true, false, refl}
+use Rattle.std.proofs.Common.{◌≡◌, ℕ, ◌+◌, ◌*◌, ◌%◌, ◌<◌, ◌≤◌, List, [], ◌∷◌, ◌++◌, length, length-append, map, get_or, Some, None, true, false, refl}
 use Rattle.std.proofs.Common.{sym, ap, ◌∙◌, subst, ⊎_elim, inl, arith, append_assoc, append-nil}
 use Rattle.std.specs.Prelude.{Contains, slice_get}
+use Rattle.std.specs.List.{flat_map}
 use Rattle.std.proofs.lemmas.List.{get_or_past}
 use Rattle.std.proofs.lemmas.Bool.{cases_lt, cases_Bool}
 use Rattle.std.proofs.lemmas.List.{length-map}
@@ -19,9 +20,10 @@ use Rattle.layout_facts.specs.source_values.Values.{word_at}
 use Rattle.layout_facts.specs.source_values.Statements.{Attempt}
 use Rattle.layout_facts.specs.source_values.Runs.{CheckedProgram, State, initial_words, task_body}
 use Rattle.layout_facts.specs.array_versions.Behaviour.{WordState, started}
-use Rattle.layout_facts.specs.runtime_effects.Places.{CopyPair, entries_from, listed}
+use Rattle.layout_facts.specs.runtime_effects.Places.{CopyPair, scalar_pairs, entries_from, listed}
+use Rattle.layout_facts.proofs.runtime_effects.Interface.{scalar_pairs_count}
 use Rattle.layout_facts.specs.lower.Seen.{some_path_writes}
-use Rattle.layout_facts.proofs.lower.Interface.{takes_append, few_entries, scalar_pair, runs_are_few, scalar_seen, array_seen, array_read}
+use Rattle.layout_facts.proofs.lower.Interface.{takes_append, few_entries, runs_are_few, scalar_seen, array_seen, array_read}
 use Rattle.layout_facts.specs.lower.Runs.{runs_of}
 use Rattle.layout_facts.specs.boot_runtime.Entries.{task_entries}
 use Rattle.layout_facts.specs.boot_runtime.Listing.{privates_in}
@@ -32,15 +34,16 @@ use Rattle.layout_facts.specs.lower.Spots.{Room}
 use Rattle.layout_facts.specs.lower.Agreement.{TakesAndStores, transition_effects, element_pair, Bounds, bounds_of, Left, place_length}
 use Rattle.layout_facts.specs.compiled_model.Places.{stays_in_place, program_places}
 use Rattle.layout_facts.specs.compiled_model.View.{state_view, are_rows}
-use Rattle.layout_facts.proofs.memory_map.Interface.{scalar_home}
-use Rattle.layout_facts.proofs.Interface.{contains_at, scalar_found}
+use Rattle.layout_facts.proofs.memory_map.Interface.{scalar_home, privates_few}
+use Rattle.layout_facts.proofs.Interface.{contains_at, scalar_found, found_word, among_either, among_front, among_back, word_pair, among_scalars}
+use Rattle.layout_facts.proofs.Interface.{scalars_among}
 use Rattle.task_attempts.proofs.Given.{IsGiven, IsTaskGiven}
 use Rattle.task_attempts.proofs.Rows.{rows_are, rows_count, declared_length}
 use Rattle.task_attempts.proofs.StoredWords.{StoresWords}
 use Rattle.task_attempts.proofs.Quiet.{IsQuiet, IsQuietAt, quiet_behind, stores_as, stays_within}
 use Rattle.task_attempts.proofs.Entries.{IsTransitionStore, transition_stores, closing, closed, closed_sent, closed_next, closed_count, closed_pairs}
 use Rattle.task_attempts.proofs.Entries.{closed_entries, IsLeft, closed_left}
-use Rattle.task_attempts.proofs.Listed.{among_either, among_front, among_back, among_map, map_among}
+use Rattle.task_attempts.proofs.Listed.{among_map, map_among}
 use Rattle.task_attempts.proofs.Tasks.{IsAt, places, body, room, task_given, body_is, private_copy, private_not_in_place}
 use Rattle.task_attempts.proofs.Stores.{Safe, StoresOf, task_safe, transition_safe}
 use Rattle.task_attempts.proofs.Words.{OwnWord, marked, unmarked, own_word_of, IsTaskWord, left_there, private, element as an_element, task_word}
@@ -50,7 +53,8 @@ use Rattle.layout_facts.specs.memory_map.declared.place.VariablePlace.{VariableP
 use Rattle.layout_facts.specs.memory_map.declared.place.VariablePlace.TheVariants.{Scalar, Array}
 use Rattle.layout_facts.specs.memory_map.declared.place.PrivateScalar.{PrivateScalar}
 use Rattle.layout_facts.specs.memory_map.MemoryMap.{MemoryMap, word_place}
-use Rattle.layout_facts.specs.memory_map.Spots.{address_of, Places, IsScalarPlace, IsScalarAt, Element, IsElement, IsCopied, Spot, IsSpot, scalar, element}
+use Rattle.layout_facts.specs.memory_map.Places.{scalar_words}
+use Rattle.layout_facts.specs.memory_map.Spots.{scalar_address, private_words, Places, IsScalarWord, Element, IsElement, IsCopied, Spot, IsSpot, scalar, element}
 use Rattle.layout_facts.specs.memory_map.Spots.{copy, spot_address, element_address, copy_address, IsWordOf}
 
 module _ (p : CheckedProgram) (l : MemoryMap) (given : IsGiven p l) (s : State) (is_task : s.task < length p.tasks) (i : IsAt p l s.task) (x : World)
@@ -117,7 +121,7 @@ module _ (p : CheckedProgram) (l : MemoryMap) (given : IsGiven p l) (s : State) 
     pub effects_are : es ≡ before ++ Store (word_place l Gate) 1 ∷ []
     effects_are = left.effects ∙ sym (append_assoc left.body transition (Store (word_place l Gate) 1 ∷ []))
 
-    few_words : length left.listed + length i.layout.privates ≤ list_of p.shared code
+    few_words : length left.listed + private_words i.layout.privates ≤ list_of p.shared code
     few_words = facts.has_room left.listed left.stands.list.are_listed (λ v. let k = left.few v in omega (arith, k))
 
     few : count + length (runs_of i.layout.privates) ≤ list_of p.shared code
@@ -125,7 +129,8 @@ module _ (p : CheckedProgram) (l : MemoryMap) (given : IsGiven p l) (s : State) 
         let words = few_words in
         let entries = few_entries here left.listed left.there.fram left.stands.list in
         let runs = runs_are_few i.layout.privates in
-        omega (arith, words, entries, runs)
+        let scalars = privates_few i.layout.privates in
+        omega (arith, words, entries, runs, scalars)
 
     words_before : StoresWords before
     words_before = each_store-front (λ a w. w < 0x10000) before (Store (word_place l Gate) 1 ∷ []) (subst StoresWords effects_are stored)
@@ -198,17 +203,19 @@ module _ (p : CheckedProgram) (l : MemoryMap) (given : IsGiven p l) (s : State) 
     next_word : (v n a : ℕ) → IsWordOf l v n a → view.word next a ≡ word_at m.variables (Shared v) n
     next_word v n a h = given.words.is_word m.variables.shared v n a h
 
-    scalar_next : (v : ℕ) → IsScalarAt here v → z.fram (address_of here v) ≡ word_at m.variables (Shared v) 0
-    scalar_next v h = spot_stays (scalar v) h ∙ left.stands.variables.words v h
+    scalar_next : (v n : ℕ) → IsScalarWord here v n → z.fram (scalar_address here v n) ≡ word_at m.variables (Shared v) n
+    scalar_next v n h = spot_stays (scalar v n) h ∙ left.stands.variables.words v n h
 
-    private_next : (r : PrivateScalar) → Contains i.layout.privates r → z.fram r.copy ≡ view.word next r.home
-    private_next r h =
+    private_next : (r : PrivateScalar) (n : ℕ) → Contains i.layout.privates r → n < scalar_words r.width
+        → z.fram (2 * n + r.copy) ≡ view.word next (2 * n + r.home)
+    private_next r n h below =
         let c = facts.privates in
         let o = c.only r h in
-        let at : slice_get l.variables r.number ≡ Some (Scalar r.home r.copy) = o.1.place in
-        ap z.fram (sym (c.private r.number r.home r.copy at o.0))
-        ∙ scalar_next r.number (scalar_there l code i.layout facts.privates r.number r.home r.copy at)
-        ∙ sym (next_word r.number 0 r.home (scalar_home l r.number r.home r.copy at))
+        let at : slice_get l.variables r.number ≡ Some (Scalar r.home r.copy r.width) = o.1.place in
+        let there = scalar_there l code i.layout facts.privates r.number r.home r.copy r.width n at below in
+        ap z.fram (sym (ap (λ a. 2 * n + a) (c.private r.number r.home r.copy r.width at o.0)))
+        ∙ scalar_next r.number n there
+        ∙ sym (next_word r.number n (2 * n + r.home) (scalar_home l r.number r.home r.copy r.width n at below))
 
     of_copied : (e : Element) → IsCopied here e → IsElement here e
     of_copied e c = record { elements = c.elements; length = c.length; copies = Some c.copies; is_array = c.is_array; below = c.below }
@@ -240,17 +247,18 @@ module _ (p : CheckedProgram) (l : MemoryMap) (given : IsGiven p l) (s : State) 
         ap (λ f. f (word_place l ListLength)) z_is
         ∙ closed_count here space facts.apart task count base left.there.fram refl
 
-    -- a pair of the list is an element with its copy, or a private scalar with its copy
+    -- a pair of the list is an element with its copy, or a word of a private scalar with its copy
     data IsPair (q : CopyPair) : Type 0 where
       of_element : (e : Element) → Contains left.listed e → q.home ≡ element_address here e → q.copy ≡ copy_address here e → IsPair q
-      of_private : (r : PrivateScalar) → Contains i.layout.privates r → q.home ≡ r.home → q.copy ≡ r.copy → IsPair q
+      of_private : (r : PrivateScalar) (n : ℕ) → Contains i.layout.privates r → n < scalar_words r.width → q.home ≡ 2 * n + r.home → q.copy ≡ 2 * n + r.copy
+          → IsPair q
 
     -- what the list names: the elements, and the private scalars behind them
-    z_pairs : listed sites.map z.fram ≡ map (element_pair here) left.listed ++ map scalar_pair i.layout.privates
+    z_pairs : listed sites.map z.fram ≡ map (element_pair here) left.listed ++ flat_map scalar_pairs i.layout.privates
     z_pairs =
         ap (λ f. entries_from (f (word_place l ListLength)) l.list.address f) z_is
         ∙ closed_pairs here space facts.apart task count base left.there.fram refl
-        ∙ ap (λ ps. ps ++ map scalar_pair i.layout.privates) left.stands.list.pairs
+        ∙ ap (λ ps. ps ++ flat_map scalar_pairs i.layout.privates) left.stands.list.pairs
 
     abbrev Listed : CopyPair → Type 0
     Listed q = IsAmong (listed sites.map z.fram) q
@@ -259,34 +267,38 @@ module _ (p : CheckedProgram) (l : MemoryMap) (given : IsGiven p l) (s : State) 
     pair_of_list q h =
         ⊎_elim {C = IsPair q}
         (λ c. let e = among_map (element_pair here) left.listed q c in of_element e.0 e.1 (ap (λ r. r.home) e.2) (ap (λ r. r.copy) e.2))
-        (λ c. let r = among_map scalar_pair i.layout.privates q c in of_private r.0 r.1 (ap (λ k. k.home) r.2) (ap (λ k. k.copy) r.2))
-        (among_either (map (element_pair here) left.listed) (map scalar_pair i.layout.privates) q (subst (λ ps. IsAmong ps q) z_pairs h))
+        (λ c.
+        let r = among_scalars i.layout.privates q c in
+        let w = r.pair in
+        of_private r.scalar w.index (contains_at i.layout.privates r.number r.scalar r.at) w.below (ap (λ k. k.home) w.is) (ap (λ k. k.copy) w.is))
+        (among_either (map (element_pair here) left.listed) (flat_map scalar_pairs i.layout.privates) q (subst (λ ps. IsAmong ps q) z_pairs h))
 
     element_listed : (e : Element) → Contains left.listed e → (q : CopyPair) × Listed q × (q.home ≡ element_address here e)
     element_listed e h = (
       element_pair here e,
       subst (λ ps. IsAmong ps (element_pair here e)) (sym z_pairs)
-          (among_front (map (element_pair here) left.listed) (map scalar_pair i.layout.privates) (element_pair here e)
+          (among_front (map (element_pair here) left.listed) (flat_map scalar_pairs i.layout.privates) (element_pair here e)
           (map_among (element_pair here) left.listed e h)),
       refl,
     )
 
-    private_listed : (r : PrivateScalar) → Contains i.layout.privates r → (q : CopyPair) × Listed q × (q.home ≡ r.home)
-    private_listed r h = (
-      scalar_pair r,
-      subst (λ ps. IsAmong ps (scalar_pair r)) (sym z_pairs)
-          (among_back (map (element_pair here) left.listed) (map scalar_pair i.layout.privates) (scalar_pair r)
-          (map_among scalar_pair i.layout.privates r h)),
+    private_listed : (r : PrivateScalar) (n : ℕ) → Contains i.layout.privates r → n < scalar_words r.width
+        → (q : CopyPair) × Listed q × (q.home ≡ 2 * n + r.home)
+    private_listed r n h below = (
+      word_pair r n,
+      subst (λ ps. IsAmong ps (word_pair r n)) (sym z_pairs)
+          (among_back (map (element_pair here) left.listed) (flat_map scalar_pairs i.layout.privates) (word_pair r n)
+          (scalars_among i.layout.privates r n h below)),
       refl,
     )
 
-    -- as many words as elements and private scalars
-    list_words : length (listed sites.map z.fram) ≡ length left.listed + length i.layout.privates
+    -- as many words as elements, and as private scalars have
+    list_words : length (listed sites.map z.fram) ≡ length left.listed + private_words i.layout.privates
     list_words =
         let same = ap (length {A = CopyPair}) z_pairs in
-        let both = length-append (map (element_pair here) left.listed) (map scalar_pair i.layout.privates) in
+        let both = length-append (map (element_pair here) left.listed) (flat_map scalar_pairs i.layout.privates) in
         let elements = length-map left.listed (element_pair here) in
-        let scalars = length-map i.layout.privates scalar_pair in
+        let scalars = scalar_pairs_count i.layout.privates in
         omega (arith, same, both, elements, scalars)
 
     -- each entry has a word
@@ -310,11 +322,10 @@ module _ (p : CheckedProgram) (l : MemoryMap) (given : IsGiven p l) (s : State) 
 
     row_of : (v n : ℕ) (place : VariablePlace) → slice_get l.variables v ≡ Some place → n < place_length place → get_or
         (get_or m.variables.shared v []) n 0 < 0x10000
-    row_of v n (Scalar home copied) e h =
+    row_of v n (Scalar home copied width) e h =
         let words = put_words y.fram (word_place l Gate) 1 u.undecided.is_open.words (omega arith) in
-        let first : n ≡ 0 = omega (arith, h) in
-        subst (λ k. get_or (get_or m.variables.shared v []) k 0 < 0x10000) (sym first)
-        (subst (λ w. w < 0x10000) (scalar_next v (scalar_there l code i.layout facts.privates v home copied e)) (words (address_of here v)))
+        let there = scalar_there l code i.layout facts.privates v home copied width n e h in
+        subst (λ w. w < 0x10000) (scalar_next v n there) (words (scalar_address here v n))
     row_of v n (Array elements len copies) e h =
         let x : Element = record { array = v; index = n } in
         let is : IsElement here x = (element_there l code i.layout facts.privates v n elements len copies e h).0 in
@@ -322,8 +333,8 @@ module _ (p : CheckedProgram) (l : MemoryMap) (given : IsGiven p l) (s : State) 
 
     -- the lengths of the rows
     row_fits : (v : ℕ) (place : VariablePlace) → slice_get l.variables v ≡ Some place → length (get_or m.variables.shared v []) ≡ place_length place
-    row_fits v (Scalar home copied) e =
-        left.stands.variables.lengths v (Scalar home copied) (scalar_seen (some_path_writes code) l.variables v home copied e)
+    row_fits v (Scalar home copied width) e =
+        left.stands.variables.lengths v (Scalar home copied width) (scalar_seen (some_path_writes code) l.variables v home copied width e)
     row_fits v (Array elements len copies) e =
         ⊎_elim {C = length (get_or m.variables.shared v []) ≡ len}
         (λ w. left.stands.variables.lengths v (Array elements len copies) (array_seen (some_path_writes code) l.variables v elements len copies e w))
@@ -376,35 +387,36 @@ module _ (p : CheckedProgram) (l : MemoryMap) (given : IsGiven p l) (s : State) 
         ⊎_elim {C = sites.written_in_place s.task (element_address here e) ≡ false} (λ w.
         let at = scalar_found (stays_in_place (task_body p s.task)) 0 l.variables (element_address here e) w in
         let word = element_word l code i.layout facts.privates e h in
-        let same = (given.words.one at.behind e.array 0 e.index (element_address here e)
-        (scalar_home l at.behind (element_address here e) at.copy at.place) word).0 in
-        let scalar = scalar_seen (some_path_writes code) l.variables e.array (element_address here e) at.copy
+        let its = found_word (stays_in_place (task_body p s.task)) 0 l (element_address here e) at in
+        let same = (given.words.one at.behind e.array at.index e.index (element_address here e) its word).0 in
+        let scalar = scalar_seen (some_path_writes code) l.variables e.array at.home at.copy at.width
         (sym (ap (slice_get l.variables) same) ∙ at.place) in
-        let both : Some (Array h.elements h.length h.copies) ≡ Some (Scalar (element_address here e) at.copy) = sym h.is_array.place ∙ scalar in
+        let both : Some (Array h.elements h.length h.copies) ≡ Some (Scalar at.home at.copy at.width) = sym h.is_array.place ∙ scalar in
         absurd (cc))
         (λ k. k) (cases_Bool (sites.written_in_place s.task (element_address here e)))
 
     -- what is listed isn't written in place
     pair_not_in_place : (q : CopyPair) → IsPair q → sites.written_in_place s.task q.home ≡ false
     pair_not_in_place q (of_element e h home copied) = ap (sites.written_in_place s.task) home ∙ element_not_in_place e (of_copied e (listed_copied e h))
-    pair_not_in_place q (of_private r h home copied) = ap (sites.written_in_place s.task) home ∙ private_not_in_place p l given s.task i r h
+    pair_not_in_place q (of_private r n h below home copied) =
+        ap (sites.written_in_place s.task) home ∙ private_not_in_place p l given s.task i r n h below
 
     is_home : (q : CopyPair) → IsPair q → IsSharedWord sites q.home
     is_home q (of_element e h home copied) =
         subst (IsSharedWord sites) (sym home)
         (given.words.is_shared e.array e.index (element_address here e)
         (element_word l code i.layout facts.privates e (of_copied e (listed_copied e h))))
-    is_home q (of_private r h home copied) =
-        subst (IsSharedWord sites) (sym home)
-        (given.words.is_shared r.number 0 r.home (scalar_home l r.number r.home r.copy (facts.privates.only r h).1.place))
+    is_home q (of_private r n h below home copied) =
+        let word = scalar_home l r.number r.home r.copy r.width n (facts.privates.only r h).1.place below in
+        subst (IsSharedWord sites) (sym home) (given.words.is_shared r.number n (2 * n + r.home) word)
 
     is_copy : (q : CopyPair) → IsPair q → IsCopyWord sites q.copy
     is_copy q (of_element e h home copied) = subst (IsCopyWord sites) (sym copied) (facts.copies e (listed_copied e h))
-    is_copy q (of_private r h home copied) = subst (IsCopyWord sites) (sym copied) (private_copy p l given s.task i r h)
+    is_copy q (of_private r n h below home copied) = subst (IsCopyWord sites) (sym copied) (private_copy p l given s.task i r n h below)
 
     is_copied : (q : CopyPair) → IsPair q → z.fram q.copy ≡ view.word next q.home
     is_copied q (of_element e h home copied) = ap z.fram copied ∙ listed_next e h ∙ ap (view.word next) (sym home)
-    is_copied q (of_private r h home copied) = ap z.fram copied ∙ private_next r h ∙ ap (view.word next) (sym home)
+    is_copied q (of_private r n h below home copied) = ap z.fram copied ∙ private_next r n h below ∙ ap (view.word next) (sym home)
 
     abbrev Unlisted : ℕ → Type 0
     Unlisted a = (q : CopyPair) → Listed q → q.home ≡ a → ⊥
@@ -417,10 +429,8 @@ module _ (p : CheckedProgram) (l : MemoryMap) (given : IsGiven p l) (s : State) 
 
     word_kept : (v n a : ℕ) → IsWordOf l v n a → IsTaskWord l code i.layout facts.privates v n a → Unlisted a
         → z.fram a ≡ view.word next a
-    word_kept v n a h (left_there kind first at) none =
-        let word : view.word next a ≡ word_at m.variables (Shared v) 0 = next_word v n a h ∙ ap (word_at m.variables (Shared v)) first in
-        ap z.fram (sym at) ∙ scalar_next v kind ∙ sym word
-    word_kept v n a h (private r c home) none = let q = private_listed r c in absurd (none q.0 q.1 (q.2 ∙ sym home))
+    word_kept v n a h (left_there kind at) none = ap z.fram (sym at) ∙ scalar_next v n kind ∙ sym (next_word v n a h)
+    word_kept v n a h (private r c below home) none = let q = private_listed r n c below in absurd (none q.0 q.1 (q.2 ∙ sym home))
     word_kept v n a h (an_element e is array index at) none =
         let kept = element_kept e is (own_word_of here left.there.fram e is) (λ q k home. none q k (home ∙ sym at)) in
         ap z.fram at ∙ kept ∙ ap (view.word next) (sym at)

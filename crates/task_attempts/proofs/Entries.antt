@@ -1,17 +1,17 @@
 -- What FRAM holds behind a transition's stores.
-use Rattle.std.proofs.Common.{◌≡◌, ℕ, zero, suc, ◌+◌, ◌*◌, ◌%◌, ◌<◌, ◌≤◌, List, [], ◌∷◌, ◌++◌, length, map, refl, sym, ap, ◌∙◌, subst, ⊎_elim, arith}
+use Rattle.std.proofs.Common.{◌≡◌, ℕ, suc, ◌+◌, ◌*◌, ◌%◌, ◌<◌, ◌≤◌, List, [], ◌∷◌, ◌++◌, length, refl, sym, ap, ◌∙◌, subst, ⊎_elim, arith}
 use Rattle.std.proofs.Common.{append_assoc, append-nil}
 use Rattle.std.proofs.lemmas.Bool.{cases_lt}
-use Rattle.std.specs.List.{AllByRecursion}
+use Rattle.std.specs.List.{AllByRecursion, flat_map}
 use Rattle.layout_facts.specs.fram_board.Effects.{Effect, Store}
 use Rattle.layout_facts.specs.machine_effects.World.{put, fram_after}
 use Rattle.layout_facts.proofs.machine_effects.Interface.{fram_after-append, put_same, put_other, put_at}
 use Rattle.layout_facts.specs.lower.Spots.{Room, AreApart}
 use Rattle.layout_facts.specs.lower.Agreement.{TakesAndStores, entry_effects, transition_effects}
-use Rattle.layout_facts.proofs.lower.Interface.{takes_append, after_entry, entered_pairs, pairs_of_runs, scalar_pair, runs_pairs, runs_have_words}
+use Rattle.layout_facts.proofs.lower.Interface.{takes_append, after_entry, entered_pairs, pairs_of_runs, runs_pairs, runs_have_words}
 use Rattle.layout_facts.specs.memory_map.MemoryMap.{word_place}
 use Rattle.layout_facts.specs.memory_map.declared.words.RuntimeWord.TheVariants.{NextTask, Gate, ListLength, SentBase}
-use Rattle.layout_facts.specs.runtime_effects.Places.{run_pairs, entries_from}
+use Rattle.layout_facts.specs.runtime_effects.Places.{run_pairs, scalar_pairs, entries_from}
 use Rattle.layout_facts.proofs.runtime_effects.Interface.{entries_alike}
 use Rattle.layout_facts.specs.lower.declared.runs.Run.{Run}
 use Rattle.layout_facts.specs.lower.Runs.{runs_of}
@@ -163,7 +163,7 @@ module _ (p : Places) (room : Room) (apart : AreApart p room) (task n base : ℕ
 
   -- what the list names: what it named, and the private scalars
   pub closed_pairs : entries_from (closed (word_place p.map ListLength)) p.map.list.address closed
-      ≡ entries_from n p.map.list.address f ++ map scalar_pair p.privates
+      ≡ entries_from n p.map.list.address f ++ flat_map scalar_pairs p.privates
   closed_pairs =
       let list = p.map.list.address in
       let rs = runs_of p.privates in

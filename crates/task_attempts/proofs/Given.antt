@@ -1,20 +1,27 @@
 -- What the proofs take of a source with its layout.
+use Rattle.std.proofs.Common.{get_or, subst, sym, ◌∙◌, refl}
+use Rattle.std.proofs.lemmas.Option.{slice_get_within, get_or_from_slice_get}
 use Rattle.std.specs.Prelude.{◌≡◌, ℕ, ◌+◌, ◌*◌, ◌<◌, ◌≤◌, true, false, List, [], Contains, length, Some, slice_get, slice_index, slice_index_or}
 use Rattle.layout_facts.specs.cost_bound.declared.allowance.Allow.{Allow}
 use Rattle.layout_facts.proofs.path_sums.Interface.{is_private_of}
 use Rattle.layout_facts.specs.task_ast.declared.names.Variable.TheVariants.{Shared}
-use Rattle.layout_facts.specs.path_runs.Laws.{NoStoreIn}
+use Rattle.layout_facts.specs.task_ast.declared.Extent.{Extent}
+use Rattle.layout_facts.specs.task_ast.declared.Extent.TheVariants as extent
+use Rattle.layout_facts.specs.war_analysis.Plans.{is_scalar}
+use Rattle.layout_facts.specs.privatise.Sizes.{home_part}
+use Rattle.layout_facts.specs.path_runs.Laws.{IsScalarIn}
 use Rattle.layout_facts.specs.cost_bound.Counts.{Code, stores_of}
 use Rattle.layout_facts.specs.cost_bound.Allowance.{CheckedTask}
 use Rattle.layout_facts.specs.war_analysis.PlanValue.{TaskPlanValue}
 use Rattle.layout_facts.specs.source_values.Runs.{CheckedProgram}
 use Rattle.layout_facts.specs.source_values.Running.{IsRunnable}
 use Rattle.layout_facts.specs.array_versions.Form.{IsWhole, OfWords}
+use Rattle.layout_facts.specs.memory_map.declared.place.ScalarWidth.{ScalarWidth}
 use Rattle.layout_facts.specs.memory_map.declared.place.VariablePlace.{VariablePlace}
 use Rattle.layout_facts.specs.memory_map.declared.place.VariablePlace.TheVariants.{Scalar}
 use Rattle.layout_facts.specs.memory_map.declared.place.PrivateScalar.{PrivateScalar}
 use Rattle.layout_facts.specs.memory_map.MemoryMap.{MemoryMap, TaskPlace}
-use Rattle.layout_facts.specs.memory_map.Places.{end_of, HasItsPlace}
+use Rattle.layout_facts.specs.memory_map.Places.{end_of, scalar_words, HasItsPlace}
 use Rattle.layout_facts.specs.privatise.Layouts.{AreVariables}
 use Rattle.layout_facts.specs.boot_runtime.Entries.{task_entries}
 use Rattle.layout_facts.specs.boot_runtime.Listing.{privates_in}
@@ -29,8 +36,8 @@ use Rattle.layout_facts.specs.lower.Agreement.{place_length, BlockFits}
 use Rattle.layout_facts.specs.compiled_model.Places.{is_private_in, program_places}
 use Rattle.layout_facts.specs.compiled_model.View.{shared_word, are_rows}
 use Rattle.layout_facts.specs.Facts.{HasLayout, IsTaskAt, task_room, task_places}
-use Rattle.task_attempts.proofs.Held.{plain_block}
-use Rattle.layout_facts.proofs.Interface.{each_is_one_word, places_are_declared, addresses_are, tasks_match, places_are_apart, tasks_have_room, names_fit}
+use Rattle.task_attempts.proofs.Held.{scalar_block}
+use Rattle.layout_facts.proofs.Interface.{each_is_one_word, scalar_declared, places_are_declared, addresses_are, tasks_match, places_are_apart, tasks_have_room, names_fit}
 use Rattle.layout_facts.proofs.Interface.{shared_words_are_of_variables, words_of_variables_are_shared, lists_have_room, privates_are_theirs, elements_stand}
 use Rattle.layout_facts.proofs.Interface.{task_places_are_apart, task_places_are_even, view_has_their_words, rows_fit_places}
 use Rattle.layout_facts.specs.whole_programs.Laws.{IsLaidOutText}
@@ -55,18 +62,18 @@ pub record IsVersionWord (l : MemoryMap) (a : ℕ) : Type 0 where
   pub below : number < l.versions.words
   pub is : a ≡ l.versions.address + 2 * number
 
--- of a scalar that is private in it a task has the copy, of each other scalar the word itself
+-- of a scalar that is private in it a task has the copy, of each other scalar the words themselves
 pub record ArePrivates (l : MemoryMap) (body : Code) (t : TaskPlace) : Type 0 where
-  pub private : (v home copy : ℕ) → slice_get l.variables v ≡ Some (Scalar home copy) → is_private_in body v ≡ true
+  pub private : (v home copy : ℕ) (width : ScalarWidth) → slice_get l.variables v ≡ Some (Scalar home copy width) → is_private_in body v ≡ true
       → address_of (places_of (map_seen body l) t) v ≡ copy
-  pub left : (v home copy : ℕ) → slice_get l.variables v ≡ Some (Scalar home copy) → is_private_in body v ≡ false
+  pub left : (v home copy : ℕ) (width : ScalarWidth) → slice_get l.variables v ≡ Some (Scalar home copy width) → is_private_in body v ≡ false
       → address_of (places_of (map_seen body l) t) v ≡ home
-  pub each : (v home copy : ℕ) → slice_get l.variables v ≡ Some (Scalar home copy) → is_private_in body v ≡ true
-      → Contains t.privates (record { number = v; home = home; copy = copy })
+  pub each : (v home copy : ℕ) (width : ScalarWidth) → slice_get l.variables v ≡ Some (Scalar home copy width) → is_private_in body v ≡ true
+      → Contains t.privates (record { number = v; home = home; copy = copy; width = width })
   pub only : (s : PrivateScalar) → Contains t.privates s → (is_private_in body s.number ≡ true) × HasItsPlace l.variables s
 
 -- what is asked of a task with its layout: its places are apart, even, with room; its names are used as they were declared, scalars not as
--- arrays; and its word program is whole, and of words
+-- arrays, and given all their words; and its word program is whole, and of words
 pub record IsTaskGiven (p : CheckedProgram) (l : MemoryMap) (task : CheckedTask) (t : TaskPlace) : Type 0 where
   pub apart : AreApart (task_places l task t) (task_room p task)
   pub even : AreEven (task_places l task t)
@@ -75,7 +82,8 @@ pub record IsTaskGiven (p : CheckedProgram) (l : MemoryMap) (task : CheckedTask)
   pub copies : (x : Element) → IsCopied (task_places l task t) x → IsCopyWord (program_places p l) (copy_address (task_places l task t) x)
   pub versions : (x : Element) → IsCopied (task_places l task t) x → IsVersionWord l (version_address (task_places l task t) x)
   pub fits : BlockFits (task_places l task t) (some_path_writes task.body) task.body
-  pub plain : (v home copy : ℕ) → slice_get l.variables v ≡ Some (Scalar home copy) → NoStoreIn v task.body
+  pub scalars : (v home copy : ℕ) (width : ScalarWidth) → slice_get l.variables v ≡ Some (Scalar home copy width)
+      → IsScalarIn v (scalar_words width) task.body
   pub whole : IsWhole (lowered_task l t task.body)
   pub of_words : OfWords (lowered_task l t task.body)
 
@@ -121,7 +129,11 @@ module _ (text : List ℕ) (p : CheckedProgram) (allow : Allow) (plans : List Ta
         copies = e.copy;
         versions = λ x c. let v = e.version x c in record { number = v.0; below = v.1; is = v.2 };
         fits = names_fit p allow plans l has k task t at uses;
-        plain = λ v home copy is. plain_block p.shared v ((places_are_declared p allow plans l has).is_scalar v home copy is) task.body uses;
+        scalars = λ v home copy width is.
+            let match = places_are_declared p allow plans l has in
+            let scalar = match.is_scalar v home copy width is in
+            let d = scalar_declared p.shared v scalar in
+            scalar_block p.shared v scalar d.0 d.1 d.2 (scalar_words width) (match.is_wide v home copy width d.0 is d.1) task.body uses;
         whole = w.0;
         of_words = w.1;
       }

@@ -1,23 +1,8 @@
 -- The pairs that a commit list names.
-use Rattle.std.proofs.Common.{◌≡◌, ℕ, zero, suc, ◌<◌, List, [], ◌∷◌, ◌++◌, length, map, get_or, sym, ap, ⊎_elim, inl, inr, ◌⊎◌, refl, arith}
+use Rattle.std.proofs.Common.{◌≡◌, ℕ, zero, suc, ◌<◌, List, [], ◌∷◌, length, map, get_or, sym, ap, ⊎_elim, inl, inr, refl, arith}
 use Rattle.std.specs.Prelude.{Contains}
 use Rattle.layout_facts.specs.runtime_effects.Places.{CopyPair}
 use Rattle.layout_facts.specs.stands_for.Layout.{IsAmong}
-
--- pairs of two lists
-pub among_either : (ps qs : List CopyPair) (q : CopyPair) → IsAmong (ps ++ qs) q → IsAmong ps q ⊎ IsAmong qs q
-among_either [] qs q h = inr h
-among_either (p ∷ ps) qs q h =
-    ⊎_elim {C = IsAmong (p ∷ ps) q ⊎ IsAmong qs q} (λ e. inl (inl e))
-    (λ k. ⊎_elim {C = IsAmong (p ∷ ps) q ⊎ IsAmong qs q} (λ a. inl (inr a)) (λ b. inr b) (among_either ps qs q k)) h
-
-pub among_front : (ps qs : List CopyPair) (q : CopyPair) → IsAmong ps q → IsAmong (ps ++ qs) q
-among_front [] qs q h = absurd h
-among_front (p ∷ ps) qs q h = ⊎_elim {C = IsAmong ((p ∷ ps) ++ qs) q} (λ e. inl e) (λ k. inr (among_front ps qs q k)) h
-
-pub among_back : (ps qs : List CopyPair) (q : CopyPair) → IsAmong qs q → IsAmong (ps ++ qs) q
-among_back [] qs q h = h
-among_back (p ∷ ps) qs q h = inr (among_back ps qs q h)
 
 -- pairs of other things
 module _ {X : Type 0} (f : X → CopyPair) where

@@ -1,6 +1,6 @@
 -- Rows of words: statements keep how many there are, and rows of the declared lengths are a state's.
 use Rattle.std.proofs.Common.{◌≡◌, ℕ, zero, suc, ◌+◌, ◌-◌, ◌/◌, ◌%◌, ◌<◌, List, [], ◌∷◌, ◌++◌, length, Option, Some, None, Bool, true, false, get_or, refl}
-use Rattle.std.proofs.Common.{sym, ◌∙◌}
+use Rattle.std.proofs.Common.{sym, ap, ◌∙◌}
 use Rattle.std.proofs.Common.{arith, eq-eqb, if◌then◌else◌}
 use Rattle.std.specs.Prelude.{◌&&◌, ◌==◌, nat_lt, slice_get}
 use Rattle.std.proofs.Math.ListN.{length-set}
@@ -22,6 +22,7 @@ use Rattle.layout_facts.specs.source_values.Statements.{word_of, turns, run_stat
 use Rattle.layout_facts.specs.source_values.Runs.{initial_words}
 use Rattle.layout_facts.specs.memory_map.declared.place.VariablePlace.{VariablePlace}
 use Rattle.layout_facts.specs.memory_map.declared.place.VariablePlace.TheVariants.{Scalar, Array}
+use Rattle.layout_facts.specs.memory_map.Places.{scalar_words}
 use Rattle.layout_facts.specs.privatise.Layouts.{IsPlaceOf}
 use Rattle.layout_facts.specs.lower.Agreement.{place_length}
 use Rattle.layout_facts.specs.compiled_model.View.{are_words, are_rows}
@@ -128,8 +129,9 @@ rows_count (d ∷ ds) (row ∷ rows) h =
 
 -- a place of the declared kind has the declared length
 pub declared_length : (written : Bool) (e : Extent) (place : VariablePlace) → IsPlaceOf written e place → place_length place ≡ length (initial_words e)
-declared_length written (extent.Scalar w) (Scalar home copy) h = refl
-declared_length written (extent.Long n) place h = absurd h
+declared_length written (extent.Scalar w) (Scalar home copy width) h = ap scalar_words h
+declared_length written (extent.Long n) (Scalar home copy width) h = ap scalar_words h
 declared_length written (extent.Array n) (Array elements len copies) h = h.0 ∙ sym (length-replicate n 0)
 declared_length written (extent.Scalar w) (Array elements len copies) h = absurd h
-declared_length written (extent.Array n) (Scalar home copy) h = absurd h
+declared_length written (extent.Long n) (Array elements len copies) h = absurd h
+declared_length written (extent.Array n) (Scalar home copy width) h = absurd h

@@ -1,5 +1,5 @@
 -- A started attempt stands for the source's attempt of the task.
-use Rattle.std.proofs.Common.{◌≡◌, ℕ, ◌+◌, ◌*◌, ◌<◌, List, [], length, Option, Some, None, Bool, true, false, ◌&&◌, not, refl, sym, ap, ◌∙◌, ⊎_elim, arith}
+use Rattle.std.proofs.Common.{◌≡◌, ℕ, ◌+◌, ◌*◌, ◌<◌, List, [], length, Option, Some, None, Bool, true, false, ◌&&◌, not, refl, sym, ap, ◌∙◌, subst, ⊎_elim, arith}
 use Rattle.std.proofs.lemmas.Bool.{cases_Bool, and_parts, and_from}
 use Rattle.std.proofs.lemmas.Option.{slice_get_within}
 use Rattle.std.specs.Prelude.{Contains, slice_get, slice_index_or}
@@ -19,32 +19,34 @@ use Rattle.layout_facts.specs.lower.Agreement.{own_word, place_length, StandsFor
 use Rattle.layout_facts.specs.lower.Seen.{some_path_writes, map_seen}
 use Rattle.layout_facts.proofs.lower.Interface.{SeenFrom, seen_from}
 use Rattle.layout_facts.proofs.lower.Interface.{scalar as seen_scalar, array as seen_array, read as seen_read}
-use Rattle.layout_facts.proofs.Interface.{scalar_of_seen, scalar_found, in_place_written, in_place_not_private}
+use Rattle.layout_facts.specs.path_runs.Laws.{IsScalarIn}
+use Rattle.layout_facts.proofs.Interface.{word_pair, scalar_of_seen, scalar_found, found_word, in_place_written, in_place_not_private}
 use Rattle.layout_facts.specs.compiled_model.Places.{is_private_in, stays_in_place, program_places}
 use Rattle.layout_facts.specs.compiled_model.View.{state_view}
-use Rattle.layout_facts.proofs.memory_map.Interface.{scalar_home}
+use Rattle.layout_facts.proofs.memory_map.Interface.{scalar_home, IsPlaceOfScalar, scalar_place, words_scalar}
 use Rattle.task_attempts.proofs.Given.{IsGiven, IsTaskGiven}
 use Rattle.task_attempts.proofs.Tasks.{IsAt, places, body, task_given, body_is, among_privates}
 use Rattle.task_attempts.proofs.Held.{refreshed, refreshed_count, refreshed_locals, refreshed_rows, refreshed_other, refreshed_held, refreshed_runs}
 use Rattle.task_attempts.proofs.Rows.{rows_count}
-use Rattle.task_attempts.proofs.Stores.{scalar_place}
 use Rattle.task_attempts.proofs.Words.{OwnWord, marked, unmarked, own_word_of, element_word}
 use Rattle.layout_facts.specs.memory_map.declared.words.RuntimeWord.TheVariants.{Version}
+use Rattle.layout_facts.specs.memory_map.declared.place.ScalarWidth.{ScalarWidth}
+use Rattle.layout_facts.specs.memory_map.declared.place.PrivateScalar.{PrivateScalar}
 use Rattle.layout_facts.specs.memory_map.declared.place.VariablePlace.{VariablePlace}
 use Rattle.layout_facts.specs.memory_map.declared.place.VariablePlace.TheVariants.{Scalar, Array}
-use Rattle.layout_facts.specs.memory_map.Places.{home_region}
+use Rattle.layout_facts.specs.memory_map.Places.{scalar_words, home_region}
 use Rattle.layout_facts.specs.memory_map.MemoryMap.{MemoryMap, word_place}
-use Rattle.layout_facts.specs.memory_map.Spots.{address_of, home_in, IsScalarAt, Places, Element, IsElement, IsCopied, version_address, element_address}
+use Rattle.layout_facts.specs.memory_map.Spots.{scalar_address, words_at, home_in, IsScalarWord, Places, Element, IsElement, IsCopied, version_address, element_address}
 use Rattle.layout_facts.specs.memory_map.Spots.{IsWordOf}
 
 -- whether a place is one of a scalar
 abbrev is_scalar_at : Option VariablePlace → Bool
-is_scalar_at (Some (Scalar home copy)) = true
+is_scalar_at (Some (Scalar home copy width)) = true
 is_scalar_at (Some (Array elements length copies)) = false
 is_scalar_at None = false
 
-scalar_at_is : (o : Option VariablePlace) → is_scalar_at o ≡ true → (home : ℕ) × (copied : ℕ) × (o ≡ Some (Scalar home copied))
-scalar_at_is (Some (Scalar home copy)) h = (home, copy, refl)
+scalar_at_is : (o : Option VariablePlace) → is_scalar_at o ≡ true → IsPlaceOfScalar o
+scalar_at_is (Some (Scalar home copy width)) h = record { home = home; copy = copy; width = width; place = refl }
 scalar_at_is (Some (Array elements length copies)) h = absurd (let none : false ≡ true = h in cc)
 scalar_at_is None h = absurd (let none : false ≡ true = h in cc)
 
@@ -72,15 +74,18 @@ module _ (p : CheckedProgram) (l : MemoryMap) (given : IsGiven p l) (s : State) 
   abbrev is_held : ℕ → Bool
   is_held v = is_scalar_at (slice_get l.variables v) && stays_in_place code v
 
-  abbrev held_word : ℕ → ℕ
-  held_word v = x.fram (home_in (slice_get l.variables v))
+  abbrev held_words : ℕ → ℕ
+  held_words v = words_at (slice_get l.variables v)
+
+  abbrev held_word : ℕ → ℕ → ℕ
+  held_word v n = x.fram (2 * n + home_in (slice_get l.variables v))
 
   abbrev own : Variables
   own = (fresh_attempt s.shared readings).variables
 
   -- the variables as FRAM has them: the state's words, but for the scalars that the task writes in place
   abbrev held : Variables
-  held = refreshed is_held held_word (length l.variables) own
+  held = refreshed is_held held_words held_word (length l.variables) own
 
   abbrev pub held_attempt : Attempt
   held_attempt = record (fresh_attempt s.shared readings) { variables = held }
@@ -88,21 +93,21 @@ module _ (p : CheckedProgram) (l : MemoryMap) (given : IsGiven p l) (s : State) 
   count_is : length s.shared ≡ length l.variables
   count_is = rows_count p.shared s.shared st.undecided.is_open.is_state ∙ sym given.variables.count
 
-  held_scalar : (v : ℕ) → is_held v ≡ true → (home : ℕ) × (copied : ℕ) × (slice_get l.variables v ≡ Some (Scalar home copied)) × (stays_in_place code v ≡ true)
+  held_scalar : (v : ℕ) → is_held v ≡ true → IsPlaceOfScalar (slice_get l.variables v) × (stays_in_place code v ≡ true)
   held_scalar v h =
       let parts = and_parts (is_scalar_at (slice_get l.variables v)) (stays_in_place code v) h in
-      let place = scalar_at_is (slice_get l.variables v) parts.0 in
-      (place.0, place.1, place.2, parts.1)
+      (scalar_at_is (slice_get l.variables v) parts.0, parts.1)
 
   -- the task comes to the same from what FRAM has as from the state
   pub held_runs : run_block code held_attempt ≡ run_block code (fresh_attempt s.shared readings)
   held_runs =
-      refreshed_runs is_held held_word code (λ v h.
-      let at = held_scalar v h in (
-        facts.plain v at.0 at.1 at.2,
-        in_place_written code v at.3,
+      refreshed_runs is_held held_words held_word code (λ v h.
+      let at = held_scalar v h in
+      let place = at.0 in (
+        subst (λ n. IsScalarIn v n code) (sym (ap words_at place.place)) (facts.scalars v place.home place.copy place.width place.place),
+        in_place_written code v at.1,
         λ private.
-            let clash : true ≡ false = sym (is_private_of (Shared v) code private) ∙ in_place_not_private code v at.3 in absurd (cc),
+            let clash : true ≡ false = sym (is_private_of (Shared v) code private) ∙ in_place_not_private code v at.1 in absurd (cc),
       ))
       (length l.variables) (fresh_attempt s.shared readings)
 
@@ -110,7 +115,8 @@ module _ (p : CheckedProgram) (l : MemoryMap) (given : IsGiven p l) (s : State) 
   in_place_held : (v n a : ℕ) → IsWordOf l v n a → (program_places p l).written_in_place s.task a ≡ true → is_held v ≡ true
   in_place_held v n a h w =
       let at = scalar_found (stays_in_place (task_body p s.task)) 0 l.variables a w in
-      let same : at.behind ≡ v = (given.words.one at.behind v 0 n a (scalar_home l at.behind a at.copy at.place) h).0 in
+      let word = found_word (stays_in_place (task_body p s.task)) 0 l a at in
+      let same : at.behind ≡ v = (given.words.one at.behind v at.index n a word h).0 in
       let number : 0 + at.behind ≡ v = omega (arith, same) in
       let stays : stays_in_place code v ≡ true =
       sym (ap (λ b. stays_in_place b v) (body_is p l given s.task i)) ∙ sym (ap (stays_in_place (task_body p s.task)) number) ∙ at.is_so in
@@ -128,47 +134,51 @@ module _ (p : CheckedProgram) (l : MemoryMap) (given : IsGiven p l) (s : State) 
   held_place : (v n a : ℕ) (place : VariablePlace) → slice_get l.variables v ≡ Some place → n < (home_region place).words
       → a ≡ 2 * n + (home_region place).address
       → is_held v ≡ true → x.fram a ≡ word_at held (Shared v) n
-  held_place v n a (Scalar home copy) at below is h =
-      let first : n ≡ 0 = omega (arith, below) in
-      let there : a ≡ home = omega (arith, is, first) in
-      let inside = slice_get_within l.variables v (Scalar home copy) at in
-      let row = (given.words.fit s.shared st.undecided.is_open.is_state v (Scalar home copy) at).1 in
+  held_place v n a (Scalar home copy width) at below is h =
+      let inside = slice_get_within l.variables v (Scalar home copy width) at in
+      let row = (given.words.fit s.shared st.undecided.is_open.is_state v (Scalar home copy width) at).1 in
       let count = count_is in
-      ap x.fram there ∙ sym (ap (λ o. x.fram (home_in o)) at)
-      ∙ sym (refreshed_held is_held held_word (length l.variables) own v h inside (omega (arith, count)) (omega (arith, row)))
-      ∙ sym (ap (word_at held (Shared v)) first)
+      let wide : held_words v ≡ scalar_words width = ap words_at at in
+      ap x.fram is ∙ sym (ap (λ o. x.fram (2 * n + home_in o)) at)
+      ∙ sym (refreshed_held is_held held_words held_word (length l.variables) own v n h inside (omega (arith, count)) (omega (arith, row, wide))
+      (omega (arith, below, wide)))
   held_place v n a (Array elements len copies) at below is h =
-      let scalar = held_scalar v h in
-      let both : Some (Array elements len copies) ≡ Some (Scalar scalar.0 scalar.1) = sym at ∙ scalar.2 in absurd (cc)
+      let scalar = (held_scalar v h).0 in
+      let both : Some (Array elements len copies) ≡ Some (Scalar scalar.home scalar.copy scalar.width) = sym at ∙ scalar.place in absurd (cc)
 
   -- a shared word is that of the variables
   pub home_stands : (v n a : ℕ) → IsWordOf l v n a → x.fram a ≡ word_at held (Shared v) n
   home_stands v n a h =
       ⊎_elim {C = x.fram a ≡ word_at held (Shared v) n}
       (λ e. held_place v n a h.place h.at h.below h.address e)
-      (λ e. word_stays v n a h e ∙ sym (refreshed_other is_held held_word (length l.variables) own v n e))
+      (λ e. word_stays v n a h e ∙ sym (refreshed_other is_held held_words held_word (length l.variables) own v n e))
       (cases_Bool (is_held v))
 
   private_unheld : (v : ℕ) → is_private_in code v ≡ true → is_held v ≡ false
   private_unheld v h = unheld_of (is_scalar_at (slice_get l.variables v)) (some_path_writes code v) (is_private_in code v) h
 
-  scalar_stands : (v home copy : ℕ) (b : Bool) → slice_get l.variables v ≡ Some (Scalar home copy) → is_private_in code v ≡ b
-      → x.fram (address_of here v) ≡ word_at held (Shared v) 0
-  scalar_stands v home copy true e private =
+  scalar_stands : (v n home copy : ℕ) (width : ScalarWidth) (b : Bool) → slice_get l.variables v ≡ Some (Scalar home copy width)
+      → n < scalar_words width → is_private_in code v ≡ b
+      → x.fram (scalar_address here v n) ≡ word_at held (Shared v) n
+  scalar_stands v n home copy width true e below private =
       let r = facts.privates in
-      let c : Contains i.layout.privates (record { number = v; home = home; copy = copy }) = r.each v home copy e private in
-      ap x.fram (r.private v home copy e private)
-      ∙ st.copies (record { home = home; copy = copy }) (among_privates p l given s.task i (record { number = v; home = home; copy = copy }) c)
-      ∙ given.words.is_word s.shared v 0 home (scalar_home l v home copy e)
-      ∙ sym (refreshed_other is_held held_word (length l.variables) own v 0 (private_unheld v private))
-  scalar_stands v home copy false e left =
+      let entry : PrivateScalar = record { number = v; home = home; copy = copy; width = width } in
+      let c : Contains i.layout.privates entry = r.each v home copy width e private in
+      ap x.fram (ap (λ z. 2 * n + z) (r.private v home copy width e private))
+      ∙ st.copies (word_pair entry n) (among_privates p l given s.task i entry n c below)
+      ∙ given.words.is_word s.shared v n (2 * n + home) (scalar_home l v home copy width n e below)
+      ∙ sym (refreshed_other is_held held_words held_word (length l.variables) own v n (private_unheld v private))
+  scalar_stands v n home copy width false e below left =
       let r = facts.privates in
-      ap x.fram (r.left v home copy e left) ∙ home_stands v 0 home (scalar_home l v home copy e)
+      ap x.fram (ap (λ z. 2 * n + z) (r.left v home copy width e left))
+      ∙ home_stands v n (2 * n + home) (scalar_home l v home copy width n e below)
 
-  scalar_by : (v : ℕ) → IsScalarAt here v → x.fram (address_of here v) ≡ word_at held (Shared v) 0
-  scalar_by v h =
-      let place = scalar_place (slice_get (map_seen code l).variables v) h in
-      scalar_stands v place.0 place.1 (is_private_in code v) (scalar_of_seen code l v place.0 place.1 place.2) refl
+  scalar_by : (v n : ℕ) → IsScalarWord here v n → x.fram (scalar_address here v n) ≡ word_at held (Shared v) n
+  scalar_by v n h =
+      let o = slice_get (map_seen code l).variables v in
+      let its = scalar_place o (words_scalar o n h) in
+      let below : n < scalar_words its.width = subst (λ k. n < k) (ap words_at its.place) h in
+      scalar_stands v n its.home its.copy its.width (is_private_in code v) (scalar_of_seen code l v its.home its.copy its.width its.place) below refl
 
   -- no element has a version word of this attempt
   none_marked : (e : Element) → IsCopied here e
@@ -189,7 +199,7 @@ module _ (p : CheckedProgram) (l : MemoryMap) (given : IsGiven p l) (s : State) 
   -- the lengths of the variables' rows
   length_seen : (v : ℕ) (place : VariablePlace) → SeenFrom l.variables v (some_path_writes code v) place
       → (v < length s.shared) × (length (slice_index_or s.shared v []) ≡ place_length place)
-  length_seen v _ (seen_scalar home copy at) = given.words.fit s.shared st.undecided.is_open.is_state v (Scalar home copy) at
+  length_seen v _ (seen_scalar home copy width at) = given.words.fit s.shared st.undecided.is_open.is_state v (Scalar home copy width) at
   length_seen v _ (seen_array elements n copies at written) = given.words.fit s.shared st.undecided.is_open.is_state v (Array elements n copies) at
   length_seen v _ (seen_read elements n copies at unwritten) = given.words.fit s.shared st.undecided.is_open.is_state v (Array elements n copies) at
 
@@ -206,11 +216,11 @@ module _ (p : CheckedProgram) (l : MemoryMap) (given : IsGiven p l) (s : State) 
           elements = λ e h. element_stands e h (own_word_of here x.fram e h);
           rows = λ v place e.
               let inside = (lengths_are v place e).0 in
-              let rows = refreshed_count is_held held_word (length l.variables) own in omega (arith, inside, rows);
+              let rows = refreshed_count is_held held_words held_word (length l.variables) own in omega (arith, inside, rows);
           lengths = λ v place e.
-              refreshed_rows is_held held_word (length l.variables) own v (omega (arith, count)) ∙ (lengths_are v place e).1;
+              refreshed_rows is_held held_words held_word (length l.variables) own v (omega (arith, count)) ∙ (lengths_are v place e).1;
           locals = λ n v e. cc e;
-          local_count = ap length (refreshed_locals is_held held_word (length l.variables) own);
+          local_count = ap length (refreshed_locals is_held held_words held_word (length l.variables) own);
         };
         emitted = record { emit_count = st.emit_count; emits = λ n h. absurd (omega (arith, h)) };
         list = record {

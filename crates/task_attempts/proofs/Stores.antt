@@ -1,20 +1,20 @@
 -- Where a task's program stores: at words that an undecided world doesn't speak of, before the code.
-use Rattle.std.proofs.Common.{◌≡◌, ℕ, ◌+◌, ◌<◌, ◌≤◌, ◌∙◌, length, Option, Some, None, false, not, refl, sym, ap, subst, ⊎_elim, arith}
+use Rattle.std.proofs.Common.{◌≡◌, ℕ, ◌+◌, ◌*◌, ◌<◌, ◌≤◌, ◌∙◌, length, Some, false, not, sym, ap, subst, ⊎_elim, arith}
 use Rattle.std.proofs.lemmas.Bool.{cases_Bool, and_from}
 use Rattle.std.specs.Prelude.{true, slice_get}
 use Rattle.layout_facts.specs.cost_bound.Counts.{emits_of, Code}
 use Rattle.layout_facts.specs.cost_bound.Allowance.{list_of}
 use Rattle.layout_facts.specs.source_values.Runs.{CheckedProgram, task_body}
 use Rattle.layout_facts.specs.memory_map.declared.words.RuntimeWord.TheVariants.{CurrentTask, Gate, ListLength, EmitCount, Base, Version}
-use Rattle.layout_facts.specs.memory_map.declared.place.VariablePlace.{VariablePlace}
-use Rattle.layout_facts.specs.memory_map.declared.place.VariablePlace.TheVariants.{Scalar, Array}
+use Rattle.layout_facts.specs.memory_map.declared.place.VariablePlace.TheVariants.{Scalar}
 use Rattle.layout_facts.specs.memory_map.MemoryMap.{MemoryMap, word_place}
 use Rattle.layout_facts.specs.stands_for.Layout.{IsSharedWord, IsCopyWord, ProgramPlaces}
-use Rattle.layout_facts.proofs.memory_map.Interface.{scalar_home}
+use Rattle.layout_facts.proofs.memory_map.Interface.{scalar_home, IsPlaceOfScalar, scalar_place, words_scalar}
 use Rattle.layout_facts.specs.lower.Seen.{some_path_writes, map_seen}
 use Rattle.layout_facts.proofs.Interface.{scalar_of_seen, scalar_is}
-use Rattle.layout_facts.specs.memory_map.Spots.{address_of, Places, IsScalarPlace, IsScalarAt}
-use Rattle.layout_facts.specs.memory_map.Places.{end_of}
+use Rattle.layout_facts.specs.memory_map.Spots.{scalar_address, words_at, Places, IsScalarWord}
+use Rattle.layout_facts.specs.memory_map.declared.place.PrivateScalar.{PrivateScalar}
+use Rattle.layout_facts.specs.memory_map.Places.{end_of, scalar_words}
 use Rattle.layout_facts.specs.lower.Spots.{Room}
 use Rattle.layout_facts.specs.lower.Agreement.{IsTaskStore, at_variable, at_copy, at_version, in_list, at_list_length, at_emit_count, in_buffer}
 use Rattle.layout_facts.specs.compiled_model.Places.{is_private_in, stays_in_place, program_places}
@@ -23,12 +23,6 @@ use Rattle.task_attempts.proofs.Quiet.{IsQuiet}
 use Rattle.task_attempts.proofs.Entries as transition
 use Rattle.task_attempts.proofs.Entries.{IsTransitionStore, at_next_task, at_sent_base, in_entries}
 use Rattle.task_attempts.proofs.Tasks.{IsAt, places, body, room, task_given, body_is, private_copy}
-
--- a scalar's place
-pub scalar_place : (o : Option VariablePlace) → IsScalarPlace o → (home : ℕ) × (copied : ℕ) × (o ≡ Some (Scalar home copied))
-scalar_place (Some (Scalar home copied)) h = (home, copied, refl)
-scalar_place (Some (Array elements length copies)) h = absurd h
-scalar_place None h = absurd h
 
 module _ (p : CheckedProgram) (l : MemoryMap) (given : IsGiven p l) (k ver most : ℕ) where
   -- a store that an undecided world bears, of no more than so many emitted words, to data
@@ -99,7 +93,7 @@ module _ (p : CheckedProgram) (l : MemoryMap) (given : IsGiven p l) (k ver most 
         below = omega (arith, apart, c);
       }
 
-  -- the word of a scalar that the task writes in place
+  -- a word of a scalar that the task writes in place
   safe_home : (a w : ℕ) → w < 0x10000 → IsSharedWord (program_places p l) a → (program_places p l).written_in_place k a ≡ true → IsSafe a w
   safe_home a w small c is =
       let apart = given.apart in
@@ -154,35 +148,39 @@ module _ (p : CheckedProgram) (l : MemoryMap) (given : IsGiven p l) (k : ℕ) (i
     StoresOf = IsTaskStore here (some_path_writes code) space ver
 
     -- a scalar that the task writes is private, and then the task has its copy, or is written in place
-    written_safe : (v w : ℕ) → IsScalarAt here v → some_path_writes code v ≡ true → w < 0x10000 → Safe (address_of here v) w
-    written_safe v w h e small = ⊎_elim copied in_place (cases_Bool (is_private_in code v))
+    written_safe : (v n w : ℕ) → IsScalarWord here v n → some_path_writes code v ≡ true → w < 0x10000 → Safe (scalar_address here v n) w
+    written_safe v n w h e small = ⊎_elim copied in_place (cases_Bool (is_private_in code v))
       where
-        place : (home : ℕ) × (copied : ℕ) × (slice_get (map_seen code l).variables v ≡ Some (Scalar home copied))
-        place = scalar_place (slice_get (map_seen code l).variables v) h
+        its : IsPlaceOfScalar (slice_get (map_seen code l).variables v)
+        its = scalar_place (slice_get (map_seen code l).variables v) (words_scalar (slice_get (map_seen code l).variables v) n h)
 
-        at : slice_get l.variables v ≡ Some (Scalar place.0 place.1)
-        at = scalar_of_seen code l v place.0 place.1 place.2
+        below : n < scalar_words its.width
+        below = subst (λ k. n < k) (ap words_at its.place) h
 
-        copied : is_private_in code v ≡ true → Safe (address_of here v) w
+        at : slice_get l.variables v ≡ Some (Scalar its.home its.copy its.width)
+        at = scalar_of_seen code l v its.home its.copy its.width its.place
+
+        copied : is_private_in code v ≡ true → Safe (scalar_address here v n) w
         copied is =
             let r = facts.privates in
-            safe_copy p l given k ver (emits_of code) (address_of here v) w small
-            (subst (IsCopyWord sites) (sym (r.private v place.0 place.1 at is))
-            (private_copy p l given k i (record { number = v; home = place.0; copy = place.1 }) (r.each v place.0 place.1 at is)))
+            let entry : PrivateScalar = record { number = v; home = its.home; copy = its.copy; width = its.width } in
+            safe_copy p l given k ver (emits_of code) (scalar_address here v n) w small
+            (subst (IsCopyWord sites) (sym (ap (λ z. 2 * n + z) (r.private v its.home its.copy its.width at is)))
+            (private_copy p l given k i entry n (r.each v its.home its.copy its.width at is) below))
 
-        in_place : is_private_in code v ≡ false → Safe (address_of here v) w
+        in_place : is_private_in code v ≡ false → Safe (scalar_address here v n) w
         in_place not_private =
             let stays : stays_in_place code v ≡ true = and_from (some_path_writes code v) (not (is_private_in code v)) e (ap not not_private) in
             let number : v ≡ 0 + v = omega arith in
-            let is : sites.written_in_place k place.0 ≡ true =
-            scalar_is (stays_in_place (task_body p k)) 0 l.variables v place.0 place.1 at
+            let is : sites.written_in_place k (2 * n + its.home) ≡ true =
+            scalar_is (stays_in_place (task_body p k)) 0 l.variables v its.home its.copy its.width n at below
             (sym (ap (stays_in_place (task_body p k)) number) ∙ ap (λ b. stays_in_place b v) (body_is p l given k i) ∙ stays) in
-            subst (λ z. Safe z w) (sym (facts.privates.left v place.0 place.1 at not_private))
-            (safe_home p l given k ver (emits_of code) place.0 w small
-            (given.words.is_shared v 0 place.0 (scalar_home l v place.0 place.1 at)) is)
+            let word = scalar_home l v its.home its.copy its.width n at below in
+            subst (λ z. Safe z w) (sym (ap (λ z. 2 * n + z) (facts.privates.left v its.home its.copy its.width at not_private)))
+            (safe_home p l given k ver (emits_of code) (2 * n + its.home) w small (given.words.is_shared v n (2 * n + its.home) word) is)
 
     pub task_safe : (a w : ℕ) → StoresOf a w → w < 0x10000 → Safe a w
-    task_safe a w (at_variable v h e is) small = subst (λ z. Safe z w) (sym is) (written_safe v w h e small)
+    task_safe a w (at_variable v n h e is) small = subst (λ z. Safe z w) (sym is) (written_safe v n w h e small)
     task_safe a w (at_copy x h is) small = subst (λ z. Safe z w) (sym is) (safe_copy p l given k ver _ _ w small (facts.copies x h))
     task_safe a w (at_version x h is e) small = subst (λ z. Safe z w) (sym is) (safe_version p l given k ver _ _ w small e (facts.versions x h))
     task_safe a w (in_list lo hi) small =

@@ -1,5 +1,5 @@
 -- A task of a source by its number, and where its program stores.
-use Rattle.std.proofs.Common.{◌≡◌, ℕ, ◌<◌, List, [], ◌∷◌, false, length, map, Some, sym, ap, ◌∙◌, subst, ⊎_elim, arith}
+use Rattle.std.proofs.Common.{◌≡◌, ℕ, ◌+◌, ◌*◌, ◌<◌, List, [], ◌∷◌, false, length, map, Some, sym, ap, ◌∙◌, subst, ⊎_elim, arith}
 use Rattle.std.specs.Prelude.{Contains, slice_get, option_map}
 use Rattle.std.proofs.lemmas.Option.{slice_get-map, get_or_from_slice_get}
 use Rattle.layout_facts.specs.cost_bound.Counts.{Code}
@@ -8,7 +8,7 @@ use Rattle.layout_facts.proofs.war_analysis.Interface.{element}
 use Rattle.layout_facts.specs.source_values.Runs.{CheckedProgram, body_of, task_body}
 use Rattle.layout_facts.specs.runtime_effects.Places.{CopyPair}
 use Rattle.layout_facts.proofs.lower.Interface.{program_at}
-use Rattle.layout_facts.specs.runtime_code.LayoutPlaces.{pair_of, pairs_of}
+use Rattle.layout_facts.specs.runtime_code.LayoutPlaces.{pairs_of}
 use Rattle.layout_facts.specs.boot_runtime.Listing.{privates_in}
 use Rattle.layout_facts.specs.boot_runtime.Entries.{entry_of, task_entries}
 use Rattle.layout_facts.specs.stands_for.Layout.{IsAmong, IsCopyWord, ArePrivate}
@@ -18,9 +18,10 @@ use Rattle.layout_facts.specs.compiled_model.Places.{program_places}
 use Rattle.layout_facts.specs.compiled_model.Parts.{task_program}
 use Rattle.layout_facts.specs.Facts.{task_room, task_places}
 use Rattle.task_attempts.proofs.Given.{IsGiven, IsTaskGiven}
-use Rattle.task_attempts.proofs.Listed.{map_among}
+use Rattle.layout_facts.proofs.Interface.{word_pair, scalars_among}
 use Rattle.layout_facts.specs.memory_map.declared.place.PrivateScalar.{PrivateScalar}
 use Rattle.layout_facts.specs.memory_map.MemoryMap.{MemoryMap, TaskPlace}
+use Rattle.layout_facts.specs.memory_map.Places.{scalar_words}
 use Rattle.layout_facts.specs.memory_map.Spots.{Places}
 
 -- a task of a source by its number, with its layout
@@ -60,16 +61,18 @@ module _ (p : CheckedProgram) (l : MemoryMap) (given : IsGiven p l) (k : ℕ) (i
       ap (λ e. e.privates) (get_or_from_slice_get (map entry_of l.tasks) k (entry_of i.layout) (record { privates = []; code = 0 })
       (slice_get-map entry_of l.tasks k ∙ ap (λ o. option_map entry_of o) i.layout_is))
 
-  pub among_privates : (s : PrivateScalar) → Contains i.layout.privates s → IsAmong (privates_in (task_entries l) k) (pair_of s)
-  among_privates s h = subst (λ ps. IsAmong ps (pair_of s)) (sym privates_are) (map_among pair_of i.layout.privates s h)
+  pub among_privates : (s : PrivateScalar) (n : ℕ) → Contains i.layout.privates s → n < scalar_words s.width
+      → IsAmong (privates_in (task_entries l) k) (word_pair s n)
+  among_privates s n h below = subst (λ ps. IsAmong ps (word_pair s n)) (sym privates_are) (scalars_among i.layout.privates s n h below)
 
   copies_of : (ps : List CopyPair) → ArePrivate (program_places p l) k ps → (q : CopyPair) → IsAmong ps q → IsCopyWord (program_places p l) q.copy
   copies_of [] a q h = absurd h
   copies_of (u ∷ ps) a q h = ⊎_elim (λ e. subst (λ z. IsCopyWord (program_places p l) z.copy) (sym e) a.2) (λ r. copies_of ps a.4 q r) h
 
-  -- the copy of a private scalar
-  pub private_copy : (s : PrivateScalar) → Contains i.layout.privates s → IsCopyWord (program_places p l) s.copy
-  private_copy s h = copies_of (privates_in (task_entries l) k) (given.privates k) (pair_of s) (among_privates s h)
+  -- the copy of a word of a private scalar
+  pub private_copy : (s : PrivateScalar) (n : ℕ) → Contains i.layout.privates s → n < scalar_words s.width
+      → IsCopyWord (program_places p l) (2 * n + s.copy)
+  private_copy s n h below = copies_of (privates_in (task_entries l) k) (given.privates k) (word_pair s n) (among_privates s n h below)
 
   not_in_place_of : (ps : List CopyPair) → ArePrivate (program_places p l) k ps → (q : CopyPair) → IsAmong ps q
       → (program_places p l).written_in_place k q.home ≡ false
@@ -78,5 +81,7 @@ module _ (p : CheckedProgram) (l : MemoryMap) (given : IsGiven p l) (k : ℕ) (i
       ⊎_elim (λ e. subst (λ z. (program_places p l).written_in_place k z.home ≡ false) (sym e) a.1) (λ r. not_in_place_of ps a.4 q r) h
 
   -- a private scalar isn't written in place
-  pub private_not_in_place : (s : PrivateScalar) → Contains i.layout.privates s → (program_places p l).written_in_place k s.home ≡ false
-  private_not_in_place s h = not_in_place_of (privates_in (task_entries l) k) (given.privates k) (pair_of s) (among_privates s h)
+  pub private_not_in_place : (s : PrivateScalar) (n : ℕ) → Contains i.layout.privates s → n < scalar_words s.width
+      → (program_places p l).written_in_place k (2 * n + s.home) ≡ false
+  private_not_in_place s n h below =
+      not_in_place_of (privates_in (task_entries l) k) (given.privates k) (word_pair s n) (among_privates s n h below)

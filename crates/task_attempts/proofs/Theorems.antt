@@ -1,5 +1,5 @@
 -- The laws of compiled tasks.
-use Rattle.std.proofs.Common.{◌≤◌, ◌<◌, sym, subst, arith}
+use Rattle.std.proofs.Common.{sym, subst, arith}
 use Rattle.layout_facts.specs.machine_effects.World.{world_after, fram_after, EachStore}
 use Rattle.layout_facts.proofs.machine_effects.Interface.{each_store-append}
 use Rattle.layout_facts.specs.source_values.Runs.{State}

@@ -1,5 +1,5 @@
 -- The words of the variables as a task has them.
-use Rattle.std.proofs.Common.{◌≡◌, ℕ, ◌+◌, ◌*◌, ◌==◌, ◌<◌, length, Option, Some, None, Bool, true, false, refl, sym, ap, ◌∙◌, subst, ⊎_elim, arith, eq-eqb}
+use Rattle.std.proofs.Common.{◌≡◌, ℕ, ◌+◌, ◌*◌, ◌==◌, ◌<◌, length, Option, Some, None, Bool, true, false, refl, sym, ap, ◌∙◌, subst, ⊎_elim, eq-eqb}
 use Rattle.std.proofs.Common.{ne_eqb, if◌then◌else◌}
 use Rattle.std.proofs.lemmas.Bool.{cases_eq, cases_Bool}
 use Rattle.std.specs.Prelude.{Contains, slice_get}
@@ -12,12 +12,13 @@ use Rattle.layout_facts.specs.lower.Agreement.{own_word}
 use Rattle.task_attempts.proofs.Given.{ArePrivates}
 use Rattle.layout_facts.specs.memory_map.declared.words.RuntimeWord.TheVariants.{Version}
 use Rattle.layout_facts.specs.memory_map.declared.place.ArrayCopies.{ArrayCopies}
+use Rattle.layout_facts.specs.memory_map.declared.place.ScalarWidth.{ScalarWidth}
 use Rattle.layout_facts.specs.memory_map.declared.place.VariablePlace.{VariablePlace}
 use Rattle.layout_facts.specs.memory_map.declared.place.VariablePlace.TheVariants.{Scalar, Array}
 use Rattle.layout_facts.specs.memory_map.declared.place.PrivateScalar.{PrivateScalar}
 use Rattle.layout_facts.specs.memory_map.MemoryMap.{MemoryMap, TaskPlace, word_place}
-use Rattle.layout_facts.specs.memory_map.Places.{home_region}
-use Rattle.layout_facts.specs.memory_map.Spots.{Places, places_of, address_of, IsScalarPlace, IsScalarAt, Element, IsElement, IsCopied, element_in, copy_in}
+use Rattle.layout_facts.specs.memory_map.Places.{scalar_words, home_region}
+use Rattle.layout_facts.specs.memory_map.Spots.{Places, places_of, scalar_address, words_at, IsScalarWord, Element, IsElement, IsCopied, element_in, copy_in}
 use Rattle.layout_facts.specs.memory_map.Spots.{version_in, element_address, copy_address, version_address, IsWordOf}
 
 -- an element as an attempt has it: its copy where its version word is VER, else the element itself
@@ -59,14 +60,16 @@ module _ (l : MemoryMap) (body : Code) (t : TaskPlace) (privates : ArePrivates l
   abbrev seen : Places
   seen = places_of (map_seen body l) t
 
-  -- word i of variable v, at an address: a scalar that the task has there, one that it has in a copy, or an element
+  -- word i of variable v, at an address: one of a scalar that the task has there, one that it has in a copy, or an element
   pub data IsTaskWord (v i a : ℕ) : Type 0 where
-    left_there : IsScalarAt seen v → i ≡ 0 → address_of seen v ≡ a → IsTaskWord v i a
-    private : (s : PrivateScalar) → Contains t.privates s → a ≡ s.home → IsTaskWord v i a
+    left_there : IsScalarWord seen v i → scalar_address seen v i ≡ a → IsTaskWord v i a
+    private : (s : PrivateScalar) → Contains t.privates s → i < scalar_words s.width → a ≡ 2 * i + s.home → IsTaskWord v i a
     element : (x : Element) → IsElement seen x → v ≡ x.array → i ≡ x.index → a ≡ element_address seen x → IsTaskWord v i a
 
-  pub scalar_there : (v home copy : ℕ) → slice_get l.variables v ≡ Some (Scalar home copy) → IsScalarAt seen v
-  scalar_there v home copy e = subst IsScalarPlace (sym (scalar_seen (some_path_writes body) l.variables v home copy e)) tt
+  pub scalar_there : (v home copy : ℕ) (width : ScalarWidth) (i : ℕ) → slice_get l.variables v ≡ Some (Scalar home copy width) → i < scalar_words width
+      → IsScalarWord seen v i
+  scalar_there v home copy width i e below =
+      let at = scalar_seen (some_path_writes body) l.variables v home copy width e in subst (λ n. i < n) (sym (ap words_at at)) below
 
   -- an element of an array is one for the task
   pub element_there : (v i elements n : ℕ) (copies : Option ArrayCopies) → slice_get l.variables v ≡ Some (Array elements n copies) → i < n
@@ -85,17 +88,17 @@ module _ (l : MemoryMap) (body : Code) (t : TaskPlace) (privates : ArePrivates l
           let at = array_read (some_path_writes body) l.variables v elements n copies e w in
           (record { elements = elements; length = n; copies = None; is_array = record { place = at }; below = h }, ap (λ o. element_in o i) at)
 
-  scalar_word : (v i a home copy : ℕ) (b : Bool) → slice_get l.variables v ≡ Some (Scalar home copy) → i < 1 → a ≡ 2 * i + home → is_private_in body v ≡ b
+  scalar_word : (v i a home copy : ℕ) (width : ScalarWidth) (b : Bool) → slice_get l.variables v ≡ Some (Scalar home copy width)
+      → i < scalar_words width → a ≡ 2 * i + home → is_private_in body v ≡ b
       → IsTaskWord v i a
-  scalar_word v i a home copy true e h at is =
-      private (record { number = v; home = home; copy = copy }) (privates.each v home copy e is) (omega (arith, h, at))
-  scalar_word v i a home copy false e h at left =
-      let here : home ≡ a = omega (arith, h, at) in
-      left_there (scalar_there v home copy e) (omega (arith, h)) (privates.left v home copy e left ∙ here)
+  scalar_word v i a home copy width true e h at is =
+      private (record { number = v; home = home; copy = copy; width = width }) (privates.each v home copy width e is) h at
+  scalar_word v i a home copy width false e h at left =
+      left_there (scalar_there v home copy width i e h) (ap (λ z. 2 * i + z) (privates.left v home copy width e left) ∙ sym at)
 
   word_by : (v i a : ℕ) (place : VariablePlace) → slice_get l.variables v ≡ Some place → i < (home_region place).words → a ≡ 2 * i +
       (home_region place).address → IsTaskWord v i a
-  word_by v i a (Scalar home copy) e h at = scalar_word v i a home copy (is_private_in body v) e h at refl
+  word_by v i a (Scalar home copy width) e h at = scalar_word v i a home copy width (is_private_in body v) e h at refl
   word_by v i a (Array elements length copies) e h at =
       let x = element_there v i elements length copies e h in
       element (record { array = v; index = i }) x.0 refl refl (at ∙ sym x.1)

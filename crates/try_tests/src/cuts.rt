@@ -1,7 +1,7 @@
 //! Tables of cuts: a source whose charges end after each of many numbers of steps, each report compared with the source's meaning.
 use crate::meaning::{is_meant, transitions};
 use crate::program::{trace, tries};
-use crate::sources::{CUT_TWICE, SOURCES, SUM, Source};
+use crate::sources::{CUT_TWICE, SOURCES, SUM, Source, TOTAL};
 use std::alloc::Global;
 use std::process::Abort;
 use std::test::Fail;
@@ -17,20 +17,34 @@ fn keeps(rt: &impl Abort, alloc: Global, source: &Source, charges: &str) -> Resu
     Ok(())
 }
 
+// Cut after each of 400 steps, with either fill.
+fn keeps_cut_once(rt: &impl Abort, alloc: Global, source: &Source) -> Result<(), Fail> {
+    for fill in FILLS {
+        for k in 0..=400 {
+            let charges = format!(in alloc; "s {k} {fill}\nc 30000 {fill}\n")?;
+            keeps(rt, alloc, source, &charges)?;
+        }
+    }
+    Ok(())
+}
+
 #[test]
 fn cut_after_each_of_400_steps(rt: HostRuntime) -> Result<(), Fail> {
-    let alloc = rt.alloc();
     let source = Source {
         text: SUM,
         readings: &[5, 7, 9, 11],
     };
-    for fill in FILLS {
-        for k in 0..=400 {
-            let charges = format!(in alloc; "s {k} {fill}\nc 30000 {fill}\n")?;
-            keeps(&rt, alloc, &source, &charges)?;
-        }
-    }
-    Ok(())
+    keeps_cut_once(&rt, rt.alloc(), &source)
+}
+
+// Either of a long's words is stored, listed and copied by itself.
+#[test]
+fn a_long_cut_after_each_of_400_steps(rt: HostRuntime) -> Result<(), Fail> {
+    let source = Source {
+        text: TOTAL,
+        readings: &[1, 65535, 65535, 9],
+    };
+    keeps_cut_once(&rt, rt.alloc(), &source)
 }
 
 // Cut twice, after each of the first and each of the second numbers of steps; the charge behind is long enough for all readings.

@@ -1,6 +1,6 @@
 //! Cuts whose reports are worked by hand from the rules. Each is run with both fills.
 use crate::program::tries;
-use crate::sources::{SUM, TWO};
+use crate::sources::{SUM, TOTAL, TWO};
 use std::alloc::Global;
 use std::process::Abort;
 use std::test::Fail;
@@ -49,6 +49,18 @@ fn cut_right_after_a_take(rt: HostRuntime) -> Result<(), Fail> {
     let report =
         "bound 912\nt 1 a a 1 2\no 7\nv n 7\nt 2 a a 2 3\no 16\nv n 16\nend readings 2 2 0\n";
     prints(&rt, alloc, SUM, &trace, report)
+}
+
+// So it is where the reading is added to a long.
+#[test]
+fn a_long_cut_right_after_a_take(rt: HostRuntime) -> Result<(), Fail> {
+    let alloc = rt.alloc();
+    let behind = "c 1000000 0\nr 9 1 65535\n";
+    let k = steps_until(alloc, TOTAL, 0, behind, "bound 1636\nt 1 a a 1 2\n")?;
+    assert!(rt; k > 0 && k < 400);
+    let trace = format!(in alloc; "s {k} F\nc 1000000 F\nr 9 1 65535\n")?;
+    let report = "bound 1636\nt 1 a a 1 2\nv n 65536\nv h 1\nt 2 a a 2 3\nv n 131071\nend readings 2 0 0\n";
+    prints(&rt, alloc, TOTAL, &trace, report)
 }
 
 // One step more than to the store to BASE clears GATE; so the word is offered twice, and accepted once.

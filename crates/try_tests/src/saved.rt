@@ -263,3 +263,8 @@ fn scalars_in_place_saved_after_each_of_400_steps(rt: HostRuntime) -> Result<(),
 fn neighbours_and_sends_saved_after_each_of_400_steps(rt: HostRuntime) -> Result<(), Fail> {
     keeps_saved(&rt, rt.alloc(), &SAVED[2])
 }
+
+#[test]
+fn a_long_saved_after_each_of_400_steps(rt: HostRuntime) -> Result<(), Fail> {
+    keeps_saved(&rt, rt.alloc(), &SAVED[3])
+}

@@ -56,7 +56,16 @@ const TABLE: &str = "shared unsigned zero[3]; shared unsigned x = 1; shared unsi
      task a { y = zero[x] + x; transition_to(b); } task b { x = y + sense(); transition_to(c); } \
      task c { unsigned z = x; if (z & 1) { emit(z); } x = z; transition_to(a); } entry a;";
 
-pub const SOURCES: [Source; 10] = [
+/// A long that passes a word, and its high word.
+pub const TOTAL: &str = "shared unsigned long n = 65535UL; shared unsigned h; \
+     task a { n = n + sense(); h = n >> 16; transition_to(a); } entry a;";
+
+/// Longs that are read first and written first, beside words and an int below 0.
+const LONGS: &str = "shared int s = -5; shared unsigned long n = 65530; shared unsigned long last; shared unsigned c = 7; \
+     task t { unsigned r = sense(); last = n - r; n = n + r + s; if (last < n) { c = c + 1; emit(n >> 16); } emit(n); transition_to(u); } \
+     task u { last = last ^ (n << 3); if (!(last & 7) || n == 65541) { s = s - 1; } else { s = -n >> 15; } transition_to(t); } entry t;";
+
+pub const SOURCES: [Source; 12] = [
     Source {
         text: SUM,
         readings: &[5, 7, 9, 11],
@@ -97,10 +106,18 @@ pub const SOURCES: [Source; 10] = [
         text: TABLE,
         readings: &[2, 5, 6],
     },
+    Source {
+        text: TOTAL,
+        readings: &[1, 65535, 65535],
+    },
+    Source {
+        text: LONGS,
+        readings: &[16, 65535, 0, 9],
+    },
 ];
 
-/// Of arrays, of emits and of control flow.
-pub const CUT_TWICE: [Source; 3] = [
+/// Of arrays, of emits, of control flow and of longs.
+pub const CUT_TWICE: [Source; 4] = [
     Source {
         text: RING,
         readings: &[10, 20, 30, 40],
@@ -112,6 +129,10 @@ pub const CUT_TWICE: [Source; 3] = [
     Source {
         text: LOOPS,
         readings: &[1, 2, 3, 4, 5, 0, 7, 8, 9, 10],
+    },
+    Source {
+        text: LONGS,
+        readings: &[16, 65535, 0, 9],
     },
 ];
 
@@ -130,8 +151,8 @@ const IN_PLACE: &str = "shared unsigned last = 9; shared unsigned twice; shared 
 const NEIGHBOURS: &str = "shared unsigned x; shared unsigned y = 7; shared unsigned z = 65530; \
      task t { unsigned r = sense(); x = x + r; y = y + x; z = z - y; emit(x); emit(y); emit(z); transition_to(t); } entry t;";
 
-/// Sources each of whose tasks takes a reading: of arrays, of scalars in place, of neighbours and sends.
-pub const SAVED: [Source; 3] = [
+/// Sources each of whose tasks takes a reading: of arrays, of scalars in place, of neighbours and sends, of a long.
+pub const SAVED: [Source; 4] = [
     Source {
         text: RING_OF_READINGS,
         readings: &[10, 20, 30, 40, 50, 60],
@@ -143,5 +164,9 @@ pub const SAVED: [Source; 3] = [
     Source {
         text: NEIGHBOURS,
         readings: &[1, 65535, 4, 8, 20, 9],
+    },
+    Source {
+        text: TOTAL,
+        readings: &[1, 65535, 5, 65535, 0, 9],
     },
 ];

@@ -1,5 +1,6 @@
 -- What the grammar reads from sound tokens fits, and what is left of them is sound.
-use Rattle.std.proofs.Common.{◌≡◌, ℕ, suc, ◌+◌, ◌*◌, ◌≤◌, true, false, cond, List, [], ◌∷◌, ◌++◌, Option, Some, refl, ap, subst, arith, append_assoc}
+use Rattle.std.proofs.Common.{◌≡◌, ℕ, suc, ◌+◌, ◌*◌, ◌≤◌, true, false, cond, List, [], ◌∷◌, ◌++◌, Option, Some, refl, sym, ap, ◌∙◌, subst, arith}
+use Rattle.std.proofs.Common.{append_assoc}
 use Rattle.std.specs.Prelude.{All}
 use Rattle.std.proofs.lemmas.List.Elements.{All-nil, All-cons}
 use Rattle.lower.specs.task_ast.declared.UnaryOperator.{UnaryOperator}
@@ -8,7 +9,7 @@ use Rattle.lower.specs.task_ast.declared.WordType.TheVariants.{Unsigned, Int, Lo
 use Rattle.lower.specs.task_ast.declared.Extent.{Extent}
 use Rattle.lower.specs.task_ast.declared.SharedDeclaration.{SharedDeclaration}
 use Rattle.lower.specs.task_ast.Tree.{block_of, choice_of}
-use Rattle.lower.specs.task_ast.Types.{IsOneWord}
+use Rattle.lower.specs.task_ast.Types.{IsOneWord, is_long}
 use Rattle.lower.specs.task_lex.declared.token.Token.{Token}
 use Rattle.lower.specs.task_lex.declared.token.Kind.{Kind}
 use Rattle.lower.specs.task_lex.declared.token.Kind.TheVariants as k
@@ -21,7 +22,7 @@ use Rattle.source_meaning.specs.task_parse.Grammar.{IsExtent, IsWorth, IsLongExt
 use Rattle.source_meaning.specs.task_parse.Grammar as grammar
 use Rattle.whole_programs.specs.Needs.{ExpressionFits, StatementFits, ChoiceFits, BlockFits}
 use Rattle.lower.specs.source_values.Runs.{is_long_extent}
-use Rattle.whole_programs.specs.Uses.{IsExtentOf, HasItsExtent}
+use Rattle.whole_programs.specs.Uses.{HasItsExtent}
 use Rattle.whole_programs.proofs.Tokens.{AreSound}
 
 -- ---- tokens that end no row
@@ -345,12 +346,18 @@ module _ (room : ℕ) (enough : 513 ≤ room) where
 -- ---- declarations
 
 shared_typed : (ts : List Token) (d : SharedDeclaration) → IsShared ts d → HasItsExtent d
-shared_typed ts d (grammar.shared h t n z of xs found is_h is_t is_n is is_z) = of_word of found (type_of_word t.kind of is_t)
+shared_typed ts d (grammar.shared h t n z of xs found is_h is_t is_n is is_z) = of_extent xs found is ∙ sym (of_word of (type_of_word t.kind of is_t))
   where
-    of_word : (of : WordType) (e : Extent) → IsOneWord of → IsExtentOf of e
-    of_word Long e h = absurd h
-    of_word Int e h = tt
-    of_word Unsigned e h = tt
+    of_extent : (ts : List Token) (e : Extent) → IsExtent ts e → is_long_extent e ≡ false
+    of_extent ts e grammar.nothing_written = refl
+    of_extent ts e (grammar.array o n c is_o is_n is_c) = refl
+    of_extent ts e (grammar.value q n is_q is_n) = refl
+    of_extent ts e (grammar.negative q m n is_q is_m is_n) = refl
+
+    of_word : (of : WordType) → IsOneWord of → is_long of ≡ false
+    of_word Long h = absurd h
+    of_word Int h = refl
+    of_word Unsigned h = refl
 shared_typed ts d (grammar.long h t m n z xs found is_h is_t is_m is_n is is_z) = of_long xs found is
   where
     of_long : (ts : List Token) (e : Extent) → IsLongExtent ts e → is_long_extent e ≡ true

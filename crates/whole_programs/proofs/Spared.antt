@@ -47,7 +47,7 @@ use Rattle.lower.specs.declared.operations.LongQuestion.TheVariants as question
 use Rattle.lower.specs.Operations.{binary_meaning, shift_operation, operand_type, long_meaning, long_shift}
 use Rattle.lower.specs.Lowered.{one, read_step, write_step, read_long, write_long, element_read, element_step, store_step, Lowering, as_word, as_test, as_long}
 use Rattle.lower.specs.Lowered.{word_program, value_test, widening, long_words, long_program, name_lowering, long_zero, operand_lowering, answer}
-use Rattle.lower.specs.Lowered.{long_binary_lowering, sides_lowering, shift_lowering, lowered_long, scalar_assignment, of_words}
+use Rattle.lower.specs.Lowered.{long_binary_lowering, sides_lowering, shift_lowering, widened_type, lowered_long, scalar_assignment, of_words}
 use Rattle.lower.specs.Lowered.{update_step, setting, updating, sides_set}
 use Rattle.lower.specs.Lowered.{update_element_step, index_and_value, element_updating, element_sides_set, element_assignment}
 use Rattle.lower.specs.Lowered.{unary_lowering, binary_lowering, sides_test, lowering, lowered_expression, lowered_test, assignment, loop_local}
@@ -213,14 +213,14 @@ module _ (p : Places) (n : ℕ) where
   lowering_spares t.sense = word_spares _ (tt, tt)
   lowering_spares (t.unary op e) = operand_spares (type_of e) op (lowering p e) (lowering_spares e)
   lowering_spares (t.binary op a b) =
-      sides_spares (operand_type op.operator (joined_type (type_of a) (type_of b))) op.operator (type_of a) (type_of b) (lowering p a) (lowering p b)
+      sides_spares (operand_type op.operator (joined_type (type_of a) (type_of b))) op.operator (widened_type a) (widened_type b) (lowering p a) (lowering p b)
       (lowering_spares a) (lowering_spares b)
   lowering_spares (t.shift op e count) = shift_spares (type_of e) op (lowering p e) count.value (lowering_spares e)
   lowering_spares (t.short_circuit op a b) =
       test_spares _ (sides_test_spares op (lowered_test p a) (lowered_test p b) (lowering_spares a).test (lowering_spares b).test)
 
   long_expression_spares : (e : CheckedExpression) → Spares n (lowered_long p e)
-  long_expression_spares e = long_program_spares (type_of e) (lowering p e) (lowering_spares e)
+  long_expression_spares e = long_program_spares (widened_type e) (lowering p e) (lowering_spares e)
 
   expression_spares : (e : CheckedExpression) → Spares n (lowered_expression p e)
   expression_spares e = (lowering_spares e).word

@@ -49,7 +49,7 @@ use Rattle.lower.specs.declared.operations.LongQuestion.TheVariants as question
 use Rattle.lower.specs.Operations.{binary_meaning, shift_operation, operand_type, long_meaning, long_shift}
 use Rattle.lower.specs.Lowered.{one, read_step, write_step, list_place, written_array, element_read, element_step, store_step, Lowering, as_word}
 use Rattle.lower.specs.Lowered.{as_test, as_long, high_address, read_long, write_long, widening, long_words, long_program, name_lowering, long_zero}
-use Rattle.lower.specs.Lowered.{operand_lowering, answer, long_binary_lowering, sides_lowering, shift_lowering, lowered_long, scalar_assignment, of_words}
+use Rattle.lower.specs.Lowered.{operand_lowering, answer, long_binary_lowering, sides_lowering, shift_lowering, widened_type, lowered_long, scalar_assignment, of_words}
 use Rattle.lower.specs.Lowered.{word_program, value_test, unary_lowering, binary_lowering, sides_test, lowering, lowered_expression, lowered_test}
 use Rattle.lower.specs.Lowered.{update_step, setting, updating, sides_set, assignment}
 use Rattle.lower.specs.Lowered.{stored_array, update_element_step, index_and_value, element_setting, element_updating, element_sides_set, element_assignment}
@@ -304,7 +304,7 @@ module _ (p : Places) (words : PlacesOfWords p) where
     lowering_sound room beneath (t.unary op e) f n =
         sound_operand (type_of e) op (lowering p e) (lowering_sound room (suc (suc beneath)) e f n)
     lowering_sound room beneath (t.binary op a b) f n =
-        sound_sides (operand_type op.operator (joined_type (type_of a) (type_of b))) op.operator (type_of a) (type_of b) (lowering p a) (lowering p b)
+        sound_sides (operand_type op.operator (joined_type (type_of a) (type_of b))) op.operator (widened_type a) (widened_type b) (lowering p a) (lowering p b)
         (lowering_sound room beneath a f.0 n.0) (lowering_sound room (suc (suc beneath)) b f.1 n.1)
     lowering_sound room beneath (t.shift op e count) f n =
         sound_shift (type_of e) op (lowering p e) count.value f.1 (lowering_sound room beneath e f.0 n)
@@ -317,7 +317,7 @@ module _ (p : Places) (words : PlacesOfWords p) where
     expression_sound room beneath e f n = (lowering_sound room beneath e f n).word
 
     long_sound : (room beneath : ℕ) (e : CheckedExpression) → ExpressionFits room beneath e → ExpressionUses shared e → Sound (lowered_long p e)
-    long_sound room beneath e f n = sound_long_program (type_of e) (lowering p e) (lowering_sound room beneath e f n)
+    long_sound room beneath e f n = sound_long_program (widened_type e) (lowering p e) (lowering_sound room beneath e f n)
 
     entries_sound : (runs : List Run) → AllByRecursion RunOfWords runs → Sound (entries (word_place p.map ListLength) p.map.list.address runs)
     entries_sound [] h = (tt, tt, tt)

@@ -80,11 +80,6 @@ numeral_of_words w x h = go (has_suffix w) h
 
 -- ---- steps
 
--- the width behind a token stays within 256 where none is too wide
-wide : (ends : Bool) (width : ℕ) → width ≤ 256 → (not ends && width == 256) ≡ false → cond ends 0 (width + 1) ≤ 256
-wide true width le h = omega arith
-wide false width le h = let other : (width == 256) ≡ false = h in grind arith
-
 -- what a step takes is sound, and counts the row on
 abbrev StepSound : Place → Step → Type 0
 StepSound p (Skip q) = q.width ≡ p.width
@@ -101,10 +96,15 @@ counted_sound p n kind value high width words = go (is_opening kind && p.depth =
     next : Place
     next = record { at = p.at + n; depth = depth_after kind (p.depth); width = width_after kind (p.width) }
 
+    -- where the row isn't full there is room for one more
+    wide : (ends : Bool) → (not ends && p.width == 256) ≡ false → cond ends 0 (p.width + 1) ≤ 256
+    wide true h = omega arith
+    wide false h = let other : (p.width == 256) ≡ false = h in grind (arith, width)
+
     go : (a b : Bool) → (not (is_end kind) && p.width == 256) ≡ b → StepSound p (cond a (Fails flaw.TooDeep) (cond b (Fails flaw.TooWide) (Take taken next)))
     go true b e = tt
     go false true e = tt
-    go false false e = (refl, wide (is_end kind) p.width width e, words)
+    go false false e = (refl, wide (is_end kind) e, words)
 
 sound_by : (text : List ℕ) (p : Place) (found : Piece) (n : ℕ) → p.width ≤ 256 → StepSound p (step_by text p found n)
 sound_by text p piece.Blank n width = refl

@@ -49,7 +49,8 @@ use Rattle.lower.specs.Operations.{binary_meaning, shift_operation, operand_type
 use Rattle.lower.specs.Lowered.{one, read_step, write_step, read_long, write_long, element_read, element_step, store_step, Lowering, as_word, as_test, as_long}
 use Rattle.lower.specs.Lowered.{word_program, value_test, widening, long_words, long_program, name_lowering, unary_lowering, long_zero}
 use Rattle.lower.specs.Lowered.{long_unary_lowering, operand_lowering, binary_lowering, answer, long_binary_lowering, sides_lowering, shift_lowering}
-use Rattle.lower.specs.Lowered.{sides_test, lowering, lowered_expression, lowered_long, lowered_test, assignment, scalar_assignment}
+use Rattle.lower.specs.Lowered.{sides_test, lowering, lowered_expression, widened_type, lowered_long, lowered_test, assignment}
+use Rattle.lower.specs.Lowered.{scalar_assignment}
 use Rattle.lower.specs.Lowered.{update_step, setting, long_setting, updating, of_words, sides_set}
 use Rattle.lower.specs.Lowered.{update_element_step, index_and_value, element_updating, element_sides_set, element_assignment}
 use Rattle.lower.specs.Lowered.{loop_local, entries, lowered_transition, lowered_statement, lowered_choice, lowered_block}
@@ -366,7 +367,7 @@ module _ (room : ℕ) (p : Places) where
       operand_way d a (type_of e) op (lowering p e) (two_fit room d e inner) (lowering_way d a e inner r) (lowering_way (suc (suc d)) a e f r)
   lowering_way d a (t.binary op b c) f r =
       let one = fits_above room (suc d) (suc (suc d)) c (omega arith) f.1 in
-      sides_way d a (operand_type op.operator (joined_type (type_of b) (type_of c))) op.operator (type_of b) (type_of c) (lowering p b) (lowering p c)
+      sides_way d a (operand_type op.operator (joined_type (type_of b) (type_of c))) op.operator (widened_type b) (widened_type c) (lowering p b) (lowering p c)
       (two_fit room d b f.0) (two_fit room (suc (suc d)) c f.1)
       (lowering_way d a b f.0 r.0) (lowering_way (suc d) a c one r.1) (lowering_way (suc (suc d)) a c f.1 r.1)
   lowering_way d a (t.shift op e count) f r =
@@ -527,7 +528,7 @@ module _ (room : ℕ) (p : Places) (shared : List SharedDeclaration) (even : p.m
       → ReadsAssigned a e → Written u x e next → EachWay room (long_setting p x.variable e) next (at 0 a)
   long_setting_way u a x e next f c r h =
       joined_way room (lowered_long p e) (write_long p x.variable) next (at 0 a)
-      (long_way room p 0 a (type_of e) (lowering p e) (two_fit room 0 e f) (lowering_way room p 0 a e f r) (EachWay room (write_long p x.variable) next)
+      (long_way room p 0 a (widened_type e) (lowering p e) (two_fit room 0 e f) (lowering_way room p 0 a e f r) (EachWay room (write_long p x.variable) next)
       (long_write_way u a x next (two_fit room 0 e f) c (λ b d. h b (subst (λ v. Covers v b) (sym (behind_expression u e (write x ∷ []))) d))))
 
   sides_set_way : (u a : ℕ → Bool) (x : VariableName) (op : PlacedOperator) (b e : CheckedExpression) (o : Option PlainOperation) (next : Place → Type 0)

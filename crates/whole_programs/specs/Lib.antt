@@ -5,4 +5,3 @@ pub mod Needs
 pub mod StackLaws
 pub use Rattle.source_meaning.specs.task_parse as task_parse
 pub use Rattle.lower.specs.source_values as source_values
-pub use Rattle.lower.specs.task_check as task_check

@@ -3,26 +3,23 @@ use Rattle.std.specs.Prelude.{◌≡◌, ◌<◌, true, false, List, Some, None,
 use Rattle.lower.specs.task_ast.declared.Extent.{Extent}
 use Rattle.lower.specs.task_ast.declared.SharedDeclaration.{SharedDeclaration}
 use Rattle.lower.specs.task_ast.declared.WordType.{WordType}
-use Rattle.lower.specs.task_ast.declared.WordType.TheVariants.{Unsigned, Int, Long}
 use Rattle.lower.specs.task_ast.declared.names.Variable.{Variable}
 use Rattle.lower.specs.task_ast.declared.names.Variable.TheVariants.{Shared, Local}
 use Rattle.lower.specs.task_ast.Tree as t
 use Rattle.lower.specs.task_ast.Paths.{CheckedExpression, CheckedStatement, CheckedChoice, CheckedBlock}
-use Rattle.lower.specs.task_ast.Types.{IsOneWord, joined_type, type_of}
+use Rattle.lower.specs.task_ast.Types.{IsOneWord, is_long, joined_type, type_of}
 use Rattle.lower.specs.task_check.Occurrences.{is_refused}
 use Rattle.lower.specs.source_values.Runs.{is_long_extent}
 use Rattle.privatise.specs.war_analysis.Plans.{IsScalarAt, IsArrayAt}
 
--- a variable of a type: where the type is long, so is the variable
+-- a variable of a type is a long exactly where the type is long
 abbrev pub IsExtentOf : WordType → Extent → Type 0
-IsExtentOf Long e = is_long_extent e ≡ true
-IsExtentOf Int e = Unit {0}
-IsExtentOf Unsigned e = Unit {0}
+IsExtentOf of e = is_long_extent e ≡ is_long of
 
 abbrev pub HasItsExtent : SharedDeclaration → Type 0
 HasItsExtent d = IsExtentOf d.word_type d.extent
 
--- the variable of a name of a type: where the type is long, it is a shared long
+-- the variable of a name of a type: a shared one of that width, or a local, which has one word
 abbrev pub IsOfType : List SharedDeclaration → WordType → Variable → Type 0
 IsOfType shared of (Shared v) = IsSomeAnd (slice_get shared v) (λ d. IsExtentOf of d.extent)
 IsOfType shared of (Local n) = IsOneWord of
