@@ -7,14 +7,12 @@ is_ready-requires-clause-plain c = text_plain _ _ c.requires.accepted.checks c.r
 
 pub is_ready-requires-clause-laid_out : goal.is_ready-requires-clause-laid_out
 is_ready-requires-clause-laid_out c =
-    let plain = text_plain _ _ c.requires.accepted.checks c.requires.no_longs in
-    let made = c.in_ok-layout.ensures (rw c.checked-checked.ensures plain.shared) in
+    let made = c.in_ok-layout.ensures in
     rw (c.checked-checked.ensures, c.allow.ensures) at made
 
 pub returns : goal.returns
 returns c =
-    let plain = text_plain _ _ c.requires.accepted.checks c.requires.no_longs in
-    let made = c.in_ok-layout.ensures (rw c.checked-checked.ensures plain.shared) in
+    let made = c.in_ok-layout.ensures in
     record {
       plans = c.in_ok-plan.plan;
       layout = c.in_ok-layout.layout;
