@@ -85,7 +85,7 @@ fn arrays_and_two_tasks(rt: HostRuntime) {
     assert!(rt; is_task(&layout, 1, &[], region(0x4DE8, 96)));
 }
 
-const LONG: &str = "shared unsigned long n = 70000; shared unsigned x;
+const LONG: &str = "shared unsigned long n = 70000UL; shared unsigned x;
     task t { n = n + x; transition_to(t); } entry t;";
 
 // The commit list has room for both words of n, which has two words and a copy of two.
@@ -118,5 +118,5 @@ fn a_long_has_two_words(rt: HostRuntime) {
         assert!(rt; false);
         return;
     };
-    assert!(rt; *task.privates() == [private_n]);
+    assert!(rt; task.privates() == [private_n].as_slice());
 }
