@@ -1,5 +1,6 @@
 -- The code of a program is instructions, whose jumps reach no further than ten bits say, and is no longer than its words say.
-use Rattle.codegen.specs.Code.{is_turned, compare_source}
+use Rattle.codegen.specs.Code.{is_turned, compare_source, any_at}
+use Rattle.codegen.proofs.Names.{Move, ToFram}
 use Rattle.codegen.proofs.Names.{sides}
 use Rattle.codegen.proofs.Names.{◌≡◌, ℕ, ◌+◌, ◌-◌, ◌*◌, ◌<◌, ◌≤◌, ◌==◌, List, [], ◌∷◌, ◌++◌, length, refl, arith, length-append, Bool, true, false}
 use Rattle.codegen.proofs.Names.{not, nat_le, nat_lt, Option, Some, None, if◌then◌else◌, nat_tests, word_sum, Condition, R4, R5, Register, Constant}
@@ -278,6 +279,11 @@ behind_below : {ms : List Form} (n : ℕ) (os : List Waiting) → Takes ms 0 (so
     → Takes (flushed (below_top os) ++ ms) 0 (n + kept_bytes os)
 behind_below n os x = so_takes (behind (flushed_takes (below_top os)) x) (omega (arith, source_short os))
 
+keep_takes : (b : Bool) (a : ℕ) (os : List Waiting) → (let under = below_top os in
+    Takes ((if b then flushed under else []) ++ Move (source_from (top_of os)) (ToFram a) ∷ []) (kept_bytes (if b then [] else under)) (4 + kept_bytes os))
+keep_takes true a os = behind_below 4 os (record { are = (tt, tt); bytes = omega arith })
+keep_takes false a os = record { are = (tt, tt); bytes = omega (arith, source_short os) }
+
 local_takes : (b : Bool) (n : ℕ) (os : List Waiting) → Takes (if b then [] else (flushed os ++ Push (Ram (local_address n)) ∷ []))
     (kept_bytes (if b then waiting.Local n ∷ os else [])) (4 + kept_bytes os)
 local_takes true n os = nothing_takes (kept_bytes os + 4) (4 + kept_bytes os) (omega arith)
@@ -319,7 +325,7 @@ mutual
       (2 * step_words s + kept_bytes os)
   step_takes bs (number w) os = nothing_takes _ _ (omega arith)
   step_takes bs (load a) os = nothing_takes _ _ (omega arith)
-  step_takes bs (keep a) os = behind_below 4 os (record { are = (tt, tt); bytes = omega arith })
+  step_takes bs (keep a) os = keep_takes (any_at a (below_top os)) a os
   step_takes bs (update o a) os = behind_below 4 os (record { are = (tt, tt); bytes = omega arith })
   step_takes bs (local n) os = local_takes (nat_lt n 8) n os
   step_takes bs (set_local n) os = behind_below 4 os (record { are = (tt, tt); bytes = omega (arith, target_bytes_most n (nat_lt n 8)) })
