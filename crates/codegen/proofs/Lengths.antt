@@ -8,7 +8,8 @@ use Rattle.codegen.proofs.Names.{Number, Ram, Source, source_bytes, ToRegister, 
 use Rattle.codegen.proofs.Names.{instruction_of, form_bytes, forms_bytes, instruction_words, instructions, bytes_are, forms_bytes-append, UnaryOperation}
 use Rattle.codegen.proofs.Names.{Negate, BinaryOperation, Multiply, Divide, Remainder, Plain, PlainOperation, And, Left, Right}
 use Rattle.codegen.proofs.Names.{Comparison, Equal, ArrayPlace, ListPlace, Step, Test, Program, number, load, keep, update, local, set_local, update_local}
-use Rattle.codegen.proofs.Names.{unary, binary, shift, long, element, emit_word, list_entry, versioned_read, versioned_write, versioned_update, sense, truth, choose}
+use Rattle.codegen.proofs.Names.{unary, binary, shift, long, element, emit_word, list_entry, versioned_read, versioned_write, versioned_update, sense, truth}
+use Rattle.codegen.proofs.Names.{choose}
 use Rattle.codegen.proofs.Names.{repeat, store_number, move_word, jump, holds, compares, both, either, fails, nothing, step, unary_words, binary_words}
 use Rattle.codegen.proofs.Names.{right_words, step_words, test_words, words_of, Bound, Waiting, local_register, local_address, waiting_source}
 use Rattle.codegen.proofs.Names.{flushed, top_of, source_from, below_top, kept, stays, right_source, power, top_power}
@@ -27,7 +28,8 @@ use Rattle.code_forms.specs.Forms as forms
 use Rattle.codegen.specs.declared.waiting.Waiting.TheVariants as waiting
 use Rattle.array_versions.proofs.Interface.{right_low}
 use Rattle.codegen.proofs.UpdateBytes.{ways_bytes, checked_bytes, known_bytes, reads_bytes, first_bytes, inside_bytes, near_size}
-use Rattle.codegen.proofs.CodeTakes.{Are, Takes, are-append, behind, so_takes, either_takes, nothing_takes, number_bytes, kept_bytes_of, kept_bytes, source_short}
+use Rattle.codegen.proofs.CodeTakes.{Are, Takes, are-append, behind, so_takes, either_takes, nothing_takes, number_bytes, kept_bytes_of, kept_bytes}
+use Rattle.codegen.proofs.CodeTakes.{source_short}
 use Rattle.codegen.proofs.CodeTakes.{shift_takes, shift_most, flushed_takes, cleared_takes, five_takes, four_takes, top_to_four_takes, top_to_five_takes}
 use Rattle.codegen.proofs.CodeTakes.{two_takes}
 use Rattle.codegen.proofs.LongLengths.{long_takes}

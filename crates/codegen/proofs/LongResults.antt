@@ -258,7 +258,8 @@ module _ (z : Setting) where
 
   -- the top goes
   dropped_part : (os : List Waiting) (pc : ℕ) (w : WordState) (v : ℕ) (vs : List ℕ) (u : Core) → w.stack ≡ v ∷ vs → Stands z.code pc (dropped (top_of os))
-      → Describes z os pc w u → Runs z.code [] (pop_cycles (top_of os)) u (Describes z (below_top os) (pc + forms_bytes (dropped (top_of os))) (with_stack vs w))
+      → Describes z os pc w u
+      → Runs z.code [] (pop_cycles (top_of os)) u (Describes z (below_top os) (pc + forms_bytes (dropped (top_of os))) (with_stack vs w))
   dropped_part [] pc w v vs u e h d = so_runs (five_part z [] pc w v vs u e h d) (λ t k. k.is)
   dropped_part (o ∷ os) pc w v vs u e h d =
       let same : pc ≡ pc + 0 = omega arith in

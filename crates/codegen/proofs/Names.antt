@@ -55,7 +55,8 @@ pub use Rattle.array_versions.specs.Form.{StepLocalsBelow, TestLocalsBelow, Loca
 pub use Rattle.array_versions.specs.Form.{EachStepWay, EachTestWay, EachWay, TestSpares, StepLoopsCount, TestLoopsCount, LoopsCount, StepOfWords, TestOfWords}
 pub use Rattle.array_versions.specs.Form.{OfWords}
 pub use Rattle.array_versions.specs.Operations.{is_true, compare_words, unary_word, plain_word, binary_word, shift_word, shifted_word}
-pub use Rattle.array_versions.specs.Program.{Step, Test, Program, number, load, keep, update, local, set_local, update_local, unary, binary, shift, long, element}
+pub use Rattle.array_versions.specs.Program.{Step, Test, Program, number, load, keep, update, local, set_local, update_local, unary, binary, shift, long}
+pub use Rattle.array_versions.specs.Program.{element}
 pub use Rattle.array_versions.specs.Program.{emit_word, list_entry, versioned_read, versioned_write, versioned_update, sense, truth, choose, repeat}
 pub use Rattle.array_versions.specs.Program.{store_number, move_word, jump, holds, compares, both, either, fails, nothing, step}
 pub use Rattle.array_versions.specs.View.{step_of, steps_of, test_of}
