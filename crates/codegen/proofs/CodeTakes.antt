@@ -1,5 +1,6 @@
 -- How much code takes: its bytes, with those of the pushes that are owed for words that wait.
-use Rattle.codegen.proofs.Names.{◌≡◌, ℕ, zero, suc, ◌+◌, ◌-◌, ◌*◌, ◌<◌, ◌≤◌, List, [], ◌∷◌, ◌++◌, refl, arith, Bool, true, false, nat_le, nat_lt, ltb-true, eqb-true, ◌==◌}
+use Rattle.codegen.proofs.Names.{◌≡◌, ℕ, zero, suc, ◌+◌, ◌-◌, ◌*◌, ◌<◌, ◌≤◌, List, [], ◌∷◌, ◌++◌, refl, arith, Bool, true, false, nat_le, nat_lt, ltb-true}
+use Rattle.codegen.proofs.Names.{eqb-true, ◌==◌}
 use Rattle.codegen.proofs.Names.{if◌then◌else◌, nat_tests, source_bytes, Form, Push, instruction_of, form_bytes, forms_bytes, instructions}
 use Rattle.codegen.proofs.Names.{forms_bytes-append, ShiftOperation, Left, Right, SignedRight, right_words, shift_words, Waiting, waiting_source, flushed}
 use Rattle.codegen.proofs.Names.{top_of}

@@ -77,7 +77,8 @@ pub use Rattle.codegen.specs.Code.{number_source, check_code, zero_code, fetch_c
 pub use Rattle.codegen.specs.Code.{failing, jump_over, decision, waiting_source, flushed, top_of, below_top, any_held, repeated, size, waiting_behind}
 pub use Rattle.codegen.specs.Code.{step_code, steps_code, local_address, local_target, source_from, cleared, kept, four_from, top_number, element_at, stays}
 pub use Rattle.codegen.specs.Code.{sides, right_source, top_power, two_code, power_code, five_from, top_to_four, top_to_five, two_to_registers, unary_middle}
-pub use Rattle.codegen.specs.Code.{binary_middle, plain_instruction, update_code, double, halve, right_code, shift_by, last_bit, shift_code, shift_middle, own_code, read_code}
+pub use Rattle.codegen.specs.Code.{binary_middle, plain_instruction, update_code, double, halve, right_code, shift_by, last_bit, shift_code, shift_middle}
+pub use Rattle.codegen.specs.Code.{own_code, read_code}
 pub use Rattle.codegen.specs.Code.{stored_code, write_code, pass_over, jump_back, holds_code, compares_code, truth_code, number_code, turn_end, turns_code}
 pub use Rattle.codegen.specs.Code.{waiting_after, bound_of, is_inside, test_code, block_code, code_of, rests, rest_source, to_rest, right_to_rest, update_sides}
 pub use Rattle.codegen.specs.Code.{made_code, first_update, by_version, inside_update, checked_update, indexed_update, known_update, known_index, update_at}

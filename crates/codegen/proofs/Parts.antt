@@ -1,6 +1,8 @@
 -- The steps that are straight code: words of FRAM, locals, jumps.
-use Rattle.codegen.proofs.Names.{◌≡◌, ℕ, ◌+◌, ◌-◌, ◌%◌, ◌<◌, Bool, true, false, nat_lt, List, [], ◌∷◌, length, Option, Some, refl, sym, ap, ap₂, ◌∙◌, ◌++◌, ◌==◌, subst, arith}
-use Rattle.codegen.proofs.Names.{put_other, ◌≤◌, eq-eqb, if◌then◌else◌, cycles_of, source_cycles, to_register, to_memory, Store, put, Goes, At, stretch, IsFram, Konst}
+use Rattle.codegen.proofs.Names.{◌≡◌, ℕ, ◌+◌, ◌-◌, ◌%◌, ◌<◌, Bool, true, false, nat_lt, List, [], ◌∷◌, length, Option, Some, refl, sym, ap, ap₂, ◌∙◌, ◌++◌}
+use Rattle.codegen.proofs.Names.{◌==◌, subst, arith}
+use Rattle.codegen.proofs.Names.{put_other, ◌≤◌, eq-eqb, if◌then◌else◌, cycles_of, source_cycles, to_register, to_memory, Store, put, Goes, At, stretch}
+use Rattle.codegen.proofs.Names.{IsFram, Konst}
 use Rattle.codegen.proofs.Names.{constant_value, work_number, Core, Source, source_operand, source_bytes, source_read, Constant, Fram, Ram, ToRegister, ToFram}
 use Rattle.codegen.proofs.Names.{ToRam, Move, Push, Branch, instruction_of, Stands, forms_bytes, forms_run, Runs, stands_at, end_of, WordState, behaves}
 use Rattle.codegen.proofs.Names.{goes_on, Jumps, broken, with_stack, pushed, stored, with_local, is_place, word_stored, jumped, Waiting, HasJumped}
@@ -11,7 +13,8 @@ use Rattle.codegen.proofs.Follows.{StandsFor, Follows, guarded}
 use Rattle.codegen.specs.declared.waiting.Waiting.TheVariants as waiting
 use Rattle.codegen.specs.Code.{any_at}
 use Rattle.std.proofs.lemmas.Bool.{or_parts}
-use Rattle.codegen.proofs.Operands.{number_price, Describes, Top, bare, number_top, load_price, load_less, store_cycles, store_price, waiting_word, waiting_words}
+use Rattle.codegen.proofs.Operands.{number_price, Describes, Top, bare, number_top, load_price, load_less, store_cycles, store_price, waiting_word}
+use Rattle.codegen.proofs.Operands.{waiting_words}
 
 module _ (z : Setting) where
   pub constant_part : (k : Konst) (pc : ℕ) (w : WordState) (u : Core) → length w.stack < z.room → Stands z.code pc (Push (Constant k) ∷ [])

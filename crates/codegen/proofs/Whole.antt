@@ -164,7 +164,8 @@ module _ (z : Setting) where
         let mid = pc + forms_bytes front in
         let most = owed os + (10 + (if compare_words c x y then ch t else cf t)) in
         by_form (λ p. Holds z (Aiming true from x y w.fram) p t) front (compare_form c from) (compare_words c x y) (reading_cycles stay) most pc (holding c)
-        (failing c) t u (omega (arith, owed_kept (below_top under), side_owed stay os, load_owed under)) (popped held r.fit.2.0) (popped failed r.fit.2.1) h fork
+        (failing c) t u (omega (arith, owed_kept (below_top under), side_owed stay os, load_owed under)) (popped held r.fit.2.0) (popped failed r.fit.2.1) h
+        fork
         (λ s. gathered z (compare_sides c os) ks pc s (λ s. compare_sides_part z c os pc w x y us u e s i))
         (λ q s k. compares_part z c (top_of os) mid x y t q words.1.0 words.0 s k)
 
