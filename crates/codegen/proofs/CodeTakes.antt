@@ -1,9 +1,9 @@
 -- How much code takes: its bytes, with those of the pushes that are owed for words that wait.
-use Rattle.codegen.proofs.Names.{◌≡◌, ℕ, zero, suc, ◌+◌, ◌-◌, ◌*◌, ◌<◌, ◌≤◌, List, [], ◌∷◌, ◌++◌, refl, arith, Bool, true, false, nat_le, nat_lt, ltb-true}
+use Rattle.codegen.proofs.Names.{◌≡◌, ℕ, zero, suc, ◌+◌, ◌-◌, ◌*◌, ◌<◌, ◌≤◌, List, [], ◌∷◌, ◌++◌, refl, arith, Bool, true, false, nat_le, nat_lt, ltb-true, eqb-true, ◌==◌}
 use Rattle.codegen.proofs.Names.{if◌then◌else◌, nat_tests, source_bytes, Form, Push, instruction_of, form_bytes, forms_bytes, instructions}
 use Rattle.codegen.proofs.Names.{forms_bytes-append, ShiftOperation, Left, Right, SignedRight, right_words, shift_words, Waiting, waiting_source, flushed, top_of}
 use Rattle.codegen.proofs.Names.{source_from, below_top, any_held, cleared, kept, number_source, four_from, five_from, top_to_four, top_to_five}
-use Rattle.codegen.proofs.Names.{two_to_registers, repeated, double, halve, right_code, shift_by, shift_middle, AreInstructions}
+use Rattle.codegen.proofs.Names.{two_to_registers, repeated, double, halve, right_code, shift_by, last_bit, shift_code, shift_middle, AreInstructions}
 use Rattle.msp_isa.specs.Encoding.{IsInstruction}
 use Rattle.codegen.specs.declared.waiting.Waiting.TheVariants as waiting
 use Rattle.codegen.proofs.Operands.{number_cases}
@@ -88,9 +88,22 @@ shift_by_takes SignedRight k =
     either_takes (nat_lt k 8) (λ b. 2 * (if b then k else 2 + (k - 8))) (repeated_takes halve k tt refl)
     (two_more 2 (k - 8) tt tt refl (repeated_takes halve (k - 8) tt refl))
 
+-- so does a shift by 15, which has fewer words
+last_takes : (o : ShiftOperation) (k : ℕ) → k ≡ 15 → Takes (last_bit o) 0 (2 * shift_words o k)
+last_takes Left k e = record { are = search arith; bytes = rw e omega arith }
+last_takes Right k e = record { are = search arith; bytes = rw e omega arith }
+last_takes SignedRight k e = record { are = search arith; bytes = rw e omega arith }
+
+shift_code_takes : (o : ShiftOperation) (k : ℕ) → Takes (shift_code o k) 0 (2 * shift_words o k)
+shift_code_takes o k = by (k == 15) refl
+  where
+    by : (b : Bool) → (k == 15) ≡ b → Takes (if b then last_bit o else (shift_by o k)) 0 (2 * shift_words o k)
+    by true e = last_takes o k (eqb-true k 15 e)
+    by false e = shift_by_takes o k
+
 pub shift_takes : (o : ShiftOperation) (k : ℕ) → Takes (shift_middle o k) 0 (2 * (if nat_le k 15 then shift_words o k else 1))
 shift_takes o k =
-    either_takes (nat_le k 15) (λ b. 2 * (if b then shift_words o k else 1)) (shift_by_takes o k) (record { are = (tt, tt); bytes = omega arith })
+    either_takes (nat_le k 15) (λ b. 2 * (if b then shift_words o k else 1)) (shift_code_takes o k) (record { are = (tt, tt); bytes = omega arith })
 
 pub shift_most : (b c : Bool) (k n : ℕ) → nat_le k 15 ≡ b → nat_lt k 8 ≡ c → n ≤ k + 1 → (if b then (if c then n else (3 + (k - 8))) else 1) ≤ 10
 shift_most true true k n e f l = let less : k < 8 = ltb-true k 8 f in omega arith

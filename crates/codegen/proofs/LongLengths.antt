@@ -9,7 +9,7 @@ use Rattle.array_versions.specs.declared.operations.LongOperation.{LongOperation
 use Rattle.array_versions.specs.declared.operations.LongOperation.TheVariants as with_longs
 use Rattle.codegen.specs.Code.{below_two, parted, parting, six_from, pair_from, pair_to_registers, side_from, side_source, long_sides, high_source, low_source}
 use Rattle.codegen.specs.Code.{long_calculation, below_code, above_code, times_code, long_double, long_halve, byte_to_left, byte_to_right, long_right_code, left_by}
-use Rattle.codegen.specs.Code.{right_by, dropped, high_code, high_behind, pair_lost, short_code, short_behind, left_code, left_behind, right_shift_code}
+use Rattle.codegen.specs.Code.{right_by, dropped, high_code, high_behind, pair_lost, short_code, short_behind, left_code, left_behind, right_shift_code, complement_code}
 use Rattle.codegen.specs.Code.{right_behind, widen_code, longs_lost, longs_code, longs_under, long_code, long_behind}
 use Rattle.codegen.proofs.CodeTakes.{Takes, behind, so_takes, nothing_takes, number_bytes, kept_bytes_of, kept_bytes, source_short, shift_takes, shift_most}
 use Rattle.codegen.proofs.CodeTakes.{flushed_takes, cleared_takes, four_takes, top_to_four_takes}
@@ -92,7 +92,8 @@ right_takes k l = by (nat_lt k 8) refl
     by true e = let less : k < 8 = ltb-true k 8 e in so_takes (low_right_takes k) (omega arith)
     by false e = so_takes (behind bytes_right_take (times_takes long_halve (k - 8) halve_takes)) (omega arith)
 
-short_takes : {ms : List Form} (os : List Waiting) → Takes ms 0 44 → Takes (short_code os ms) (kept_bytes (short_behind os)) (52 + kept_bytes os)
+short_takes : {ms : List Form} {m : ℕ} (os : List Waiting) → Takes ms 0 m
+    → Takes (short_code os ms) (kept_bytes (short_behind os)) (8 + m + kept_bytes os)
 short_takes os x =
     let ps = parting (pair_lost os) os in
     so_takes (behind (parted_takes (pair_lost os) os) (behind (pair_to_registers_takes ps) x)) (omega arith)
@@ -123,6 +124,9 @@ right_code_takes false k os e =
 
 -- ---- each operation
 
+complement_takes : Takes complement_code 0 4
+complement_takes = record { are = search arith; bytes = omega arith }
+
 widen_takes : Takes widen_code 0 8
 widen_takes = record { are = search arith; bytes = omega arith }
 
@@ -135,6 +139,8 @@ long_takes with_longs.Above os =
     so_takes (longs_take above_code 10 os (λ x y. record { are = (tt, (tt, (tt, (tt, (tt, tt))))); bytes = omega arith })) (omega arith)
 long_takes (with_longs.ShiftLeft k) os = left_code_takes (nat_lt k 16) k os refl
 long_takes (with_longs.ShiftRight k) os = right_code_takes (nat_lt k 16) k os refl
+long_takes with_longs.Complement os = so_takes (short_takes os complement_takes) (omega arith)
 long_takes with_longs.Widen os = so_takes (behind (top_to_four_takes os) widen_takes) (omega arith)
+long_takes with_longs.Join os = nothing_takes _ _ (omega arith)
 long_takes with_longs.LowWord os = dropped_takes os
 long_takes with_longs.HighWord os = high_takes os

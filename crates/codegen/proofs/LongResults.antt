@@ -12,7 +12,7 @@ use Rattle.array_versions.specs.declared.operations.LongOperation.TheVariants as
 use Rattle.array_versions.specs.Operations.{two_words, plain_long, long_to_left, long_to_right, sign_word, all_bits, long_pops, long_pushes, long_result}
 use Rattle.codegen.specs.Code.{below_two, long_waits, parted, parting, long_sides, low_source, high_source, long_calculation, below_code, above_code}
 use Rattle.codegen.specs.Code.{longs_lost, pair_lost, pair_to_registers, short_code, short_behind, left_by, right_by, dropped, lifted}
-use Rattle.codegen.specs.Code.{high_code, high_behind, left_code, left_behind, right_shift_code, right_behind, widen_code, long_code, long_behind}
+use Rattle.codegen.specs.Code.{high_code, high_behind, left_code, left_behind, right_shift_code, right_behind, complement_code, widen_code, long_code, long_behind}
 use Rattle.codegen.proofs.Memory.{AreWords}
 use Rattle.codegen.proofs.Stretches.{Setting, two_parts, nothing_run, so_runs, dearer}
 use Rattle.codegen.proofs.Registers.{HasWord, Holds, Has}
@@ -21,11 +21,11 @@ use Rattle.codegen.proofs.Operands.{words_same, dressed, flush_part, four_part, 
 use Rattle.codegen.proofs.Follows.{reach_more}
 use Rattle.codegen.proofs.Results.{Does, StepDoes, does_behind, made_waits, value_part}
 use Rattle.codegen.proofs.ShiftParts.{shift_part}
-use Rattle.codegen.proofs.LongWords.{Pair, pair, worth, pair_of, AreSmall, worth_small, far_left_high, far_left_low, far_right}
+use Rattle.codegen.proofs.LongWords.{Pair, pair, worth, pair_of, AreSmall, worth_small, high_of, low_of, sign_small, far_left_high, far_left_low, far_right}
 use Rattle.codegen.proofs.LongSides.{HasPair, HasLongs, right_cycles, pair_cycles, low_cycles, high_cycles, low_price, high_price, pair_owed, longs_owed}
 use Rattle.codegen.proofs.LongSides.{pair_to_registers_part, long_sides_part}
 use Rattle.codegen.proofs.LongSteps.{calculation_part, below_part, above_part, widen_part}
-use Rattle.codegen.proofs.LongShifts.{LongTurns, left_part, right_part}
+use Rattle.codegen.proofs.LongShifts.{LongTurns, left_part, right_part, complement_part}
 
 -- behind the pushes the low word of the long doesn't wait in R6
 parted_pair : (lost : Bool) (os : List Waiting) → pair_lost os ≡ lost → pair_lost (parting lost os) ≡ false
@@ -228,27 +228,27 @@ module _ (z : Setting) where
   -- ---- one long
 
   -- what is made of the long on top in R6 and R4
-  pair_does : (ms : List Form) (n : ℕ) (os : List Waiting) (pc : ℕ) (w : WordState) (a : Pair) (vs : List ℕ) (u : Core) → w.stack ≡ a.high ∷ (a.low ∷ vs)
+  pair_does : (c : ℕ) (ms : List Form) (n : ℕ) (os : List Waiting) (pc : ℕ) (w : WordState) (a : Pair) (vs : List ℕ) (u : Core) → w.stack ≡ a.high ∷ (a.low ∷ vs)
       → pair_lost os ≡ false → ((p : ℕ) (xs : List ℕ) (t : Core) → Stands z.code p ms → Holds z (HasPair a) p (with_stack xs w) t
-      → Runs z.code [] 22 t (Holds z (HasPair (pair_of n)) (p + forms_bytes ms) (with_stack xs w)))
+      → Runs z.code [] c t (Holds z (HasPair (pair_of n)) (p + forms_bytes ms) (with_stack xs w)))
       → Stands z.code pc (pair_to_registers os ++ ms) → Describes z os pc w u
-      → Does z (long_waits (kept (below_two os))) (pc + forms_bytes (pair_to_registers os ++ ms)) (32 + owed os) u
+      → Does z (long_waits (kept (below_two os))) (pc + forms_bytes (pair_to_registers os ++ ms)) (10 + c + owed os) u
       (goes_on [] (with_stack (n / 0x10000 ∷ (n % 0x10000 ∷ vs)) w))
-  pair_does ms n os pc w a vs u e lost middle h d =
+  pair_does c ms n os pc w a vs u e lost middle h d =
       let under = below_two os in
-      made_long (HasPair a) (pair_to_registers os) ms (kept under) (clear_cycles under + pair_cycles os) 22 (32 + owed os) pc w (pair_of n) vs u
+      made_long (HasPair a) (pair_to_registers os) ms (kept under) (clear_cycles under + pair_cycles os) c (10 + c + owed os) pc w (pair_of n) vs u
       (none_held under) (omega (arith, d.fits, ap (length {A = ℕ}) e)) (omega (arith, owed_kept under, pair_owed os)) h
       (λ s. pair_to_registers_part z os pc w a vs u e lost s d) (λ xs t s k. middle (pc + forms_bytes (pair_to_registers os)) xs t s k)
 
-  short_reaches : (ms : List Form) (f : ℕ → ℕ) (os : List Waiting) (pc : ℕ) (w : WordState) (a : Pair) (vs : List ℕ) (u : Core)
-      → LongTurns z ms 22 0x100000000 f → w.stack ≡ a.high ∷ (a.low ∷ vs) → AreSmall a → Stands z.code pc (short_code os ms) → Describes z os pc w u
-      → (let n = f (worth a) in Does z (short_behind os) (pc + forms_bytes (short_code os ms)) (32 + owed os) u
+  short_reaches : (c : ℕ) (ms : List Form) (f : ℕ → ℕ) (os : List Waiting) (pc : ℕ) (w : WordState) (a : Pair) (vs : List ℕ) (u : Core)
+      → LongTurns z ms c 0x100000000 f → w.stack ≡ a.high ∷ (a.low ∷ vs) → AreSmall a → Stands z.code pc (short_code os ms) → Describes z os pc w u
+      → (let n = f (worth a) in Does z (short_behind os) (pc + forms_bytes (short_code os ms)) (10 + c + owed os) u
       (goes_on [] (with_stack (n / 0x10000 ∷ (n % 0x10000 ∷ vs)) w)))
-  short_reaches ms f os pc w a vs u turns e la h d =
+  short_reaches c ms f os pc w a vs u turns e la h d =
       let n = f (worth a) in
-      parted_does (pair_lost os) os (λ ps. pair_to_registers ps ++ ms) (λ ps. long_waits (kept (below_two ps))) 32 pc w u
+      parted_does (pair_lost os) os (λ ps. pair_to_registers ps ++ ms) (λ ps. long_waits (kept (below_two ps))) (10 + c) pc w u
       (goes_on [] (with_stack (n / 0x10000 ∷ (n % 0x10000 ∷ vs)) w)) h d
-      (λ p t s k. pair_does ms n (parting (pair_lost os) os) p w a vs t e (parted_pair (pair_lost os) os refl)
+      (λ p t s k. pair_does c ms n (parting (pair_lost os) os) p w a vs t e (parted_pair (pair_lost os) os refl)
       (λ q xs r x j. turns q (worth a) (with_stack xs w) r (worth_small a la) x (record { is = j.is; held = as_worth a r.work la j.held })) s k)
     where
       as_worth : (a : Pair) (g : ℕ → ℕ) → AreSmall a → HasPair a g → HasPair (pair_of (worth a)) g
@@ -372,7 +372,7 @@ module _ (z : Setting) where
       → (let n = long_to_left (worth a) k in Does z (left_behind b os) (pc + forms_bytes (left_code b os k)) (32 + owed os) u
       (goes_on [] (with_stack (n / 0x10000 ∷ (n % 0x10000 ∷ vs)) w)))
   left_reaches true k os pc w a vs u few e la h d =
-      short_reaches (left_by k) (λ n. long_to_left n k) os pc w a vs u (left_part z k (ltb-true k 16 few)) e la h d
+      short_reaches 22 (left_by k) (λ n. long_to_left n k) os pc w a vs u (left_part z k (ltb-true k 16 few)) e la h d
   left_reaches false k os pc w a vs u few e la h d =
       let m : 16 ≤ k = grind (arith, nat_tests) in
       let is = left_words k a.low a.high m la.low la.high in
@@ -383,21 +383,48 @@ module _ (z : Setting) where
       → (let n = long_to_right (worth a) k in Does z (right_behind b os) (pc + forms_bytes (right_shift_code b os k)) (32 + owed os) u
       (goes_on [] (with_stack (n / 0x10000 ∷ (n % 0x10000 ∷ vs)) w)))
   right_reaches true k os pc w a vs u few e la h d =
-      short_reaches (right_by k) (λ n. long_to_right n k) os pc w a vs u (right_part z k (ltb-true k 16 few)) e la h d
+      short_reaches 22 (right_by k) (λ n. long_to_right n k) os pc w a vs u (right_part z k (ltb-true k 16 few)) e la h d
   right_reaches false k os pc w a vs u few e la h d =
       let m : 16 ≤ k = grind (arith, nat_tests) in
       let is = right_words k a.low a.high m la.low la.high in
       as_words w _ _ _ _ vs is.0 is.1 (far_right_reaches k os pc w a vs u e la h d)
 
+  complement_reaches : (os : List Waiting) (pc : ℕ) (w : WordState) (a : Pair) (vs : List ℕ) (u : Core) → w.stack ≡ a.high ∷ (a.low ∷ vs) → AreSmall a
+      → (let n = 4294967295 - worth a in
+      StepDoes z [] os (long with_longs.Complement) 16 pc w u (goes_on [] (with_stack (n / 0x10000 ∷ (n % 0x10000 ∷ vs)) w)))
+  complement_reaches os pc w a vs u e la h d =
+      let made = short_reaches 2 complement_code (λ n. 4294967295 - n) os pc w a vs u (complement_part z) e la h d in
+      let n = 4294967295 - worth a in
+      reach_more z (owed (short_behind os)) (Describes z (short_behind os) (pc + forms_bytes (short_code os complement_code))) (12 + owed os) (16 + owed os) u []
+      (GoesOn (with_stack (n / 0x10000 ∷ (n % 0x10000 ∷ vs)) w)) (omega arith) made
+
   -- ---- one word and two
 
+  -- two words that are one long already
+  join_reaches : (os : List Waiting) (pc : ℕ) (w : WordState) (a : Pair) (vs : List ℕ) (u : Core) → w.stack ≡ a.high ∷ (a.low ∷ vs) → AreSmall a
+      → (let n = worth a in
+      StepDoes z [] os (long with_longs.Join) 0 pc w u (goes_on [] (with_stack (n / 0x10000 ∷ (n % 0x10000 ∷ vs)) w)))
+  join_reaches os pc w a vs u e la h d =
+      let same : pc ≡ pc + 0 = omega arith in
+      let there = subst (λ l. Describes z os pc (with_stack l w) u) e d in
+      as_words w _ _ _ _ vs (high_of a la) (low_of a la)
+      (record {
+        spent = 0;
+        within = omega arith;
+        runs = nothing_run z (subst (λ p. Describes z os p (with_stack (a.high ∷ (a.low ∷ vs)) w) u) same there);
+      })
+
   widen_reaches : (os : List Waiting) (pc : ℕ) (w : WordState) (y : ℕ) (vs : List ℕ) (u : Core) → w.stack ≡ y ∷ vs → y < 0x10000 → length vs + 2 ≤ z.room
-      → StepDoes z [] os (long with_longs.Widen) 12 pc w u (goes_on [] (with_stack (sign_word y ∷ (y ∷ vs)) w))
+      → (let n = two_words y (sign_word y) in
+      StepDoes z [] os (long with_longs.Widen) 12 pc w u (goes_on [] (with_stack (n / 0x10000 ∷ (n % 0x10000 ∷ vs)) w)))
   widen_reaches os pc w y vs u e l room h d =
       let under = below_top os in
-      made_long (HasWord R4 y) (top_to_four os) widen_code (kept under) (clear_cycles under + load_cycles (top_of os)) 4 (12 + owed os) pc w
+      let a = pair y (sign_word y) in
+      let small : AreSmall a = record { low = l; high = sign_small y } in
+      as_words w _ _ _ _ vs (high_of a small) (low_of a small)
+      (made_long (HasWord R4 y) (top_to_four os) widen_code (kept under) (clear_cycles under + load_cycles (top_of os)) 4 (12 + owed os) pc w
       (pair y (sign_word y)) vs u (none_held under) room (omega (arith, owed_kept under, load_owed os)) h
-      (λ s. top_to_four_part z os pc w y vs u e s d) (λ xs t s k. widen_part z (pc + forms_bytes (top_to_four os)) y (with_stack xs w) t l s k)
+      (λ s. top_to_four_part z os pc w y vs u e s d) (λ xs t s k. widen_part z (pc + forms_bytes (top_to_four os)) y (with_stack xs w) t l s k))
 
   low_reaches : (os : List Waiting) (pc : ℕ) (w : WordState) (v y : ℕ) (vs : List ℕ) (u : Core) → w.stack ≡ v ∷ (y ∷ vs)
       → StepDoes z [] os (long with_longs.LowWord) 2 pc w u (goes_on [] (with_stack (y ∷ vs) w))
@@ -444,8 +471,14 @@ module _ (z : Setting) where
       let op = with_longs.ShiftRight k in
       two_taken (Ends op os pc u) vs (made_of op w) tt (λ ah al rest f.
       right_reaches (nat_lt k 16) k os pc w (pair al ah) rest u refl (e ∙ f) (small_pair ah al rest (subst AreWords f s)) h d)
+  long_reaches with_longs.Complement os pc w vs u e s room h d =
+      two_taken (Ends with_longs.Complement os pc u) vs (made_of with_longs.Complement w) tt (λ ah al rest f.
+      complement_reaches os pc w (pair al ah) rest u (e ∙ f) (small_pair ah al rest (subst AreWords f s)) h d)
   long_reaches with_longs.Widen os pc w [] u e s room h d = tt
   long_reaches with_longs.Widen os pc w (y ∷ rest) u e s room h d = widen_reaches os pc w y rest u e s.0 (omega (arith, room)) h d
+  long_reaches with_longs.Join os pc w vs u e s room h d =
+      two_taken (Ends with_longs.Join os pc u) vs (made_of with_longs.Join w) tt (λ ah al rest f.
+      join_reaches os pc w (pair al ah) rest u (e ∙ f) (small_pair ah al rest (subst AreWords f s)) h d)
   long_reaches with_longs.LowWord os pc w vs u e s room h d =
       two_taken (Ends with_longs.LowWord os pc u) vs (made_of with_longs.LowWord w) tt (λ v y rest f. low_reaches os pc w v y rest u (e ∙ f) h d)
   long_reaches with_longs.HighWord os pc w vs u e s room h d =

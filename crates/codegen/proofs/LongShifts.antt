@@ -2,16 +2,17 @@
 use Rattle.codegen.proofs.Names.{◌≡◌, ℕ, zero, suc, ◌+◌, ◌-◌, ◌*◌, ◌/◌, ◌%◌, ◌^◌, ◌<◌, ◌≤◌, ◌==◌, Bool, true, false, nat_le, nat_lt, if◌then◌else◌, List, []}
 use Rattle.codegen.proofs.Names.{◌∷◌, ◌++◌, refl, sym, ap, ap₂, ◌∙◌, subst, arith, le-leb, ltb-true, nat_tests, bit, bit_and, Core, Form, Calculate, Modify}
 use Rattle.codegen.proofs.Names.{Constant, R4, R6, Runs, Stands, forms_bytes, WordState}
+use Rattle.std.specs.Prelude.{bit_xor}
 use Rattle.msp_isa.specs.declared.instructions.TwoOp.TheVariants as op
 use Rattle.msp_isa.specs.declared.operands.Konst.TheVariants as konst
 use Rattle.array_versions.specs.msp_step.declared.effect.Modification.TheVariants as change
 use Rattle.array_versions.specs.Operations.{long_to_left, long_to_right}
-use Rattle.codegen.specs.Code.{times_code, long_double, long_halve, byte_to_left, byte_to_right, long_right_code, left_by, right_by}
+use Rattle.codegen.specs.Code.{times_code, long_double, long_halve, byte_to_left, byte_to_right, long_right_code, left_by, right_by, complement_code}
 use Rattle.codegen.proofs.Stretches.{Setting, two_parts, dearer, nothing_run}
 use Rattle.codegen.proofs.Registers.{Holds, line}
 use Rattle.codegen.proofs.ShiftParts.{high_byte, low_byte}
 use Rattle.codegen.proofs.LongWords.{pair_of, times, long_twice, half, twice_times, half_times, raised_times, lowered_times, twice_low, twice_high, half_low}
-use Rattle.codegen.proofs.LongWords.{half_high, top_is_zero, no_carry, swap, up_low, up_high, down_low, down_high}
+use Rattle.codegen.proofs.LongWords.{half_high, top_is_zero, no_carry, swap, up_low, up_high, down_low, down_high, turned_low, turned_high}
 use Rattle.codegen.proofs.LongSides.{HasPair}
 
 module _ (z : Setting) where
@@ -43,6 +44,15 @@ module _ (z : Setting) where
       let e : pc ≡ pc + 0 = omega arith in nothing_run z (subst (λ p. HasLong n p w t) e i)
   times_part most ms g l one (suc k) pc n w t s h i =
       dearer z (omega arith) (turns_on ms (times_code k ms) g (times k g) most l one (times_part most ms g l one k) pc n w t s h i)
+
+  -- each bit turned
+  pub complement_part : LongTurns complement_code 2 0x100000000 (λ n. 4294967295 - n)
+  complement_part pc n w t s h i =
+      let k = i.held in
+      line z complement_code 2 (pc + 4) _ i.is (tt, (tt, tt)) h ((tt, tt), ((tt, tt), tt)) refl refl (omega (arith, i.is.at)) (λ u. record {
+        is = u;
+        held = record { four = ap (λ v. bit_xor v 0xFFFF) k.four ∙ turned_low n s; six = ap (λ v. bit_xor v 0xFFFF) k.six ∙ turned_high n s };
+      })
 
   double_part : LongTurns long_double 2 0x100000000 long_twice
   double_part pc n w t s h i =

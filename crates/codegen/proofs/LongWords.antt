@@ -1,8 +1,10 @@
 -- Arithmetic of longs by their words: what the low words carry goes into the high ones.
 use Rattle.codegen.proofs.Names.{◌≡◌, ℕ, zero, suc, ◌+◌, ◌-◌, ◌*◌, ◌/◌, ◌%◌, ◌^◌, ◌<◌, ◌≤◌, ◌==◌, Bool, true, false, not, nat_le, nat_lt, if◌then◌else◌}
-use Rattle.codegen.proofs.Names.{refl, sym, ap, ap₂, ◌∙◌, arith, le-leb, eqb-true, bit, bit_and, nat_tests, and_le_r, mul-mod_first, pow-add, Flags, Word}
+use Rattle.codegen.proofs.Names.{refl, sym, ap, ap₂, ◌∙◌, arith, le-leb, ltb-true, eqb-true, bit, bit_and, and_mask, nat_tests, and_le_r, mul-mod_first, pow-add, Flags, Word}
 use Rattle.codegen.proofs.Names.{operated, flags_after, PlainOperation, Add, Subtract, And, plain_instruction}
 use Rattle.std.specs.Prelude.{bit_or, bit_xor}
+use Rattle.std.specs.Int.Bits.{xor_add_and}
+use Rattle.std.proofs.lemmas.Bool.{leb-true}
 use Rattle.std.proofs.Math.Nat.{div-div-eq-div-mul}
 use Rattle.std.proofs.lemmas.Nat.{and_shr, and_mod, or_shr, or_mod, xor_shr, xor_mod}
 use Rattle.array_versions.specs.declared.operations.PlainOperation.TheVariants.{Xor, Or}
@@ -47,14 +49,8 @@ high_of a s = let l = s.low in omega arith
 not_at_most : (m n : ℕ) → n < m → nat_le m n ≡ false
 not_at_most m n h = grind (arith, nat_tests)
 
-at_most : (m n : ℕ) → nat_le m n ≡ true → m ≤ n
-at_most m n e = grind (arith, nat_tests)
-
 more_than : (m n : ℕ) → nat_le m n ≡ false → n < m
 more_than m n e = grind (arith, nat_tests)
-
-is_below : (m n : ℕ) → nat_lt m n ≡ true → m < n
-is_below m n e = grind (arith, nat_tests)
 
 is_not_below : (m n : ℕ) → nat_lt m n ≡ false → n ≤ m
 is_not_below m n e = grind (arith, nat_tests)
@@ -64,13 +60,13 @@ is_not_below m n e = grind (arith, nat_tests)
 -- the high word of a sum, with what the low words carry
 sum_high : (c : Bool) (al ah bl bh : ℕ) → nat_le 0x10000 (al + bl + 0) ≡ c → al < 0x10000 → ah < 0x10000 → bl < 0x10000 → bh < 0x10000
     → (ah + bh + bit c) % 0x10000 ≡ (two_words al ah + two_words bl bh) % 2 ^ 32 / 0x10000
-sum_high true al ah bl bh e h i j k = let l = at_most 0x10000 (al + bl + 0) e in omega arith
+sum_high true al ah bl bh e h i j k = let l = leb-true 0x10000 (al + bl + 0) e in omega arith
 sum_high false al ah bl bh e h i j k = let l = more_than 0x10000 (al + bl + 0) e in omega arith
 
 -- and of a difference
 difference_high : (c : Bool) (al ah bl bh : ℕ) → nat_le 0x10000 (al + (0xFFFF - bl) + 1) ≡ c → al < 0x10000 → ah < 0x10000 → bl < 0x10000 → bh < 0x10000
     → (ah + (0xFFFF - bh) + bit c) % 0x10000 ≡ (two_words al ah + (2 ^ 32 - two_words bl bh)) % 2 ^ 32 / 0x10000
-difference_high true al ah bl bh e h i j k = let l = at_most 0x10000 (al + (0xFFFF - bl) + 1) e in omega arith
+difference_high true al ah bl bh e h i j k = let l = leb-true 0x10000 (al + (0xFFFF - bl) + 1) e in omega arith
 difference_high false al ah bl bh e h i j k = let l = more_than 0x10000 (al + (0xFFFF - bl) + 1) e in omega arith
 
 -- the words of what an operation makes of two longs: first the low ones' instruction, then the high ones'
@@ -112,16 +108,16 @@ are_made Or a b f s t =
 no_borrow_by : (c d : Bool) (al ah bl bh : ℕ) → nat_le 0x10000 (al + (0xFFFF - bl) + 1) ≡ c → nat_lt (two_words al ah) (two_words bl bh) ≡ d
     → al < 0x10000 → ah < 0x10000 → bl < 0x10000 → bh < 0x10000 → nat_le 0x10000 (ah + (0xFFFF - bh) + bit c) ≡ not d
 no_borrow_by true true al ah bl bh e f h i j k =
-    let l = at_most 0x10000 (al + (0xFFFF - bl) + 1) e in
-    let m = is_below (two_words al ah) (two_words bl bh) f in
+    let l = leb-true 0x10000 (al + (0xFFFF - bl) + 1) e in
+    let m = ltb-true (two_words al ah) (two_words bl bh) f in
     not_at_most 0x10000 (ah + (0xFFFF - bh) + 1) (omega arith)
 no_borrow_by true false al ah bl bh e f h i j k =
-    let l = at_most 0x10000 (al + (0xFFFF - bl) + 1) e in
+    let l = leb-true 0x10000 (al + (0xFFFF - bl) + 1) e in
     let m = is_not_below (two_words al ah) (two_words bl bh) f in
     le-leb 0x10000 (ah + (0xFFFF - bh) + 1) (omega arith)
 no_borrow_by false true al ah bl bh e f h i j k =
     let l = more_than 0x10000 (al + (0xFFFF - bl) + 1) e in
-    let m = is_below (two_words al ah) (two_words bl bh) f in
+    let m = ltb-true (two_words al ah) (two_words bl bh) f in
     not_at_most 0x10000 (ah + (0xFFFF - bh) + 0) (omega arith)
 no_borrow_by false false al ah bl bh e f h i j k =
     let l = more_than 0x10000 (al + (0xFFFF - bl) + 1) e in
@@ -137,16 +133,16 @@ below_carry a b s t =
 no_borrow_less : (c d : Bool) (al ah bl bh : ℕ) → nat_le 0x10000 (al + (0xFFFF - bl) + 0) ≡ c → nat_lt (two_words bl bh) (two_words al ah) ≡ d
     → al < 0x10000 → ah < 0x10000 → bl < 0x10000 → bh < 0x10000 → nat_le 0x10000 (ah + (0xFFFF - bh) + bit c) ≡ d
 no_borrow_less true true al ah bl bh e f h i j k =
-    let l = at_most 0x10000 (al + (0xFFFF - bl) + 0) e in
-    let m = is_below (two_words bl bh) (two_words al ah) f in
+    let l = leb-true 0x10000 (al + (0xFFFF - bl) + 0) e in
+    let m = ltb-true (two_words bl bh) (two_words al ah) f in
     le-leb 0x10000 (ah + (0xFFFF - bh) + 1) (omega arith)
 no_borrow_less true false al ah bl bh e f h i j k =
-    let l = at_most 0x10000 (al + (0xFFFF - bl) + 0) e in
+    let l = leb-true 0x10000 (al + (0xFFFF - bl) + 0) e in
     let m = is_not_below (two_words bl bh) (two_words al ah) f in
     not_at_most 0x10000 (ah + (0xFFFF - bh) + 1) (omega arith)
 no_borrow_less false true al ah bl bh e f h i j k =
     let l = more_than 0x10000 (al + (0xFFFF - bl) + 0) e in
-    let m = is_below (two_words bl bh) (two_words al ah) f in
+    let m = ltb-true (two_words bl bh) (two_words al ah) f in
     le-leb 0x10000 (ah + (0xFFFF - bh) + 0) (omega arith)
 no_borrow_less false false al ah bl bh e f h i j k =
     let l = more_than 0x10000 (al + (0xFFFF - bl) + 0) e in
@@ -178,7 +174,7 @@ no_carry v = let e : bit_and v 0 ≡ 0 = let l = and_le_r v 0 in omega arith in 
 -- the carry of a word's double is its sign
 sign_by : (c : Bool) (y : ℕ) → nat_le 0x10000 (y + y + 0) ≡ c → y < 0x10000 → all_bits c ≡ sign_word y
 sign_by true y e h =
-    let l = at_most 0x10000 (y + y + 0) e in
+    let l = leb-true 0x10000 (y + y + 0) e in
     let f : nat_lt y 32768 ≡ false = grind (arith, nat_tests) in sym (ap (λ b. if b then 0 else 65535) f)
 sign_by false y e h =
     let l = more_than 0x10000 (y + y + 0) e in
@@ -232,7 +228,7 @@ twice_low n = omega arith
 
 twice_by : (c : Bool) (n : ℕ) → nat_le 0x10000 (n % 0x10000 + n % 0x10000 + 0) ≡ c
     → (n / 0x10000 + n / 0x10000 + bit c) % 0x10000 ≡ long_twice n / 0x10000
-twice_by true n e = let l = at_most 0x10000 (n % 0x10000 + n % 0x10000 + 0) e in omega arith
+twice_by true n e = let l = leb-true 0x10000 (n % 0x10000 + n % 0x10000 + 0) e in omega arith
 twice_by false n e = let l = more_than 0x10000 (n % 0x10000 + n % 0x10000 + 0) e in omega arith
 
 pub twice_high : (n : ℕ) → (n / 0x10000 + n / 0x10000 + bit (nat_le 0x10000 (n % 0x10000 + n % 0x10000 + 0))) % 0x10000 ≡ long_twice n / 0x10000
@@ -298,3 +294,24 @@ pub far_right : (l h j : ℕ) → l < 0x10000 → two_words l h / 2 ^ (16 + j) �
 far_right l h j s =
     let e : two_words l h / 65536 ≡ h = omega arith in
     ap (λ m. two_words l h / m) (pow-add 2 16 j) ∙ sym (div-div-eq-div-mul (two_words l h) 65536 (2 ^ j)) ∙ ap (λ m. m / 2 ^ j) e
+
+-- ---- each bit turned
+
+pub sign_small : (y : ℕ) → sign_word y < 0x10000
+sign_small y = by (nat_lt y 32768)
+  where
+    by : (b : Bool) → (if b then 0 else 65535) < 0x10000
+    by true = omega arith
+    by false = omega arith
+
+bits_turned : (v : ℕ) → v < 0x10000 → bit_xor v 0xFFFF ≡ 0xFFFF - v
+bits_turned v h =
+    let all = xor_add_and v 0xFFFF in
+    let mask : bit_and v 0xFFFF ≡ v % 2 ^ 16 = and_mask v 16 in
+    omega (arith, all, mask)
+
+pub turned_low : (n : ℕ) → n < 0x100000000 → bit_xor (n % 0x10000) 0xFFFF ≡ (4294967295 - n) % 0x10000
+turned_low n h = bits_turned (n % 0x10000) (omega arith) ∙ omega arith
+
+pub turned_high : (n : ℕ) → n < 0x100000000 → bit_xor (n / 0x10000) 0xFFFF ≡ (4294967295 - n) / 0x10000
+turned_high n h = bits_turned (n / 0x10000) (omega arith) ∙ omega arith

@@ -3,7 +3,7 @@
 pub use Rattle.std.proofs.Common.{◌≡◌, ℕ, ◌+◌, ◌*◌, ◌%◌, ◌<◌, ◌==◌, not, List, [], ◌∷◌, ◌++◌, refl, sym, ap, ◌∙◌, subst, arith, Bool, true, false, ◌≤◌, nat_lt}
 pub use Rattle.std.proofs.Common.{nat_le, if◌then◌else◌, Some, ap₂, suc, ◌-◌, length, drop, get_or, append_assoc, drop-cons, add-one, rules, Result, Ok, Err}
 pub use Rattle.std.proofs.Common.{is_ok, append-nil, ◌/◌, eq-eqb, ne_eqb, eqb-true, zero, length-append, Option, None, ltb-true, ◌&&◌, ◌≢◌, ◌||◌, lt-ltb}
-pub use Rattle.std.proofs.Common.{nat_eq, suc-add, ◌^◌, bit_and, ◌⊎◌, inl, inr, ⊎_elim, w16, le-leb, le-ltb, All}
+pub use Rattle.std.proofs.Common.{nat_eq, suc-add, ◌^◌, bit_and, bit_xor, ◌⊎◌, inl, inr, ⊎_elim, w16, le-leb, le-ltb, All}
 pub use Rattle.std.proofs.Math.Bool.{not-not}
 pub use Rattle.std.proofs.lemmas.Bool.{both_ways, and_parts, cases_eq}
 pub use Rattle.std.proofs.lemmas.Bool.Decides.{nat_tests}
@@ -76,7 +76,7 @@ pub use Rattle.codegen.specs.Code.{number_source, check_code, zero_code, fetch_c
 pub use Rattle.codegen.specs.Code.{failing, jump_over, decision, waiting_source, flushed, top_of, below_top, any_held, repeated, size, waiting_behind}
 pub use Rattle.codegen.specs.Code.{step_code, steps_code, local_address, local_target, source_from, cleared, kept, four_from, top_number, element_at, stays}
 pub use Rattle.codegen.specs.Code.{sides, right_source, top_power, two_code, power_code, five_from, top_to_four, top_to_five, two_to_registers, unary_middle}
-pub use Rattle.codegen.specs.Code.{binary_middle, plain_instruction, update_code, double, halve, right_code, shift_by, shift_middle, own_code, read_code}
+pub use Rattle.codegen.specs.Code.{binary_middle, plain_instruction, update_code, double, halve, right_code, shift_by, last_bit, shift_code, shift_middle, own_code, read_code}
 pub use Rattle.codegen.specs.Code.{stored_code, write_code, pass_over, jump_back, holds_code, compares_code, truth_code, number_code, turn_end, turns_code}
 pub use Rattle.codegen.specs.Code.{waiting_after, bound_of, is_inside, test_code, block_code, code_of, rests, rest_source, to_rest, right_to_rest, update_sides}
 pub use Rattle.codegen.specs.Code.{made_code, first_update, by_version, inside_update, checked_update, indexed_update, known_update, known_index, update_at}

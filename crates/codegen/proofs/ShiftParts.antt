@@ -1,9 +1,9 @@
 -- Shifts by a count.
 use Rattle.codegen.proofs.Names.{◌≡◌, ℕ, zero, suc, ◌+◌, ◌-◌, ◌*◌, ◌/◌, ◌%◌, ◌^◌, ◌<◌, ◌≤◌, ◌==◌, not, List, [], ◌∷◌, ◌++◌, Some, refl, sym, ap, ◌∙◌, subst}
-use Rattle.codegen.proofs.Names.{arith, Bool, true, false, nat_lt, nat_le, ltb-true, if◌then◌else◌, bit_and, nat_tests, and_mask, mul-mod_first, pow-add, bit}
+use Rattle.codegen.proofs.Names.{arith, Bool, true, false, nat_lt, nat_le, ltb-true, if◌then◌else◌, bit_and, bit_xor, eqb-true, nat_tests, and_mask, mul-mod_first, pow-add, bit}
 use Rattle.codegen.proofs.Names.{arithmetic_shift, R4, Core, Register, Number, Constant, ToRegister, Form, Move, Calculate, Modify, instruction_of, form_bytes}
 use Rattle.codegen.proofs.Names.{Stands, forms_bytes, Runs, stands_front, stands_back, ShiftOperation, Left, Right, SignedRight, shifted_word, shift_word}
-use Rattle.codegen.proofs.Names.{WordState, repeated, right_code, shift_by, shift_middle}
+use Rattle.codegen.proofs.Names.{WordState, repeated, right_code, shift_by, last_bit, shift_code, shift_middle}
 use Rattle.std.proofs.Math.Nat.{div-div-eq-div-mul}
 use Rattle.std.proofs.lemmas.Grind.{and_high_numeral}
 use Rattle.msp_isa.specs.declared.instructions.TwoOp.TheVariants as op
@@ -115,6 +115,51 @@ sign_by false j v h e =
 
 signed_big : (j v : ℕ) → v < 0x10000 → times j half_signed (sign (swap v)) ≡ arithmetic_shift v (8 + j)
 signed_big j v h = sign_by (nat_le 0x8000 v) j v h refl
+
+-- the lowest bit alone, at the top
+low_bit : (y : ℕ) → 0 / 2 + 0x8000 * bit ((y % 2) == 1) ≡ (y * 2 ^ 15) % 0x10000
+low_bit y = by ((y % 2) == 1) refl
+  where
+    by : (b : Bool) → ((y % 2) == 1) ≡ b → 0 / 2 + 0x8000 * bit b ≡ (y * 2 ^ 15) % 0x10000
+    by true e = let q : y % 2 ≡ 1 = eqb-true (y % 2) 1 e in omega arith
+    by false e = let q : y % 2 ≡ 0 = grind (arith, nat_tests) in omega arith
+
+-- the top bit alone, at the bottom
+top_bit : (y : ℕ) → y < 0x10000 → bit (nat_le 0x10000 (y + y)) ≡ y / 2 ^ 15
+top_bit y h = by (nat_le 0x10000 (y + y)) refl
+  where
+    by : (b : Bool) → nat_le 0x10000 (y + y) ≡ b → bit b ≡ y / 2 ^ 15
+    by true e = let q : 0x10000 ≤ y + y = grind (arith, nat_tests) in omega arith
+    by false e = let q : y + y < 0x10000 = grind (arith, nat_tests) in omega arith
+
+top_alone : (y : ℕ) → y < 0x10000 → (0 + 0 + bit (nat_le 0x10000 (y + y + 0))) % 0x10000 ≡ y / 2 ^ 15
+top_alone y h =
+    let none : y + y + 0 ≡ y + y = omega arith in
+    let small : y / 2 ^ 15 < 0x10000 = omega arith in
+    ap (λ n. (0 + 0 + bit (nat_le 0x10000 n)) % 0x10000) none ∙ ap (λ n. (0 + 0 + n) % 0x10000) (top_bit y h) ∙ omega (arith, small)
+
+-- as many of it as a word has
+abbrev turned_bits : ℕ → ℕ → Bool → ℕ
+turned_bits d s carry = bit_xor ((d + (0xFFFF - s) + bit carry) % 0x10000) 0xFFFF
+
+sign_bits : (y : ℕ) → y < 0x10000 → bit_xor ((0xFFFF + bit (nat_le 0x10000 (y + y))) % 0x10000) 0xFFFF ≡ arithmetic_shift y 15
+sign_bits y h = by (nat_le 0x10000 (y + y)) refl
+  where
+    by : (b : Bool) → nat_le 0x10000 (y + y) ≡ b → bit_xor ((0xFFFF + bit b) % 0x10000) 0xFFFF ≡ arithmetic_shift y 15
+    by true e =
+        let q : 0x10000 ≤ y + y = grind (arith, nat_tests) in
+        sym (ap (λ b. if b then 0xFFFF - (0xFFFF - y) / 2 ^ 15 else y / 2 ^ 15) (le_true y (omega arith)) ∙ omega arith)
+    by false e =
+        let q : y + y < 0x10000 = grind (arith, nat_tests) in
+        sym (ap (λ b. if b then 0xFFFF - (0xFFFF - y) / 2 ^ 15 else y / 2 ^ 15) (le_false y (omega arith)) ∙ omega arith)
+
+signed_last : (y : ℕ) → y < 0x10000 → (let d = (y + y + 0) % 0x10000 in turned_bits d d (nat_le 0x10000 (y + y + 0)) ≡ arithmetic_shift y 15)
+signed_last y h =
+    let d = (y + y + 0) % 0x10000 in
+    let c = nat_le 0x10000 (y + y + 0) in
+    let same : d + (0xFFFF - d) + bit c ≡ 0xFFFF + bit c = omega arith in
+    let none : y + y + 0 ≡ y + y = omega arith in
+    ap (λ n. bit_xor (n % 0x10000) 0xFFFF) same ∙ ap (λ n. bit_xor ((0xFFFF + bit (nat_le 0x10000 n)) % 0x10000) 0xFFFF) none ∙ sign_bits y h
 
 module _ (z : Setting) where
   abbrev pub Turns : List Form → ℕ → (ℕ → ℕ) → Type 0
@@ -233,10 +278,29 @@ module _ (z : Setting) where
       (big sign_head (repeated (k - 8) (Modify change.Rra R4)) 2 (k - 8) (λ v. sign (swap v)) (times (k - 8) half_signed) (omega arith) sign_first
       (halves (k - 8)) _ refl (omega arith)))
 
+  -- by 15 bits
+  last_turns : (d : ShiftOperation) → Turns (last_bit d) 10 (shift_of d 15)
+  last_turns Left pc y w t s h i =
+      dearer z (omega arith)
+      (line z (last_bit Left) 3 (pc + 6) _ i.is (tt, (tt, (tt, tt))) h (tt, ((tt, tt), (tt, tt))) refl refl (omega (arith, i.is.at))
+      (λ u. record { is = u; held = ap (λ v. 0 / 2 + 0x8000 * bit (v % 2 == 1)) i.held ∙ low_bit y }))
+  last_turns Right pc y w t s h i =
+      dearer z (omega arith)
+      (line z (last_bit Right) 3 (pc + 6) _ i.is (tt, (tt, (tt, tt))) h ((tt, tt), ((tt, tt), ((tt, tt), tt))) refl refl (omega (arith, i.is.at))
+      (λ u. record { is = u; held = ap (λ v. (0 + 0 + bit (nat_le 0x10000 (v + v + 0))) % 0x10000) i.held ∙ top_alone y s }))
+  last_turns SignedRight pc y w t s h i =
+      dearer z (omega arith)
+      (line z (last_bit SignedRight) 3 (pc + 6) _ i.is (tt, (tt, (tt, tt))) h ((tt, tt), ((tt, tt), ((tt, tt), tt))) refl refl (omega (arith, i.is.at))
+      (λ u. record { is = u; held = ap (λ v. let d = (v + v + 0) % 0x10000 in turned_bits d d (nat_le 0x10000 (v + v + 0))) i.held ∙ signed_last y s }))
+
+  shift_code_turns : (b : Bool) (d : ShiftOperation) (k : ℕ) → (k == 15) ≡ b → k < 16 → Turns (if b then last_bit d else (shift_by d k)) 10 (shift_of d k)
+  shift_code_turns true d k e l = subst (λ n. Turns (last_bit d) 10 (shift_of d n)) (sym (eqb-true k 15 e)) (last_turns d)
+  shift_code_turns false d k e l = shift_turns d k l
+
   -- a shift by any count
   middle_turns : (b : Bool) (d : ShiftOperation) (k : ℕ) → nat_le k 15 ≡ b
-      → Turns (if b then shift_by d k else (Move (Constant konst.Zero) (ToRegister R4) ∷ [])) 10 (λ v. if b then shifted_word d v k else 0)
-  middle_turns true d k e pc y w t s h i = let l : k < 16 = grind (arith, nat_tests) in shift_turns d k l pc y w t s h i
+      → Turns (if b then shift_code d k else (Move (Constant konst.Zero) (ToRegister R4) ∷ [])) 10 (λ v. if b then shifted_word d v k else 0)
+  middle_turns true d k e pc y w t s h i = let l : k < 16 = grind (arith, nat_tests) in shift_code_turns (k == 15) d k refl l pc y w t s h i
   middle_turns false d k e pc y w t s h i =
       let ms = Move (Constant konst.Zero) (ToRegister R4) ∷ [] in
       dearer z (omega arith)

@@ -223,15 +223,25 @@ abbrev pub right_code : ℕ → List Form
 right_code zero = []
 right_code (suc k) = Calculate op.Bit (Constant konst.Zero) R4 ∷ Modify change.Rrc R4 ∷ repeated k halve
 
--- a shift of R4 by at most 15 bits: by 8 and more the bytes are exchanged first
+-- a shift of R4 by fewer than 15 bits: by 8 and more the bytes are exchanged first
 abbrev pub shift_by : ShiftOperation → ℕ → List Form
 shift_by Left k = if nat_lt k 8 then repeated k double else (Modify change.Swpb R4 ∷ Calculate op.And (Number 0xFF00) R4 ∷ repeated (k - 8) double)
 shift_by Right k = if nat_lt k 8 then right_code k else (Modify change.Swpb R4 ∷ Calculate op.And (Number 0xFF) R4 ∷ repeated (k - 8) halve)
 shift_by SignedRight k = if nat_lt k 8 then repeated k halve else (Modify change.Swpb R4 ∷ Modify change.Sxt R4 ∷ repeated (k - 8) halve)
 
+-- by 15 bits one is left, which goes through the carry; of a sign there come as many as a word has
+abbrev pub last_bit : ShiftOperation → List Form
+last_bit Left = Modify change.Rra R4 ∷ Move (Constant konst.Zero) (ToRegister R4) ∷ Modify change.Rrc R4 ∷ []
+last_bit Right = double ∷ Move (Constant konst.Zero) (ToRegister R4) ∷ Calculate op.Addc (Register R4) R4 ∷ []
+last_bit SignedRight = double ∷ Calculate op.Subc (Register R4) R4 ∷ Calculate op.Xor (Constant konst.MinusOne) R4 ∷ []
+
+-- by at most 15 bits
+abbrev pub shift_code : ShiftOperation → ℕ → List Form
+shift_code operation k = if k == 15 then last_bit operation else shift_by operation k
+
 -- by more it gives 0
 abbrev pub shift_middle : ShiftOperation → ℕ → List Form
-shift_middle operation k = if nat_le k 15 then shift_by operation k else (Move (Constant konst.Zero) (ToRegister R4) ∷ [])
+shift_middle operation k = if nat_le k 15 then shift_code operation k else (Move (Constant konst.Zero) (ToRegister R4) ∷ [])
 
 -- the index in R4 is compared with a length: where it isn't below it, over so many words
 abbrev pub check_code : ℕ → ℕ → List Form
@@ -776,6 +786,10 @@ abbrev pub right_behind : Bool → List Waiting → List Waiting
 right_behind true os = short_behind os
 right_behind false os = waiting.Number 0 ∷ (waiting.R4 ∷ kept (below_two os))
 
+-- each bit of the long in R6 and R4 turned
+abbrev pub complement_code : List Form
+complement_code = Calculate op.Xor (Constant konst.MinusOne) R4 ∷ turn_bits ∷ []
+
 -- an int in R4 becomes long: what its double carries is its sign
 abbrev pub widen_code : List Form
 widen_code = Move (Register R4) (ToRegister R6) ∷ Calculate op.Add (Register R6) R6 ∷ borrow_mask ∷ turn_bits ∷ []
@@ -802,7 +816,9 @@ long_code with_longs.Below os = longs_code below_code os
 long_code with_longs.Above os = longs_code above_code os
 long_code (with_longs.ShiftLeft k) os = left_code (nat_lt k 16) os k
 long_code (with_longs.ShiftRight k) os = right_shift_code (nat_lt k 16) os k
+long_code with_longs.Complement os = short_code os complement_code
 long_code with_longs.Widen os = top_to_four os ++ widen_code
+long_code with_longs.Join os = []
 long_code with_longs.LowWord os = dropped (top_of os)
 long_code with_longs.HighWord os = high_code os
 
@@ -813,7 +829,9 @@ long_behind with_longs.Below os = waiting.R6 ∷ longs_under os
 long_behind with_longs.Above os = waiting.R6 ∷ longs_under os
 long_behind (with_longs.ShiftLeft k) os = left_behind (nat_lt k 16) os
 long_behind (with_longs.ShiftRight k) os = right_behind (nat_lt k 16) os
+long_behind with_longs.Complement os = short_behind os
 long_behind with_longs.Widen os = long_waits (kept (below_top os))
+long_behind with_longs.Join os = os
 long_behind with_longs.LowWord os = below_top os
 long_behind with_longs.HighWord os = high_behind os
 

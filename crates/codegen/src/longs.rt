@@ -471,6 +471,20 @@ fn emit_long_right(
     }
 }
 
+// Each bit of the long on top turned.
+fn emit_complement(waiting: &mut Vec<Waiting>, code: &mut Vec<Instr>) -> Result<(), AllocError>
+    ensures code { OnOk result (code.new.items
+        ≡ code.old.items ++ instructions (long_code long_op.Complement waiting.old.items)) }
+    ensures waiting { OnOk result (waiting.new.items ≡ long_behind long_op.Complement waiting.old.items) }
+{
+    emit_parted_pair(waiting, code)?;
+    code.extend_from_slice(&[
+        two(TwoOp::Xor, constant(Konst::MinusOne), TO_R4),
+        two(TwoOp::Xor, constant(Konst::MinusOne), TO_R6),
+    ])?;
+    wait_long(waiting)
+}
+
 // ---- one word and two
 
 // The int on top as a long.
@@ -514,7 +528,9 @@ pub fn emit_long(
         LongOperation::Above => emit_above(waiting, code),
         LongOperation::ShiftLeft(count) => emit_long_left(count, waiting, code),
         LongOperation::ShiftRight(count) => emit_long_right(count, waiting, code),
+        LongOperation::Complement => emit_complement(waiting, code),
         LongOperation::Widen => emit_widen(waiting, code),
+        LongOperation::Join => Ok(()),
         LongOperation::LowWord => emit_low(waiting, code),
         LongOperation::HighWord => emit_high(waiting, code),
     }

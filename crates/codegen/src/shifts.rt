@@ -4,7 +4,7 @@ ghost use Rattle.std.specs.Prelude.{◌≡◌, [], ◌∷◌, ◌++◌, OnOk};
 ghost use Rattle.code_forms.specs.Placed.{instructions};
 ghost use Rattle.msp_isa.specs.declared.instructions.OneOp.TheVariants as OneOps;
 ghost use Rattle.array_versions.specs.declared.operations.ShiftOperation.TheVariants as shift_op;
-ghost use Rattle.codegen.specs.Code.{in_r4, repeated, double, halve, right_code, shift_by, shift_middle, step_code, waiting_behind};
+ghost use Rattle.codegen.specs.Code.{in_r4, repeated, double, halve, right_code, shift_by, last_bit, shift_middle, step_code, waiting_behind};
 ghost use Rattle.array_versions.specs.Program as value;
 
 use crate::forms::{R4, TO_R4, constant, two};
@@ -89,6 +89,30 @@ fn emit_signed_right_by(count: u16, code: &mut Vec<Instr>) -> Result<(), AllocEr
     }
 }
 
+// By 15 bits: the one that is left goes through the carry.
+fn emit_last_bit(operation: ShiftOperation, code: &mut Vec<Instr>) -> Result<(), AllocError>
+    ensures { OnOk result (code.new.items ≡ code.old.items ++ instructions (last_bit operation)) }
+{
+    let zero = two(TwoOp::Mov, constant(Konst::Zero), TO_R4);
+    match operation {
+        ShiftOperation::Left => code.extend_from_slice(&[
+            Instr::One(OneOp::Rra(Width::Word, IN_R4)),
+            zero,
+            Instr::One(OneOp::Rrc(Width::Word, IN_R4)),
+        ]),
+        ShiftOperation::Right => code.extend_from_slice(&[
+            two(TwoOp::Add, R4, TO_R4),
+            zero,
+            two(TwoOp::Addc, R4, TO_R4),
+        ]),
+        ShiftOperation::SignedRight => code.extend_from_slice(&[
+            two(TwoOp::Add, R4, TO_R4),
+            two(TwoOp::Subc, R4, TO_R4),
+            two(TwoOp::Xor, constant(Konst::MinusOne), TO_R4),
+        ]),
+    }
+}
+
 /// Appends the shift of R4.
 pub fn emit_shift_middle(
     operation: ShiftOperation,
@@ -99,6 +123,9 @@ pub fn emit_shift_middle(
 {
     if count > 15 {
         return code.extend_from_slice(&[two(TwoOp::Mov, constant(Konst::Zero), TO_R4)]);
+    }
+    if count == 15 {
+        return emit_last_bit(operation, code);
     }
     match operation {
         ShiftOperation::Left => emit_left_by(count, code),

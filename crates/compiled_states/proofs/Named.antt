@@ -14,7 +14,7 @@ use Rattle.image_reports.specs.layout_facts.war_analysis.PlanValue.{TaskPlanValu
 use Rattle.image_reports.specs.layout_facts.memory_map.declared.place.VariablePlace.{VariablePlace}
 use Rattle.image_reports.specs.layout_facts.memory_map.declared.place.VariablePlace.TheVariants.{Scalar, Array}
 use Rattle.image_reports.specs.layout_facts.memory_map.MemoryMap.{MemoryMap}
-use Rattle.image_reports.specs.layout_facts.memory_map.Places.{end_of, home_region, AreInOrder}
+use Rattle.image_reports.specs.layout_facts.memory_map.Places.{end_of, scalar_words, home_region, AreInOrder}
 use Rattle.image_reports.specs.layout_facts.memory_map.Laws.{AreApart}
 use Rattle.image_reports.proofs.layout_facts.memory_map.Interface.{apart_of, in_order_end}
 use Rattle.image_reports.specs.layout_facts.stands_for.Layout.{IsSharedWord}
@@ -36,12 +36,13 @@ use Rattle.compiled_states.proofs.Held.{within, bounds_of, none_held, all_held}
 -- a variable of a map has the words of its place
 pub words_are : (w : WordType) (e : Extent) (place : VariablePlace) → IsOfKind e place
     → word_count (value_type_of w e) (length_of e) ≡ (home_region place).words
-words_are word.Unsigned (extent.Scalar v) (Scalar home copy) h = refl
-words_are word.Int (extent.Scalar v) (Scalar home copy) h = refl
-words_are word.Long (extent.Scalar v) (Scalar home copy) h = refl
+words_are word.Unsigned (extent.Scalar v) (Scalar home copy width) h = sym (ap scalar_words h)
+words_are word.Int (extent.Scalar v) (Scalar home copy width) h = sym (ap scalar_words h)
+words_are word.Long (extent.Scalar v) (Scalar home copy width) h = sym (ap scalar_words h)
+words_are w (extent.Long n) (Scalar home copy width) h = sym (ap scalar_words h)
 words_are w (extent.Scalar v) (Array elements length copies) h = absurd h
-words_are w (extent.Long n) place h = absurd h
-words_are w (extent.Array n) (Scalar home copy) h = absurd h
+words_are w (extent.Long n) (Array elements length copies) h = absurd h
+words_are w (extent.Array n) (Scalar home copy width) h = absurd h
 words_are w (extent.Array n) (Array elements length copies) h = sym h
 
 -- a word of a variable lies where the variables are

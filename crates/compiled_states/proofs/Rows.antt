@@ -10,7 +10,7 @@ use Rattle.image_reports.specs.layout_facts.task_ast.declared.Extent.TheVariants
 use Rattle.image_reports.specs.layout_facts.task_ast.declared.SharedDeclaration.{SharedDeclaration}
 use Rattle.image_reports.specs.layout_facts.memory_map.declared.place.VariablePlace.{VariablePlace}
 use Rattle.image_reports.specs.layout_facts.memory_map.declared.place.VariablePlace.TheVariants.{Scalar, Array}
-use Rattle.image_reports.specs.layout_facts.memory_map.Places.{end_of, home_region, AreInOrder}
+use Rattle.image_reports.specs.layout_facts.memory_map.Places.{end_of, scalar_words, home_region, AreInOrder}
 use Rattle.image_reports.proofs.layout_facts.memory_map.Interface.{in_order_end}
 use Rattle.image_reports.specs.layout_facts.stands_for.StandsFor.{words_at}
 use Rattle.image_reports.specs.layout_facts.compiled_model.View.{row_in}
@@ -60,10 +60,11 @@ words_are_row f (w ∷ row) (suc n) a long h =
 
 -- a place has as many words as its declaration begins with
 begins_with : (e : Extent) (place : VariablePlace) → IsOfKind e place → length (initial_words e) ≡ (home_region place).words
-begins_with (extent.Scalar w) (Scalar home copy) h = refl
+begins_with (extent.Scalar w) (Scalar home copy width) h = sym (ap scalar_words h)
+begins_with (extent.Long m) (Scalar home copy width) h = sym (ap scalar_words h)
 begins_with (extent.Scalar w) (Array elements n copies) h = absurd h
-begins_with (extent.Long m) place h = absurd h
-begins_with (extent.Array m) (Scalar home copy) h = absurd h
+begins_with (extent.Long m) (Array elements n copies) h = absurd h
+begins_with (extent.Array m) (Scalar home copy width) h = absurd h
 begins_with (extent.Array m) (Array elements n copies) h = length-replicate m 0 ∙ sym h
 
 -- Where a FRAM has the words of rows, one for each declaration and of its length, at the places of the declared variables, the rows stand there.

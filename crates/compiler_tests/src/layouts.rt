@@ -1,5 +1,5 @@
 //! The layout of a whole text, with the places that no image shows. The addresses are counted by hand from the order and the sizes.
-use privatise::{ArrayCopies, Layout, PrivateScalar, Region, VariablePlace, layout};
+use privatise::{ArrayCopies, Layout, PrivateScalar, Region, ScalarWidth, VariablePlace, layout};
 use source_meaning::accept;
 use std::alloc::Global;
 use war_analysis::analyse;
@@ -52,6 +52,7 @@ fn arrays_and_two_tasks(rt: HostRuntime) {
     let x = VariablePlace::Scalar {
         home: 0x4424,
         copy: 0x4436,
+        width: ScalarWidth::OneWord,
     };
     let a = VariablePlace::Array {
         elements: 0x4426,
@@ -69,6 +70,7 @@ fn arrays_and_two_tasks(rt: HostRuntime) {
     let y = VariablePlace::Scalar {
         home: 0x4434,
         copy: 0x4440,
+        width: ScalarWidth::OneWord,
     };
     assert!(rt; layout.variables() == [x, a, b, y].as_slice());
     assert!(rt; layout.boot() == region(0x4442, 823) && layout.commit() == region(0x4AB0, 200));
@@ -77,7 +79,44 @@ fn arrays_and_two_tasks(rt: HostRuntime) {
         number: 3,
         home: 0x4434,
         copy: 0x4440,
+        width: ScalarWidth::OneWord,
     };
     assert!(rt; is_task(&layout, 0, &[private_y], region(0x4C40, 212)));
     assert!(rt; is_task(&layout, 1, &[], region(0x4DE8, 96)));
+}
+
+const LONG: &str = "shared unsigned long n = 70000UL; shared unsigned x;
+    task t { n = n + x; transition_to(t); } entry t;";
+
+// The commit list has room for both words of n, which has two words and a copy of two.
+#[test]
+fn a_long_has_two_words(rt: HostRuntime) {
+    let Some(layout) = layout_of(rt.alloc(), LONG) else {
+        assert!(rt; false);
+        return;
+    };
+    assert!(rt; layout.list() == region(0x4410, 6) && layout.entries() == 2);
+    assert!(rt; layout.homes() == region(0x441C, 3) && layout.copies() == region(0x4422, 3));
+    let n = VariablePlace::Scalar {
+        home: 0x441C,
+        copy: 0x4422,
+        width: ScalarWidth::TwoWords,
+    };
+    let x = VariablePlace::Scalar {
+        home: 0x4420,
+        copy: 0x4426,
+        width: ScalarWidth::OneWord,
+    };
+    assert!(rt; layout.variables() == [n, x].as_slice());
+    let private_n = PrivateScalar {
+        number: 0,
+        home: 0x441C,
+        copy: 0x4422,
+        width: ScalarWidth::TwoWords,
+    };
+    let Some(task) = layout.tasks().get(0) else {
+        assert!(rt; false);
+        return;
+    };
+    assert!(rt; task.privates() == [private_n].as_slice());
 }

@@ -1,8 +1,6 @@
 -- The code has its room.
-use Rattle.std.proofs.Common.{◌≡◌, ◌≤◌, ◌∙◌, ℕ, suc, List, [], ◌∷◌, length, refl, sym, ap, arith, Some, get_or}
+use Rattle.std.proofs.Common.{◌≡◌, ◌≤◌, ℕ, suc, List, [], ◌∷◌, length, refl, arith, Some}
 use Rattle.std.specs.Prelude.{slice_get}
-use Rattle.std.proofs.lemmas.Option.{slice_get_within, slice_get-get_or}
-use Rattle.std.proofs.lemmas.List.{length-map}
 use Rattle.task_ast.specs.declared.SharedDeclaration.{SharedDeclaration}
 use Rattle.linked_code.specs.cost_bound.declared.allowance.Allow.{Allow}
 use Rattle.linked_code.specs.cost_bound.Allowance.{CheckedTask, CheckedProgram, IsAllowed, scalars_of}

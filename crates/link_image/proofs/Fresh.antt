@@ -1,6 +1,6 @@
 -- The world of an image before anything was done.
-use Rattle.std.proofs.Common.{◌≡◌, ◌≢◌, ℕ, zero, suc, ◌+◌, ◌-◌, ◌*◌, ◌/◌, ◌%◌, ◌<◌, ◌≤◌, ◌==◌, ◌&&◌, nat_le, nat_lt, if◌then◌else◌, cond, ne_eqb, refl, sym}
-use Rattle.std.proofs.Common.{ap, ap₂, ◌∙◌, subst, arith, true, false, List, [], ◌∷◌, length, map, All}
+use Rattle.std.proofs.Common.{◌≡◌, ◌≢◌, ℕ, suc, ◌+◌, ◌-◌, ◌*◌, ◌/◌, ◌%◌, ◌<◌, ◌≤◌, ◌==◌, ◌&&◌, nat_le, nat_lt, if◌then◌else◌, cond, ne_eqb, refl}
+use Rattle.std.proofs.Common.{ap, ap₂, ◌∙◌, arith, true, false, List, [], ◌∷◌, length, map, All}
 use Rattle.std.proofs.lemmas.Bool.Decides.{nat_tests}
 use Rattle.std.specs.Prelude.{slice_index}
 use Rattle.linked_code.specs.cost_bound.declared.allowance.Allow.{Allow}
@@ -10,10 +10,9 @@ use Rattle.source_meaning.specs.Acceptance.{IsAcceptedText}
 use Rattle.source_meaning.proofs.Interface.{accepted_texts_run}
 use Rattle.image_text.specs.ImageValue.{ImageValue, place_of}
 use Rattle.linked_code.specs.fram_board.Bus.{is_fram}
-use Rattle.linked_code.specs.machine_effects.World.{World}
 use Rattle.linked_code.specs.machine_effects.Machine.{IsFram, fram_of}
 use Rattle.linked_code.proofs.machine_effects.Interface.{index_small}
-use Rattle.linked_code.specs.code_forms.Placed.{words_of, Holds}
+use Rattle.linked_code.specs.code_forms.Placed.{Holds}
 use Rattle.compiled_runs.specs.stands_for.Layout.{IsSharedWord}
 use Rattle.compiled_runs.specs.stands_for.StandsFor.{HoldsWords, RestsAt}
 use Rattle.codegen.proofs.array_versions.Interface.{zero_unless}
@@ -21,12 +20,12 @@ use Rattle.lower.specs.Lowered.{lowered}
 use Rattle.whole_programs.proofs.Interface.{privates_are_few}
 use Rattle.layout_facts.specs.Facts.{HasLayout}
 use Rattle.layout_facts.proofs.Interface.{tasks_match}
-use Rattle.linked_code.specs.Linked.{linked, CodeFits}
+use Rattle.linked_code.specs.Linked.{CodeFits}
 use Rattle.linked_code.proofs.Interface.{linked_is_code}
 use Rattle.compiled_runs.specs.compiled_model.Places.{program_places}
 use Rattle.compiled_runs.specs.compiled_model.View.{is_within, word_of_row, shared_word, state_view}
 use Rattle.compiled_runs.proofs.Interface.{sources_have_room}
-use Rattle.link_image.specs.Words.{code_words, code_region, data_word, image_word, AreImageWords}
+use Rattle.link_image.specs.Words.{code_words, code_region, data_word}
 use Rattle.link_image.specs.Compiled.{IsCompiled}
 use Rattle.link_image.specs.Laws.{fresh_world, IsFreshImage, ImagesAreFresh}
 use Rattle.link_image.proofs.Initial.{initial_rows_are}

@@ -1,5 +1,5 @@
 -- The words that shared variables start with are words.
-use Rattle.std.proofs.Common.{◌≡◌, ℕ, zero, suc, ◌+◌, ◌-◌, ◌^◌, ◌/◌, ◌%◌, ◌<◌, ◌&&◌, ◌==◌, nat_lt, refl, sym, ap, ap₂, ◌∙◌, subst, arith, Bool, true, false}
+use Rattle.std.proofs.Common.{◌≡◌, ℕ, zero, suc, ◌^◌, ◌/◌, ◌%◌, ◌<◌, ◌&&◌, ◌==◌, nat_lt, refl, sym, ap, ap₂, subst, arith, true}
 use Rattle.std.proofs.Common.{List, []}
 use Rattle.std.proofs.Common.{◌∷◌, ◌++◌, length, map, replicate, All}
 use Rattle.std.proofs.lemmas.List.Elements.{All-nil, All-cons, All-head, All-tail}
@@ -9,7 +9,7 @@ use Rattle.task_ast.specs.declared.SharedDeclaration.{SharedDeclaration}
 use Rattle.task_ast.specs.declared.Extent.{Extent}
 use Rattle.task_ast.specs.declared.Extent.TheVariants as extent
 use Rattle.linked_code.specs.task_lex.declared.token.Token.{Token}
-use Rattle.linked_code.specs.task_lex.Lex.{depth_after}
+use Rattle.linked_code.specs.task_lex.Lex.{width_after}
 use Rattle.whole_programs.specs.task_parse.Grammar.{Row, IsExtent, IsWorth, IsLongExtent, IsShared, IsProgram, negated}
 use Rattle.whole_programs.specs.task_parse.Parsed.{Program}
 use Rattle.whole_programs.specs.task_parse.Grammar as grammar
@@ -25,7 +25,7 @@ HaveWords (t ∷ ts) = OfWords t × HaveWords ts
 
 sound_words : (d : ℕ) (ts : List Token) → AreSound d ts → HaveWords ts
 sound_words d [] h = tt
-sound_words d (t ∷ ts) h = (h.1, sound_words (depth_after t.kind d) ts h.2)
+sound_words d (t ∷ ts) h = (h.1, sound_words (width_after t.kind d) ts h.2)
 
 front_words : (xs ys : List Token) → HaveWords (xs ++ ys) → HaveWords xs
 front_words [] ys h = tt

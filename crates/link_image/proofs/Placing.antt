@@ -13,11 +13,12 @@ use Rattle.task_ast.specs.declared.Extent.TheVariants as extent
 use Rattle.whole_programs.specs.source_values.Runs.{initial_words}
 use Rattle.memory_map.specs.address_space.Limits.{fram_first, reset_vector}
 use Rattle.memory_map.specs.declared.place.Region.{Region}
+use Rattle.memory_map.specs.declared.place.ScalarWidth.TheVariants.{OneWord, TwoWords}
 use Rattle.memory_map.specs.declared.place.VariablePlace.{VariablePlace}
 use Rattle.memory_map.specs.declared.place.VariablePlace.TheVariants.{Scalar, Array}
 use Rattle.memory_map.specs.MemoryMap.{MemoryMap}
 use Rattle.memory_map.specs.Places.{end_of, home_region, AreInOrder, IsLaidOut}
-use Rattle.memory_map.proofs.Interface.{parts_in_fram}
+use Rattle.memory_map.proofs.Interface.{in_order_end, parts_in_fram}
 use Rattle.compiled_runs.specs.compiled_model.View.{is_within, word_of_row, shared_word}
 use Rattle.source_maps.specs.Placing.{IsOfKind, ArePlacesOf}
 use Rattle.link_image.specs.Initial.{initial_put}
@@ -40,7 +41,7 @@ blank_at ws a is = ap (λ x. fram_of x a) is ∙ go ((a % 2 == 0) && is_fram a)
 
 -- the place of a scalar has its word alone
 scalar_word : (home copy w a old : ℕ) (vs : List VariablePlace) (rows : List (List ℕ)) → home % 2 ≡ 0 → a % 2 ≡ 0 → old ≡ shared_word vs rows a
-    → (if a == home then w else old) ≡ shared_word (Scalar home copy ∷ vs) ((w ∷ []) ∷ rows) a
+    → (if a == home then w else old) ≡ shared_word (Scalar home copy OneWord ∷ vs) ((w ∷ []) ∷ rows) a
 scalar_word home copy w a old vs rows even_home even same = go (a == home) refl
   where
     r : Region
@@ -55,6 +56,35 @@ scalar_word home copy w a old vs rows even_home even same = go (a == home) refl
     go false e =
         let outside : is_within r a ≡ false = grind (arith, nat_tests, e, even_home, even) in
         same ∙ sym (ap (λ b. cond b (word_of_row r (w ∷ []) a) (shared_word vs rows a)) outside)
+
+-- the place of a long has its two words alone
+long_word : (home copy low high a old : ℕ) (vs : List VariablePlace) (rows : List (List ℕ)) → home % 2 ≡ 0 → a % 2 ≡ 0 → old ≡ shared_word vs rows a
+    → (if a == home + 2 then high else if a == home then low else old) ≡ shared_word (Scalar home copy TwoWords ∷ vs) ((low ∷ high ∷ []) ∷ rows) a
+long_word home copy low high a old vs rows even_home even same = go (a == home + 2) (a == home) refl refl
+  where
+    r : Region
+    r = record { address = home; words = 2 }
+
+    row : List ℕ
+    row = low ∷ high ∷ []
+
+    its : Bool → ℕ
+    its b = cond b (word_of_row r row a) (shared_word vs rows a)
+
+    go : (b c : Bool) → (a == home + 2) ≡ b → (a == home) ≡ c → (if b then high else if c then low else old) ≡ its (is_within r a)
+    go true c e f =
+        let is : a ≡ home + 2 = eqb-true a (home + 2) e in
+        let inside : is_within r a ≡ true = within r a (omega (arith, is)) (omega (arith, is)) in
+        let index : (a - home) / 2 ≡ 1 = omega (arith, is) in
+        sym (ap its inside ∙ ap (slice_index row) index)
+    go false true e f =
+        let is : a ≡ home = eqb-true a home f in
+        let inside : is_within r a ≡ true = within r a (omega (arith, is)) (omega (arith, is)) in
+        let index : (a - home) / 2 ≡ 0 = omega (arith, is) in
+        sym (ap its inside ∙ ap (slice_index row) index)
+    go false false e f =
+        let outside : is_within r a ≡ false = grind (arith, nat_tests, e, f, even_home, even) in
+        same ∙ sym (ap its outside)
 
 -- an array has no words yet, behind it neither
 array_word : (elements n a end : ℕ) (place : VariablePlace) (vs : List VariablePlace) (rows : List (List ℕ)) (old : ℕ)
@@ -75,10 +105,16 @@ array_word elements n a end place vs rows old order same = go (is_within (home_r
 variable_put : (e : Extent) (place : VariablePlace) (vs : List VariablePlace) (rows : List (List ℕ)) (from end a old : ℕ) → IsOfKind e place
     → AreInOrder from (map home_region (place ∷ vs)) end → a % 2 ≡ 0 → old ≡ shared_word vs rows a
     → initial_put e place a old ≡ shared_word (place ∷ vs) (initial_words e ∷ rows) a
-variable_put (extent.Scalar w) (Scalar home copy) vs rows from end a old kind order even same = scalar_word home copy w a old vs rows order.0.even even same
+variable_put (extent.Scalar w) (Scalar home copy width) vs rows from end a old kind order even same =
+    scalar_word home copy w a old vs rows order.0.even even same ∙ ap (λ x. shared_word (Scalar home copy x ∷ vs) ((w ∷ []) ∷ rows) a) (sym kind)
+variable_put (extent.Long n) (Scalar home copy width) vs rows from end a old kind order even same =
+    let low = n % 65536 in
+    let high = n / 65536 in
+    long_word home copy low high a old vs rows order.0.even even same
+    ∙ ap (λ x. shared_word (Scalar home copy x ∷ vs) ((low ∷ high ∷ []) ∷ rows) a) (sym kind)
 variable_put (extent.Scalar w) (Array elements n copies) vs rows from end a old kind order even same = absurd kind
-variable_put (extent.Long n) place vs rows from end a old kind order even same = absurd kind
-variable_put (extent.Array n) (Scalar home copy) vs rows from end a old kind order even same = absurd kind
+variable_put (extent.Long v) (Array elements n copies) vs rows from end a old kind order even same = absurd kind
+variable_put (extent.Array n) (Scalar home copy width) vs rows from end a old kind order even same = absurd kind
 variable_put (extent.Array n) (Array elements m copies) vs rows from end a old kind order even same =
     array_word elements n a end (Array elements m copies) vs rows old order.1 same
 
@@ -176,12 +212,18 @@ pub zeros_are_words : (n : ℕ) → AreWords (zeros n)
 unfolding zeros
 zeros_are_words n = replicated n
 
--- a variable of a number stands at an even address behind the first
+-- a variable of a number stands at an even address behind the first, and ends in front of the last
+pub record StandsWithin (low end : ℕ) (v : VariablePlace) : Type 0 where
+  pub even : (home_region v).address % 2 ≡ 0
+  pub above : low ≤ (home_region v).address
+  pub below : end_of (home_region v) ≤ end
+
 pub region_at : (vs : List VariablePlace) (low end k : ℕ) (e : VariablePlace) → AreInOrder low (map home_region vs) end → k < length vs
-    → ((home_region (get_or vs k e)).address % 2 ≡ 0) × (low ≤ (home_region (get_or vs k e)).address)
+    → StandsWithin low end (get_or vs k e)
 region_at [] low end k e o l = absurd (omega (arith, l))
-region_at (v ∷ vs) low end zero e o l = (o.0.even, o.0.from)
+region_at (v ∷ vs) low end zero e o l =
+    record { even = o.0.even; above = o.0.from; below = in_order_end (end_of (home_region v)) (map home_region vs) end o.1 }
 region_at (v ∷ vs) low end (suc k) e o l =
     let start = o.0.from in
     let r = region_at vs (end_of (home_region v)) end k e o.1 (omega (arith, l)) in
-    let above = r.1 in (r.0, omega (arith, start, above))
+    let above = r.above in record { even = r.even; above = omega (arith, start, above); below = r.below }

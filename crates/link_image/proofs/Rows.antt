@@ -1,6 +1,6 @@
 -- A world that rests at a state has its words where the map says.
-use Rattle.std.proofs.Common.{◌≡◌, ℕ, zero, suc, ◌+◌, ◌*◌, ◌<◌, ◌≤◌, ◌==◌, ◌&&◌, refl, sym, ap, ap₂, ◌∙◌, subst, arith, true, eqb-true, List, [], ◌∷◌, length}
-use Rattle.std.proofs.Common.{map, get_or, Option, Some, None}
+use Rattle.std.proofs.Common.{◌≡◌, ℕ, zero, suc, ◌+◌, ◌*◌, ◌<◌, ◌==◌, ◌&&◌, refl, ap, ap₂, ◌∙◌, arith, true, eqb-true, List, [], ◌∷◌, length}
+use Rattle.std.proofs.Common.{Some}
 use Rattle.std.proofs.lemmas.List.{length-replicate}
 use Rattle.std.specs.Prelude.{slice_get, slice_index, slice_index_or}
 use Rattle.std.proofs.lemmas.Bool.{and_parts}
@@ -19,7 +19,7 @@ use Rattle.source_maps.specs.Maps.{value_type_of, variables_of}
 use Rattle.source_maps.specs.Placing.{IsOfKind}
 use Rattle.memory_map.specs.declared.place.VariablePlace.{VariablePlace}
 use Rattle.memory_map.specs.declared.place.VariablePlace.TheVariants.{Scalar, Array}
-use Rattle.memory_map.specs.Places.{home_region}
+use Rattle.memory_map.specs.Places.{scalar_words, home_region}
 
 -- a row stands at a place
 abbrev pub RowStands : World → List ℕ → VariablePlace → Type 0
@@ -43,10 +43,15 @@ words_row x a (suc n) (w ∷ row) e h =
 
 one_row : (x : World) (w : WordType) (e : Extent) (place : VariablePlace) (row : List ℕ) → IsOfKind e place → length row ≡ length (initial_words e)
     → RowStands x row place → words_at x (home_region place).address (word_count (value_type_of w e) (length_of e)) ≡ row
-one_row x w (extent.Scalar v) (Scalar home copy) row m l h = ap (words_at x home) (one_word w) ∙ words_row x home 1 row l h
+one_row x w (extent.Scalar v) (Scalar home copy width) row m l h =
+    let wide = ap scalar_words m in
+    ap (words_at x home) (one_word w) ∙ words_row x home 1 row l (λ i below. h i (omega (arith, below, wide)))
+one_row x w (extent.Long n) (Scalar home copy width) row m l h =
+    let wide = ap scalar_words m in
+    words_row x home 2 row l (λ i below. h i (omega (arith, below, wide)))
 one_row x w (extent.Scalar v) (Array elements n copies) row m l h = absurd m
-one_row x w (extent.Long n) place row m l h = absurd m
-one_row x w (extent.Array n) (Scalar home copy) row m l h = absurd m
+one_row x w (extent.Long v) (Array elements n copies) row m l h = absurd m
+one_row x w (extent.Array n) (Scalar home copy width) row m l h = absurd m
 one_row x w (extent.Array n) (Array elements k copies) row m l h =
     words_row x elements n row (l ∙ length-replicate n 0) (λ i below. h i (omega (arith, below, m)))
 

@@ -6,9 +6,9 @@ ghost use Rattle.linked_code.specs.machine_effects.Machine.{IsFram, fram_of};
 ghost use Rattle.whole_programs.specs.source_values.Runs.{initial_words};
 ghost use Rattle.memory_map.specs.MemoryMap.{word_place};
 ghost use Rattle.memory_map.specs.declared.words.RuntimeWord.TheVariants.{CurrentTask};
-ghost use Rattle.memory_map.specs.Places.{home_region, AreInOrder};
+ghost use Rattle.memory_map.specs.Places.{end_of, home_region, AreInOrder};
 ghost use Rattle.compiled_runs.specs.compiled_model.View.{is_within, shared_word};
-ghost use Rattle.source_maps.specs.Placing.{ArePlacesOf};
+ghost use Rattle.source_maps.specs.Placing.{IsOfKind, ArePlacesOf};
 ghost use Rattle.link_image.specs.Initial.{initial_put};
 ghost use Rattle.link_image.specs.Words.{AreWords};
 
@@ -29,21 +29,27 @@ fn put_word(image: &mut Image, at: u16, word: u16)
     image.set(at, word);
 }
 
-// Puts the initial word of a shared scalar. The words of arrays begin with 0.
+// Puts the initial words of a shared scalar. The words of arrays begin with 0.
 fn put_initial(image: &mut Image, extent: Extent, place: VariablePlace)
+    requires kind { IsOfKind extent place }
     requires even { (home_region place).address % 2 ≡ 0 }
     requires low { fram_first ≤ (home_region place).address }
+    requires high { end_of (home_region place) ≤ reset_vector }
     ensures each { (a : ℕ) → IsFram a → fram_of image.new.words a ≡ initial_put extent place a (fram_of image.old.words a) }
     ensures are_words { AreWords image.old.words → AreWords image.new.words }
     ensures same_map { image.new.map ≡ image.old.map }
 {
     match (extent, place) {
         (Extent::Scalar(word), VariablePlace::Scalar { home, .. }) => put_word(image, home, word),
+        (Extent::Long(number), VariablePlace::Scalar { home, .. }) => {
+            put_word(image, home, (number % 65536) as u16);
+            put_word(image, home + 2, (number / 65536) as u16);
+        }
         _ => (),
     }
 }
 
-// Puts the initial word of each shared scalar into an image without words.
+// Puts the initial words of each shared scalar into an image without words.
 fn put_scalars(image: &mut Image, shared: &[SharedDeclaration], variables: &[VariablePlace])
     requires blank { image.old.words ≡ zeros 24064 }
     requires places { ArePlacesOf shared.now variables.now }

@@ -14,7 +14,7 @@ use Rattle.source_report.specs.SourceReport.{spelled}
 use Rattle.memory_map.specs.address_space.Limits.{fram_first, reset_vector}
 use Rattle.memory_map.specs.declared.place.VariablePlace.{VariablePlace}
 use Rattle.memory_map.specs.declared.place.VariablePlace.TheVariants.{Scalar, Array}
-use Rattle.memory_map.specs.Places.{end_of, home_region, AreInOrder}
+use Rattle.memory_map.specs.Places.{end_of, home_region, AreInOrder, scalar_words as width_words}
 use Rattle.privatise.specs.Layouts.{IsPlaceOf}
 use Rattle.source_maps.specs.Names.{HasWords}
 use Rattle.source_maps.specs.Maps.{word_value_type, value_type_of, variable_of, variables_of}
@@ -22,10 +22,11 @@ use Rattle.source_maps.specs.Placing.{IsOfKind, ArePlacesOf}
 
 -- a place of a declaration is of its kind
 pub of_kind : (b : Bool) (e : Extent) (place : VariablePlace) → IsPlaceOf b e place → IsOfKind e place
-of_kind b (extent.Scalar w) (Scalar home copy) h = tt
+of_kind b (extent.Scalar w) (Scalar home copy width) h = h
+of_kind b (extent.Long n) (Scalar home copy width) h = h
 of_kind b (extent.Scalar w) (Array elements n copies) h = h
-of_kind b (extent.Array n) (Scalar home copy) h = h
-of_kind b (extent.Long n) place h = h
+of_kind b (extent.Long m) (Array elements n copies) h = h
+of_kind b (extent.Array n) (Scalar home copy width) h = h
 of_kind b (extent.Array n) (Array elements m copies) h = h.0
 
 pub places_of : (shared : List SharedDeclaration) (places : List VariablePlace) → length places ≡ length shared
@@ -43,13 +44,13 @@ places_by_number written shared places n f = places_of shared places n (λ i d p
 
 -- a place of this kind has these many words
 region_words : (e : Extent) (place : VariablePlace) (n : ℕ) → IsOfKind e place → e ≡ extent.Array n → (home_region place).words ≡ n
-region_words e (Scalar home copy) n h is = absurd (subst (λ x. IsOfKind x (Scalar home copy)) is h)
+region_words e (Scalar home copy width) n h is = absurd (subst (λ x. IsOfKind x (Scalar home copy width)) is h)
 region_words e (Array elements m copies) n h is = subst (λ x. IsOfKind x (Array elements m copies)) is h
 
 fits_so : (n : ℕ) → (n ≡ 0 → ⊥) → (a : ℕ) → a + 2 * n ≤ 65536 → fits a n ≡ true
 fits_so n words a l = grind (arith, nat_tests, words, l)
 
--- a declared scalar has one word
+-- a scalar that isn't long has one word
 pub one_word : (w : WordType) → scalar_words (word_value_type w) ≡ 1
 one_word word_type.Unsigned = refl
 one_word word_type.Int = refl
@@ -62,10 +63,14 @@ no_long word_type.Long = refl
 
 fits_there : (w : WordType) (e : Extent) (place : VariablePlace) (end : ℕ) → IsOfKind e place → HasWords e → end_of (home_region place) ≤ end
     → end ≤ reset_vector → fits (home_region place).address (word_count (value_type_of w e) (length_of e)) ≡ true
-fits_there w (extent.Scalar v) (Scalar home copy) end h words l m =
-    ap (fits home) (one_word w) ∙ fits_so 1 (λ e. cc) home (omega (arith, l, m))
+fits_there w (extent.Scalar v) (Scalar home copy width) end h words l m =
+    let wide = ap width_words h in
+    ap (fits home) (one_word w) ∙ fits_so 1 (λ e. cc) home (omega (arith, l, m, wide))
+fits_there w (extent.Long n) (Scalar home copy width) end h words l m =
+    let wide = ap width_words h in
+    fits_so 2 (λ e. cc) home (omega (arith, l, m, wide))
 fits_there w (extent.Scalar v) (Array elements n copies) end h words l m = absurd h
-fits_there w (extent.Long n) place end h words l m = absurd h
+fits_there w (extent.Long v) (Array elements n copies) end h words l m = absurd h
 fits_there w (extent.Array n) place end h words l m =
     let size = region_words (extent.Array n) place n h refl in
     fits_so n words ((home_region place).address) (omega (arith, size, l, m))

@@ -51,7 +51,7 @@ scalar_there text d place kind h = by d.extent kind h
 
     by : (e : Extent) → IsOfKind e place → is_scalar e ≡ true → (is_none (length_of e) && bytes_eq (spelled text d.name) (spelled text d.name)) ≡ true
     by (extent.Scalar w) k h = same
-    by (extent.Long n) k h = absurd k
+    by (extent.Long n) k h = same
     by (extent.Array n) k h = absurd (cc)
 
 none_scalar : {A : Type 0} (o : Option A) (P : A → Type 0) → o ≡ None → IsSomeAnd o P → ⊥

@@ -1,14 +1,8 @@
 -- What the proofs take of a source with its layout.
-use Rattle.std.proofs.Common.{get_or, subst, sym, ◌∙◌, refl}
-use Rattle.std.proofs.lemmas.Option.{slice_get_within, get_or_from_slice_get}
 use Rattle.std.specs.Prelude.{◌≡◌, ℕ, ◌+◌, ◌*◌, ◌<◌, ◌≤◌, true, false, List, [], Contains, length, Some, slice_get, slice_index, slice_index_or}
 use Rattle.layout_facts.specs.cost_bound.declared.allowance.Allow.{Allow}
 use Rattle.layout_facts.proofs.path_sums.Interface.{is_private_of}
 use Rattle.layout_facts.specs.task_ast.declared.names.Variable.TheVariants.{Shared}
-use Rattle.layout_facts.specs.task_ast.declared.Extent.{Extent}
-use Rattle.layout_facts.specs.task_ast.declared.Extent.TheVariants as extent
-use Rattle.layout_facts.specs.war_analysis.Plans.{is_scalar}
-use Rattle.layout_facts.specs.privatise.Sizes.{home_part}
 use Rattle.layout_facts.specs.path_runs.Laws.{IsScalarIn}
 use Rattle.layout_facts.specs.cost_bound.Counts.{Code, stores_of}
 use Rattle.layout_facts.specs.cost_bound.Allowance.{CheckedTask}

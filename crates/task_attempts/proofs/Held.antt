@@ -50,7 +50,7 @@ all_words Unsigned (extent.Long w) s h = let never : true ≡ false = h in absur
 all_words of (extent.Array w) s h = let never : false ≡ true = s in absurd (cc)
 
 module _ (shared : List SharedDeclaration) (v : ℕ) (scalar : IsScalarAt shared v) (d : SharedDeclaration) (at : slice_get shared v ≡ Some d)
-  (is : is_scalar d.extent ≡ true) (n : ℕ) (wide : n ≡ home_part d.extent) where
+    (is : is_scalar d.extent ≡ true) (n : ℕ) (wide : n ≡ home_part d.extent) where
   other_array : (x : Variable) → IsArrayName shared x → is_same (Shared v) x ≡ false
   other_array (Local n) h = refl
   other_array (Shared u) h =

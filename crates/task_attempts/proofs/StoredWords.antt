@@ -9,16 +9,16 @@ use Rattle.layout_facts.proofs.machine_effects.Interface.{each_store-append}
 use Rattle.layout_facts.specs.array_versions.declared.program.ArrayPlace.{ArrayPlace}
 use Rattle.layout_facts.specs.array_versions.declared.program.ListPlace.{ListPlace}
 use Rattle.layout_facts.specs.array_versions.declared.operations.PlainOperation.{PlainOperation}
-use Rattle.layout_facts.specs.array_versions.Operations.{plain_word, is_true, compare_words}
+use Rattle.layout_facts.specs.array_versions.Operations.{plain_word, is_true, compare_words, long_pops}
 use Rattle.layout_facts.specs.array_versions.Program.{Step, Test, Program, number, load, keep, update, local, set_local, update_local, unary, binary, shift}
-use Rattle.layout_facts.specs.array_versions.Program.{element}
+use Rattle.layout_facts.specs.array_versions.Program.{long, element}
 use Rattle.layout_facts.specs.array_versions.Program.{emit_word}
 use Rattle.layout_facts.specs.array_versions.Program.{list_entry, versioned_read, versioned_write, versioned_update, sense, truth, choose, repeat}
 use Rattle.layout_facts.specs.array_versions.Program.{store_number, move_word}
 use Rattle.layout_facts.specs.array_versions.Program.{jump, holds, compares, both, either, fails, nothing, step}
 use Rattle.layout_facts.specs.array_versions.Behaviour.{WordState, End, GoesOn, Jumps, Short, Strays, Broken, Behaviour, behaves, goes_on, strays}
 use Rattle.layout_facts.specs.array_versions.Behaviour.{broken, on_end, then_on}
-use Rattle.layout_facts.specs.array_versions.Behaviour.{is_place, at_place, with_top, with_stack, pushed, stored, with_local, local_pushed, local_updated}
+use Rattle.layout_facts.specs.array_versions.Behaviour.{is_place, at_place, with_top, with_words, with_stack, pushed, stored, with_local, local_pushed, local_updated}
 use Rattle.layout_facts.specs.array_versions.Behaviour.{reading_pushed, raised, entry_stored, ends_before}
 use Rattle.layout_facts.specs.array_versions.Behaviour.{listed_behind, behind_effects, own_element, first_stored, own_stored, number_pushed}
 use Rattle.layout_facts.specs.array_versions.Behaviour.{own_place, own_kept, own_updated}
@@ -56,6 +56,12 @@ top_stores : (vs : List ℕ) (next : ℕ → List ℕ → Behaviour) → AreWord
     ((v : ℕ) (us : List ℕ) → v < 0x10000 → AreWords us → StoresWords (next v us).effects) → StoresWords (with_top vs next).effects
 top_stores [] next w h = tt
 top_stores (v ∷ vs) next w h = h v vs w.0 w.1
+
+words_store : (n : ℕ) (vs : List ℕ) (next : List ℕ → List ℕ → Behaviour) → ((ws us : List ℕ) → StoresWords (next ws us).effects)
+    → StoresWords (with_words n vs next).effects
+words_store zero vs next h = h [] vs
+words_store (suc n) [] next h = tt
+words_store (suc n) (v ∷ vs) next h = words_store n vs (λ ws us. next (v ∷ ws) us) (λ ws us. h (v ∷ ws) us)
 
 local_stores : (o : Option ℕ) (s : WordState) → StoresWords (local_pushed o s).effects
 local_stores None s = tt
@@ -193,6 +199,7 @@ mutual
   step_stores (unary op) s h w = top_stores s.stack _ w.stack (λ v vs l m. tt)
   step_stores (binary op) s h w = top_stores s.stack _ w.stack (λ v us l m. top_stores us _ m (λ u vs k j. tt))
   step_stores (shift op k) s h w = top_stores s.stack _ w.stack (λ v vs l m. tt)
+  step_stores (long op) s h w = words_store (long_pops op) s.stack _ (λ ws us. tt)
   step_stores (element base length) s h w = top_stores s.stack _ w.stack (λ i vs l m. element_stores (nat_lt i length) base i (with_stack vs s))
   step_stores (emit_word count buffer) s h w =
       let n = s.fram count in

@@ -59,7 +59,8 @@ fn a_long_cut_right_after_a_take(rt: HostRuntime) -> Result<(), Fail> {
     let k = steps_until(alloc, TOTAL, 0, behind, "bound 1636\nt 1 a a 1 2\n")?;
     assert!(rt; k > 0 && k < 400);
     let trace = format!(in alloc; "s {k} F\nc 1000000 F\nr 9 1 65535\n")?;
-    let report = "bound 1636\nt 1 a a 1 2\nv n 65536\nv h 1\nt 2 a a 2 3\nv n 131071\nend readings 2 0 0\n";
+    let report =
+        "bound 1636\nt 1 a a 1 2\nv n 65536\nv h 1\nt 2 a a 2 3\nv n 131071\nend readings 2 0 0\n";
     prints(&rt, alloc, TOTAL, &trace, report)
 }
 

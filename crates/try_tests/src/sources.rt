@@ -61,7 +61,8 @@ pub const TOTAL: &str = "shared unsigned long n = 65535UL; shared unsigned h; \
      task a { n = n + sense(); h = n >> 16; transition_to(a); } entry a;";
 
 /// Longs that are read first and written first, beside words and an int below 0.
-const LONGS: &str = "shared int s = -5; shared unsigned long n = 65530; shared unsigned long last; shared unsigned c = 7; \
+const LONGS: &str =
+    "shared int s = -5; shared unsigned long n = 65530; shared unsigned long last; shared unsigned c = 7; \
      task t { unsigned r = sense(); last = n - r; n = n + r + s; if (last < n) { c = c + 1; emit(n >> 16); } emit(n); transition_to(u); } \
      task u { last = last ^ (n << 3); if (!(last & 7) || n == 65541) { s = s - 1; } else { s = -n >> 15; } transition_to(t); } entry t;";
 
