@@ -265,6 +265,6 @@ fn neighbours_and_sends_saved_after_each_of_400_steps(rt: HostRuntime) -> Result
 }
 
 #[test]
-fn a_long_saved_after_each_of_400_steps(rt: HostRuntime) -> Result<(), Fail> {
+fn longs_saved_after_each_of_400_steps(rt: HostRuntime) -> Result<(), Fail> {
     keeps_saved(&rt, rt.alloc(), &SAVED[3])
 }

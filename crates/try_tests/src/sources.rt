@@ -64,7 +64,7 @@ pub const TOTAL: &str = "shared unsigned long n = 65535UL; shared unsigned h; \
 const LONGS: &str =
     "shared int s = -5; shared unsigned long n = 65530; shared unsigned long last; shared unsigned c = 7; \
      task t { unsigned r = sense(); last = n - r; n = n + r + s; if (last < n) { c = c + 1; emit(n >> 16); } emit(n); transition_to(u); } \
-     task u { last = last ^ (n << 3); if (!(last & 7) || n == 65541) { s = s - 1; } else { s = -n >> 15; } transition_to(t); } entry t;";
+     task u { last = last ^ (n << 3); if (!(last & 7) || n == 65541UL) { s = s - 1; } else { s = -n >> 15; } transition_to(t); } entry t;";
 
 pub const SOURCES: [Source; 12] = [
     Source {
@@ -152,7 +152,11 @@ const IN_PLACE: &str = "shared unsigned last = 9; shared unsigned twice; shared 
 const NEIGHBOURS: &str = "shared unsigned x; shared unsigned y = 7; shared unsigned z = 65530; \
      task t { unsigned r = sense(); x = x + r; y = y + x; z = z - y; emit(x); emit(y); emit(z); transition_to(t); } entry t;";
 
-/// Sources each of whose tasks takes a reading: of arrays, of scalars in place, of neighbours and sends, of a long.
+/// Two longs, one made of the other.
+const TWO_LONGS: &str = "shared unsigned long n = 65535UL; shared unsigned long m = 70000UL; \
+     task t { unsigned r = sense(); m = m + n + r; n = n + m; emit(n); transition_to(t); } entry t;";
+
+/// Sources each of whose tasks takes a reading: of arrays, of scalars in place, of neighbours and sends, of longs.
 pub const SAVED: [Source; 4] = [
     Source {
         text: RING_OF_READINGS,
@@ -167,7 +171,7 @@ pub const SAVED: [Source; 4] = [
         readings: &[1, 65535, 4, 8, 20, 9],
     },
     Source {
-        text: TOTAL,
+        text: TWO_LONGS,
         readings: &[1, 65535, 5, 65535, 0, 9],
     },
 ];
