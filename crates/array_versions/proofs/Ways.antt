@@ -1,6 +1,6 @@
 -- A whole program is never broken: along each way the stack is as deep as is said, and the locals that are said to be assigned are.
 use Rattle.std.proofs.Common.{◌≡◌, ℕ, zero, suc, ◌+◌, ◌-◌, ◌*◌, ◌%◌, ◌==◌, ◌≤◌, ◌||◌, List, [], ◌∷◌, length, Option, Some, None, Bool, true, false}
-use Rattle.std.proofs.Common.{nat_eq, nat_lt, refl, sym, ap, ◌∙◌, ◌++◌, subst, arith, eq-eqb, if◌then◌else◌}
+use Rattle.std.proofs.Common.{nat_eq, nat_lt, refl, sym, ap, ◌∙◌, subst, arith, eq-eqb, if◌then◌else◌}
 use Rattle.std.proofs.lemmas.List.{length-append}
 use Rattle.machine_effects.specs.fram_board.Effects.{Store}
 use Rattle.array_versions.specs.declared.program.ArrayPlace.{ArrayPlace}

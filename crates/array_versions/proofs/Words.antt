@@ -22,7 +22,7 @@ use Rattle.array_versions.specs.declared.operations.ShiftOperation.TheVariants.{
 use Rattle.array_versions.specs.declared.operations.LongOperation.{LongOperation}
 use Rattle.array_versions.specs.declared.operations.LongOperation.TheVariants as with_longs
 use Rattle.array_versions.specs.Operations.{unary_word, plain_word, binary_word, shifted_word, shift_word, is_true, compare_words, stacked, long_at}
-use Rattle.array_versions.specs.Operations.{plain_long, long_to_left, long_to_right, sign_word, all_bits, long_pops, long_result}
+use Rattle.array_versions.specs.Operations.{plain_long, long_to_left, long_to_right, all_bits, long_pops, long_result}
 use Rattle.array_versions.specs.declared.program.ArrayPlace.{ArrayPlace}
 use Rattle.array_versions.specs.declared.program.ListPlace.{ListPlace}
 use Rattle.array_versions.specs.Program.{Step, Test, Program, number, load, keep, update, local, set_local, update_local, unary, binary, shift, long, element}

@@ -1,5 +1,6 @@
 -- The code of a program is instructions, whose jumps reach no further than ten bits say, and is no longer than its words say.
-use Rattle.codegen.specs.Code.{is_turned, compare_source}
+use Rattle.codegen.specs.Code.{is_turned, compare_source, any_at}
+use Rattle.codegen.proofs.Names.{Move, ToFram}
 use Rattle.codegen.proofs.Names.{sides}
 use Rattle.codegen.proofs.Names.{◌≡◌, ℕ, ◌+◌, ◌-◌, ◌*◌, ◌<◌, ◌≤◌, ◌==◌, List, [], ◌∷◌, ◌++◌, length, refl, arith, length-append, Bool, true, false}
 use Rattle.codegen.proofs.Names.{not, nat_le, nat_lt, Option, Some, None, if◌then◌else◌, nat_tests, word_sum, Condition, R4, R5, Register, Constant}
@@ -7,7 +8,8 @@ use Rattle.codegen.proofs.Names.{Number, Ram, Source, source_bytes, ToRegister, 
 use Rattle.codegen.proofs.Names.{instruction_of, form_bytes, forms_bytes, instruction_words, instructions, bytes_are, forms_bytes-append, UnaryOperation}
 use Rattle.codegen.proofs.Names.{Negate, BinaryOperation, Multiply, Divide, Remainder, Plain, PlainOperation, And, Left, Right}
 use Rattle.codegen.proofs.Names.{Comparison, Equal, ArrayPlace, ListPlace, Step, Test, Program, number, load, keep, update, local, set_local, update_local}
-use Rattle.codegen.proofs.Names.{unary, binary, shift, long, element, emit_word, list_entry, versioned_read, versioned_write, versioned_update, sense, truth, choose}
+use Rattle.codegen.proofs.Names.{unary, binary, shift, long, element, emit_word, list_entry, versioned_read, versioned_write, versioned_update, sense, truth}
+use Rattle.codegen.proofs.Names.{choose}
 use Rattle.codegen.proofs.Names.{repeat, store_number, move_word, jump, holds, compares, both, either, fails, nothing, step, unary_words, binary_words}
 use Rattle.codegen.proofs.Names.{right_words, step_words, test_words, words_of, Bound, Waiting, local_register, local_address, waiting_source}
 use Rattle.codegen.proofs.Names.{flushed, top_of, source_from, below_top, kept, stays, right_source, power, top_power}
@@ -26,7 +28,8 @@ use Rattle.code_forms.specs.Forms as forms
 use Rattle.codegen.specs.declared.waiting.Waiting.TheVariants as waiting
 use Rattle.array_versions.proofs.Interface.{right_low}
 use Rattle.codegen.proofs.UpdateBytes.{ways_bytes, checked_bytes, known_bytes, reads_bytes, first_bytes, inside_bytes, near_size}
-use Rattle.codegen.proofs.CodeTakes.{Are, Takes, are-append, behind, so_takes, either_takes, nothing_takes, number_bytes, kept_bytes_of, kept_bytes, source_short}
+use Rattle.codegen.proofs.CodeTakes.{Are, Takes, are-append, behind, so_takes, either_takes, nothing_takes, number_bytes, kept_bytes_of, kept_bytes}
+use Rattle.codegen.proofs.CodeTakes.{source_short}
 use Rattle.codegen.proofs.CodeTakes.{shift_takes, shift_most, flushed_takes, cleared_takes, five_takes, four_takes, top_to_four_takes, top_to_five_takes}
 use Rattle.codegen.proofs.CodeTakes.{two_takes}
 use Rattle.codegen.proofs.LongLengths.{long_takes}
@@ -278,6 +281,11 @@ behind_below : {ms : List Form} (n : ℕ) (os : List Waiting) → Takes ms 0 (so
     → Takes (flushed (below_top os) ++ ms) 0 (n + kept_bytes os)
 behind_below n os x = so_takes (behind (flushed_takes (below_top os)) x) (omega (arith, source_short os))
 
+keep_takes : (b : Bool) (a : ℕ) (os : List Waiting) → (let under = below_top os in
+    Takes ((if b then flushed under else []) ++ Move (source_from (top_of os)) (ToFram a) ∷ []) (kept_bytes (if b then [] else under)) (4 + kept_bytes os))
+keep_takes true a os = behind_below 4 os (record { are = (tt, tt); bytes = omega arith })
+keep_takes false a os = record { are = (tt, tt); bytes = omega (arith, source_short os) }
+
 local_takes : (b : Bool) (n : ℕ) (os : List Waiting) → Takes (if b then [] else (flushed os ++ Push (Ram (local_address n)) ∷ []))
     (kept_bytes (if b then waiting.Local n ∷ os else [])) (4 + kept_bytes os)
 local_takes true n os = nothing_takes (kept_bytes os + 4) (4 + kept_bytes os) (omega arith)
@@ -319,7 +327,7 @@ mutual
       (2 * step_words s + kept_bytes os)
   step_takes bs (number w) os = nothing_takes _ _ (omega arith)
   step_takes bs (load a) os = nothing_takes _ _ (omega arith)
-  step_takes bs (keep a) os = behind_below 4 os (record { are = (tt, tt); bytes = omega arith })
+  step_takes bs (keep a) os = keep_takes (any_at a (below_top os)) a os
   step_takes bs (update o a) os = behind_below 4 os (record { are = (tt, tt); bytes = omega arith })
   step_takes bs (local n) os = local_takes (nat_lt n 8) n os
   step_takes bs (set_local n) os = behind_below 4 os (record { are = (tt, tt); bytes = omega (arith, target_bytes_most n (nat_lt n 8)) })

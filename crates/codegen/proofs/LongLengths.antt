@@ -8,8 +8,10 @@ use Rattle.array_versions.specs.Cost.{long_words}
 use Rattle.array_versions.specs.declared.operations.LongOperation.{LongOperation}
 use Rattle.array_versions.specs.declared.operations.LongOperation.TheVariants as with_longs
 use Rattle.codegen.specs.Code.{below_two, parted, parting, six_from, pair_from, pair_to_registers, side_from, side_source, long_sides, high_source, low_source}
-use Rattle.codegen.specs.Code.{long_calculation, below_code, above_code, times_code, long_double, long_halve, byte_to_left, byte_to_right, long_right_code, left_by}
-use Rattle.codegen.specs.Code.{right_by, dropped, high_code, high_behind, pair_lost, short_code, short_behind, left_code, left_behind, right_shift_code, complement_code}
+use Rattle.codegen.specs.Code.{long_calculation, below_code, above_code, times_code, long_double, long_halve, byte_to_left, byte_to_right, long_right_code}
+use Rattle.codegen.specs.Code.{left_by}
+use Rattle.codegen.specs.Code.{right_by, dropped, high_code, high_behind, pair_lost, short_code, short_behind, left_code, left_behind, right_shift_code}
+use Rattle.codegen.specs.Code.{complement_code}
 use Rattle.codegen.specs.Code.{right_behind, widen_code, longs_lost, longs_code, longs_under, long_code, long_behind}
 use Rattle.codegen.proofs.CodeTakes.{Takes, behind, so_takes, nothing_takes, number_bytes, kept_bytes_of, kept_bytes, source_short, shift_takes, shift_most}
 use Rattle.codegen.proofs.CodeTakes.{flushed_takes, cleared_takes, four_takes, top_to_four_takes}

@@ -12,7 +12,8 @@ use Rattle.array_versions.specs.declared.operations.LongOperation.TheVariants as
 use Rattle.array_versions.specs.Operations.{two_words, plain_long, long_to_left, long_to_right, sign_word, all_bits, long_pops, long_pushes, long_result}
 use Rattle.codegen.specs.Code.{below_two, long_waits, parted, parting, long_sides, low_source, high_source, long_calculation, below_code, above_code}
 use Rattle.codegen.specs.Code.{longs_lost, pair_lost, pair_to_registers, short_code, short_behind, left_by, right_by, dropped, lifted}
-use Rattle.codegen.specs.Code.{high_code, high_behind, left_code, left_behind, right_shift_code, right_behind, complement_code, widen_code, long_code, long_behind}
+use Rattle.codegen.specs.Code.{high_code, high_behind, left_code, left_behind, right_shift_code, right_behind, complement_code, widen_code, long_code}
+use Rattle.codegen.specs.Code.{long_behind}
 use Rattle.codegen.proofs.Memory.{AreWords}
 use Rattle.codegen.proofs.Stretches.{Setting, two_parts, nothing_run, so_runs, dearer}
 use Rattle.codegen.proofs.Registers.{HasWord, Holds, Has}
@@ -228,7 +229,8 @@ module _ (z : Setting) where
   -- ---- one long
 
   -- what is made of the long on top in R6 and R4
-  pair_does : (c : ℕ) (ms : List Form) (n : ℕ) (os : List Waiting) (pc : ℕ) (w : WordState) (a : Pair) (vs : List ℕ) (u : Core) → w.stack ≡ a.high ∷ (a.low ∷ vs)
+  pair_does : (c : ℕ) (ms : List Form) (n : ℕ) (os : List Waiting) (pc : ℕ) (w : WordState) (a : Pair) (vs : List ℕ) (u : Core)
+      → w.stack ≡ a.high ∷ (a.low ∷ vs)
       → pair_lost os ≡ false → ((p : ℕ) (xs : List ℕ) (t : Core) → Stands z.code p ms → Holds z (HasPair a) p (with_stack xs w) t
       → Runs z.code [] c t (Holds z (HasPair (pair_of n)) (p + forms_bytes ms) (with_stack xs w)))
       → Stands z.code pc (pair_to_registers os ++ ms) → Describes z os pc w u
@@ -258,7 +260,8 @@ module _ (z : Setting) where
 
   -- the top goes
   dropped_part : (os : List Waiting) (pc : ℕ) (w : WordState) (v : ℕ) (vs : List ℕ) (u : Core) → w.stack ≡ v ∷ vs → Stands z.code pc (dropped (top_of os))
-      → Describes z os pc w u → Runs z.code [] (pop_cycles (top_of os)) u (Describes z (below_top os) (pc + forms_bytes (dropped (top_of os))) (with_stack vs w))
+      → Describes z os pc w u
+      → Runs z.code [] (pop_cycles (top_of os)) u (Describes z (below_top os) (pc + forms_bytes (dropped (top_of os))) (with_stack vs w))
   dropped_part [] pc w v vs u e h d = so_runs (five_part z [] pc w v vs u e h d) (λ t k. k.is)
   dropped_part (o ∷ os) pc w v vs u e h d =
       let same : pc ≡ pc + 0 = omega arith in
@@ -395,7 +398,8 @@ module _ (z : Setting) where
   complement_reaches os pc w a vs u e la h d =
       let made = short_reaches 2 complement_code (λ n. 4294967295 - n) os pc w a vs u (complement_part z) e la h d in
       let n = 4294967295 - worth a in
-      reach_more z (owed (short_behind os)) (Describes z (short_behind os) (pc + forms_bytes (short_code os complement_code))) (12 + owed os) (16 + owed os) u []
+      reach_more z (owed (short_behind os)) (Describes z (short_behind os) (pc + forms_bytes (short_code os complement_code))) (12 + owed os) (16 + owed os)
+      u []
       (GoesOn (with_stack (n / 0x10000 ∷ (n % 0x10000 ∷ vs)) w)) (omega arith) made
 
   -- ---- one word and two

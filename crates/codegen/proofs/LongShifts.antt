@@ -158,22 +158,26 @@ module _ (z : Setting) where
       (doubles_part k))
       (λ m. as_value (byte_to_left ++ times_code (k - 8) long_double) 22 (λ n. times (k - 8) long_twice ((n * 256) % 0x100000000))
       (λ n. (n * 2 ^ k) % 0x100000000) (omega arith) (λ n h. raised k n m)
-      (turns_on byte_to_left (times_code (k - 8) long_double) (λ n. (n * 256) % 0x100000000) (times (k - 8) long_twice) 0x100000000 (λ n h. omega arith) up_part (doubles_part (k - 8))))
+      (turns_on byte_to_left (times_code (k - 8) long_double) (λ n. (n * 256) % 0x100000000) (times (k - 8) long_twice) 0x100000000
+      (λ n h. omega arith) up_part (doubles_part (k - 8))))
 
   right_turns : (k : ℕ) → k < 16 → LongTurns (right_by k) 22 0x100000000 (λ n. n / 2 ^ k)
   right_turns k l =
       by_eight (nat_lt k 8) k refl (long_right_code k) (byte_to_right ++ times_code (k - 8) long_halve) (λ n. n / 2 ^ k) (low_right_part k)
       (λ m. as_value (byte_to_right ++ times_code (k - 8) long_halve) 22 (λ n. times (k - 8) half (n / 256)) (λ n. n / 2 ^ k) (omega arith)
       (λ n h. lowered k n m)
-      (turns_on byte_to_right (times_code (k - 8) long_halve) (λ n. n / 256) (times (k - 8) half) 0x80000000 (λ n h. omega arith) down_part (halves_part (k - 8))))
+      (turns_on byte_to_right (times_code (k - 8) long_halve) (λ n. n / 256) (times (k - 8) half) 0x80000000
+      (λ n h. omega arith) down_part (halves_part (k - 8))))
 
   few : (k : ℕ) → k < 16 → nat_le k 31 ≡ true
   few k l = le-leb k 31 (omega arith)
 
   pub left_part : (k : ℕ) → k < 16 → LongTurns (left_by k) 22 0x100000000 (λ n. long_to_left n k)
   left_part k l =
-      as_value (left_by k) 22 (λ n. (n * 2 ^ k) % 0x100000000) (λ n. long_to_left n k) (omega arith) (λ n h. sym (ap (λ b. if b then (n * 2 ^ k) % 2 ^ 32 else 0) (few k l))) (left_turns k l)
+      as_value (left_by k) 22 (λ n. (n * 2 ^ k) % 0x100000000) (λ n. long_to_left n k) (omega arith)
+      (λ n h. sym (ap (λ b. if b then (n * 2 ^ k) % 2 ^ 32 else 0) (few k l))) (left_turns k l)
 
   pub right_part : (k : ℕ) → k < 16 → LongTurns (right_by k) 22 0x100000000 (λ n. long_to_right n k)
   right_part k l =
-      as_value (right_by k) 22 (λ n. n / 2 ^ k) (λ n. long_to_right n k) (omega arith) (λ n h. sym (ap (λ b. if b then n / 2 ^ k else 0) (few k l))) (right_turns k l)
+      as_value (right_by k) 22 (λ n. n / 2 ^ k) (λ n. long_to_right n k) (omega arith)
+      (λ n h. sym (ap (λ b. if b then n / 2 ^ k else 0) (few k l))) (right_turns k l)

@@ -1,6 +1,7 @@
 -- Longs to registers: the left one to R6 and R4, the right one to where its words are read.
 use Rattle.codegen.proofs.Names.{◌≡◌, ℕ, ◌+◌, ◌≤◌, Bool, true, false, if◌then◌else◌, List, [], ◌∷◌, ◌++◌, Option, Some, None, refl, sym, ap, ◌∙◌, subst}
-use Rattle.codegen.proofs.Names.{arith, drop, get_or, put, Core, Form, Move, ToRegister, Register, WorkRegister, R5, R6, R7, work_number, Runs, Source, SourceNeeds}
+use Rattle.codegen.proofs.Names.{arith, drop, get_or, put, Core, Form, Move, ToRegister, Register, WorkRegister, R5, R6, R7, work_number, Runs, Source}
+use Rattle.codegen.proofs.Names.{SourceNeeds}
 use Rattle.codegen.proofs.Names.{source_value, source_read, source_operand, source_cycles, to_register, Stands, forms_bytes, Waiting, WordState, with_stack}
 use Rattle.codegen.proofs.Names.{top_of, below_top, any_held, cleared, kept, four_from, rests, source_from, waiting_source}
 use Rattle.codegen.specs.declared.waiting.Waiting.TheVariants as waiting

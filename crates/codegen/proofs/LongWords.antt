@@ -1,6 +1,7 @@
 -- Arithmetic of longs by their words: what the low words carry goes into the high ones.
 use Rattle.codegen.proofs.Names.{◌≡◌, ℕ, zero, suc, ◌+◌, ◌-◌, ◌*◌, ◌/◌, ◌%◌, ◌^◌, ◌<◌, ◌≤◌, ◌==◌, Bool, true, false, not, nat_le, nat_lt, if◌then◌else◌}
-use Rattle.codegen.proofs.Names.{refl, sym, ap, ap₂, ◌∙◌, arith, le-leb, ltb-true, eqb-true, bit, bit_and, and_mask, nat_tests, and_le_r, mul-mod_first, pow-add, Flags, Word}
+use Rattle.codegen.proofs.Names.{refl, sym, ap, ap₂, ◌∙◌, arith, le-leb, ltb-true, eqb-true, bit, bit_and, nat_tests, and_le_r, mul-mod_first, pow-add, Flags}
+use Rattle.codegen.proofs.Names.{Word, and_mask}
 use Rattle.codegen.proofs.Names.{operated, flags_after, PlainOperation, Add, Subtract, And, plain_instruction}
 use Rattle.std.specs.Prelude.{bit_or, bit_xor}
 use Rattle.std.specs.Int.Bits.{xor_add_and}

@@ -55,7 +55,8 @@ pub use Rattle.array_versions.specs.Form.{StepLocalsBelow, TestLocalsBelow, Loca
 pub use Rattle.array_versions.specs.Form.{EachStepWay, EachTestWay, EachWay, TestSpares, StepLoopsCount, TestLoopsCount, LoopsCount, StepOfWords, TestOfWords}
 pub use Rattle.array_versions.specs.Form.{OfWords}
 pub use Rattle.array_versions.specs.Operations.{is_true, compare_words, unary_word, plain_word, binary_word, shift_word, shifted_word}
-pub use Rattle.array_versions.specs.Program.{Step, Test, Program, number, load, keep, update, local, set_local, update_local, unary, binary, shift, long, element}
+pub use Rattle.array_versions.specs.Program.{Step, Test, Program, number, load, keep, update, local, set_local, update_local, unary, binary, shift, long}
+pub use Rattle.array_versions.specs.Program.{element}
 pub use Rattle.array_versions.specs.Program.{emit_word, list_entry, versioned_read, versioned_write, versioned_update, sense, truth, choose, repeat}
 pub use Rattle.array_versions.specs.Program.{store_number, move_word, jump, holds, compares, both, either, fails, nothing, step}
 pub use Rattle.array_versions.specs.View.{step_of, steps_of, test_of}
@@ -76,7 +77,8 @@ pub use Rattle.codegen.specs.Code.{number_source, check_code, zero_code, fetch_c
 pub use Rattle.codegen.specs.Code.{failing, jump_over, decision, waiting_source, flushed, top_of, below_top, any_held, repeated, size, waiting_behind}
 pub use Rattle.codegen.specs.Code.{step_code, steps_code, local_address, local_target, source_from, cleared, kept, four_from, top_number, element_at, stays}
 pub use Rattle.codegen.specs.Code.{sides, right_source, top_power, two_code, power_code, five_from, top_to_four, top_to_five, two_to_registers, unary_middle}
-pub use Rattle.codegen.specs.Code.{binary_middle, plain_instruction, update_code, double, halve, right_code, shift_by, last_bit, shift_code, shift_middle, own_code, read_code}
+pub use Rattle.codegen.specs.Code.{binary_middle, plain_instruction, update_code, double, halve, right_code, shift_by, last_bit, shift_code, shift_middle}
+pub use Rattle.codegen.specs.Code.{own_code, read_code}
 pub use Rattle.codegen.specs.Code.{stored_code, write_code, pass_over, jump_back, holds_code, compares_code, truth_code, number_code, turn_end, turns_code}
 pub use Rattle.codegen.specs.Code.{waiting_after, bound_of, is_inside, test_code, block_code, code_of, rests, rest_source, to_rest, right_to_rest, update_sides}
 pub use Rattle.codegen.specs.Code.{made_code, first_update, by_version, inside_update, checked_update, indexed_update, known_update, known_index, update_at}

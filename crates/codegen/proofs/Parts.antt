@@ -1,6 +1,8 @@
 -- The steps that are straight code: words of FRAM, locals, jumps.
-use Rattle.codegen.proofs.Names.{◌≡◌, ℕ, ◌+◌, ◌-◌, ◌%◌, ◌<◌, Bool, true, false, nat_lt, List, [], ◌∷◌, length, Option, Some, refl, sym, ap, ◌∙◌, subst, arith}
-use Rattle.codegen.proofs.Names.{◌≤◌, eq-eqb, if◌then◌else◌, cycles_of, source_cycles, to_register, to_memory, Store, put, Goes, At, stretch, IsFram, Konst}
+use Rattle.codegen.proofs.Names.{◌≡◌, ℕ, ◌+◌, ◌-◌, ◌%◌, ◌<◌, Bool, true, false, nat_lt, List, [], ◌∷◌, length, Option, Some, refl, sym, ap, ap₂, ◌∙◌, ◌++◌}
+use Rattle.codegen.proofs.Names.{◌==◌, subst, arith}
+use Rattle.codegen.proofs.Names.{put_other, ◌≤◌, eq-eqb, if◌then◌else◌, cycles_of, source_cycles, to_register, to_memory, Store, put, Goes, At, stretch}
+use Rattle.codegen.proofs.Names.{IsFram, Konst}
 use Rattle.codegen.proofs.Names.{constant_value, work_number, Core, Source, source_operand, source_bytes, source_read, Constant, Fram, Ram, ToRegister, ToFram}
 use Rattle.codegen.proofs.Names.{ToRam, Move, Push, Branch, instruction_of, Stands, forms_bytes, forms_run, Runs, stands_at, end_of, WordState, behaves}
 use Rattle.codegen.proofs.Names.{goes_on, Jumps, broken, with_stack, pushed, stored, with_local, is_place, word_stored, jumped, Waiting, HasJumped}
@@ -8,7 +10,11 @@ use Rattle.codegen.proofs.Names.{local_register, local_address, local_target, nu
 use Rattle.codegen.proofs.Stretches.{Setting, straight, hop}
 use Rattle.codegen.proofs.Memory.{local_words, in_ram, Memory, push_needs, local_needs, push_memory, set_register, set_ram, place_is}
 use Rattle.codegen.proofs.Follows.{StandsFor, Follows, guarded}
-use Rattle.codegen.proofs.Operands.{number_price, Top, bare, number_top, load_price, load_less, store_cycles, store_price}
+use Rattle.codegen.specs.declared.waiting.Waiting.TheVariants as waiting
+use Rattle.codegen.specs.Code.{any_at}
+use Rattle.std.proofs.lemmas.Bool.{or_parts}
+use Rattle.codegen.proofs.Operands.{number_price, Describes, Top, bare, number_top, load_price, load_less, store_cycles, store_price, waiting_word}
+use Rattle.codegen.proofs.Operands.{waiting_words}
 
 module _ (z : Setting) where
   pub constant_part : (k : Konst) (pc : ℕ) (w : WordState) (u : Core) → length w.stack < z.room → Stands z.code pc (Push (Constant k) ∷ [])
@@ -61,6 +67,38 @@ module _ (z : Setting) where
       → (let ms = Move (source_from x) (ToFram a) ∷ [] in Stands z.code pc ms → Top z (source_from x) [] pc w v vs u
       → Follows z (pc + forms_bytes ms) (store_cycles x) u (word_stored a v (with_stack vs w)))
   keep_part x a pc v vs w u h k = keep_from (source_from x) (store_cycles x) a pc v vs w u (store_price x) h k
+
+  -- words that wait are what they were, where none of them is the word that is stored
+  words_beside : (f : ℕ → ℕ) (l : ℕ → Option ℕ) (g : ℕ → ℕ) (a v : ℕ) (os : List Waiting) → any_at a os ≡ false
+      → waiting_words (put f a v) l g os ≡ waiting_words f l g os
+  words_beside f l g a v [] e = refl
+  words_beside f l g a v (waiting.Fram b ∷ os) e =
+      let parts = or_parts (a == b) (any_at a os) e in
+      let other : b ≡ a → ⊥ = λ same. let is = eq-eqb a b (sym same) in let no = parts.0 in absurd (cc) in
+      ap₂ (λ x xs. x ∷ xs) (put_other f a v b other) (words_beside f l g a v os parts.1)
+  words_beside f l g a v (o ∷ os) e = ap (λ xs. waiting_word f l g o ∷ xs) (words_beside f l g a v os e)
+
+  -- so they go on waiting
+  pub keep_beside : (x : Option Waiting) (a pc v : ℕ) (os : List Waiting) (vs : List ℕ) (w : WordState) (u : Core) → any_at a os ≡ false → is_place a ≡ true
+      → (let ms = Move (source_from x) (ToFram a) ∷ [] in Stands z.code pc ms → Top z (source_from x) os pc w v vs u
+      → Runs z.code (Store a v ∷ []) (store_cycles x) u (Describes z os (pc + forms_bytes ms) (stored a v (with_stack vs w))))
+  keep_beside x a pc v os vs w u f g h k =
+      let s = source_from x in
+      let m = Move s (ToFram a) in
+      let t = source_read s u in
+      let d = k.left in
+      let to : u.pc + (2 + source_bytes s + 2) ≡ pc + forms_bytes (m ∷ []) = omega (arith, k.at) in
+      let price = cycles_of (instruction_of m) in
+      let after : ℕ → Core = λ y. record t { pc = u.pc + (2 + source_bytes s + 2); fram = put t.fram a y } in
+      hop z m (store_cycles x) u (after v) (Store a v ∷ []) price _ (ap z.code k.at ∙ h.0) (k.needs, place_is a g)
+      (ap (λ y. Goes (Store a y ∷ []) price (after y)) k.value) (store_price x)
+      (record {
+        rest = d.rest;
+        is = record { at = to; memory = d.is.memory; fram = ap (λ f. put f a v) d.is.fram; readings = d.is.readings };
+        stack = d.stack ∙ ap (λ xs. xs ++ d.rest) (sym (words_beside w.fram w.locals t.work a v os f));
+        there = d.there;
+        fits = d.fits;
+      })
 
   -- a number is
   pub store_part : (a v pc : ℕ) (w : WordState) (u : Core)

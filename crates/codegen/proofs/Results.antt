@@ -26,7 +26,10 @@ use Rattle.codegen.proofs.Sides.{Aiming, is_read, side_cycles, reading_cycles, r
 use Rattle.codegen.proofs.Middles.{plain_step, UnaryMiddle, BinaryMiddle, negate_middle, complement_middle}
 use Rattle.codegen.proofs.Follows.{StandsFor, stands_elsewhere, Follows, Reaches, reach_more, then_reach, reaches, reach_guarded}
 use Rattle.codegen.proofs.LoopBounds.{Bounded, top_inside, under_inside}
-use Rattle.codegen.proofs.Parts.{local_part, keep_part, set_part}
+use Rattle.codegen.proofs.Names.{Store, stored}
+use Rattle.codegen.specs.Code.{any_at}
+use Rattle.codegen.proofs.Operands.{take_part}
+use Rattle.codegen.proofs.Parts.{local_part, keep_part, keep_beside, set_part}
 use Rattle.codegen.proofs.Updates.{update_part, update_local_part}
 use Rattle.codegen.proofs.Products.{multiply_middle}
 use Rattle.codegen.proofs.Quotients.{divide_part, remainder_part}
@@ -437,13 +440,30 @@ module _ (z : Setting) where
       let front = flushed (below_top os) in
       alone_behind front ms c most pc u b l h (λ s. below_part z os pc w v vs u e s d) f
 
-  pub keep_reaches : (a : ℕ) (os : List Waiting) (pc : ℕ) (w : WordState) (vs : List ℕ) (u : Core) → w.stack ≡ vs
-      → StepDoes [] os (keep a) 5 pc w u (with_top vs (λ v us. word_stored a v (with_stack us w)))
-  keep_reaches a os pc w [] u e h d = tt
-  keep_reaches a os pc w (v ∷ us) u e h d =
+  -- a word is stored, the others going on to wait where none of them is that word
+  keep_by : (b : Bool) (a : ℕ) (os : List Waiting) (pc : ℕ) (w : WordState) (v : ℕ) (us : List ℕ) (u : Core) → any_at a (below_top os) ≡ b
+      → w.stack ≡ v ∷ us → (let under = below_top os in
+      let ms = (if b then flushed under else []) ++ Move (source_from (top_of os)) (ToFram a) ∷ [] in
+      Stands z.code pc ms → Describes z os pc w u
+      → Does (if b then [] else under) (pc + forms_bytes ms) (5 + owed os) u (word_stored a v (with_stack us w)))
+  keep_by true a os pc w v us u f e h d =
       let mid = pc + forms_bytes (flushed (below_top os)) in
       statement_part os (Move (source_from (top_of os)) (ToFram a) ∷ []) (store_cycles (top_of os)) (5 + owed os) pc w v us u
       (word_stored a v (with_stack us w)) (omega (arith, store_owed os)) e h d (λ t s k. keep_part z (top_of os) a mid v us w t s k)
+  keep_by false a os pc w v us u f e h d =
+      let under = below_top os in
+      let end = pc + forms_bytes (Move (source_from (top_of os)) (ToFram a) ∷ []) in
+      reach_guarded z (is_place a) (owed under) (Describes z under end) (5 + owed os) u (goes_on (Store a v ∷ []) (stored a v (with_stack us w))) (λ g.
+      record {
+        spent = store_cycles (top_of os);
+        within = store_owed os;
+        runs = keep_beside z (top_of os) a pc v under us w u f g h (take_part z os pc w v us u e d);
+      })
+
+  pub keep_reaches : (a : ℕ) (os : List Waiting) (pc : ℕ) (w : WordState) (vs : List ℕ) (u : Core) → w.stack ≡ vs
+      → StepDoes [] os (keep a) 5 pc w u (with_top vs (λ v us. word_stored a v (with_stack us w)))
+  keep_reaches a os pc w [] u e h d = tt
+  keep_reaches a os pc w (v ∷ us) u e h d = keep_by (any_at a (below_top os)) a os pc w v us u refl e h d
 
   pub update_reaches : (o : PlainOperation) (a : ℕ) (os : List Waiting) (pc : ℕ) (w : WordState) (vs : List ℕ) (u : Core) → w.fram a < 0x10000 → w.stack ≡ vs
       → AreWords vs → StepDoes [] os (update o a) 5 pc w u (with_top vs (λ v us. word_stored a (plain_word o (w.fram a) v) (with_stack us w)))

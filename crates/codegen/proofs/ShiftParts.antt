@@ -1,6 +1,7 @@
 -- Shifts by a count.
 use Rattle.codegen.proofs.Names.{◌≡◌, ℕ, zero, suc, ◌+◌, ◌-◌, ◌*◌, ◌/◌, ◌%◌, ◌^◌, ◌<◌, ◌≤◌, ◌==◌, not, List, [], ◌∷◌, ◌++◌, Some, refl, sym, ap, ◌∙◌, subst}
-use Rattle.codegen.proofs.Names.{arith, Bool, true, false, nat_lt, nat_le, ltb-true, if◌then◌else◌, bit_and, bit_xor, eqb-true, nat_tests, and_mask, mul-mod_first, pow-add, bit}
+use Rattle.codegen.proofs.Names.{arith, Bool, true, false, nat_lt, nat_le, ltb-true, if◌then◌else◌, bit_and, bit_xor, eqb-true, nat_tests, and_mask}
+use Rattle.codegen.proofs.Names.{mul-mod_first, pow-add, bit}
 use Rattle.codegen.proofs.Names.{arithmetic_shift, R4, Core, Register, Number, Constant, ToRegister, Form, Move, Calculate, Modify, instruction_of, form_bytes}
 use Rattle.codegen.proofs.Names.{Stands, forms_bytes, Runs, stands_front, stands_back, ShiftOperation, Left, Right, SignedRight, shifted_word, shift_word}
 use Rattle.codegen.proofs.Names.{WordState, repeated, right_code, shift_by, last_bit, shift_code, shift_middle}

@@ -4,7 +4,8 @@ use Rattle.codegen.proofs.Names.{instruction_of, Condition, Runs, ◌≤◌, R4,
 use Rattle.codegen.proofs.Names.{if◌then◌else◌, List, [], ◌∷◌, ◌++◌, length, All, Some, ◌≢◌, None, refl, sym, ap, subst, arith, AllByRecursion, Effect, Core}
 use Rattle.codegen.proofs.Names.{Form, form_bytes, Move, Branch, Fram, ToFram, Stands, forms_bytes, stands_front, stands_back, forms_behind, forms_bytes-append}
 use Rattle.codegen.proofs.Names.{Comparison, is_true, compare_words, Step, Test, Program, number, load, keep, update, local, set_local, update_local, unary}
-use Rattle.codegen.proofs.Names.{binary, shift, long, element, emit_word, list_entry, versioned_read, versioned_write, versioned_update, sense, truth, choose, repeat}
+use Rattle.codegen.proofs.Names.{binary, shift, long, element, emit_word, list_entry, versioned_read, versioned_write, versioned_update, sense, truth, choose}
+use Rattle.codegen.proofs.Names.{repeat}
 use Rattle.codegen.proofs.Names.{store_number, move_word, jump, holds, compares, both, either, fails, nothing, step, WordState, started, End, GoesOn, Jumps}
 use Rattle.codegen.proofs.Names.{Short, Strays, Broken, Behaviour, with_stack, with_local, with_top, with_two, is_place, local_pushed, local_updated}
 use Rattle.codegen.proofs.Names.{number_pushed, way_by_top, way_by_two, step_behaviour, then_on, tested, behaviour, Place, start, assigning, Moves, EachTurn}
@@ -163,7 +164,8 @@ module _ (z : Setting) where
         let mid = pc + forms_bytes front in
         let most = owed os + (10 + (if compare_words c x y then ch t else cf t)) in
         by_form (λ p. Holds z (Aiming true from x y w.fram) p t) front (compare_form c from) (compare_words c x y) (reading_cycles stay) most pc (holding c)
-        (failing c) t u (omega (arith, owed_kept (below_top under), side_owed stay os, load_owed under)) (popped held r.fit.2.0) (popped failed r.fit.2.1) h fork
+        (failing c) t u (omega (arith, owed_kept (below_top under), side_owed stay os, load_owed under)) (popped held r.fit.2.0) (popped failed r.fit.2.1) h
+        fork
         (λ s. gathered z (compare_sides c os) ks pc s (λ s. compare_sides_part z c os pc w x y us u e s i))
         (λ q s k. compares_part z c (top_of os) mid x y t q words.1.0 words.0 s k)
 

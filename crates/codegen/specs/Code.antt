@@ -123,6 +123,24 @@ cleared os = if any_held os then flushed os else []
 abbrev pub kept : List Waiting → List Waiting
 kept os = if any_held os then [] else os
 
+-- a word that waits is the one of FRAM at this address
+abbrev pub is_at : ℕ → Waiting → Bool
+is_at a (waiting.Fram b) = a == b
+is_at a _ = false
+
+-- so is one of them
+abbrev pub any_at : ℕ → List Waiting → Bool
+any_at a [] = false
+any_at a (o ∷ os) = is_at a o || any_at a os
+
+-- in front of a store to that word, the words below what it takes: where one of them is that word all are pushed
+abbrev pub spared : ℕ → List Waiting → List Form
+spared a os = if any_at a os then flushed os else []
+
+-- and those that go on waiting
+abbrev pub sparing : ℕ → List Waiting → List Waiting
+sparing a os = if any_at a os then [] else os
+
 -- to R4
 abbrev pub four_from : Option Waiting → List Form
 four_from None = pop_to R4 ∷ []
@@ -839,10 +857,11 @@ long_behind with_longs.HighWord os = high_behind os
 abbrev pub local_code : List Waiting → ℕ → List Form
 local_code os n = if nat_lt n 8 then [] else (flushed os ++ Push (Ram (local_address n)) ∷ [])
 
--- what waits behind a step; nothing does behind a store, behind an assignment and where ways part or meet
+-- what waits behind a step; nothing does behind other stores, behind an assignment to a local and where ways part or meet
 abbrev pub waiting_behind : List Waiting → Step → List Waiting
 waiting_behind os (number w) = waiting.Number w ∷ os
 waiting_behind os (load a) = waiting.Fram a ∷ os
+waiting_behind os (keep a) = sparing a (below_top os)
 waiting_behind os (local n) = if nat_lt n 8 then waiting.Local n ∷ os else []
 waiting_behind os (unary operation) = waiting.R4 ∷ kept (below_top os)
 waiting_behind os (binary operation) = power_result (top_power (top_of os)) operation ∷ kept (below_top (below_top os))
@@ -863,7 +882,7 @@ abbrev mutual
   pub step_code : List Bound → List Waiting → Step → List Form
   step_code bs os (number w) = []
   step_code bs os (load a) = []
-  step_code bs os (keep a) = flushed (below_top os) ++ Move (source_from (top_of os)) (ToFram a) ∷ []
+  step_code bs os (keep a) = spared a (below_top os) ++ Move (source_from (top_of os)) (ToFram a) ∷ []
   step_code bs os (update o a) = flushed (below_top os) ++ Update (plain_instruction o) (source_from (top_of os)) a ∷ []
   step_code bs os (local n) = local_code os n
   step_code bs os (set_local n) = flushed (below_top os) ++ Move (source_from (top_of os)) (local_target n) ∷ []

@@ -8,10 +8,12 @@ ghost use Rattle.array_versions.specs.Form.{StepOfWords};
 ghost use Rattle.array_versions.specs.Program as value;
 ghost use Rattle.array_versions.specs.declared.operations.LongOperation.TheVariants as long_op;
 ghost use Rattle.codegen.specs.Code as made;
-ghost use Rattle.codegen.specs.Code.{top_of, below_top, below_two, in_six, parted, parting, six_from, four_from, pair_to_registers, kept, side_from, side_source};
+ghost use Rattle.codegen.specs.Code.{top_of, below_top, below_two, in_six, parted, parting, six_from, four_from, pair_to_registers, kept, side_from};
+ghost use Rattle.codegen.specs.Code.{side_source};
 ghost use Rattle.codegen.specs.Code.{long_sides, high_source, low_source, high_instruction, long_waits, longs_code, longs_under, long_calculation, below_code};
 ghost use Rattle.codegen.specs.Code.{above_code, times_code, long_double, long_halve, byte_to_left, byte_to_right, long_right_code, left_by, right_by, dropped};
-ghost use Rattle.codegen.specs.Code.{lifted, high_code, high_behind, pair_lost, short_code, short_behind, left_code, left_behind, right_shift_code, right_behind};
+ghost use Rattle.codegen.specs.Code.{lifted, high_code, high_behind, pair_lost, short_code, short_behind, left_code, left_behind, right_shift_code};
+ghost use Rattle.codegen.specs.Code.{right_behind};
 ghost use Rattle.codegen.specs.Code.{widen_code, longs_lost, long_code, long_behind, step_code, waiting_behind, shift_middle, top_to_four};
 ghost use Rattle.array_versions.specs.declared.operations.ShiftOperation.TheVariants as shift_op;
 

@@ -17,8 +17,8 @@ use crate::forms::{
 };
 use crate::operations::plain_instruction;
 use crate::waiting::{
-    Waiting, emit_all, emit_below, emit_cleared, emit_top_to_five, emit_top_to_four, take, top,
-    top_number, wait,
+    Waiting, emit_all, emit_below, emit_cleared, emit_spared, emit_top_to_five, emit_top_to_four,
+    source_from, take, top, top_number, wait,
 };
 use array_versions::PlainOperation;
 use msp_isa::{Condition, Dst, IndexRegister, Instr, Konst, Operand, Reg, Src, TwoOp};
@@ -258,10 +258,11 @@ pub fn emit_keep(
 ) -> Result<(), AllocError>
     ensures code { OnOk result (code.new.items
         ≡ code.old.items ++ instructions (step_code [] waiting.old.items (value.keep address))) }
-    ensures waiting { OnOk result (waiting.new.items ≡ []) }
+    ensures waiting { OnOk result (waiting.new.items ≡ waiting_behind waiting.old.items (value.keep address)) }
 {
-    let source = emit_below(waiting, code)?;
-    emit_move(source, Dst::Absolute(address), code)
+    let top = take(waiting);
+    emit_spared(address, waiting, code)?;
+    emit_move(source_from(top), Dst::Absolute(address), code)
 }
 
 /// Appends the code of an operation on a word of FRAM.

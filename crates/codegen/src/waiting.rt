@@ -5,7 +5,8 @@ ghost use Rattle.codegen.specs.declared.waiting.Waiting.TheVariants as words;
 ghost use Rattle.code_forms.specs.Forms.{source_operand};
 ghost use Rattle.code_forms.specs.Placed.{instructions};
 ghost use Rattle.codegen.specs.Code as made;
-ghost use Rattle.codegen.specs.Code.{flushed, top_of, below_top, is_held, any_held, cleared, kept, four_from, five_from, top_to_four, top_to_five};
+ghost use Rattle.codegen.specs.Code.{flushed, top_of, below_top, is_held, any_held, cleared, kept, is_at, any_at, spared, sparing, four_from, five_from};
+ghost use Rattle.codegen.specs.Code.{top_to_four, top_to_five};
 ghost use Rattle.codegen.specs.Code.{two_to_registers, stays, right_source, sides, power, top_number, top_power, top_mask, rests, rest_source, to_rest};
 
 use crate::forms::{
@@ -120,6 +121,44 @@ pub fn emit_cleared(waiting: &mut Vec<Waiting>, code: &mut Vec<Instr>) -> Result
     ensures waiting { OnOk result (waiting.new.items ≡ kept waiting.old.items) }
 {
     if any_held(waiting) {
+        emit_all(waiting, code)
+    } else {
+        Ok(())
+    }
+}
+
+// The word that waits is the one of FRAM at this address.
+fn is_at(address: u16, word: Waiting) -> bool
+    ensures { result ≡ is_at address word }
+{
+    match word {
+        Waiting::Fram(other) => address == other,
+        Waiting::Number(_) | Waiting::Local(_) | Waiting::R4 | Waiting::R6 => false,
+    }
+}
+
+// So is one of them.
+fn any_at(address: u16, waiting: &[Waiting]) -> bool
+    ensures { result ≡ any_at address waiting.now }
+{
+    for word in waiting {
+        if is_at(address, *word) {
+            return true;
+        }
+    }
+    false
+}
+
+/// Appends the code that pushes all words that wait where one of them is the word of FRAM at this address, which is stored next.
+pub fn emit_spared(
+    address: u16,
+    waiting: &mut Vec<Waiting>,
+    code: &mut Vec<Instr>,
+) -> Result<(), AllocError>
+    ensures code { OnOk result (code.new.items ≡ code.old.items ++ instructions (spared address waiting.old.items)) }
+    ensures waiting { OnOk result (waiting.new.items ≡ sparing address waiting.old.items) }
+{
+    if any_at(address, waiting) {
         emit_all(waiting, code)
     } else {
         Ok(())

@@ -6,4 +6,6 @@ mod code;
 #[cfg(test)]
 mod layouts;
 #[cfg(test)]
+mod longs;
+#[cfg(test)]
 mod programs;

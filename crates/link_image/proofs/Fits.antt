@@ -16,7 +16,8 @@ use Rattle.linked_code.specs.Linked.{CodeFits}
 use Rattle.linked_code.specs.Rooms.{ProgramsKeep, PrivatesAreCounted, LayoutsHaveRoom}
 
 keep_all : BlocksKeepToWords → (l : MemoryMap) (shared : List SharedDeclaration) (tasks : List CheckedTask) (ts : List TaskPlace) → length ts ≡ length tasks
-    → ((k : ℕ) (task : CheckedTask) (t : TaskPlace) → slice_get tasks k ≡ Some task → slice_get ts k ≡ Some t → private_words t.privates ≤ scalars_of shared task.body)
+    → ((k : ℕ) (task : CheckedTask) (t : TaskPlace) → slice_get tasks k ≡ Some task → slice_get ts k ≡ Some t
+    → private_words t.privates ≤ scalars_of shared task.body)
     → ProgramsKeep shared tasks (lowered_tasks l tasks ts)
 keep_all keep l shared [] [] n f = tt
 keep_all keep l shared [] (t ∷ ts) n f = absurd (omega (arith, n))

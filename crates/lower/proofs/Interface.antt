@@ -7,7 +7,9 @@ pub use Rattle.lower.proofs.Updates.{IsUpdate, is_update}
 -- What an entry more of the commit list leaves, and that no run is without a word.
 pub use Rattle.lower.proofs.Transitions.{after_entry}
 pub use Rattle.lower.proofs.Lists.{entered_pairs}
-pub use Rattle.lower.proofs.Stored.{few_entries, word_same, word_other, row_length}
+pub use Rattle.lower.proofs.Stored.{few_entries}
+-- The words of the shared variables behind a store.
+pub use Rattle.lower.proofs.Stored.{word_same, word_other, row_length}
 -- The program of statements does what they do.
 pub use Rattle.lower.proofs.Blocks.{blocks_agree, program_at}
 -- A memory map as a task sees it.

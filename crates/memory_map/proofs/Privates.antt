@@ -18,7 +18,8 @@ private_home_region s = record { address = s.home; words = scalar_words s.width 
 abbrev pub private_copy_region : PrivateScalar → Region
 private_copy_region s = record { address = s.copy; words = scalar_words s.width }
 
-pub private_home : (m : MemoryMap) → IsLaidOut m → (s : PrivateScalar) → HasItsPlace m.variables s → Within m.homes.address (private_home_region s) (end_of m.homes)
+pub private_home : (m : MemoryMap) → IsLaidOut m → (s : PrivateScalar) → HasItsPlace m.variables s
+    → Within m.homes.address (private_home_region s) (end_of m.homes)
 private_home m h s p =
     let place : VariablePlace = Scalar s.home s.copy s.width in
     in_order_within m.homes.address (map home_region m.variables) (end_of m.homes) s.number (private_home_region s) h.homes

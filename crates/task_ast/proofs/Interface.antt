@@ -3,4 +3,4 @@
 -- A list of a tree that is walked from its end.
 pub use Rattle.task_ast.proofs.Backwards.{drop_back}
 -- Types of one word.
-pub use Rattle.task_ast.proofs.Widths.{by_one_word, width_least, joined_word, binary_word, unary_word, literal_word, plain_word}
+pub use Rattle.task_ast.proofs.Widths.{by_one_word, width_least, joined_word, binary_word, unary_word, literal_word}

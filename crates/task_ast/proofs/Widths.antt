@@ -7,11 +7,7 @@ use Rattle.task_ast.specs.declared.UnaryOperator.{UnaryOperator}
 use Rattle.task_ast.specs.declared.UnaryOperator.TheVariants.{Negate, Complement, Not}
 use Rattle.task_ast.specs.declared.BinaryOperator.{BinaryOperator}
 use Rattle.task_ast.specs.declared.BinaryOperator.TheVariants.{Multiply, Divide, Remainder, Add, Subtract, And, Xor, Or}
-use Rattle.task_ast.specs.declared.names.VariableName.{VariableName}
-use Rattle.task_ast.specs.Tree as t
-use Rattle.task_ast.specs.Tree.{Expression}
-use Rattle.task_ast.specs.Longs.{IsPlainExpression, IsWordVariable}
-use Rattle.task_ast.specs.Types.{IsOneWord, type_of, by_width, joined_type, quotient_type, binary_type, unary_type, literal_type}
+use Rattle.task_ast.specs.Types.{IsOneWord, by_width, joined_type, quotient_type, binary_type, unary_type, literal_type}
 
 -- of a type of one word it is the first of two
 pub by_one_word : {A : Type 0} (t : WordType) (one two : A) → IsOneWord t → by_width t one two ≡ one
@@ -59,15 +55,3 @@ literal_word n = by (nat_le n 32767)
     by : (b : Bool) → IsOneWord (if b then Int else Unsigned)
     by true = tt
     by false = tt
-
--- the type of an expression without longs
-pub plain_word : (e : Expression VariableName) → IsPlainExpression IsWordVariable e → IsOneWord (type_of e)
-plain_word (t.number n) h = literal_word n
-plain_word (t.long_number n) h = h
-plain_word (t.name x) h = h
-plain_word (t.element x index) h = h.0
-plain_word t.sense h = tt
-plain_word (t.unary op e) h = unary_word op (type_of e) (plain_word e h)
-plain_word (t.binary op a b) h = binary_word op.operator (type_of a) (type_of b) (plain_word a h.0) (plain_word b h.1)
-plain_word (t.shift op e count) h = plain_word e h
-plain_word (t.short_circuit op a b) h = tt

@@ -54,8 +54,8 @@ use Rattle.layout_facts.specs.memory_map.declared.place.VariablePlace.TheVariant
 use Rattle.layout_facts.specs.memory_map.declared.place.PrivateScalar.{PrivateScalar}
 use Rattle.layout_facts.specs.memory_map.MemoryMap.{MemoryMap, word_place}
 use Rattle.layout_facts.specs.memory_map.Places.{scalar_words}
-use Rattle.layout_facts.specs.memory_map.Spots.{scalar_address, private_words, Places, IsScalarWord, Element, IsElement, IsCopied, Spot, IsSpot, scalar, element}
-use Rattle.layout_facts.specs.memory_map.Spots.{copy, spot_address, element_address, copy_address, IsWordOf}
+use Rattle.layout_facts.specs.memory_map.Spots.{scalar_address, private_words, Places, IsScalarWord, Element, IsElement, IsCopied, Spot, IsSpot, scalar}
+use Rattle.layout_facts.specs.memory_map.Spots.{element, copy, spot_address, element_address, copy_address, IsWordOf}
 
 module _ (p : CheckedProgram) (l : MemoryMap) (given : IsGiven p l) (s : State) (is_task : s.task < length p.tasks) (i : IsAt p l s.task) (x : World)
     (readings : List ℕ)

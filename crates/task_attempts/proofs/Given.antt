@@ -31,7 +31,8 @@ use Rattle.layout_facts.specs.compiled_model.Places.{is_private_in, program_plac
 use Rattle.layout_facts.specs.compiled_model.View.{shared_word, are_rows}
 use Rattle.layout_facts.specs.Facts.{HasLayout, IsTaskAt, task_room, task_places}
 use Rattle.task_attempts.proofs.Held.{scalar_block}
-use Rattle.layout_facts.proofs.Interface.{each_is_one_word, scalar_declared, places_are_declared, addresses_are, tasks_match, places_are_apart, tasks_have_room, names_fit}
+use Rattle.layout_facts.proofs.Interface.{each_is_one_word, scalar_declared, places_are_declared, addresses_are, tasks_match, places_are_apart, tasks_have_room}
+use Rattle.layout_facts.proofs.Interface.{names_fit}
 use Rattle.layout_facts.proofs.Interface.{shared_words_are_of_variables, words_of_variables_are_shared, lists_have_room, privates_are_theirs, elements_stand}
 use Rattle.layout_facts.proofs.Interface.{task_places_are_apart, task_places_are_even, view_has_their_words, rows_fit_places}
 use Rattle.layout_facts.specs.whole_programs.Laws.{IsLaidOutText}

@@ -1,5 +1,6 @@
 -- A started attempt stands for the source's attempt of the task.
-use Rattle.std.proofs.Common.{◌≡◌, ℕ, ◌+◌, ◌*◌, ◌<◌, List, [], length, Option, Some, None, Bool, true, false, ◌&&◌, not, refl, sym, ap, ◌∙◌, subst, ⊎_elim, arith}
+use Rattle.std.proofs.Common.{◌≡◌, ℕ, ◌+◌, ◌*◌, ◌<◌, List, [], length, Option, Some, None, Bool, true, false, ◌&&◌, not, refl, sym, ap, ◌∙◌}
+use Rattle.std.proofs.Common.{subst, ⊎_elim, arith}
 use Rattle.std.proofs.lemmas.Bool.{cases_Bool, and_parts, and_from}
 use Rattle.std.proofs.lemmas.Option.{slice_get_within}
 use Rattle.std.specs.Prelude.{Contains, slice_get, slice_index_or}
@@ -36,7 +37,8 @@ use Rattle.layout_facts.specs.memory_map.declared.place.VariablePlace.{VariableP
 use Rattle.layout_facts.specs.memory_map.declared.place.VariablePlace.TheVariants.{Scalar, Array}
 use Rattle.layout_facts.specs.memory_map.Places.{scalar_words, home_region}
 use Rattle.layout_facts.specs.memory_map.MemoryMap.{MemoryMap, word_place}
-use Rattle.layout_facts.specs.memory_map.Spots.{scalar_address, words_at, home_in, IsScalarWord, Places, Element, IsElement, IsCopied, version_address, element_address}
+use Rattle.layout_facts.specs.memory_map.Spots.{scalar_address, words_at, home_in, IsScalarWord, Places, Element, IsElement, IsCopied, version_address}
+use Rattle.layout_facts.specs.memory_map.Spots.{element_address}
 use Rattle.layout_facts.specs.memory_map.Spots.{IsWordOf}
 
 -- whether a place is one of a scalar

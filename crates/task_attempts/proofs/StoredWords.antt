@@ -18,7 +18,8 @@ use Rattle.layout_facts.specs.array_versions.Program.{store_number, move_word}
 use Rattle.layout_facts.specs.array_versions.Program.{jump, holds, compares, both, either, fails, nothing, step}
 use Rattle.layout_facts.specs.array_versions.Behaviour.{WordState, End, GoesOn, Jumps, Short, Strays, Broken, Behaviour, behaves, goes_on, strays}
 use Rattle.layout_facts.specs.array_versions.Behaviour.{broken, on_end, then_on}
-use Rattle.layout_facts.specs.array_versions.Behaviour.{is_place, at_place, with_top, with_words, with_stack, pushed, stored, with_local, local_pushed, local_updated}
+use Rattle.layout_facts.specs.array_versions.Behaviour.{is_place, at_place, with_top, with_words, with_stack, pushed, stored, with_local, local_pushed}
+use Rattle.layout_facts.specs.array_versions.Behaviour.{local_updated}
 use Rattle.layout_facts.specs.array_versions.Behaviour.{reading_pushed, raised, entry_stored, ends_before}
 use Rattle.layout_facts.specs.array_versions.Behaviour.{listed_behind, behind_effects, own_element, first_stored, own_stored, number_pushed}
 use Rattle.layout_facts.specs.array_versions.Behaviour.{own_place, own_kept, own_updated}

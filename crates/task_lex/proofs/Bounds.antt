@@ -16,12 +16,13 @@ use Rattle.task_lex.specs.Lex.{width_after, lex_within, lex_from, lexed}
 use Rattle.task_lex.specs.Spans.{IsBounded}
 
 -- the depth behind a token stays within 64 where none is too deep
-pub deep : (opens closes : Bool) (depth : ℕ) → depth ≤ 64 → (opens && depth == 64) ≡ false → cond opens (depth + 1) (cond closes (depth - 1) depth) ≤ 64
+deep : (opens closes : Bool) (depth : ℕ) → depth ≤ 64 → (opens && depth == 64) ≡ false → cond opens (depth + 1) (cond closes (depth - 1) depth) ≤ 64
 deep true closes depth le h = let other : (depth == 64) ≡ false = h in grind arith
 deep false true depth le h = omega arith
 deep false false depth le h = le
 
-wide : (ends : Bool) (width : ℕ) → width ≤ 256 → (not ends && width == 256) ≡ false → cond ends 0 (width + 1) ≤ 256
+-- the width behind a token stays within 256 where none is too wide
+pub wide : (ends : Bool) (width : ℕ) → width ≤ 256 → (not ends && width == 256) ≡ false → cond ends 0 (width + 1) ≤ 256
 wide true width le h = omega arith
 wide false width le h = let other : (width == 256) ≡ false = h in grind arith
 

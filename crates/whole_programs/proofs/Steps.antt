@@ -49,7 +49,8 @@ use Rattle.lower.specs.declared.operations.LongQuestion.TheVariants as question
 use Rattle.lower.specs.Operations.{binary_meaning, shift_operation, operand_type, long_meaning, long_shift}
 use Rattle.lower.specs.Lowered.{one, read_step, write_step, list_place, written_array, element_read, element_step, store_step, Lowering, as_word}
 use Rattle.lower.specs.Lowered.{as_test, as_long, high_address, read_long, write_long, widening, long_words, long_program, name_lowering, long_zero}
-use Rattle.lower.specs.Lowered.{operand_lowering, answer, long_binary_lowering, sides_lowering, shift_lowering, widened_type, lowered_long, scalar_assignment, of_words}
+use Rattle.lower.specs.Lowered.{operand_lowering, answer, long_binary_lowering, sides_lowering, shift_lowering, widened_type, lowered_long, scalar_assignment}
+use Rattle.lower.specs.Lowered.{of_words}
 use Rattle.lower.specs.Lowered.{word_program, value_test, unary_lowering, binary_lowering, sides_test, lowering, lowered_expression, lowered_test}
 use Rattle.lower.specs.Lowered.{update_step, setting, updating, sides_set, assignment}
 use Rattle.lower.specs.Lowered.{stored_array, update_element_step, index_and_value, element_setting, element_updating, element_sides_set, element_assignment}

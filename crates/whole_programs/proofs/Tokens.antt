@@ -19,6 +19,7 @@ use Rattle.lower.specs.task_lex.declared.fault.Flaw.TheVariants as flaw
 use Rattle.lower.specs.task_lex.Pieces.{is_zero_led, up_to, piece_of, number_to, has_suffix, word_numeral, long_numeral, numeral, word_kind}
 use Rattle.lower.specs.task_lex.Lex.{Lexed, tokens, fault, with_front, after, step, step_by, counted, numbered, is_opening, is_end, depth_after, width_after}
 use Rattle.lower.specs.task_lex.Lex.{lex_within, lex_from, lexed}
+use Rattle.lower.proofs.task_lex.Interface.{wide}
 
 -- the number of a token is of words
 abbrev pub OfWords : Token → Type 0
@@ -96,15 +97,10 @@ counted_sound p n kind value high width words = go (is_opening kind && p.depth =
     next : Place
     next = record { at = p.at + n; depth = depth_after kind (p.depth); width = width_after kind (p.width) }
 
-    -- where the row isn't full there is room for one more
-    wide : (ends : Bool) → (not ends && p.width == 256) ≡ false → cond ends 0 (p.width + 1) ≤ 256
-    wide true h = omega arith
-    wide false h = let other : (p.width == 256) ≡ false = h in grind (arith, width)
-
     go : (a b : Bool) → (not (is_end kind) && p.width == 256) ≡ b → StepSound p (cond a (Fails flaw.TooDeep) (cond b (Fails flaw.TooWide) (Take taken next)))
     go true b e = tt
     go false true e = tt
-    go false false e = (refl, wide (is_end kind) e, words)
+    go false false e = (refl, wide (is_end kind) p.width width e, words)
 
 sound_by : (text : List ℕ) (p : Place) (found : Piece) (n : ℕ) → p.width ≤ 256 → StepSound p (step_by text p found n)
 sound_by text p piece.Blank n width = refl

@@ -3,4 +3,5 @@ use Rattle.codegen.specs.Code.{times_code, long_double}
 use Rattle.codegen.proofs.longs.emit_long_doubles.Given as goal
 
 abbrev pub invariant-loop-i : goal.invariant-loop-i
-invariant-loop-i l = l.code.items ++ instructions (times_code (l.count - l.i) long_double) ≡ l.initial.code.items ++ instructions (times_code l.count long_double)
+invariant-loop-i l = l.code.items ++ instructions (times_code (l.count - l.i) long_double)
+    ≡ l.initial.code.items ++ instructions (times_code l.count long_double)
