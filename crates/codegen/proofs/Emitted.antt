@@ -6,17 +6,17 @@ use Rattle.codegen.proofs.Names.{instructions-append, Comparison, PlainOperation
 use Rattle.codegen.proofs.Names.{versioned_read, versioned_write, versioned_update, truth, choose, repeat, holds, compares, both, either, fails, nothing, step}
 use Rattle.codegen.proofs.Names.{step_of, steps_of, test_of, StepLocalsBelow, TestLocalsBelow, LocalsBelow, Bound, Waiting, waiting_source, flushed, top_of}
 use Rattle.codegen.proofs.Names.{below_top, repeated, size, waiting_behind, step_code, steps_code, TwoOp}
-use Rattle.array_versions.specs.declared.program.WordStep.{WordStep, the_lemmas}
-use Rattle.array_versions.specs.declared.program.WordStep.TheVariants.{VersionedRead, VersionedWrite, VersionedUpdate, Choose}
-use Rattle.array_versions.specs.declared.program.WordTest.{WordTest}
-use Rattle.array_versions.specs.declared.program.WordTest.TheVariants.{Holds, Compares, Both, Either}
+use Rattle.word_code.specs.array_versions.declared.program.WordStep.{WordStep, the_lemmas}
+use Rattle.word_code.specs.array_versions.declared.program.WordStep.TheVariants.{VersionedRead, VersionedWrite, VersionedUpdate, Choose}
+use Rattle.word_code.specs.array_versions.declared.program.WordTest.{WordTest}
+use Rattle.word_code.specs.array_versions.declared.program.WordTest.TheVariants.{Holds, Compares, Both, Either}
 use Rattle.msp_isa.specs.declared.operands.Dst.{Dst}
 use Rattle.msp_isa.specs.declared.operands.Src.{Src}
 use Rattle.std.specs.Result.{OnOk}
 use Rattle.std.specs.declared.alloc.Global.{Global}
 use Rattle.std.specs.declared.boxed.Box.{Box}
 use Rattle.std.specs.declared.vec.Vec.{Vec}
-use Rattle.codegen.proofs.Lengths.{test_takes, size_words}
+use Rattle.word_code.proofs.Interface.{test_takes, size_words}
 
 -- ---- one level of a step and of a test
 

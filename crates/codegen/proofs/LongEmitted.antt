@@ -1,6 +1,6 @@
 -- The code of operations with longs, appended piece by piece.
 use Rattle.codegen.proofs.Names.{◌≡◌, ℕ, suc, ◌+◌, ◌-◌, ◌<◌, List, ◌++◌, sym, ap, ◌∙◌, arith, append_assoc, Instr, Form, instructions}
-use Rattle.codegen.specs.Code.{times_code}
+use Rattle.word_code.specs.Code.{times_code}
 use Rattle.codegen.proofs.Emitted.{two_behind}
 
 -- once more what is owed

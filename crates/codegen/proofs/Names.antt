@@ -1,91 +1,42 @@
--- The names that the proofs here share, from the rooms below and from this one's specs.
+-- The names that the proofs here share, from the rooms below.
 -- std
-pub use Rattle.std.proofs.Common.{◌≡◌, ℕ, ◌+◌, ◌*◌, ◌%◌, ◌<◌, ◌==◌, not, List, [], ◌∷◌, ◌++◌, refl, sym, ap, ◌∙◌, subst, arith, Bool, true, false, ◌≤◌, nat_lt}
-pub use Rattle.std.proofs.Common.{nat_le, if◌then◌else◌, Some, ap₂, suc, ◌-◌, length, drop, get_or, append_assoc, drop-cons, add-one, rules, Result, Ok, Err}
-pub use Rattle.std.proofs.Common.{is_ok, append-nil, ◌/◌, eq-eqb, ne_eqb, eqb-true, zero, length-append, Option, None, ltb-true, ◌&&◌, ◌≢◌, ◌||◌, lt-ltb}
-pub use Rattle.std.proofs.Common.{nat_eq, suc-add, ◌^◌, bit_and, bit_xor, ◌⊎◌, inl, inr, ⊎_elim, w16, le-leb, le-ltb, All}
-pub use Rattle.std.proofs.Math.Bool.{not-not}
-pub use Rattle.std.proofs.lemmas.Bool.{both_ways, and_parts, cases_eq}
-pub use Rattle.std.proofs.lemmas.Bool.Decides.{nat_tests}
-pub use Rattle.std.proofs.lemmas.Nat.{and_mask, and_le_r, mul-mod_first, div-mul-add, mod-mul-add, pow_pos, pow-add}
-pub use Rattle.std.proofs.lemmas.Option.{same_Some}
+pub use Rattle.std.proofs.Common.{◌≡◌, ℕ, ◌+◌, ◌<◌, ◌==◌, not, List, [], ◌∷◌, ◌++◌, refl, sym, ap, ◌∙◌, subst, arith, Bool, true, false, ◌≤◌, if◌then◌else◌}
+pub use Rattle.std.proofs.Common.{Some, ap₂, suc, ◌-◌, length, drop, get_or, append_assoc, drop-cons, add-one, rules, Result, Ok, Err, is_ok, append-nil}
+pub use Rattle.std.proofs.Common.{Option, lt-ltb, le-ltb}
 pub use Rattle.std.proofs.lemmas.Result.{on_ok_weaker}
-pub use Rattle.std.specs.List.{remove, slice_index_or, AllByRecursion}
-pub use Rattle.std.specs.Option.{unwrap_or}
+pub use Rattle.std.specs.List.{remove, slice_index_or}
 -- words and instructions
-pub use Rattle.msp_isa.specs.Constant.{constant_value}
-pub use Rattle.msp_isa.specs.alp_words.Words.{word_sum, and_of, bit, quotient, remainder, sum_of, word_product, arithmetic_shift, biased, same, is_negative}
-pub use Rattle.msp_isa.specs.alp_words.Words.{difference_of}
-pub use Rattle.msp_isa.specs.alp_words.declared.Flags.{Flags}
+pub use Rattle.msp_isa.specs.alp_words.Words.{word_sum}
 pub use Rattle.msp_isa.specs.alp_words.declared.Width.TheVariants.{Word}
-pub use Rattle.msp_isa.specs.declared.instructions.Condition.{Condition}
 pub use Rattle.msp_isa.specs.declared.instructions.Instr.{Instr}
 pub use Rattle.msp_isa.specs.declared.instructions.Instr.TheVariants.{Two, One}
 pub use Rattle.msp_isa.specs.declared.instructions.TwoOp.{TwoOp}
-pub use Rattle.msp_isa.specs.declared.operands.Konst.{Konst}
--- the machine and its effects
-pub use Rattle.array_versions.proofs.machine_effects.Interface.{put_other, put_same}
-pub use Rattle.array_versions.specs.fram_board.Effects.{Effect, Store, Take}
-pub use Rattle.array_versions.specs.machine_effects.Going.{At, stretch, Goes, StepOutcome, Stops, Stretch, Halted, after_effects, continued, going}
-pub use Rattle.array_versions.specs.machine_effects.Machine.{IsFram, IsRam, MachineBoard, exec, Code}
-pub use Rattle.array_versions.specs.machine_effects.World.{put, IsPrefix}
-pub use Rattle.array_versions.specs.machine_effects.msp_cycles.Cycles.{CycleRow, cycles_of, source_cycles, to_register, to_memory, push}
-pub use Rattle.array_versions.specs.msp_step.Effect.{sum16, distance, is_met, operated, writes_destination}
 -- forms of instructions
-pub use Rattle.code_forms.proofs.Interface.{stands_at, stands_front, stands_back, end_of, forms_bytes-append, instructions-append, form_small, bytes_are}
-pub use Rattle.code_forms.proofs.Interface.{form_at, forms_at, forms_behind, first_forms}
-pub use Rattle.code_forms.specs.Code.{Stands, forms_bytes, forms_run, Runs, Starves, AreStraight, FormsNeed, IsTidy}
-pub use Rattle.code_forms.specs.Forms.{R4, R5, Core, Number, Constant, ToRegister, ToIndexed, Form, Move, Calculate, Update, form_bytes, Register}
-pub use Rattle.code_forms.specs.Forms.{instruction_of, Push, Fram, Ram, ToFram, Source, Jump, Skip, Branch, source_bytes, ToRam, target_bytes, WorkRegister, R6}
-pub use Rattle.code_forms.specs.Forms.{R7, work_number, Indexed, HasPushRoom, source_operand, source_value, source_read, SourceNeeds, board_of, Modify, sensed}
-pub use Rattle.code_forms.specs.Forms.{flags_after, form_step, FormNeeds, index_of, Sense, IsNotMov}
-pub use Rattle.code_forms.specs.Placed.{instructions, words_of as instruction_words, AreInstructions}
+pub use Rattle.word_code.proofs.code_forms.Interface.{forms_bytes-append, instructions-append}
+pub use Rattle.word_code.specs.code_forms.Code.{forms_bytes}
+pub use Rattle.word_code.specs.code_forms.Forms.{R4, R5, Number, Constant, ToRegister, Form, Move, Calculate, Update, instruction_of, Push, Fram, Ram, ToFram}
+pub use Rattle.word_code.specs.code_forms.Forms.{Jump, Branch, R6, R7, Indexed, source_operand, index_of, Sense}
+pub use Rattle.word_code.specs.code_forms.Placed.{instructions, words_of as instruction_words}
 -- word programs
-pub use Rattle.array_versions.proofs.Interface.{put_words, Leaves, leaves, plain_small, Matches, GoesWell, matches_local, start_matches, step_well, well}
-pub use Rattle.array_versions.proofs.Interface.{whole_ends_soundly, local_words, step_words as words_step, words}
-pub use Rattle.array_versions.specs.Behaviour.{WordState, is_place, stored, word_emitted, entry_stored, Behaviour, End, GoesOn, Jumps, Short, Strays, Broken}
-pub use Rattle.array_versions.specs.Behaviour.{behind_effects, on_end, strays, raised, ends_before, listed_behind, first_stored, with_stack, assigned}
-pub use Rattle.array_versions.specs.Behaviour.{step_behaviour, behaviour, with_local, turns, pushed, behaves, goes_on, broken, word_stored, jumped, with_top}
-pub use Rattle.array_versions.specs.Behaviour.{with_two, at_place, element_pushed, own_element, versioned_pushed, versioned_stored, reading_pushed, own_stored}
-pub use Rattle.array_versions.specs.Behaviour.{own_place, own_kept, own_updated, versioned_updated, started, local_pushed, local_updated, number_pushed}
-pub use Rattle.array_versions.specs.Behaviour.{way_by_top, way_by_two, then_on, tested}
-pub use Rattle.array_versions.specs.Cost.{spent_on, unary_words, binary_words, right_words, shift_words, step_words, test_words, words_of, turns_spent}
-pub use Rattle.array_versions.specs.Cost.{unary_cycles, binary_cycles, top_spent, spent_by_top, spent_by_two, step_spent, test_spent, spent}
-pub use Rattle.array_versions.specs.Form.{StepLocalsBelow, TestLocalsBelow, LocalsBelow, StepSpares, Spares, Place, start, assigning, Moves, EachTurn}
-pub use Rattle.array_versions.specs.Form.{EachStepWay, EachTestWay, EachWay, TestSpares, StepLoopsCount, TestLoopsCount, LoopsCount, StepOfWords, TestOfWords}
-pub use Rattle.array_versions.specs.Form.{OfWords}
-pub use Rattle.array_versions.specs.Operations.{is_true, compare_words, unary_word, plain_word, binary_word, shift_word, shifted_word}
-pub use Rattle.array_versions.specs.Program.{Step, Test, Program, number, load, keep, update, local, set_local, update_local, unary, binary, shift, long}
-pub use Rattle.array_versions.specs.Program.{element}
-pub use Rattle.array_versions.specs.Program.{emit_word, list_entry, versioned_read, versioned_write, versioned_update, sense, truth, choose, repeat}
-pub use Rattle.array_versions.specs.Program.{store_number, move_word, jump, holds, compares, both, either, fails, nothing, step}
-pub use Rattle.array_versions.specs.View.{step_of, steps_of, test_of}
-pub use Rattle.array_versions.specs.declared.operations.BinaryOperation.{BinaryOperation}
-pub use Rattle.array_versions.specs.declared.operations.BinaryOperation.TheVariants.{Multiply, Divide, Remainder, Plain}
-pub use Rattle.array_versions.specs.declared.operations.Comparison.{Comparison}
-pub use Rattle.array_versions.specs.declared.operations.Comparison.TheVariants.{Equal, Below, Above, SignedBelow, SignedAbove, CommonBit}
-pub use Rattle.array_versions.specs.declared.operations.PlainOperation.{PlainOperation}
-pub use Rattle.array_versions.specs.declared.operations.PlainOperation.TheVariants.{And, Add, Subtract}
-pub use Rattle.array_versions.specs.declared.operations.ShiftOperation.{ShiftOperation}
-pub use Rattle.array_versions.specs.declared.operations.ShiftOperation.TheVariants.{Left, Right, SignedRight}
-pub use Rattle.array_versions.specs.declared.operations.UnaryOperation.{UnaryOperation}
-pub use Rattle.array_versions.specs.declared.operations.UnaryOperation.TheVariants.{Negate, Complement}
-pub use Rattle.array_versions.specs.declared.program.ArrayPlace.{ArrayPlace}
-pub use Rattle.array_versions.specs.declared.program.ListPlace.{ListPlace}
+pub use Rattle.word_code.specs.array_versions.Cost.{step_words, test_words, words_of}
+pub use Rattle.word_code.specs.array_versions.Form.{StepLocalsBelow, TestLocalsBelow, LocalsBelow, OfWords}
+pub use Rattle.word_code.specs.array_versions.Program.{Step, Test, Program, local, set_local, update_local, versioned_read, versioned_write, versioned_update}
+pub use Rattle.word_code.specs.array_versions.Program.{truth, choose, repeat, holds, compares, both, either, fails, nothing, step}
+pub use Rattle.word_code.specs.array_versions.View.{step_of, steps_of, test_of}
+pub use Rattle.word_code.specs.array_versions.declared.operations.Comparison.{Comparison}
+pub use Rattle.word_code.specs.array_versions.declared.operations.PlainOperation.{PlainOperation}
+pub use Rattle.word_code.specs.array_versions.declared.operations.ShiftOperation.TheVariants.{Left, Right}
+pub use Rattle.word_code.specs.array_versions.declared.program.ArrayPlace.{ArrayPlace}
+pub use Rattle.word_code.specs.array_versions.declared.program.ListPlace.{ListPlace}
 -- this room's own definitions
-pub use Rattle.codegen.specs.Code.{number_source, check_code, zero_code, fetch_code, element_code, emit_code, pair_code, entry_code, compare_form, holding}
-pub use Rattle.codegen.specs.Code.{failing, jump_over, decision, waiting_source, flushed, top_of, below_top, any_held, repeated, size, waiting_behind}
-pub use Rattle.codegen.specs.Code.{step_code, steps_code, local_address, local_target, source_from, cleared, kept, four_from, top_number, element_at, stays}
-pub use Rattle.codegen.specs.Code.{sides, right_source, top_power, two_code, power_code, five_from, top_to_four, top_to_five, two_to_registers, unary_middle}
-pub use Rattle.codegen.specs.Code.{binary_middle, plain_instruction, update_code, double, halve, right_code, shift_by, last_bit, shift_code, shift_middle}
-pub use Rattle.codegen.specs.Code.{own_code, read_code}
-pub use Rattle.codegen.specs.Code.{stored_code, write_code, pass_over, jump_back, holds_code, compares_code, truth_code, number_code, turn_end, turns_code}
-pub use Rattle.codegen.specs.Code.{waiting_after, bound_of, is_inside, test_code, block_code, code_of, rests, rest_source, to_rest, right_to_rest, update_sides}
-pub use Rattle.codegen.specs.Code.{made_code, first_update, by_version, inside_update, checked_update, indexed_update, known_update, known_index, update_at}
-pub use Rattle.codegen.specs.Code.{local_register, power, power_result, binary_result, ram_update, mark_code, next_code, word_code, first_code, is_bounded}
-pub use Rattle.codegen.specs.Code.{ram_turn_end, multiply_turn, divide_middle, divide_turn, known_element, attempt_form, if_below, element_behind, last_code}
-pub use Rattle.codegen.specs.Code.{end_test, longer_code, copy_code}
-pub use Rattle.codegen.specs.Laws.{HasJumped, CodeIsInstructions, CodeHasItsBytes, CodeHasItsWords, IsWithin, RunsStayWithin, StarvingStaysWithin, ComesTo}
-pub use Rattle.codegen.specs.Laws.{CodeDoesAsProgram}
-pub use Rattle.codegen.specs.declared.bounds.Bound.{Bound}
-pub use Rattle.codegen.specs.declared.waiting.Waiting.{Waiting}
+pub use Rattle.word_code.specs.Code.{number_source, check_code, zero_code, fetch_code, element_code, emit_code, entry_code, compare_form, holding, failing}
+pub use Rattle.word_code.specs.Code.{decision, waiting_source, flushed, top_of, below_top, any_held, repeated, size, waiting_behind, step_code, steps_code}
+pub use Rattle.word_code.specs.Code.{local_address, local_target, source_from, cleared, kept, four_from, top_number, element_at, stays, sides, right_source}
+pub use Rattle.word_code.specs.Code.{five_from, top_to_four, top_to_five, two_to_registers, unary_middle, binary_middle, plain_instruction, double, halve}
+pub use Rattle.word_code.specs.Code.{shift_middle, own_code, read_code, stored_code, write_code, pass_over, jump_back, holds_code, compares_code, truth_code}
+pub use Rattle.word_code.specs.Code.{number_code, turn_end, turns_code, waiting_after, bound_of, is_inside, test_code, block_code, rest_source, to_rest}
+pub use Rattle.word_code.specs.Code.{right_to_rest, update_sides, made_code, first_update, by_version, inside_update, indexed_update, known_update, update_at}
+pub use Rattle.word_code.specs.Code.{local_register, ram_update, mark_code, next_code, word_code, first_code, is_bounded, divide_middle, attempt_form, if_below}
+pub use Rattle.word_code.specs.Code.{element_behind, last_code, end_test, longer_code, copy_code}
+pub use Rattle.word_code.specs.declared.bounds.Bound.{Bound}
+pub use Rattle.word_code.specs.declared.waiting.Waiting.{Waiting}

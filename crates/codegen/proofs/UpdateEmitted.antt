@@ -2,7 +2,7 @@
 use Rattle.codegen.proofs.Names.{◌≡◌, ℕ, ◌+◌, ◌≤◌, List, [], ◌∷◌, ◌++◌, length, sym, ap, ap₂, ◌∙◌, arith, append_assoc, Instr, Form, Jump, instruction_of}
 use Rattle.codegen.proofs.Names.{forms_bytes, instructions, instruction_words, forms_bytes-append, instructions-append, size, by_version}
 use Rattle.msp_isa.specs.declared.instructions.Condition.TheVariants as condition
-use Rattle.codegen.proofs.Jumps.{whole_size}
+use Rattle.word_code.proofs.Interface.{whole_size}
 use Rattle.codegen.proofs.Emitted.{own_words}
 
 -- the words of a piece that was made by itself

@@ -1,4 +1,3 @@
-pub mod Code
-pub mod Laws
-pub use Rattle.array_versions.specs as array_versions
+pub use Rattle.word_code.specs as word_code
+pub use Rattle.word_code.specs.array_versions as array_versions
 pub use Rattle.msp_isa.specs as msp_isa

@@ -1,20 +1,13 @@
 //! Indices of arrays: whether one is surely below a length, since a loop around the code ends before, and the check of any other.
 
 ghost use Rattle.std.specs.Prelude.{◌≡◌, ◌∷◌, ◌++◌, ◌<◌, OnOk, IfOk};
-ghost use Rattle.code_forms.specs.Placed.{instructions};
-ghost use Rattle.codegen.specs.Code.{check_code, zero_code, bound_of, is_bounded, is_inside};
+ghost use Rattle.word_code.specs.code_forms.Placed.{instructions};
+ghost use Rattle.word_code.specs.Code.{check_code, zero_code, bound_of, is_bounded, is_inside};
 
 use crate::forms::{TO_R4, constant, jump, number_source, two};
-use crate::waiting::Waiting;
 use msp_isa::{Condition, Instr, Konst, TwoOp};
 use std::alloc::{AllocError, Global};
-
-/// A local is below a number in the body of its loop.
-#[derive(Clone, Copy, Debug, PartialEq, Eq)]
-pub struct Bound {
-    pub local: u16,
-    pub below: u16,
-}
+use word_code::{Bound, Waiting};
 
 /// The bounds in a loop's body: its own in front of those around it.
 pub fn bounds_within(

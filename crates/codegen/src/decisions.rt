@@ -4,17 +4,17 @@ ghost use Rattle.std.specs.Prelude.{◌≡◌, ◌≤◌, ◌*◌, ◌∷◌, �
 ghost use Rattle.msp_isa.specs.declared.instructions.TwoOp.TheVariants as two_op;
 ghost use Rattle.msp_isa.specs.declared.instructions.Condition.TheVariants as conditions;
 ghost use Rattle.msp_isa.specs.declared.operands.Konst.TheVariants as constants;
-ghost use Rattle.code_forms.specs.Forms as form;
-ghost use Rattle.code_forms.specs.Placed.{instructions, words_of as instruction_words};
-ghost use Rattle.codegen.specs.Code.{top_of, below_top, kept, compare_form, is_turned, compare_sides, compare_source, holding, failing, jump_over};
-ghost use Rattle.codegen.specs.Code.{pass_over, jump_back, decision, holds_code, compares_code};
+ghost use Rattle.word_code.specs.code_forms.Forms as form;
+ghost use Rattle.word_code.specs.code_forms.Placed.{instructions, words_of as instruction_words};
+ghost use Rattle.word_code.specs.Code.{top_of, below_top, kept, compare_form, is_turned, compare_sides, compare_source, holding, failing, jump_over};
+ghost use Rattle.word_code.specs.Code.{pass_over, jump_back, decision, holds_code, compares_code};
 
 use crate::forms::{R4, R5, TO_R4, TO_R5, constant, jump, skip, two};
-use crate::waiting::{Waiting, emit_all, emit_sides, emit_top_to_four, emit_two_to_registers};
-use array_versions::Comparison;
+use crate::waiting::{emit_all, emit_sides, emit_top_to_four, emit_two_to_registers};
 use msp_encode::encode;
 use msp_isa::{Condition, Instr, Konst, Src, TwoOp};
 use std::alloc::AllocError;
+use word_code::{Comparison, Waiting};
 
 // Whether a comparison is of R5, the right side, with the left one.
 fn is_turned(comparison: Comparison) -> bool

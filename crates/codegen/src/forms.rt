@@ -5,9 +5,9 @@ ghost use Rattle.msp_isa.specs.alp_words.declared.Width.TheVariants.{Word};
 ghost use Rattle.msp_isa.specs.declared.instructions.OneOp.TheVariants as OneOps;
 ghost use Rattle.msp_isa.specs.declared.operands.Src.TheVariants as Srcs;
 ghost use Rattle.msp_isa.specs.declared.operands.Operand.TheVariants as Operands;
-ghost use Rattle.code_forms.specs.Forms.{instruction_of, index_of, source_operand, target_operand};
-ghost use Rattle.code_forms.specs.Forms as form;
-ghost use Rattle.codegen.specs.Code as place;
+ghost use Rattle.word_code.specs.code_forms.Forms.{instruction_of, index_of, source_operand, target_operand};
+ghost use Rattle.word_code.specs.code_forms.Forms as form;
+ghost use Rattle.word_code.specs.Code as place;
 
 use msp_isa::{
     Condition, Dst, IndexRegister, Instr, Konst, Offset, OneOp, Operand, Reg, SourceRegister, Src,

@@ -1,25 +1,25 @@
 //! The code of elements that are updated in place.
 
 ghost use Rattle.std.specs.Prelude.{◌≡◌, [], ◌∷◌, ◌++◌, ◌+◌, ◌<◌, OnOk, length};
-ghost use Rattle.code_forms.specs.Forms as form;
-ghost use Rattle.code_forms.specs.Placed.{instructions, words_of as instruction_words};
+ghost use Rattle.word_code.specs.code_forms.Forms as form;
+ghost use Rattle.word_code.specs.code_forms.Placed.{instructions, words_of as instruction_words};
 ghost use Rattle.msp_isa.specs.declared.instructions.Condition.TheVariants as conditions;
-ghost use Rattle.array_versions.specs.Form.{ArrayOfWords, ListOfWords};
-ghost use Rattle.array_versions.specs.Program as value;
-ghost use Rattle.codegen.specs.Code.{flushed, top_of, below_top, four_from, top_number, rest_source, to_rest, made_code, attempt_form};
-ghost use Rattle.codegen.specs.Code.{first_update, inside_update, checked_update, indexed_update, known_update, if_below, step_code};
+ghost use Rattle.word_code.specs.array_versions.Form.{ArrayOfWords, ListOfWords};
+ghost use Rattle.word_code.specs.array_versions.Program as value;
+ghost use Rattle.word_code.specs.Code.{flushed, top_of, below_top, four_from, top_number, rest_source, to_rest, made_code, attempt_form};
+ghost use Rattle.word_code.specs.Code.{first_update, inside_update, checked_update, indexed_update, known_update, if_below, step_code};
 
-use crate::bounds::{Bound, is_inside};
+use crate::bounds::is_inside;
 use crate::decisions::code_words;
 use crate::forms::{R4, R7, TO_R4, TO_R6, TO_R7, absolute, jump, two};
 use crate::operations::plain_instruction;
 use crate::versioned::{at_r4, emit_first};
 use crate::waiting::{
-    Waiting, emit_all, emit_to_four, emit_to_rest, rest_source, take, top_number, under_top,
+    emit_all, emit_to_four, emit_to_rest, rest_source, take, top_number, under_top,
 };
-use array_versions::{ArrayPlace, ListPlace, PlainOperation};
 use msp_isa::{Condition, Dst, IndexRegister, Instr, Src, TwoOp};
 use std::alloc::{AllocError, Global};
+use word_code::{ArrayPlace, Bound, ListPlace, PlainOperation, Waiting};
 
 // A copy becomes what an operation gives of a word and of the right side; R4 is the offset of both in their arrays.
 fn emit_made(

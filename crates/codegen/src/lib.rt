@@ -5,7 +5,6 @@ mod bounds;
 mod decisions;
 mod forms;
 mod in_place;
-pub mod laws;
 mod longs;
 mod operations;
 mod program;
@@ -15,8 +14,8 @@ mod versioned;
 mod waiting;
 
 // What the word programs that `emit` takes are made of, and what it makes of them.
-pub use array_versions::{
-    BinaryOperation, Comparison, LongOperation, PlainOperation, WordProgram, WordStep, WordTest,
-};
 pub use msp_isa::Instr;
 pub use program::emit;
+pub use word_code::{
+    BinaryOperation, Comparison, LongOperation, PlainOperation, WordProgram, WordStep, WordTest,
+};

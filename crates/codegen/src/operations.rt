@@ -1,24 +1,24 @@
 //! The code of the operations.
 
 ghost use Rattle.std.specs.Prelude.{◌≡◌, [], ◌∷◌, ◌++◌, OnOk, Some};
-ghost use Rattle.code_forms.specs.Forms as form;
-ghost use Rattle.code_forms.specs.Placed.{instructions};
-ghost use Rattle.array_versions.specs.declared.operations.BinaryOperation.TheVariants as binary_op;
-ghost use Rattle.array_versions.specs.Program as value;
-ghost use Rattle.codegen.specs.Code.{unary_middle, binary_middle, binary_result, divide_middle, plain_instruction, step_code, waiting_behind};
-ghost use Rattle.codegen.specs.Code.{below_top, kept, two_to_registers, two_code, power_code};
-ghost use Rattle.codegen.specs.declared.waiting.Waiting.TheVariants as words;
+ghost use Rattle.word_code.specs.code_forms.Forms as form;
+ghost use Rattle.word_code.specs.code_forms.Placed.{instructions};
+ghost use Rattle.word_code.specs.array_versions.declared.operations.BinaryOperation.TheVariants as binary_op;
+ghost use Rattle.word_code.specs.array_versions.Program as value;
+ghost use Rattle.word_code.specs.Code.{unary_middle, binary_middle, binary_result, divide_middle, plain_instruction, step_code, waiting_behind};
+ghost use Rattle.word_code.specs.Code.{below_top, kept, two_to_registers, two_code, power_code};
+ghost use Rattle.word_code.specs.declared.waiting.Waiting.TheVariants as words;
 
 use crate::forms::{R4, R5, R6, TO_R4, TO_R5, TO_R6, TO_R7, constant, jump, two};
 use crate::shifts::emit_shift;
 use crate::waiting::{
-    Waiting, emit_sides, emit_top_to_five, emit_two_to_registers, mask_top, take, top_power, wait,
+    emit_sides, emit_top_to_five, emit_two_to_registers, mask_top, take, top_power, wait,
 };
-use array_versions::{BinaryOperation, PlainOperation, ShiftOperation, UnaryOperation};
 use msp_isa::{
     Condition, IndexRegister, Instr, Konst, OneOp, Operand, SourceRegister, Src, TwoOp, Width,
 };
 use std::alloc::AllocError;
+use word_code::{BinaryOperation, PlainOperation, ShiftOperation, UnaryOperation, Waiting};
 
 // An operation on R5, its result in R4.
 fn emit_unary_middle(operation: UnaryOperation, code: &mut Vec<Instr>) -> Result<(), AllocError>

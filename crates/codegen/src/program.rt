@@ -1,14 +1,14 @@
 //! The code of programs.
 
 ghost use Rattle.std.specs.Prelude.{◌≡◌, [], ◌∷◌, ◌++◌, ◌+◌, ◌<◌, ◌≤◌, if◌then◌else◌, OnOk, OnErr};
-ghost use Rattle.code_forms.specs.Placed.{instructions};
-ghost use Rattle.array_versions.specs.Program as value;
-ghost use Rattle.array_versions.specs.View.{program_of, steps_of, step_of, test_of};
-ghost use Rattle.array_versions.specs.Form.{IsWhole, LocalsBelow, StepLocalsBelow, TestLocalsBelow, OfWords, StepOfWords, TestOfWords};
-ghost use Rattle.array_versions.specs.Cost.{words_of, step_words, test_words};
-ghost use Rattle.codegen.specs.Code.{block_code, code_of, step_code, steps_code, test_code, truth_code, waiting_behind, waiting_after};
+ghost use Rattle.word_code.specs.code_forms.Placed.{instructions};
+ghost use Rattle.word_code.specs.array_versions.Program as value;
+ghost use Rattle.word_code.specs.array_versions.View.{program_of, steps_of, step_of, test_of};
+ghost use Rattle.word_code.specs.array_versions.Form.{IsWhole, LocalsBelow, StepLocalsBelow, TestLocalsBelow, OfWords, StepOfWords, TestOfWords};
+ghost use Rattle.word_code.specs.array_versions.Cost.{words_of, step_words, test_words};
+ghost use Rattle.word_code.specs.Code.{block_code, code_of, step_code, steps_code, test_code, truth_code, waiting_behind, waiting_after};
 
-use crate::bounds::{Bound, bounds_within};
+use crate::bounds::bounds_within;
 use crate::decisions::{code_words, emit_compares, emit_holds, emit_jump_back, emit_pass_over};
 use crate::forms::{constant, jump, push};
 use crate::in_place::emit_versioned_update;
@@ -21,10 +21,10 @@ use crate::steps::{
     emit_update_local,
 };
 use crate::versioned::{emit_versioned_read, emit_versioned_write};
-use crate::waiting::{Waiting, emit_all, emit_flushed, wait};
-use array_versions::{WordProgram, WordStep, WordTest};
+use crate::waiting::{emit_all, emit_flushed, wait};
 use msp_isa::{Condition, Instr, Konst};
 use std::alloc::{AllocError, Global};
+use word_code::{Bound, Waiting, WordProgram, WordStep, WordTest};
 
 // Behind a test: 1 where it holds, else 0.
 fn emit_truth_code(code: &mut Vec<Instr>) -> Result<(), AllocError>

@@ -1,28 +1,29 @@
 //! The code of steps that are no test, no choice and no loop.
 
 ghost use Rattle.std.specs.Prelude.{◌≡◌, [], ◌∷◌, ◌++◌, ◌<◌, OnOk};
-ghost use Rattle.code_forms.specs.Forms as form;
+ghost use Rattle.word_code.specs.code_forms.Forms as form;
 ghost use Rattle.msp_isa.specs.alp_words.declared.Width.TheVariants.{Word};
 ghost use Rattle.msp_isa.specs.declared.instructions.TwoOp.TheVariants as two_op;
-ghost use Rattle.code_forms.specs.Placed.{instructions};
-ghost use Rattle.array_versions.specs.Program as value;
-ghost use Rattle.codegen.specs.Code.{known_element, fetch_code, element_code, emit_code, words_source, entry_code, number_code, plain_instruction, ram_update};
-ghost use Rattle.codegen.specs.Code.{turn_end};
-ghost use Rattle.codegen.specs.Code.{step_code, waiting_behind};
+ghost use Rattle.word_code.specs.code_forms.Placed.{instructions};
+ghost use Rattle.word_code.specs.array_versions.Program as value;
+ghost use Rattle.word_code.specs.Code.{known_element, fetch_code, element_code, emit_code, words_source, entry_code, number_code, plain_instruction};
+ghost use Rattle.word_code.specs.Code.{ram_update};
+ghost use Rattle.word_code.specs.Code.{turn_end};
+ghost use Rattle.word_code.specs.Code.{step_code, waiting_behind};
 
-use crate::bounds::{Bound, emit_check, emit_zero, is_inside};
+use crate::bounds::{emit_check, emit_zero, is_inside};
 use crate::forms::{
     R4, R5, R6, TO_R4, TO_R5, TO_R6, absolute, branch, constant, jump, local_address,
     local_register, local_target, number_source, push, two,
 };
 use crate::operations::plain_instruction;
 use crate::waiting::{
-    Waiting, emit_all, emit_below, emit_cleared, emit_spared, emit_top_to_five, emit_top_to_four,
+    emit_all, emit_below, emit_cleared, emit_spared, emit_top_to_five, emit_top_to_four,
     source_from, take, top, top_number, wait,
 };
-use array_versions::PlainOperation;
 use msp_isa::{Condition, Dst, IndexRegister, Instr, Konst, Operand, Reg, Src, TwoOp};
 use std::alloc::AllocError;
+use word_code::{Bound, PlainOperation, Waiting};
 
 // The element at the index in R4, which is below the length.
 fn emit_fetch(base: u16, code: &mut Vec<Instr>) -> Result<(), AllocError>

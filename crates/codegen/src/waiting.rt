@@ -1,33 +1,20 @@
 //! Words that wait to be pushed: what an instruction names in place of the words on top of the stack, the top first.
 
 ghost use Rattle.std.specs.Prelude.{◌≡◌, [], ◌∷◌, ◌++◌, if◌then◌else◌, OnOk, IfOk};
-ghost use Rattle.codegen.specs.declared.waiting.Waiting.TheVariants as words;
-ghost use Rattle.code_forms.specs.Forms.{source_operand};
-ghost use Rattle.code_forms.specs.Placed.{instructions};
-ghost use Rattle.codegen.specs.Code as made;
-ghost use Rattle.codegen.specs.Code.{flushed, top_of, below_top, is_held, any_held, cleared, kept, is_at, any_at, spared, sparing, four_from, five_from};
-ghost use Rattle.codegen.specs.Code.{top_to_four, top_to_five};
-ghost use Rattle.codegen.specs.Code.{two_to_registers, stays, right_source, sides, power, top_number, top_power, top_mask, rests, rest_source, to_rest};
+ghost use Rattle.word_code.specs.declared.waiting.Waiting.TheVariants as words;
+ghost use Rattle.word_code.specs.code_forms.Forms.{source_operand};
+ghost use Rattle.word_code.specs.code_forms.Placed.{instructions};
+ghost use Rattle.word_code.specs.Code as made;
+ghost use Rattle.word_code.specs.Code.{flushed, top_of, below_top, is_held, any_held, cleared, kept, is_at, any_at, spared, sparing, four_from, five_from};
+ghost use Rattle.word_code.specs.Code.{top_to_four, top_to_five};
+ghost use Rattle.word_code.specs.Code.{two_to_registers, stays, right_source, sides, power, top_number, top_power, top_mask, rests, rest_source, to_rest};
 
 use crate::forms::{
     POPPED, R4, R5, R6, TO_R4, TO_R5, absolute, local_register, number_source, push, two,
 };
 use msp_isa::{Instr, Operand, SourceRegister, Src, TwoOp};
 use std::alloc::AllocError;
-
-/// A word that waits to be pushed.
-#[derive(Clone, Copy, Debug, PartialEq, Eq)]
-pub enum Waiting {
-    Number(u16),
-    /// The word of FRAM at an address.
-    Fram(u16),
-    /// One of the first eight locals, which stand in registers.
-    Local(u16),
-    /// A result in R4.
-    R4,
-    /// A result in R6.
-    R6,
-}
+use word_code::Waiting;
 
 /// A word that waits, as a source.
 pub fn waiting_source(word: Waiting) -> Src

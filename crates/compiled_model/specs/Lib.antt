@@ -22,7 +22,7 @@ pub use Rattle.linked_code.specs.war_analysis as war_analysis
 pub use Rattle.linked_code.specs.privatise as privatise
 pub use Rattle.lower.specs.source_values as source_values
 pub use Rattle.linked_code.specs.array_versions as array_versions
-pub use Rattle.linked_code.specs.codegen as codegen
+pub use Rattle.linked_code.specs.word_code as word_code
 pub use Rattle.lower.specs as lower
 pub use Rattle.linked_code.specs.runtime_code as runtime_code
 pub use Rattle.linked_code.specs.commit_runtime as commit_runtime

@@ -14,7 +14,7 @@ use Rattle.compiled_model.specs.array_versions.Behaviour.{WordState, Behaviour, 
 use Rattle.compiled_model.specs.array_versions.Cost.{spent}
 use Rattle.compiled_model.specs.array_versions.Laws.{EndsByEffects}
 use Rattle.compiled_model.proofs.array_versions.Interface.{behaves_by_effects}
-use Rattle.compiled_model.specs.codegen.Laws.{HasJumped, ComesTo}
+use Rattle.compiled_model.specs.word_code.Laws.{HasJumped, ComesTo}
 use Rattle.compiled_model.specs.memory_map.declared.words.RuntimeWord.TheVariants.{CurrentTask, Gate, ListLength, EmitCount, SentBase, Version}
 use Rattle.compiled_model.specs.memory_map.MemoryMap.{MemoryMap, word_place}
 use Rattle.compiled_model.specs.runtime_effects.Places.{CopyPair, listed}

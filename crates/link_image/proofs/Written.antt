@@ -14,7 +14,7 @@ use Rattle.codegen.specs.array_versions.View.{program_of}
 use Rattle.std.proofs.lemmas.List.Elements.{All-nil, All-cons, All-head, All-tail}
 use Rattle.memory_map.specs.address_space.Limits.{reset_vector}
 use Rattle.codegen.specs.array_versions.declared.program.WordProgram.{WordProgram}
-use Rattle.codegen.specs.Code.{repeated}
+use Rattle.codegen.specs.word_code.Code.{repeated}
 use Rattle.memory_map.specs.MemoryMap.{MemoryMap, TaskPlace}
 use Rattle.memory_map.specs.Places.{end_of, AreInOrder}
 use Rattle.memory_map.proofs.Interface.{apart_of, even_of, in_order_end}

@@ -5,7 +5,7 @@ ghost use Rattle.linked_code.specs.code_forms.Placed.{instructions, words_of};
 ghost use Rattle.codegen.specs.array_versions.View.{program_of};
 ghost use Rattle.codegen.specs.array_versions.Form.{IsWhole};
 ghost use Rattle.link_image.specs.Needs.{IsShort};
-ghost use Rattle.codegen.specs.Code.{repeated, code_of};
+ghost use Rattle.codegen.specs.word_code.Code.{repeated, code_of};
 ghost use Rattle.linked_code.specs.Parts.{filler, chained, PartsInOrder};
 ghost use Rattle.linked_code.specs.Linked.{linked, task_part, task_parts, CodeFits};
 

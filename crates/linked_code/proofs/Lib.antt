@@ -8,7 +8,7 @@ pub use Rattle.boot_runtime.proofs.fram_board as fram_board
 pub use Rattle.boot_runtime.proofs.machine_effects as machine_effects
 pub use Rattle.boot_runtime.proofs.code_forms as code_forms
 pub use Rattle.boot_runtime.proofs.war_analysis as war_analysis
-pub use Rattle.codegen.proofs.array_versions as array_versions
+pub use Rattle.word_code.proofs.array_versions as array_versions
 pub use Rattle.boot_runtime.proofs.runtime_code as runtime_code
 pub use Rattle.boot_runtime.proofs as boot_runtime
 pub use Rattle.commit_runtime.proofs as commit_runtime

@@ -4,8 +4,8 @@ use Rattle.boot_runtime.specs.machine_effects.Machine.{Code}
 use Rattle.boot_runtime.specs.code_forms.Placed.{placed, words_of}
 use Rattle.boot_runtime.proofs.code_forms.Interface.{forms_stand, placed_is_tidy}
 use Rattle.boot_runtime.proofs.runtime_code.Interface.{code_bytes}
-use Rattle.codegen.specs.array_versions.Program.{Program}
-use Rattle.codegen.proofs.Interface.{code_short, code_are}
+use Rattle.word_code.specs.array_versions.Program.{Program}
+use Rattle.word_code.proofs.Interface.{code_short, code_are}
 use Rattle.boot_runtime.specs.runtime_code.Addresses.{start_address}
 use Rattle.boot_runtime.specs.Entries.{task_entries}
 use Rattle.boot_runtime.proofs.Interface.{boot_is_short, boot_is_code}

@@ -5,9 +5,9 @@ use Rattle.boot_runtime.specs.code_forms.Forms.{Form}
 use Rattle.boot_runtime.specs.code_forms.Code.{Stands, forms_bytes}
 use Rattle.boot_runtime.specs.code_forms.Placed.{instructions, AreInstructions}
 use Rattle.boot_runtime.proofs.code_forms.Interface.{stands_front, stands_back, forms_bytes-append}
-use Rattle.codegen.proofs.Interface.{bytes_even}
+use Rattle.word_code.proofs.Interface.{bytes_even}
 use Rattle.boot_runtime.proofs.runtime_code.Interface.{are_instructions-append}
-use Rattle.codegen.specs.Code.{repeated}
+use Rattle.word_code.specs.Code.{repeated}
 use Rattle.linked_code.specs.Parts.{filler, CodePart, part_end, chained, IsPartBehind, PartsInOrder}
 use Rattle.linked_code.specs.Laws.{PartStands}
 

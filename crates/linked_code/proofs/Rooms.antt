@@ -4,7 +4,7 @@ use Rattle.std.proofs.lemmas.Option.{slice_get_within, slice_get-get_or}
 use Rattle.boot_runtime.specs.task_ast.declared.SharedDeclaration.{SharedDeclaration}
 use Rattle.boot_runtime.specs.cost_bound.Allowance.{CheckedTask, scalars_of, total}
 use Rattle.boot_runtime.specs.war_analysis.PlanValue.{TaskPlanValue}
-use Rattle.codegen.specs.array_versions.Program.{Program}
+use Rattle.word_code.specs.array_versions.Program.{Program}
 use Rattle.boot_runtime.specs.memory_map.MemoryMap.{TaskPlace}
 use Rattle.boot_runtime.specs.privatise.Sizes.{body_words, entry_words}
 use Rattle.boot_runtime.specs.memory_map.Spots.{private_words}

@@ -7,12 +7,12 @@ use Rattle.boot_runtime.specs.machine_effects.Machine.{Code}
 use Rattle.boot_runtime.specs.code_forms.Forms.{Core}
 use Rattle.boot_runtime.specs.code_forms.Code.{Stands}
 use Rattle.boot_runtime.specs.code_forms.Placed.{placed}
-use Rattle.codegen.specs.array_versions.Program.{Program, nothing}
-use Rattle.codegen.specs.array_versions.Behaviour.{behaviour, started}
-use Rattle.codegen.specs.array_versions.Cost.{spent}
-use Rattle.codegen.specs.Code.{code_of}
-use Rattle.codegen.specs.Laws.{IsEntry, ComesTo}
-use Rattle.codegen.proofs.Interface.{code_does_as_program}
+use Rattle.word_code.specs.array_versions.Program.{Program, nothing}
+use Rattle.word_code.specs.array_versions.Behaviour.{behaviour, started}
+use Rattle.word_code.specs.array_versions.Cost.{spent}
+use Rattle.word_code.specs.Code.{code_of}
+use Rattle.word_code.specs.Laws.{IsEntry, ComesTo}
+use Rattle.word_code.proofs.Interface.{code_does_as_program}
 use Rattle.boot_runtime.specs.runtime_effects.Places.{listed}
 use Rattle.boot_runtime.specs.runtime_effects.Stages.{is_at_end, start_effects, commit_effects}
 use Rattle.boot_runtime.specs.runtime_effects.Needs.{CanCommit}

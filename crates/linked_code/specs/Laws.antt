@@ -3,7 +3,7 @@ use Rattle.std.specs.Prelude.{◌≡◌, ℕ, ◌+◌, ◌*◌, ◌≤◌, List,
 use Rattle.boot_runtime.specs.machine_effects.Machine.{Code}
 use Rattle.boot_runtime.specs.code_forms.Code.{Stands, IsTidy}
 use Rattle.boot_runtime.specs.code_forms.Placed.{placed, words_of, AreInstructions}
-use Rattle.codegen.specs.array_versions.Program.{Program}
+use Rattle.word_code.specs.array_versions.Program.{Program}
 use Rattle.boot_runtime.specs.memory_map.MemoryMap.{MemoryMap, TaskPlace}
 use Rattle.boot_runtime.specs.memory_map.Places.{end_of}
 use Rattle.linked_code.specs.Parts.{CodePart}

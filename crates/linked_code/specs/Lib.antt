@@ -19,8 +19,8 @@ pub use Rattle.boot_runtime.specs.task_lex as task_lex
 pub use Rattle.boot_runtime.specs.cost_bound as cost_bound
 pub use Rattle.boot_runtime.specs.war_analysis as war_analysis
 pub use Rattle.boot_runtime.specs.privatise as privatise
-pub use Rattle.codegen.specs.array_versions as array_versions
-pub use Rattle.codegen.specs as codegen
+pub use Rattle.word_code.specs.array_versions as array_versions
+pub use Rattle.word_code.specs as word_code
 pub use Rattle.boot_runtime.specs.runtime_code as runtime_code
 pub use Rattle.commit_runtime.specs as commit_runtime
 pub use Rattle.boot_runtime.specs as boot_runtime

@@ -3,10 +3,10 @@ use Rattle.std.specs.Prelude.{ℕ, ◌+◌, ◌*◌, ◌<◌, ◌≤◌, List, [
 use Rattle.boot_runtime.specs.msp_isa.declared.instructions.Instr.{Instr}
 use Rattle.boot_runtime.specs.code_forms.Forms.{Form}
 use Rattle.boot_runtime.specs.code_forms.Placed.{instructions}
-use Rattle.codegen.specs.array_versions.Program.{Program, nothing}
-use Rattle.codegen.specs.array_versions.Form.{IsWhole, OfWords}
-use Rattle.codegen.specs.array_versions.Cost.{words_of}
-use Rattle.codegen.specs.Code.{code_of}
+use Rattle.word_code.specs.array_versions.Program.{Program, nothing}
+use Rattle.word_code.specs.array_versions.Form.{IsWhole, OfWords}
+use Rattle.word_code.specs.array_versions.Cost.{words_of}
+use Rattle.word_code.specs.Code.{code_of}
 use Rattle.boot_runtime.specs.memory_map.MemoryMap.{MemoryMap, TaskPlace}
 use Rattle.boot_runtime.specs.memory_map.Places.{end_of, IsLaidOut}
 use Rattle.boot_runtime.specs.runtime_code.Addresses.{start_address}

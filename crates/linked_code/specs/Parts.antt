@@ -3,7 +3,7 @@ use Rattle.std.specs.Prelude.{◌≡◌, ℕ, ◌+◌, ◌-◌, ◌/◌, ◌%◌
 use Rattle.boot_runtime.specs.msp_isa.declared.instructions.Condition.TheVariants.{Always}
 use Rattle.boot_runtime.specs.code_forms.Forms.{Form, Jump}
 use Rattle.boot_runtime.specs.code_forms.Code.{forms_bytes}
-use Rattle.codegen.specs.Code.{repeated}
+use Rattle.word_code.specs.Code.{repeated}
 
 -- a jump to itself, of one word
 abbrev pub filler : Form

@@ -4,8 +4,8 @@ use Rattle.boot_runtime.specs.task_ast.declared.SharedDeclaration.{SharedDeclara
 use Rattle.boot_runtime.specs.cost_bound.declared.allowance.Allow.{Allow}
 use Rattle.boot_runtime.specs.cost_bound.Allowance.{CheckedProgram, CheckedTask, IsAllowed, scalars_of}
 use Rattle.boot_runtime.specs.war_analysis.PlanValue.{TaskPlanValue}
-use Rattle.codegen.specs.array_versions.Program.{Program}
-use Rattle.codegen.specs.array_versions.Cost.{words_of}
+use Rattle.word_code.specs.array_versions.Program.{Program}
+use Rattle.word_code.specs.array_versions.Cost.{words_of}
 use Rattle.boot_runtime.specs.memory_map.MemoryMap.{MemoryMap, TaskPlace}
 use Rattle.boot_runtime.specs.memory_map.Spots.{private_words}
 use Rattle.boot_runtime.specs.privatise.Layouts.{IsLayout}

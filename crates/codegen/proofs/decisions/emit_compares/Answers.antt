@@ -1,5 +1,5 @@
 use Rattle.codegen.proofs.Names.{◌++◌, ◌∷◌, refl, flushed, top_of, below_top, kept, compare_form, holding, failing, decision}
-use Rattle.codegen.specs.Code.{compare_sides, compare_source}
+use Rattle.word_code.specs.Code.{compare_sides, compare_source}
 use Rattle.codegen.proofs.Emitted.{made_next, part_behind}
 use Rattle.codegen.proofs.decisions.emit_compares.Goals as goal
 

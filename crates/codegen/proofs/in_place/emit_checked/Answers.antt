@@ -2,7 +2,7 @@ use Rattle.codegen.proofs.Names.{◌++◌, ◌∷◌, [], refl, ap, ◌∙◌, a
 use Rattle.codegen.proofs.Names.{inside_update}
 use Rattle.msp_isa.specs.declared.instructions.Condition.TheVariants as condition
 use Rattle.msp_isa.specs.declared.instructions.TwoOp.TheVariants as op
-use Rattle.codegen.proofs.UpdateBytes.{reads_bytes, inside_bytes}
+use Rattle.word_code.proofs.Interface.{reads_bytes, inside_bytes}
 use Rattle.codegen.proofs.UpdateEmitted.{few_words}
 use Rattle.codegen.proofs.Emitted.{cons, own_behind, own_words, on_ok_items}
 use Rattle.codegen.proofs.in_place.emit_checked.Goals as goal

@@ -1,5 +1,5 @@
 use Rattle.codegen.proofs.Names.{◌∷◌, [], refl, ap, ◌∙◌, on_ok_weaker, Word, Two, R4, R6, index_of}
-use Rattle.codegen.specs.Code.{parted, parting, longs_lost, long_sides, low_source, high_source, below_code}
+use Rattle.word_code.specs.Code.{parted, parting, longs_lost, long_sides, low_source, high_source, below_code}
 use Rattle.msp_isa.specs.declared.instructions.TwoOp.TheVariants as op
 use Rattle.msp_isa.specs.declared.operands.Dst.TheVariants as dst
 use Rattle.msp_isa.specs.declared.registers.Reg.TheVariants as reg

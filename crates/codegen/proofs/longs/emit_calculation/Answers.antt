@@ -1,5 +1,5 @@
 use Rattle.codegen.proofs.Names.{◌∷◌, [], refl, ap₂, ◌∙◌, on_ok_weaker, Word, Two, R4, R6, index_of}
-use Rattle.codegen.specs.Code.{parted, parting, longs_lost, long_sides, low_source, high_source, long_calculation}
+use Rattle.word_code.specs.Code.{parted, parting, longs_lost, long_sides, low_source, high_source, long_calculation}
 use Rattle.msp_isa.specs.declared.operands.Dst.TheVariants as dst
 use Rattle.msp_isa.specs.declared.registers.Reg.TheVariants as reg
 use Rattle.codegen.proofs.Emitted.{cons}

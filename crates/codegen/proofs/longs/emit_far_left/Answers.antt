@@ -1,5 +1,5 @@
 use Rattle.codegen.proofs.Names.{◌++◌, ◌-◌, ap, ◌∙◌, on_ok_weaker, Left, instructions, top_of, below_top, top_to_four, shift_middle}
-use Rattle.codegen.specs.Code.{dropped}
+use Rattle.word_code.specs.Code.{dropped}
 use Rattle.codegen.proofs.Emitted.{three_behind}
 use Rattle.codegen.proofs.longs.emit_far_left.Goals as goal
 

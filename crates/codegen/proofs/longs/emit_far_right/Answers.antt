@@ -1,5 +1,5 @@
 use Rattle.codegen.proofs.Names.{◌++◌, ◌-◌, ap, ◌∙◌, on_ok_weaker, Right, instructions, top_to_four, shift_middle}
-use Rattle.codegen.specs.Code.{high_code, high_behind}
+use Rattle.word_code.specs.Code.{high_code, high_behind}
 use Rattle.codegen.proofs.Emitted.{three_behind}
 use Rattle.codegen.proofs.longs.emit_far_right.Goals as goal
 

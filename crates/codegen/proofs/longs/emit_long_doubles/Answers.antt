@@ -1,5 +1,5 @@
 use Rattle.codegen.proofs.Names.{◌∷◌, [], refl}
-use Rattle.codegen.specs.Code.{long_double}
+use Rattle.word_code.specs.Code.{long_double}
 use Rattle.codegen.proofs.Emitted.{cons}
 use Rattle.codegen.proofs.LongEmitted.{forms_owed}
 use Rattle.codegen.proofs.longs.emit_long_doubles.Goals as goal

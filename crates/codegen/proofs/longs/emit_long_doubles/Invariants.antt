@@ -1,5 +1,5 @@
 use Rattle.codegen.proofs.Names.{◌≡◌, ◌-◌, ◌++◌, instructions}
-use Rattle.codegen.specs.Code.{times_code, long_double}
+use Rattle.word_code.specs.Code.{times_code, long_double}
 use Rattle.codegen.proofs.longs.emit_long_doubles.Given as goal
 
 abbrev pub invariant-loop-i : goal.invariant-loop-i

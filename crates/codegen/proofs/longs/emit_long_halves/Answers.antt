@@ -1,5 +1,5 @@
 use Rattle.codegen.proofs.Names.{refl, instructions}
-use Rattle.codegen.specs.Code.{long_halve}
+use Rattle.word_code.specs.Code.{long_halve}
 use Rattle.codegen.proofs.LongEmitted.{forms_owed}
 use Rattle.codegen.proofs.longs.emit_long_halves.Goals as goal
 

@@ -1,5 +1,5 @@
 use Rattle.codegen.proofs.Names.{◌++◌, ap, ap₂, ◌∙◌, R5, R7, instructions, top_of, below_top, cleared, four_from}
-use Rattle.codegen.specs.Code.{below_two, six_from, side_from, pair_from}
+use Rattle.word_code.specs.Code.{below_two, six_from, side_from, pair_from}
 use Rattle.codegen.proofs.Emitted.{three_behind}
 use Rattle.codegen.proofs.longs.emit_long_sides.Goals as goal
 

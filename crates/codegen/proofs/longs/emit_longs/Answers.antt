@@ -1,5 +1,5 @@
 use Rattle.codegen.proofs.Names.{◌++◌, refl, ap, ◌∙◌, instructions, top_of, below_top}
-use Rattle.codegen.specs.Code.{in_six, below_two, parted, parting, longs_lost, long_sides}
+use Rattle.word_code.specs.Code.{in_six, below_two, parted, parting, longs_lost, long_sides}
 use Rattle.codegen.proofs.Emitted.{part_behind}
 use Rattle.codegen.proofs.longs.emit_longs.Goals as goal
 

@@ -1,5 +1,5 @@
 use Rattle.codegen.proofs.Names.{◌++◌, refl, ap, ap₂, ◌∙◌, instructions, top_of, below_top, cleared, four_from}
-use Rattle.codegen.specs.Code.{below_two, six_from, pair_from}
+use Rattle.word_code.specs.Code.{below_two, six_from, pair_from}
 use Rattle.codegen.proofs.Emitted.{part_behind}
 use Rattle.codegen.proofs.longs.emit_pair_to_registers.Goals as goal
 

@@ -1,5 +1,5 @@
 use Rattle.codegen.proofs.Names.{◌++◌, refl, ap, ◌∙◌, instructions, top_of, below_top}
-use Rattle.codegen.specs.Code.{in_six, parted, parting, pair_lost, pair_to_registers}
+use Rattle.word_code.specs.Code.{in_six, parted, parting, pair_lost, pair_to_registers}
 use Rattle.codegen.proofs.Emitted.{part_behind}
 use Rattle.codegen.proofs.longs.emit_parted_pair.Goals as goal
 

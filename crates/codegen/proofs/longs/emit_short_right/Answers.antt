@@ -1,5 +1,5 @@
 use Rattle.codegen.proofs.Names.{refl, on_ok_weaker, instructions}
-use Rattle.codegen.specs.Code.{parted, parting, pair_lost, pair_to_registers, right_by}
+use Rattle.word_code.specs.Code.{parted, parting, pair_lost, pair_to_registers, right_by}
 use Rattle.codegen.proofs.LongEmitted.{third_behind}
 use Rattle.codegen.proofs.longs.emit_short_right.Goals as goal
 

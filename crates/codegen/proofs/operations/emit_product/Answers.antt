@@ -1,5 +1,5 @@
 use Rattle.codegen.proofs.Names.{on_ok_weaker, two_to_registers, binary_middle}
-use Rattle.array_versions.specs.declared.operations.BinaryOperation.TheVariants as binary_op
+use Rattle.word_code.specs.array_versions.declared.operations.BinaryOperation.TheVariants as binary_op
 use Rattle.codegen.proofs.Emitted.{code_behind}
 use Rattle.codegen.proofs.operations.emit_product.Goals as goal
 

@@ -1,6 +1,6 @@
 use Rattle.codegen.proofs.Names.{◌++◌, ◌∷◌, Bool, List, sym, ap, ap₂, ◌∙◌, append-nil, on_ok_weaker, Form, instructions, top_of, top_to_four, element_code}
 use Rattle.codegen.proofs.Names.{top_number, element_behind, element_at, is_inside}
-use Rattle.codegen.specs.declared.waiting.Waiting.TheVariants as waiting
+use Rattle.word_code.specs.declared.waiting.Waiting.TheVariants as waiting
 use Rattle.codegen.proofs.Emitted.{two_behind}
 use Rattle.codegen.proofs.steps.emit_element.Goals as goal
 

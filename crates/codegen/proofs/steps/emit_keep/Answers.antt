@@ -1,5 +1,5 @@
 use Rattle.codegen.proofs.Names.{◌++◌, refl, ap, ◌∙◌, instructions, source_operand, Move, ToFram, top_of, source_from, below_top}
-use Rattle.codegen.specs.Code.{spared}
+use Rattle.word_code.specs.Code.{spared}
 use Rattle.codegen.proofs.Emitted.{one_behind, from_source}
 use Rattle.codegen.proofs.steps.emit_keep.Goals as goal
 

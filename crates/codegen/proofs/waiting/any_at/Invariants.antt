@@ -1,5 +1,5 @@
 use Rattle.codegen.proofs.Names.{◌≡◌, drop}
-use Rattle.codegen.specs.Code.{any_at}
+use Rattle.word_code.specs.Code.{any_at}
 use Rattle.codegen.proofs.waiting.any_at.Given as goal
 
 abbrev pub invariant-loop-word : goal.invariant-loop-word

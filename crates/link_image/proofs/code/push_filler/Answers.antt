@@ -1,6 +1,6 @@
 use Rattle.std.proofs.Common.{◌∙◌, ◌++◌, ◌∷◌, [], ◌-◌, ◌+◌, ap, sym, append_assoc}
 use Rattle.linked_code.specs.Parts.{filler}
-use Rattle.codegen.specs.Code.{repeated}
+use Rattle.codegen.specs.word_code.Code.{repeated}
 use Rattle.link_image.proofs.Written.{words_in, filler_more}
 use Rattle.link_image.proofs.code.push_filler.Goals as goal
 

@@ -1,6 +1,6 @@
 use Rattle.std.proofs.Common.{◌≡◌, ◌++◌, ◌-◌}
 use Rattle.linked_code.specs.code_forms.Placed.{instructions, words_of}
-use Rattle.codegen.specs.Code.{repeated}
+use Rattle.codegen.specs.word_code.Code.{repeated}
 use Rattle.linked_code.specs.Parts.{filler}
 use Rattle.link_image.proofs.code.push_filler.Given as goal
 

@@ -1,0 +1,234 @@
+-- Elements of arrays, emits, and entries of the commit list.
+use Rattle.word_code.proofs.Names.{◌≡◌, ℕ, ◌+◌, ◌*◌, ◌%◌, ◌<◌, ◌==◌, not, List, [], ◌∷◌, ◌++◌, refl, sym, ap, ◌∙◌, subst, arith, Bool, true, false, ◌≤◌, nat_lt}
+use Rattle.word_code.proofs.Names.{nat_le, if◌then◌else◌, both_ways, nat_tests, word_sum, sum16, distance, Store, put, IsFram, R4, R5, Core, Number, Constant}
+use Rattle.word_code.proofs.Names.{ToRegister, ToIndexed, Form, Move, Calculate, Update, form_bytes, Stands, forms_bytes, Runs, stands_front, stands_back}
+use Rattle.word_code.proofs.Names.{forms_bytes-append, WordState, is_place, stored, word_emitted, entry_stored, number_source, check_code, zero_code}
+use Rattle.word_code.proofs.Names.{fetch_code}
+use Rattle.word_code.proofs.Names.{element_code, emit_code, pair_code, entry_code}
+use Rattle.array_versions.specs.msp_step.msp_isa.declared.instructions.Condition.TheVariants as condition
+use Rattle.array_versions.specs.msp_step.msp_isa.declared.instructions.TwoOp.TheVariants as op
+use Rattle.array_versions.specs.msp_step.msp_isa.declared.operands.Konst.TheVariants as konst
+use Rattle.word_code.proofs.Registers.{Holds, Has, line, store_line, jump_with}
+use Rattle.word_code.proofs.Operands.{AreThese, compare_number}
+use Rattle.word_code.proofs.Stretches.{Setting, runs_on, dearer, so_runs}
+use Rattle.word_code.proofs.Memory.{place_is}
+use Rattle.word_code.proofs.Follows.{StandsFor, Follows, ends_at, guarded}
+use Rattle.word_code.proofs.ListParts.{sixfold, six_times, at_offset, plus_none}
+use Rattle.word_code.proofs.Jumps.{near_distance}
+
+twice : (n : ℕ) → n + n < 0x10000 → (n + n + 0) % 0x10000 ≡ n + n
+twice n h = omega arith
+
+is_one : (n : ℕ) → (n == 1) ≡ true → 1 ≡ n
+is_one n e = grind (arith, nat_tests)
+
+-- the ways of a test that is turned round
+turned : {A : Type 0} (b : Bool) (x y : A) → (if not b then x else y) ≡ (if b then y else x)
+turned true x y = refl
+turned false x y = refl
+
+module _ (z : Setting) where
+  -- ---- the check of an index
+
+  pub le_of_lt : (i size : ℕ) (b : Bool) → nat_lt i size ≡ b → nat_le size i ≡ not b
+  le_of_lt i size true e = grind (arith, nat_tests)
+  le_of_lt i size false e = grind (arith, nat_tests)
+
+  -- it goes on where the index in R4 is below the length, else over so many words
+  pub check_part : (b : Bool) (size over pc to i : ℕ) (w : WordState) (t : Core) → nat_lt i size ≡ b → size < 0x10000 → i < 0x10000
+      → Stands z.code pc (check_code size over) → (let behind = pc + forms_bytes (check_code size over) in
+      (if b then behind else sum16 behind (distance over)) ≡ to) → t.work 4 ≡ i → StandsFor z pc w t → Runs z.code [] 4 t (Holds z (AreThese t.work) to w)
+  check_part b size over pc to i w t lt l r h e v k =
+      let m = Calculate op.Cmp (number_source size) R4 in
+      let mid = pc + form_bytes m in
+      let behind = pc + forms_bytes (check_code size over) in
+      let same : mid + 2 ≡ behind = omega arith in
+      runs_on z (compare_number z R4 pc i size w t r l v k h.0) (λ u j.
+      jump_with z condition.Carry over mid to (not b) h.1.0 (j.flag.carry ∙ le_of_lt i size b lt)
+      (ap (λ n. if not b then sum16 n (distance over) else n) same ∙ turned b (sum16 behind (distance over)) behind ∙ e) j.all)
+
+  -- ---- code behind the check, and what gives 0 where the index isn't below the length
+
+  module _ (size over pc : ℕ) (ms : List Form) (l : size < 0x10000) (h : Stands z.code pc (check_code size over ++ (ms ++ zero_code))) where
+    abbrev pub within : ℕ
+    within = pc + forms_bytes (check_code size over)
+
+    abbrev pub beyond : ℕ
+    beyond = within + forms_bytes ms
+
+    check_stands : Stands z.code pc (check_code size over)
+    check_stands = stands_front z.code pc (check_code size over) (ms ++ zero_code) h
+
+    behind_check : Stands z.code within (ms ++ zero_code)
+    behind_check = stands_back z.code pc (check_code size over) (ms ++ zero_code) h
+
+    pub within_stands : Stands z.code within ms
+    within_stands = stands_front z.code within ms zero_code behind_check
+
+    pub zero_stands : Stands z.code beyond zero_code
+    zero_stands = stands_back z.code within ms zero_code behind_check
+
+    pub checked_end : beyond + 4 ≡ pc + forms_bytes (check_code size over ++ (ms ++ zero_code))
+    checked_end = omega (arith, forms_bytes-append (check_code size over) (ms ++ zero_code), forms_bytes-append ms zero_code)
+
+    -- the index is not below the length
+    pub checked_past : (i : ℕ) (w : WordState) (t : Core) → forms_bytes ms + 2 ≡ 2 * over → over ≤ 511 → nat_lt i size ≡ false → i < 0x10000
+        → Has z R4 pc w i t → Runs z.code [] 5 t (Has z R4 (beyond + 4) w 0)
+    checked_past i w t far near lt r k =
+        let high = (z.tidy (beyond + 2) _ zero_stands.1.0).high in
+        let to : sum16 within (distance over) ≡ beyond + 2 = ap (sum16 within) (near_distance over near) ∙ omega (arith, far) in
+        let zeroed = Move (Constant konst.Zero) (ToRegister R4) ∷ [] in
+        runs_on z (check_part false size over pc (beyond + 2) i w t lt l r check_stands to k.held k.is)
+        (λ u j. line z zeroed 1 (beyond + 4) _ j.is (tt, tt) zero_stands.1 ((tt, tt), tt) refl refl (omega (arith, j.is.at))
+        (λ s. record { is = s; held = refl }))
+
+    -- it is
+    pub checked_within : (i : ℕ) (w : WordState) (t : Core) → nat_lt i size ≡ true → i < 0x10000 → Has z R4 pc w i t → Runs z.code [] 4 t (Has z R4 within w i)
+    checked_within i w t lt r k =
+        so_runs (check_part true size over pc within i w t lt l r check_stands refl k.held k.is)
+        (λ u j. record { is = j.is; held = ap (λ (f : ℕ → ℕ). f 4) j.held ∙ k.held })
+
+    -- what the code has made goes over the 0
+    pub over_zero : (v : ℕ) (w : WordState) (t : Core) → Has z R4 beyond w v t → Runs z.code [] 2 t (Has z R4 (beyond + 4) w v)
+    over_zero v w t k =
+        let high = (z.tidy (beyond + 2) _ zero_stands.1.0).high in
+        let to : sum16 (beyond + 2) (distance 1) ≡ beyond + 4 = omega arith in
+        jump_with z condition.Always 1 beyond (beyond + 4) true zero_stands.0 refl to k
+
+  -- ---- an element
+
+  -- at an index below the length it is a word of FRAM
+  fetch_part : (base pc i : ℕ) (w : WordState) (t : Core) → IsFram (2 * i + base) → Stands z.code pc (fetch_code base) → Has z R4 pc w i t
+      → Runs z.code [] 4 t (Has z R4 (pc + 6) w (w.fram (2 * i + base)))
+  fetch_part base pc i w t f h k =
+      let a = 2 * i + base in
+      let fh = f.high in
+      let small : (i + i + 0) % 0x10000 ≡ 2 * i = omega arith in
+      let ms = fetch_code base in
+      let q : (t.work 4 + t.work 4 + 0) % 0x10000 ≡ 2 * i = ap (λ v. (v + v + 0) % 0x10000) k.held ∙ small in
+      line z ms 4 (pc + 6) _ k.is (tt, (tt, tt)) h ((tt, tt), ((subst (λ v. IsFram (v + base)) (sym q) f, tt), tt)) refl refl (omega (arith, k.is.at))
+      (λ s. record { is = s; held = ap (λ v. t.fram (v + base)) q ∙ ap (λ y. y a) k.is.fram })
+
+  -- by whether the index is surely below the length
+  pub past_end : (b : Bool) (base size pc : ℕ) → size < 0x10000 → Stands z.code pc (element_code b base size) → (i : ℕ) (w : WordState) (t : Core)
+      → (b ≡ true → nat_lt i size ≡ true) → nat_lt i size ≡ false → i < 0x10000 → Has z R4 pc w i t
+      → Runs z.code [] 10 t (Has z R4 (pc + forms_bytes (element_code b base size)) w 0)
+  past_end true base size pc l h i w t sure below r k = absurd (both_ways (nat_lt i size) below (sure refl))
+  past_end false base size pc l h i w t sure below r k =
+      let ms = fetch_code base in
+      dearer z (omega arith)
+      (subst (λ p. Runs z.code [] 5 t (Has z R4 p w 0)) (checked_end size 4 pc ms l h) (checked_past size 4 pc ms l h i w t refl (omega arith) below r k))
+
+  pub before_end : (b : Bool) (base size pc : ℕ) → size < 0x10000 → Stands z.code pc (element_code b base size) → (i : ℕ) (w : WordState) (t : Core)
+      → nat_lt i size ≡ true → i < 0x10000 → IsFram (2 * i + base) → Has z R4 pc w i t
+      → Runs z.code [] 10 t (Has z R4 (pc + forms_bytes (element_code b base size)) w (w.fram (2 * i + base)))
+  before_end true base size pc l h i w t lt r f k = dearer z (omega arith) (fetch_part base pc i w t f h k)
+  before_end false base size pc l h i w t lt r f k =
+      let v = w.fram (2 * i + base) in
+      let ms = fetch_code base in
+      let at = within size 4 pc ms l h in
+      subst (λ p. Runs z.code [] 10 t (Has z R4 p w v)) (checked_end size 4 pc ms l h)
+      (runs_on z (checked_within size 4 pc ms l h i w t lt r k) (λ u j. runs_on z (fetch_part base at i w u f (within_stands size 4 pc ms l h) j)
+      (λ q n. over_zero size 4 pc ms l h v w q n)))
+
+  -- the word in R5
+  pub emit_part : (count buffer pc v : ℕ) (w : WordState) (u : Core) → Stands z.code pc (emit_code count buffer) → Has z R5 pc w v u
+      → Follows z (pc + 18) 14 u (word_emitted count buffer v w)
+  emit_part count buffer pc v w u h k =
+      let i = k.is in
+      let n = w.fram count in
+      let ms = emit_code count buffer in
+      let end = pc + 18 in
+      guarded z (is_place count) end 14 u _ (λ g1.
+      guarded z (is_place (2 * n + buffer)) end 14 u _ (λ g2.
+      let f1 = place_is count g1 in
+      let f2 = place_is (2 * n + buffer) g2 in
+      let fh = f2.high in
+      let un : u.fram count ≡ n = ap (λ f. f count) i.fram in
+      let at : (u.fram count + u.fram count + 0) % 0x10000 + buffer ≡ 2 * n + buffer = omega (arith, un) in
+      let up : (u.fram count + 1 + 0) % 0x10000 ≡ n + 1 = omega (arith, un) in
+      store_line z ms (Store (2 * n + buffer) v ∷ Store count (n + 1) ∷ []) (put (put w.fram (2 * n + buffer) v) count (n + 1)) 14 end _ i
+      (tt, (tt, (tt, (tt, (tt, (tt, tt)))))) h ((f1, tt), ((tt, tt), ((tt, tt), ((tt, subst IsFram (sym at) f2), ((tt, tt), ((tt, f1), tt)))))) refl refl
+      (omega (arith, i.at)) (λ e. Store (at e) (k.held e) ∷ Store count (up e) ∷ []) (λ e. put (put (i.fram e) (at e) (k.held e)) count (up e)) (λ s. s)))
+
+  -- R4 holds an offset in the list, in front of the words of an entry and the count
+  module _ (count list home copy words : ℕ) (w : WordState) where
+    abbrev at : ℕ
+    at = 6 * w.fram count + list
+
+    abbrev both : WordState
+    both = stored (at + 2) copy (stored at home w)
+
+    abbrev three : WordState
+    three = stored (at + 4) words both
+
+    abbrev counted : ℕ
+    counted = (three.fram count + 1) % 0x10000
+
+    -- home and copy
+    pair_part : (pc : ℕ) (u : Core) → IsFram count → IsFram at → IsFram (at + 2) → Stands z.code pc (pair_code count list home copy) → StandsFor z pc w u
+        → Runs z.code (Store at home ∷ Store (at + 2) copy ∷ []) 17 u (Has z R4 (pc + 24) both (6 * w.fram count))
+    pair_part pc u fc f1 f2 h i =
+        let n = w.fram count in
+        let ms = pair_code count list home copy in
+        let small = f1.high in
+        let four : sixfold (u.fram count) ≡ 6 * n = ap (λ f. sixfold (f count)) i.fram ∙ six_times n (omega (arith, small)) in
+        let first : sixfold (u.fram count) + list ≡ at = ap (λ k. k + list) four in
+        let second : sixfold (u.fram count) + word_sum list 2 ≡ at + 2 = ap (λ k. k + word_sum list 2) four ∙ at_offset (6 * n) list 2 f2.high in
+        store_line z ms (Store at home ∷ Store (at + 2) copy ∷ []) both.fram 17 (pc + 24) _ i (tt, (tt, (tt, (tt, (tt, (tt, (tt, tt))))))) h
+        ((fc, tt), ((tt, tt), ((tt, tt), ((tt, tt), ((tt, tt), ((tt, subst IsFram (sym first) f1), ((tt, subst IsFram (sym second) f2), tt))))))) refl refl
+        (omega (arith, i.at)) (λ e. Store (first e) home ∷ Store (second e) copy ∷ []) (λ e. put (put (i.fram e) (first e) home) (second e) copy)
+        (λ s. record { is = s; held = four })
+
+    -- the words
+    words_part : (b : Bool) (pc : ℕ) (t : Core) → (words == 1) ≡ b → IsFram (at + 4)
+        → (let m = Move (if b then Constant konst.One else Number words) (ToIndexed R4 (word_sum list 4)) in Stands z.code pc (m ∷ [])
+        → Has z R4 pc both (6 * w.fram count) t → Runs z.code (Store (at + 4) words ∷ []) 5 t (StandsFor z (pc + form_bytes m) three))
+    words_part true pc t e f h j =
+        let one : 1 ≡ words = is_one words e in
+        let there : t.work 4 + word_sum list 4 ≡ at + 4 = ap (λ k. k + word_sum list 4) j.held ∙ at_offset (6 * w.fram count) list 4 f.high in
+        dearer z (omega arith) (store_line z (Move (Constant konst.One) (ToIndexed R4 (word_sum list 4)) ∷ []) (Store (at + 4) words ∷ []) three.fram 4 (pc + 4)
+        (StandsFor z (pc + 4) three) j.is (tt, tt) h ((tt, subst IsFram (sym there) f), tt) refl refl (omega (arith, j.is.at))
+        (λ k. Store (there k) (one k) ∷ []) (λ k. put (j.is.fram k) (there k) (one k)) (λ s. s))
+    words_part false pc t e f h j =
+        let there : t.work 4 + word_sum list 4 ≡ at + 4 = ap (λ k. k + word_sum list 4) j.held ∙ at_offset (6 * w.fram count) list 4 f.high in
+        store_line z (Move (Number words) (ToIndexed R4 (word_sum list 4)) ∷ []) (Store (at + 4) words ∷ []) three.fram 5 (pc + 6) _ j.is (tt, tt) h
+        ((tt, subst IsFram (sym there) f), tt) refl refl (omega (arith, j.is.at)) (λ k. Store (there k) words ∷ [])
+        (λ k. put (j.is.fram k) (there k) words) (λ s. s)
+
+    -- the count
+    count_part : (pc : ℕ) (t : Core) → IsFram count → Stands z.code pc (Update op.Add (Constant konst.One) count ∷ []) → StandsFor z pc three t
+        → Runs z.code (Store count counted ∷ []) 4 t (StandsFor z (pc + 4) (stored count counted three))
+    count_part pc t f h i =
+        let up : (t.fram count + 1 + 0) % 0x10000 ≡ counted = ap (λ g. (g count + 1 + 0) % 0x10000) i.fram ∙ plus_none (three.fram count) 1 in
+        store_line z (Update op.Add (Constant konst.One) count ∷ []) (Store count counted ∷ []) (put three.fram count counted) 4 (pc + 4) _ i (tt, tt) h
+        ((tt, refl, tt, f), tt) refl refl (omega (arith, i.at)) (λ k. Store count (up k) ∷ []) (λ k. put (i.fram k) count (up k)) (λ s. s)
+
+    -- by whether the entry has one word
+    entry_by : (b : Bool) (pc : ℕ) (u : Core) → (words == 1) ≡ b → (let m = Move (if b then Constant konst.One else Number words)
+        (ToIndexed R4 (word_sum list 4)) in Stands z.code pc (pair_code count list home copy ++ (m ∷ Update op.Add (Constant konst.One) count ∷ []))
+        → StandsFor z pc w u → Follows z (pc + 24 + form_bytes m + 4) 26 u (entry_stored count list home copy words w))
+    entry_by b pc u e h i =
+        let m = Move (if b then Constant konst.One else Number words) (ToIndexed R4 (word_sum list 4)) in
+        let end = pc + 24 + form_bytes m + 4 in
+        let last = Update op.Add (Constant konst.One) count ∷ [] in
+        let front = stands_front z.code pc (pair_code count list home copy) (m ∷ last) h in
+        let back : Stands z.code (pc + 24) (m ∷ last) = stands_back z.code pc (pair_code count list home copy) (m ∷ last) h in
+        guarded z (is_place count) end 26 u _ (λ g1. guarded z (is_place at) end 26 u _ (λ g2. guarded z (is_place (at + 2)) end 26 u _ (λ g3.
+        guarded z (is_place (at + 4)) end 26 u _ (λ g4.
+        let fc = place_is count g1 in
+        runs_on z
+        (pair_part pc u fc (place_is at g2) (place_is (at + 2) g3) front i) (λ t j.
+        runs_on z (words_part b (pc + 24) t e (place_is (at + 4) g4) (back.0, tt) j) (λ t j.
+        count_part (pc + 24 + form_bytes m) t fc back.1 j))))))
+
+  pub entry_part : (count list home copy words pc : ℕ) (w : WordState) (u : Core) → Stands z.code pc (entry_code count list home copy words)
+      → StandsFor z pc w u → Follows z (pc + forms_bytes (entry_code count list home copy words)) 26 u (entry_stored count list home copy words w)
+  entry_part count list home copy words pc w u h i =
+      ends_at z _ (pc + forms_bytes (entry_code count list home copy words)) 26 u (entry_stored count list home copy words w) (by (words == 1))
+      (entry_by count list home copy words w (words == 1) pc u refl h i)
+    where
+      by : (b : Bool) → (let m = Move (if b then Constant konst.One else Number words) (ToIndexed R4 (word_sum list 4)) in
+          pc + 24 + form_bytes m + 4 ≡ pc + forms_bytes (pair_code count list home copy ++ (m ∷ Update op.Add (Constant konst.One) count ∷ [])))
+      by true = omega arith
+      by false = omega arith

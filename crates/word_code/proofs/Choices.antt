@@ -1,0 +1,135 @@
+-- Tests: where the code goes on.
+use Rattle.word_code.specs.Code.{is_turned, compare_source}
+use Rattle.word_code.proofs.Names.{Option, Waiting, right_source, stays, Source, Register, R5, WorkRegister, flags_after, operated, source_bytes}
+use Rattle.word_code.proofs.Names.{source_cycles, to_register, source_operand, TwoOp, IsNotMov, writes_destination, ◌≤◌}
+use Rattle.word_code.proofs.Middles.{IsRead, calculate}
+use Rattle.word_code.proofs.Follows.{stands_elsewhere}
+use Rattle.word_code.proofs.Registers.{Holds}
+use Rattle.word_code.proofs.Sides.{Aiming, is_read, reading_cycles, reading_price, compare_stays}
+use Rattle.word_code.proofs.Names.{form_bytes, ◌≡◌, ℕ, ◌+◌, ◌*◌, ◌%◌, ◌<◌, ◌==◌, not, [], ◌∷◌, Some, refl, sym, ap, ap₂, ◌∙◌, subst, arith, Bool, true, false}
+use Rattle.word_code.proofs.Names.{if◌then◌else◌, not-not, Flags, Word, Condition, is_met, R4, Core, Constant, Form, Calculate, instruction_of, Stands}
+use Rattle.word_code.proofs.Names.{forms_bytes, Runs, Comparison, Above, SignedAbove, CommonBit, is_true, compare_words, WordState, Behaviour, compare_form}
+use Rattle.word_code.proofs.Names.{holding, failing, jump_over, decision}
+use Rattle.array_versions.specs.msp_step.msp_isa.declared.instructions.Condition.TheVariants as condition
+use Rattle.array_versions.specs.msp_step.msp_isa.declared.instructions.TwoOp.TheVariants as op
+use Rattle.array_versions.specs.msp_step.msp_isa.declared.operands.Konst.TheVariants as konst
+use Rattle.word_code.proofs.Registers.{Has, line, equal_flag}
+use Rattle.word_code.proofs.Stretches.{Setting, runs_on, so_runs}
+use Rattle.word_code.proofs.Follows.{StandsFor, Follows, then_end}
+use Rattle.word_code.proofs.Jumps.{stands_low, Decided, over_part}
+use Rattle.word_code.proofs.Values.{difference_flags, compared_flags, compare_met, failing_met}
+
+-- where a test goes on, where it holds and where it fails: at one of the two, as the flag says, it goes over so many words behind it, and what it goes over
+-- ends below 10000
+pub record Fork (when : Bool) (d holds_at fails_at behind : ℕ) : Type 0 where
+  pub holds : (if when then behind + 2 * d else behind) ≡ holds_at
+  pub fails : (if when then behind else behind + 2 * d) ≡ fails_at
+  pub room : behind < 0x10000 → behind + 2 * d < 0x10000
+
+pub fork_at : (when : Bool) (d holds_at fails_at a b : ℕ) → a ≡ b → Fork when d holds_at fails_at a → Fork when d holds_at fails_at b
+fork_at when d holds_at fails_at a b e k = subst (Fork when d holds_at fails_at) e k
+
+pub fork_turned : (when : Bool) (d holds_at fails_at behind : ℕ) → Fork when d holds_at fails_at behind → Fork (not when) d fails_at holds_at behind
+fork_turned true d holds_at fails_at behind k = record { holds = k.fails; fails = k.holds; room = k.room }
+fork_turned false d holds_at fails_at behind k = record { holds = k.fails; fails = k.holds; room = k.room }
+
+-- the first of two parts that both have to hold: where it fails it goes over the second part, and on as both do where they fail
+pub fork_both : (when : Bool) (d n holds_at fails_at middle : ℕ) → (middle < 0x10000 → middle + 2 * n < 0x10000)
+    → Fork when d holds_at fails_at (middle + 2 * n) → Fork false (n + (if not when then d else 0)) middle fails_at middle
+fork_both true d n holds_at fails_at middle l k = record { holds = refl; fails = omega (arith, k.fails); room = λ h. omega (arith, l h) }
+fork_both false d n holds_at fails_at middle l k = record { holds = refl; fails = omega (arith, k.fails); room = λ h. omega (arith, k.room (l h)) }
+
+-- the first of two parts of which one has to hold: where it holds it goes over the second part, and on as both do where one holds
+pub fork_either : (when : Bool) (d n holds_at fails_at middle : ℕ) → (middle < 0x10000 → middle + 2 * n < 0x10000)
+    → Fork when d holds_at fails_at (middle + 2 * n) → Fork true (n + (if when then d else 0)) holds_at middle middle
+fork_either true d n holds_at fails_at middle l k = record { holds = omega (arith, k.holds); fails = refl; room = λ h. omega (arith, k.room (l h)) }
+fork_either false d n holds_at fails_at middle l k = record { holds = omega (arith, k.holds); fails = refl; room = λ h. omega (arith, l h) }
+
+module _ (z : Setting) where
+  -- the jump to the one way or the other
+  decision_part : (when b : Bool) (pc d holds_at fails_at : ℕ) (met opposite : Condition) (w : WordState) (t : Core)
+      → Stands z.code pc (decision when d met opposite) → Fork when d holds_at fails_at (pc + forms_bytes (decision when d met opposite)) → pc < 0x10000
+      → Decided z pc w b met opposite t → Runs z.code [] 5 t (StandsFor z (if b then holds_at else fails_at) w)
+  decision_part true true pc d holds_at fails_at met opposite w t h k l i =
+      let low = stands_low z pc (jump_over met opposite d) h l in
+      over_part z true pc d holds_at met opposite w t h k.holds (omega (arith, k.room low, k.holds)) i
+  decision_part true false pc d holds_at fails_at met opposite w t h k l i =
+      let low = stands_low z pc (jump_over met opposite d) h l in
+      over_part z false pc d fails_at met opposite w t h k.fails (omega (arith, low, k.fails)) i
+  decision_part false true pc d holds_at fails_at met opposite w t h k l i =
+      let low = stands_low z pc (jump_over opposite met d) h l in
+      over_part z false pc d holds_at opposite met w t h k.holds (omega (arith, low, k.holds)) (record { is = i.is; holds = i.fails; fails = i.holds })
+  decision_part false false pc d holds_at fails_at met opposite w t h k l i =
+      let low = stands_low z pc (jump_over opposite met d) h l in
+      over_part z true pc d fails_at opposite met w t h k.fails (omega (arith, k.room low, k.fails)) (record { is = i.is; holds = i.fails; fails = i.holds })
+
+  -- the code that follows where it is decided, and the way that is taken
+  pub decided_follows : (when b : Bool) (pc d holds_at fails_at n end m k : ℕ) (met opposite : Condition) (w : WordState) (u : Core) (x y : Behaviour)
+      → Stands z.code pc (decision when d met opposite) → Fork when d holds_at fails_at (pc + forms_bytes (decision when d met opposite)) → pc < 0x10000
+      → Runs z.code [] n u (Decided z pc w b met opposite) → ((t : Core) → StandsFor z holds_at w t → Follows z end m t x)
+      → ((t : Core) → StandsFor z fails_at w t → Follows z end k t y) → Follows z end (n + 5 + (if b then m else k)) u (if b then x else y)
+  decided_follows when true pc d holds_at fails_at n end m k met opposite w u x y h fork l r f g =
+      let come = runs_on z r (λ t i. decision_part when true pc d holds_at fails_at met opposite w t h fork l i) in
+      then_end z end m x.effects x.end come f
+  decided_follows when false pc d holds_at fails_at n end m k met opposite w u x y h fork l r f g =
+      let come = runs_on z r (λ t i. decision_part when false pc d holds_at fails_at met opposite w t h fork l i) in
+      then_end z end k y.effects y.end come g
+
+  -- ---- whether the top isn't 0
+
+  abbrev pub zero_test : Form
+  zero_test = Calculate op.Cmp (Constant konst.Zero) R4
+
+  pub holds_part : (pc v : ℕ) (w : WordState) (t : Core) → v < 0x10000 → z.code pc ≡ Some (instruction_of zero_test) → Has z R4 pc w v t
+      → Runs z.code [] 1 t (Decided z (pc + 2) w (is_true v) condition.NotEqual condition.Equal)
+  holds_part pc v w t l h k =
+      let zero : ((t.work 4 + 65535 + 1) % 65536 == 0) ≡ (v == 0) = ap (λ x. (x + 65535 + 1) % 65536 == 0) k.held ∙ equal_flag v 0 l (omega arith) in
+      line z (zero_test ∷ []) 1 (pc + 2) _ k.is (tt, tt) (h, tt) ((tt, tt), tt) refl refl (omega (arith, k.is.at))
+      (λ s. record { is = s; holds = ap not zero; fails = zero ∙ sym (not-not (v == 0)) })
+
+  -- ---- whether two words compare so
+
+  -- the flags are these
+  record HasFlags (pc : ℕ) (w : WordState) (f : Flags) (t : Core) : Type 0 where
+    is : StandsFor z pc w t
+    flags : t.flags ≡ f
+
+  -- an operation that writes no register leaves these flags
+  flags_part : (o : TwoOp) (x : Source) (b : WorkRegister) (c pc : ℕ) {l r : ℕ} {w : WordState} {t : Core} (f : Flags) → IsNotMov o
+      → writes_destination o ≡ false → source_cycles to_register (source_operand x) ≤ c
+      → (let m = Calculate o x b in z.code pc ≡ Some (instruction_of m) → StandsFor z pc w t → IsRead x b l r t t
+      → flags_after (operated o Word l r t.flags).flags t.flags ≡ f → Runs z.code [] c t (HasFlags (pc + form_bytes m) w f))
+  flags_part o x b c pc {l} {r} {w} {t} f reads writes price h i k made =
+      calculate z o x b c t false _ reads writes price (ap z.code i.at ∙ h) k (record {
+        is = stands_elsewhere z pc (pc + form_bytes (Calculate o x b)) w t _ i (ap (λ n. n + (2 + source_bytes x)) i.at) refl refl refl refl refl;
+        flags = made;
+      })
+
+  -- R5, the right side, with R4
+  turned_part : (pc x y : ℕ) (w : WordState) (t : Core) → z.code pc ≡ Some (instruction_of (Calculate op.Cmp (Register R4) R5))
+      → Holds z (Aiming true (Register R5) x y w.fram) pc w t → Runs z.code [] 1 t (HasFlags (pc + 2) w (difference_flags y x))
+  turned_part pc x y w t h k =
+      line z (Calculate op.Cmp (Register R4) R5 ∷ []) 1 (pc + 2) _ k.is (tt, tt) (h, tt) ((tt, tt), tt) refl refl (omega (arith, k.is.at))
+      (λ s. record { is = s; flags = ap₂ difference_flags (k.held.gives.word t k.is.fram refl) k.held.four })
+
+  compare_part : (c : Comparison) (o : Option Waiting) (pc x y : ℕ) (w : WordState) (t : Core)
+      → (let s = compare_source c o in let m = compare_form c s in z.code pc ≡ Some (instruction_of m) → Holds z (Aiming true s x y w.fram) pc w t
+      → Runs z.code [] (reading_cycles (compare_stays (is_turned c) o)) t (HasFlags (pc + form_bytes m) w (compared_flags c x y)))
+  compare_part CommonBit o pc x y w t h k =
+      let s = right_source o in
+      flags_part op.Bit s R4 (reading_cycles (stays o)) pc _ tt refl (reading_price (stays o) o) h k.is
+      (is_read true s R4 x y w.fram t k.is.fram k.held.four k.held.gives) refl
+  compare_part Above o pc x y w t h k = turned_part pc x y w t h k
+  compare_part SignedAbove o pc x y w t h k = turned_part pc x y w t h k
+  compare_part c o pc x y w t h k =
+      let s = right_source o in
+      flags_part op.Cmp s R4 (reading_cycles (stays o)) pc _ tt refl (reading_price (stays o) o) h k.is
+      (is_read true s R4 x y w.fram t k.is.fram k.held.four k.held.gives) refl
+
+  pub compares_part : (c : Comparison) (o : Option Waiting) (pc x y : ℕ) (w : WordState) (t : Core) → x < 0x10000 → y < 0x10000
+      → (let s = compare_source c o in let m = compare_form c s in z.code pc ≡ Some (instruction_of m) → Holds z (Aiming true s x y w.fram) pc w t
+      → Runs z.code [] (reading_cycles (compare_stays (is_turned c) o)) t (Decided z (pc + form_bytes m) w (compare_words c x y) (holding c) (failing c)))
+  compares_part c o pc x y w t l m h k =
+      so_runs (compare_part c o pc x y w t h k) (λ s j.
+      let met = ap (is_met (holding c)) j.flags ∙ compare_met c x y l m in
+      record { is = j.is; holds = met; fails = failing_met c s.flags ∙ ap not met })

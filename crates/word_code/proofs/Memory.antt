@@ -1,0 +1,149 @@
+-- The stack and the locals: the first eight in registers, the others in RAM.
+use Rattle.word_code.proofs.Names.{◌≡◌, ℕ, zero, suc, ◌+◌, ◌-◌, ◌*◌, ◌<◌, ◌≤◌, List, [], ◌∷◌, length, get_or, Option, Some, refl, sym, ap, ◌∙◌, subst, arith}
+use Rattle.word_code.proofs.Names.{Bool, true, false, nat_eq, nat_lt, eq-eqb, ne_eqb, if◌then◌else◌, AllByRecursion, nat_tests, same_Some, put, IsFram, IsRam}
+use Rattle.word_code.proofs.Names.{put_same, put_other, work_number, HasPushRoom, is_place, assigned, local_register, local_address}
+use Rattle.word_code.proofs.Stretches.{Setting}
+
+-- words
+abbrev pub AreWords : List ℕ → Type 0
+AreWords vs = AllByRecursion (λ v. v < 0x10000) vs
+
+-- words at each address
+abbrev pub HoldsWords : (ℕ → ℕ) → Type 0
+HoldsWords f = (a : ℕ) → f a < 0x10000
+
+-- the stack in RAM, its top first
+abbrev pub StackIs : (ℕ → ℕ) → ℕ → List ℕ → Type 0
+StackIs ram sp [] = Unit {0}
+StackIs ram sp (v ∷ vs) = (ram sp ≡ v) × StackIs ram (sp + 2) vs
+
+stack_put : (ram : ℕ → ℕ) (a w sp : ℕ) (vs : List ℕ) → a < sp → StackIs ram sp vs → StackIs (put ram a w) sp vs
+stack_put ram a w sp [] l h = tt
+stack_put ram a w sp (v ∷ vs) l h = (put_other ram a w sp (λ e. omega arith) ∙ h.0, stack_put ram a w (sp + 2) vs (omega arith) h.1)
+
+pub place_is : (a : ℕ) → is_place a ≡ true → IsFram a
+place_is a h = record { even = grind (arith, nat_tests); low = grind (arith, nat_tests); high = grind (arith, nat_tests) }
+
+pub assigned_same : (f : ℕ → Option ℕ) (n v : ℕ) → assigned f n v n ≡ Some v
+assigned_same f n v = ap (λ b. if b then Some v else f n) (eq-eqb n n refl)
+
+-- the words of the registers in which the first eight locals stand. A write to another register leaves them, by computation alone
+abbrev pub local_words : (ℕ → ℕ) → List ℕ
+local_words work = work 8 ∷ work 9 ∷ work 10 ∷ work 11 ∷ work 12 ∷ work 13 ∷ work 14 ∷ work 15 ∷ []
+
+-- the word of a local
+abbrev pub local_word : List ℕ → (ℕ → ℕ) → ℕ → ℕ
+local_word words ram n = if nat_lt n 8 then get_or words n 0 else ram (local_address n)
+
+below_eight : (n : ℕ) → nat_lt n 8 ≡ true → n < 8
+below_eight n e = grind (arith, nat_tests)
+
+from_eight : (n : ℕ) → nat_lt n 8 ≡ false → 8 ≤ n
+from_eight n e = grind (arith, nat_tests)
+
+-- the register of a local, and its word
+register_at : (work : ℕ → ℕ) (n : ℕ) → n < 8 → (work_number (local_register n) ≡ 8 + n) × (get_or (local_words work) n 0 ≡ work (8 + n))
+register_at work zero l = (refl, refl)
+register_at work (suc zero) l = (refl, refl)
+register_at work (suc (suc zero)) l = (refl, refl)
+register_at work (suc (suc (suc zero))) l = (refl, refl)
+register_at work (suc (suc (suc (suc zero)))) l = (refl, refl)
+register_at work (suc (suc (suc (suc (suc zero))))) l = (refl, refl)
+register_at work (suc (suc (suc (suc (suc (suc zero)))))) l = (refl, refl)
+register_at work (suc (suc (suc (suc (suc (suc (suc zero))))))) l = (refl, refl)
+register_at work (suc (suc (suc (suc (suc (suc (suc (suc n)))))))) l = absurd (let high = l in omega arith)
+
+-- a local in a register
+pub in_register : (work ram : ℕ → ℕ) (n : ℕ) → nat_lt n 8 ≡ true → work (work_number (local_register n)) ≡ local_word (local_words work) ram n
+in_register work ram n e =
+    let at = register_at work n (below_eight n e) in
+    ap work at.0 ∙ sym at.1 ∙ ap (λ b. if b then get_or (local_words work) n 0 else ram (local_address n)) (sym e)
+
+-- a local in RAM
+pub in_ram : (words : List ℕ) (ram : ℕ → ℕ) (n : ℕ) → nat_lt n 8 ≡ false → ram (local_address n) ≡ local_word words ram n
+in_ram words ram n e = ap (λ b. if b then get_or words n 0 else ram (local_address n)) (sym e)
+
+-- the locals, and the stack down from 2400
+pub record Memory (z : Setting) (sp : ℕ) (ram : ℕ → ℕ) (words vs : List ℕ) (ls : ℕ → Option ℕ) : Type 0 where
+  pub depth : sp + 2 * length vs ≡ 0x2400
+  pub fits : length vs ≤ z.room
+  pub stack : StackIs ram sp vs
+  pub vars : (n v : ℕ) → n < z.locals → ls n ≡ Some v → local_word words ram n ≡ v
+
+module _ (z : Setting) where
+  pub pop_memory : {sp v : ℕ} {ram : ℕ → ℕ} {words vs : List ℕ} {ls : ℕ → Option ℕ} → Memory z sp ram words (v ∷ vs) ls → Memory z (sp + 2) ram words vs ls
+  pop_memory m = record { depth = omega (arith, m.depth); fits = omega (arith, m.fits); stack = m.stack.1; vars = m.vars }
+
+  pub pop_needs : {sp v : ℕ} {ram : ℕ → ℕ} {words vs : List ℕ} {ls : ℕ → Option ℕ} → Memory z sp ram words (v ∷ vs) ls → IsRam sp
+  pop_needs m =
+      let d = m.depth in let f = m.fits in let r = z.roomy in record { even = omega arith; low = omega arith; high = omega arith }
+
+  pub push_needs : {sp : ℕ} {ram : ℕ → ℕ} {words vs : List ℕ} {ls : ℕ → Option ℕ} → Memory z sp ram words vs ls → length vs < z.room → HasPushRoom sp
+  push_needs m l = let d = m.depth in let r = z.roomy in record { even = omega arith; low = omega arith; high = omega arith }
+
+  pub local_needs : (n : ℕ) → n < z.locals → IsRam (local_address n)
+  local_needs n l = let r = z.roomy in record { even = omega arith; low = omega arith; high = omega arith }
+
+  pub push_memory : {sp : ℕ} {ram : ℕ → ℕ} {words vs : List ℕ} {ls : ℕ → Option ℕ} (v : ℕ) → Memory z sp ram words vs ls → length vs < z.room
+      → Memory z (sp - 2) (put ram (sp - 2) v) words (v ∷ vs) ls
+  push_memory {sp} {ram} {words} {vs} v m l =
+      let d = m.depth in let r = z.roomy in
+      let up : sp - 2 + 2 ≡ sp = omega arith in
+      let apart : (n : ℕ) → n < z.locals → put ram (sp - 2) v (local_address n) ≡ ram (local_address n) =
+      λ n h. put_other ram (sp - 2) v (local_address n) (λ e. omega arith) in
+      record {
+        depth = omega arith;
+        fits = omega arith;
+        stack = (put_same ram (sp - 2) v, subst (λ n. StackIs (put ram (sp - 2) v) n vs) (sym up) (stack_put ram (sp - 2) v sp vs (omega arith) m.stack));
+        vars = λ n w h q. ap (λ x. if nat_lt n 8 then get_or words n 0 else x) (apart n h) ∙ m.vars n w h q;
+      }
+
+  -- one local has another word now, and the others theirs
+  assign : (sp n v : ℕ) (ram ram' : ℕ → ℕ) (words words' vs : List ℕ) (ls : ℕ → Option ℕ) → Memory z sp ram words vs ls → StackIs ram' sp vs
+      → ((k : ℕ) → local_word words' ram' k ≡ (if nat_eq k n then v else local_word words ram k)) → Memory z sp ram' words' vs (assigned ls n v)
+  assign sp n v ram ram' words words' vs ls m stack same =
+      record { depth = m.depth; fits = m.fits; stack = stack; vars = λ k w h q. same k ∙ by (nat_eq k n) k w h q }
+    where
+      by : (b : Bool) (k w : ℕ) → k < z.locals → (if b then Some v else ls k) ≡ Some w → (if b then v else local_word words ram k) ≡ w
+      by true k w h q = same_Some v w q
+      by false k w h q = m.vars k w h q
+
+  -- a local in a register is written
+  pub set_register : (sp n v : ℕ) (ram work : ℕ → ℕ) (vs : List ℕ) (ls : ℕ → Option ℕ) → nat_lt n 8 ≡ true → Memory z sp ram (local_words work) vs ls
+      → Memory z sp ram (local_words (put work (work_number (local_register n)) v)) vs (assigned ls n v)
+  set_register sp n v ram work vs ls e m =
+      let after = put work (work_number (local_register n)) v in
+      assign sp n v ram ram (local_words work) (local_words after) vs ls m m.stack (λ k. by (nat_lt k 8) k refl)
+    where
+      l : n < 8
+      l = below_eight n e
+
+      by : (b : Bool) (k : ℕ) → nat_lt k 8 ≡ b → (if b then get_or (local_words (put work (work_number (local_register n)) v)) k 0 else ram (local_address k))
+          ≡ (if nat_eq k n then v else (if b then get_or (local_words work) k 0 else ram (local_address k)))
+      by true k t =
+          let h = below_eight k t in
+          let same : nat_eq (8 + k) (8 + n) ≡ nat_eq k n = grind (arith, nat_tests) in
+          (register_at (put work (work_number (local_register n)) v) k h).1 ∙ ap (λ r. put work r v (8 + k)) (register_at work n l).0
+          ∙ ap (λ b. if b then v else work (8 + k)) same ∙ ap (λ x. if nat_eq k n then v else x) (sym (register_at work k h).1)
+      by false k t =
+          let h = from_eight k t in
+          let other : nat_eq k n ≡ false = ne_eqb k n (λ q. let low = l in omega arith) in
+          ap (λ b. if b then v else ram (local_address k)) (sym other)
+
+  -- a local in RAM is written
+  pub set_ram : (sp n v : ℕ) (ram : ℕ → ℕ) (words vs : List ℕ) (ls : ℕ → Option ℕ) → nat_lt n 8 ≡ false → n < z.locals → Memory z sp ram words vs ls
+      → Memory z sp (put ram (local_address n) v) words vs (assigned ls n v)
+  set_ram sp n v ram words vs ls e lt m =
+      let d = m.depth in let f = m.fits in let r = z.roomy in
+      assign sp n v ram (put ram (local_address n) v) words words vs ls m (stack_put ram (local_address n) v sp vs (omega arith) m.stack)
+      (λ k. by (nat_lt k 8) k refl)
+    where
+      by : (b : Bool) (k : ℕ) → nat_lt k 8 ≡ b → (if b then get_or words k 0 else put ram (local_address n) v (local_address k))
+          ≡ (if nat_eq k n then v else (if b then get_or words k 0 else ram (local_address k)))
+      by true k t =
+          let h = below_eight k t in let l = from_eight n e in
+          let other : nat_eq k n ≡ false = ne_eqb k n (λ q. omega arith) in
+          ap (λ b. if b then v else get_or words k 0) (sym other)
+      by false k t =
+          let same : nat_eq (local_address k) (local_address n) ≡ nat_eq k n = grind (arith, nat_tests) in
+          ap (λ b. if b then v else ram (local_address k)) same

@@ -1,0 +1,112 @@
+-- Registers with words, straight code on them, and jumps.
+use Rattle.word_code.proofs.Names.{sym, subst, ◌≡◌, ℕ, ◌+◌, ◌-◌, ◌%◌, ◌<◌, ◌==◌, List, [], ◌∷◌, Some, refl, ap, ap₂, ◌∙◌, arith, Bool, false, nat_le}
+use Rattle.word_code.proofs.Names.{if◌then◌else◌, Flags, Effect, stretch, At, FormsNeed, AreStraight, forms_run, end_of, stands_at, work_number, WorkRegister}
+use Rattle.word_code.proofs.Names.{bytes_are, nat_tests, Word, sum_of, Condition, sum16, distance, is_met, Core, Form, Jump, Skip, instruction_of, Stands}
+use Rattle.word_code.proofs.Names.{forms_bytes, Runs, WordState}
+use Rattle.word_code.proofs.Memory.{Memory, local_words}
+use Rattle.word_code.proofs.Stretches.{straight, hop, so_runs, Setting}
+use Rattle.word_code.proofs.Follows.{StandsFor, stands_elsewhere}
+
+-- forms are of whole words
+pub bytes_even : (ms : List Form) → forms_bytes ms % 2 ≡ 0
+bytes_even [] = refl
+bytes_even (m ∷ ms) = omega (arith, bytes_are m, bytes_even ms)
+
+pub no_borrow : (x y : ℕ) → x < 0x10000 → y < 0x10000 → nat_le 0x10000 (x + (0xFFFF - y) + 1) ≡ nat_le y x
+no_borrow x y h k = grind (arith, nat_tests)
+
+-- two words are equal where their difference is 0
+pub equal_flag : (x y : ℕ) → x < 0x10000 → y < 0x10000 → ((x + (0xFFFF - y) + 1) % 0x10000 == 0) ≡ (x == y)
+equal_flag x y h k = grind (arith, nat_tests)
+
+-- ---- what registers hold
+
+-- a state of the machine, and what its registers hold
+pub record With (S : Core → Type 0) (P : (ℕ → ℕ) → Type 0) (t : Core) : Type 0 where
+  pub is : S t
+  pub held : P t.work
+
+-- a register holds this word
+abbrev pub HasWord : WorkRegister → ℕ → (ℕ → ℕ) → Type 0
+HasWord b v f = f (work_number b) ≡ v
+
+-- R4 holds the left side, and R5 the right one
+pub record HasSides (x y : ℕ) (f : ℕ → ℕ) : Type 0 where
+  pub four : f 4 ≡ x
+  pub five : f 5 ≡ y
+
+abbrev pub IsZero : Bool → Flags → Type 0
+IsZero b f = f.z ≡ b
+
+abbrev pub IsCarry : Bool → Flags → Type 0
+IsCarry b f = f.c ≡ b
+
+-- what straight code leaves as it was that writes nothing but R4 to R7: SP, RAM, the locals in registers, the readings and FRAM
+abbrev pub rest_of : Core → ℕ × (ℕ → ℕ) × List ℕ × List ℕ × (ℕ → ℕ)
+rest_of u = (u.sp, u.ram, local_words u.work, u.readings_left, u.fram)
+
+module _ (z : Setting) where
+  -- the machine stands for the state, and its registers hold such words
+  abbrev pub Holds : ((ℕ → ℕ) → Type 0) → ℕ → WordState → Core → Type 0
+  Holds P pc w = With (StandsFor z pc w) P
+
+  abbrev pub Has : WorkRegister → ℕ → WordState → ℕ → Core → Type 0
+  Has b pc w v = With (StandsFor z pc w) (HasWord b v)
+
+  abbrev pub HasTwo : ℕ → WordState → ℕ → ℕ → Core → Type 0
+  HasTwo pc w x y = With (StandsFor z pc w) (HasSides x y)
+
+  -- besides, a fact of its flags
+  pub record Flagged (P : (ℕ → ℕ) → Type 0) (F : Flags → Type 0) (pc : ℕ) (w : WordState) (t : Core) : Type 0 where
+    pub all : With (StandsFor z pc w) P t
+    pub flag : F t.flags
+
+  -- straight code that writes R4 to R7 and words of FRAM
+  pub store_line : {pc : ℕ} {w : WordState} {t : Core} (ms : List Form) (es : List Effect) (f : ℕ → ℕ) (c pc' : ℕ) (Q : Core → Type 0) → StandsFor z pc w t
+      → AreStraight ms → Stands z.code pc ms → FormsNeed ms t → (let r = forms_run ms t in let v = end_of t r.status in r ≡ stretch r.effects c (At v)
+      → rest_of (record v { fram = t.fram }) ≡ rest_of t → v.pc ≡ pc' → r.effects ≡ es → v.fram ≡ f → (StandsFor z pc' (record w { fram = f }) v → Q v)
+      → Runs z.code es c t Q)
+  store_line {pc} {w} {t} ms es f c pc' Q i st h ok e k p made fram q =
+      let r = forms_run ms t in
+      let words = subst (λ x. Memory z x.0 x.1 x.2 w.stack w.locals) (sym k) i.memory in
+      subst (λ l. Runs z.code l c t Q) made
+      (straight z ms c t (end_of t r.status) r.effects c Q st (stands_at z.code pc ms t h i.at) ok e (omega arith)
+      (q (record { at = p; memory = words; fram = fram; readings = ap (λ x. x.3) k ∙ i.readings })))
+
+  -- straight code that writes R4 to R7 alone
+  pub line : {pc : ℕ} {w : WordState} {t : Core} (ms : List Form) (c pc' : ℕ) (Q : Core → Type 0) → StandsFor z pc w t → AreStraight ms → Stands z.code pc ms
+      → FormsNeed ms t → (let v = end_of t (forms_run ms t).status in forms_run ms t ≡ stretch [] c (At v) → rest_of v ≡ rest_of t → v.pc ≡ pc'
+      → (StandsFor z pc' w v → Q v) → Runs z.code [] c t Q)
+  line {pc} {w} {t} ms c pc' Q i st h ok e k p q =
+      let words = subst (λ x. Memory z x.0 x.1 x.2 w.stack w.locals) (sym k) i.memory in
+      straight z ms c t (end_of t (forms_run ms t).status) [] c Q st (stands_at z.code pc ms t h i.at) ok e (omega arith)
+      (q (record { at = p; memory = words; fram = ap (λ x. x.4) k ∙ i.fram; readings = ap (λ x. x.3) k ∙ i.readings }))
+
+  -- ---- jumps
+
+  -- an addition to PC
+  pub skip_to : (n pc pc' : ℕ) (w : WordState) (t : Core) → z.code pc ≡ Some (instruction_of (Skip n)) → n % 2 ≡ 0 → (pc + 4 + n + 0) % 0x10000 ≡ pc'
+      → StandsFor z pc w t → Runs z.code [] 3 t (StandsFor z pc' w)
+  skip_to n pc pc' w t h ev to i =
+      let sum = sum_of Word (t.pc + 4) n false in
+      hop z (Skip n) 3 t (record t { pc = sum.0; flags = sum.1 }) [] 3 _ (ap z.code i.at ∙ h) ev refl (omega arith)
+      (stands_elsewhere z pc pc' w t _ i (ap (λ p. (p + 4 + n + 0) % 0x10000) i.at ∙ to) refl refl refl refl refl)
+
+  -- a jump, with what the registers hold
+  pub jump_with : {P : (ℕ → ℕ) → Type 0} {w : WordState} {t : Core} (k : Condition) (o pc pc' : ℕ) (b : Bool) → z.code pc ≡ Some (instruction_of (Jump k o))
+      → is_met k t.flags ≡ b → (if b then sum16 (pc + 2) (distance o) else pc + 2) ≡ pc' → With (StandsFor z pc w) P t
+      → Runs z.code [] 2 t (With (StandsFor z pc' w) P)
+  jump_with {P} {w} {t} k o pc pc' b h e to i =
+      let p = i.is.at in
+      hop z (Jump k o) 2 t (record t { pc = if is_met k t.flags then sum16 (t.pc + 2) (distance o) else t.pc + 2 }) [] 2 _ (ap z.code p ∙ h) tt refl
+      (omega arith)
+      (record {
+        is = stands_elsewhere z pc pc' w t _ i.is (ap₂ (λ x q. if x then sum16 (q + 2) (distance o) else q + 2) e p ∙ to) refl refl refl refl refl;
+        held = i.held;
+      })
+
+  -- with nothing of them
+  pub jump_to : (k : Condition) (o pc pc' : ℕ) (b : Bool) (w : WordState) (t : Core) → z.code pc ≡ Some (instruction_of (Jump k o)) → is_met k t.flags ≡ b
+      → (if b then sum16 (pc + 2) (distance o) else pc + 2) ≡ pc' → StandsFor z pc w t → Runs z.code [] 2 t (StandsFor z pc' w)
+  jump_to k o pc pc' b w t h e to i =
+      so_runs (jump_with {P = λ f. Unit {0}} k o pc pc' b h e to (record { is = i; held = tt })) (λ s j. j.is)

@@ -1,0 +1,60 @@
+-- Stretches of code that stays, with room for locals and a stack.
+use Rattle.word_code.proofs.Names.{subst, ◌≡◌, ℕ, ◌+◌, ◌*◌, ◌≤◌, List, [], ◌++◌, Some, arith, forms_bytes, stands_front, stands_back, forms_bytes-append}
+use Rattle.word_code.proofs.Names.{Effect}
+use Rattle.word_code.proofs.Names.{Goes, Stops, At, stretch, Code, Core, Form, instruction_of, form_step, FormNeeds, Stands, AreStraight, forms_run, FormsNeed}
+use Rattle.word_code.proofs.Names.{IsTidy, Runs, Starves}
+use Rattle.array_versions.specs.msp_step.declared.machine.Stop.TheVariants as stop
+use Rattle.code_forms.proofs.Interface as blocks
+
+-- some code, and how much of RAM the locals and the stack may take
+pub record Setting : Type 0 where
+  pub code : Code
+  pub tidy : IsTidy code
+  pub locals : ℕ
+  pub room : ℕ
+  pub roomy : 0x1C20 + 2 * (locals + room) ≤ 0x2400
+
+-- straight code comes to where its forms do
+pub straight : (z : Setting) (ms : List Form) (most : ℕ) (u t : Core) (es : List Effect) (c : ℕ) (P : Core → Type 0) → AreStraight ms → Stands z.code u.pc ms
+    → FormsNeed ms u → forms_run ms u ≡ stretch es c (At t) → c ≤ most → P t → Runs z.code es most u P
+straight z = blocks.straight z.code z.tidy
+
+-- one form, a jump too
+pub hop : (z : Setting) (m : Form) (most : ℕ) (u t : Core) (es : List Effect) (c : ℕ) (P : Core → Type 0) → z.code u.pc ≡ Some (instruction_of m)
+    → FormNeeds m u → form_step m u ≡ Goes es c t → c ≤ most → P t → Runs z.code es most u P
+hop z = blocks.hop z.code z.tidy
+
+pub runs_on : (z : Setting) {most more : ℕ} {u : Core} {P Q : Core → Type 0} {es fs : List Effect} → Runs z.code es most u P
+    → ((t : Core) → P t → Runs z.code fs more t Q) → Runs z.code (es ++ fs) (most + more) u Q
+runs_on z {most} {more} {u} {P} {Q} {es} {fs} = blocks.runs_on z.code z.tidy most more u P Q es fs
+
+pub starves_on : (z : Setting) (most more : ℕ) (u : Core) (P : Core → Type 0) (es fs : List Effect) → Runs z.code es most u P
+    → ((t : Core) → P t → Starves z.code fs more t) → Starves z.code (es ++ fs) (most + more) u
+starves_on z = blocks.starves_on z.code z.tidy
+
+pub dearer : (z : Setting) {es : List Effect} {most more : ℕ} {u : Core} {P : Core → Type 0} → most ≤ more → Runs z.code es most u P → Runs z.code es more u P
+dearer z {es} {most} {more} {u} {P} = blocks.dearer z.code z.tidy es most more u P
+
+pub dearer_stall : (z : Setting) (es : List Effect) (most more : ℕ) (u : Core) → most ≤ more → Starves z.code es most u → Starves z.code es more u
+dearer_stall z = blocks.dearer_starves z.code z.tidy
+
+-- what it comes to, said otherwise
+pub so_runs : {code : Code} {es : List Effect} {most : ℕ} {u : Core} {P Q : Core → Type 0} → Runs code es most u P → ((t : Core) → P t → Q t)
+    → Runs code es most u Q
+so_runs a f = record { steps = a.steps; cycles = a.cycles; end = a.end; within = a.within; leads = a.leads; holds = f a.end a.holds }
+
+pub nothing_run : (z : Setting) {u : Core} {P : Core → Type 0} → P u → Runs z.code [] 0 u P
+nothing_run z {u} {P} = blocks.nothing z.code z.tidy u P
+
+-- a form that wants a reading where none is left
+pub starved : (z : Setting) (m : Form) (u : Core) (price : ℕ) → z.code u.pc ≡ Some (instruction_of m) → FormNeeds m u
+    → form_step m u ≡ Stops [] price stop.NoReading → Starves z.code [] price u
+starved z m u price h w e = blocks.starve z.code z.tidy m price price u [] h w e (omega arith)
+
+-- two parts of code, one behind the other
+pub two_parts : (z : Setting) (a b : List Form) {n m : ℕ} (pc : ℕ) {u : Core} {P : Core → Type 0} (Q : ℕ → Core → Type 0) → Stands z.code pc (a ++ b)
+    → (Stands z.code pc a → Runs z.code [] n u P) → ((t : Core) → Stands z.code (pc + forms_bytes a) b → P t
+    → Runs z.code [] m t (Q (pc + forms_bytes a + forms_bytes b))) → Runs z.code [] (n + m) u (Q (pc + forms_bytes (a ++ b)))
+two_parts z a b {n} {m} pc {u} Q h f g =
+    let end : pc + forms_bytes a + forms_bytes b ≡ pc + forms_bytes (a ++ b) = omega (arith, forms_bytes-append a b) in
+    subst (λ p. Runs z.code [] (n + m) u (Q p)) end (runs_on z (f (stands_front z.code pc a b h)) (λ t k. g t (stands_back z.code pc a b h) k))

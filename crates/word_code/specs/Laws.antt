@@ -1,0 +1,68 @@
+-- What the code of a word program does.
+use Rattle.std.specs.Prelude.{◌≡◌, ℕ, ◌*◌, ◌<◌, ◌≤◌, List, All, length}
+use Rattle.array_versions.specs.fram_board.Effects.{Effect}
+use Rattle.array_versions.specs.machine_effects.World.{IsPrefix}
+use Rattle.array_versions.specs.machine_effects.Going.{going}
+use Rattle.array_versions.specs.machine_effects.Machine.{Code, MachineStretch, exec}
+use Rattle.code_forms.specs.Forms.{Core, board_of}
+use Rattle.code_forms.specs.Code.{Stands, IsTidy, Runs, Starves, forms_bytes}
+use Rattle.code_forms.specs.Placed.{words_of as instruction_words, instructions, AreInstructions}
+use Rattle.array_versions.specs.Program.{Program}
+use Rattle.array_versions.specs.Behaviour.{WordState, started, End, GoesOn, Jumps, Short, Strays, Broken, behaviour}
+use Rattle.array_versions.specs.Form.{IsWhole, OfWords}
+use Rattle.array_versions.specs.Cost.{spent, words_of}
+use Rattle.word_code.specs.Code.{code_of}
+
+-- the machine at the entry of a program's code: the stack is empty, FRAM and the readings left are words
+pub record IsEntry (at : ℕ) (u : Core) : Type 0 where
+  pub pc : u.pc ≡ at
+  pub sp : u.sp ≡ 0x2400
+  pub fram : (a : ℕ) → u.fram a < 0x10000
+  pub readings : All (λ r. r < 0x10000) u.readings_left
+
+-- the machine behind a jump: FRAM and the readings left are the program's
+pub record HasJumped (to : ℕ) (s : WordState) (u : Core) : Type 0 where
+  pub pc : u.pc ≡ to
+  pub fram : u.fram ≡ s.fram
+  pub readings : u.readings_left ≡ s.readings
+
+-- the code from here makes these effects within so many cycles, and comes to such an end. Nothing is said where an address isn't
+-- that of a word of FRAM
+abbrev pub ComesTo : Code → ℕ → Core → List Effect → End → Type 0
+ComesTo code most u es (Jumps to s) = Runs code es most u (HasJumped to s)
+ComesTo code most u es Short = Starves code es most u
+ComesTo code most u es Strays = Unit {0}
+ComesTo code most u es (GoesOn s) = ⊥
+ComesTo code most u es Broken = ⊥
+
+-- code in which the code of a whole program stands does what the program does, within the cycles of the way that it takes
+abbrev pub CodeDoesAsProgram : Type 0
+CodeDoesAsProgram = (code : Code) (at : ℕ) (p : Program) (u : Core) → IsTidy code → Stands code at (code_of p) → IsWhole p → OfWords p → IsEntry at u
+    → let s = started u.fram u.readings_left in let b = behaviour p s in ComesTo code (spent p s) u b.effects b.end
+
+-- a stretch so far: its effects are a prefix of these, its cycles within so many
+pub record IsWithin (most : ℕ) (es : List Effect) (r : MachineStretch) : Type 0 where
+  pub effects : IsPrefix r.effects es
+  pub cycles : r.cycles ≤ most
+
+-- so is each stretch on the way to a jump
+abbrev pub RunsStayWithin : Type 0
+RunsStayWithin = (code : Code) (es : List Effect) (most : ℕ) (u : Core) (to : ℕ) (s : WordState) (a : Runs code es most u (HasJumped to s)) (n : ℕ)
+    → n ≤ a.steps → IsWithin most es (going (exec code) n (board_of u))
+
+-- and each stretch of code that starves
+abbrev pub StarvingStaysWithin : Type 0
+StarvingStaysWithin = (code : Code) (es : List Effect) (most : ℕ) (u : Core) → Starves code es most u → (n : ℕ)
+    → IsWithin most es (going (exec code) n (board_of u))
+
+-- the code is at most as long as the program's words say
+abbrev pub CodeHasItsBytes : Type 0
+CodeHasItsBytes = (p : Program) → forms_bytes (code_of p) ≤ 2 * words_of p
+
+-- and encoded it has at most so many words
+abbrev pub CodeHasItsWords : Type 0
+CodeHasItsWords = (p : Program) → length (instruction_words (instructions (code_of p))) ≤ words_of p
+
+-- each of its instructions has its words
+abbrev pub CodeIsInstructions : Type 0
+CodeIsInstructions = (p : Program) → AreInstructions (instructions (code_of p))

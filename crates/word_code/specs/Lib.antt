@@ -1,0 +1,5 @@
+pub mod Code
+pub mod Laws
+pub use Rattle.array_versions.specs as array_versions
+pub use Rattle.code_forms.specs as code_forms
+pub use Rattle.array_versions.specs.msp_step.msp_isa as msp_isa

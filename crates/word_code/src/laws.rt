@@ -1,0 +1,24 @@
+//! Laws of the code of word programs. The functions do nothing: their contracts are the laws.
+
+ghost use Rattle.word_code.specs.Laws.{CodeDoesAsProgram, RunsStayWithin, StarvingStaysWithin, CodeHasItsBytes, CodeHasItsWords, CodeIsInstructions};
+
+/// The code of a whole program makes the program's effects within the cycles of the way that it takes, and comes to the program's end: behind its
+/// jump, or to an instruction that wants a reading where none is left.
+#[tactic(auto, using(crate::proofs::Whole::code_does_as_program))]
+pub fn code_does_as_its_program()
+    ensures { CodeDoesAsProgram }
+{}
+
+/// After any number of steps on the way, the effects so far are a prefix of all, and the cycles are within the bound.
+pub fn effects_so_far_are_a_prefix()
+    ensures runs { RunsStayWithin }
+    ensures starves { StarvingStaysWithin }
+{}
+
+/// The code of a program is no longer than the program's words say, and each of its instructions has its words.
+#[tactic(auto, using(crate::proofs::Lengths::code_has_its_bytes, crate::proofs::Lengths::code_has_its_words, crate::proofs::Lengths::code_is_instructions))]
+pub fn code_has_its_words()
+    ensures bytes { CodeHasItsBytes }
+    ensures words { CodeHasItsWords }
+    ensures instructions { CodeIsInstructions }
+{}

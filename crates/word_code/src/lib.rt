@@ -1,0 +1,15 @@
+//! The code of word programs: which instructions each step and each test has, where which words wait, and the laws that they do what the
+//! program does. `codegen` makes that code.
+#![tactic(auto)]
+
+mod bounds;
+pub mod laws;
+mod waiting;
+
+// What word programs are made of.
+pub use array_versions::{
+    ArrayPlace, BinaryOperation, Comparison, ListPlace, LongOperation, PlainOperation,
+    ShiftOperation, UnaryOperation, WordProgram, WordStep, WordTest,
+};
+pub use bounds::Bound;
+pub use waiting::Waiting;
