@@ -8,7 +8,7 @@ use Rattle.command_line.specs.declared.Command.TheVariants.{Mean, Try, Build, Ru
 use Rattle.plain_commands.specs.command_answers.CommandAnswers.{CommandAnswers}
 use Rattle.plain_commands.specs.command_answers.Outside.{Shelved, Written}
 use Rattle.plain_commands.specs.command_answers.declared.status.Status.{Status}
-use Rattle.alpaca_cli.specs.Calls.{HasNumber, IsOnStates, IsPlain, Migrates, call_of, line_text, promise_of}
+use Rattle.alpaca_cli.specs.Calls.{HasNumber, IsMigration, IsOnStates, IsPlainCall, call_of, line_text, promise_of}
 
 abbrev Name : Type 0
 Name = Bor (List ℕ)
@@ -38,7 +38,7 @@ number_as c d is n = subst (λ x. HasNumber (call_of x)) (sym is) n
 -- ---- the groups
 
 pub not_plain : (c : Command) → ((a b : Name) → c ≡ Mean a b → ⊥) → ((a b : Name) → c ≡ Run a b → ⊥) → ((a b : Name) → c ≡ Asm a b → ⊥)
-    → ((a : Name) → c ≡ Dis a → ⊥) → ((a b d : Name) → c ≡ Audit a b d → ⊥) → IsPlain (call_of c) → ⊥
+    → ((a : Name) → c ≡ Dis a → ⊥) → ((a b d : Name) → c ≡ Audit a b d → ⊥) → IsPlainCall (call_of c) → ⊥
 not_plain (Mean a b) mean run asm dis audit plain = mean a b refl
 not_plain (Run a b) mean run asm dis audit plain = run a b refl
 not_plain (Asm a b) mean run asm dis audit plain = asm a b refl
@@ -46,7 +46,7 @@ not_plain (Dis a) mean run asm dis audit plain = dis a refl
 not_plain (Audit a b c) mean run asm dis audit plain = audit a b c refl
 not_plain _ mean run asm dis audit plain = plain
 
-pub on_states : (c : Command) → (IsPlain (call_of c) → ⊥) → ((a b d : Name) → c ≡ Try a b d → ⊥) → ((a b : Name) → c ≡ Build a b → ⊥)
+pub on_states : (c : Command) → (IsPlainCall (call_of c) → ⊥) → ((a b d : Name) → c ≡ Try a b d → ⊥) → ((a b : Name) → c ≡ Build a b → ⊥)
     → ((n : ℕ) (a : Name) → c ≡ Gen n a → ⊥) → IsOnStates (call_of c)
 on_states (Try a b c) plain try build gen = absurd (try a b c refl)
 on_states (Build a b) plain try build gen = absurd (build a b refl)
@@ -61,11 +61,11 @@ has_no_number (Gen n a) states = absurd states
 has_no_number _ states = tt
 
 pub it_migrates : (c : Command) → IsOnStates (call_of c) → ((a b d : Name) → c ≡ Save a b d → ⊥) → ((a b d : Name) → c ≡ Resume a b d → ⊥)
-    → Migrates (call_of c)
+    → IsMigration (call_of c)
 it_migrates (Save a b c) states save resume = absurd (save a b c refl)
 it_migrates (Resume a b c) states save resume = absurd (resume a b c refl)
 it_migrates _ states save resume = states
 
-pub no_other : (c : Command) → Migrates (call_of c) → ((a b d e f g : Name) → c ≡ Migrate a b d e f g → ⊥) → ⊥
+pub no_other : (c : Command) → IsMigration (call_of c) → ((a b d e f g : Name) → c ≡ Migrate a b d e f g → ⊥) → ⊥
 no_other (Migrate a b c d e f) migrates migrate = migrate a b c d e f refl
 no_other _ migrates migrate = migrates

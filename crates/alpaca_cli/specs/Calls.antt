@@ -96,24 +96,24 @@ IsRun (resume image state trace) = Unit {0}
 IsRun call = ⊥
 
 -- it needs no compiler and keeps no state
-abbrev pub IsPlain : Call → Type 0
-IsPlain (mean source trace) = Unit {0}
-IsPlain (run image trace) = Unit {0}
-IsPlain (asm assembly image) = Unit {0}
-IsPlain (dis image) = Unit {0}
-IsPlain (audit source report trace) = Unit {0}
-IsPlain call = ⊥
+abbrev pub IsPlainCall : Call → Type 0
+IsPlainCall (mean source trace) = Unit {0}
+IsPlainCall (run image trace) = Unit {0}
+IsPlainCall (asm assembly image) = Unit {0}
+IsPlainCall (dis image) = Unit {0}
+IsPlainCall (audit source report trace) = Unit {0}
+IsPlainCall call = ⊥
 
 -- it migrates a state
-abbrev pub Migrates : Call → Type 0
-Migrates (migrate source image state new_source new_image new_state) = Unit {0}
-Migrates call = ⊥
+abbrev pub IsMigration : Call → Type 0
+IsMigration (migrate source image state new_source new_image new_state) = Unit {0}
+IsMigration call = ⊥
 
 -- it saves, resumes or migrates a state
 abbrev pub IsOnStates : Call → Type 0
 IsOnStates (save image trace state) = Unit {0}
 IsOnStates (resume image state trace) = Unit {0}
-IsOnStates call = Migrates call
+IsOnStates call = IsMigration call
 
 -- its number, if it has one, is of 32 bits
 abbrev pub HasNumber : Call → Type 0

@@ -3,7 +3,7 @@ ghost use Rattle.std.specs.Prelude.{◌≤◌};
 ghost use Rattle.plain_commands.specs.alp_io.Shelf.{NeverFall};
 ghost use Rattle.plain_commands.specs.command_answers.CommandAnswers.{CommandAnswers};
 ghost use Rattle.plain_commands.specs.command_answers.Outside.{WhereSilent};
-ghost use Rattle.alpaca_cli.specs.Calls.{HasNumber, IsOnStates, IsPlain, Migrates, call_of, promise_of};
+ghost use Rattle.alpaca_cli.specs.Calls.{HasNumber, IsMigration, IsOnStates, IsPlainCall, call_of, promise_of};
 
 use command_line::Command;
 use compiled_states::{fresh_states_belong, migrated_states_belong, states_are_told, states_stay};
@@ -71,7 +71,7 @@ fn answer_compiler_command<H: Shelf, O: Sink, E: Sink>(
     out: &mut O,
     err: &mut E,
 ) -> Status
-    requires { IsPlain (call_of command) → ⊥ }
+    requires { IsPlainCall (call_of command) → ⊥ }
     ensures number { HasNumber (call_of command.entry) }
     ensures counts { NeverFall (H.counts shelf.old) (H.counts shelf.new) }
     ensures out_faults { O.faults out.old ≤ O.faults out.new }
@@ -160,7 +160,7 @@ fn answer_migration<H: Shelf, E: Sink>(
     shelf: &mut H,
     err: &mut E,
 ) -> Status
-    requires { Migrates (call_of command) }
+    requires { IsMigration (call_of command) }
     ensures counts { NeverFall (H.counts shelf.old) (H.counts shelf.new) }
     ensures err_faults { E.faults err.old ≤ E.faults err.new }
     ensures answers { WhereSilent (λ out. CommandAnswers result (promise_of (call_of command.entry))
