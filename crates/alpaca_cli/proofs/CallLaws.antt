@@ -39,22 +39,22 @@ number_as c d is n = subst (λ x. HasNumber (call_of x)) (sym is) n
 
 pub not_plain : (c : Command) → ((a b : Name) → c ≡ Mean a b → ⊥) → ((a b : Name) → c ≡ Run a b → ⊥) → ((a b : Name) → c ≡ Asm a b → ⊥)
     → ((a : Name) → c ≡ Dis a → ⊥) → ((a b d : Name) → c ≡ Audit a b d → ⊥) → IsPlainCall (call_of c) → ⊥
-not_plain (Mean a b) mean run asm dis audit plain = mean a b refl
-not_plain (Run a b) mean run asm dis audit plain = run a b refl
-not_plain (Asm a b) mean run asm dis audit plain = asm a b refl
-not_plain (Dis a) mean run asm dis audit plain = dis a refl
-not_plain (Audit a b c) mean run asm dis audit plain = audit a b c refl
-not_plain _ mean run asm dis audit plain = plain
+not_plain (Mean a b) means runs assembles lists audits plain = means a b refl
+not_plain (Run a b) means runs assembles lists audits plain = runs a b refl
+not_plain (Asm a b) means runs assembles lists audits plain = assembles a b refl
+not_plain (Dis a) means runs assembles lists audits plain = lists a refl
+not_plain (Audit a b c) means runs assembles lists audits plain = audits a b c refl
+not_plain _ means runs assembles lists audits plain = plain
 
 pub on_states : (c : Command) → (IsPlainCall (call_of c) → ⊥) → ((a b d : Name) → c ≡ Try a b d → ⊥) → ((a b : Name) → c ≡ Build a b → ⊥)
     → ((n : ℕ) (a : Name) → c ≡ Gen n a → ⊥) → IsOnStates (call_of c)
-on_states (Try a b c) plain try build gen = absurd (try a b c refl)
-on_states (Build a b) plain try build gen = absurd (build a b refl)
-on_states (Gen n a) plain try build gen = absurd (gen n a refl)
-on_states (Save a b c) plain try build gen = tt
-on_states (Resume a b c) plain try build gen = tt
-on_states (Migrate a b c d e f) plain try build gen = tt
-on_states _ plain try build gen = absurd (plain tt)
+on_states (Try a b c) plain tries builds generates = absurd (tries a b c refl)
+on_states (Build a b) plain tries builds generates = absurd (builds a b refl)
+on_states (Gen n a) plain tries builds generates = absurd (generates n a refl)
+on_states (Save a b c) plain tries builds generates = tt
+on_states (Resume a b c) plain tries builds generates = tt
+on_states (Migrate a b c d e f) plain tries builds generates = tt
+on_states _ plain tries builds generates = absurd (plain tt)
 
 pub has_no_number : (c : Command) → IsOnStates (call_of c) → HasNumber (call_of c)
 has_no_number (Gen n a) states = absurd states
@@ -62,10 +62,10 @@ has_no_number _ states = tt
 
 pub it_migrates : (c : Command) → IsOnStates (call_of c) → ((a b d : Name) → c ≡ Save a b d → ⊥) → ((a b d : Name) → c ≡ Resume a b d → ⊥)
     → IsMigration (call_of c)
-it_migrates (Save a b c) states save resume = absurd (save a b c refl)
-it_migrates (Resume a b c) states save resume = absurd (resume a b c refl)
-it_migrates _ states save resume = states
+it_migrates (Save a b c) states saves resumes = absurd (saves a b c refl)
+it_migrates (Resume a b c) states saves resumes = absurd (resumes a b c refl)
+it_migrates _ states saves resumes = states
 
 pub no_other : (c : Command) → IsMigration (call_of c) → ((a b d e f g : Name) → c ≡ Migrate a b d e f g → ⊥) → ⊥
-no_other (Migrate a b c d e f) migrates migrate = migrate a b c d e f refl
-no_other _ migrates migrate = migrates
+no_other (Migrate a b c d e f) migrates never = never a b c d e f refl
+no_other _ migrates never = migrates
