@@ -2,7 +2,6 @@
 ghost use Rattle.std.specs.Prelude.{◌≡◌};
 ghost use Rattle.command_answers.specs.Refusals.{plain};
 ghost use Rattle.command_answers.specs.Outcomes.{FailsRefused};
-ghost use Rattle.command_answers.specs.declared.failure.Failure.TheVariants.{Memory, Write};
 
 use crate::refusal::{self, Refusal};
 use alp_io::Failed;
@@ -22,6 +21,9 @@ pub enum Failure<'t> {
 }
 
 impl<'t> From<Failed> for Failure<'t> {
+    ghost use Rattle.std.specs.Prelude.{◌≡◌};
+    ghost use Rattle.command_answers.specs.declared.failure.Failure.TheVariants.{Write};
+
     ghost from_gives = { λ _ e. e ≡ Write };
 
     fn from(_failed: Failed) -> Failure<'t> {
@@ -30,6 +32,9 @@ impl<'t> From<Failed> for Failure<'t> {
 }
 
 impl<'t> From<AllocError> for Failure<'t> {
+    ghost use Rattle.std.specs.Prelude.{◌≡◌};
+    ghost use Rattle.command_answers.specs.declared.failure.Failure.TheVariants.{Memory};
+
     ghost from_gives = { λ _ e. e ≡ Memory };
 
     fn from(_error: AllocError) -> Failure<'t> {
