@@ -1,7 +1,14 @@
 use Rattle.std.proofs.Common.{refl}
 use Rattle.image_reports.specs.task_ast.View.{program_of}
 use Rattle.image_reports.specs.source_maps.Maps.{map_of}
+use Rattle.plain_commands.proofs.command_answers.Interface.{handed_on}
 use Rattle.compiler_commands.proofs.built.built_of.Goals as goal
+
+pub returns-in_err-image-clause-failure : goal.returns-in_err-image-clause-failure
+returns-in_err-image-clause-failure c = handed_on _ _ _ c.from_residual.ensures refl
+
+pub returns-in_err-text-clause-failure : goal.returns-in_err-text-clause-failure
+returns-in_err-text-clause-failure c = handed_on _ _ _ c.from_residual-in_err-text.ensures refl
 
 pub returns-clause-built : goal.returns-clause-built
 returns-clause-built c =

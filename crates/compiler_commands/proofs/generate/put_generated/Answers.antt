@@ -6,6 +6,12 @@ use Rattle.plain_commands.proofs.Interface.{told_from}
 use Rattle.compiler_commands.proofs.GenLaws.{generates, lines_of_run, ran_as}
 use Rattle.compiler_commands.proofs.generate.put_generated.Goals as goal
 
+pub returns-in_err-board-clause-failure : goal.returns-in_err-board-clause-failure
+returns-in_err-board-clause-failure g c = handed_on _ _ _ c.from_residual.ensures (refl, refl)
+
+pub returns-in_err-watch-clause-failure : goal.returns-in_err-watch-clause-failure
+returns-in_err-watch-clause-failure g c = handed_on _ _ _ c.from_residual-in_err-watch.ensures (refl, refl)
+
 pub returns-in_err-put_file-clause-failure : goal.returns-in_err-put_file-clause-failure
 returns-in_err-put_file-clause-failure g c =
     let built = c.requires.built in

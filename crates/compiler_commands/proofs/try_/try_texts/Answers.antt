@@ -19,6 +19,12 @@ pub returns-in_err-built-clause-failure : goal.returns-in_err-built-clause-failu
 returns-in_err-built-clause-failure g c =
     handed_on _ _ _ c.from_residual-in_err-built.ensures (memory_fails _ _ _ _ _ c.in_err-built.ensures.failure refl refl)
 
+pub returns-in_err-board-clause-failure : goal.returns-in_err-board-clause-failure
+returns-in_err-board-clause-failure g c = handed_on _ _ _ c.from_residual-in_err-board.ensures (refl, refl)
+
+pub returns-in_err-watch-clause-failure : goal.returns-in_err-watch-clause-failure
+returns-in_err-watch-clause-failure g c = handed_on _ _ _ c.from_residual-in_err-watch.ensures (refl, refl)
+
 pub returns-in_err-put_file-clause-failure : goal.returns-in_err-put_file-clause-failure
 returns-in_err-put_file-clause-failure g c =
     let built = c.in_ok-built.ensures.built in

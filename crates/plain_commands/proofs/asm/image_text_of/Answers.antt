@@ -1,5 +1,9 @@
 use Rattle.plain_commands.proofs.CommandLaws.{is_printed}
+use Rattle.command_texts.proofs.command_answers.Interface.{handed_on}
 use Rattle.plain_commands.proofs.asm.image_text_of.Goals as goal
+
+pub returns-in_err-text-clause-refused : goal.returns-in_err-text-clause-refused
+returns-in_err-text-clause-refused c = handed_on _ _ _ c.from_residual-in_err-text.ensures tt
 
 pub returns-clause-said : goal.returns-clause-said
 returns-clause-said c =

@@ -1,5 +1,9 @@
+use Rattle.std.proofs.Common.{refl}
 use Rattle.command_texts.proofs.command_answers.Interface.{handed_on}
 use Rattle.plain_commands.proofs.mean.write_meaning.Goals as goal
+
+pub returns-in_err-run-clause-failure : goal.returns-in_err-run-clause-failure
+returns-in_err-run-clause-failure g c = handed_on _ _ _ c.from_residual.ensures refl
 
 pub returns-clause-whole : goal.returns-clause-whole
 returns-clause-whole g c = (_, c.report_is_the_meaning.ensures, c.in_ok-write_report.ensures.bytes.whole)

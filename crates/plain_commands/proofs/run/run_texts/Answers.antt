@@ -15,6 +15,9 @@ returns-in_err-trace-clause-failure g c =
     handed_on _ _ _ c.from_residual-in_err-trace.ensures
     (λ shelf stands. refusal_fails _ _ _ _ _ 1 _ _ refl (λ r no. the_trace _ r c.in_ok-image.ensures.said no) stands refl c.in_err-trace.ensures.refused)
 
+pub returns-in_err-board-clause-failure : goal.returns-in_err-board-clause-failure
+returns-in_err-board-clause-failure g c = handed_on _ _ _ c.from_residual-in_err-board.ensures (λ shelf stands. (stands, refl))
+
 pub returns-clause-whole : goal.returns-clause-whole
 returns-clause-whole g c =
     let is_board = c.in_ok-board.ensures ∙ ap (fresh c.in_ok-image.image.words) c.readings.ensures.value in

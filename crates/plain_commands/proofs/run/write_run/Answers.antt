@@ -3,6 +3,9 @@ use Rattle.command_texts.proofs.command_answers.Interface.{handed_on}
 use Rattle.plain_commands.proofs.RunLaws.{told_from}
 use Rattle.plain_commands.proofs.run.write_run.Goals as goal
 
+pub returns-in_err-watch-clause-failure : goal.returns-in_err-watch-clause-failure
+returns-in_err-watch-clause-failure g c = handed_on _ _ _ c.from_residual.ensures refl
+
 pub returns-in_err-ending-clause-failure : goal.returns-in_err-ending-clause-failure
 returns-in_err-ending-clause-failure g c =
     let w = c.in_err-ending.ensures.bytes in

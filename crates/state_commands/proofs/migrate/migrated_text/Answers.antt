@@ -40,6 +40,9 @@ returns-in_err-state-clause-refused c =
     (fails_at _ _ _ c.args.names (editions_of c.args.texts) 2 refl
     (refused_migration _ _ c.in_ok-said.ensures.said old new c.in_ok-check_belongs.ensures.belongs) c.in_err-state.ensures.refused)
 
+pub returns-in_err-text-clause-refused : goal.returns-in_err-text-clause-refused
+returns-in_err-text-clause-refused c = handed_on _ _ _ c.from_residual-in_err-text.ensures tt
+
 pub returns-clause-migrates : goal.returns-clause-migrates
 returns-clause-migrates c =
     let old = c.in_ok-check_suits.ensures.suits in

@@ -17,6 +17,9 @@ returns-in_err-check_belongs-clause-failure g c =
     (λ shelf stands. refusal_fails _ _ _ _ _ 1 _ _ refl
     (λ r no. the_other_state _ _ _ r said.image_said said.state_said said.trace_said no) stands refl c.in_err-check_belongs.ensures.refused)
 
+pub returns-in_err-board-clause-failure : goal.returns-in_err-board-clause-failure
+returns-in_err-board-clause-failure g c = handed_on _ _ _ c.from_residual-in_err-board.ensures (λ shelf stands. (stands, refl))
+
 pub returns-clause-whole : goal.returns-clause-whole
 returns-clause-whole g c =
     let said = c.in_ok-said.ensures.said in

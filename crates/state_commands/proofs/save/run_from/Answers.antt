@@ -1,7 +1,14 @@
-use Rattle.std.proofs.Common.{◌∙◌, ap}
+use Rattle.std.proofs.Common.{◌∙◌, ap, refl}
 use Rattle.plain_commands.specs.fram_board.Board.{started}
 use Rattle.state_commands.proofs.SaveLaws.{ran_from}
+use Rattle.plain_commands.proofs.command_answers.Interface.{handed_on}
 use Rattle.state_commands.proofs.save.run_from.Goals as goal
+
+pub returns-in_err-board-clause-failure : goal.returns-in_err-board-clause-failure
+returns-in_err-board-clause-failure c = handed_on _ _ _ c.from_residual.ensures refl
+
+pub returns-in_err-watch-clause-failure : goal.returns-in_err-watch-clause-failure
+returns-in_err-watch-clause-failure c = handed_on _ _ _ c.from_residual-in_err-watch.ensures refl
 
 pub returns-clause-ran : goal.returns-clause-ran
 returns-clause-ran c =
