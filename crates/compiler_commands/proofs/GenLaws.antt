@@ -64,22 +64,23 @@ generated_words number bound trace low is = subst IsTraceOfWords (sym is) (gener
 
 -- ---- a run that ends well and is written nowhere
 
-faulty : at_fault ≡ well → ⊥
-faulty e = cc
-
-never : Rose 0 0 → ⊥
-never (inl lt) = omega arith
-never (inr e) = omega arith
-
 -- its end is no fault, and a sink that never fails gives no other
 pub no_fault : (trace : TraceValue) (old new : Option (List ℕ)) (x : RunFault) (board after : BoardValue) (watch now : History)
     → ((ending : Ending) (output : List ℕ) → IsReportFrom board watch trace ending output → ending ≡ well)
     → IsRunOf watch (charges_of trace.charges) board old new (Err x) after now → HasWriteCause 0 0 (Err x) → ⊥
-no_fault trace old new (fault.Illegal pc word) board after watch now ends r cause =
-    let f = is_written _ _ trace old new (Err (fault.Illegal pc word)) after now r in faulty (ends at_fault f.0 f.1)
-no_fault trace old new (fault.Bus pc address) board after watch now ends r cause =
-    let f = is_written _ _ trace old new (Err (fault.Bus pc address)) after now r in faulty (ends at_fault f.0 f.1)
-no_fault trace old new fault.Write board after watch now ends r cause = never (cause.failed refl)
+no_fault trace old new x board after watch now ends r cause = go x r cause
+  where
+    faulty : at_fault ≡ well → ⊥
+    faulty e = cc
+
+    never : Rose 0 0 → ⊥
+    never (inl lt) = omega arith
+    never (inr e) = omega arith
+
+    go : (y : RunFault) → IsRunOf watch (charges_of trace.charges) board old new (Err y) after now → HasWriteCause 0 0 (Err y) → ⊥
+    go (fault.Illegal pc word) q w = let f = is_written _ _ trace old new (Err (fault.Illegal pc word)) after now q in faulty (ends at_fault f.0 f.1)
+    go (fault.Bus pc address) q w = let f = is_written _ _ trace old new (Err (fault.Bus pc address)) after now q in faulty (ends at_fault f.0 f.1)
+    go fault.Write q w = never (w.failed refl)
 
 -- the run of a board and a history is that of the same ones
 pub ran_as : (b c : BoardValue) (h k : History) (trace : TraceValue) (end : RunEnd) (board : BoardValue) (now : History) → b ≡ c → h ≡ k
