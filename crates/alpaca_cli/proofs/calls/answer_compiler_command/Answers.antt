@@ -10,8 +10,8 @@ returns-in-Build-clause-number g c = number_as _ _ c.in-Build.is tt
 pub returns-in-Gen-clause-number : goal.returns-in-Gen-clause-number
 returns-in-Gen-clause-number g c = number_as _ _ c.in-Gen.is c.answer_gen.ensures.number
 
-pub returns-clause-number : goal.returns-clause-number
-returns-clause-number g c = let d = c.in_default in has_no_number _ (on_states _ c.requires d.not-Try d.not-Build d.not-Gen)
+pub returns-in_default-clause-number : goal.returns-in_default-clause-number
+returns-in_default-clause-number g c = let d = c.in_default in has_no_number _ (on_states _ c.requires d.not-Try d.not-Build d.not-Gen)
 
 pub returns-in-Try-clause-answers : goal.returns-in-Try-clause-answers
 returns-in-Try-clause-answers g c = answers_as _ _ _ _ _ _ c.in-Try.is c.answer_try.ensures.answers

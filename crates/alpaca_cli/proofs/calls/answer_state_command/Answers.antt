@@ -17,5 +17,5 @@ returns-in-Resume-clause-answers g c =
 pub answer_migration-requires : goal.answer_migration-requires
 answer_migration-requires g c = let d = c.in_default in it_migrates _ c.requires d.not-Save d.not-Resume
 
-pub returns-clause-answers : goal.returns-clause-answers
-returns-clause-answers g c = c.answer_migration.ensures.answers _ refl
+pub returns-in_default-clause-answers : goal.returns-in_default-clause-answers
+returns-in_default-clause-answers g c = c.answer_migration.ensures.answers _ refl

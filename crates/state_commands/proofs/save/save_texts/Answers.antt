@@ -45,6 +45,6 @@ returns-in_err-write_fault-clause-failure g c =
     (fault_breaks _ _ _ _ _ _ c.in_ok-state_run.ensures.ran _ _ _ _ _ _ c.in-Err.is refl c.in_err-write_fault.ensures.bytes.part
     c.in_err-write_fault.ensures.cause.failed)
 
-pub returns-in-Err-clause-whole : goal.returns-in-Err-clause-whole
-returns-in-Err-clause-whole g c =
+pub returns-clause-whole : goal.returns-clause-whole
+returns-clause-whole g c =
     fault_whole _ _ _ _ _ _ c.in_ok-state_run.ensures.ran _ _ _ _ _ _ c.in-Err.is refl c.in_ok-write_fault.ensures.bytes.whole
