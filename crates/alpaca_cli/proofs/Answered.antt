@@ -11,7 +11,7 @@ use Rattle.alpaca_cli.specs.Answers.{Answers, IsCarriedOut, status_of}
 use Rattle.plain_commands.specs.command_answers.CommandAnswers.{CommandAnswers, IsWhole}
 use Rattle.alpaca_cli.specs.Calls.{Call, OnLine, Says, line_text, reads, promise_of}
 use Rattle.plain_commands.specs.command_answers.InputFiles.{AreHeld, IsFirstUnfit, here, behind, IsOverlong}
-use Rattle.plain_commands.specs.command_answers.Outside.{Shelved, Written, IsSilent, WhereSilent}
+use Rattle.plain_commands.specs.command_answers.Outside.{Shelved, Written}
 use Rattle.plain_commands.specs.command_answers.Ending.{Ending, well, at_fault, differs}
 use Rattle.alpaca_cli.specs.Products.{IsProduct, AreAccepted}
 use Rattle.alpaca_cli.proofs.LineLaws.{same_call}
