@@ -7,7 +7,7 @@ ghost use Rattle.alpaca_cli.specs.Calls.{HasNumber, IsMigration, IsOnStates, IsP
 
 use command_line::Command;
 use compiled_states::{fresh_states_belong, migrated_states_belong, states_are_told, states_stay};
-use compiler_commands::{BuildNames, GenWords, TryNames, answer_build, answer_gen, answer_try};
+use compiler_commands::{BuildNames, TryNames, answer_build, answer_gen, answer_try};
 use plain_commands::answers::Status;
 use plain_commands::outside::{Shelf, Sink};
 use plain_commands::{
@@ -97,9 +97,7 @@ fn answer_compiler_command<H: Shelf, O: Sink, E: Sink>(
         Command::Build { source, image } => {
             answer_build(alloc, BuildNames { source, image }, shelf, out, err)
         }
-        Command::Gen { number, image } => {
-            answer_gen(alloc, GenWords { number, image }, shelf, out, err)
-        }
+        Command::Gen { number, image } => answer_gen(alloc, number, image, shelf, out, err),
         _ => answer_state_command(alloc, command, shelf, out, err),
     }
 }

@@ -154,22 +154,30 @@ fn gen_of<H: Shelf, O: Sink, E: Sink>(
 /// The answer to `gen N IMAGE`, which reads no file.
 pub fn answer_gen<H: Shelf, O: Sink, E: Sink>(
     alloc: Global,
-    words: GenWords<'_>,
+    number: u32,
+    image: &str,
     shelf: &mut H,
     out: &mut O,
     err: &mut E,
 ) -> Status
-    ensures number { words.entry.number < 2 ^ 32 }
+    ensures number { number < 2 ^ 32 }
     ensures counts { NeverFall (H.counts shelf.old) (H.counts shelf.new) }
     ensures out_faults { O.faults out.old ≤ O.faults out.new }
     ensures err_faults { E.faults err.old ≤ E.faults err.new }
-    ensures answers { CommandAnswers result (gen_promise words.entry.number words.entry.image.now)
+    ensures answers { CommandAnswers result (gen_promise number image.now)
         (record { old = H.files shelf.old; new = H.files shelf.new; counts_old = H.counts shelf.old; counts_new = H.counts shelf.new })
         (record { old = O.contents out.old; new = O.contents out.new; faults_old = O.faults out.old; faults_new = O.faults out.new })
         (record { old = E.contents err.old; new = E.contents err.new; faults_old = E.faults err.old; faults_new = E.faults err.new }) }
 {
-    match generated_source(alloc, words.number) {
-        Ok(text) => gen_of(alloc, words, text.as_slice(), shelf, out, err),
+    match generated_source(alloc, number) {
+        Ok(text) => gen_of(
+            alloc,
+            GenWords { number, image },
+            text.as_slice(),
+            shelf,
+            out,
+            err,
+        ),
         Err(AllocError) => answer_failure(err, Failure::Memory),
     }
 }

@@ -8,7 +8,7 @@ mod generate;
 mod try_;
 
 pub use build::{BuildNames, answer_build};
-pub use generate::{GenWords, answer_gen};
+pub use generate::answer_gen;
 pub use try_::{TryNames, answer_try};
 
 // The whole compiler as a call.
