@@ -3,8 +3,8 @@ use Rattle.std.proofs.Common.{◌≡◌, ◌≢◌, ℕ, ◌+◌, ◌*◌, ◌%�
 use Rattle.std.proofs.Common.{true, false, if◌then◌else◌}
 use Rattle.std.proofs.lemmas.Bool.Decides.{nat_tests}
 use Rattle.std.proofs.lemmas.List.Elements.{All-get_or}
-use Rattle.msp_isa.specs.declared.instructions.Condition.TheVariants.{NotEqual}
-use Rattle.msp_isa.specs.declared.operands.Konst.TheVariants.{One}
+use Rattle.runtime_code.specs.msp_isa.declared.instructions.Condition.TheVariants.{NotEqual}
+use Rattle.runtime_code.specs.msp_isa.declared.operands.Konst.TheVariants.{One}
 use Rattle.runtime_code.specs.msp_step.Effect.{sum16, distance}
 use Rattle.runtime_code.specs.fram_board.Effects.{Effect, Store}
 use Rattle.runtime_code.specs.machine_effects.World.{put, fram_after}

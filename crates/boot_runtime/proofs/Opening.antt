@@ -3,9 +3,9 @@ use Rattle.std.proofs.Common.{◌≡◌, ◌≢◌, ℕ, zero, suc, ◌+◌, ◌
 use Rattle.std.proofs.Common.{subst, arith}
 use Rattle.std.proofs.Common.{Bool, true, false, if◌then◌else◌}
 use Rattle.std.proofs.lemmas.Bool.Decides.{nat_tests}
-use Rattle.msp_isa.specs.declared.instructions.Condition.TheVariants.{NotEqual}
-use Rattle.msp_isa.specs.declared.instructions.TwoOp.TheVariants.{Add}
-use Rattle.msp_isa.specs.declared.operands.Konst.TheVariants.{One, MinusOne}
+use Rattle.runtime_code.specs.msp_isa.declared.instructions.Condition.TheVariants.{NotEqual}
+use Rattle.runtime_code.specs.msp_isa.declared.instructions.TwoOp.TheVariants.{Add}
+use Rattle.runtime_code.specs.msp_isa.declared.operands.Konst.TheVariants.{One, MinusOne}
 use Rattle.runtime_code.specs.msp_step.Effect.{sum16, distance}
 use Rattle.runtime_code.specs.fram_board.Effects.{Effect, Store}
 use Rattle.runtime_code.specs.machine_effects.World.{put, fram_after}

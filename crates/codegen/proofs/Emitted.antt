@@ -10,8 +10,8 @@ use Rattle.word_code.specs.array_versions.declared.program.WordStep.{WordStep, t
 use Rattle.word_code.specs.array_versions.declared.program.WordStep.TheVariants.{VersionedRead, VersionedWrite, VersionedUpdate, Choose}
 use Rattle.word_code.specs.array_versions.declared.program.WordTest.{WordTest}
 use Rattle.word_code.specs.array_versions.declared.program.WordTest.TheVariants.{Holds, Compares, Both, Either}
-use Rattle.msp_isa.specs.declared.operands.Dst.{Dst}
-use Rattle.msp_isa.specs.declared.operands.Src.{Src}
+use Rattle.word_code.specs.msp_isa.declared.operands.Dst.{Dst}
+use Rattle.word_code.specs.msp_isa.declared.operands.Src.{Src}
 use Rattle.std.specs.Result.{OnOk}
 use Rattle.std.specs.declared.alloc.Global.{Global}
 use Rattle.std.specs.declared.boxed.Box.{Box}

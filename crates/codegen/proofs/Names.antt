@@ -6,11 +6,11 @@ pub use Rattle.std.proofs.Common.{Option, lt-ltb, le-ltb}
 pub use Rattle.std.proofs.lemmas.Result.{on_ok_weaker}
 pub use Rattle.std.specs.List.{remove, slice_index_or}
 -- words and instructions
-pub use Rattle.msp_isa.specs.alp_words.Words.{word_sum}
-pub use Rattle.msp_isa.specs.alp_words.declared.Width.TheVariants.{Word}
-pub use Rattle.msp_isa.specs.declared.instructions.Instr.{Instr}
-pub use Rattle.msp_isa.specs.declared.instructions.Instr.TheVariants.{Two, One}
-pub use Rattle.msp_isa.specs.declared.instructions.TwoOp.{TwoOp}
+pub use Rattle.word_code.specs.msp_isa.alp_words.Words.{word_sum}
+pub use Rattle.word_code.specs.msp_isa.alp_words.declared.Width.TheVariants.{Word}
+pub use Rattle.word_code.specs.msp_isa.declared.instructions.Instr.{Instr}
+pub use Rattle.word_code.specs.msp_isa.declared.instructions.Instr.TheVariants.{Two, One}
+pub use Rattle.word_code.specs.msp_isa.declared.instructions.TwoOp.{TwoOp}
 -- forms of instructions
 pub use Rattle.word_code.proofs.code_forms.Interface.{forms_bytes-append, instructions-append}
 pub use Rattle.word_code.specs.code_forms.Code.{forms_bytes}

@@ -5,7 +5,7 @@ ghost use Rattle.word_code.specs.code_forms.Placed.{instructions};
 ghost use Rattle.word_code.specs.Code.{check_code, zero_code, bound_of, is_bounded, is_inside};
 
 use crate::forms::{TO_R4, constant, jump, number_source, two};
-use msp_isa::{Condition, Instr, Konst, TwoOp};
+use code_forms::{Condition, Instr, Konst, TwoOp};
 use std::alloc::{AllocError, Global};
 use word_code::{Bound, Waiting};
 

@@ -3,7 +3,7 @@
 ghost use Rattle.std.specs.Prelude.{◌≡◌, [], ◌∷◌, ◌++◌, ◌+◌, ◌<◌, OnOk, length};
 ghost use Rattle.word_code.specs.code_forms.Forms as form;
 ghost use Rattle.word_code.specs.code_forms.Placed.{instructions, words_of as instruction_words};
-ghost use Rattle.msp_isa.specs.declared.instructions.Condition.TheVariants as conditions;
+ghost use Rattle.word_code.specs.msp_isa.declared.instructions.Condition.TheVariants as conditions;
 ghost use Rattle.word_code.specs.array_versions.Form.{ArrayOfWords, ListOfWords};
 ghost use Rattle.word_code.specs.array_versions.Program as value;
 ghost use Rattle.word_code.specs.Code.{flushed, top_of, below_top, four_from, top_number, rest_source, to_rest, made_code, attempt_form};
@@ -17,7 +17,7 @@ use crate::versioned::{at_r4, emit_first};
 use crate::waiting::{
     emit_all, emit_to_four, emit_to_rest, rest_source, take, top_number, under_top,
 };
-use msp_isa::{Condition, Dst, IndexRegister, Instr, Src, TwoOp};
+use code_forms::{Condition, Dst, IndexRegister, Instr, Src, TwoOp};
 use std::alloc::{AllocError, Global};
 use word_code::{ArrayPlace, Bound, ListPlace, PlainOperation, Waiting};
 

@@ -26,7 +26,7 @@ use crate::waiting::{
     emit_all, emit_cleared, emit_to_four, emit_to_rest, emit_top_to_four, rest_source, rests,
     source_from, take, top, under_top, wait, waiting_source,
 };
-use msp_isa::{IndexRegister, Instr, Konst, OneOp, Operand, SourceRegister, Src, TwoOp, Width};
+use code_forms::{IndexRegister, Instr, Konst, OneOp, Operand, SourceRegister, Src, TwoOp, Width};
 use std::alloc::AllocError;
 use word_code::{LongOperation, PlainOperation, ShiftOperation, Waiting};
 

@@ -14,7 +14,7 @@ use crate::shifts::emit_shift;
 use crate::waiting::{
     emit_sides, emit_top_to_five, emit_two_to_registers, mask_top, take, top_power, wait,
 };
-use msp_isa::{
+use code_forms::{
     Condition, IndexRegister, Instr, Konst, OneOp, Operand, SourceRegister, Src, TwoOp, Width,
 };
 use std::alloc::AllocError;

@@ -22,7 +22,7 @@ use crate::steps::{
 };
 use crate::versioned::{emit_versioned_read, emit_versioned_write};
 use crate::waiting::{emit_all, emit_flushed, wait};
-use msp_isa::{Condition, Instr, Konst};
+use code_forms::{Condition, Instr, Konst};
 use std::alloc::{AllocError, Global};
 use word_code::{Bound, Waiting, WordProgram, WordStep, WordTest};
 

@@ -2,8 +2,8 @@
 
 ghost use Rattle.std.specs.Prelude.{◌≡◌, [], ◌∷◌, ◌++◌, ◌<◌, OnOk};
 ghost use Rattle.word_code.specs.code_forms.Forms as form;
-ghost use Rattle.msp_isa.specs.alp_words.declared.Width.TheVariants.{Word};
-ghost use Rattle.msp_isa.specs.declared.instructions.TwoOp.TheVariants as two_op;
+ghost use Rattle.word_code.specs.msp_isa.alp_words.declared.Width.TheVariants.{Word};
+ghost use Rattle.word_code.specs.msp_isa.declared.instructions.TwoOp.TheVariants as two_op;
 ghost use Rattle.word_code.specs.code_forms.Placed.{instructions};
 ghost use Rattle.word_code.specs.array_versions.Program as value;
 ghost use Rattle.word_code.specs.Code.{known_element, fetch_code, element_code, emit_code, words_source, entry_code, number_code, plain_instruction};
@@ -21,7 +21,7 @@ use crate::waiting::{
     emit_all, emit_below, emit_cleared, emit_spared, emit_top_to_five, emit_top_to_four,
     source_from, take, top, top_number, wait,
 };
-use msp_isa::{Condition, Dst, IndexRegister, Instr, Konst, Operand, Reg, Src, TwoOp};
+use code_forms::{Condition, Dst, IndexRegister, Instr, Konst, Operand, Reg, Src, TwoOp};
 use std::alloc::AllocError;
 use word_code::{Bound, PlainOperation, Waiting};
 

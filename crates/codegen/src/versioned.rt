@@ -1,12 +1,12 @@
 //! The code of versioned accesses.
 
 ghost use Rattle.std.specs.Prelude.{◌≡◌, [], ◌++◌, ◌<◌, OnOk};
-ghost use Rattle.msp_isa.specs.declared.operands.Src.TheVariants as Srcs;
-ghost use Rattle.msp_isa.specs.declared.operands.Operand.TheVariants as Operands;
-ghost use Rattle.msp_isa.specs.declared.registers.IndexRegister.TheVariants as index;
+ghost use Rattle.word_code.specs.msp_isa.declared.operands.Src.TheVariants as Srcs;
+ghost use Rattle.word_code.specs.msp_isa.declared.operands.Operand.TheVariants as Operands;
+ghost use Rattle.word_code.specs.msp_isa.declared.registers.IndexRegister.TheVariants as index;
 ghost use Rattle.word_code.specs.array_versions.Form.{ArrayOfWords, ListOfWords};
 ghost use Rattle.word_code.specs.code_forms.Placed.{instructions};
-ghost use Rattle.msp_isa.specs.alp_words.Words.{word_sum};
+ghost use Rattle.word_code.specs.msp_isa.alp_words.Words.{word_sum};
 ghost use Rattle.word_code.specs.code_forms.Forms as form;
 ghost use Rattle.word_code.specs.Code.{own_code, read_code, mark_code, last_code, end_test, longer_code, next_code, word_code, first_code, copy_code};
 ghost use Rattle.word_code.specs.Code.{stored_code, write_code};
@@ -16,7 +16,7 @@ ghost use Rattle.word_code.specs.array_versions.Program as value;
 use crate::bounds::{emit_check, emit_zero, is_inside};
 use crate::forms::{R4, R5, R6, R7, TO_R4, TO_R5, TO_R6, TO_R7, absolute, constant, jump, two};
 use crate::waiting::{emit_all, emit_top_to_four, emit_two_to_registers, top, under_top, wait};
-use msp_isa::{Condition, Dst, IndexRegister, Instr, Konst, Operand, Src, TwoOp};
+use code_forms::{Condition, Dst, IndexRegister, Instr, Konst, Operand, Src, TwoOp};
 use std::alloc::AllocError;
 use word_code::{ArrayPlace, Bound, ListPlace, Waiting};
 

@@ -12,7 +12,7 @@ ghost use Rattle.word_code.specs.Code.{two_to_registers, stays, right_source, si
 use crate::forms::{
     POPPED, R4, R5, R6, TO_R4, TO_R5, absolute, local_register, number_source, push, two,
 };
-use msp_isa::{Instr, Operand, SourceRegister, Src, TwoOp};
+use code_forms::{Instr, Operand, SourceRegister, Src, TwoOp};
 use std::alloc::AllocError;
 use word_code::Waiting;
 

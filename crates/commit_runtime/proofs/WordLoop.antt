@@ -4,9 +4,9 @@ use Rattle.std.proofs.Common.{refl, sym, ap, ◌∙◌, subst, arith}
 use Rattle.std.specs.List.{All}
 use Rattle.std.proofs.lemmas.Bool.Decides.{nat_tests}
 use Rattle.std.proofs.lemmas.List.Elements.{All-head, All-tail, All-same}
-use Rattle.msp_isa.specs.declared.instructions.TwoOp.TheVariants.{Add, Sub}
-use Rattle.msp_isa.specs.declared.operands.Konst.TheVariants.{One, Two}
-use Rattle.msp_isa.specs.declared.instructions.Condition.TheVariants.{Carry}
+use Rattle.runtime_code.specs.msp_isa.declared.instructions.TwoOp.TheVariants.{Add, Sub}
+use Rattle.runtime_code.specs.msp_isa.declared.operands.Konst.TheVariants.{One, Two}
+use Rattle.runtime_code.specs.msp_isa.declared.instructions.Condition.TheVariants.{Carry}
 use Rattle.runtime_code.specs.msp_step.Effect.{sum16, distance}
 use Rattle.runtime_code.specs.fram_board.Effects.{Effect, Store}
 use Rattle.runtime_code.specs.machine_effects.World.{put, fram_after}

@@ -2,9 +2,9 @@
 use Rattle.std.proofs.Common.{◌≡◌, ℕ, suc, ◌+◌, ◌%◌, ◌<◌, ◌≤◌, ◌==◌, [], ◌∷◌, List, Some, refl, ap, ◌∙◌, subst, arith, Bool, true, false, not}
 use Rattle.std.proofs.Common.{if◌then◌else◌, zero}
 use Rattle.std.proofs.lemmas.Bool.Decides.{nat_tests}
-use Rattle.msp_isa.specs.declared.instructions.TwoOp.TheVariants.{Sub, Cmp}
-use Rattle.msp_isa.specs.declared.operands.Konst.TheVariants.{Zero, One}
-use Rattle.msp_isa.specs.declared.instructions.Condition.TheVariants.{Equal, NotEqual, Always}
+use Rattle.code_forms.specs.msp_isa.declared.instructions.TwoOp.TheVariants.{Sub, Cmp}
+use Rattle.code_forms.specs.msp_isa.declared.operands.Konst.TheVariants.{Zero, One}
+use Rattle.code_forms.specs.msp_isa.declared.instructions.Condition.TheVariants.{Equal, NotEqual, Always}
 use Rattle.runtime_effects.specs.msp_step.Effect.{sum16, distance}
 use Rattle.runtime_effects.specs.machine_effects.World.{put}
 use Rattle.runtime_effects.specs.machine_effects.Going.{Goes}

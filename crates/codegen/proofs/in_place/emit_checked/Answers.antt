@@ -1,7 +1,7 @@
 use Rattle.codegen.proofs.Names.{◌++◌, ◌∷◌, [], refl, ap, ◌∙◌, arith, R4, Number, Calculate, Jump, instruction_of, instructions, size, rest_source}
 use Rattle.codegen.proofs.Names.{inside_update}
-use Rattle.msp_isa.specs.declared.instructions.Condition.TheVariants as condition
-use Rattle.msp_isa.specs.declared.instructions.TwoOp.TheVariants as op
+use Rattle.word_code.specs.msp_isa.declared.instructions.Condition.TheVariants as condition
+use Rattle.word_code.specs.msp_isa.declared.instructions.TwoOp.TheVariants as op
 use Rattle.word_code.proofs.Interface.{reads_bytes, inside_bytes}
 use Rattle.codegen.proofs.UpdateEmitted.{few_words}
 use Rattle.codegen.proofs.Emitted.{cons, own_behind, own_words, on_ok_items}

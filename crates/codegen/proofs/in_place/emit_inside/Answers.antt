@@ -1,6 +1,6 @@
 use Rattle.codegen.proofs.Names.{◌++◌, ◌∷◌, [], refl, ap, ◌∙◌, R4, R6, Indexed, Calculate, instructions, double, rest_source, made_code, attempt_form}
 use Rattle.codegen.proofs.Names.{first_update, by_version}
-use Rattle.msp_isa.specs.declared.instructions.TwoOp.TheVariants as op
+use Rattle.word_code.specs.msp_isa.declared.instructions.TwoOp.TheVariants as op
 use Rattle.codegen.proofs.UpdateEmitted.{two_ways}
 use Rattle.codegen.proofs.Emitted.{cons, from_source, own_behind}
 use Rattle.codegen.proofs.in_place.emit_inside.Goals as goal

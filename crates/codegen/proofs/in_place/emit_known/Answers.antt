@@ -1,7 +1,7 @@
 use Rattle.codegen.proofs.Names.{◌++◌, ◌∷◌, [], refl, ap, ap₂, ◌∙◌, word_sum, Word, Two, R4, R6, Number, Fram, ToRegister, Move, Calculate, Update}
 use Rattle.codegen.proofs.Names.{instructions, plain_instruction, rest_source, attempt_form, first_update, by_version}
-use Rattle.msp_isa.specs.declared.instructions.TwoOp.TheVariants as op
-use Rattle.msp_isa.specs.declared.operands.Dst.TheVariants as dst
+use Rattle.word_code.specs.msp_isa.declared.instructions.TwoOp.TheVariants as op
+use Rattle.word_code.specs.msp_isa.declared.operands.Dst.TheVariants as dst
 use Rattle.codegen.proofs.UpdateEmitted.{two_ways}
 use Rattle.codegen.proofs.Emitted.{cons, from_source, own_behind}
 use Rattle.codegen.proofs.in_place.emit_known.Goals as goal

@@ -1,6 +1,6 @@
 use Rattle.codegen.proofs.Names.{◌++◌, refl, ap, ap₂, ◌∙◌, on_ok_weaker, Word, Two, R7, index_of}
-use Rattle.msp_isa.specs.declared.operands.Dst.TheVariants as dst
-use Rattle.msp_isa.specs.declared.registers.Reg.TheVariants as reg
+use Rattle.word_code.specs.msp_isa.declared.operands.Dst.TheVariants as dst
+use Rattle.word_code.specs.msp_isa.declared.registers.Reg.TheVariants as reg
 use Rattle.codegen.proofs.Emitted.{cons, from_source, on_ok_items}
 use Rattle.codegen.proofs.in_place.emit_made.Goals as goal
 

@@ -3,7 +3,7 @@ use Rattle.codegen.proofs.Names.{le-ltb, List, append-nil, Form, instructions, W
 use Rattle.codegen.proofs.Names.{TestLocalsBelow, LocalsBelow, OfWords, words_of, step_words, test_words, flushed, holds_code, compares_code, truth_code, size}
 use Rattle.codegen.proofs.Names.{pass_over, jump_back, number_code, turn_end, turns_code, waiting_after, step_code, test_code, steps_code, bound_of, block_code}
 use Rattle.word_code.specs.array_versions.declared.program.WordStep as word_step
-use Rattle.msp_isa.specs.declared.instructions.Condition.TheVariants as condition
+use Rattle.word_code.specs.msp_isa.declared.instructions.Condition.TheVariants as condition
 use Rattle.codegen.proofs.Emitted.{made_next, test_items, step_of-choose, step_of-read, step_of-write, step_of-update, test_of-holds, test_of-compares}
 use Rattle.codegen.proofs.Emitted.{test_of-both, test_of-either, part_behind, two_behind, own_behind, on_ok_items, words_at_most, own_words, step_owed}
 use Rattle.codegen.proofs.Emitted.{left_front}
