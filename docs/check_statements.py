@@ -30,7 +30,7 @@ TWO_NOTIONS = {
     ('is_word',): 'the words of the FRAM board, and those of the board of tests, each by its own memory',
 }
 # Definitions that are to be made one.
-STILL_TWICE = [('texts',), ('HoldsWords',), ('AreWords',), ('MachineStretch', 'MachineStretchOf'), ('swapped', 'swap')]
+STILL_TWICE = [('HoldsWords',), ('AreWords',), ('MachineStretch', 'MachineStretchOf'), ('swapped', 'swap')]
 OTHER = ('use', 'mod', 'module', 'mutual', 'record', 'data', 'open', 'ruleset', 'syntax', 'infixl', 'infixr', 'infix', '--')
 
 
