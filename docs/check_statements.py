@@ -29,8 +29,6 @@ TWO_NOTIONS = {
     ('is_true', 'holds'): 'the word on top of a stack, and the value of an expression, which may be a long',
     ('is_word',): 'the words of the FRAM board, and those of the board of tests, each by its own memory',
 }
-# Definitions that are to be made one.
-STILL_TWICE = [('HoldsWords',), ('AreWords',), ('MachineStretch', 'MachineStretchOf'), ('swapped', 'swap')]
 OTHER = ('use', 'mod', 'module', 'mutual', 'record', 'data', 'open', 'ruleset', 'syntax', 'infixl', 'infixr', 'infix', '--')
 
 
@@ -176,7 +174,7 @@ def same_definitions(texts):
         aliases = set(ALIAS.findall(text))
         for name, lines in definitions(re.sub(r'(?m)(?:^|(?<=\s))--.*$', '', text)):
             found[body(name, lines, aliases, known)].add((path.split('/')[1], path, name))
-    apart = [set(names) for names in [*TWO_NOTIONS, *STILL_TWICE]]
+    apart = [set(names) for names in TWO_NOTIONS]
     return [(s, places) for s, places in in_two_crates(found) if {name for _, _, name in places} not in apart]
 
 
