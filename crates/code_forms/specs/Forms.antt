@@ -28,7 +28,7 @@ use Rattle.machine_effects.specs.msp_step.declared.effect.Modification.TheVarian
 use Rattle.machine_effects.specs.msp_step.declared.machine.Stop.{Stop}
 use Rattle.machine_effects.specs.msp_step.declared.machine.Stop.TheVariants as stop
 use Rattle.machine_effects.specs.msp_step.Registers.{Registers}
-use Rattle.machine_effects.specs.msp_step.Effect.{status_with, operated, Operated, modification_of, writes_destination, sum16, distance, is_met}
+use Rattle.machine_effects.specs.msp_step.Effect.{status_with, operated, Operated, modification_of, writes_destination, word_sum, distance, is_met}
 use Rattle.machine_effects.specs.fram_board.Bus.{sensor_port, number_port, data_port}
 use Rattle.machine_effects.specs.fram_board.Effects.{Store, Take, Send}
 use Rattle.machine_effects.specs.World.{put}
@@ -343,7 +343,7 @@ form_step (Modify m b) u =
     Goes [] 1 (record u { pc = u.pc + 2; flags = flags_after o.flags u.flags; work = put u.work (work_number b) o.value })
 form_step (SetStack n) u = Goes [] 2 (record u { pc = u.pc + 4; sp = n })
 form_step (Sense b) u = sensed u.readings_left b u
-form_step (Jump c offset) u = Goes [] 2 (record u { pc = if is_met c u.flags then sum16 (u.pc + 2) (distance offset) else u.pc + 2 })
+form_step (Jump c offset) u = Goes [] 2 (record u { pc = if is_met c u.flags then word_sum (u.pc + 2) (distance offset) else u.pc + 2 })
 form_step (Skip n) u =
     let o = operated Add Word (u.pc + 4) n u.flags in
     Goes [] 3 (record u { pc = o.value; flags = flags_after o.flags u.flags })

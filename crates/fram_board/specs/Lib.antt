@@ -4,6 +4,7 @@ pub mod Saved
 pub mod Steps
 pub mod Effects
 pub mod Run
+pub mod Gate
 pub mod Laws
 pub use Rattle.state_text.specs.image_text.alp_text as alp_text
 pub use Rattle.state_text.specs.image_text.text_parts as text_parts

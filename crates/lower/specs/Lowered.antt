@@ -16,6 +16,7 @@ use Rattle.task_ast.specs.declared.names.Variable.{Variable}
 use Rattle.task_ast.specs.declared.names.Variable.TheVariants.{Shared, Local}
 use Rattle.task_ast.specs.declared.names.VariableName.{VariableName}
 use Rattle.task_ast.specs.declared.names.TaskName.{TaskName}
+use Rattle.path_sums.specs.Access.{is_same}
 use Rattle.source_values.specs.Values.{by_width, joined_type, type_of}
 use Rattle.source_values.specs.Runs.{CheckedProgram}
 use Rattle.array_versions.specs.declared.operations.UnaryOperation.TheVariants.{Negate, Complement}
@@ -263,12 +264,6 @@ setting p x e = behind (lowered_expression p e) (write_step p x)
 -- sets a long to an expression's value
 abbrev pub long_setting : Places → Variable → CheckedExpression → Program
 long_setting p x e = joined (lowered_long p e) (write_long p x)
-
--- whether two variables are one
-abbrev pub is_same : Variable → Variable → Bool
-is_same (Shared v) (Shared w) = v == w
-is_same (Local m) (Local n) = m == n
-is_same _ _ = false
 
 -- whether an expression is a variable alone
 abbrev pub is_name : Variable → CheckedExpression → Bool

@@ -9,6 +9,7 @@ use Rattle.std.proofs.lemmas.Bool.{leb-true}
 use Rattle.std.proofs.Math.Nat.{div-div-eq-div-mul}
 use Rattle.std.proofs.lemmas.Nat.{and_shr, and_mod, or_shr, or_mod, xor_shr, xor_mod}
 use Rattle.array_versions.specs.declared.operations.PlainOperation.TheVariants.{Xor, Or}
+pub use Rattle.array_versions.specs.alp_words.Words.{swapped as swap}
 use Rattle.array_versions.specs.Operations.{two_words, plain_long, sign_word, all_bits}
 use Rattle.word_code.specs.Code.{high_instruction}
 
@@ -250,10 +251,6 @@ half_high n = omega arith
 -- its top bit is 0
 pub top_is_zero : (n : ℕ) → n < 0x80000000 → nat_le 0x8000 (n / 0x10000) ≡ false
 top_is_zero n h = not_at_most 0x8000 (n / 0x10000) (omega arith)
-
--- a word with its bytes exchanged
-abbrev pub swap : ℕ → ℕ
-swap v = v % 0x100 * 0x100 + v / 0x100
 
 -- eight places to the left
 pub up_low : (n : ℕ) → (n % 0x10000 * 256) % 0x10000 ≡ (n * 256) % 0x100000000 % 0x10000

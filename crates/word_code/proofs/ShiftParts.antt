@@ -8,6 +8,7 @@ use Rattle.word_code.proofs.Names.{Stands, forms_bytes, Runs, stands_front, stan
 use Rattle.word_code.proofs.Names.{WordState, repeated, right_code, shift_by, last_bit, shift_code, shift_middle}
 use Rattle.std.proofs.Math.Nat.{div-div-eq-div-mul}
 use Rattle.std.proofs.lemmas.Grind.{and_high_numeral}
+use Rattle.array_versions.specs.alp_words.Words.{swapped as swap}
 use Rattle.array_versions.specs.msp_step.msp_isa.declared.instructions.TwoOp.TheVariants as op
 use Rattle.array_versions.specs.msp_step.msp_isa.declared.operands.Konst.TheVariants as konst
 use Rattle.array_versions.specs.msp_step.declared.effect.Modification.TheVariants as change
@@ -75,9 +76,6 @@ halved_signed k y h = signed_by (nat_le 0x8000 y) k y h refl
 
 power_add : (j : ℕ) → 2 ^ (8 + j) ≡ 256 * 2 ^ j
 power_add j = pow-add 2 8 j
-
-abbrev swap : ℕ → ℕ
-swap v = v % 0x100 * 0x100 + v / 0x100
 
 pub high_byte : (v : ℕ) → v < 0x10000 → bit_and (swap v) 0xFF00 ≡ (v * 256) % 0x10000
 high_byte v h =
