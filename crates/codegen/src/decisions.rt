@@ -64,7 +64,7 @@ fn failing(comparison: Comparison) -> Condition
     }
 }
 
-/// The words of code, of fewer than 8000.
+/// The words of code, of fewer than 0x8000.
 pub fn code_words(code: &[Instr]) -> u16
     requires { length (instruction_words code.now) ≤ 0x7FFF }
     ensures { result ≡ length (instruction_words code.now) }
