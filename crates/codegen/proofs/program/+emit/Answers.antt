@@ -265,7 +265,7 @@ emit_loop-code_words-over-requires t c =
     let block = made_next (λ ws. block_code ws body) _ _ [] [] _ _ c.in_ok-emit_block.ensures.code (c.deref.ensures.value ∙ c.in_ok-inner.ensures)
     c.new-turn.ensures.items in
     let turn = made_next (turn_end c.args.own.local) _ c.args.own.below made [] _ _ c.in_ok-emit_turn_end.ensures refl block in
-    let words = own_words c.deref-then-from-below-2.result.now (made ++ end) (c.deref-then-from-below-2.ensures.value ∙ turn) in
+    let words = own_words c.deref-then-from-own-2.result.now (made ++ end) (c.deref-then-from-own-2.ensures.value ∙ turn) in
     omega (arith, words, forms_bytes-append made end, (inner_takes inner body).bytes, (turn_end_takes c.args.own.local c.args.own.below).bytes, c.requires.room)
 
 pub emit_loop-emit_jump_back-requires : goal.emit_loop-emit_jump_back-requires
@@ -277,13 +277,13 @@ emit_loop-emit_jump_back-requires t c =
     let block = made_next (λ ws. block_code ws body) _ _ [] [] _ _ c.in_ok-emit_block.ensures.code (c.deref.ensures.value ∙ c.in_ok-inner.ensures)
     c.new-turn.ensures.items in
     let turn = made_next (turn_end c.args.own.local) _ c.args.own.below made [] _ _ c.in_ok-emit_turn_end.ensures refl block in
-    let words = own_words c.deref-then-from-below-2.result.now (made ++ end) (c.deref-then-from-below-2.ensures.value ∙ turn) in
+    let words = own_words c.deref-then-from-own-2.result.now (made ++ end) (c.deref-then-from-own-2.ensures.value ∙ turn) in
     let short = inner_takes inner body in
     let last = turn_end_takes c.args.own.local c.args.own.below in
     omega (arith, words, forms_bytes-append made end, short.bytes, last.bytes, c.requires.room, c.code_words-over.ensures)
 
-pub emit_loop-returns-then-from-below-clause-code : goal.emit_loop-returns-then-from-below-clause-code
-emit_loop-returns-then-from-below-clause-code t c =
+pub emit_loop-returns-then-from-own-clause-code : goal.emit_loop-returns-then-from-own-clause-code
+emit_loop-returns-then-from-own-clause-code t c =
     let inner = c.args.own ∷ c.args.bounds.now in
     let old = c.args.code.now.items in
     let below = c.args.own.below in
@@ -295,14 +295,14 @@ emit_loop-returns-then-from-below-clause-code t c =
     let block = made_next (λ ws. block_code ws (steps_of c.args.body.now)) _ _ [] [] _ _ c.in_ok-emit_block.ensures.code
     (c.deref.ensures.value ∙ c.in_ok-inner.ensures) c.new-turn.ensures.items in
     let own = made_next (turn_end c.args.own.local) _ below made [] _ _ c.in_ok-emit_turn_end.ensures refl block in
-    let words = own_words c.deref-then-from-below-2.result.now turn (c.deref-then-from-below-2.ensures.value ∙ own) in
-    let first = c.in_ok-extend_from_slice.ensures.items ∙ ap (λ l. c.emit_number.new.code.items ++ l) (c.deref-then-from-below.ensures.value ∙ own)
+    let words = own_words c.deref-then-from-own-2.result.now turn (c.deref-then-from-own-2.ensures.value ∙ own) in
+    let first = c.in_ok-extend_from_slice.ensures.items ∙ ap (λ l. c.emit_number.new.code.items ++ l) (c.deref-then-from-own.ensures.value ∙ own)
     ∙ ap (λ l. l ++ instructions turn) c.in_ok-emit_number.ensures ∙ two_behind c.emit_all.new.code.items start turn
     ∙ ap (λ l. l ++ instructions (start ++ turn)) c.in_ok-emit_all.ensures.code ∙ two_behind old pushes (start ++ turn) in
     part_behind c.emit_jump_back.result old c.extend_from_slice.new.self.items c.emit_jump_back.new.code.items (pushes ++ (start ++ turn))
     (back c.code_words-over.result) (back (size turn)) _ first (ap back (c.code_words-over.ensures ∙ words))
     (append_assoc pushes (start ++ turn) (back (size turn)) ∙ ap (λ l. pushes ++ l) (append_assoc start turn (back (size turn)))
-    ∙ ap (λ b. pushes ++ (start ++ (if b then turns_code c.args.own.local below made else []))) (sym (lt-ltb c.args.from below c.if-from-below.true)))
+    ∙ ap (λ b. pushes ++ (start ++ (if b then turns_code c.args.own.local below made else []))) (sym (lt-ltb c.args.from below c.if-from-own.true)))
     c.emit_jump_back.ensures
 
 pub emit_step-code_words-requires : goal.emit_step-code_words-requires
@@ -413,4 +413,4 @@ emit_loop-returns-clause-code t c =
     let turns = turns_code c.args.own.local c.args.own.below (block_code inner (steps_of c.args.body.now)) in
     c.in_ok-emit_number.ensures ∙ ap (λ l. l ++ instructions start) c.in_ok-emit_all.ensures.code ∙ two_behind old pushes start
     ∙ ap (λ l. old ++ instructions (pushes ++ l)) (sym (append-nil start))
-    ∙ ap (λ b. old ++ instructions (pushes ++ (start ++ (if b then turns else [])))) (sym (le-ltb c.args.from c.args.own.below c.if-from-below.false))
+    ∙ ap (λ b. old ++ instructions (pushes ++ (start ++ (if b then turns else [])))) (sym (le-ltb c.args.from c.args.own.below c.if-from-own.false))
