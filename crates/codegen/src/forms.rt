@@ -1,6 +1,6 @@
 //! The instructions that the code is made of.
 
-ghost use Rattle.std.specs.Prelude.{◌≡◌, ℕ, ◌+◌, ◌*◌, ◌<◌};
+ghost use Rattle.std.specs.Prelude.{◌≡◌, ◌+◌, ◌*◌, ◌<◌};
 ghost use Rattle.msp_isa.specs.alp_words.declared.Width.TheVariants.{Word};
 ghost use Rattle.msp_isa.specs.declared.instructions.OneOp.TheVariants as OneOps;
 ghost use Rattle.msp_isa.specs.declared.operands.Src.TheVariants as Srcs;
@@ -21,6 +21,7 @@ pub const R5: Src = Src::Operand(Operand::Reg(SourceRegister::Index(IndexRegiste
 pub const R6: Src = Src::Operand(Operand::Reg(SourceRegister::Index(IndexRegister::R6)));
 
 pub const R7: Src = Src::Operand(Operand::Reg(SourceRegister::Index(IndexRegister::R7)));
+
 /// The word at SP, which goes up.
 pub const POPPED: Src = Src::Operand(Operand::Increment(IndexRegister::Sp));
 
@@ -31,6 +32,13 @@ pub const TO_R5: Dst = Dst::Reg(Reg::Index(IndexRegister::R5));
 pub const TO_R6: Dst = Dst::Reg(Reg::Index(IndexRegister::R6));
 
 pub const TO_R7: Dst = Dst::Reg(Reg::Index(IndexRegister::R7));
+
+/// What an instruction of one operand works on.
+pub const IN_R4: Operand = Operand::Reg(SourceRegister::Index(IndexRegister::R4));
+
+pub const IN_R5: Operand = Operand::Reg(SourceRegister::Index(IndexRegister::R5));
+
+pub const IN_R6: Operand = Operand::Reg(SourceRegister::Index(IndexRegister::R6));
 
 /// An operation of two operands on words.
 pub fn two(op: TwoOp, src: Src, dst: Dst) -> Instr
@@ -127,18 +135,6 @@ pub fn local_address(n: u16) -> u16
     ensures { result ≡ place.local_address n }
 {
     0x1c20 + 2 * n
-}
-
-/// A local as a source.
-pub fn local_source(n: u16) -> Src
-    requires { n < 1008 }
-    ensures { result ≡ source_operand (place.local_source n) }
-{
-    if n < 8 {
-        Src::Operand(Operand::Reg(SourceRegister::Index(local_register(n))))
-    } else {
-        absolute(local_address(n))
-    }
 }
 
 /// A local as what MOV writes.

@@ -25,12 +25,9 @@ use Rattle.array_versions.specs.declared.operations.PlainOperation.TheVariants.{
 use Rattle.array_versions.specs.declared.operations.BinaryOperation.TheVariants.{Plain}
 use Rattle.array_versions.specs.declared.operations.Comparison.TheVariants.{CommonBit}
 use Rattle.array_versions.specs.declared.operations.LongOperation.TheVariants as with_longs
-use Rattle.array_versions.specs.Program.{Step, Test, Program, number, load, keep, update, local, set_local, update_local, unary, binary, shift, element}
-use Rattle.array_versions.specs.Program.{long, emit_word}
-use Rattle.array_versions.specs.Program.{list_entry, sense}
-use Rattle.array_versions.specs.Program.{truth, choose, repeat, versioned_read, versioned_write, versioned_update, store_number, move_word, jump, holds}
-use Rattle.array_versions.specs.Program.{compares, both, either}
-use Rattle.array_versions.specs.Program.{fails, nothing, step, joined, behind}
+use Rattle.array_versions.specs.Program.{Step, Test, Program, number, load, keep, update, local, set_local, update_local, unary, binary, shift, element, long}
+use Rattle.array_versions.specs.Program.{emit_word, list_entry, sense, truth, choose, repeat, versioned_read, versioned_write, versioned_update, store_number}
+use Rattle.array_versions.specs.Program.{move_word, jump, holds, compares, both, either, fails, nothing, step, joined, behind}
 use Rattle.array_versions.specs.declared.program.ArrayPlace.{ArrayPlace}
 use Rattle.array_versions.specs.declared.program.ListPlace.{ListPlace}
 use Rattle.memory_map.specs.declared.words.RuntimeWord.TheVariants.{NextTask, Gate, ListLength, EmitCount, Base, SentBase, Version}

@@ -1,8 +1,7 @@
 -- Arithmetic of longs by their words: what the low words carry goes into the high ones.
-use Rattle.word_code.proofs.Names.{◌≡◌, ℕ, zero, suc, ◌+◌, ◌-◌, ◌*◌, ◌/◌, ◌%◌, ◌^◌, ◌<◌, ◌≤◌, ◌==◌, Bool, true, false, not, nat_le, nat_lt, if◌then◌else◌}
-use Rattle.word_code.proofs.Names.{refl, sym, ap, ap₂, ◌∙◌, arith, le-leb, ltb-true, eqb-true, bit, bit_and, nat_tests, and_le_r, mul-mod_first, pow-add, Flags}
-use Rattle.word_code.proofs.Names.{Word, and_mask}
-use Rattle.word_code.proofs.Names.{operated, flags_after, PlainOperation, Add, Subtract, And, plain_instruction}
+use Rattle.word_code.proofs.Names.{◌≡◌, ℕ, zero, suc, ◌+◌, ◌-◌, ◌*◌, ◌/◌, ◌%◌, ◌^◌, ◌<◌, ◌≤◌, ◌==◌, Bool, true, false, not, nat_le, nat_lt, if◌then◌else◌, refl}
+use Rattle.word_code.proofs.Names.{sym, ap, ap₂, ◌∙◌, arith, le-leb, ltb-true, eqb-true, bit, bit_and, nat_tests, and_le_r, mul-mod_first, pow-add, Flags, Word}
+use Rattle.word_code.proofs.Names.{and_mask, operated, flags_after, PlainOperation, Add, Subtract, And, plain_instruction}
 use Rattle.std.specs.Prelude.{bit_or, bit_xor}
 use Rattle.std.specs.Int.Bits.{xor_add_and}
 use Rattle.std.proofs.lemmas.Bool.{leb-true}
@@ -36,9 +35,6 @@ pub record AreSmall (a : Pair) : Type 0 where
 
 pub worth_small : (a : Pair) → AreSmall a → worth a < 0x100000000
 worth_small a s = omega (arith, s.low, s.high)
-
-pub pair_small : (n : ℕ) → n < 0x100000000 → AreSmall (pair_of n)
-pair_small n h = record { low = omega arith; high = omega arith }
 
 pub low_of : (a : Pair) → AreSmall a → worth a % 0x10000 ≡ a.low
 low_of a s = let l = s.low in omega arith

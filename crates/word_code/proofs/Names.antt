@@ -14,8 +14,7 @@ pub use Rattle.std.specs.Option.{unwrap_or}
 -- words and instructions
 pub use Rattle.array_versions.specs.msp_step.msp_isa.Constant.{constant_value}
 pub use Rattle.array_versions.specs.msp_step.msp_isa.alp_words.Words.{word_sum, and_of, bit, quotient, remainder, sum_of, word_product, arithmetic_shift}
-pub use Rattle.array_versions.specs.msp_step.msp_isa.alp_words.Words.{biased, same, is_negative}
-pub use Rattle.array_versions.specs.msp_step.msp_isa.alp_words.Words.{difference_of}
+pub use Rattle.array_versions.specs.msp_step.msp_isa.alp_words.Words.{biased, same, is_negative, difference_of}
 pub use Rattle.array_versions.specs.msp_step.msp_isa.alp_words.declared.Flags.{Flags}
 pub use Rattle.array_versions.specs.msp_step.msp_isa.alp_words.declared.Width.TheVariants.{Word}
 pub use Rattle.array_versions.specs.msp_step.msp_isa.declared.instructions.Condition.{Condition}

@@ -1,11 +1,9 @@
 -- Shifts by a count.
 use Rattle.word_code.proofs.Names.{◌≡◌, ℕ, zero, suc, ◌+◌, ◌-◌, ◌*◌, ◌/◌, ◌%◌, ◌^◌, ◌<◌, ◌≤◌, ◌==◌, not, List, [], ◌∷◌, ◌++◌, Some, refl, sym, ap, ◌∙◌, subst}
 use Rattle.word_code.proofs.Names.{arith, Bool, true, false, nat_lt, nat_le, ltb-true, if◌then◌else◌, bit_and, bit_xor, eqb-true, nat_tests, and_mask}
-use Rattle.word_code.proofs.Names.{mul-mod_first, pow-add, bit}
-use Rattle.word_code.proofs.Names.{arithmetic_shift, R4, Core, Register, Number, Constant, ToRegister, Form, Move, Calculate, Modify, instruction_of}
-use Rattle.word_code.proofs.Names.{form_bytes}
-use Rattle.word_code.proofs.Names.{Stands, forms_bytes, Runs, stands_front, stands_back, ShiftOperation, Left, Right, SignedRight, shifted_word, shift_word}
-use Rattle.word_code.proofs.Names.{WordState, repeated, right_code, shift_by, last_bit, shift_code, shift_middle}
+use Rattle.word_code.proofs.Names.{mul-mod_first, pow-add, bit, arithmetic_shift, R4, Core, Register, Number, Constant, ToRegister, Form, Move, Calculate}
+use Rattle.word_code.proofs.Names.{Modify, instruction_of, form_bytes, Stands, forms_bytes, Runs, stands_front, stands_back, ShiftOperation, Left, Right}
+use Rattle.word_code.proofs.Names.{SignedRight, shifted_word, shift_word, WordState, repeated, right_code, shift_by, last_bit, shift_code, shift_middle}
 use Rattle.std.proofs.Math.Nat.{div-div-eq-div-mul}
 use Rattle.std.proofs.lemmas.Grind.{and_high_numeral}
 use Rattle.array_versions.specs.alp_words.Words.{swapped as swap}
