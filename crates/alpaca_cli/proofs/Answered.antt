@@ -32,11 +32,6 @@ on_line MachineFault call words shelf out err says a = (call, says, a)
 on_line TooLong call words shelf out err says a = (call, says, a)
 on_line Differs call words shelf out err says a = (call, says, a)
 
--- the same of a command that has no output
-pub on_silent_line : (status : Status) (call : Call) (words : List (List ℕ)) (shelf : Shelved) (out err : Written)
-    → Says words call → IsSilent out → WhereSilent (λ o. CommandAnswers status (promise_of call) shelf o err) → Answers status words shelf out err
-on_silent_line status call words shelf out err says silent a = on_line status call words shelf out err says (a out silent)
-
 -- ---- where nothing fails
 
 same_files : (f : Files) (files a b : List (List ℕ)) → AreHeld f files a → AreHeld f files b → a ≡ b

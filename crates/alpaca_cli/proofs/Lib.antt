@@ -1,4 +1,5 @@
 mod Answered
+mod CallLaws
 mod FaultLaws
 mod LineLaws
 mod NotRefused

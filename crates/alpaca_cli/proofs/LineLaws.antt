@@ -9,20 +9,20 @@ use Rattle.command_line.specs.Commands.{NamesCommand}
 use Rattle.command_line.specs.declared.Command.TheVariants as command
 use Rattle.alpaca_cli.specs.Calls.{Call, mean, try_, build, run, asm, dis, gen, save, resume, migrate, audit, line_text, HasNumber, OnLine}
 
--- the command of a line
-abbrev call_of : List (List ℕ) → Option Call
-call_of [] = None
-call_of (name ∷ []) = None
-call_of (name ∷ a ∷ []) = cond (bytes_eq name (codes "dis")) (Some (dis a)) None
-call_of (name ∷ a ∷ b ∷ []) = cond (bytes_eq name (codes "mean")) (Some (mean a b)) (cond (bytes_eq name (codes "build")) (Some (build a b))
+-- the call on a line
+abbrev call_on : List (List ℕ) → Option Call
+call_on [] = None
+call_on (name ∷ []) = None
+call_on (name ∷ a ∷ []) = cond (bytes_eq name (codes "dis")) (Some (dis a)) None
+call_on (name ∷ a ∷ b ∷ []) = cond (bytes_eq name (codes "mean")) (Some (mean a b)) (cond (bytes_eq name (codes "build")) (Some (build a b))
     (cond (bytes_eq name (codes "run")) (Some (run a b)) (cond (bytes_eq name (codes "asm")) (Some (asm a b))
     (cond (bytes_eq name (codes "gen")) (Some (gen (digits_value 10 a) b)) None))))
-call_of (name ∷ a ∷ b ∷ c ∷ []) = cond (bytes_eq name (codes "try")) (Some (try_ a b c)) (cond (bytes_eq name (codes "save")) (Some (save a b c))
+call_on (name ∷ a ∷ b ∷ c ∷ []) = cond (bytes_eq name (codes "try")) (Some (try_ a b c)) (cond (bytes_eq name (codes "save")) (Some (save a b c))
     (cond (bytes_eq name (codes "resume")) (Some (resume a b c)) (cond (bytes_eq name (codes "audit")) (Some (audit a b c)) None)))
-call_of (name ∷ a ∷ b ∷ c ∷ d ∷ e ∷ f ∷ []) = cond (bytes_eq name (codes "migrate")) (Some (migrate a b c d e f)) None
-call_of _ = None
+call_on (name ∷ a ∷ b ∷ c ∷ d ∷ e ∷ f ∷ []) = cond (bytes_eq name (codes "migrate")) (Some (migrate a b c d e f)) None
+call_on _ = None
 
-is_call : (c : Call) → HasNumber c → call_of (line_text c) ≡ Some c
+is_call : (c : Call) → HasNumber c → call_on (line_text c) ≡ Some c
 is_call (mean a b) h = refl
 is_call (try_ a b c) h = refl
 is_call (build a b) h = refl
@@ -36,7 +36,7 @@ is_call (audit a b c) h = refl
 is_call (gen n a) h = ap (λ k. Some (gen k a)) (decimal_is_IsNumeral n (omega (arith, h))).1
 
 pub same_call : (c d : Call) → HasNumber c → HasNumber d → line_text c ≡ line_text d → c ≡ d
-same_call c d h k e = ap (λ o. unwrap_or o c) (sym (is_call c h) ∙ ap call_of e ∙ is_call d k)
+same_call c d h k e = ap (λ o. unwrap_or o c) (sym (is_call c h) ∙ ap call_on e ∙ is_call d k)
 
 abbrev lent : List ℕ → Bor (List ℕ)
 lent text = record { ref_ptr = (0, 0); now = text }

@@ -1,6 +1,8 @@
 -- The program's commands with the names of their files and the number of `gen`, and what their lines are.
 use Rattle.std.specs.Prelude.{◌≡◌, ℕ, ◌^◌, ◌<◌, List, [], ◌∷◌, codes, decimal, Option, Some}
 use Rattle.command_line.specs.CommandLine.{line_of}
+use Rattle.command_line.specs.declared.Command.{Command}
+use Rattle.command_line.specs.declared.Command.TheVariants as command
 use Rattle.plain_commands.specs.command_answers.Promises.{Promise}
 use Rattle.plain_commands.specs.Mean.{mean_promise}
 use Rattle.plain_commands.specs.Run.{run_promise}
@@ -28,6 +30,21 @@ pub data Call : Type 0 where
   resume : (image state trace : List ℕ) → Call
   migrate : (source image state new_source new_image new_state : List ℕ) → Call
   audit : (source report trace : List ℕ) → Call
+
+-- what a command that was read from its line calls for
+abbrev pub call_of : Command → Call
+call_of (command.Mean source trace) = mean source.now trace.now
+call_of (command.Try source trace image) = try_ source.now trace.now image.now
+call_of (command.Build source image) = build source.now image.now
+call_of (command.Run image trace) = run image.now trace.now
+call_of (command.Asm assembly image) = asm assembly.now image.now
+call_of (command.Dis image) = dis image.now
+call_of (command.Gen number image) = gen number image.now
+call_of (command.Save image trace state) = save image.now trace.now state.now
+call_of (command.Resume image state trace) = resume image.now state.now trace.now
+call_of (command.Migrate source image state new_source new_image new_state) =
+    migrate source.now image.now state.now new_source.now new_image.now new_state.now
+call_of (command.Audit source report trace) = audit source.now report.now trace.now
 
 -- its line: its first word, and then the names, and the number in its decimal digits
 abbrev pub line_text : Call → List (List ℕ)
@@ -77,6 +94,26 @@ IsRun (run image trace) = Unit {0}
 IsRun (save image trace state) = Unit {0}
 IsRun (resume image state trace) = Unit {0}
 IsRun call = ⊥
+
+-- it needs no compiler and keeps no state
+abbrev pub IsPlainCall : Call → Type 0
+IsPlainCall (mean source trace) = Unit {0}
+IsPlainCall (run image trace) = Unit {0}
+IsPlainCall (asm assembly image) = Unit {0}
+IsPlainCall (dis image) = Unit {0}
+IsPlainCall (audit source report trace) = Unit {0}
+IsPlainCall call = ⊥
+
+-- it migrates a state
+abbrev pub IsMigration : Call → Type 0
+IsMigration (migrate source image state new_source new_image new_state) = Unit {0}
+IsMigration call = ⊥
+
+-- it saves, resumes or migrates a state
+abbrev pub IsOnStates : Call → Type 0
+IsOnStates (save image trace state) = Unit {0}
+IsOnStates (resume image state trace) = Unit {0}
+IsOnStates call = IsMigration call
 
 -- its number, if it has one, is of 32 bits
 abbrev pub HasNumber : Call → Type 0

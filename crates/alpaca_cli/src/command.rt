@@ -7,18 +7,13 @@ ghost use Rattle.alpaca_cli.specs.Calls.{Call, IsAudit, IsRun, OnLine, Says, rea
 ghost use Rattle.alpaca_cli.specs.Products.{AreAccepted};
 ghost use Rattle.alpaca_cli.specs.Answers.{Answers, IsCarriedOut, OthersStand};
 
-use command_line::{Command, WordsFault, command_of};
-use compiled_states::{fresh_states_belong, migrated_states_belong, states_are_told, states_stay};
-use compiler_commands::{answer_build, answer_gen, answer_try};
+use crate::calls::answer_command;
+use command_line::{WordsFault, command_of};
 use plain_commands::answers::{Status, messages};
 use plain_commands::boards::board_has_one_run;
 use plain_commands::outside::{Shelf, Sink};
 use plain_commands::texts::one_answer;
-use plain_commands::{AuditNames, answer_asm, answer_audit, answer_dis, answer_mean, answer_run};
-use state_commands::{
-    MigrateNames, answer_migrate, answer_resume, answer_save, answers_are_one,
-    no_migration_is_refused,
-};
+use state_commands::{answers_are_one, no_migration_is_refused};
 use std::alloc::Global;
 
 // The answer to the words.
@@ -37,77 +32,8 @@ fn answer<H: Shelf, O: Sink, E: Sink>(
         (record { old = O.contents out.old; new = O.contents out.new; faults_old = O.faults out.old; faults_new = O.faults out.new })
         (record { old = E.contents err.old; new = E.contents err.new; faults_old = E.faults err.old; faults_new = E.faults err.new }) }
 {
-    states_are_told();
-    states_stay();
-    fresh_states_belong();
-    migrated_states_belong();
     match command_of(alloc, words) {
-        Ok(Command::Mean { source, trace }) => answer_mean(alloc, source, trace, shelf, out, err),
-        Ok(
-            Command::Try {
-                source,
-                trace,
-                image,
-            },
-        ) => answer_try(alloc, (source, trace, image), shelf, out, err),
-        Ok(Command::Build { source, image }) => answer_build(alloc, source, image, shelf, out, err),
-        Ok(Command::Run { image, trace }) => answer_run(alloc, image, trace, shelf, out, err),
-        Ok(Command::Asm { assembly, image }) => answer_asm(alloc, assembly, image, shelf, err),
-        Ok(Command::Dis { image }) => answer_dis(alloc, image, shelf, out, err),
-        Ok(Command::Gen { number, image }) => answer_gen(alloc, number, image, shelf, out, err),
-        Ok(
-            Command::Save {
-                image,
-                trace,
-                state,
-            },
-        ) => answer_save(alloc, (image, trace, state), shelf, out, err),
-        Ok(
-            Command::Resume {
-                image,
-                state,
-                trace,
-            },
-        ) => answer_resume(alloc, (image, state, trace), shelf, out, err),
-        Ok(
-            Command::Migrate {
-                source,
-                image,
-                state,
-                new_source,
-                new_image,
-                new_state,
-            },
-        ) => answer_migrate(
-            alloc,
-            MigrateNames {
-                source,
-                image,
-                state,
-                new_source,
-                new_image,
-                new_state,
-            },
-            shelf,
-            err,
-        ),
-        Ok(
-            Command::Audit {
-                source,
-                report,
-                trace,
-            },
-        ) => answer_audit(
-            alloc,
-            AuditNames {
-                source,
-                report,
-                trace,
-            },
-            shelf,
-            out,
-            err,
-        ),
+        Ok(command) => answer_command(alloc, command, shelf, out, err),
         Err(WordsFault::Usage) => {
             messages::tell_usage(err);
             Status::Usage

@@ -14,6 +14,6 @@ pub use msp_isa::{
     Width,
 };
 pub use writing::{
-    POPPED, R4, R5, R6, R7, TO_PC, TO_R4, TO_R5, TO_R6, TO_R7, TO_R8, TO_SP, absolute, add, branch,
-    cmp, constant, jump, mov, push, sub, two,
+    IN_R4, IN_R5, IN_R6, POPPED, R4, R5, R6, R7, TO_PC, TO_R4, TO_R5, TO_R6, TO_R7, TO_R8, TO_SP,
+    absolute, add, branch, cmp, constant, jump, mov, push, sub, two,
 };

@@ -14,6 +14,15 @@ use msp_isa::{
     TwoOp, Width,
 };
 
+/// R4, to be worked on.
+pub const IN_R4: Operand = Operand::Reg(SourceRegister::Index(IndexRegister::R4));
+
+/// R5, to be worked on.
+pub const IN_R5: Operand = Operand::Reg(SourceRegister::Index(IndexRegister::R5));
+
+/// R6, to be worked on.
+pub const IN_R6: Operand = Operand::Reg(SourceRegister::Index(IndexRegister::R6));
+
 /// R4, to be read.
 pub const R4: Src = Src::Operand(Operand::Reg(SourceRegister::Index(IndexRegister::R4)));
 

@@ -11,9 +11,9 @@ ghost use Rattle.word_code.specs.Code.{pass_over, jump_back, decision, holds_cod
 
 use crate::forms::{R4, R5, TO_R4, TO_R5, constant, jump, skip, two};
 use crate::waiting::{emit_all, emit_sides, emit_top_to_four, emit_two_to_registers};
-use code_forms::{Condition, Instr, Konst, Src, TwoOp};
 use msp_encode::encode;
 use std::alloc::AllocError;
+use word_code::forms::{Condition, Instr, Konst, Src, TwoOp};
 use word_code::{Comparison, Waiting};
 
 // Whether a comparison is of R5, the right side, with the left one.
@@ -64,7 +64,7 @@ fn failing(comparison: Comparison) -> Condition
     }
 }
 
-/// The words of code, of fewer than 8000.
+/// The words of code, of fewer than 0x8000.
 pub fn code_words(code: &[Instr]) -> u16
     requires { length (instruction_words code.now) ≤ 0x7FFF }
     ensures { result ≡ length (instruction_words code.now) }

@@ -1,14 +1,15 @@
 //! The instructions that the code is made of: those of `code_forms`, and what numbers, locals and long ways need besides.
 
-ghost use Rattle.std.specs.Prelude.{◌≡◌, ℕ, ◌+◌, ◌*◌, ◌<◌};
+ghost use Rattle.std.specs.Prelude.{◌≡◌, ◌+◌, ◌*◌, ◌<◌};
 ghost use Rattle.word_code.specs.code_forms.Forms.{instruction_of, index_of, source_operand, target_operand};
 ghost use Rattle.word_code.specs.code_forms.Forms as form;
 ghost use Rattle.word_code.specs.Code as place;
 
-pub use code_forms::{
-    POPPED, R4, R5, R6, R7, TO_R4, TO_R5, TO_R6, TO_R7, absolute, branch, constant, jump, push, two,
+pub use word_code::forms::{
+    IN_R4, IN_R5, IN_R6, POPPED, R4, R5, R6, R7, TO_R4, TO_R5, TO_R6, TO_R7, absolute, branch,
+    constant, jump, push, two,
 };
-use code_forms::{Dst, IndexRegister, Instr, Konst, Operand, Reg, SourceRegister, Src, TO_PC, add};
+use word_code::forms::{Dst, IndexRegister, Instr, Konst, Reg, Src, TO_PC, add};
 
 /// A number as a source: some take no word of their own.
 pub fn number_source(number: u16) -> Src
@@ -54,18 +55,6 @@ pub fn local_address(n: u16) -> u16
     ensures { result ≡ place.local_address n }
 {
     0x1c20 + 2 * n
-}
-
-/// A local as a source.
-pub fn local_source(n: u16) -> Src
-    requires { n < 1008 }
-    ensures { result ≡ source_operand (place.local_source n) }
-{
-    if n < 8 {
-        Src::Operand(Operand::Reg(SourceRegister::Index(local_register(n))))
-    } else {
-        absolute(local_address(n))
-    }
 }
 
 /// A local as what MOV writes.

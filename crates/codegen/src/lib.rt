@@ -14,8 +14,8 @@ mod versioned;
 mod waiting;
 
 // What the word programs that `emit` takes are made of, and what it makes of them.
-pub use code_forms::Instr;
 pub use program::emit;
+pub use word_code::forms::Instr;
 pub use word_code::{
     BinaryOperation, Comparison, LongOperation, PlainOperation, WordProgram, WordStep, WordTest,
 };

@@ -7,13 +7,11 @@ ghost use Rattle.word_code.specs.array_versions.declared.operations.ShiftOperati
 ghost use Rattle.word_code.specs.Code.{in_r4, repeated, double, halve, right_code, shift_by, last_bit, shift_middle, step_code, waiting_behind};
 ghost use Rattle.word_code.specs.array_versions.Program as value;
 
-use crate::forms::{R4, TO_R4, constant, two};
+use crate::forms::{IN_R4, R4, TO_R4, constant, two};
 use crate::waiting::{emit_top_to_four, wait};
-use code_forms::{IndexRegister, Instr, Konst, OneOp, Operand, SourceRegister, Src, TwoOp, Width};
 use std::alloc::AllocError;
+use word_code::forms::{Instr, Konst, OneOp, Src, TwoOp, Width};
 use word_code::{ShiftOperation, Waiting};
-
-const IN_R4: Operand = Operand::Reg(SourceRegister::Index(IndexRegister::R4));
 
 // R4 doubled so many times.
 fn emit_doubles(count: u16, code: &mut Vec<Instr>) -> Result<(), AllocError>

@@ -1,4 +1,5 @@
 mod AssemblyLaws
+mod ImageLaws
 mod OneReading
 mod SourceLaws
 mod TraceLaws

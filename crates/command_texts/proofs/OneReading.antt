@@ -6,8 +6,7 @@ use Rattle.state_text.specs.Reading.{state_of}
 use Rattle.msp_asm.specs.Assembled.{assembled}
 use Rattle.command_texts.specs.Assemblies.{RefusesAssembly, SaysAssembly}
 use Rattle.command_answers.specs.Refusals.{Refusal}
-use Rattle.command_texts.specs.Texts.{RefusesTrace, RefusesImage, outside_fram, twice, no_reset, bad_map, RefusesState, bad_state_line, outside_of_state}
-use Rattle.command_texts.specs.Texts.{twice_in_state, no_reset_in_state, bad_map_of_state, SaysTrace, SaysImage, SaysState}
+use Rattle.command_texts.specs.Texts.{RefusesTrace, RefusesImage, RefusesState, SaysTrace, SaysImage, SaysState}
 use Rattle.command_texts.specs.Texts as texts
 
 pub same_value : {A E : Type 0} (x : Result A E) (a b : A) → x ≡ Ok a → x ≡ Ok b → a ≡ b
@@ -21,18 +20,10 @@ no_trace text r said (texts.bad_trace_line n fails) = not_both (trace_of text) s
 no_trace text r said (texts.too_many n fails) = not_both (trace_of text) said.0 _ said.1 fails
 
 pub no_image : (text : List ℕ) (r : Refusal) → SaysImage text → RefusesImage text r → ⊥
-no_image text r said (texts.bad_line n fails) = not_both (image_of text) said.0 _ said.1 fails
-no_image text r said (outside_fram n fails) = not_both (image_of text) said.0 _ said.1 fails
-no_image text r said (twice n fails) = not_both (image_of text) said.0 _ said.1 fails
-no_image text r said (no_reset fails) = not_both (image_of text) said.0 _ said.1 fails
-no_image text r said (bad_map n fails) = not_both (image_of text) said.0 _ said.1 fails
+no_image text r said refuses = not_both (image_of text) said.0 refuses.cause said.1 refuses.refused
 
 pub no_state : (text : List ℕ) (r : Refusal) → SaysState text → RefusesState text r → ⊥
-no_state text r said (bad_state_line n fails) = not_both (state_of text) said.0 _ said.1 fails
-no_state text r said (outside_of_state n fails) = not_both (state_of text) said.0 _ said.1 fails
-no_state text r said (twice_in_state n fails) = not_both (state_of text) said.0 _ said.1 fails
-no_state text r said (no_reset_in_state fails) = not_both (state_of text) said.0 _ said.1 fails
-no_state text r said (bad_map_of_state n fails) = not_both (state_of text) said.0 _ said.1 fails
+no_state text r said refuses = not_both (state_of text) said.0 refuses.cause said.1 refuses.refused
 
 pub no_assembly : (text : List ℕ) (r : Refusal) → SaysAssembly text → RefusesAssembly text r → ⊥
 no_assembly text r said refuses = not_both (assembled text) said.0 refuses.cause said.1 refuses.refused

@@ -4,8 +4,8 @@ ghost use Rattle.state_text.specs.Reading.{state_of};
 ghost use Rattle.command_texts.specs.Texts.{RefusesState};
 ghost use Rattle.command_answers.specs.Outcomes.{FailsRefused};
 
-use command_answers::{Failure, refused_plainly};
-use image_text::ImageFault;
+use crate::images::image_failure;
+use command_answers::Failure;
 use state_text::{State, parse_state};
 use std::alloc::Global;
 
@@ -20,11 +20,6 @@ pub fn state_of<'t>(alloc: Global, file: &'t str, text: &[u8]) -> Result<State, 
 {
     match parse_state(alloc, text) {
         Ok(state) => Ok(state),
-        Err(ImageFault::BadLine { line }) => Err(refused_plainly(file, line, "BadLine")),
-        Err(ImageFault::OutsideFram { line }) => Err(refused_plainly(file, line, "OutsideFram")),
-        Err(ImageFault::Twice { line }) => Err(refused_plainly(file, line, "Twice")),
-        Err(ImageFault::NoReset) => Err(refused_plainly(file, 0, "NoReset")),
-        Err(ImageFault::BadMap { line }) => Err(refused_plainly(file, line, "BadMap")),
-        Err(ImageFault::Memory) => Err(Failure::Memory),
+        Err(fault) => Err(image_failure(file, fault)),
     }
 }

@@ -11,19 +11,13 @@ ghost use Rattle.commit_runtime.specs.Listing.{copies_begin, entry_begin, word_l
 ghost use Rattle.commit_runtime.specs.Listing.{commit_forms};
 
 pub use laws::{commit_is_made, commit_is_short, commit_stores_in_fram};
-use memory_map::{Layout, RuntimeWord};
+use memory_map::{Layout, OUTDATA, OUTNUM, RuntimeWord};
 use runtime_code::forms::{
     Condition, Dst, IndexRegister, Instr, Konst, Operand, R7, Src, TO_R4, TO_R6, TO_R7, TO_R8,
     absolute, add, branch, constant, jump, mov, sub,
 };
 use runtime_code::{loop_begin, loop_end, start_address};
 use std::alloc::{AllocError, Global};
-
-/// The port that takes the number of the next word for the receiver.
-const OUTNUM: u16 = 0x0202;
-
-/// The port that offers a word to the receiver.
-const OUTDATA: u16 = 0x0204;
 
 // R4 := CLN.
 fn copies_begin(layout: &Layout) -> [Instr; 1]

@@ -12,9 +12,18 @@ use image_reports::images_keep_the_laws;
 use plain_commands::answers::{
     Failure, Status, answer_failure, answer_unread, put_file, read_file,
 };
-use plain_commands::outside::{Failed, Shelf, Sink};
+use plain_commands::outside::{Shelf, Sink};
 use plain_commands::texts::source_of;
 use std::alloc::Global;
+
+/// The names of the files of `build SRC IMAGE`.
+#[derive(Clone, Copy)]
+pub struct BuildNames<'n> {
+    /// The file of the source.
+    pub source: &'n str,
+    /// The file that is to hold the image.
+    pub image: &'n str,
+}
 
 /// Puts the image of the source, and writes its bound. All memory but that of the put is taken before it.
 ///
@@ -24,7 +33,7 @@ use std::alloc::Global;
 /// gained a proper prefix of the line.
 pub fn build_texts<'t, H: Shelf, O: Sink>(
     alloc: Global,
-    names: (&'t str, &'t str),
+    names: BuildNames<'t>,
     source: &'t [u8],
     shelf: &mut H,
     out: &mut O,
@@ -32,26 +41,24 @@ pub fn build_texts<'t, H: Shelf, O: Sink>(
     requires { length source.now ≤ 1048576 }
     ensures counts { NeverFall (H.counts shelf.old) (H.counts shelf.new) }
     ensures faults { O.faults out.old ≤ O.faults out.new }
-    ensures whole { IfOk result (λ _. IsWhole (build_promise names.entry.0.now names.entry.1.now) (source.now ∷ []) well
+    ensures whole { IfOk result (λ _. IsWhole (build_promise names.entry.source.now names.entry.image.now) (source.now ∷ []) well
         (record { old = H.files shelf.old; new = H.files shelf.new; counts_old = H.counts shelf.old; counts_new = H.counts shelf.new })
         (record { old = O.contents out.old; new = O.contents out.new; faults_old = O.faults out.old; faults_new = O.faults out.new })) }
-    ensures failure { IfErr result (λ e. FailsBy e (build_promise names.entry.0.now names.entry.1.now) (source.now ∷ [])
+    ensures failure { IfErr result (λ e. FailsBy e (build_promise names.entry.source.now names.entry.image.now) (source.now ∷ [])
         (record { old = H.files shelf.old; new = H.files shelf.new; counts_old = H.counts shelf.old; counts_new = H.counts shelf.new })
         (record { old = O.contents out.old; new = O.contents out.new; faults_old = O.faults out.old; faults_new = O.faults out.new })) }
 {
     images_keep_the_laws();
-    let source = source_of(alloc, names.0, source)?;
+    let source = source_of(alloc, names.source, source)?;
     let built = built_of(alloc, &source)?;
-    put_file(alloc, shelf, names.1, built.text.as_slice())?;
-    match write_bound(out, source.allow().cycles) {
-        Ok(()) => Ok(()),
-        Err(Failed) => Err(Failure::Write),
-    }
+    put_file(alloc, shelf, names.image, built.text.as_slice())?;
+    write_bound(out, source.allow().cycles)?;
+    Ok(())
 }
 
 fn build_of<H: Shelf, O: Sink, E: Sink>(
     alloc: Global,
-    names: (&str, &str),
+    names: BuildNames<'_>,
     source: &[u8],
     shelf: &mut H,
     out: &mut O,
@@ -61,7 +68,7 @@ fn build_of<H: Shelf, O: Sink, E: Sink>(
     ensures counts { NeverFall (H.counts shelf.old) (H.counts shelf.new) }
     ensures out_faults { O.faults out.old ≤ O.faults out.new }
     ensures err_faults { E.faults err.old ≤ E.faults err.new }
-    ensures answers { TextAnswers result (build_promise names.entry.0.now names.entry.1.now) (source.now ∷ [])
+    ensures answers { TextAnswers result (build_promise names.entry.source.now names.entry.image.now) (source.now ∷ [])
         (record { old = H.files shelf.old; new = H.files shelf.new; counts_old = H.counts shelf.old; counts_new = H.counts shelf.new })
         (record { old = O.contents out.old; new = O.contents out.new; faults_old = O.faults out.old; faults_new = O.faults out.new })
         (record { old = E.contents err.old; new = E.contents err.new; faults_old = E.faults err.old; faults_new = E.faults err.new }) }
@@ -75,8 +82,7 @@ fn build_of<H: Shelf, O: Sink, E: Sink>(
 /// The answer to `build SRC IMAGE`.
 pub fn answer_build<H: Shelf, O: Sink, E: Sink>(
     alloc: Global,
-    source: &str,
-    image: &str,
+    names: BuildNames<'_>,
     shelf: &mut H,
     out: &mut O,
     err: &mut E,
@@ -84,13 +90,13 @@ pub fn answer_build<H: Shelf, O: Sink, E: Sink>(
     ensures counts { NeverFall (H.counts shelf.old) (H.counts shelf.new) }
     ensures out_faults { O.faults out.old ≤ O.faults out.new }
     ensures err_faults { E.faults err.old ≤ E.faults err.new }
-    ensures answers { CommandAnswers result (build_promise source.now image.now)
+    ensures answers { CommandAnswers result (build_promise names.entry.source.now names.entry.image.now)
         (record { old = H.files shelf.old; new = H.files shelf.new; counts_old = H.counts shelf.old; counts_new = H.counts shelf.new })
         (record { old = O.contents out.old; new = O.contents out.new; faults_old = O.faults out.old; faults_new = O.faults out.new })
         (record { old = E.contents err.old; new = E.contents err.new; faults_old = E.faults err.old; faults_new = E.faults err.new }) }
 {
-    match read_file(alloc, shelf, source) {
-        Ok(bytes) => build_of(alloc, (source, image), bytes.as_slice(), shelf, out, err),
+    match read_file(alloc, shelf, names.source) {
+        Ok(bytes) => build_of(alloc, names, bytes.as_slice(), shelf, out, err),
         Err(unread) => answer_unread(err, unread),
     }
 }

@@ -12,7 +12,7 @@ use link_image::link;
 use plain_commands::answers::Failure;
 use plain_commands::boards::board_has_one_run;
 use plain_commands::texts::{Accepted, Image, print_image};
-use std::alloc::{AllocError, Global};
+use std::alloc::Global;
 
 /// An image and the text that is printed of it.
 #[derive(Drop)]
@@ -39,13 +39,8 @@ pub fn built_of<'t>(alloc: Global, source: &Accepted) -> Result<Built, Failure<'
     ensures failure { IfErr result (λ e. e ≡ Memory) }
 {
     images_are_mapped();
-    let image = match link(alloc, source) {
-        Ok(image) => image,
-        Err(AllocError) => return Err(Failure::Memory),
-    };
+    let image = link(alloc, source)?;
     image_is_told(source, &image);
-    match print_image(alloc, &image) {
-        Ok(text) => Ok(Built { image, text }),
-        Err(AllocError) => Err(Failure::Memory),
-    }
+    let text = print_image(alloc, &image)?;
+    Ok(Built { image, text })
 }

@@ -10,6 +10,15 @@ use plain_commands::outside::{Failed, Report, Sink, write_pieces};
 use plain_commands::reason_of;
 use plain_commands::texts::print_u64;
 
+/// What the first two lines tell.
+#[derive(Clone, Copy)]
+pub struct GenNumbers {
+    /// The number that the source and its trace are generated from.
+    pub number: u32,
+    /// The bound of the source, in cycles.
+    pub bound: u32,
+}
+
 #[tactic(auto, unfolding(crate::specs::Generated::number_line))]
 fn write_number<O: Sink>(out: &mut O, number: u32) -> Result<(), Failed>
     ensures bytes { Writes (O.contents out.old) (O.contents out.new) result (number_line number) }
@@ -58,17 +67,17 @@ fn write_sum<O: Sink>(out: &mut O, sum: u16) -> Result<(), Failed>
 /// Writes the number, the bound, how a run ended by the board and the watch at its end, and the watch's sum. Takes no memory.
 pub fn write_lines<O: Sink>(
     out: &mut O,
-    numbers: (u32, u32),
+    numbers: GenNumbers,
     end: RunEnd,
     board: &Board,
     watch: &Watch<'_>,
 ) -> Result<(), Failed>
     ensures bytes { Writes (O.contents out.old) (O.contents out.new) result
-        (four_lines numbers.0 numbers.1 (ended_line end board.now watch.now) watch.now) }
+        (four_lines numbers.number numbers.bound (ended_line end board.now watch.now) watch.now) }
     ensures cause { HasCause (O.faults out.old) (O.faults out.new) result }
 {
-    write_number(out, numbers.0)?;
-    write_bound(out, numbers.1)?;
+    write_number(out, numbers.number)?;
+    write_bound(out, numbers.bound)?;
     write_end(out, end, board, watch)?;
     write_sum(out, watch.sum())
 }

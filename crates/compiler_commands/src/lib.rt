@@ -7,9 +7,9 @@ mod gen_lines;
 mod generate;
 mod try_;
 
-pub use build::answer_build;
-pub use generate::answer_gen;
-pub use try_::answer_try;
+pub use build::{BuildNames, answer_build};
+pub use generate::{GenWords, answer_gen};
+pub use try_::{TryNames, answer_try};
 
 // The whole compiler as a call.
 pub use link_image::compile;

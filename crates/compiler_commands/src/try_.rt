@@ -2,12 +2,12 @@
 ghost use Rattle.std.specs.Prelude.{◌≡◌, ◌<◌, ◌≤◌, ◌^◌, ◌∷◌, [], ℕ, List, IfOk, IfErr, length};
 ghost use Rattle.plain_commands.specs.alp_io.Shelf.{NeverFall};
 ghost use Rattle.plain_commands.specs.command_answers.Ending.{Ending, well};
-ghost use Rattle.compiler_commands.specs.Try.{Tries, try_promise};
-ghost use Rattle.plain_commands.specs.RunReport.{IsReportFrom, IsRunReport};
+ghost use Rattle.compiler_commands.specs.Try.{try_promise};
+ghost use Rattle.plain_commands.specs.RunReport.{IsReportFrom};
 ghost use Rattle.plain_commands.specs.command_answers.CommandAnswers.{CommandAnswers, IsWhole, TextAnswers};
 ghost use Rattle.plain_commands.specs.command_answers.Outcomes.{Breaks, FailsBy, Gains};
 
-use crate::built::{Built, built_of};
+use crate::built::built_of;
 use plain_commands::answers::{
     Failure, Status, answer_failure, answer_unread, put_file, read_texts,
 };
@@ -17,6 +17,26 @@ use plain_commands::outside::{Failed, Shelf, Sink};
 use plain_commands::texts::{Trace, source_of, trace_of};
 use plain_commands::{RunEnding, write_report};
 use std::alloc::Global;
+
+/// The names of the files of `try SRC TRACE IMAGE`.
+#[derive(Clone, Copy)]
+pub struct TryNames<'n> {
+    /// The file of the source.
+    pub source: &'n str,
+    /// The file of the trace.
+    pub trace: &'n str,
+    /// The file that is to hold the image.
+    pub image: &'n str,
+}
+
+/// The texts of a trial.
+#[derive(Clone, Copy)]
+pub struct TryTexts<'t> {
+    /// The bytes of the source.
+    pub source: &'t [u8],
+    /// The bytes of the trace.
+    pub trace: &'t [u8],
+}
 
 // Writes the report of a board's run that ends well. Takes no memory.
 fn write_trial<O: Sink>(
@@ -42,45 +62,6 @@ fn write_trial<O: Sink>(
     }
 }
 
-// Puts the image of a source, and writes the report of its run on the trace. All memory but that of the put is taken before it.
-fn put_trial<'t, H: Shelf, O: Sink>(
-    alloc: Global,
-    names: (&'t str, &'t str, &'t str),
-    texts: (&[u8], &[u8]),
-    built: &Built,
-    trace: &Trace,
-    shelf: &mut H,
-    out: &mut O,
-) -> Result<(), Failure<'t>>
-    requires tries { (output : List ℕ) → IsRunReport built.now.image trace.now well output
-        → Tries texts.0.now texts.1.now built.now.text.items output }
-    requires report { (output : List ℕ) × IsRunReport built.now.image trace.now well output }
-    requires ends_well { (ending : Ending) (output : List ℕ) → IsRunReport built.now.image trace.now ending output → ending ≡ well }
-    ensures counts { NeverFall (H.counts shelf.old) (H.counts shelf.new) }
-    ensures faults { O.faults out.old ≤ O.faults out.new }
-    ensures whole { IfOk result (λ _. IsWhole (try_promise names.entry.0.now names.entry.1.now names.entry.2.now) (texts.entry.0.now ∷ texts.entry.1.now ∷ [])
-        well
-        (record { old = H.files shelf.old; new = H.files shelf.new; counts_old = H.counts shelf.old; counts_new = H.counts shelf.new })
-        (record { old = O.contents out.old; new = O.contents out.new; faults_old = O.faults out.old; faults_new = O.faults out.new })) }
-    ensures failure { IfErr result (λ e. FailsBy e (try_promise names.entry.0.now names.entry.1.now names.entry.2.now)
-        (texts.entry.0.now ∷ texts.entry.1.now ∷ [])
-        (record { old = H.files shelf.old; new = H.files shelf.new; counts_old = H.counts shelf.old; counts_new = H.counts shelf.new })
-        (record { old = O.contents out.old; new = O.contents out.new; faults_old = O.faults out.old; faults_new = O.faults out.new })) }
-{
-    let _ = texts;
-    let Ok(mut board) = Board::new(alloc, &built.image, trace.readings()) else {
-        return Err(Failure::Memory);
-    };
-    let Ok(mut watch) = Watch::new(alloc, &built.image) else {
-        return Err(Failure::Memory);
-    };
-    put_file(alloc, shelf, names.2, built.text.as_slice())?;
-    match write_trial(out, trace, &mut board, &mut watch) {
-        Ok(()) => Ok(()),
-        Err(Failed) => Err(Failure::Write),
-    }
-}
-
 /// Puts the image of the source, and writes the report of its run on the trace. All memory but that of the put is taken before it.
 ///
 /// # Errors
@@ -89,44 +70,49 @@ fn put_trial<'t, H: Shelf, O: Sink>(
 /// the output gained a proper prefix of the report.
 pub fn try_texts<'t, H: Shelf, O: Sink>(
     alloc: Global,
-    names: (&'t str, &'t str, &'t str),
-    texts: (&'t [u8], &[u8]),
+    names: TryNames<'t>,
+    texts: TryTexts<'t>,
     shelf: &mut H,
     out: &mut O,
 ) -> Result<(), Failure<'t>>
-    requires source { length texts.0.now ≤ 1048576 }
-    requires trace { length texts.1.now ≤ 1048576 }
+    requires source { length texts.source.now ≤ 1048576 }
+    requires trace { length texts.trace.now ≤ 1048576 }
     ensures counts { NeverFall (H.counts shelf.old) (H.counts shelf.new) }
     ensures faults { O.faults out.old ≤ O.faults out.new }
-    ensures whole { IfOk result (λ _. IsWhole (try_promise names.entry.0.now names.entry.1.now names.entry.2.now) (texts.entry.0.now ∷ texts.entry.1.now ∷ [])
-        well
+    ensures whole { IfOk result (λ _. IsWhole (try_promise names.entry.source.now names.entry.trace.now names.entry.image.now)
+        (texts.entry.source.now ∷ texts.entry.trace.now ∷ []) well
         (record { old = H.files shelf.old; new = H.files shelf.new; counts_old = H.counts shelf.old; counts_new = H.counts shelf.new })
         (record { old = O.contents out.old; new = O.contents out.new; faults_old = O.faults out.old; faults_new = O.faults out.new })) }
-    ensures failure { IfErr result (λ e. FailsBy e (try_promise names.entry.0.now names.entry.1.now names.entry.2.now)
-        (texts.entry.0.now ∷ texts.entry.1.now ∷ [])
+    ensures failure { IfErr result (λ e. FailsBy e (try_promise names.entry.source.now names.entry.trace.now names.entry.image.now)
+        (texts.entry.source.now ∷ texts.entry.trace.now ∷ [])
         (record { old = H.files shelf.old; new = H.files shelf.new; counts_old = H.counts shelf.old; counts_new = H.counts shelf.new })
         (record { old = O.contents out.old; new = O.contents out.new; faults_old = O.faults out.old; faults_new = O.faults out.new })) }
 {
-    let source = source_of(alloc, names.0, texts.0)?;
-    let trace = trace_of(alloc, names.1, texts.1)?;
+    let source = source_of(alloc, names.source, texts.source)?;
+    let trace = trace_of(alloc, names.trace, texts.trace)?;
     let built = built_of(alloc, &source)?;
-    put_trial(alloc, names, texts, &built, &trace, shelf, out)
+    let mut board = Board::new(alloc, &built.image, trace.readings())?;
+    let mut watch = Watch::new(alloc, &built.image)?;
+    put_file(alloc, shelf, names.image, built.text.as_slice())?;
+    write_trial(out, &trace, &mut board, &mut watch)?;
+    Ok(())
 }
 
 fn try_of<H: Shelf, O: Sink, E: Sink>(
     alloc: Global,
-    names: (&str, &str, &str),
-    texts: (&[u8], &[u8]),
+    names: TryNames<'_>,
+    texts: TryTexts<'_>,
     shelf: &mut H,
     out: &mut O,
     err: &mut E,
 ) -> Status
-    requires source { length texts.0.now ≤ 1048576 }
-    requires trace { length texts.1.now ≤ 1048576 }
+    requires source { length texts.source.now ≤ 1048576 }
+    requires trace { length texts.trace.now ≤ 1048576 }
     ensures counts { NeverFall (H.counts shelf.old) (H.counts shelf.new) }
     ensures out_faults { O.faults out.old ≤ O.faults out.new }
     ensures err_faults { E.faults err.old ≤ E.faults err.new }
-    ensures answers { TextAnswers result (try_promise names.entry.0.now names.entry.1.now names.entry.2.now) (texts.entry.0.now ∷ texts.entry.1.now ∷ [])
+    ensures answers { TextAnswers result (try_promise names.entry.source.now names.entry.trace.now names.entry.image.now)
+        (texts.entry.source.now ∷ texts.entry.trace.now ∷ [])
         (record { old = H.files shelf.old; new = H.files shelf.new; counts_old = H.counts shelf.old; counts_new = H.counts shelf.new })
         (record { old = O.contents out.old; new = O.contents out.new; faults_old = O.faults out.old; faults_new = O.faults out.new })
         (record { old = E.contents err.old; new = E.contents err.new; faults_old = E.faults err.old; faults_new = E.faults err.new }) }
@@ -140,7 +126,7 @@ fn try_of<H: Shelf, O: Sink, E: Sink>(
 /// The answer to `try SRC TRACE IMAGE`.
 pub fn answer_try<H: Shelf, O: Sink, E: Sink>(
     alloc: Global,
-    names: (&str, &str, &str),
+    names: TryNames<'_>,
     shelf: &mut H,
     out: &mut O,
     err: &mut E,
@@ -148,16 +134,19 @@ pub fn answer_try<H: Shelf, O: Sink, E: Sink>(
     ensures counts { NeverFall (H.counts shelf.old) (H.counts shelf.new) }
     ensures out_faults { O.faults out.old ≤ O.faults out.new }
     ensures err_faults { E.faults err.old ≤ E.faults err.new }
-    ensures answers { CommandAnswers result (try_promise names.entry.0.now names.entry.1.now names.entry.2.now)
+    ensures answers { CommandAnswers result (try_promise names.entry.source.now names.entry.trace.now names.entry.image.now)
         (record { old = H.files shelf.old; new = H.files shelf.new; counts_old = H.counts shelf.old; counts_new = H.counts shelf.new })
         (record { old = O.contents out.old; new = O.contents out.new; faults_old = O.faults out.old; faults_new = O.faults out.new })
         (record { old = E.contents err.old; new = E.contents err.new; faults_old = E.faults err.old; faults_new = E.faults err.new }) }
 {
-    match read_texts(alloc, shelf, names.0, names.1) {
+    match read_texts(alloc, shelf, names.source, names.trace) {
         Ok(texts) => try_of(
             alloc,
             names,
-            (texts.first.as_slice(), texts.second.as_slice()),
+            TryTexts {
+                source: texts.first.as_slice(),
+                trace: texts.second.as_slice(),
+            },
             shelf,
             out,
             err,

@@ -11,7 +11,16 @@ ghost use Rattle.command_texts.specs.command_answers.CommandAnswers.{CommandAnsw
 use command_texts::answers::{Failure, Status, answer_failure, answer_unread, put_file, read_file};
 use command_texts::outside::{Shelf, Sink};
 use command_texts::{assembly_of, print_image};
-use std::alloc::{AllocError, Global};
+use std::alloc::Global;
+
+/// The names of the files of `asm ASM IMAGE`.
+#[derive(Clone, Copy)]
+pub struct AsmNames<'n> {
+    /// The file of the assembler text.
+    pub assembly: &'n str,
+    /// The file that is to hold the image.
+    pub image: &'n str,
+}
 
 // The image text of what the assembler text says.
 fn image_text_of<'t>(
@@ -24,10 +33,8 @@ fn image_text_of<'t>(
     ensures refused { IfErr result (FailsRefused file.now (RefusesAssembly assembly.now)) }
 {
     let image = assembly_of(alloc, file, assembly)?;
-    match print_image(alloc, &image) {
-        Ok(text) => Ok(text),
-        Err(AllocError) => Err(Failure::Memory),
-    }
+    let text = print_image(alloc, &image)?;
+    Ok(text)
 }
 
 /// Puts the image of the assembler text. All memory but that of the put is taken before it.
@@ -37,24 +44,24 @@ fn image_text_of<'t>(
 /// failed, and the file of the image may hold anything or be absent.
 pub fn asm_texts<'t, H: Shelf>(
     alloc: Global,
-    names: (&'t str, &'t str),
+    names: AsmNames<'t>,
     assembly: &'t [u8],
     shelf: &mut H,
 ) -> Result<(), Failure<'t>>
     requires { length assembly.now ≤ 1048576 }
     ensures counts { NeverFall (H.counts shelf.old) (H.counts shelf.new) }
-    ensures whole { IfOk result (λ _. WhereSilent (IsWhole (asm_promise names.entry.0.now names.entry.1.now) (assembly.now ∷ []) well
+    ensures whole { IfOk result (λ _. WhereSilent (IsWhole (asm_promise names.entry.assembly.now names.entry.image.now) (assembly.now ∷ []) well
         (record { old = H.files shelf.old; new = H.files shelf.new; counts_old = H.counts shelf.old; counts_new = H.counts shelf.new }))) }
-    ensures failure { IfErr result (λ e. WhereSilent (FailsBy e (asm_promise names.entry.0.now names.entry.1.now) (assembly.now ∷ [])
+    ensures failure { IfErr result (λ e. WhereSilent (FailsBy e (asm_promise names.entry.assembly.now names.entry.image.now) (assembly.now ∷ [])
         (record { old = H.files shelf.old; new = H.files shelf.new; counts_old = H.counts shelf.old; counts_new = H.counts shelf.new }))) }
 {
-    let text = image_text_of(alloc, names.0, assembly)?;
-    put_file(alloc, shelf, names.1, text.as_slice())
+    let text = image_text_of(alloc, names.assembly, assembly)?;
+    put_file(alloc, shelf, names.image, text.as_slice())
 }
 
 fn asm_of<H: Shelf, E: Sink>(
     alloc: Global,
-    names: (&str, &str),
+    names: AsmNames<'_>,
     assembly: &[u8],
     shelf: &mut H,
     err: &mut E,
@@ -62,7 +69,7 @@ fn asm_of<H: Shelf, E: Sink>(
     requires { length assembly.now ≤ 1048576 }
     ensures counts { NeverFall (H.counts shelf.old) (H.counts shelf.new) }
     ensures err_faults { E.faults err.old ≤ E.faults err.new }
-    ensures answers { WhereSilent (λ out. TextAnswers result (asm_promise names.entry.0.now names.entry.1.now) (assembly.now ∷ [])
+    ensures answers { WhereSilent (λ out. TextAnswers result (asm_promise names.entry.assembly.now names.entry.image.now) (assembly.now ∷ [])
         (record { old = H.files shelf.old; new = H.files shelf.new; counts_old = H.counts shelf.old; counts_new = H.counts shelf.new }) out
         (record { old = E.contents err.old; new = E.contents err.new; faults_old = E.faults err.old; faults_new = E.faults err.new })) }
 {
@@ -75,19 +82,18 @@ fn asm_of<H: Shelf, E: Sink>(
 /// The answer to `asm ASM IMAGE`, which writes nothing to the output.
 pub fn answer_asm<H: Shelf, E: Sink>(
     alloc: Global,
-    assembly: &str,
-    image: &str,
+    names: AsmNames<'_>,
     shelf: &mut H,
     err: &mut E,
 ) -> Status
     ensures counts { NeverFall (H.counts shelf.old) (H.counts shelf.new) }
     ensures err_faults { E.faults err.old ≤ E.faults err.new }
-    ensures answers { WhereSilent (λ out. CommandAnswers result (asm_promise assembly.now image.now)
+    ensures answers { WhereSilent (λ out. CommandAnswers result (asm_promise names.entry.assembly.now names.entry.image.now)
         (record { old = H.files shelf.old; new = H.files shelf.new; counts_old = H.counts shelf.old; counts_new = H.counts shelf.new }) out
         (record { old = E.contents err.old; new = E.contents err.new; faults_old = E.faults err.old; faults_new = E.faults err.new })) }
 {
-    match read_file(alloc, shelf, assembly) {
-        Ok(bytes) => asm_of(alloc, (assembly, image), bytes.as_slice(), shelf, err),
+    match read_file(alloc, shelf, names.assembly) {
+        Ok(bytes) => asm_of(alloc, names, bytes.as_slice(), shelf, err),
         Err(unread) => answer_unread(err, unread),
     }
 }

@@ -21,11 +21,14 @@ use command_texts::{Accepted, Trace, print_u64, source_of, trace_of};
 use report_audit::{AuditFault, Verdict, audit};
 use std::alloc::Global;
 
-/// The names of the files of an audit.
+/// The names of the files of `audit SRC REPORT TRACE`.
 #[derive(Clone, Copy)]
 pub struct AuditNames<'n> {
+    /// The file of the source.
     pub source: &'n str,
+    /// The file of the report.
     pub report: &'n str,
+    /// The file of the trace.
     pub trace: &'n str,
 }
 
@@ -92,10 +95,8 @@ pub fn audit_texts<'t, O: Sink>(
     let source = source_of(alloc, names.source, source)?;
     let trace = trace_of(alloc, names.trace, trace)?;
     let verdict = verdict_of(alloc, &source, report, &trace)?;
-    match write_verdict(out, verdict) {
-        Ok(()) => Ok(verdict),
-        Err(Failed) => Err(Failure::Write),
-    }
+    write_verdict(out, verdict)?;
+    Ok(verdict)
 }
 
 fn audit_of<O: Sink, E: Sink>(

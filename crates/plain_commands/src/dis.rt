@@ -8,7 +8,7 @@ ghost use Rattle.command_texts.specs.command_answers.CommandAnswers.{CommandAnsw
 ghost use Rattle.command_texts.specs.command_answers.Outcomes.{FailsBy, FailsWriting, Gains};
 
 use command_texts::answers::{Failure, Status, answer_failure, answer_unread, read_file};
-use command_texts::outside::{Failed, Shelf, Sink};
+use command_texts::outside::{Shelf, Sink};
 use command_texts::{Image, disassemble, image_of, images_have_texts};
 use std::alloc::Global;
 
@@ -23,10 +23,8 @@ fn write_listing<'t, O: Sink>(out: &mut O, image: &Image) -> Result<(), Failure<
         (IsListing image.now.words)) }
 {
     images_have_texts(image);
-    match disassemble(image, out) {
-        Ok(()) => Ok(()),
-        Err(Failed) => Err(Failure::Write),
-    }
+    disassemble(image, out)?;
+    Ok(())
 }
 
 /// Writes the assembler text of the image that the text is.

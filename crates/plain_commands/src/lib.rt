@@ -7,11 +7,11 @@ mod dis;
 mod mean;
 mod run;
 
-pub use asm::answer_asm;
+pub use asm::{AsmNames, answer_asm};
 pub use audits::{AuditNames, answer_audit};
 pub use dis::answer_dis;
-pub use mean::answer_mean;
-pub use run::{RunEnding, answer_run, reason_of, write_report, write_run};
+pub use mean::{MeanNames, answer_mean};
+pub use run::{RunEnding, RunNames, answer_run, reason_of, write_report, write_run};
 
 // What the commands above use of the crates below.
 pub use board_run as board_runs;

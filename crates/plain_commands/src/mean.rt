@@ -20,8 +20,17 @@ use command_texts::{
     Accepted, Trace, mean_report_is_determined, source_of, trace_of, write_mean_report,
 };
 use source_values::SourceRun;
-use std::alloc::{AllocError, Global};
+use std::alloc::Global;
 use std::marker::Brand;
+
+/// The names of the files of `mean SRC TRACE`.
+#[derive(Clone, Copy)]
+pub struct MeanNames<'n> {
+    /// The file of the source.
+    pub source: &'n str,
+    /// The file of the trace.
+    pub trace: &'n str,
+}
 
 const MOST_TRANSITIONS: u64 = 10_000;
 
@@ -108,13 +117,9 @@ fn write_meaning<'t, O: Sink>(
         (IsMeanReport source.now.text.items (program_of source.now.checked.source) trace.now.readings)) }
 {
     report_is_the_meaning(source, trace);
-    match SourceRun::new(alloc, source.checked().source()) {
-        Err(AllocError) => Err(Failure::Memory),
-        Ok(mut run) => match write_report(out, source, &mut run, trace) {
-            Ok(()) => Ok(()),
-            Err(Failed) => Err(Failure::Write),
-        },
-    }
+    let mut run = SourceRun::new(alloc, source.checked().source())?;
+    write_report(out, source, &mut run, trace)?;
+    Ok(())
 }
 
 /// Writes the report of the source and the trace that the two texts are.
@@ -124,7 +129,7 @@ fn write_meaning<'t, O: Sink>(
 /// write failed, and the output gained a proper prefix of the report.
 pub fn mean_texts<'t, O: Sink>(
     alloc: Global,
-    names: (&'t str, &'t str),
+    names: MeanNames<'t>,
     source: &'t [u8],
     trace: &[u8],
     out: &mut O,
@@ -132,19 +137,21 @@ pub fn mean_texts<'t, O: Sink>(
     requires first { length source.now ≤ 1048576 }
     requires second { length trace.now ≤ 1048576 }
     ensures faults { O.faults out.old ≤ O.faults out.new }
-    ensures whole { IfOk result (λ _. WhereStands (λ shelf. IsWhole (mean_promise names.entry.0.now names.entry.1.now) (source.now ∷ trace.now ∷ []) well shelf
+    ensures whole { IfOk result (λ _. WhereStands (λ shelf. IsWhole (mean_promise names.entry.source.now names.entry.trace.now)
+        (source.now ∷ trace.now ∷ []) well shelf
         (record { old = O.contents out.old; new = O.contents out.new; faults_old = O.faults out.old; faults_new = O.faults out.new }))) }
-    ensures failure { IfErr result (λ e. WhereStands (λ shelf. FailsBy e (mean_promise names.entry.0.now names.entry.1.now) (source.now ∷ trace.now ∷ []) shelf
+    ensures failure { IfErr result (λ e. WhereStands (λ shelf. FailsBy e (mean_promise names.entry.source.now names.entry.trace.now)
+        (source.now ∷ trace.now ∷ []) shelf
         (record { old = O.contents out.old; new = O.contents out.new; faults_old = O.faults out.old; faults_new = O.faults out.new }))) }
 {
-    let source = source_of(alloc, names.0, source)?;
-    let trace = trace_of(alloc, names.1, trace)?;
+    let source = source_of(alloc, names.source, source)?;
+    let trace = trace_of(alloc, names.trace, trace)?;
     write_meaning(alloc, out, &source, &trace)
 }
 
 fn mean_of<O: Sink, E: Sink>(
     alloc: Global,
-    names: (&str, &str),
+    names: MeanNames<'_>,
     source: &[u8],
     trace: &[u8],
     out: &mut O,
@@ -154,7 +161,8 @@ fn mean_of<O: Sink, E: Sink>(
     requires trace { length trace.now ≤ 1048576 }
     ensures out_faults { O.faults out.old ≤ O.faults out.new }
     ensures err_faults { E.faults err.old ≤ E.faults err.new }
-    ensures answers { WhereStands (λ shelf. TextAnswers result (mean_promise names.entry.0.now names.entry.1.now) (source.now ∷ trace.now ∷ []) shelf
+    ensures answers { WhereStands (λ shelf. TextAnswers result (mean_promise names.entry.source.now names.entry.trace.now)
+        (source.now ∷ trace.now ∷ []) shelf
         (record { old = O.contents out.old; new = O.contents out.new; faults_old = O.faults out.old; faults_new = O.faults out.new })
         (record { old = E.contents err.old; new = E.contents err.new; faults_old = E.faults err.old; faults_new = E.faults err.new })) }
 {
@@ -167,8 +175,7 @@ fn mean_of<O: Sink, E: Sink>(
 /// The answer to `mean SRC TRACE`.
 pub fn answer_mean<H: Shelf, O: Sink, E: Sink>(
     alloc: Global,
-    source: &str,
-    trace: &str,
+    names: MeanNames<'_>,
     shelf: &mut H,
     out: &mut O,
     err: &mut E,
@@ -176,15 +183,15 @@ pub fn answer_mean<H: Shelf, O: Sink, E: Sink>(
     ensures counts { NeverFall (H.counts shelf.old) (H.counts shelf.new) }
     ensures out_faults { O.faults out.old ≤ O.faults out.new }
     ensures err_faults { E.faults err.old ≤ E.faults err.new }
-    ensures answers { CommandAnswers result (mean_promise source.now trace.now)
+    ensures answers { CommandAnswers result (mean_promise names.entry.source.now names.entry.trace.now)
         (record { old = H.files shelf.old; new = H.files shelf.new; counts_old = H.counts shelf.old; counts_new = H.counts shelf.new })
         (record { old = O.contents out.old; new = O.contents out.new; faults_old = O.faults out.old; faults_new = O.faults out.new })
         (record { old = E.contents err.old; new = E.contents err.new; faults_old = E.faults err.old; faults_new = E.faults err.new }) }
 {
-    match read_texts(alloc, shelf, source, trace) {
+    match read_texts(alloc, shelf, names.source, names.trace) {
         Ok(texts) => mean_of(
             alloc,
-            (source, trace),
+            names,
             texts.first.as_slice(),
             texts.second.as_slice(),
             out,

@@ -23,6 +23,15 @@ use fram_board::Board;
 use std::alloc::Global;
 use std::marker::Brand;
 
+/// The names of the files of `run IMAGE TRACE`.
+#[derive(Clone, Copy)]
+pub struct RunNames<'n> {
+    /// The file of the image.
+    pub image: &'n str,
+    /// The file of the trace.
+    pub trace: &'n str,
+}
+
 /// How a run ended whose report is whole.
 #[derive(Clone, Copy)]
 pub enum RunEnding {
@@ -138,13 +147,9 @@ pub fn write_run<'t, O: Sink>(
         (record { old = O.contents out.old; new = O.contents out.new; faults_old = O.faults out.old; faults_new = O.faults out.new })
         (λ output. (ending : Ending) × IsReportFrom board.old (start_of image.now) trace.now ending output)) }
 {
-    let Ok(mut watch) = Watch::new(alloc, image) else {
-        return Err(Failure::Memory);
-    };
-    match write_report(out, trace, board, &mut watch) {
-        Ok(ending) => Ok(ending),
-        Err(Failed) => Err(Failure::Write),
-    }
+    let mut watch = Watch::new(alloc, image)?;
+    let ending = write_report(out, trace, board, &mut watch)?;
+    Ok(ending)
 }
 
 /// Writes the report of the run of the image and the trace that the two texts are, and answers how it ended.
@@ -154,7 +159,7 @@ pub fn write_run<'t, O: Sink>(
 /// write failed, and the output gained a proper prefix of the report.
 pub fn run_texts<'t, O: Sink>(
     alloc: Global,
-    names: (&'t str, &'t str),
+    names: RunNames<'t>,
     image: &[u8],
     trace: &[u8],
     out: &mut O,
@@ -162,23 +167,22 @@ pub fn run_texts<'t, O: Sink>(
     requires image { length image.now ≤ 1048576 }
     requires trace { length trace.now ≤ 1048576 }
     ensures faults { O.faults out.old ≤ O.faults out.new }
-    ensures whole { IfOk result (λ ending. WhereStands (λ shelf. IsWhole (run_promise names.entry.0.now names.entry.1.now)
+    ensures whole { IfOk result (λ ending. WhereStands (λ shelf. IsWhole (run_promise names.entry.image.now names.entry.trace.now)
         (image.now ∷ trace.now ∷ []) (ending_of ending) shelf
         (record { old = O.contents out.old; new = O.contents out.new; faults_old = O.faults out.old; faults_new = O.faults out.new }))) }
-    ensures failure { IfErr result (λ e. WhereStands (λ shelf. FailsBy e (run_promise names.entry.0.now names.entry.1.now) (image.now ∷ trace.now ∷ []) shelf
+    ensures failure { IfErr result (λ e. WhereStands (λ shelf. FailsBy e (run_promise names.entry.image.now names.entry.trace.now)
+        (image.now ∷ trace.now ∷ []) shelf
         (record { old = O.contents out.old; new = O.contents out.new; faults_old = O.faults out.old; faults_new = O.faults out.new }))) }
 {
-    let image = image_of(alloc, names.0, image)?;
-    let trace = trace_of(alloc, names.1, trace)?;
-    let Ok(mut board) = Board::new(alloc, &image, trace.readings()) else {
-        return Err(Failure::Memory);
-    };
+    let image = image_of(alloc, names.image, image)?;
+    let trace = trace_of(alloc, names.trace, trace)?;
+    let mut board = Board::new(alloc, &image, trace.readings())?;
     write_run(alloc, out, &mut board, &image, &trace)
 }
 
 fn run_of<O: Sink, E: Sink>(
     alloc: Global,
-    names: (&str, &str),
+    names: RunNames<'_>,
     image: &[u8],
     trace: &[u8],
     out: &mut O,
@@ -188,7 +192,8 @@ fn run_of<O: Sink, E: Sink>(
     requires trace { length trace.now ≤ 1048576 }
     ensures out_faults { O.faults out.old ≤ O.faults out.new }
     ensures err_faults { E.faults err.old ≤ E.faults err.new }
-    ensures answers { WhereStands (λ shelf. TextAnswers result (run_promise names.entry.0.now names.entry.1.now) (image.now ∷ trace.now ∷ []) shelf
+    ensures answers { WhereStands (λ shelf. TextAnswers result (run_promise names.entry.image.now names.entry.trace.now)
+        (image.now ∷ trace.now ∷ []) shelf
         (record { old = O.contents out.old; new = O.contents out.new; faults_old = O.faults out.old; faults_new = O.faults out.new })
         (record { old = E.contents err.old; new = E.contents err.new; faults_old = E.faults err.old; faults_new = E.faults err.new })) }
 {
@@ -205,8 +210,7 @@ fn run_of<O: Sink, E: Sink>(
 /// The answer to `run IMAGE TRACE`.
 pub fn answer_run<H: Shelf, O: Sink, E: Sink>(
     alloc: Global,
-    image: &str,
-    trace: &str,
+    names: RunNames<'_>,
     shelf: &mut H,
     out: &mut O,
     err: &mut E,
@@ -214,15 +218,15 @@ pub fn answer_run<H: Shelf, O: Sink, E: Sink>(
     ensures counts { NeverFall (H.counts shelf.old) (H.counts shelf.new) }
     ensures out_faults { O.faults out.old ≤ O.faults out.new }
     ensures err_faults { E.faults err.old ≤ E.faults err.new }
-    ensures answers { CommandAnswers result (run_promise image.now trace.now)
+    ensures answers { CommandAnswers result (run_promise names.entry.image.now names.entry.trace.now)
         (record { old = H.files shelf.old; new = H.files shelf.new; counts_old = H.counts shelf.old; counts_new = H.counts shelf.new })
         (record { old = O.contents out.old; new = O.contents out.new; faults_old = O.faults out.old; faults_new = O.faults out.new })
         (record { old = E.contents err.old; new = E.contents err.new; faults_old = E.faults err.old; faults_new = E.faults err.new }) }
 {
-    match read_texts(alloc, shelf, image, trace) {
+    match read_texts(alloc, shelf, names.image, names.trace) {
         Ok(texts) => run_of(
             alloc,
-            (image, trace),
+            names,
             texts.first.as_slice(),
             texts.second.as_slice(),
             out,

@@ -45,18 +45,6 @@ fails_at (Put file) name P n t place named is fails = absurd fails
 fails_at Write name P n t place named is fails = absurd fails
 fails_at Memory name P n t place named is fails = tt
 
--- the same of the answer of a call
-pub all_fail_at : {A : Type 0} (result : Result A Failure) (name : List ℕ) (P : Refusal → Type 0) (n : MigrateNames) (t : Editions) (place : ℕ)
-    → slice_get (read_by n) place ≡ Some name → ((r : Refusal) → P r → MigrateRefuses t place r) → IfErr result (FailsRefused name P)
-    → IfErr result (FailsAt (read_by n) (MigrateRefuses t))
-all_fail_at (Ok x) name P n t place named is fails = tt
-all_fail_at (Err e) name P n t place named is fails = fails_at e name P n t place named is fails
-
--- what holds in any case holds where nothing failed
-pub if_ok : {A E : Type 0} (result : Result A E) {X : Type 0} → X → IfOk result (λ _. X)
-if_ok (Ok a) x = x
-if_ok (Err e) x = tt
-
 -- a fault of a migration is why its state is refused
 pub fault_refuses : (e : Failure) (name : List ℕ) (t : Editions) (s : Said) (f : MigrateFault) → OfEditions s (λ a b. IsFault a b f)
     → FailsRefused name (λ r. migrate_refusal t f ≡ Some r) e

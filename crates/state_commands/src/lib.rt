@@ -7,8 +7,8 @@ mod save;
 mod state_words;
 
 pub use migrate::{MigrateNames, answer_migrate};
-pub use resume::answer_resume;
-pub use save::answer_save;
+pub use resume::{ResumeNames, answer_resume};
+pub use save::{SaveNames, answer_save};
 
 // That a migration has one answer, and when there is one.
 pub use fram_state::{answers_are_one, no_migration_is_refused};

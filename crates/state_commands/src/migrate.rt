@@ -3,7 +3,6 @@ ghost use Rattle.std.specs.Prelude.{◌≡◌, ◌≤◌, IfOk, IfErr, IfSome, S
 ghost use Rattle.plain_commands.specs.alp_io.Shelf.{NeverFall};
 ghost use Rattle.plain_commands.specs.source_report.task_ast.View.{program_of};
 ghost use Rattle.fram_state.specs.declared.migration.MigrateFault.{MigrateFault};
-ghost use Rattle.fram_state.specs.Belongs.{Belongs};
 ghost use Rattle.fram_state.specs.Suits.{Suits};
 ghost use Rattle.fram_state.specs.Migrated.{IsStateOf, IsMigrated, IsFault};
 ghost use Rattle.plain_commands.specs.state_text.image_map.Kept.{IsMap};
@@ -27,16 +26,22 @@ use plain_commands::answers::{
 };
 use plain_commands::outside::{Shelf, Sink};
 use plain_commands::texts::{Accepted, Image, State, image_of, print_state, source_of, state_of};
-use std::alloc::{AllocError, Global};
+use std::alloc::Global;
 
-/// The names of the files of a migration.
+/// The names of the files of `migrate SRC IMAGE STATE NEWSRC NEWIMAGE NEWSTATE`.
 #[derive(Clone, Copy)]
 pub struct MigrateNames<'n> {
+    /// The file of the old source.
     pub source: &'n str,
+    /// The file of its image.
     pub image: &'n str,
+    /// The file of the old state.
     pub state: &'n str,
+    /// The file of the new source.
     pub new_source: &'n str,
+    /// The file of its image.
     pub new_image: &'n str,
+    /// The file that is to hold the new state.
     pub new_state: &'n str,
 }
 
@@ -145,27 +150,6 @@ fn check_suits<'t>(
     }
 }
 
-// Asks whether each image suits its source, and the state belongs to the old image; the texts say these.
-//
-// Errors: `Refused` with what keeps it from that; `Memory` where memory was refused.
-fn check_editions<'t>(
-    alloc: Global,
-    names: MigrateNames<'t>,
-    texts: EditionTexts<'t>,
-    said: &Said,
-) -> Result<(), Failure<'t>>
-    requires { AreRead (editions_of texts) said.now }
-    ensures old { IfOk result (λ _. Suits said.now.source.text.items (program_of said.now.source.checked.source) said.now.image) }
-    ensures new { IfOk result (λ _. Suits said.now.new_source.text.items (program_of said.now.new_source.checked.source) said.now.new_image) }
-    ensures belongs { IfOk result (λ _. Belongs said.now.image said.now.state) }
-    ensures refused { IfErr result (FailsAt (read_by names.entry) (MigrateRefuses (editions_of texts.entry))) }
-{
-    let _ = texts;
-    check_suits(alloc, names.image, &said.source, &said.image)?;
-    check_suits(alloc, names.new_image, &said.new_source, &said.new_image)?;
-    check_belongs(names.state, &said.image, &said.state)
-}
-
 fn migrate_refusal<'t>(texts: EditionTexts<'t>, fault: MigrateFault) -> Option<Refusal<'t>>
     ensures { option_map refusal_of result ≡ told.migrate_refusal (editions_of texts.entry) fault }
 {
@@ -229,12 +213,12 @@ fn migrated_text<'t>(
     ensures refused { IfErr result (FailsAt (read_by names.entry) (MigrateRefuses (editions_of texts.entry))) }
 {
     let said = said_by(alloc, names, texts)?;
-    check_editions(alloc, names, texts, &said)?;
+    check_suits(alloc, names.image, &said.source, &said.image)?;
+    check_suits(alloc, names.new_image, &said.new_source, &said.new_image)?;
+    check_belongs(names.state, &said.image, &said.state)?;
     let state = migrated_of(alloc, names.state, texts, said)?;
-    match print_state(alloc, &state) {
-        Ok(text) => Ok(text),
-        Err(AllocError) => Err(Failure::Memory),
-    }
+    let text = print_state(alloc, &state)?;
+    Ok(text)
 }
 
 /// Puts the state of the new edition that goes on in place of the old state. All memory but that of the put is taken before it.

@@ -22,6 +22,17 @@ use plain_commands::texts::{Image, State, Trace, image_of, state_of, trace_of};
 use plain_commands::{RunEnding, write_run};
 use std::alloc::Global;
 
+/// The names of the files of `resume IMAGE STATE TRACE`.
+#[derive(Clone, Copy)]
+pub struct ResumeNames<'n> {
+    /// The file of the image.
+    pub image: &'n str,
+    /// The file of the state.
+    pub state: &'n str,
+    /// The file of the trace.
+    pub trace: &'n str,
+}
+
 /// What the texts of a call say.
 #[derive(Drop)]
 struct Resumption {
@@ -72,7 +83,7 @@ pub fn check_belongs<'t>(file: &'t str, image: &Image, state: &State) -> Result<
 // What the texts say; or the first that is refused.
 fn resumption_of<'t>(
     alloc: Global,
-    names: (&'t str, &'t str, &'t str),
+    names: ResumeNames<'t>,
     image: &[u8],
     state: &[u8],
     trace: &[u8],
@@ -82,11 +93,11 @@ fn resumption_of<'t>(
     requires trace { length trace.now ≤ 1048576 }
     ensures said { IfOk result (λ r. IsResumption image.now state.now trace.now r.image r.state r.trace) }
     ensures failure { IfErr result (λ e. WhereStands (λ shelf. WhereSilent (FailsBy e
-        (resume_promise ResumesOnWords names.entry.0.now names.entry.1.now names.entry.2.now) (image.now ∷ state.now ∷ trace.now ∷ []) shelf))) }
+        (resume_promise ResumesOnWords names.entry.image.now names.entry.state.now names.entry.trace.now) (image.now ∷ state.now ∷ trace.now ∷ []) shelf))) }
 {
-    let image = image_of(alloc, names.0, image)?;
-    let state = state_of(alloc, names.1, state)?;
-    let trace = trace_of(alloc, names.2, trace)?;
+    let image = image_of(alloc, names.image, image)?;
+    let state = state_of(alloc, names.state, state)?;
+    let trace = trace_of(alloc, names.trace, trace)?;
     Ok(Resumption {
         image,
         state,
@@ -102,7 +113,7 @@ fn resumption_of<'t>(
 /// where memory was refused; nothing is written then. `Write` where a write failed, and the output gained a proper prefix of the report.
 pub fn resume_texts<'t, O: Sink>(
     alloc: Global,
-    names: (&'t str, &'t str, &'t str),
+    names: ResumeNames<'t>,
     image: &[u8],
     state: &[u8],
     trace: &[u8],
@@ -113,24 +124,23 @@ pub fn resume_texts<'t, O: Sink>(
     requires trace { length trace.now ≤ 1048576 }
     ensures faults { O.faults out.old ≤ O.faults out.new }
     ensures whole { IfOk result (λ ending. WhereStands (λ shelf. IsWhole
-        (resume_promise ResumesOnWords names.entry.0.now names.entry.1.now names.entry.2.now) (image.now ∷ state.now ∷ trace.now ∷ []) (ending_of ending) shelf
+        (resume_promise ResumesOnWords names.entry.image.now names.entry.state.now names.entry.trace.now)
+        (image.now ∷ state.now ∷ trace.now ∷ []) (ending_of ending) shelf
         (record { old = O.contents out.old; new = O.contents out.new; faults_old = O.faults out.old; faults_new = O.faults out.new }))) }
     ensures failure { IfErr result (λ e. WhereStands (λ shelf. FailsBy e
-        (resume_promise ResumesOnWords names.entry.0.now names.entry.1.now names.entry.2.now) (image.now ∷ state.now ∷ trace.now ∷ []) shelf
+        (resume_promise ResumesOnWords names.entry.image.now names.entry.state.now names.entry.trace.now) (image.now ∷ state.now ∷ trace.now ∷ []) shelf
         (record { old = O.contents out.old; new = O.contents out.new; faults_old = O.faults out.old; faults_new = O.faults out.new }))) }
 {
     let said = resumption_of(alloc, names, image, state, trace)?;
-    check_belongs(names.1, &said.image, &said.state)?;
+    check_belongs(names.state, &said.image, &said.state)?;
     is_of_words(&said.state);
-    let Ok(mut board) = Board::from_state(alloc, &said.state, said.trace.readings()) else {
-        return Err(Failure::Memory);
-    };
+    let mut board = Board::from_state(alloc, &said.state, said.trace.readings())?;
     write_run(alloc, out, &mut board, &said.state.image, &said.trace)
 }
 
 fn resume_of<O: Sink, E: Sink>(
     alloc: Global,
-    names: (&str, &str, &str),
+    names: ResumeNames<'_>,
     texts: &ThreeTexts,
     out: &mut O,
     err: &mut E,
@@ -141,7 +151,7 @@ fn resume_of<O: Sink, E: Sink>(
     ensures out_faults { O.faults out.old ≤ O.faults out.new }
     ensures err_faults { E.faults err.old ≤ E.faults err.new }
     ensures answers { WhereStands (λ shelf. TextAnswers result
-        (resume_promise ResumesOnWords names.entry.0.now names.entry.1.now names.entry.2.now)
+        (resume_promise ResumesOnWords names.entry.image.now names.entry.state.now names.entry.trace.now)
         (texts.now.first.items ∷ texts.now.second.items ∷ texts.now.third.items ∷ []) shelf
         (record { old = O.contents out.old; new = O.contents out.new; faults_old = O.faults out.old; faults_new = O.faults out.new })
         (record { old = E.contents err.old; new = E.contents err.new; faults_old = E.faults err.old; faults_new = E.faults err.new })) }
@@ -159,7 +169,7 @@ fn resume_of<O: Sink, E: Sink>(
 /// The answer to `resume IMAGE STATE TRACE`.
 pub fn answer_resume<H: Shelf, O: Sink, E: Sink>(
     alloc: Global,
-    names: (&str, &str, &str),
+    names: ResumeNames<'_>,
     shelf: &mut H,
     out: &mut O,
     err: &mut E,
@@ -167,12 +177,12 @@ pub fn answer_resume<H: Shelf, O: Sink, E: Sink>(
     ensures counts { NeverFall (H.counts shelf.old) (H.counts shelf.new) }
     ensures out_faults { O.faults out.old ≤ O.faults out.new }
     ensures err_faults { E.faults err.old ≤ E.faults err.new }
-    ensures answers { CommandAnswers result (resume_promise ResumesOnWords names.entry.0.now names.entry.1.now names.entry.2.now)
+    ensures answers { CommandAnswers result (resume_promise ResumesOnWords names.entry.image.now names.entry.state.now names.entry.trace.now)
         (record { old = H.files shelf.old; new = H.files shelf.new; counts_old = H.counts shelf.old; counts_new = H.counts shelf.new })
         (record { old = O.contents out.old; new = O.contents out.new; faults_old = O.faults out.old; faults_new = O.faults out.new })
         (record { old = E.contents err.old; new = E.contents err.new; faults_old = E.faults err.old; faults_new = E.faults err.new }) }
 {
-    match read_three_texts(alloc, shelf, names.0, names.1, names.2) {
+    match read_three_texts(alloc, shelf, names.image, names.state, names.trace) {
         Ok(texts) => resume_of(alloc, names, &texts, out, err),
         Err(unread) => answer_unread(err, unread),
     }

@@ -23,7 +23,27 @@ use plain_commands::boards::Board;
 use plain_commands::outside::{Failed, NullSink, Report, Shelf, Sink};
 use plain_commands::texts::{State, Trace, print_state, state_of, trace_of};
 use plain_commands::{RunEnding, reason_of};
-use std::alloc::{AllocError, Global};
+use std::alloc::Global;
+
+/// The names of the files of `save IMAGE TRACE STATE`.
+#[derive(Clone, Copy)]
+pub struct SaveNames<'n> {
+    /// The file of the image, which may be a state.
+    pub image: &'n str,
+    /// The file of the trace.
+    pub trace: &'n str,
+    /// The file that is to hold the state.
+    pub state: &'n str,
+}
+
+/// The texts of a run that is saved.
+#[derive(Clone, Copy)]
+pub struct SaveTexts<'t> {
+    /// The bytes of the image.
+    pub image: &'t [u8],
+    /// The bytes of the trace.
+    pub trace: &'t [u8],
+}
 
 /// A run of which no line was written.
 #[derive(Drop)]
@@ -48,12 +68,8 @@ fn run_from<'t>(alloc: Global, state: &State, trace: &Trace) -> Result<SilentRun
     ensures ran { IfOk result (λ r. RanFrom state.now trace.now r.end r.board r.completed) }
     ensures failure { IfErr result (λ e. e ≡ Memory) }
 {
-    let Ok(mut board) = Board::from_state(alloc, state, trace.readings()) else {
-        return Err(Failure::Memory);
-    };
-    let Ok(mut watch) = Watch::new(alloc, &state.image) else {
-        return Err(Failure::Memory);
-    };
+    let mut board = Board::from_state(alloc, state, trace.readings())?;
+    let mut watch = Watch::new(alloc, &state.image)?;
     let mut sink = NullSink;
     let mut report = Report::new(&mut sink);
     let end = run(&mut board, trace, &mut watch, &mut report);
@@ -101,63 +117,28 @@ fn saved_text<'t>(alloc: Global, board: &Board, state: State) -> Result<Vec<u8>,
 {
     let mut state = state;
     board.save_into(&mut state);
-    match print_state(alloc, &state) {
-        Ok(text) => Ok(text),
-        Err(AllocError) => Err(Failure::Memory),
-    }
+    let text = print_state(alloc, &state)?;
+    Ok(text)
 }
 
 // Runs the image or the state that the first text is on the trace that the second is; or the first text that is refused.
 fn state_run_of<'t>(
     alloc: Global,
-    names: (&'t str, &'t str, &'t str),
-    texts: (&[u8], &[u8]),
+    names: SaveNames<'t>,
+    texts: SaveTexts<'_>,
 ) -> Result<StateRun, Failure<'t>>
-    requires image { length texts.0.now ≤ 1048576 }
-    requires trace { length texts.1.now ≤ 1048576 }
-    ensures ran { IfOk result (λ r. RanOn texts.entry.0.now texts.entry.1.now r.state r.ran.end r.ran.board r.ran.completed) }
+    requires image { length texts.image.now ≤ 1048576 }
+    requires trace { length texts.trace.now ≤ 1048576 }
+    ensures ran { IfOk result (λ r. RanOn texts.entry.image.now texts.entry.trace.now r.state r.ran.end r.ran.board r.ran.completed) }
     ensures failure { IfErr result (λ e. WhereStands (λ shelf. WhereSilent (FailsBy e
-        (save_promise RunsOnWords names.entry.0.now names.entry.1.now names.entry.2.now) (texts.entry.0.now ∷ texts.entry.1.now ∷ []) shelf))) }
+        (save_promise RunsOnWords names.entry.image.now names.entry.trace.now names.entry.state.now)
+        (texts.entry.image.now ∷ texts.entry.trace.now ∷ []) shelf))) }
 {
-    let state = state_of(alloc, names.0, texts.0)?;
-    let trace = trace_of(alloc, names.1, texts.1)?;
+    let state = state_of(alloc, names.image, texts.image)?;
+    let trace = trace_of(alloc, names.trace, texts.trace)?;
     is_of_words(&state);
     let ran = run_from(alloc, &state, &trace)?;
     Ok(StateRun { state, ran })
-}
-
-// Puts the state at the end of a run that ended well, and writes the last line of the run's report. All memory but that of the put is
-// taken before it.
-fn put_saved<'t, H: Shelf, O: Sink>(
-    alloc: Global,
-    names: (&'t str, &'t str, &'t str),
-    texts: (&[u8], &[u8]),
-    end: RunEnd,
-    state_run: StateRun,
-    shelf: &mut H,
-    out: &mut O,
-) -> Result<RunEnding, Failure<'t>>
-    requires ran { RanOn texts.0.now texts.1.now state_run.state state_run.ran.end state_run.ran.board state_run.ran.completed }
-    requires ends { state_run.ran.end ≡ Ok end }
-    ensures counts { NeverFall (H.counts shelf.old) (H.counts shelf.new) }
-    ensures faults { O.faults out.old ≤ O.faults out.new }
-    ensures whole { IfOk result (λ ending. IsWhole (save_promise RunsOnWords names.entry.0.now names.entry.1.now names.entry.2.now)
-        (texts.entry.0.now ∷ texts.entry.1.now ∷ []) (ending_of ending)
-        (record { old = H.files shelf.old; new = H.files shelf.new; counts_old = H.counts shelf.old; counts_new = H.counts shelf.new })
-        (record { old = O.contents out.old; new = O.contents out.new; faults_old = O.faults out.old; faults_new = O.faults out.new })) }
-    ensures failure { IfErr result (λ e. FailsBy e (save_promise RunsOnWords names.entry.0.now names.entry.1.now names.entry.2.now)
-        (texts.entry.0.now ∷ texts.entry.1.now ∷ [])
-        (record { old = H.files shelf.old; new = H.files shelf.new; counts_old = H.counts shelf.old; counts_new = H.counts shelf.new })
-        (record { old = O.contents out.old; new = O.contents out.new; faults_old = O.faults out.old; faults_new = O.faults out.new })) }
-{
-    let _ = texts;
-    let StateRun { state, ran } = state_run;
-    let text = saved_text(alloc, &ran.board, state)?;
-    put_file(alloc, shelf, names.2, text.as_slice())?;
-    match write_end(out, end, &ran) {
-        Ok(()) => Ok(RunEnding::Well),
-        Err(Failed) => Err(Failure::Write),
-    }
 }
 
 /// Runs the image or the state that the first text is on the trace that the second is, puts the state at the run's end, and writes the
@@ -169,49 +150,55 @@ fn put_saved<'t, H: Shelf, O: Sink>(
 /// output gained a proper prefix of the line.
 pub fn save_texts<'t, H: Shelf, O: Sink>(
     alloc: Global,
-    names: (&'t str, &'t str, &'t str),
-    texts: (&[u8], &[u8]),
+    names: SaveNames<'t>,
+    texts: SaveTexts<'_>,
     shelf: &mut H,
     out: &mut O,
 ) -> Result<RunEnding, Failure<'t>>
-    requires image { length texts.0.now ≤ 1048576 }
-    requires trace { length texts.1.now ≤ 1048576 }
+    requires image { length texts.image.now ≤ 1048576 }
+    requires trace { length texts.trace.now ≤ 1048576 }
     ensures counts { NeverFall (H.counts shelf.old) (H.counts shelf.new) }
     ensures faults { O.faults out.old ≤ O.faults out.new }
-    ensures whole { IfOk result (λ ending. IsWhole (save_promise RunsOnWords names.entry.0.now names.entry.1.now names.entry.2.now)
-        (texts.entry.0.now ∷ texts.entry.1.now ∷ []) (ending_of ending)
+    ensures whole { IfOk result (λ ending. IsWhole (save_promise RunsOnWords names.entry.image.now names.entry.trace.now names.entry.state.now)
+        (texts.entry.image.now ∷ texts.entry.trace.now ∷ []) (ending_of ending)
         (record { old = H.files shelf.old; new = H.files shelf.new; counts_old = H.counts shelf.old; counts_new = H.counts shelf.new })
         (record { old = O.contents out.old; new = O.contents out.new; faults_old = O.faults out.old; faults_new = O.faults out.new })) }
-    ensures failure { IfErr result (λ e. FailsBy e (save_promise RunsOnWords names.entry.0.now names.entry.1.now names.entry.2.now)
-        (texts.entry.0.now ∷ texts.entry.1.now ∷ [])
+    ensures failure { IfErr result (λ e. FailsBy e (save_promise RunsOnWords names.entry.image.now names.entry.trace.now names.entry.state.now)
+        (texts.entry.image.now ∷ texts.entry.trace.now ∷ [])
         (record { old = H.files shelf.old; new = H.files shelf.new; counts_old = H.counts shelf.old; counts_new = H.counts shelf.new })
         (record { old = O.contents out.old; new = O.contents out.new; faults_old = O.faults out.old; faults_new = O.faults out.new })) }
 {
     let state_run = state_run_of(alloc, names, texts)?;
     match state_run.ran.end {
-        Ok(end) => put_saved(alloc, names, texts, end, state_run, shelf, out),
-        Err(fault) => match write_fault(out, fault) {
-            Ok(()) => Ok(RunEnding::AtFault),
-            Err(Failed) => Err(Failure::Write),
-        },
+        Ok(end) => {
+            let StateRun { state, ran } = state_run;
+            let text = saved_text(alloc, &ran.board, state)?;
+            put_file(alloc, shelf, names.state, text.as_slice())?;
+            write_end(out, end, &ran)?;
+            Ok(RunEnding::Well)
+        }
+        Err(fault) => {
+            write_fault(out, fault)?;
+            Ok(RunEnding::AtFault)
+        }
     }
 }
 
 fn save_of<H: Shelf, O: Sink, E: Sink>(
     alloc: Global,
-    names: (&str, &str, &str),
-    texts: (&[u8], &[u8]),
+    names: SaveNames<'_>,
+    texts: SaveTexts<'_>,
     shelf: &mut H,
     out: &mut O,
     err: &mut E,
 ) -> Status
-    requires image { length texts.0.now ≤ 1048576 }
-    requires trace { length texts.1.now ≤ 1048576 }
+    requires image { length texts.image.now ≤ 1048576 }
+    requires trace { length texts.trace.now ≤ 1048576 }
     ensures counts { NeverFall (H.counts shelf.old) (H.counts shelf.new) }
     ensures out_faults { O.faults out.old ≤ O.faults out.new }
     ensures err_faults { E.faults err.old ≤ E.faults err.new }
-    ensures answers { TextAnswers result (save_promise RunsOnWords names.entry.0.now names.entry.1.now names.entry.2.now)
-        (texts.entry.0.now ∷ texts.entry.1.now ∷ [])
+    ensures answers { TextAnswers result (save_promise RunsOnWords names.entry.image.now names.entry.trace.now names.entry.state.now)
+        (texts.entry.image.now ∷ texts.entry.trace.now ∷ [])
         (record { old = H.files shelf.old; new = H.files shelf.new; counts_old = H.counts shelf.old; counts_new = H.counts shelf.new })
         (record { old = O.contents out.old; new = O.contents out.new; faults_old = O.faults out.old; faults_new = O.faults out.new })
         (record { old = E.contents err.old; new = E.contents err.new; faults_old = E.faults err.old; faults_new = E.faults err.new }) }
@@ -229,7 +216,7 @@ fn save_of<H: Shelf, O: Sink, E: Sink>(
 /// The answer to `save IMAGE TRACE STATE`.
 pub fn answer_save<H: Shelf, O: Sink, E: Sink>(
     alloc: Global,
-    names: (&str, &str, &str),
+    names: SaveNames<'_>,
     shelf: &mut H,
     out: &mut O,
     err: &mut E,
@@ -237,16 +224,19 @@ pub fn answer_save<H: Shelf, O: Sink, E: Sink>(
     ensures counts { NeverFall (H.counts shelf.old) (H.counts shelf.new) }
     ensures out_faults { O.faults out.old ≤ O.faults out.new }
     ensures err_faults { E.faults err.old ≤ E.faults err.new }
-    ensures answers { CommandAnswers result (save_promise RunsOnWords names.entry.0.now names.entry.1.now names.entry.2.now)
+    ensures answers { CommandAnswers result (save_promise RunsOnWords names.entry.image.now names.entry.trace.now names.entry.state.now)
         (record { old = H.files shelf.old; new = H.files shelf.new; counts_old = H.counts shelf.old; counts_new = H.counts shelf.new })
         (record { old = O.contents out.old; new = O.contents out.new; faults_old = O.faults out.old; faults_new = O.faults out.new })
         (record { old = E.contents err.old; new = E.contents err.new; faults_old = E.faults err.old; faults_new = E.faults err.new }) }
 {
-    match read_texts(alloc, shelf, names.0, names.1) {
+    match read_texts(alloc, shelf, names.image, names.trace) {
         Ok(texts) => save_of(
             alloc,
             names,
-            (texts.first.as_slice(), texts.second.as_slice()),
+            SaveTexts {
+                image: texts.first.as_slice(),
+                trace: texts.second.as_slice(),
+            },
             shelf,
             out,
             err,

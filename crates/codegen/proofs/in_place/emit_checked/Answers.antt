@@ -9,32 +9,32 @@ use Rattle.codegen.proofs.in_place.emit_checked.Goals as goal
 
 pub code_words-requires : goal.code_words-requires
 code_words-requires c =
-    let x = rest_source c.args.right in
-    let ms = inside_update c.args.operation x c.args.place c.args.list in
+    let x = rest_source c.args.update.right in
+    let ms = inside_update c.args.update.operation x c.args.update.place c.args.update.list in
     let own = c.deref.ensures.value ∙ c.in_ok-emit_inside.ensures ∙ ap (λ l. l ++ instructions ms) c.new-inside.ensures.items in
     omega (
       arith,
-      few_words c.deref.result.now ms own (omega (arith, inside_bytes c.args.operation x c.args.place c.args.list, reads_bytes c.args.operation x)),
+      few_words c.deref.result.now ms own (omega (arith, inside_bytes c.args.update.operation x c.args.update.place c.args.update.list, reads_bytes c.args.update.operation x)),
     )
 
 pub jump-requires : goal.jump-requires
 jump-requires c =
-    let x = rest_source c.args.right in
-    let ms = inside_update c.args.operation x c.args.place c.args.list in
+    let x = rest_source c.args.update.right in
+    let ms = inside_update c.args.update.operation x c.args.update.place c.args.update.list in
     let own = c.deref.ensures.value ∙ c.in_ok-emit_inside.ensures ∙ ap (λ l. l ++ instructions ms) c.new-inside.ensures.items in
     omega (
       arith,
       c.code_words.ensures,
-      few_words c.deref.result.now ms own (omega (arith, inside_bytes c.args.operation x c.args.place c.args.list, reads_bytes c.args.operation x)),
+      few_words c.deref.result.now ms own (omega (arith, inside_bytes c.args.update.operation x c.args.update.place c.args.update.list, reads_bytes c.args.update.operation x)),
     )
 
 pub returns : goal.returns
 returns c =
     let old = c.args.code.now.items in
-    let ms = inside_update c.args.operation (rest_source c.args.right) c.args.place c.args.list in
+    let ms = inside_update c.args.update.operation (rest_source c.args.update.right) c.args.update.place c.args.update.list in
     let own = c.in_ok-emit_inside.ensures ∙ ap (λ l. l ++ instructions ms) c.new-inside.ensures.items in
     let words = c.code_words.ensures ∙ own_words c.deref.result.now ms (c.deref.ensures.value ∙ own) in
-    let front = Calculate op.Cmp (Number c.args.place.length) R4 ∷ Jump condition.Carry (size ms) ∷ [] in
+    let front = Calculate op.Cmp (Number c.args.update.place.length) R4 ∷ Jump condition.Carry (size ms) ∷ [] in
     let first = c.in_ok-extend_from_slice.ensures.items ∙ ap (λ l. old ++ l) (cons _ _ _ _ c.two.ensures
     (cons _ _ _ _ (c.jump.ensures ∙ ap (λ n. instruction_of (Jump condition.Carry n)) words) refl)) in
     own_behind c.extend_from_slice-2.result _ _ _ _ front ms _ first (c.deref-2.ensures.value ∙ own) refl

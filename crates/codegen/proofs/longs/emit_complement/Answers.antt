@@ -1,4 +1,4 @@
-use Rattle.codegen.proofs.Names.{◌++◌, [], refl, ap, ◌∙◌, on_ok_weaker, instructions, Word, Two, R4, R6, index_of}
+use Rattle.codegen.proofs.Names.{[], refl, ap, ◌∙◌, on_ok_weaker, Word, Two, R4, R6, index_of}
 use Rattle.word_code.specs.Code.{parted, parting, pair_lost, pair_to_registers, complement_code}
 use Rattle.word_code.specs.msp_isa.declared.instructions.TwoOp.TheVariants as op
 use Rattle.word_code.specs.msp_isa.declared.operands.Dst.TheVariants as dst

@@ -19,18 +19,19 @@ returns-in_err-put_file-clause-failure g c =
     (c.in_ok-built.ensures.told built.map built.mapped) _ refl in
     handed_on _ _ _ c.from_residual-in_err-put_file.ensures (put_fails _ _ _ _ _ _ _ _ refl (product, refl) refl c.in_err-put_file.ensures.failure)
 
-pub returns-in-Ok-clause-whole : goal.returns-in-Ok-clause-whole
-returns-in-Ok-clause-whole g c =
+pub returns-clause-whole : goal.returns-clause-whole
+returns-clause-whole g c =
     let built = c.in_ok-built.ensures.built in
     let product = builds c.images_keep_the_laws.ensures _ _ _ _ _ _ c.in_ok-source.ensures.text c.in_ok-source.ensures.accepted built
     (c.in_ok-built.ensures.told built.map built.mapped) in
     put_whole _ _ _ _ _ _ _ _ refl (λ output bound. (product output bound, refl)) c.as_slice.ensures.value c.in_ok-put_file.ensures.put
-    (_, ap (λ a. bound_line a.cycles) c.allow.ensures, c.in-Ok.ensures.bytes.whole)
+    (_, ap (λ a. bound_line a.cycles) c.allow.ensures, c.in_ok-write_bound.ensures.bytes.whole)
 
-pub returns-clause-failure : goal.returns-clause-failure
-returns-clause-failure g c =
+pub returns-in_err-write_bound-clause-failure : goal.returns-in_err-write_bound-clause-failure
+returns-in_err-write_bound-clause-failure g c =
     let built = c.in_ok-built.ensures.built in
     let product = builds c.images_keep_the_laws.ensures _ _ _ _ _ _ c.in_ok-source.ensures.text c.in_ok-source.ensures.accepted built
     (c.in_ok-built.ensures.told built.map built.mapped) in
-    put_breaks _ _ _ _ _ _ _ _ refl (λ output bound. (product output bound, refl)) c.as_slice.ensures.value c.in_ok-put_file.ensures.put
-    (_, ap (λ a. bound_line a.cycles) c.allow.ensures, c.in-Err.ensures.bytes.part, c.in-Err.ensures.cause.failed)
+    handed_on _ _ _ c.from_residual-in_err-write_bound.ensures
+    (put_breaks _ _ _ _ _ _ _ _ refl (λ output bound. (product output bound, refl)) c.as_slice.ensures.value c.in_ok-put_file.ensures.put
+    (_, ap (λ a. bound_line a.cycles) c.allow.ensures, c.in_err-write_bound.ensures.bytes.part, c.in_err-write_bound.ensures.cause.failed))

@@ -7,4 +7,4 @@ put_generated-requires-clause-generated g c = c.in_ok-source.ensures.text ∙ c.
 
 pub put_generated-requires-clause-trace : goal.put_generated-requires-clause-trace
 put_generated-requires-clause-trace g c =
-    c.in_ok-trace.ensures.trace ∙ ap (λ b. generated_trace c.args.words.0 b) (ap (λ a. a.cycles) c.allow.ensures)
+    c.in_ok-trace.ensures.trace ∙ ap (λ b. generated_trace c.args.words.number b) (ap (λ a. a.cycles) c.allow.ensures)

@@ -2,5 +2,5 @@ use Rattle.std.proofs.Common.{arith}
 use Rattle.compiler_commands.proofs.GenLaws.{generated_words}
 use Rattle.compiler_commands.proofs.generate.trace_of_number.Goals as goal
 
-pub returns-in-Ok-clause-words : goal.returns-in-Ok-clause-words
-returns-in-Ok-clause-words c = generated_words _ _ _ (omega arith) c.in-Ok.ensures.trace
+pub returns-clause-words : goal.returns-clause-words
+returns-clause-words c = generated_words _ _ _ (omega arith) c.in_ok-trace.ensures.trace

@@ -1,6 +1,8 @@
-use Rattle.std.proofs.Common.{refl}
+use Rattle.std.proofs.Common.{◌∙◌, ap, refl}
+use Rattle.plain_commands.specs.fram_board.Board.{fresh}
 use Rattle.plain_commands.specs.Mean.{the_source, its_trace}
-use Rattle.plain_commands.proofs.command_answers.Interface.{refusal_fails, memory_fails, handed_on}
+use Rattle.plain_commands.proofs.command_answers.Interface.{refusal_fails, memory_fails, put_whole, put_breaks, put_fails, handed_on}
+use Rattle.plain_commands.proofs.Interface.{told_from}
 use Rattle.compiler_commands.proofs.PutLaws.{tries}
 use Rattle.compiler_commands.proofs.try_.try_texts.Goals as goal
 
@@ -17,19 +19,36 @@ pub returns-in_err-built-clause-failure : goal.returns-in_err-built-clause-failu
 returns-in_err-built-clause-failure g c =
     handed_on _ _ _ c.from_residual-in_err-built.ensures (memory_fails _ _ _ _ _ c.in_err-built.ensures.failure refl refl)
 
-pub put_trial-requires-clause-tries : goal.put_trial-requires-clause-tries
-put_trial-requires-clause-tries g c =
+pub returns-in_err-put_file-clause-failure : goal.returns-in_err-put_file-clause-failure
+returns-in_err-put_file-clause-failure g c =
     let built = c.in_ok-built.ensures.built in
     let told = c.in_ok-built.ensures.told built.map built.mapped _ c.in_ok-trace.ensures.words in
-    tries _ _ _ _ _ _ _ _ c.in_ok-source.ensures.text c.in_ok-source.ensures.accepted c.in_ok-trace.ensures.said built told
+    let tried = tries _ _ _ _ _ _ _ _ c.in_ok-source.ensures.text c.in_ok-source.ensures.accepted c.in_ok-trace.ensures.said built told in
+    handed_on _ _ _ c.from_residual-in_err-put_file.ensures
+    (put_fails _ _ _ _ _ _ _ _ refl (tried told.output told.report, refl) refl c.in_err-put_file.ensures.failure)
 
-pub put_trial-requires-clause-report : goal.put_trial-requires-clause-report
-put_trial-requires-clause-report g c =
+pub write_trial-requires-clause-ends_well : goal.write_trial-requires-clause-ends_well
+write_trial-requires-clause-ends_well g c =
     let built = c.in_ok-built.ensures.built in
     let told = c.in_ok-built.ensures.told built.map built.mapped _ c.in_ok-trace.ensures.words in
-    (told.output, told.report)
+    let is_board = c.in_ok-board.ensures ∙ ap (fresh c.in_ok-built.built.image.words) c.readings.ensures.value in
+    λ ending output report. told.ends_well ending output (told_from _ _ _ _ _ is_board c.in_ok-watch.ensures ending output report)
 
-pub put_trial-requires-clause-ends_well : goal.put_trial-requires-clause-ends_well
-put_trial-requires-clause-ends_well g c =
+pub returns-in_err-write_trial-clause-failure : goal.returns-in_err-write_trial-clause-failure
+returns-in_err-write_trial-clause-failure g c =
     let built = c.in_ok-built.ensures.built in
-    (c.in_ok-built.ensures.told built.map built.mapped _ c.in_ok-trace.ensures.words).ends_well
+    let told = c.in_ok-built.ensures.told built.map built.mapped _ c.in_ok-trace.ensures.words in
+    let tried = tries _ _ _ _ _ _ _ _ c.in_ok-source.ensures.text c.in_ok-source.ensures.accepted c.in_ok-trace.ensures.said built told in
+    let is_board = c.in_ok-board.ensures ∙ ap (fresh c.in_ok-built.built.image.words) c.readings.ensures.value in
+    handed_on _ _ _ c.from_residual-in_err-write_trial.ensures
+    (put_breaks _ _ _ _ _ _ _ _ refl (λ output report. (tried output (told_from _ _ _ _ _ is_board c.in_ok-watch.ensures _ _ report), refl))
+    c.as_slice.ensures.value c.in_ok-put_file.ensures.put c.in_err-write_trial.ensures.failure)
+
+pub returns-clause-whole : goal.returns-clause-whole
+returns-clause-whole g c =
+    let built = c.in_ok-built.ensures.built in
+    let told = c.in_ok-built.ensures.told built.map built.mapped _ c.in_ok-trace.ensures.words in
+    let tried = tries _ _ _ _ _ _ _ _ c.in_ok-source.ensures.text c.in_ok-source.ensures.accepted c.in_ok-trace.ensures.said built told in
+    let is_board = c.in_ok-board.ensures ∙ ap (fresh c.in_ok-built.built.image.words) c.readings.ensures.value in
+    put_whole _ _ _ _ _ _ _ _ refl (λ output report. (tried output (told_from _ _ _ _ _ is_board c.in_ok-watch.ensures _ _ report), refl))
+    c.as_slice.ensures.value c.in_ok-put_file.ensures.put c.in_ok-write_trial.ensures.whole

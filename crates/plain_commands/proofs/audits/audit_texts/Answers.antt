@@ -23,24 +23,24 @@ returns-in_err-verdict-clause-failure g c =
 pub verdict_of-requires-clause-accepted : goal.verdict_of-requires-clause-accepted
 verdict_of-requires-clause-accepted g c = rw c.in_ok-source.ensures.text c.in_ok-source.ensures.accepted
 
-pub returns-in-Ok-clause-whole : goal.returns-in-Ok-clause-whole
-returns-in-Ok-clause-whole g c = λ shelf stands. record {
+pub returns-clause-whole : goal.returns-clause-whole
+returns-clause-whole g c = λ shelf stands. record {
   product = _;
   is = audit_product c.args.names.source.now c.args.names.report.now c.args.names.trace.now _ _ _ _ _ _ _ _
       c.in_ok-source.ensures.text c.in_ok-source.ensures.accepted c.in_ok-source.ensures.only
       c.in_ok-trace.ensures.said c.in_ok-verdict.ensures.says;
   ends = refl;
   put = stands;
-  written = c.in-Ok.ensures.bytes.whole;
+  written = c.in_ok-write_verdict.ensures.bytes.whole;
 }
 
-pub returns-clause-failure : goal.returns-clause-failure
-returns-clause-failure g c = λ shelf stands. record {
+pub returns-in_err-write_verdict-clause-failure : goal.returns-in_err-write_verdict-clause-failure
+returns-in_err-write_verdict-clause-failure g c = handed_on _ _ _ c.from_residual-in_err-write_verdict.ensures (λ shelf stands. record {
   product = _;
   is = audit_product c.args.names.source.now c.args.names.report.now c.args.names.trace.now _ _ _ _ _ _ _ _
       c.in_ok-source.ensures.text c.in_ok-source.ensures.accepted c.in_ok-source.ensures.only
       c.in_ok-trace.ensures.said c.in_ok-verdict.ensures.says;
   put = stands;
-  written = c.in-Err.ensures.bytes.part;
-  failed = c.in-Err.ensures.cause.failed;
-}
+  written = c.in_err-write_verdict.ensures.bytes.part;
+  failed = c.in_err-write_verdict.ensures.cause.failed;
+})

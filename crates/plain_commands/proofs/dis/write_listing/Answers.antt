@@ -1,11 +1,17 @@
+use Rattle.command_texts.proofs.command_answers.Interface.{handed_on}
 use Rattle.plain_commands.proofs.dis.write_listing.Goals as goal
 
-pub returns-in-Ok-clause-whole : goal.returns-in-Ok-clause-whole
-returns-in-Ok-clause-whole g c =
-    let text = c.in-Ok.ensures.whole in
-    (text.0, record { text = text.1; assembles = c.in-Ok.ensures.assembles text.0 text.1 }, text.2)
+pub returns-clause-whole : goal.returns-clause-whole
+returns-clause-whole g c =
+    let text = c.in_ok-disassemble.ensures.whole in
+    (text.0, record { text = text.1; assembles = c.in_ok-disassemble.ensures.assembles text.0 text.1 }, text.2)
 
-pub returns-in-Err-clause-failure : goal.returns-in-Err-clause-failure
-returns-in-Err-clause-failure g c =
+pub returns-in_err-disassemble-clause-failure : goal.returns-in_err-disassemble-clause-failure
+returns-in_err-disassemble-clause-failure g c =
     let text = c.images_have_texts.ensures in
-    (text.0, record { text = text.1; assembles = c.in-Err.ensures.assembles text.0 text.1 }, c.in-Err.ensures.part text.0 text.1, c.in-Err.ensures.cause.failed)
+    handed_on _ _ _ c.from_residual.ensures (
+      text.0,
+      record { text = text.1; assembles = c.in_err-disassemble.ensures.assembles text.0 text.1 },
+      c.in_err-disassemble.ensures.part text.0 text.1,
+      c.in_err-disassemble.ensures.cause.failed,
+    )

@@ -17,14 +17,14 @@ returns-in_err-trace-clause-failure g c =
 
 pub returns-clause-whole : goal.returns-clause-whole
 returns-clause-whole g c =
-    let is_board = c.in-Ok.ensures ∙ ap (fresh c.in_ok-image.image.words) c.readings.ensures.value in
+    let is_board = c.in_ok-board.ensures ∙ ap (fresh c.in_ok-image.image.words) c.readings.ensures.value in
     report_whole _ _ _ _ _ _ _ refl
-    (run_product c.args.names.0.now c.args.names.1.now _ _ _ _ _ c.in_ok-image.ensures.said c.in_ok-trace.ensures.said is_board)
+    (run_product c.args.names.image.now c.args.names.trace.now _ _ _ _ _ c.in_ok-image.ensures.said c.in_ok-trace.ensures.said is_board)
     c.write_run.ensures.whole
 
 pub returns-clause-failure : goal.returns-clause-failure
 returns-clause-failure g c =
-    let is_board = c.in-Ok.ensures ∙ ap (fresh c.in_ok-image.image.words) c.readings.ensures.value in
+    let is_board = c.in_ok-board.ensures ∙ ap (fresh c.in_ok-image.image.words) c.readings.ensures.value in
     report_fails _ _ _ _ _ _ _ refl
-    (run_product c.args.names.0.now c.args.names.1.now _ _ _ _ _ c.in_ok-image.ensures.said c.in_ok-trace.ensures.said is_board)
+    (run_product c.args.names.image.now c.args.names.trace.now _ _ _ _ _ c.in_ok-image.ensures.said c.in_ok-trace.ensures.said is_board)
     c.write_run.ensures.failure

@@ -1,20 +1,50 @@
-use Rattle.std.proofs.Common.{refl}
-use Rattle.plain_commands.proofs.command_answers.Interface.{nothing_done, handed_on}
-use Rattle.state_commands.proofs.SaveLaws.{ends_by_itself, fault_whole, fault_breaks}
+use Rattle.std.proofs.Common.{◌≡◌, refl}
+use Rattle.plain_commands.proofs.command_answers.Interface.{memory_fails, nothing_done, put_whole, put_breaks, put_fails, handed_on}
+use Rattle.state_commands.proofs.SaveLaws.{ends_by_itself, fault_whole, fault_breaks, saves_well}
 use Rattle.state_commands.proofs.save.save_texts.Goals as goal
 
 pub returns-in_err-state_run-clause-failure : goal.returns-in_err-state_run-clause-failure
 returns-in_err-state_run-clause-failure g c =
     handed_on _ _ _ c.from_residual.ensures (nothing_done _ _ _ _ _ c.in_err-state_run.ensures.failure refl refl)
 
+-- ---- a run that ended well
+
+pub returns-in_err-text-clause-failure : goal.returns-in_err-text-clause-failure
+returns-in_err-text-clause-failure g c =
+    handed_on _ _ _ c.from_residual-in_err-text.ensures (memory_fails _ _ _ _ _ c.in_err-text.ensures.failure refl refl)
+
+pub returns-in_err-put_file-clause-failure : goal.returns-in_err-put_file-clause-failure
+returns-in_err-put_file-clause-failure g c =
+    let ran = c.in_ok-state_run.ensures.ran in
+    let product = saves_well _ _ _ _ _ _ ran _ _ _ c.in-Ok.is (c.in_ok-text.ensures.text, c.in_ok-text.ensures.reads_back) refl in
+    handed_on _ _ _ c.from_residual-in_err-put_file.ensures (put_fails _ _ _ _ _ _ _ _ refl product refl c.in_err-put_file.ensures.failure)
+
+pub returns-in_err-write_end-clause-failure : goal.returns-in_err-write_end-clause-failure
+returns-in_err-write_end-clause-failure g c =
+    let ran = c.in_ok-state_run.ensures.ran in
+    handed_on _ _ _ c.from_residual-in_err-write_end.ensures
+    (put_breaks (λ output. output ≡ _) _ _ _ _ _ _ _ refl
+    (λ output line. saves_well _ _ _ _ _ _ ran _ _ output c.in-Ok.is (c.in_ok-text.ensures.text, c.in_ok-text.ensures.reads_back) line)
+    c.as_slice.ensures.value c.in_ok-put_file.ensures.put (_, refl, c.in_err-write_end.ensures.bytes.part, c.in_err-write_end.ensures.cause.failed))
+
+pub returns-in-Ok-clause-whole : goal.returns-in-Ok-clause-whole
+returns-in-Ok-clause-whole g c =
+    let ran = c.in_ok-state_run.ensures.ran in
+    put_whole (λ output. output ≡ _) _ _ _ _ _ _ _ refl
+    (λ output line. saves_well _ _ _ _ _ _ ran _ _ output c.in-Ok.is (c.in_ok-text.ensures.text, c.in_ok-text.ensures.reads_back) line)
+    c.as_slice.ensures.value c.in_ok-put_file.ensures.put (_, refl, c.in_ok-write_end.ensures.bytes.whole)
+
+-- ---- one that met a machine fault
+
 pub write_fault-requires : goal.write_fault-requires
 write_fault-requires g c = ends_by_itself _ _ _ _ _ c.in_ok-state_run.ensures.ran.ran _ c.in-Err.is
 
-pub returns-in-Ok-write_fault-clause-whole : goal.returns-in-Ok-write_fault-clause-whole
-returns-in-Ok-write_fault-clause-whole g c =
-    fault_whole _ _ _ _ _ _ c.in_ok-state_run.ensures.ran _ _ _ _ _ _ c.in-Err.is refl c.in-Ok-write_fault.ensures.bytes.whole
+pub returns-in_err-write_fault-clause-failure : goal.returns-in_err-write_fault-clause-failure
+returns-in_err-write_fault-clause-failure g c =
+    handed_on _ _ _ c.from_residual-in_err-write_fault.ensures
+    (fault_breaks _ _ _ _ _ _ c.in_ok-state_run.ensures.ran _ _ _ _ _ _ c.in-Err.is refl c.in_err-write_fault.ensures.bytes.part
+    c.in_err-write_fault.ensures.cause.failed)
 
-pub returns-clause-failure : goal.returns-clause-failure
-returns-clause-failure g c =
-    fault_breaks _ _ _ _ _ _ c.in_ok-state_run.ensures.ran _ _ _ _ _ _ c.in-Err.is refl c.in-Err-write_fault.ensures.bytes.part
-    c.in-Err-write_fault.ensures.cause.failed
+pub returns-in-Err-clause-whole : goal.returns-in-Err-clause-whole
+returns-in-Err-clause-whole g c =
+    fault_whole _ _ _ _ _ _ c.in_ok-state_run.ensures.ran _ _ _ _ _ _ c.in-Err.is refl c.in_ok-write_fault.ensures.bytes.whole
