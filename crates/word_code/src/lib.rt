@@ -13,3 +13,6 @@ pub use array_versions::{
 };
 pub use bounds::Bound;
 pub use waiting::Waiting;
+
+// What their code is made of.
+pub use code_forms as forms;
