@@ -11,10 +11,11 @@ ghost use Rattle.word_code.specs.Code.{pass_over, jump_back, decision, holds_cod
 
 use crate::forms::{R4, R5, TO_R4, TO_R5, constant, jump, skip, two};
 use crate::waiting::{emit_all, emit_sides, emit_top_to_four, emit_two_to_registers};
+use array_versions::Comparison;
 use msp_encode::encode;
 use std::alloc::AllocError;
+use word_code::Waiting;
 use word_code::forms::{Condition, Instr, Konst, Src, TwoOp};
-use word_code::{Comparison, Waiting};
 
 // Whether a comparison is of R5, the right side, with the left one.
 fn is_turned(comparison: Comparison) -> bool

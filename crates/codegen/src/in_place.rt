@@ -17,9 +17,10 @@ use crate::versioned::{at_r4, emit_first};
 use crate::waiting::{
     emit_all, emit_to_four, emit_to_rest, rest_source, take, top_number, under_top,
 };
+use array_versions::{ArrayPlace, ListPlace, PlainOperation};
 use std::alloc::{AllocError, Global};
 use word_code::forms::{Condition, Dst, IndexRegister, Instr, Src, TwoOp};
-use word_code::{ArrayPlace, Bound, ListPlace, PlainOperation, Waiting};
+use word_code::{Bound, Waiting};
 
 // What an element of an array becomes.
 #[derive(Clone, Copy)]

@@ -21,9 +21,10 @@ use crate::waiting::{
     emit_all, emit_cleared, emit_to_four, emit_to_rest, emit_top_to_four, rest_source, rests,
     source_from, take, top, under_top, wait, waiting_source,
 };
+use array_versions::{LongOperation, PlainOperation, ShiftOperation};
 use std::alloc::AllocError;
+use word_code::Waiting;
 use word_code::forms::{Instr, Konst, OneOp, Src, TwoOp, Width};
-use word_code::{LongOperation, PlainOperation, ShiftOperation, Waiting};
 
 // Where the words of the right one of two longs are read.
 #[derive(Clone, Copy)]

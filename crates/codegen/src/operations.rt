@@ -13,9 +13,10 @@ use crate::shifts::emit_shift;
 use crate::waiting::{
     emit_sides, emit_top_to_five, emit_two_to_registers, mask_top, take, top_power, wait,
 };
+use array_versions::{BinaryOperation, PlainOperation, ShiftOperation, UnaryOperation};
 use std::alloc::AllocError;
+use word_code::Waiting;
 use word_code::forms::{Condition, Instr, Konst, OneOp, Src, TwoOp, Width};
-use word_code::{BinaryOperation, PlainOperation, ShiftOperation, UnaryOperation, Waiting};
 
 // An operation on R5, its result in R4.
 fn emit_unary_middle(operation: UnaryOperation, code: &mut Vec<Instr>) -> Result<(), AllocError>

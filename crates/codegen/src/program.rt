@@ -22,9 +22,10 @@ use crate::steps::{
 };
 use crate::versioned::{emit_versioned_read, emit_versioned_write};
 use crate::waiting::{emit_all, emit_flushed, wait};
+use array_versions::{WordProgram, WordStep, WordTest};
 use std::alloc::{AllocError, Global};
 use word_code::forms::{Condition, Instr, Konst};
-use word_code::{Bound, Waiting, WordProgram, WordStep, WordTest};
+use word_code::{Bound, Waiting};
 
 // Behind a test: 1 where it holds, else 0.
 fn emit_truth_code(code: &mut Vec<Instr>) -> Result<(), AllocError>

@@ -9,9 +9,10 @@ ghost use Rattle.word_code.specs.array_versions.Program as value;
 
 use crate::forms::{IN_R4, R4, TO_R4, constant, two};
 use crate::waiting::{emit_top_to_four, wait};
+use array_versions::ShiftOperation;
 use std::alloc::AllocError;
+use word_code::Waiting;
 use word_code::forms::{Instr, Konst, OneOp, Src, TwoOp, Width};
-use word_code::{ShiftOperation, Waiting};
 
 // R4 doubled so many times.
 fn emit_doubles(count: u16, code: &mut Vec<Instr>) -> Result<(), AllocError>

@@ -19,9 +19,10 @@ use crate::waiting::{
     emit_all, emit_below, emit_cleared, emit_spared, emit_top_to_five, emit_top_to_four,
     source_from, take, top, top_number, wait,
 };
+use array_versions::PlainOperation;
 use std::alloc::AllocError;
 use word_code::forms::{Condition, Dst, IndexRegister, Instr, Konst, Operand, Reg, Src, TwoOp};
-use word_code::{Bound, PlainOperation, Waiting};
+use word_code::{Bound, Waiting};
 
 // The element at the index in R4, which is below the length.
 fn emit_fetch(base: u16, code: &mut Vec<Instr>) -> Result<(), AllocError>

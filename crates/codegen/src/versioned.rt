@@ -15,9 +15,10 @@ ghost use Rattle.word_code.specs.array_versions.Program as value;
 use crate::bounds::{emit_check, emit_zero, is_inside};
 use crate::forms::{R4, R5, R6, R7, TO_R4, TO_R5, TO_R6, TO_R7, absolute, constant, jump, two};
 use crate::waiting::{emit_all, emit_top_to_four, emit_two_to_registers, top, under_top, wait};
+use array_versions::{ArrayPlace, ListPlace};
 use std::alloc::AllocError;
 use word_code::forms::{Condition, Dst, IndexRegister, Instr, Konst, Operand, Src, TwoOp};
-use word_code::{ArrayPlace, Bound, ListPlace, Waiting};
+use word_code::{Bound, Waiting};
 
 /// The word at R4's address plus an address.
 pub fn at_r4(base: u16) -> Src

@@ -6,11 +6,6 @@ mod bounds;
 pub mod laws;
 mod waiting;
 
-// What word programs are made of.
-pub use array_versions::{
-    ArrayPlace, BinaryOperation, Comparison, ListPlace, LongOperation, PlainOperation,
-    ShiftOperation, UnaryOperation, WordProgram, WordStep, WordTest,
-};
 pub use bounds::Bound;
 pub use waiting::Waiting;
 

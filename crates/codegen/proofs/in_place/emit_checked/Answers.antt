@@ -9,23 +9,25 @@ use Rattle.codegen.proofs.in_place.emit_checked.Goals as goal
 
 pub code_words-requires : goal.code_words-requires
 code_words-requires c =
-    let x = rest_source c.args.update.right in
-    let ms = inside_update c.args.update.operation x c.args.update.place c.args.update.list in
+    let update = c.args.update in
+    let x = rest_source update.right in
+    let ms = inside_update update.operation x update.place update.list in
     let own = c.deref.ensures.value ∙ c.in_ok-emit_inside.ensures ∙ ap (λ l. l ++ instructions ms) c.new-inside.ensures.items in
     omega (
       arith,
-      few_words c.deref.result.now ms own (omega (arith, inside_bytes c.args.update.operation x c.args.update.place c.args.update.list, reads_bytes c.args.update.operation x)),
+      few_words c.deref.result.now ms own (omega (arith, inside_bytes update.operation x update.place update.list, reads_bytes update.operation x)),
     )
 
 pub jump-requires : goal.jump-requires
 jump-requires c =
-    let x = rest_source c.args.update.right in
-    let ms = inside_update c.args.update.operation x c.args.update.place c.args.update.list in
+    let update = c.args.update in
+    let x = rest_source update.right in
+    let ms = inside_update update.operation x update.place update.list in
     let own = c.deref.ensures.value ∙ c.in_ok-emit_inside.ensures ∙ ap (λ l. l ++ instructions ms) c.new-inside.ensures.items in
     omega (
       arith,
       c.code_words.ensures,
-      few_words c.deref.result.now ms own (omega (arith, inside_bytes c.args.update.operation x c.args.update.place c.args.update.list, reads_bytes c.args.update.operation x)),
+      few_words c.deref.result.now ms own (omega (arith, inside_bytes update.operation x update.place update.list, reads_bytes update.operation x)),
     )
 
 pub returns : goal.returns
