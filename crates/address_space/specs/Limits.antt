@@ -1,5 +1,29 @@
--- The limits of memory (MSP430FR5969: 2 KB of RAM, and the FRAM below 10000).
-use Rattle.std.specs.Prelude.{◌≡◌, ℕ, ◌%◌, ◌<◌, ◌≤◌}
+-- The limits of memory (MSP430FR5969: 2 KB of RAM, and the FRAM below 10000), and the board's ports.
+use Rattle.std.specs.Prelude.{◌≡◌, ℕ, ◌-◌, ◌/◌, ◌%◌, ◌<◌, ◌≤◌}
+
+-- the port SENSOR: a word read here is a reading
+abbrev pub sensor_port : ℕ
+sensor_port = 0x200
+
+-- the port OUTNUM: the number of the word that is offered next
+abbrev pub number_port : ℕ
+number_port = 0x202
+
+-- the port OUTDATA: a word written here is offered to the receiver
+abbrev pub data_port : ℕ
+data_port = 0x204
+
+-- the first word of RAM
+abbrev pub ram_first : ℕ
+ram_first = 0x1C00
+
+-- behind its last word
+abbrev pub ram_end : ℕ
+ram_end = 0x2400
+
+-- SP where nothing is on the stack
+abbrev pub stack_top : ℕ
+stack_top = ram_end
 
 -- the first word of the FRAM
 abbrev pub fram_first : ℕ
@@ -9,13 +33,17 @@ fram_first = 0x4400
 abbrev pub fram_end : ℕ
 fram_end = 0x10000
 
+-- how many words it has
+abbrev pub fram_words : ℕ
+fram_words = 24064
+
 -- its last word, which holds the address at which the CPU starts
 abbrev pub reset_vector : ℕ
 reset_vector = 0xFFFE
 
--- SP where nothing is on the stack: behind the last word of RAM
-abbrev pub stack_top : ℕ
-stack_top = 0x2400
+-- which word of the FRAM an address belongs to, counted from 0
+abbrev pub place_of : ℕ → ℕ
+place_of a = (a - fram_first) / 2
 
 -- the address of a word of the FRAM
 pub record IsFramWord (a : ℕ) : Type 0 where

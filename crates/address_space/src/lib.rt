@@ -1,11 +1,45 @@
-//! The limits of the board's memory: where RAM and FRAM begin and end, and the words of the FRAM.
+//! The board's address space: where RAM and FRAM begin and end, the words of the FRAM, and the ports.
 #![tactic(auto)]
 
-/// The first word of the FRAM.
+/// The port at which a word read is a reading of the sensor.
+pub const SENSOR: u16 = 0x200;
+
+/// The port that keeps the number of the word that is offered next.
+pub const OUTNUM: u16 = 0x202;
+
+/// The port at which a word written is offered to the receiver.
+pub const OUTDATA: u16 = 0x204;
+
+/// The first word of RAM.
+pub const RAM_FIRST: u16 = 0x1C00;
+
+/// The address behind the last word of RAM.
+pub const RAM_END: u16 = 0x2400;
+
+/// SP where nothing is on the stack: behind the last word of RAM, from which PUSH goes down.
+pub const STACK_TOP: u16 = RAM_END;
+
+/// The first word of the FRAM, which goes on to the last address.
 pub const FRAM_FIRST: u16 = 0x4400;
+
+/// The address behind the last word of the FRAM.
+pub const FRAM_END: u32 = 0x10000;
+
+/// How many words the FRAM has.
+pub const FRAM_WORDS: usize = 24064;
 
 /// The last word of the FRAM, which holds the address at which the CPU starts.
 pub const RESET_VECTOR: u16 = 0xFFFE;
 
-/// SP where nothing is on the stack: the address behind the last word of RAM, from which PUSH goes down.
-pub const STACK_TOP: u16 = 0x2400;
+ghost use Rattle.std.specs.Prelude.{◌≡◌, ◌≤◌, ◌<◌};
+ghost use Rattle.address_space.specs.Limits.{fram_first, fram_words, place_of};
+
+/// Which word of the FRAM an address belongs to, counted from 0.
+#[inline(always)]
+pub fn fram_index(address: u16) -> usize
+    requires { fram_first ≤ address }
+    ensures place { result ≡ place_of address }
+    ensures inside { result < fram_words }
+{
+    usize::from((address - FRAM_FIRST) / 2)
+}

@@ -1,5 +1,7 @@
 -- Words and bytes as numbers, and what each operation of the CPU gives with its flags (TI SLAU049 and SLAU144, CPU chapter).
-use Rattle.std.specs.Prelude.{ℕ, zero, suc, ◌^◌, ◌+◌, ◌-◌, ◌*◌, ◌/◌, ◌%◌, ◌<◌, Bool, true, false, not, ◌&&◌, ◌==◌, nat_le, if◌then◌else◌, bit_and, bit_xor}
+use Rattle.std.specs.Prelude.{ℕ, zero, suc, ◌^◌, ◌+◌, ◌-◌, ◌*◌, ◌/◌, ◌%◌, ◌<◌, Bool, true, false, not, ◌&&◌, ◌==◌, nat_le, nat_lt, if◌then◌else◌, bit_and}
+use Rattle.std.specs.Prelude.{bit_xor}
+use Rattle.std.specs.List.{AllByRecursion}
 use Rattle.std.specs.Prelude.{List, [], ◌∷◌, slice_index, ℤ, pos, ◌-ℤ◌}
 use Rattle.alp_words.specs.declared.Width.{Width}
 use Rattle.alp_words.specs.declared.Width.TheVariants.{Word, Byte}
@@ -8,6 +10,14 @@ use Rattle.alp_words.specs.declared.Flags.{Flags}
 -- a word is a number below 65536
 abbrev pub IsWord : ℕ → Type 0
 IsWord n = n < 0x10000
+
+-- words alone
+abbrev pub AreWords : List ℕ → Type 0
+AreWords ws = AllByRecursion (λ w. w < 0x10000) ws
+
+-- a word at each address
+abbrev pub HoldsWords : (ℕ → ℕ) → Type 0
+HoldsWords f = (a : ℕ) → f a < 0x10000
 
 -- a byte is a number below 256
 abbrev pub IsByte : ℕ → Type 0
@@ -32,6 +42,14 @@ word_bytes w = w % 0x100 ∷ w / 0x100 ∷ []
 -- the word of a low byte and a high byte
 abbrev pub word_of_bytes : List ℕ → ℕ
 word_of_bytes bytes = slice_index bytes 0 + 0x100 * slice_index bytes 1
+
+-- what two words are worth, the low one first
+abbrev pub two_words : ℕ → ℕ → ℕ
+two_words low high = low + 65536 * high
+
+-- the high word of an int that becomes long: its sign
+abbrev pub sign_word : ℕ → ℕ
+sign_word w = if nat_lt w 32768 then 0 else 65535
 
 -- how many values there are of a width
 abbrev pub modulus : Width → ℕ

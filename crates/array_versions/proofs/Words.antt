@@ -3,11 +3,10 @@ use Rattle.std.proofs.Common.{◌≡◌, ℕ, zero, suc, ◌+◌, ◌-◌, ◌*�
 use Rattle.std.proofs.Common.{nat_eq}
 use Rattle.std.proofs.Common.{nat_lt, nat_le, refl, subst, arith, if◌then◌else◌, ◌++◌, ◌≤◌}
 use Rattle.std.specs.Prelude.{slice_index}
-use Rattle.std.specs.List.{AllByRecursion}
 use Rattle.std.proofs.lemmas.Bool.Decides.{nat_tests}
 use Rattle.std.proofs.lemmas.Nat.{and_le_l, or_lt, xor_lt}
 use Rattle.std.proofs.lemmas.Option.{same_Some}
-use Rattle.machine_effects.specs.alp_words.Words.{is_negative}
+use Rattle.machine_effects.specs.alp_words.Words.{AreWords, is_negative}
 use Rattle.machine_effects.specs.alp_words.declared.Width.TheVariants.{Word}
 use Rattle.machine_effects.specs.fram_board.Effects.{Store}
 use Rattle.machine_effects.specs.World.{put}
@@ -41,9 +40,6 @@ use Rattle.array_versions.specs.Behaviour.{step_behaviour}
 use Rattle.array_versions.specs.Behaviour.{tested, behaviour}
 use Rattle.array_versions.specs.Form.{StepOfWords, TestOfWords, OfWords}
 use Rattle.array_versions.specs.Laws.{IsStateOfWords, EndsInWords, WordsStayWords}
-
-abbrev pub AreWords : List ℕ → Type 0
-AreWords vs = AllByRecursion (λ v. v < 0x10000) vs
 
 pub unary_small : (op : UnaryOperation) (v : ℕ) → v < 0x10000 → unary_word op v < 0x10000
 unary_small Negate v h = omega arith

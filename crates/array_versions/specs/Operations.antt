@@ -2,6 +2,7 @@
 use Rattle.std.specs.Prelude.{ℕ, ◌^◌, ◌+◌, ◌-◌, ◌*◌, ◌/◌, ◌%◌, ◌==◌, Bool, not, nat_le, nat_lt, bit_and, bit_or, bit_xor, if◌then◌else◌, List, [], ◌∷◌}
 use Rattle.std.specs.Prelude.{slice_index}
 use Rattle.machine_effects.specs.alp_words.Words.{word_sum, word_difference, word_product, quotient, remainder, arithmetic_shift, biased}
+pub use Rattle.machine_effects.specs.alp_words.Words.{two_words, sign_word}
 use Rattle.array_versions.specs.declared.operations.UnaryOperation.{UnaryOperation}
 use Rattle.array_versions.specs.declared.operations.UnaryOperation.TheVariants.{Negate, Complement}
 use Rattle.array_versions.specs.declared.operations.BinaryOperation.{BinaryOperation}
@@ -60,10 +61,6 @@ shift_word op v k = if nat_le k 15 then shifted_word op v k else 0
 
 -- ---- longs, which are numbers below 2^32
 
--- what two words are worth, the low one first
-abbrev pub two_words : ℕ → ℕ → ℕ
-two_words low high = low + 65536 * high
-
 -- a long on the stack: its high word on top
 abbrev pub stacked : ℕ → List ℕ
 stacked n = n / 65536 ∷ n % 65536 ∷ []
@@ -87,10 +84,6 @@ long_to_left a k = if nat_le k 31 then (a * 2 ^ k) % 2 ^ 32 else 0
 -- the same to the right
 abbrev pub long_to_right : ℕ → ℕ → ℕ
 long_to_right a k = if nat_le k 31 then a / 2 ^ k else 0
-
--- the high word of an int that becomes long: its sign
-abbrev pub sign_word : ℕ → ℕ
-sign_word w = if nat_lt w 32768 then 0 else 65535
 
 -- a word with each bit 1 where this holds, else with none
 abbrev pub all_bits : Bool → ℕ

@@ -1,7 +1,7 @@
 -- What is known of a run so far, and the lines of its moments.
 -- With a map, events are read off the moments: a boot is a power-up; a decide is an instruction after which GATE is 1 and before
 -- which it wasn't; a done is one after which GATE is 0 and before which it was 1. A transition is completed at its done.
-use Rattle.std.specs.Prelude.{ℕ, zero, suc, ◌+◌, ◌*◌, ◌==◌, ◌&&◌, Bool, true, false, not, nat_lt, if◌then◌else◌, List, [], ◌∷◌, ◌++◌, length, map, flat_map}
+use Rattle.std.specs.Prelude.{ℕ, zero, suc, ◌+◌, ◌*◌, ◌==◌, Bool, true, false, nat_lt, if◌then◌else◌, List, [], ◌∷◌, ◌++◌, length, map, flat_map}
 use Rattle.std.specs.Prelude.{sum_by, slice_get, slice_index, Option, Some, None}
 use Rattle.alp_io.specs.Count.{risen}
 use Rattle.alp_io.specs.Report.{accepted_line, more_line, step_line, value_line, bound_line}
@@ -10,6 +10,7 @@ use Rattle.image_text.specs.image_map.declared.parts.Variable.{Variable}
 use Rattle.image_text.specs.image_map.MapValue.{MapValue, TaskValue, is_long}
 use Rattle.image_text.specs.ImageValue.{ImageValue, place_of}
 use Rattle.fram_board.specs.Board.{BoardValue}
+pub use Rattle.fram_board.specs.Gate.{is_decide, is_done}
 use Rattle.fram_board.specs.Run.{Moment, Action, PowerUp, Execute, word_list}
 
 -- what is known of a run behind some of its moments
@@ -100,14 +101,6 @@ abbrev pub transition_lines : MapValue → History → BoardValue → List ℕ
 transition_lines m h b = step_line (risen h.completed) (task_name m.tasks h.task) (task_name m.tasks (word_in b.fram m.words.current_task)) h.span_from
     h.span_to
     ++ (flat_map accepted_line h.accepted ++ (more_lines h.more ++ changed_lines (shared_numbers m.variables) h.shared b.fram))
-
--- GATE is 1 now and wasn't before
-abbrev pub is_decide : ℕ → ℕ → Bool
-is_decide before now = (now == 1) && not (before == 1)
-
--- GATE is 0 now and was 1 before
-abbrev pub is_done : ℕ → ℕ → Bool
-is_done before now = (now == 0) && (before == 1)
 
 -- the history behind a decide, where the board is this
 abbrev pub decided : History → BoardValue → History

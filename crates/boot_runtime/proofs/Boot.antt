@@ -3,9 +3,9 @@ use Rattle.std.proofs.Common.{◌≡◌, ◌≢◌, ℕ, ◌+◌, ◌*◌, ◌%�
 use Rattle.std.proofs.Common.{true, false, if◌then◌else◌}
 use Rattle.std.proofs.lemmas.Bool.Decides.{nat_tests}
 use Rattle.std.proofs.lemmas.List.Elements.{All-get_or}
-use Rattle.msp_isa.specs.declared.instructions.Condition.TheVariants.{NotEqual}
-use Rattle.msp_isa.specs.declared.operands.Konst.TheVariants.{One}
-use Rattle.runtime_code.specs.msp_step.Effect.{sum16, distance}
+use Rattle.runtime_code.specs.msp_isa.declared.instructions.Condition.TheVariants.{NotEqual}
+use Rattle.runtime_code.specs.msp_isa.declared.operands.Konst.TheVariants.{One}
+use Rattle.runtime_code.specs.msp_step.Effect.{word_sum, distance}
 use Rattle.runtime_code.specs.fram_board.Effects.{Effect, Store}
 use Rattle.runtime_code.specs.machine_effects.World.{put, fram_after}
 use Rattle.runtime_code.specs.machine_effects.Going.{Goes}
@@ -46,14 +46,14 @@ module _ (code : Code) (tidy : IsTidy code) where
       let hd : List Form = Compare (Constant One) (word_place m Gate) ∷ [] in
       let u1 = end_of u (forms_run hd u).status in
       let t : Core = record u1 { pc = if not b then p + 10 else p + 6 } in
-      let over : sum16 (p + 4 + 2) (distance 2) ≡ p + 10 = omega (arith, high) in
+      let over : word_sum (p + 4 + 2) (distance 2) ≡ p + 10 = omega (arith, high) in
       let behind : p + 4 + 2 ≡ p + 6 = omega arith in
       let a : Comes code [] 1 4 u (λ v. v ≡ u1) =
       straight code tidy hd 1 u u1 [] 4 (λ v. v ≡ u1) (tt, tt) (stands_at code p hd u (h.0, tt) e) ((tt, places.words Gate), tt) refl refl refl in
       then_on code 1 1 4 2 u u1 _ [] [] a
       (one_form code tidy (Jump NotEqual 2) u1 t [] 2 _ (ap (λ x. code (x + 4)) e ∙ h.1.0) tt
-      (ap (λ x. Goes [] 2 (record u1 { pc = if not x then sum16 (u.pc + 4 + 2) (distance 2) else u.pc + 4 + 2 })) z
-      ∙ ap (λ x. Goes [] 2 (record u1 { pc = if not b then sum16 (x + 4 + 2) (distance 2) else x + 4 + 2 })) e
+      (ap (λ x. Goes [] 2 (record u1 { pc = if not x then word_sum (u.pc + 4 + 2) (distance 2) else u.pc + 4 + 2 })) z
+      ∙ ap (λ x. Goes [] 2 (record u1 { pc = if not b then word_sum (x + 4 + 2) (distance 2) else x + 4 + 2 })) e
       ∙ ap (λ x. Goes [] 2 (record u1 { pc = if not b then x else p + 4 + 2 })) over
       ∙ ap (λ x. Goes [] 2 (record u1 { pc = if not b then p + 10 else x })) behind)
       (record { pc = refl; fram = refl; readings_left = refl }))

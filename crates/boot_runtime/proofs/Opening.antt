@@ -3,10 +3,10 @@ use Rattle.std.proofs.Common.{◌≡◌, ◌≢◌, ℕ, zero, suc, ◌+◌, ◌
 use Rattle.std.proofs.Common.{subst, arith}
 use Rattle.std.proofs.Common.{Bool, true, false, if◌then◌else◌}
 use Rattle.std.proofs.lemmas.Bool.Decides.{nat_tests}
-use Rattle.msp_isa.specs.declared.instructions.Condition.TheVariants.{NotEqual}
-use Rattle.msp_isa.specs.declared.instructions.TwoOp.TheVariants.{Add}
-use Rattle.msp_isa.specs.declared.operands.Konst.TheVariants.{One, MinusOne}
-use Rattle.runtime_code.specs.msp_step.Effect.{sum16, distance}
+use Rattle.runtime_code.specs.msp_isa.declared.instructions.Condition.TheVariants.{NotEqual}
+use Rattle.runtime_code.specs.msp_isa.declared.instructions.TwoOp.TheVariants.{Add}
+use Rattle.runtime_code.specs.msp_isa.declared.operands.Konst.TheVariants.{One, MinusOne}
+use Rattle.runtime_code.specs.msp_step.Effect.{word_sum, distance}
 use Rattle.runtime_code.specs.fram_board.Effects.{Effect, Store}
 use Rattle.runtime_code.specs.machine_effects.World.{put, fram_after}
 use Rattle.runtime_code.specs.machine_effects.Going.{Goes}
@@ -93,13 +93,13 @@ module _ (code : Code) (tidy : IsTidy code) (m : MemoryMap) (places : AreInFram 
     abbrev done : ℕ
     done = p + 18
 
-    clear_there : sum16 (p + 2 + 2) (distance 7) ≡ done
+    clear_there : word_sum (p + 2 + 2) (distance 7) ≡ done
     clear_there = omega arith
 
     clears_counted : p + 2 + 2 + 4 + forms_bytes clear_turn ≡ p + 14
     clears_counted = omega arith
 
-    clear_back : sum16 (p + 14 + 2 + 2) (distance (0x400 - 5)) ≡ p + 2 + 2 + 4
+    clear_back : word_sum (p + 14 + 2 + 2) (distance (0x400 - 5)) ≡ p + 2 + 2 + 4
     clear_back = omega arith
 
     behind_clears : p + 14 + 2 + 2 ≡ done
@@ -171,14 +171,14 @@ module _ (code : Code) (tidy : IsTidy code) (m : MemoryMap) (places : AreInFram 
       let u1 = end_of u (forms_run hd u).status in
       let t : Core = record u1 { pc = if not b then p + 32 else p + 6 } in
       let flag : ((u.fram (word_place m Version) + 0 + 1) % 65536 == 0) ≡ b = end_flag (u.fram (word_place m Version)) word ∙ z in
-      let over : sum16 (p + 4 + 2) (distance 13) ≡ p + 32 = omega (arith, high) in
+      let over : word_sum (p + 4 + 2) (distance 13) ≡ p + 32 = omega (arith, high) in
       let behind : p + 4 + 2 ≡ p + 6 = omega arith in
       let a : Comes code [] 1 4 u (λ v. v ≡ u1) =
       straight code tidy hd 1 u u1 [] 4 (λ v. v ≡ u1) (tt, tt) (stands_at code p hd u (h.0, tt) e) ((tt, places.words Version), tt) refl refl refl in
       then_on code 1 1 4 2 u u1 _ [] [] a
       (one_form code tidy (Jump NotEqual 13) u1 t [] 2 _ (ap (λ x. code (x + 4)) e ∙ h.1.0) tt
-      (ap (λ x. Goes [] 2 (record u1 { pc = if not x then sum16 (u.pc + 4 + 2) (distance 13) else u.pc + 4 + 2 })) flag
-      ∙ ap (λ x. Goes [] 2 (record u1 { pc = if not b then sum16 (x + 4 + 2) (distance 13) else x + 4 + 2 })) e
+      (ap (λ x. Goes [] 2 (record u1 { pc = if not x then word_sum (u.pc + 4 + 2) (distance 13) else u.pc + 4 + 2 })) flag
+      ∙ ap (λ x. Goes [] 2 (record u1 { pc = if not b then word_sum (x + 4 + 2) (distance 13) else x + 4 + 2 })) e
       ∙ ap (λ x. Goes [] 2 (record u1 { pc = if not b then x else p + 4 + 2 })) over
       ∙ ap (λ x. Goes [] 2 (record u1 { pc = if not b then p + 32 else x })) behind)
       (record { pc = refl; fram = refl; readings_left = refl }))

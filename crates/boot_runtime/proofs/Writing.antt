@@ -1,7 +1,7 @@
 -- Code that is written part by part.
 use Rattle.std.proofs.Common.{◌≡◌, ℕ, zero, suc, ◌+◌, ◌*◌, ◌<◌, refl, length, map, drop, get_or, List, [], ◌∷◌, ◌++◌, sym, ap, ◌∙◌, append_assoc, arith}
 use Rattle.std.proofs.lemmas.List.{at_drop_more}
-use Rattle.msp_isa.specs.declared.instructions.Instr.{Instr}
+use Rattle.runtime_code.specs.msp_isa.declared.instructions.Instr.{Instr}
 use Rattle.runtime_code.specs.code_forms.Forms.{Branch, instruction_of}
 use Rattle.runtime_code.specs.code_forms.Placed.{instructions}
 use Rattle.runtime_code.proofs.code_forms.Interface.{instructions-append}

@@ -5,7 +5,7 @@ pub use Rattle.runtime_code.specs.text_parts as text_parts
 pub use Rattle.memory_map.specs.address_space as address_space
 pub use Rattle.memory_map.specs as memory_map
 pub use Rattle.runtime_code.specs.alp_words as alp_words
-pub use Rattle.msp_isa.specs as msp_isa
+pub use Rattle.runtime_code.specs.msp_isa as msp_isa
 pub use Rattle.runtime_code.specs.msp_cycles as msp_cycles
 pub use Rattle.runtime_code.specs.msp_step as msp_step
 pub use Rattle.runtime_code.specs.image_map as image_map

@@ -1,8 +1,8 @@
 -- The boot's code: its listing.
 use Rattle.std.specs.Prelude.{ℕ, ◌+◌, ◌-◌, ◌*◌, Bool, if◌then◌else◌, List, [], ◌∷◌, ◌++◌, length, get_or}
-use Rattle.msp_isa.specs.declared.instructions.TwoOp.TheVariants.{Add}
-use Rattle.msp_isa.specs.declared.instructions.Condition.TheVariants.{NotEqual}
-use Rattle.msp_isa.specs.declared.operands.Konst.TheVariants.{Zero, One, Two, MinusOne}
+use Rattle.runtime_code.specs.msp_isa.declared.instructions.TwoOp.TheVariants.{Add}
+use Rattle.runtime_code.specs.msp_isa.declared.instructions.Condition.TheVariants.{NotEqual}
+use Rattle.runtime_code.specs.msp_isa.declared.operands.Konst.TheVariants.{Zero, One, Two, MinusOne}
 use Rattle.runtime_code.specs.code_forms.Forms.{Form, Move, Calculate, Compare, Update, SetStack, Jump, Branch, SkipBy, R4, R5}
 use Rattle.runtime_code.specs.code_forms.Forms.{Register, Number, Constant, Fram, ToRegister, ToFram, ToPointed}
 use Rattle.memory_map.specs.declared.words.RuntimeWord.TheVariants.{CurrentTask, Gate, ListLength, EmitCount, Version}

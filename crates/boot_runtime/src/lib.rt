@@ -16,8 +16,11 @@ pub use laws::{
     tasks_are_entered, version_is_raised,
 };
 use memory_map::{Layout, RuntimeWord, STACK_TOP};
-use msp_isa::{Condition, Dst, IndexRegister, Instr, Konst, Reg, Src};
-use runtime_code::{add, branch, cmp, jump, load, loop_begin, loop_end, mov, read, set};
+use runtime_code::forms::{
+    Condition, Dst, IndexRegister, Instr, Konst, R4, Src, TO_PC, TO_R4, TO_R5, TO_SP, absolute,
+    add, branch, cmp, constant, jump, mov,
+};
+use runtime_code::{loop_begin, loop_end};
 use std::alloc::{AllocError, Global};
 use stubs::{push_ladder, push_stubs};
 
@@ -30,7 +33,7 @@ fn head(layout: &Layout) -> [Instr; 3]
 {
     let gate = Dst::Absolute(layout.word_place(RuntimeWord::Gate));
     [
-        cmp(Src::Constant(Konst::One), gate),
+        cmp(constant(Konst::One), gate),
         jump(Condition::NotEqual, 2),
         branch(layout.commit().address),
     ]
@@ -42,7 +45,7 @@ fn end_tested(layout: &Layout) -> [Instr; 2]
 {
     let version = Dst::Absolute(layout.word_place(RuntimeWord::Version));
     [
-        cmp(Src::Constant(Konst::MinusOne), version),
+        cmp(constant(Konst::MinusOne), version),
         jump(Condition::NotEqual, 13),
     ]
 }
@@ -53,7 +56,7 @@ fn clearing_begins(layout: &Layout) -> [Instr; 1]
 {
     layout.rules();
     let count = Src::Immediate(layout.versions().words as u16);
-    [mov(count, set(IndexRegister::R4))]
+    [mov(count, TO_R4)]
 }
 
 // A version word becomes 0.
@@ -61,11 +64,8 @@ fn clear_turn() -> [Instr; 2]
     ensures { result ≡ instructions clear_turn }
 {
     [
-        mov(
-            Src::Constant(Konst::Zero),
-            Dst::Indexed(IndexRegister::R5, 0),
-        ),
-        add(Src::Constant(Konst::Two), set(IndexRegister::R5)),
+        mov(constant(Konst::Zero), Dst::Indexed(IndexRegister::R5, 0)),
+        add(constant(Konst::Two), TO_R5),
     ]
 }
 
@@ -83,7 +83,7 @@ fn version_cleared(layout: &Layout) -> [Instr; 1]
     ensures { result ≡ instructions (version_cleared layout.now) }
 {
     let version = Dst::Absolute(layout.word_place(RuntimeWord::Version));
-    [mov(Src::Constant(Konst::Zero), version)]
+    [mov(constant(Konst::Zero), version)]
 }
 
 // VER := VER + 1, CLN := 0, EN := 0.
@@ -94,9 +94,9 @@ fn counts_set(layout: &Layout) -> [Instr; 3]
     let list_length = Dst::Absolute(layout.word_place(RuntimeWord::ListLength));
     let emit_count = Dst::Absolute(layout.word_place(RuntimeWord::EmitCount));
     [
-        add(Src::Constant(Konst::One), version),
-        mov(Src::Constant(Konst::Zero), list_length),
-        mov(Src::Constant(Konst::Zero), emit_count),
+        add(constant(Konst::One), version),
+        mov(constant(Konst::Zero), list_length),
+        mov(constant(Konst::Zero), emit_count),
     ]
 }
 
@@ -104,14 +104,13 @@ fn counts_set(layout: &Layout) -> [Instr; 3]
 fn dispatch(layout: &Layout) -> [Instr; 5]
     ensures { result ≡ instructions (dispatch layout.now) }
 {
-    let r4 = set(IndexRegister::R4);
-    let current_task = load(layout.word_place(RuntimeWord::CurrentTask));
+    let current_task = absolute(layout.word_place(RuntimeWord::CurrentTask));
     [
-        mov(Src::Immediate(STACK_TOP), set(IndexRegister::Sp)),
-        mov(current_task, r4),
-        add(read(IndexRegister::R4), r4),
-        add(read(IndexRegister::R4), r4),
-        add(read(IndexRegister::R4), Dst::Reg(Reg::Pc)),
+        mov(Src::Immediate(STACK_TOP), TO_SP),
+        mov(current_task, TO_R4),
+        add(R4, TO_R4),
+        add(R4, TO_R4),
+        add(R4, TO_PC),
     ]
 }
 

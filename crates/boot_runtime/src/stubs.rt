@@ -10,8 +10,7 @@ ghost use Rattle.boot_runtime.specs.Entries.{entry_of, EndsInMemory};
 ghost use Rattle.boot_runtime.specs.Listing.{copies_in, stub, stub_bytes, stubs, stubs_bytes, rung_to, ladder_to};
 
 use memory_map::{PrivateScalar, ScalarWidth, TaskLayout};
-use msp_isa::{Dst, Instr};
-use runtime_code::{branch, load, mov};
+use runtime_code::forms::{Dst, Instr, absolute, branch, mov};
 use std::alloc::AllocError;
 
 /// The bytes of a word's copy, and of a branch.
@@ -71,7 +70,7 @@ pub fn push_ladder(code: &mut Vec<Instr>, tasks: &[TaskLayout], at: u16) -> Resu
 fn push_copy(code: &mut Vec<Instr>, home: u16, copy: u16) -> Result<(), AllocError>
     ensures { OnOk result (code.new.items ≡ code.old.items ++ instructions (copies_in (run_pairs 1 home copy))) }
 {
-    code.push(mov(load(home), Dst::Absolute(copy)))?;
+    code.push(mov(absolute(home), Dst::Absolute(copy)))?;
     Ok(())
 }
 

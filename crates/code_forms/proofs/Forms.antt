@@ -25,7 +25,7 @@ use Rattle.machine_effects.specs.msp_step.declared.operand.Location.TheVariants 
 use Rattle.machine_effects.specs.msp_step.Registers.{Registers, with_register}
 use Rattle.machine_effects.specs.msp_step.Access.{Access, Completed, then_do, read_at}
 use Rattle.machine_effects.specs.msp_step.Effect.{written_back, store, read_modify_write, shifted, rotated, exchanged, sign_extended, modification_of}
-use Rattle.machine_effects.specs.msp_step.Effect.{push_effect, pushed, reads_destination, writes_destination, with_flags, Operated, finish, sum16, source}
+use Rattle.machine_effects.specs.msp_step.Effect.{push_effect, pushed, reads_destination, writes_destination, with_flags, Operated, finish, word_sum, source}
 use Rattle.machine_effects.specs.msp_step.Effect.{after_source, two_operand_effect, destination_location, Written, distance, is_met, operated}
 use Rattle.machine_effects.specs.msp_step.Step.{effect}
 use Rattle.machine_effects.specs.fram_board.Bus.{is_word, is_ram}
@@ -91,15 +91,15 @@ module _ (u : Core) (p : ℕ) where
   from_source (Ram a) h = rw (read_ram (inside u) a h) refl
   from_source (Pointed b) h = rw (got b, read_fram (inside u) (u.work (work_number b)) h) refl
   from_source (PointedNext b) h =
-      let e : sum16 (u.work (work_number b)) 2 ≡ u.work (work_number b) + 2 = omega (arith, h.1) in
-      rw (up b (sum16 (regs_in u p (index_number (index_of b))) 2), got b, read_fram (inside u) (u.work (work_number b)) h.0, e) refl
+      let e : word_sum (u.work (work_number b)) 2 ≡ u.work (work_number b) + 2 = omega (arith, h.1) in
+      rw (up b (word_sum (regs_in u p (index_number (index_of b))) 2), got b, read_fram (inside u) (u.work (work_number b)) h.0, e) refl
   from_source (Indexed b x) h =
-      let e : sum16 (u.work (work_number b)) x ≡ u.work (work_number b) + x = let hi = h.high in omega arith in
+      let e : word_sum (u.work (work_number b)) x ≡ u.work (work_number b) + x = let hi = h.high in omega arith in
       rw (got b, e, read_fram (inside u) (u.work (work_number b) + x) h) refl
   from_source Popped h =
       let v = h.even in let l = h.high in
-      let e : sum16 u.sp 2 / 2 * 2 ≡ u.sp + 2 = omega arith in
-      rw (read_ram (inside u) u.sp h, set_sp p u.sp (sum16 u.sp 2) (u.sp + 2) u.flags u.work e) refl
+      let e : word_sum u.sp 2 / 2 * 2 ≡ u.sp + 2 = omega arith in
+      rw (read_ram (inside u) u.sp h, set_sp p u.sp (word_sum u.sp 2) (u.sp + 2) u.flags u.work e) refl
 
 pub from_length : (x : Source) → 2 * length (source_row (source_operand x)).extension ≡ source_bytes x
 from_length (Register b) = refl
@@ -143,7 +143,7 @@ read_same (Indexed b x) u = refl
 read_same Popped u = refl
 
 abbrev ext_of : Source → Core → ℕ
-ext_of x u = sum16 (sum16 u.pc 2) (2 * length (source_row (source_operand x)).extension)
+ext_of x u = word_sum (word_sum u.pc 2) (2 * length (source_row (source_operand x)).extension)
 
 -- an instruction with two operands, up to its destination
 pub two : (op : TwoOp) (x : Source) (d : Dst) (u : Core) → IsCodeAddress u.pc → SourceNeeds x u →
@@ -154,15 +154,15 @@ pub two : (op : TwoOp) (x : Source) (d : Dst) (u : Core) → IsCodeAddress u.pc 
 two op x d u c h =
     let even = c.even in let high = c.high in
     let s = from_small x in let l = from_length x in let m = dest_small d in
-    let a : sum16 u.pc 2 / 2 * 2 ≡ u.pc + 2 = omega arith in
-    let b : sum16 (ext_of x u) (2 * length (destination_row d).extension) / 2 * 2 ≡ u.pc +
+    let a : word_sum u.pc 2 / 2 * 2 ≡ u.pc + 2 = omega arith in
+    let b : word_sum (ext_of x u) (2 * length (destination_row d).extension) / 2 * 2 ≡ u.pc +
     (2 + source_bytes x + 2 * length (destination_row d).extension) = omega (arith, l, s.0, s.1) in
     let t = source_read x u in
     rw (
-      set_pc u.pc u.sp (sum16 u.pc 2) (u.pc + 2) u.flags u.work a,
+      set_pc u.pc u.sp (word_sum u.pc 2) (u.pc + 2) u.flags u.work a,
       from_source u (u.pc + 2) x h,
       set_pc (u.pc + 2) t.sp
-          (sum16 (ext_of x u) (2 * length (destination_row d).extension)) (u.pc + (2 + source_bytes x + 2 * length (destination_row d).extension))
+          (word_sum (ext_of x u) (2 * length (destination_row d).extension)) (u.pc + (2 + source_bytes x + 2 * length (destination_row d).extension))
           t.flags t.work b,
     ) refl
 
@@ -184,13 +184,13 @@ written (ToFram a) v ext pc c t h = let w = is_word_fram a h in let f = no_ram_f
 written (ToRam a) v ext pc c t h = let w = is_word_ram a h in let f = is_ram_ram a h in let g = even_ram a h in rw (w, f, g) refl
 written (ToIndexed b x) v ext pc c t h =
     let hi = h.high in
-    let e : sum16 (t.work (work_number b)) x ≡ t.work (work_number b) + x = omega arith in
+    let e : word_sum (t.work (work_number b)) x ≡ t.work (work_number b) + x = omega arith in
     let w =
     is_word_fram (t.work (work_number b) + x) h in let f = no_ram_fram (t.work (work_number b) + x) h in let g = even_fram (t.work (work_number b) + x) h in
     rw (got t t.pc b, e, w, f, g) refl
 written (ToPointed b) v ext pc c t h =
     let hi = h.high in
-    let e : sum16 (t.work (work_number b)) 0 ≡ t.work (work_number b) = omega arith in
+    let e : word_sum (t.work (work_number b)) 0 ≡ t.work (work_number b) = omega arith in
     let w = is_word_fram (t.work (work_number b)) h in let f = no_ram_fram (t.work (work_number b)) h in let g = even_fram (t.work (work_number b)) h in
     rw (got t t.pc b, e, w, f, g) refl
 written ToOutnum v ext pc c t h = refl
@@ -324,12 +324,12 @@ push_half : (x : Source) (u : Core) → IsCodeAddress u.pc → SourceNeeds x u
 push_half x u c h =
     let even = c.even in let high = c.high in
     let s = from_small x in let l = from_length x in
-    let a : sum16 u.pc 2 / 2 * 2 ≡ u.pc + 2 = omega arith in
+    let a : word_sum u.pc 2 / 2 * 2 ≡ u.pc + 2 = omega arith in
     let p : ext_of x u / 2 * 2 ≡ u.pc + (2 + source_bytes x) = omega (arith, l, s.0, s.1) in
     let t = source_read x u in
     let next : ℕ × Registers → MachineBus → Access MachineBus (Registers × Option Written) =
     λ y l. pushed machine_bus Word y.0 (with_register y.1 0 (ext_of x u)) l in
-    ap (λ q. then_do (source machine_bus q Word (source_operand x) (inside u)) next) (set_pc u.pc u.sp (sum16 u.pc 2) (u.pc + 2) u.flags u.work a)
+    ap (λ q. then_do (source machine_bus q Word (source_operand x) (inside u)) next) (set_pc u.pc u.sp (word_sum u.pc 2) (u.pc + 2) u.flags u.work a)
     ∙ ap (λ y. then_do y next) (from_source u (u.pc + 2) x h)
     ∙ ap (λ r. pushed machine_bus Word (source_value x u) r (inside u)) (set_pc (u.pc + 2) t.sp (ext_of x u) (u.pc + (2 + source_bytes x)) t.flags t.work p)
     ∙ ap (λ l. pushed machine_bus Word (source_value x u) (regs_in t (u.pc + (2 + source_bytes x))) l) (sym (read_same x u))
@@ -341,7 +341,7 @@ pushed_at v pc c t h =
     let even = h.even in let low = h.low in let high = h.high in
     let k : IsRam (t.sp - 2) = record { even = omega arith; low = omega arith; high = omega arith } in
     let word = is_word_ram (t.sp - 2) k in let ram = is_ram_ram (t.sp - 2) k in let g = even_ram (t.sp - 2) k in
-    let l : sum16 t.sp 0xFFFE ≡ t.sp - 2 = omega arith in
+    let l : word_sum t.sp 0xFFFE ≡ t.sp - 2 = omega arith in
     let m : (t.sp - 2) / 2 * 2 ≡ t.sp - 2 = omega arith in
     rw (l, set_sp t.pc t.sp (t.sp - 2) (t.sp - 2) t.flags t.work m, word, ram, g) refl
 
@@ -367,12 +367,12 @@ sense_on b u [] c = let on = is_on u.pc u.sp u.flags u.work in rw on refl
 sense_on b u (w ∷ ws) c =
     let even = c.even in let high = c.high in
     let on = is_on u.pc u.sp u.flags u.work in
-    let a : sum16 u.pc 2 / 2 * 2 ≡ u.pc + 2 = omega arith in
-    let p : sum16 (sum16 (sum16 u.pc 2) 2) 0 / 2 * 2 ≡ u.pc + 4 = omega arith in
+    let a : word_sum u.pc 2 / 2 * 2 ≡ u.pc + 2 = omega arith in
+    let p : word_sum (word_sum (word_sum u.pc 2) 2) 0 / 2 * 2 ≡ u.pc + 4 = omega arith in
     rw (
       on,
-      set_pc u.pc u.sp (sum16 u.pc 2) (u.pc + 2) u.flags u.work a,
-      set_pc (u.pc + 2) u.sp (sum16 (sum16 (sum16 u.pc 2) 2) 0)
+      set_pc u.pc u.sp (word_sum u.pc 2) (u.pc + 2) u.flags u.work a,
+      set_pc (u.pc + 2) u.sp (word_sum (word_sum (word_sum u.pc 2) 2) 0)
           (u.pc + 4) u.flags u.work p,
       up u (u.pc + 4) b w,
     ) refl
@@ -387,7 +387,7 @@ by_sign false o = omega arith
 distance_even : (o : ℕ) → distance o % 2 ≡ 0
 distance_even o = by_sign ((o / 0x200) == 0) o
 
-jump_even : (b : Bool) (p d : ℕ) → p % 2 ≡ 0 → d % 2 ≡ 0 → (if b then sum16 p d else p) / 2 * 2 ≡ (if b then sum16 p d else p)
+jump_even : (b : Bool) (p d : ℕ) → p % 2 ≡ 0 → d % 2 ≡ 0 → (if b then word_sum p d else p) / 2 * 2 ≡ (if b then word_sum p d else p)
 jump_even true p d e f = omega arith
 jump_even false p d e f = omega arith
 
@@ -397,8 +397,8 @@ unfolding effect
 jumps k o u c =
     let even = c.even in let high = c.high in
     let on = is_on u.pc u.sp u.flags u.work in
-    let n : sum16 u.pc 2 ≡ u.pc + 2 = omega arith in
-    let t = if is_met k u.flags then sum16 (u.pc + 2) (distance o) else u.pc + 2 in
+    let n : word_sum u.pc 2 ≡ u.pc + 2 = omega arith in
+    let t = if is_met k u.flags then word_sum (u.pc + 2) (distance o) else u.pc + 2 in
     rw (
       on,
       flags_back u.flags,
@@ -451,18 +451,18 @@ modified_half : (f : Width → ℕ → Flags → Operated) (b : WorkRegister) (u
     ) (inside u))
 modified_half f b u c =
     let even = c.even in let high = c.high in
-    let a : sum16 u.pc 2 / 2 * 2 ≡ u.pc + 2 = omega arith in
-    let d : sum16 (sum16 u.pc 2) 0 / 2 * 2 ≡ u.pc + 2 = omega arith in
+    let a : word_sum u.pc 2 / 2 * 2 ≡ u.pc + 2 = omega arith in
+    let d : word_sum (word_sum u.pc 2) 0 / 2 * 2 ≡ u.pc + 2 = omega arith in
     let o = f Word (u.work (work_number b)) u.flags in
     let l = location.Register (reg.Index (index_of b)) in
     let next : Registers → Access MachineBus (Registers × Option Written) =
-    λ r. written_back machine_bus f Word l (r (index_number (index_of b))) (with_register r 0 (sum16 (sum16 u.pc 2) 0)) (inside u) in
+    λ r. written_back machine_bus f Word l (r (index_number (index_of b))) (with_register r 0 (word_sum (word_sum u.pc 2) 0)) (inside u) in
     let last : Registers → ℕ → Access MachineBus (Registers × Option Written) = λ r v. written_back machine_bus f Word l v r (inside u) in
     let ends : Flags → Access MachineBus (Registers × Option Written) = λ g. store machine_bus
     (with_flags (regs_in u (u.pc + 2)) (f Word (u.work (work_number b)) g).flags) Word l (f Word (u.work (work_number b)) g).value (inside u) in
-    ap next (set_pc u.pc u.sp (sum16 u.pc 2) (u.pc + 2) u.flags u.work a)
-    ∙ ap (λ v. last (with_register (regs_in u (u.pc + 2)) 0 (sum16 (sum16 u.pc 2) 0)) v) (got u (u.pc + 2) b)
-    ∙ ap (λ r. last r (u.work (work_number b))) (set_pc (u.pc + 2) u.sp (sum16 (sum16 u.pc 2) 0) (u.pc + 2) u.flags u.work d)
+    ap next (set_pc u.pc u.sp (word_sum u.pc 2) (u.pc + 2) u.flags u.work a)
+    ∙ ap (λ v. last (with_register (regs_in u (u.pc + 2)) 0 (word_sum (word_sum u.pc 2) 0)) v) (got u (u.pc + 2) b)
+    ∙ ap (λ r. last r (u.work (work_number b))) (set_pc (u.pc + 2) u.sp (word_sum (word_sum u.pc 2) 0) (u.pc + 2) u.flags u.work d)
     ∙ ap ends (flags_back u.flags)
     ∙ ap (λ r. store machine_bus r Word l o.value (inside u)) (with_new o.flags u (u.pc + 2))
     ∙ ap (λ r. Completed (r, None) (inside u)) (up (record u { flags = flags_after o.flags u.flags }) (u.pc + 2) b o.value)

@@ -7,7 +7,7 @@ use Rattle.machine_effects.specs.msp_isa.Encoding.{encoding, IsInstruction, sour
 use Rattle.machine_effects.specs.msp_step.declared.effect.Modification.TheVariants as change
 use Rattle.machine_effects.specs.msp_step.declared.machine.Stop.{Stop}
 use Rattle.machine_effects.specs.msp_step.declared.machine.Stop.TheVariants as stop
-use Rattle.machine_effects.specs.msp_step.Effect.{sum16}
+use Rattle.machine_effects.specs.msp_step.Effect.{word_sum}
 use Rattle.machine_effects.specs.msp_step.Step.{off_bit, FetchedAt, IsStopped, IsCurrentInstruction}
 use Rattle.machine_effects.proofs.msp_step.Interface.{same_current, not_stopped}
 use Rattle.machine_effects.specs.fram_board.Bus.{is_word, is_ram}
@@ -104,7 +104,7 @@ fetched : (s : MachineBoard) (p : ℕ) (ws : List ℕ) → p % 2 ≡ 0 → 0x440
     → FetchedAt machine_bus (machine_opened s) p ws
 fetched s p [] e l b h = tt
 fetched s p (w ∷ ws) e l b h =
-    let n : sum16 p 2 ≡ p + 2 = omega (arith, b) in (
+    let n : word_sum p 2 ≡ p + 2 = omega (arith, b) in (
       fetched_word s p w e l (omega (arith, b)) h.0,
       subst (λ q. FetchedAt machine_bus (machine_opened s) q ws) (sym n)
           (fetched s (p + 2) ws (omega arith) (omega arith) (omega (arith, b)) h.1),

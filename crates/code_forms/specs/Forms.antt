@@ -1,6 +1,7 @@
 -- The forms of instructions that the compiler and its runtime write, on a machine whose registers are told apart: what each is
 -- as an instruction, how long it is, what it needs and what it does (SLAU049 and SLAU144, CPU chapter).
 use Rattle.std.specs.Prelude.{ℕ, ◌+◌, ◌-◌, ◌%◌, ◌≡◌, ◌<◌, ◌≤◌, true, false, ◌==◌, if◌then◌else◌, List, [], ◌∷◌, Option, Some, None}
+use Rattle.machine_effects.specs.address_space.Limits.{ram_first, fram_end, stack_top}
 use Rattle.machine_effects.specs.alp_words.declared.Flags.{Flags}
 use Rattle.machine_effects.specs.alp_words.declared.Width.TheVariants.{Word}
 use Rattle.machine_effects.specs.msp_isa.declared.registers.IndexRegister.{IndexRegister}
@@ -28,7 +29,7 @@ use Rattle.machine_effects.specs.msp_step.declared.effect.Modification.TheVarian
 use Rattle.machine_effects.specs.msp_step.declared.machine.Stop.{Stop}
 use Rattle.machine_effects.specs.msp_step.declared.machine.Stop.TheVariants as stop
 use Rattle.machine_effects.specs.msp_step.Registers.{Registers}
-use Rattle.machine_effects.specs.msp_step.Effect.{status_with, operated, Operated, modification_of, writes_destination, sum16, distance, is_met}
+use Rattle.machine_effects.specs.msp_step.Effect.{status_with, operated, Operated, modification_of, writes_destination, word_sum, distance, is_met}
 use Rattle.machine_effects.specs.fram_board.Bus.{sensor_port, number_port, data_port}
 use Rattle.machine_effects.specs.fram_board.Effects.{Store, Take, Send}
 use Rattle.machine_effects.specs.World.{put}
@@ -197,7 +198,7 @@ SourceNeeds (Constant k) u = Unit {0}
 SourceNeeds (Fram a) u = IsFram a
 SourceNeeds (Ram a) u = IsRam a
 SourceNeeds (Pointed b) u = IsFram (u.work (work_number b))
-SourceNeeds (PointedNext b) u = IsFram (u.work (work_number b)) × (u.work (work_number b) + 2 < 0x10000)
+SourceNeeds (PointedNext b) u = IsFram (u.work (work_number b)) × (u.work (work_number b) + 2 < fram_end)
 SourceNeeds (Indexed b x) u = IsFram (u.work (work_number b) + x)
 SourceNeeds Popped u = IsRam u.sp
 
@@ -343,7 +344,7 @@ form_step (Modify m b) u =
     Goes [] 1 (record u { pc = u.pc + 2; flags = flags_after o.flags u.flags; work = put u.work (work_number b) o.value })
 form_step (SetStack n) u = Goes [] 2 (record u { pc = u.pc + 4; sp = n })
 form_step (Sense b) u = sensed u.readings_left b u
-form_step (Jump c offset) u = Goes [] 2 (record u { pc = if is_met c u.flags then sum16 (u.pc + 2) (distance offset) else u.pc + 2 })
+form_step (Jump c offset) u = Goes [] 2 (record u { pc = if is_met c u.flags then word_sum (u.pc + 2) (distance offset) else u.pc + 2 })
 form_step (Skip n) u =
     let o = operated Add Word (u.pc + 4) n u.flags in
     Goes [] 3 (record u { pc = o.value; flags = flags_after o.flags u.flags })
@@ -356,8 +357,8 @@ form_step (SkipBy b) u =
 -- room in RAM below SP for a word
 pub record HasPushRoom (sp : ℕ) : Type 0 where
   pub even : sp % 2 ≡ 0
-  pub low : 0x1C02 ≤ sp
-  pub high : sp ≤ 0x2400
+  pub low : ram_first + 2 ≤ sp
+  pub high : sp ≤ stack_top
 
 -- an operation that reads its destination
 abbrev pub IsNotMov : TwoOp → Type 0
@@ -383,4 +384,4 @@ FormNeeds (SkipBy b) u = u.work (work_number b) % 2 ≡ 0
 -- an even address with room behind it for an instruction of three words
 pub record IsCodeAddress (pc : ℕ) : Type 0 where
   pub even : pc % 2 ≡ 0
-  pub high : pc + 6 < 0x10000
+  pub high : pc + 6 < fram_end

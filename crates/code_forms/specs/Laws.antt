@@ -1,5 +1,6 @@
 -- Laws of the forms and of code that stands in FRAM.
 use Rattle.std.specs.Prelude.{◌≡◌, ℕ, ◌+◌, ◌*◌, ◌%◌, ◌<◌, ◌≤◌, List, length, Some}
+use Rattle.machine_effects.specs.address_space.Limits.{fram_first, fram_end}
 use Rattle.machine_effects.specs.msp_isa.declared.instructions.Instr.{Instr}
 use Rattle.machine_effects.specs.fram_board.Board.{PowerState}
 use Rattle.machine_effects.specs.fram_board.Effects.{Effect}
@@ -30,12 +31,12 @@ FormsStandWherePlaced = (ms : List Form) (p : ℕ) → Stands (placed p (instruc
 
 -- code that is placed is tidy
 abbrev pub PlacedIsTidy : Type 0
-PlacedIsTidy = (is : List Instr) (p : ℕ) → p % 2 ≡ 0 → p + 2 * length (words_of is) + 6 ≤ 0x10000 → IsTidy (placed p is)
+PlacedIsTidy = (is : List Instr) (p : ℕ) → p % 2 ≡ 0 → p + 2 * length (words_of is) + 6 ≤ fram_end → IsTidy (placed p is)
 
 -- a machine whose FRAM holds instructions goes as the code that they are, as long as no store falls on them and it never comes to
 -- where none stands
 abbrev pub CodeInFramRuns : Type 0
 CodeInFramRuns = (p : ℕ) (is : List Instr) (n : ℕ) (s : MachineBoard) (r : MachineStretch)
-    → AreInstructions is → p % 2 ≡ 0 → 0x4400 ≤ p → p + 2 * length (words_of is) < 0x10000
+    → AreInstructions is → p % 2 ≡ 0 → fram_first ≤ p → p + 2 * length (words_of is) < fram_end
     → MachineRun n s r → Holds s.fram p (words_of is) → LeavesCode p (length (words_of is)) (going (exec (placed p is)) n s)
     → r ≡ going (exec (placed p is)) n s

@@ -2,3 +2,5 @@ pub mod Forms
 pub mod Code
 pub mod Placed
 pub mod Laws
+pub use Rattle.msp_isa.specs.alp_words as alp_words
+pub use Rattle.msp_isa.specs as msp_isa

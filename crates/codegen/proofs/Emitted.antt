@@ -1,6 +1,6 @@
 -- Code that is appended piece by piece.
 use Rattle.codegen.proofs.Names.{◌≡◌, ℕ, suc, ◌+◌, ◌-◌, ◌<◌, ◌≤◌, List, [], ◌∷◌, ◌++◌, length, drop, get_or, sym, ap, ◌∙◌, arith, append_assoc, drop-cons, refl}
-use Rattle.codegen.proofs.Names.{Some, ◌==◌, add-one, rules, Bool, true, false, if◌then◌else◌, Result, Ok, Err, is_ok, test_code, test_words, remove}
+use Rattle.codegen.proofs.Names.{Some, ◌==◌, add-one, rules, subst, Bool, true, false, if◌then◌else◌, Result, Ok, Err, is_ok, test_code, test_words, remove}
 use Rattle.codegen.proofs.Names.{slice_index_or, on_ok_weaker, Word, Instr, Two, Form, Push, instruction_of, instructions, instruction_words}
 use Rattle.codegen.proofs.Names.{instructions-append, Comparison, PlainOperation, ArrayPlace, ListPlace, Step, Test, Program, local, set_local, update_local}
 use Rattle.codegen.proofs.Names.{versioned_read, versioned_write, versioned_update, truth, choose, repeat, holds, compares, both, either, fails, nothing, step}
@@ -10,8 +10,8 @@ use Rattle.word_code.specs.array_versions.declared.program.WordStep.{WordStep, t
 use Rattle.word_code.specs.array_versions.declared.program.WordStep.TheVariants.{VersionedRead, VersionedWrite, VersionedUpdate, Choose}
 use Rattle.word_code.specs.array_versions.declared.program.WordTest.{WordTest}
 use Rattle.word_code.specs.array_versions.declared.program.WordTest.TheVariants.{Holds, Compares, Both, Either}
-use Rattle.msp_isa.specs.declared.operands.Dst.{Dst}
-use Rattle.msp_isa.specs.declared.operands.Src.{Src}
+use Rattle.word_code.specs.msp_isa.declared.operands.Dst.{Dst}
+use Rattle.word_code.specs.msp_isa.declared.operands.Src.{Src}
 use Rattle.std.specs.Result.{OnOk}
 use Rattle.std.specs.declared.alloc.Global.{Global}
 use Rattle.std.specs.declared.boxed.Box.{Box}
@@ -142,6 +142,11 @@ own_behind r code first own new a b all f o is h =
 pub on_ok_items : {T E : Type 0} (r : Result T E) (new x y : List Instr) → new ≡ (if is_ok r then x else y) → OnOk r (new ≡ x)
 on_ok_items (Ok v) new x y e = e
 on_ok_items (Err v) new x y e = tt
+
+-- such instructions, made of what is known by another name
+pub made_behind : {T E : Type 0} (r : Result T E) (new old own is rest : List Instr) → new ≡ (if is_ok r then old ++ own else rest) → own ≡ is
+    → OnOk r (new ≡ old ++ is)
+made_behind r new old own is rest e f = subst (λ l. OnOk r (new ≡ old ++ l)) f (on_ok_items r new (old ++ own) rest e)
 
 -- so many words where a flag is set are no more than these
 pub words_at_most : (b : Bool) (n : ℕ) → (if b then n else 0) ≤ n

@@ -6,11 +6,11 @@ pub use Rattle.std.proofs.Common.{Option, lt-ltb, le-ltb}
 pub use Rattle.std.proofs.lemmas.Result.{on_ok_weaker}
 pub use Rattle.std.specs.List.{remove, slice_index_or}
 -- words and instructions
-pub use Rattle.msp_isa.specs.alp_words.Words.{word_sum}
-pub use Rattle.msp_isa.specs.alp_words.declared.Width.TheVariants.{Word}
-pub use Rattle.msp_isa.specs.declared.instructions.Instr.{Instr}
-pub use Rattle.msp_isa.specs.declared.instructions.Instr.TheVariants.{Two, One}
-pub use Rattle.msp_isa.specs.declared.instructions.TwoOp.{TwoOp}
+pub use Rattle.word_code.specs.msp_isa.alp_words.Words.{word_sum}
+pub use Rattle.word_code.specs.msp_isa.alp_words.declared.Width.TheVariants.{Word}
+pub use Rattle.word_code.specs.msp_isa.declared.instructions.Instr.{Instr}
+pub use Rattle.word_code.specs.msp_isa.declared.instructions.Instr.TheVariants.{Two, One}
+pub use Rattle.word_code.specs.msp_isa.declared.instructions.TwoOp.{TwoOp}
 -- forms of instructions
 pub use Rattle.word_code.proofs.code_forms.Interface.{forms_bytes-append, instructions-append}
 pub use Rattle.word_code.specs.code_forms.Code.{forms_bytes}
@@ -30,13 +30,13 @@ pub use Rattle.word_code.specs.array_versions.declared.program.ArrayPlace.{Array
 pub use Rattle.word_code.specs.array_versions.declared.program.ListPlace.{ListPlace}
 -- this room's own definitions
 pub use Rattle.word_code.specs.Code.{number_source, check_code, zero_code, fetch_code, element_code, emit_code, entry_code, compare_form, holding, failing}
-pub use Rattle.word_code.specs.Code.{decision, waiting_source, flushed, top_of, below_top, any_held, repeated, size, waiting_behind, step_code, steps_code}
+pub use Rattle.word_code.specs.Code.{decision, waiting_source, flushed, top_of, below_top, repeated, size, waiting_behind, step_code, steps_code}
 pub use Rattle.word_code.specs.Code.{local_address, local_target, source_from, cleared, kept, four_from, top_number, element_at, stays, sides, right_source}
 pub use Rattle.word_code.specs.Code.{five_from, top_to_four, top_to_five, two_to_registers, unary_middle, binary_middle, plain_instruction, double, halve}
 pub use Rattle.word_code.specs.Code.{shift_middle, own_code, read_code, stored_code, write_code, pass_over, jump_back, holds_code, compares_code, truth_code}
-pub use Rattle.word_code.specs.Code.{number_code, turn_end, turns_code, waiting_after, bound_of, is_inside, test_code, block_code, rest_source, to_rest}
+pub use Rattle.word_code.specs.Code.{number_code, turn_end, turns_code, waiting_after, is_inside, test_code, block_code, rest_source, to_rest}
 pub use Rattle.word_code.specs.Code.{right_to_rest, update_sides, made_code, first_update, by_version, inside_update, indexed_update, known_update, update_at}
-pub use Rattle.word_code.specs.Code.{local_register, ram_update, mark_code, next_code, word_code, first_code, is_bounded, divide_middle, attempt_form, if_below}
+pub use Rattle.word_code.specs.Code.{local_register, ram_update, mark_code, next_code, word_code, first_code, divide_middle, attempt_form, if_below}
 pub use Rattle.word_code.specs.Code.{element_behind, last_code, end_test, longer_code, copy_code}
 pub use Rattle.word_code.specs.declared.bounds.Bound.{Bound}
 pub use Rattle.word_code.specs.declared.waiting.Waiting.{Waiting}

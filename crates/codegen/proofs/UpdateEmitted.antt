@@ -1,7 +1,7 @@
 -- Code of updates that is appended piece by piece.
 use Rattle.codegen.proofs.Names.{◌≡◌, ℕ, ◌+◌, ◌≤◌, List, [], ◌∷◌, ◌++◌, length, sym, ap, ap₂, ◌∙◌, arith, append_assoc, Instr, Form, Jump, instruction_of}
 use Rattle.codegen.proofs.Names.{forms_bytes, instructions, instruction_words, forms_bytes-append, instructions-append, size, by_version}
-use Rattle.msp_isa.specs.declared.instructions.Condition.TheVariants as condition
+use Rattle.word_code.specs.msp_isa.declared.instructions.Condition.TheVariants as condition
 use Rattle.word_code.proofs.Interface.{whole_size}
 use Rattle.codegen.proofs.Emitted.{own_words}
 

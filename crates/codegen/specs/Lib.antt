@@ -1,3 +1,3 @@
 pub use Rattle.word_code.specs as word_code
 pub use Rattle.word_code.specs.array_versions as array_versions
-pub use Rattle.msp_isa.specs as msp_isa
+pub use Rattle.word_code.specs.msp_isa as msp_isa

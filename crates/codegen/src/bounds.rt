@@ -2,24 +2,19 @@
 
 ghost use Rattle.std.specs.Prelude.{◌≡◌, ◌∷◌, ◌++◌, ◌<◌, OnOk, IfOk};
 ghost use Rattle.word_code.specs.code_forms.Placed.{instructions};
-ghost use Rattle.word_code.specs.Code.{check_code, zero_code, bound_of, is_bounded, is_inside};
+ghost use Rattle.word_code.specs.Code.{check_code, zero_code, is_bounded, is_inside};
 
 use crate::forms::{TO_R4, constant, jump, number_source, two};
-use msp_isa::{Condition, Instr, Konst, TwoOp};
 use std::alloc::{AllocError, Global};
+use word_code::forms::{Condition, Instr, Konst, TwoOp};
 use word_code::{Bound, Waiting};
 
 /// The bounds in a loop's body: its own in front of those around it.
-pub fn bounds_within(
-    alloc: Global,
-    local: u16,
-    below: u16,
-    around: &[Bound],
-) -> Result<Vec<Bound>, AllocError>
-    ensures { IfOk result (λ bounds. bounds.items ≡ bound_of local below ∷ around.now) }
+pub fn bounds_within(alloc: Global, own: Bound, around: &[Bound]) -> Result<Vec<Bound>, AllocError>
+    ensures { IfOk result (λ bounds. bounds.items ≡ own ∷ around.now) }
 {
     let mut bounds = Vec::new(alloc);
-    bounds.push(Bound { local, below })?;
+    bounds.push(own)?;
     bounds.extend_from_slice(around)?;
     Ok(bounds)
 }
@@ -28,12 +23,9 @@ pub fn bounds_within(
 fn is_bounded(bounds: &[Bound], n: u16, length: u16) -> bool
     ensures { result ≡ is_bounded bounds.now n length }
 {
-    for bound in bounds {
-        if bound.local == n && bound.below <= length {
-            return true;
-        }
-    }
-    false
+    bounds
+        .iter()
+        .any(|bound| bound.local == n && bound.below <= length)
 }
 
 /// An index that waits is surely below a length: a number that is, or such a local.

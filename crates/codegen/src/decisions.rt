@@ -1,9 +1,9 @@
 //! Where code goes on.
 
 ghost use Rattle.std.specs.Prelude.{◌≡◌, ◌≤◌, ◌*◌, ◌∷◌, ◌++◌, OnOk, IfOk, length};
-ghost use Rattle.msp_isa.specs.declared.instructions.TwoOp.TheVariants as two_op;
-ghost use Rattle.msp_isa.specs.declared.instructions.Condition.TheVariants as conditions;
-ghost use Rattle.msp_isa.specs.declared.operands.Konst.TheVariants as constants;
+ghost use Rattle.word_code.specs.msp_isa.declared.instructions.TwoOp.TheVariants as two_op;
+ghost use Rattle.word_code.specs.msp_isa.declared.instructions.Condition.TheVariants as conditions;
+ghost use Rattle.word_code.specs.msp_isa.declared.operands.Konst.TheVariants as constants;
 ghost use Rattle.word_code.specs.code_forms.Forms as form;
 ghost use Rattle.word_code.specs.code_forms.Placed.{instructions, words_of as instruction_words};
 ghost use Rattle.word_code.specs.Code.{top_of, below_top, kept, compare_form, is_turned, compare_sides, compare_source, holding, failing, jump_over};
@@ -11,10 +11,11 @@ ghost use Rattle.word_code.specs.Code.{pass_over, jump_back, decision, holds_cod
 
 use crate::forms::{R4, R5, TO_R4, TO_R5, constant, jump, skip, two};
 use crate::waiting::{emit_all, emit_sides, emit_top_to_four, emit_two_to_registers};
+use array_versions::Comparison;
 use msp_encode::encode;
-use msp_isa::{Condition, Instr, Konst, Src, TwoOp};
 use std::alloc::AllocError;
-use word_code::{Comparison, Waiting};
+use word_code::Waiting;
+use word_code::forms::{Condition, Instr, Konst, Src, TwoOp};
 
 // Whether a comparison is of R5, the right side, with the left one.
 fn is_turned(comparison: Comparison) -> bool
@@ -64,7 +65,7 @@ fn failing(comparison: Comparison) -> Condition
     }
 }
 
-/// The words of code, of fewer than 8000.
+/// The words of code, of fewer than 0x8000.
 pub fn code_words(code: &[Instr]) -> u16
     requires { length (instruction_words code.now) ≤ 0x7FFF }
     ensures { result ≡ length (instruction_words code.now) }

@@ -1,62 +1,15 @@
-//! The instructions that the code is made of.
+//! The instructions that the code is made of: those of `code_forms`, and what numbers, locals and long ways need besides.
 
-ghost use Rattle.std.specs.Prelude.{◌≡◌, ℕ, ◌+◌, ◌*◌, ◌<◌};
-ghost use Rattle.msp_isa.specs.alp_words.declared.Width.TheVariants.{Word};
-ghost use Rattle.msp_isa.specs.declared.instructions.OneOp.TheVariants as OneOps;
-ghost use Rattle.msp_isa.specs.declared.operands.Src.TheVariants as Srcs;
-ghost use Rattle.msp_isa.specs.declared.operands.Operand.TheVariants as Operands;
+ghost use Rattle.std.specs.Prelude.{◌≡◌, ◌+◌, ◌*◌, ◌<◌};
 ghost use Rattle.word_code.specs.code_forms.Forms.{instruction_of, index_of, source_operand, target_operand};
 ghost use Rattle.word_code.specs.code_forms.Forms as form;
 ghost use Rattle.word_code.specs.Code as place;
 
-use msp_isa::{
-    Condition, Dst, IndexRegister, Instr, Konst, Offset, OneOp, Operand, Reg, SourceRegister, Src,
-    TwoOp, Width,
+pub use word_code::forms::{
+    IN_R4, IN_R5, IN_R6, POPPED, R4, R5, R6, R7, TO_R4, TO_R5, TO_R6, TO_R7, absolute, branch,
+    constant, jump, push, two,
 };
-
-pub const R4: Src = Src::Operand(Operand::Reg(SourceRegister::Index(IndexRegister::R4)));
-
-pub const R5: Src = Src::Operand(Operand::Reg(SourceRegister::Index(IndexRegister::R5)));
-
-pub const R6: Src = Src::Operand(Operand::Reg(SourceRegister::Index(IndexRegister::R6)));
-
-pub const R7: Src = Src::Operand(Operand::Reg(SourceRegister::Index(IndexRegister::R7)));
-/// The word at SP, which goes up.
-pub const POPPED: Src = Src::Operand(Operand::Increment(IndexRegister::Sp));
-
-pub const TO_R4: Dst = Dst::Reg(Reg::Index(IndexRegister::R4));
-
-pub const TO_R5: Dst = Dst::Reg(Reg::Index(IndexRegister::R5));
-
-pub const TO_R6: Dst = Dst::Reg(Reg::Index(IndexRegister::R6));
-
-pub const TO_R7: Dst = Dst::Reg(Reg::Index(IndexRegister::R7));
-
-/// An operation of two operands on words.
-pub fn two(op: TwoOp, src: Src, dst: Dst) -> Instr
-    ensures { result ≡ Instr.Two op Word src dst }
-{
-    Instr::Two {
-        op,
-        width: Width::Word,
-        src,
-        dst,
-    }
-}
-
-/// PUSH of a word.
-pub fn push(src: Src) -> Instr
-    ensures { result ≡ Instr.One (OneOps.Push Word src) }
-{
-    Instr::One(OneOp::Push(Width::Word, src))
-}
-
-/// A number that takes no extension word.
-pub fn constant(k: Konst) -> Src
-    ensures { result ≡ Srcs.Constant k }
-{
-    Src::Constant(k)
-}
+use word_code::forms::{Dst, IndexRegister, Instr, Konst, Reg, Src, TO_PC, add};
 
 /// A number as a source: some take no word of their own.
 pub fn number_source(number: u16) -> Src
@@ -73,36 +26,11 @@ pub fn number_source(number: u16) -> Src
     }
 }
 
-/// The word at an address.
-pub fn absolute(address: u16) -> Src
-    ensures { result ≡ Srcs.Operand (Operands.Absolute address) }
-{
-    Src::Operand(Operand::Absolute(address))
-}
-
-/// A short jump, with the ten bits of its offset.
-pub fn jump(condition: Condition, bits: u16) -> Instr
-    requires { bits < 0x400 }
-    ensures { result ≡ Instr.Jump condition bits }
-{
-    Instr::Jump {
-        condition,
-        offset: Offset::from_bits(bits),
-    }
-}
-
-/// A branch to an address.
-pub fn branch(to: u16) -> Instr
-    ensures { result ≡ instruction_of (form.Branch to) }
-{
-    two(TwoOp::Mov, Src::Immediate(to), Dst::Reg(Reg::Pc))
-}
-
 /// An addition to PC.
 pub fn skip(bytes: u16) -> Instr
     ensures { result ≡ instruction_of (form.Skip bytes) }
 {
-    two(TwoOp::Add, Src::Immediate(bytes), Dst::Reg(Reg::Pc))
+    add(Src::Immediate(bytes), TO_PC)
 }
 
 /// The register of a local below 8.
@@ -127,18 +55,6 @@ pub fn local_address(n: u16) -> u16
     ensures { result ≡ place.local_address n }
 {
     0x1c20 + 2 * n
-}
-
-/// A local as a source.
-pub fn local_source(n: u16) -> Src
-    requires { n < 1008 }
-    ensures { result ≡ source_operand (place.local_source n) }
-{
-    if n < 8 {
-        Src::Operand(Operand::Reg(SourceRegister::Index(local_register(n))))
-    } else {
-        absolute(local_address(n))
-    }
 }
 
 /// A local as what MOV writes.

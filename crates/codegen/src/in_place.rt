@@ -3,7 +3,7 @@
 ghost use Rattle.std.specs.Prelude.{◌≡◌, [], ◌∷◌, ◌++◌, ◌+◌, ◌<◌, OnOk, length};
 ghost use Rattle.word_code.specs.code_forms.Forms as form;
 ghost use Rattle.word_code.specs.code_forms.Placed.{instructions, words_of as instruction_words};
-ghost use Rattle.msp_isa.specs.declared.instructions.Condition.TheVariants as conditions;
+ghost use Rattle.word_code.specs.msp_isa.declared.instructions.Condition.TheVariants as conditions;
 ghost use Rattle.word_code.specs.array_versions.Form.{ArrayOfWords, ListOfWords};
 ghost use Rattle.word_code.specs.array_versions.Program as value;
 ghost use Rattle.word_code.specs.Code.{flushed, top_of, below_top, four_from, top_number, rest_source, to_rest, made_code, attempt_form};
@@ -17,24 +17,36 @@ use crate::versioned::{at_r4, emit_first};
 use crate::waiting::{
     emit_all, emit_to_four, emit_to_rest, rest_source, take, top_number, under_top,
 };
-use msp_isa::{Condition, Dst, IndexRegister, Instr, Src, TwoOp};
+use array_versions::{ArrayPlace, ListPlace, PlainOperation};
 use std::alloc::{AllocError, Global};
-use word_code::{ArrayPlace, Bound, ListPlace, PlainOperation, Waiting};
+use word_code::forms::{Condition, Dst, IndexRegister, Instr, Src, TwoOp};
+use word_code::{Bound, Waiting};
 
-// A copy becomes what an operation gives of a word and of the right side; R4 is the offset of both in their arrays.
-fn emit_made(
+// What an element of an array becomes.
+#[derive(Clone, Copy)]
+struct ElementUpdate {
     operation: PlainOperation,
+    /// The right side, which is taken.
     right: Option<Waiting>,
-    from: u16,
-    copies: u16,
-    code: &mut Vec<Instr>,
-) -> Result<(), AllocError>
-    ensures { OnOk result (code.new.items ≡ code.old.items ++ instructions (made_code operation (rest_source right) from copies)) }
+    place: ArrayPlace,
+    /// Where the first update in an attempt is listed.
+    list: ListPlace,
+}
+
+// The copy becomes what the operation gives of a word and of the right side; R4 is the offset of both in their arrays.
+fn emit_made(update: ElementUpdate, from: u16, code: &mut Vec<Instr>) -> Result<(), AllocError>
+    ensures { OnOk result (code.new.items
+        ≡ code.old.items ++ instructions (made_code update.operation (rest_source update.right) from update.place.copies)) }
 {
+    let copy = Dst::Indexed(IndexRegister::R4, update.place.copies);
     code.extend_from_slice(&[
         two(TwoOp::Mov, at_r4(from), TO_R7),
-        two(plain_instruction(operation), rest_source(right), TO_R7),
-        two(TwoOp::Mov, R7, Dst::Indexed(IndexRegister::R4, copies)),
+        two(
+            plain_instruction(update.operation),
+            rest_source(update.right),
+            TO_R7,
+        ),
+        two(TwoOp::Mov, R7, copy),
     ])
 }
 
@@ -46,18 +58,13 @@ fn attempt_number(list: ListPlace) -> Instr
 }
 
 // The first update of an element in an attempt.
-fn emit_first_update(
-    operation: PlainOperation,
-    right: Option<Waiting>,
-    place: ArrayPlace,
-    list: ListPlace,
-    code: &mut Vec<Instr>,
-) -> Result<(), AllocError>
-    ensures { OnOk result (code.new.items ≡ code.old.items ++ instructions (first_update operation (rest_source right) place list)) }
+fn emit_first_update(update: ElementUpdate, code: &mut Vec<Instr>) -> Result<(), AllocError>
+    ensures { OnOk result (code.new.items
+        ≡ code.old.items ++ instructions (first_update update.operation (rest_source update.right) update.place update.list)) }
 {
-    emit_made(operation, right, place.elements, place.copies, code)?;
-    code.extend_from_slice(&[attempt_number(list)])?;
-    emit_first(place, list, code)
+    emit_made(update, update.place.elements, code)?;
+    code.extend_from_slice(&[attempt_number(update.list)])?;
+    emit_first(update.place, update.list, code)
 }
 
 // Behind a comparison of the version word with VER's: one way where they are equal, else the other.
@@ -81,22 +88,20 @@ fn emit_by_version(
 // An update at the index in R4, which is below the length.
 fn emit_inside(
     alloc: Global,
-    operation: PlainOperation,
-    right: Option<Waiting>,
-    place: ArrayPlace,
-    list: ListPlace,
+    update: ElementUpdate,
     code: &mut Vec<Instr>,
 ) -> Result<(), AllocError>
-    ensures { OnOk result (code.new.items ≡ code.old.items ++ instructions (inside_update operation (rest_source right) place list)) }
+    ensures { OnOk result (code.new.items
+        ≡ code.old.items ++ instructions (inside_update update.operation (rest_source update.right) update.place update.list)) }
 {
     let mut again = Vec::new(alloc);
-    emit_made(operation, right, place.copies, place.copies, &mut again)?;
+    emit_made(update, update.place.copies, &mut again)?;
     let mut first = Vec::new(alloc);
-    emit_first_update(operation, right, place, list, &mut first)?;
+    emit_first_update(update, &mut first)?;
     code.extend_from_slice(&[
         two(TwoOp::Add, R4, TO_R4),
-        attempt_number(list),
-        two(TwoOp::Cmp, at_r4(place.versions), TO_R6),
+        attempt_number(update.list),
+        two(TwoOp::Cmp, at_r4(update.place.versions), TO_R6),
     ])?;
     emit_by_version(&again, &first, code)
 }
@@ -104,18 +109,16 @@ fn emit_inside(
 // At any index in R4.
 fn emit_checked(
     alloc: Global,
-    operation: PlainOperation,
-    right: Option<Waiting>,
-    place: ArrayPlace,
-    list: ListPlace,
+    update: ElementUpdate,
     code: &mut Vec<Instr>,
 ) -> Result<(), AllocError>
-    ensures { OnOk result (code.new.items ≡ code.old.items ++ instructions (checked_update operation (rest_source right) place list)) }
+    ensures { OnOk result (code.new.items
+        ≡ code.old.items ++ instructions (checked_update update.operation (rest_source update.right) update.place update.list)) }
 {
     let mut inside = Vec::new(alloc);
-    emit_inside(alloc, operation, right, place, list, &mut inside)?;
+    emit_inside(alloc, update, &mut inside)?;
     code.extend_from_slice(&[
-        two(TwoOp::Cmp, Src::Immediate(place.length), TO_R4),
+        two(TwoOp::Cmp, Src::Immediate(update.place.length), TO_R4),
         jump(Condition::Carry, code_words(&inside)),
     ])?;
     code.extend_from_slice(&inside)
@@ -125,47 +128,42 @@ fn emit_checked(
 fn emit_indexed_update(
     alloc: Global,
     sure: bool,
-    operation: PlainOperation,
-    right: Option<Waiting>,
-    place: ArrayPlace,
-    list: ListPlace,
+    update: ElementUpdate,
     code: &mut Vec<Instr>,
 ) -> Result<(), AllocError>
     ensures { OnOk result (code.new.items
-        ≡ code.old.items ++ instructions (indexed_update sure operation (rest_source right) place list)) }
+        ≡ code.old.items ++ instructions (indexed_update sure update.operation (rest_source update.right) update.place update.list)) }
 {
     if sure {
-        emit_inside(alloc, operation, right, place, list, code)
+        emit_inside(alloc, update, code)
     } else {
-        emit_checked(alloc, operation, right, place, list, code)
+        emit_checked(alloc, update, code)
     }
 }
 
 // At a number that is known and below the length.
 fn emit_known(
     alloc: Global,
-    operation: PlainOperation,
-    right: Option<Waiting>,
-    place: ArrayPlace,
-    list: ListPlace,
+    update: ElementUpdate,
     index: u16,
     code: &mut Vec<Instr>,
 ) -> Result<(), AllocError>
-    ensures { OnOk result (code.new.items ≡ code.old.items ++ instructions (known_update operation (rest_source right) place list index)) }
+    ensures { OnOk result (code.new.items
+        ≡ code.old.items ++ instructions (known_update update.operation (rest_source update.right) update.place update.list index)) }
 {
     let offset = index.wrapping_add(index);
-    let copy = place.copies.wrapping_add(offset);
-    let version = place.versions.wrapping_add(offset);
+    let copy = update.place.copies.wrapping_add(offset);
+    let version = update.place.versions.wrapping_add(offset);
     let again = [two(
-        plain_instruction(operation),
-        rest_source(right),
+        plain_instruction(update.operation),
+        rest_source(update.right),
         Dst::Absolute(copy),
     )];
     let mut first = Vec::new(alloc);
     first.extend_from_slice(&[two(TwoOp::Mov, Src::Immediate(offset), TO_R4)])?;
-    emit_first_update(operation, right, place, list, &mut first)?;
+    emit_first_update(update, &mut first)?;
     code.extend_from_slice(&[
-        attempt_number(list),
+        attempt_number(update.list),
         two(TwoOp::Cmp, absolute(version), TO_R6),
     ])?;
     emit_by_version(&again, &first, code)
@@ -227,15 +225,21 @@ pub fn emit_versioned_update(
 {
     let sure = is_inside(bounds, under_top(waiting), place.length);
     let right = take(waiting);
+    let update = ElementUpdate {
+        operation,
+        right,
+        place,
+        list,
+    };
     match number_below(place.length, waiting) {
         Some(index) => {
             take(waiting);
             emit_rest(right, waiting, code)?;
-            emit_known(alloc, operation, right, place, list, index, code)
+            emit_known(alloc, update, index, code)
         }
         None => {
             emit_rest_and_index(right, waiting, code)?;
-            emit_indexed_update(alloc, sure, operation, right, place, list, code)
+            emit_indexed_update(alloc, sure, update, code)
         }
     }
 }

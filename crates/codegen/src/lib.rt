@@ -14,8 +14,8 @@ mod versioned;
 mod waiting;
 
 // What the word programs that `emit` takes are made of, and what it makes of them.
-pub use msp_isa::Instr;
-pub use program::emit;
-pub use word_code::{
+pub use array_versions::{
     BinaryOperation, Comparison, LongOperation, PlainOperation, WordProgram, WordStep, WordTest,
 };
+pub use program::emit;
+pub use word_code::forms::Instr;

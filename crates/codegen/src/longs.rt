@@ -1,6 +1,6 @@
 //! The code of operations with longs: on the stack the high word of a long is above its low one.
 
-ghost use Rattle.std.specs.Prelude.{◌≡◌, ◌++◌, ◌∷◌, [], ◌≤◌, false, OnOk, IfOk};
+ghost use Rattle.std.specs.Prelude.{◌≡◌, ◌++◌, [], ◌≤◌, false, OnOk, IfOk};
 ghost use Rattle.word_code.specs.code_forms.Forms as form;
 ghost use Rattle.word_code.specs.code_forms.Forms.{source_operand};
 ghost use Rattle.word_code.specs.code_forms.Placed.{instructions};
@@ -9,30 +9,22 @@ ghost use Rattle.word_code.specs.array_versions.Program as value;
 ghost use Rattle.word_code.specs.array_versions.declared.operations.LongOperation.TheVariants as long_op;
 ghost use Rattle.word_code.specs.Code as made;
 ghost use Rattle.word_code.specs.Code.{top_of, below_top, below_two, in_six, parted, parting, six_from, four_from, pair_to_registers, kept, side_from};
-ghost use Rattle.word_code.specs.Code.{side_source};
-ghost use Rattle.word_code.specs.Code.{long_sides, high_source, low_source, high_instruction, long_waits, longs_code, longs_under, long_calculation};
-ghost use Rattle.word_code.specs.Code.{below_code};
-ghost use Rattle.word_code.specs.Code.{above_code, times_code, long_double, long_halve, byte_to_left, byte_to_right, long_right_code, left_by, right_by};
-ghost use Rattle.word_code.specs.Code.{dropped};
-ghost use Rattle.word_code.specs.Code.{lifted, high_code, high_behind, pair_lost, short_code, short_behind, left_code, left_behind, right_shift_code};
-ghost use Rattle.word_code.specs.Code.{right_behind};
-ghost use Rattle.word_code.specs.Code.{widen_code, longs_lost, long_code, long_behind, step_code, waiting_behind, shift_middle, top_to_four};
-ghost use Rattle.word_code.specs.array_versions.declared.operations.ShiftOperation.TheVariants as shift_op;
+ghost use Rattle.word_code.specs.Code.{side_source, long_sides, high_source, low_source, high_instruction, long_waits, longs_under, longs_lost};
+ghost use Rattle.word_code.specs.Code.{times_code, long_double, long_halve, long_right_code, left_by, right_by, pair_lost, dropped, lifted};
+ghost use Rattle.word_code.specs.Code.{high_code, high_behind, short_code, short_behind, left_code, left_behind, right_shift_code, right_behind};
+ghost use Rattle.word_code.specs.Code.{long_code, long_behind, step_code, waiting_behind};
 
-use crate::forms::{POPPED, R4, R6, R7, TO_R4, TO_R5, TO_R6, TO_R7, constant, two};
+use crate::forms::{IN_R4, IN_R6, POPPED, R4, R6, R7, TO_R4, TO_R5, TO_R6, TO_R7, constant, two};
 use crate::operations::plain_instruction;
 use crate::shifts::emit_shift_middle;
 use crate::waiting::{
     emit_all, emit_cleared, emit_to_four, emit_to_rest, emit_top_to_four, rest_source, rests,
     source_from, take, top, under_top, wait, waiting_source,
 };
-use msp_isa::{IndexRegister, Instr, Konst, OneOp, Operand, SourceRegister, Src, TwoOp, Width};
+use array_versions::{LongOperation, PlainOperation, ShiftOperation};
 use std::alloc::AllocError;
-use word_code::{LongOperation, PlainOperation, ShiftOperation, Waiting};
-
-const IN_R4: Operand = Operand::Reg(SourceRegister::Index(IndexRegister::R4));
-
-const IN_R6: Operand = Operand::Reg(SourceRegister::Index(IndexRegister::R6));
+use word_code::Waiting;
+use word_code::forms::{Instr, Konst, OneOp, Src, TwoOp, Width};
 
 // Where the words of the right one of two longs are read.
 #[derive(Clone, Copy)]
@@ -59,10 +51,7 @@ fn in_six(word: Option<Waiting>) -> bool
 fn fourth(waiting: &[Waiting]) -> Option<Waiting>
     ensures { result ≡ top_of (below_top (below_two waiting.now)) }
 {
-    match waiting.get(3) {
-        Some(word) => Some(*word),
-        None => None,
-    }
+    waiting.get(3).copied()
 }
 
 // The high word of a long comes to R6 first: where its low one waits there all words are pushed.

@@ -1,7 +1,6 @@
 //! The code of the operations.
 
 ghost use Rattle.std.specs.Prelude.{◌≡◌, [], ◌∷◌, ◌++◌, OnOk, Some};
-ghost use Rattle.word_code.specs.code_forms.Forms as form;
 ghost use Rattle.word_code.specs.code_forms.Placed.{instructions};
 ghost use Rattle.word_code.specs.array_versions.declared.operations.BinaryOperation.TheVariants as binary_op;
 ghost use Rattle.word_code.specs.array_versions.Program as value;
@@ -9,16 +8,15 @@ ghost use Rattle.word_code.specs.Code.{unary_middle, binary_middle, binary_resul
 ghost use Rattle.word_code.specs.Code.{below_top, kept, two_to_registers, two_code, power_code};
 ghost use Rattle.word_code.specs.declared.waiting.Waiting.TheVariants as words;
 
-use crate::forms::{R4, R5, R6, TO_R4, TO_R5, TO_R6, TO_R7, constant, jump, two};
+use crate::forms::{IN_R5, R4, R5, R6, TO_R4, TO_R5, TO_R6, TO_R7, constant, jump, two};
 use crate::shifts::emit_shift;
 use crate::waiting::{
     emit_sides, emit_top_to_five, emit_two_to_registers, mask_top, take, top_power, wait,
 };
-use msp_isa::{
-    Condition, IndexRegister, Instr, Konst, OneOp, Operand, SourceRegister, Src, TwoOp, Width,
-};
+use array_versions::{BinaryOperation, PlainOperation, ShiftOperation, UnaryOperation};
 use std::alloc::AllocError;
-use word_code::{BinaryOperation, PlainOperation, ShiftOperation, UnaryOperation, Waiting};
+use word_code::Waiting;
+use word_code::forms::{Condition, Instr, Konst, OneOp, Src, TwoOp, Width};
 
 // An operation on R5, its result in R4.
 fn emit_unary_middle(operation: UnaryOperation, code: &mut Vec<Instr>) -> Result<(), AllocError>
@@ -74,10 +72,7 @@ fn emit_multiply(code: &mut Vec<Instr>) -> Result<(), AllocError>
         two(TwoOp::Add, R4, TO_R6),
         two(TwoOp::Add, R4, TO_R4),
         two(TwoOp::Bit, constant(Konst::Zero), TO_R5),
-        Instr::One(OneOp::Rrc(
-            Width::Word,
-            Operand::Reg(SourceRegister::Index(IndexRegister::R5)),
-        )),
+        Instr::One(OneOp::Rrc(Width::Word, IN_R5)),
         jump(Condition::NotEqual, 1017),
     ])
 }

@@ -1,6 +1,6 @@
 //! The code of programs.
 
-ghost use Rattle.std.specs.Prelude.{◌≡◌, [], ◌∷◌, ◌++◌, ◌+◌, ◌<◌, ◌≤◌, if◌then◌else◌, OnOk, OnErr};
+ghost use Rattle.std.specs.Prelude.{◌≡◌, [], ◌++◌, ◌+◌, ◌<◌, ◌≤◌, if◌then◌else◌, OnOk, OnErr};
 ghost use Rattle.word_code.specs.code_forms.Placed.{instructions};
 ghost use Rattle.word_code.specs.array_versions.Program as value;
 ghost use Rattle.word_code.specs.array_versions.View.{program_of, steps_of, step_of, test_of};
@@ -22,9 +22,10 @@ use crate::steps::{
 };
 use crate::versioned::{emit_versioned_read, emit_versioned_write};
 use crate::waiting::{emit_all, emit_flushed, wait};
-use msp_isa::{Condition, Instr, Konst};
+use array_versions::{WordProgram, WordStep, WordTest};
 use std::alloc::{AllocError, Global};
-use word_code::{Bound, Waiting, WordProgram, WordStep, WordTest};
+use word_code::forms::{Condition, Instr, Konst};
+use word_code::{Bound, Waiting};
 
 // Behind a test: 1 where it holds, else 0.
 fn emit_truth_code(code: &mut Vec<Instr>) -> Result<(), AllocError>
@@ -110,33 +111,32 @@ fn emit_truth(
     emit_truth_code(code)
 }
 
-// A loop. The body of one that makes no turn is made, too: its words are learned by that.
+// A loop, by the bound in its body. The body of one that makes no turn is made, too: its words are learned by that.
 #[cycle(emit)]
 fn emit_loop(
     alloc: Global,
     bounds: &[Bound],
-    n: u16,
+    own: Bound,
     from: u16,
-    below: u16,
     body: &[WordStep],
     waiting: &mut Vec<Waiting>,
     code: &mut Vec<Instr>,
 ) -> Result<(), AllocError>
-    requires room { step_words (value.repeat n from below (steps_of body.now)) ≤ 0x7FFF }
-    requires low { n < 1008 }
+    requires room { step_words (value.repeat own.local from own.below (steps_of body.now)) ≤ 0x7FFF }
+    requires low { own.local < 1008 }
     requires locals { LocalsBelow 1008 (steps_of body.now) }
     ensures code { OnOk result (code.new.items
-        ≡ code.old.items ++ instructions (step_code bounds.now waiting.old.items (value.repeat n from below (steps_of body.now)))) }
+        ≡ code.old.items ++ instructions (step_code bounds.now waiting.old.items (value.repeat own.local from own.below (steps_of body.now)))) }
     ensures waiting { OnOk result (waiting.new.items ≡ []) }
     ensures of_words { OnOk result (OfWords (steps_of body.now)) }
 {
     emit_all(waiting, code)?;
-    let inner = bounds_within(alloc, n, below, bounds)?;
+    let inner = bounds_within(alloc, own, bounds)?;
     let mut turn = Vec::new(alloc);
     emit_block(alloc, &inner, body, &mut turn)?;
-    emit_turn_end(n, below, &mut turn)?;
-    emit_number(n, from, code)?;
-    if from < below {
+    emit_turn_end(own, &mut turn)?;
+    emit_number(own.local, from, code)?;
+    if from < own.below {
         code.extend_from_slice(&turn)?;
         let over = code_words(&turn);
         emit_jump_back(Condition::NotEqual, Condition::Equal, over, code)
@@ -208,7 +208,13 @@ fn emit_step(
             from,
             below,
             body,
-        } => emit_loop(alloc, bounds, *local, *from, *below, body, waiting, code),
+        } => {
+            let own = Bound {
+                local: *local,
+                below: *below,
+            };
+            emit_loop(alloc, bounds, own, *from, body, waiting, code)
+        }
         WordStep::StoreNumber { address, word } => emit_store(*address, *word, waiting, code),
         WordStep::MoveWord { from, to } => emit_move_word(*from, *to, waiting, code),
         WordStep::Jump(to) => emit_jump(*to, waiting, code),

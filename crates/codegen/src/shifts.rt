@@ -2,18 +2,17 @@
 
 ghost use Rattle.std.specs.Prelude.{◌≡◌, [], ◌∷◌, ◌++◌, OnOk};
 ghost use Rattle.word_code.specs.code_forms.Placed.{instructions};
-ghost use Rattle.msp_isa.specs.declared.instructions.OneOp.TheVariants as OneOps;
+ghost use Rattle.word_code.specs.msp_isa.declared.instructions.OneOp.TheVariants as OneOps;
 ghost use Rattle.word_code.specs.array_versions.declared.operations.ShiftOperation.TheVariants as shift_op;
 ghost use Rattle.word_code.specs.Code.{in_r4, repeated, double, halve, right_code, shift_by, last_bit, shift_middle, step_code, waiting_behind};
 ghost use Rattle.word_code.specs.array_versions.Program as value;
 
-use crate::forms::{R4, TO_R4, constant, two};
+use crate::forms::{IN_R4, R4, TO_R4, constant, two};
 use crate::waiting::{emit_top_to_four, wait};
-use msp_isa::{IndexRegister, Instr, Konst, OneOp, Operand, SourceRegister, Src, TwoOp, Width};
+use array_versions::ShiftOperation;
 use std::alloc::AllocError;
-use word_code::{ShiftOperation, Waiting};
-
-const IN_R4: Operand = Operand::Reg(SourceRegister::Index(IndexRegister::R4));
+use word_code::Waiting;
+use word_code::forms::{Instr, Konst, OneOp, Src, TwoOp, Width};
 
 // R4 doubled so many times.
 fn emit_doubles(count: u16, code: &mut Vec<Instr>) -> Result<(), AllocError>

@@ -2,14 +2,12 @@
 
 ghost use Rattle.std.specs.Prelude.{◌≡◌, [], ◌∷◌, ◌++◌, ◌<◌, OnOk};
 ghost use Rattle.word_code.specs.code_forms.Forms as form;
-ghost use Rattle.msp_isa.specs.alp_words.declared.Width.TheVariants.{Word};
-ghost use Rattle.msp_isa.specs.declared.instructions.TwoOp.TheVariants as two_op;
+ghost use Rattle.word_code.specs.msp_isa.alp_words.declared.Width.TheVariants.{Word};
+ghost use Rattle.word_code.specs.msp_isa.declared.instructions.TwoOp.TheVariants as two_op;
 ghost use Rattle.word_code.specs.code_forms.Placed.{instructions};
 ghost use Rattle.word_code.specs.array_versions.Program as value;
 ghost use Rattle.word_code.specs.Code.{known_element, fetch_code, element_code, emit_code, words_source, entry_code, number_code, plain_instruction};
-ghost use Rattle.word_code.specs.Code.{ram_update};
-ghost use Rattle.word_code.specs.Code.{turn_end};
-ghost use Rattle.word_code.specs.Code.{step_code, waiting_behind};
+ghost use Rattle.word_code.specs.Code.{ram_update, turn_end, step_code, waiting_behind};
 
 use crate::bounds::{emit_check, emit_zero, is_inside};
 use crate::forms::{
@@ -21,9 +19,10 @@ use crate::waiting::{
     emit_all, emit_below, emit_cleared, emit_spared, emit_top_to_five, emit_top_to_four,
     source_from, take, top, top_number, wait,
 };
-use msp_isa::{Condition, Dst, IndexRegister, Instr, Konst, Operand, Reg, Src, TwoOp};
+use array_versions::PlainOperation;
 use std::alloc::AllocError;
-use word_code::{Bound, PlainOperation, Waiting};
+use word_code::forms::{Condition, Dst, IndexRegister, Instr, Konst, Operand, Reg, Src, TwoOp};
+use word_code::{Bound, Waiting};
 
 // The element at the index in R4, which is below the length.
 fn emit_fetch(base: u16, code: &mut Vec<Instr>) -> Result<(), AllocError>
@@ -197,24 +196,25 @@ pub fn emit_number(n: u16, number: u16, code: &mut Vec<Instr>) -> Result<(), All
     code.extend_from_slice(&[two(TwoOp::Mov, number_source(number), local_target(n))])
 }
 
-/// Appends the end of a turn: the local goes up by one, and is compared with a number.
-pub fn emit_turn_end(n: u16, below: u16, code: &mut Vec<Instr>) -> Result<(), AllocError>
-    requires { n < 1008 }
-    ensures { OnOk result (code.new.items ≡ code.old.items ++ instructions (turn_end n below)) }
+/// Appends the end of a turn: the local goes up by one, and is compared with the number.
+pub fn emit_turn_end(bound: Bound, code: &mut Vec<Instr>) -> Result<(), AllocError>
+    requires { bound.local < 1008 }
+    ensures { OnOk result (code.new.items ≡ code.old.items ++ instructions (turn_end bound.local bound.below)) }
 {
-    if n < 8 {
-        let local = Dst::Reg(Reg::Index(local_register(n)));
+    let end = number_source(bound.below);
+    if bound.local < 8 {
+        let local = Dst::Reg(Reg::Index(local_register(bound.local)));
         code.extend_from_slice(&[
             two(TwoOp::Add, constant(Konst::One), local),
-            two(TwoOp::Cmp, number_source(below), local),
+            two(TwoOp::Cmp, end, local),
         ])
     } else {
-        let place = local_address(n);
+        let place = local_address(bound.local);
         code.extend_from_slice(&[
             two(TwoOp::Mov, absolute(place), TO_R4),
             two(TwoOp::Add, constant(Konst::One), TO_R4),
             two(TwoOp::Mov, R4, Dst::Absolute(place)),
-            two(TwoOp::Cmp, number_source(below), TO_R4),
+            two(TwoOp::Cmp, end, TO_R4),
         ])
     }
 }

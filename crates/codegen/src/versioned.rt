@@ -1,24 +1,24 @@
 //! The code of versioned accesses.
 
 ghost use Rattle.std.specs.Prelude.{◌≡◌, [], ◌++◌, ◌<◌, OnOk};
-ghost use Rattle.msp_isa.specs.declared.operands.Src.TheVariants as Srcs;
-ghost use Rattle.msp_isa.specs.declared.operands.Operand.TheVariants as Operands;
-ghost use Rattle.msp_isa.specs.declared.registers.IndexRegister.TheVariants as index;
+ghost use Rattle.word_code.specs.msp_isa.declared.operands.Src.TheVariants as Srcs;
+ghost use Rattle.word_code.specs.msp_isa.declared.operands.Operand.TheVariants as Operands;
+ghost use Rattle.word_code.specs.msp_isa.declared.registers.IndexRegister.TheVariants as index;
 ghost use Rattle.word_code.specs.array_versions.Form.{ArrayOfWords, ListOfWords};
 ghost use Rattle.word_code.specs.code_forms.Placed.{instructions};
-ghost use Rattle.msp_isa.specs.alp_words.Words.{word_sum};
+ghost use Rattle.word_code.specs.msp_isa.alp_words.Words.{word_sum};
 ghost use Rattle.word_code.specs.code_forms.Forms as form;
 ghost use Rattle.word_code.specs.Code.{own_code, read_code, mark_code, last_code, end_test, longer_code, next_code, word_code, first_code, copy_code};
-ghost use Rattle.word_code.specs.Code.{stored_code, write_code};
-ghost use Rattle.word_code.specs.Code.{step_code, waiting_behind};
+ghost use Rattle.word_code.specs.Code.{stored_code, write_code, step_code, waiting_behind};
 ghost use Rattle.word_code.specs.array_versions.Program as value;
 
 use crate::bounds::{emit_check, emit_zero, is_inside};
 use crate::forms::{R4, R5, R6, R7, TO_R4, TO_R5, TO_R6, TO_R7, absolute, constant, jump, two};
 use crate::waiting::{emit_all, emit_top_to_four, emit_two_to_registers, top, under_top, wait};
-use msp_isa::{Condition, Dst, IndexRegister, Instr, Konst, Operand, Src, TwoOp};
+use array_versions::{ArrayPlace, ListPlace};
 use std::alloc::AllocError;
-use word_code::{ArrayPlace, Bound, ListPlace, Waiting};
+use word_code::forms::{Condition, Dst, IndexRegister, Instr, Konst, Operand, Src, TwoOp};
+use word_code::{Bound, Waiting};
 
 /// The word at R4's address plus an address.
 pub fn at_r4(base: u16) -> Src
@@ -52,8 +52,7 @@ fn emit_own(
         two(TwoOp::Mov, at_r4(place.copies), TO_R4),
         jump(Condition::Always, over),
         two(TwoOp::Mov, at_r4(place.elements), TO_R4),
-    ])?;
-    Ok(())
+    ])
 }
 
 // A versioned read, by whether the index in R4 is surely below the length.
@@ -108,8 +107,7 @@ fn emit_mark(place: ArrayPlace, list: ListPlace, code: &mut Vec<Instr>) -> Resul
         two(TwoOp::Add, Src::Immediate(place.copies), TO_R4),
         two(TwoOp::Mov, absolute(list.cln), TO_R5),
         two(TwoOp::Cmp, constant(Konst::Zero), TO_R5),
-    ])?;
-    Ok(())
+    ])
 }
 
 // Without entries a jump; else in R5 where the last entry stands from the list on.
@@ -123,8 +121,7 @@ fn emit_last(code: &mut Vec<Instr>) -> Result<(), AllocError>
         two(TwoOp::Add, R5, TO_R5),
         two(TwoOp::Add, R6, TO_R5),
         two(TwoOp::Add, R5, TO_R5),
-    ])?;
-    Ok(())
+    ])
 }
 
 // Where the last entry's run doesn't end at the home in R7, a jump.
@@ -138,8 +135,7 @@ fn emit_home_test(list: u16, code: &mut Vec<Instr>) -> Result<(), AllocError>
         two(TwoOp::Add, at_r5(list), TO_R6),
         two(TwoOp::Cmp, R7, TO_R6),
         jump(Condition::NotEqual, 13),
-    ])?;
-    Ok(())
+    ])
 }
 
 // The same of its copies and the copy in R4.
@@ -155,8 +151,7 @@ fn emit_copy_test(list: u16, code: &mut Vec<Instr>) -> Result<(), AllocError>
         two(TwoOp::Add, at_r5(copies), TO_R6),
         two(TwoOp::Cmp, R4, TO_R6),
         jump(Condition::NotEqual, 6),
-    ])?;
-    Ok(())
+    ])
 }
 
 // The last entry has a word more.
@@ -169,8 +164,7 @@ fn emit_longer(list: u16, code: &mut Vec<Instr>) -> Result<(), AllocError>
         two(TwoOp::Add, constant(Konst::One), TO_R6),
         two(TwoOp::Mov, R6, Dst::Indexed(IndexRegister::R5, words)),
         jump(Condition::Always, 10),
-    ])?;
-    Ok(())
+    ])
 }
 
 // An entry of one word behind the last, then the count.
@@ -186,8 +180,7 @@ fn emit_word(list: ListPlace, code: &mut Vec<Instr>) -> Result<(), AllocError>
         two(TwoOp::Mov, R4, Dst::Indexed(IndexRegister::R5, copies)),
         two(TwoOp::Mov, one, Dst::Indexed(IndexRegister::R5, words)),
         two(TwoOp::Add, one, Dst::Absolute(list.cln)),
-    ])?;
-    Ok(())
+    ])
 }
 
 /// Appends what follows the first store to a copy.
@@ -203,8 +196,7 @@ pub fn emit_first(
     emit_home_test(list.list, code)?;
     emit_copy_test(list.list, code)?;
     emit_longer(list.list, code)?;
-    emit_word(list, code)?;
-    Ok(())
+    emit_word(list, code)
 }
 
 // The store to the copy.
@@ -221,8 +213,7 @@ fn emit_copy(place: ArrayPlace, list: ListPlace, code: &mut Vec<Instr>) -> Resul
         two(TwoOp::Mov, absolute(list.ver), TO_R6),
         two(TwoOp::Cmp, at_r4(place.versions), TO_R6),
         jump(Condition::Equal, 46),
-    ])?;
-    Ok(())
+    ])
 }
 
 // A versioned write of the word in R5 at the index in R4, which is below the length.
@@ -230,8 +221,7 @@ fn emit_stored(place: ArrayPlace, list: ListPlace, code: &mut Vec<Instr>) -> Res
     ensures { OnOk result (code.new.items ≡ code.old.items ++ instructions (stored_code place list)) }
 {
     emit_copy(place, list, code)?;
-    emit_first(place, list, code)?;
-    Ok(())
+    emit_first(place, list, code)
 }
 
 // A versioned write, by whether the index in R4 is surely below the length.

@@ -12,9 +12,9 @@ ghost use Rattle.word_code.specs.Code.{two_to_registers, stays, right_source, si
 use crate::forms::{
     POPPED, R4, R5, R6, TO_R4, TO_R5, absolute, local_register, number_source, push, two,
 };
-use msp_isa::{Instr, Operand, SourceRegister, Src, TwoOp};
 use std::alloc::AllocError;
 use word_code::Waiting;
+use word_code::forms::{Instr, Operand, SourceRegister, Src, TwoOp};
 
 /// A word that waits, as a source.
 pub fn waiting_source(word: Waiting) -> Src
@@ -73,12 +73,7 @@ fn is_held(word: Waiting) -> bool
 fn any_held(waiting: &[Waiting]) -> bool
     ensures { result ≡ any_held waiting.now }
 {
-    for word in waiting {
-        if is_held(*word) {
-            return true;
-        }
-    }
-    false
+    waiting.iter().any(|word| is_held(*word))
 }
 
 /// Appends the code that pushes all words that wait, the lowest first.
@@ -128,12 +123,7 @@ fn is_at(address: u16, word: Waiting) -> bool
 fn any_at(address: u16, waiting: &[Waiting]) -> bool
     ensures { result ≡ any_at address waiting.now }
 {
-    for word in waiting {
-        if is_at(address, *word) {
-            return true;
-        }
-    }
-    false
+    waiting.iter().any(|word| is_at(address, *word))
 }
 
 /// Appends the code that pushes all words that wait where one of them is the word of FRAM at this address, which is stored next.
@@ -250,20 +240,14 @@ fn power(number: u16) -> Option<u16>
 pub fn top(waiting: &[Waiting]) -> Option<Waiting>
     ensures { result ≡ top_of waiting.now }
 {
-    match waiting.first() {
-        Some(word) => Some(*word),
-        None => None,
-    }
+    waiting.first().copied()
 }
 
 /// The word below the top, where both wait.
 pub fn under_top(waiting: &[Waiting]) -> Option<Waiting>
     ensures { result ≡ top_of (below_top waiting.now) }
 {
-    match waiting.get(1) {
-        Some(word) => Some(*word),
-        None => None,
-    }
+    waiting.get(1).copied()
 }
 
 /// The number that waits on top.

@@ -3,7 +3,7 @@ use Rattle.std.proofs.Common.{◌≡◌, ℕ, zero, suc, ◌+◌, ◌-◌, ◌*�
 use Rattle.std.proofs.Common.{arith, append_assoc}
 use Rattle.std.specs.List.{All}
 use Rattle.std.proofs.lemmas.List.Elements.{All-same, All-weaker}
-use Rattle.runtime_code.specs.msp_step.Effect.{sum16, distance}
+use Rattle.runtime_code.specs.msp_step.Effect.{word_sum, distance}
 use Rattle.runtime_code.specs.fram_board.Effects.{Effect, Store, Send}
 use Rattle.runtime_code.specs.machine_effects.World.{fram_after}
 use Rattle.runtime_code.specs.machine_effects.Machine.{Code, IsFram}
@@ -52,16 +52,16 @@ module _ (code : Code) (tidy : IsTidy code) (m : MemoryMap) (places : AreInFram 
     abbrev copied : ℕ
     copied = p + 30
 
-    copy_there : sum16 (p + 2 + 2) (distance 13) ≡ copied
+    copy_there : word_sum (p + 2 + 2) (distance 13) ≡ copied
     copy_there = omega arith
 
-    to_count : sum16 (p + 14 + 2) (distance 3) ≡ p + 22
+    to_count : word_sum (p + 14 + 2) (distance 3) ≡ p + 22
     to_count = omega arith
 
     entries_counted : p + 2 + 2 + 4 + forms_bytes entry_turn ≡ p + 26
     entries_counted = omega arith
 
-    copy_back : sum16 (p + 26 + 2 + 2) (distance (0x400 - 11)) ≡ p + 2 + 2 + 4
+    copy_back : word_sum (p + 26 + 2 + 2) (distance (0x400 - 11)) ≡ p + 2 + 2 + 4
     copy_back = omega arith
 
     behind_copies : p + 26 + 2 + 2 ≡ copied
@@ -243,13 +243,13 @@ module _ (code : Code) (tidy : IsTidy code) (m : MemoryMap) (places : AreInFram 
     abbrev sent : ℕ
     sent = p + 22
 
-    send_there : sum16 (p + 2 + 2) (distance 9) ≡ sent
+    send_there : word_sum (p + 2 + 2) (distance 9) ≡ sent
     send_there = omega arith
 
     sends_counted : p + 2 + 2 + 4 + forms_bytes send_turn ≡ p + 18
     sends_counted = omega arith
 
-    send_back : sum16 (p + 18 + 2 + 2) (distance (0x400 - 7)) ≡ p + 2 + 2 + 4
+    send_back : word_sum (p + 18 + 2 + 2) (distance (0x400 - 7)) ≡ p + 2 + 2 + 4
     send_back = omega arith
 
     behind_sends : p + 18 + 2 + 2 ≡ sent

@@ -4,10 +4,10 @@ use Rattle.std.proofs.Common.{refl, sym, ap, ◌∙◌, subst, arith}
 use Rattle.std.specs.List.{All}
 use Rattle.std.proofs.lemmas.Bool.Decides.{nat_tests}
 use Rattle.std.proofs.lemmas.List.Elements.{All-head, All-tail, All-same}
-use Rattle.msp_isa.specs.declared.instructions.TwoOp.TheVariants.{Add, Sub}
-use Rattle.msp_isa.specs.declared.operands.Konst.TheVariants.{One, Two}
-use Rattle.msp_isa.specs.declared.instructions.Condition.TheVariants.{Carry}
-use Rattle.runtime_code.specs.msp_step.Effect.{sum16, distance}
+use Rattle.runtime_code.specs.msp_isa.declared.instructions.TwoOp.TheVariants.{Add, Sub}
+use Rattle.runtime_code.specs.msp_isa.declared.operands.Konst.TheVariants.{One, Two}
+use Rattle.runtime_code.specs.msp_isa.declared.instructions.Condition.TheVariants.{Carry}
+use Rattle.runtime_code.specs.msp_step.Effect.{word_sum, distance}
 use Rattle.runtime_code.specs.fram_board.Effects.{Effect, Store}
 use Rattle.runtime_code.specs.machine_effects.World.{put, fram_after}
 use Rattle.runtime_code.specs.machine_effects.Going.{Goes}
@@ -58,7 +58,7 @@ module _ (code : Code) (tidy : IsTidy code) (m : MemoryMap) (p : ℕ) (high : p 
   abbrev counted : Core → Core
   counted u = end_of u (forms_run counting u).status
 
-  back : sum16 (p + 8 + 2 + 2) (distance (0x400 - 5)) ≡ p + 2
+  back : word_sum (p + 8 + 2 + 2) (distance (0x400 - 5)) ≡ p + 2
   back = omega arith
 
   on : p + 8 + 2 + 2 ≡ p + 12
@@ -78,7 +78,7 @@ module _ (code : Code) (tidy : IsTidy code) (m : MemoryMap) (p : ℕ) (high : p 
       → Comes code [] 2 3 u (λ v. v ≡ record (counted u) { pc = if b then p + 2 else p + 12 })
   counts b u e c =
       let t : Core = record (counted u) { pc = if b then p + 2 else p + 12 } in
-      let to : ℕ → Bool → Core = λ x y. record (counted u) { pc = if y then sum16 (x + 2 + 2) (distance (0x400 - 5)) else x + 2 + 2 } in
+      let to : ℕ → Bool → Core = λ x y. record (counted u) { pc = if y then word_sum (x + 2 + 2) (distance (0x400 - 5)) else x + 2 + 2 } in
       let there : code (u.pc + 2) ≡ Some (instruction_of (Jump Carry (0x400 - 5))) =
       ap (λ x. code (x + 2)) e ∙ subst (λ x. code x ≡ Some (instruction_of (Jump Carry (0x400 - 5)))) (omega arith) at10 in
       then_on code 1 1 1 2 u (counted u) (λ v. v ≡ t) [] []

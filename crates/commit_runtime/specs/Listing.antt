@@ -1,8 +1,8 @@
 -- The commit's code: its listing.
 use Rattle.std.specs.Prelude.{ℕ, ◌+◌, ◌-◌, ◌*◌, List, [], ◌∷◌, ◌++◌}
-use Rattle.msp_isa.specs.declared.instructions.TwoOp.TheVariants.{Add, Sub}
-use Rattle.msp_isa.specs.declared.operands.Konst.TheVariants.{Zero, One, Two}
-use Rattle.msp_isa.specs.declared.instructions.Condition.TheVariants.{Carry, Always}
+use Rattle.runtime_code.specs.msp_isa.declared.instructions.TwoOp.TheVariants.{Add, Sub}
+use Rattle.runtime_code.specs.msp_isa.declared.operands.Konst.TheVariants.{Zero, One, Two}
+use Rattle.runtime_code.specs.msp_isa.declared.instructions.Condition.TheVariants.{Carry, Always}
 use Rattle.runtime_code.specs.code_forms.Forms.{Form, Move, Calculate, Jump, Branch, R4, R5, R6, R7, R8}
 use Rattle.runtime_code.specs.code_forms.Forms.{Register, Constant, Fram, PointedNext, ToRegister, ToFram, ToPointed, ToOutnum, ToOutdata}
 use Rattle.memory_map.specs.declared.words.RuntimeWord.TheVariants.{CurrentTask, NextTask, Gate, ListLength, EmitCount, Base, SentBase}

@@ -11,25 +11,20 @@ ghost use Rattle.commit_runtime.specs.Listing.{copies_begin, entry_begin, word_l
 ghost use Rattle.commit_runtime.specs.Listing.{commit_forms};
 
 pub use laws::{commit_is_made, commit_is_short, commit_stores_in_fram};
-use memory_map::{Layout, RuntimeWord};
-use msp_isa::{Condition, Dst, IndexRegister, Instr, Konst, Operand, Src};
-use runtime_code::{
-    add, branch, jump, load, loop_begin, loop_end, mov, read, set, start_address, sub,
+use memory_map::{Layout, OUTDATA, OUTNUM, RuntimeWord};
+use runtime_code::forms::{
+    Condition, Dst, IndexRegister, Instr, Konst, Operand, R7, Src, TO_R4, TO_R6, TO_R7, TO_R8,
+    absolute, add, branch, constant, jump, mov, sub,
 };
+use runtime_code::{loop_begin, loop_end, start_address};
 use std::alloc::{AllocError, Global};
-
-/// The port that takes the number of the next word for the receiver.
-const OUTNUM: u16 = 0x0202;
-
-/// The port that offers a word to the receiver.
-const OUTDATA: u16 = 0x0204;
 
 // R4 := CLN.
 fn copies_begin(layout: &Layout) -> [Instr; 1]
     ensures { result ≡ instructions (copies_begin layout.now) }
 {
-    let list_length = load(layout.word_place(RuntimeWord::ListLength));
-    [mov(list_length, set(IndexRegister::R4))]
+    let list_length = absolute(layout.word_place(RuntimeWord::ListLength));
+    [mov(list_length, TO_R4)]
 }
 
 // An entry is read: its home to R6, its copy's address to R7, its words to R8.
@@ -37,11 +32,7 @@ fn entry_begin() -> [Instr; 3]
     ensures { result ≡ instructions entry_begin }
 {
     let next = Src::Operand(Operand::Increment(IndexRegister::R5));
-    [
-        mov(next, set(IndexRegister::R6)),
-        mov(next, set(IndexRegister::R7)),
-        mov(next, set(IndexRegister::R8)),
-    ]
+    [mov(next, TO_R6), mov(next, TO_R7), mov(next, TO_R8)]
 }
 
 // One word after another goes home. R8 is counted down before each; where nothing was left of it there is no carry.
@@ -52,8 +43,8 @@ fn word_loop() -> [Instr; 5]
     [
         jump(Condition::Always, 3),
         mov(next, Dst::Indexed(IndexRegister::R6, 0)),
-        add(Src::Constant(Konst::Two), set(IndexRegister::R6)),
-        sub(Src::Constant(Konst::One), set(IndexRegister::R8)),
+        add(constant(Konst::Two), TO_R6),
+        sub(constant(Konst::One), TO_R8),
         jump(Condition::Carry, 0x400 - 5),
     ]
 }
@@ -72,12 +63,9 @@ fn push_copies(code: &mut Vec<Instr>, layout: &Layout) -> Result<(), AllocError>
 fn sends_begin(layout: &Layout) -> [Instr; 2]
     ensures { result ≡ instructions (sends_begin layout.now) }
 {
-    let sent_base = load(layout.word_place(RuntimeWord::SentBase));
-    let emit_count = load(layout.word_place(RuntimeWord::EmitCount));
-    [
-        mov(sent_base, set(IndexRegister::R7)),
-        mov(emit_count, set(IndexRegister::R4)),
-    ]
+    let sent_base = absolute(layout.word_place(RuntimeWord::SentBase));
+    let emit_count = absolute(layout.word_place(RuntimeWord::EmitCount));
+    [mov(sent_base, TO_R7), mov(emit_count, TO_R4)]
 }
 
 // A word is sent: its number, then the word; the next number.
@@ -86,9 +74,9 @@ fn send_turn() -> [Instr; 3]
 {
     let next = Src::Operand(Operand::Increment(IndexRegister::R5));
     [
-        mov(read(IndexRegister::R7), Dst::Absolute(OUTNUM)),
+        mov(R7, Dst::Absolute(OUTNUM)),
         mov(next, Dst::Absolute(OUTDATA)),
-        add(Src::Constant(Konst::One), set(IndexRegister::R7)),
+        add(constant(Konst::One), TO_R7),
     ]
 }
 
@@ -105,14 +93,14 @@ fn push_sends(code: &mut Vec<Instr>, layout: &Layout) -> Result<(), AllocError>
 fn closing(layout: &Layout) -> [Instr; 3]
     ensures { result ≡ instructions (closing layout.now) }
 {
-    let next_task = load(layout.word_place(RuntimeWord::NextTask));
+    let next_task = absolute(layout.word_place(RuntimeWord::NextTask));
     let current_task = Dst::Absolute(layout.word_place(RuntimeWord::CurrentTask));
     let base = Dst::Absolute(layout.word_place(RuntimeWord::Base));
     let gate = Dst::Absolute(layout.word_place(RuntimeWord::Gate));
     [
         mov(next_task, current_task),
-        mov(read(IndexRegister::R7), base),
-        mov(Src::Constant(Konst::Zero), gate),
+        mov(R7, base),
+        mov(constant(Konst::Zero), gate),
     ]
 }
 

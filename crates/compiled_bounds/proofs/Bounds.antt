@@ -2,7 +2,7 @@
 use Rattle.std.proofs.Common.{◌≡◌, ℕ, zero, suc, ◌<◌, ◌≤◌, max, Bool, true, false, cond, nat_lt, refl, ap, ◌∙◌, arith, List, [], ◌∷◌, length}
 use Rattle.std.proofs.lemmas.Bool.Decides.{nat_tests}
 use Rattle.std.specs.Prelude.{slice_get}
-use Rattle.compiled_model.specs.cost_bound.Counts.{Code}
+use Rattle.compiled_model.specs.cost_bound.Counts.{CheckedBlock}
 use Rattle.compiled_model.specs.cost_bound.Allowance.{CheckedTask, CheckedProgram, task_bound, versions_of}
 use Rattle.compiled_model.specs.cost_bound.Allowance as allowance
 use Rattle.compiled_model.specs.source_values.Runs.{body_of}
@@ -26,7 +26,7 @@ first_apart cost (suc n) =
     let two : greatest (λ i. cost (suc i)) (suc n) ≡ max rest (cost (suc n)) = greater rest (cost (suc n)) in
     omega (arith, ih, one, two)
 
-same_greatest : (price : Code → ℕ) (ts : List CheckedTask) → greatest (λ i. price (body_of (slice_get ts i))) (length ts) ≡ allowance.greatest price ts
+same_greatest : (price : CheckedBlock → ℕ) (ts : List CheckedTask) → greatest (λ i. price (body_of (slice_get ts i))) (length ts) ≡ allowance.greatest price ts
 same_greatest price [] = refl
 same_greatest price (t ∷ ts) =
     first_apart (λ i. price (body_of (slice_get (t ∷ ts) i))) (length ts) ∙ ap (max (price t.body)) (same_greatest price ts)

@@ -7,7 +7,7 @@ use Rattle.compiled_model.specs.task_ast.Tree.{end, step}
 use Rattle.compiled_model.specs.task_ast.declared.names.VariableName.{VariableName}
 use Rattle.compiled_model.specs.task_ast.declared.names.TaskName.{TaskName}
 use Rattle.compiled_model.specs.cost_bound.Table.{cycles_column, statement_price, blocks_price, block_price}
-use Rattle.compiled_model.specs.cost_bound.Counts.{Code, is_emit, statement_count, choice_count, block_count, emits_of}
+use Rattle.compiled_model.specs.cost_bound.Counts.{CheckedBlock, is_emit, statement_count, choice_count, block_count, emits_of}
 use Rattle.compiled_model.specs.cost_bound.Allowance.{CheckedProgram, CheckedTask, bound_of, list_of, task_bound, versions_of, greatest}
 use Rattle.compiled_model.specs.commit_runtime.Listing.{commit_cycles}
 use Rattle.compiled_model.proofs.runtime_code.Interface.{if_any_most}
@@ -43,12 +43,12 @@ unfolding emits_of
 emits_pay b = block_pays b
 
 -- a task has the greatest of one count, and its other count is within the greatest
-record HasGreatest (f g : Code → ℕ) (ts : List CheckedTask) : Type 0 where
-  code : Code
+record HasGreatest (f g : CheckedBlock → ℕ) (ts : List CheckedTask) : Type 0 where
+  code : CheckedBlock
   is : greatest f ts ≡ f code
   within : g code ≤ greatest g ts
 
-has_greatest : (f g : Code → ℕ) (ts : List CheckedTask) → 0 < length ts → HasGreatest f g ts
+has_greatest : (f g : CheckedBlock → ℕ) (ts : List CheckedTask) → 0 < length ts → HasGreatest f g ts
 has_greatest f g [] h = absurd (omega (arith, h))
 has_greatest f g (t ∷ []) h = record { code = t.body; is = omega arith; within = omega arith }
 has_greatest f g (t ∷ u ∷ ts) h =

@@ -4,7 +4,7 @@ use Rattle.image_reports.specs.layout_facts.task_ast.declared.Extent.{Extent}
 use Rattle.image_reports.specs.layout_facts.task_ast.declared.Extent.TheVariants.{Scalar, Long, Array}
 use Rattle.image_reports.specs.layout_facts.task_ast.declared.SharedDeclaration.{SharedDeclaration}
 use Rattle.image_reports.specs.layout_facts.cost_bound.declared.allowance.Allow.{Allow}
-use Rattle.image_reports.specs.layout_facts.cost_bound.Counts.{Code, emits_of}
+use Rattle.image_reports.specs.layout_facts.cost_bound.Counts.{CheckedBlock, emits_of}
 use Rattle.image_reports.specs.layout_facts.cost_bound.Allowance.{CheckedProgram, CheckedTask, IsAllowed, shared_sum_from, place_part, version_part}
 use Rattle.image_reports.specs.layout_facts.cost_bound.Allowance.{is_written, total}
 use Rattle.image_reports.specs.layout_facts.cost_bound.Allowance.{greatest}
@@ -47,7 +47,7 @@ places_within written i (d ∷ ds) =
     omega (arith, here, rest)
 
 -- the words of the tasks are those of their starts and of their code
-total_within : (f g h : Code → ℕ) (ts : List CheckedTask) → ((c : Code) → f c ≤ g c + h c) → total f ts ≤ total g ts + total h ts
+total_within : (f g h : CheckedBlock → ℕ) (ts : List CheckedTask) → ((c : CheckedBlock) → f c ≤ g c + h c) → total f ts ≤ total g ts + total h ts
 total_within f g h [] e = omega arith
 total_within f g h (t ∷ ts) e =
     let here : f t.body ≤ g t.body + h t.body = e t.body in

@@ -5,7 +5,7 @@ use Rattle.task_ast.specs.declared.Extent.{Extent}
 use Rattle.task_ast.specs.declared.Extent.TheVariants.{Scalar, Long, Array}
 use Rattle.task_ast.specs.declared.SharedDeclaration.{SharedDeclaration}
 use Rattle.cost_bound.specs.Table.{capped}
-use Rattle.cost_bound.specs.Counts.{Code, block_count, is_store_to, stores_of}
+use Rattle.cost_bound.specs.Counts.{CheckedBlock, block_count, is_store_to, stores_of}
 use Rattle.cost_bound.specs.Rooms.{AreCapped, AreMarked}
 use Rattle.cost_bound.specs.Allowance.{shared_sum_from, shared_sum, list_part, scalars_of, list_of}
 
@@ -35,7 +35,7 @@ capped_list_part stores of (Scalar _) h = refl
 capped_list_part stores of (Long _) h = refl
 capped_list_part stores of (Array n) h = omega arith
 
-pub list_is : (shared : List SharedDeclaration) (stores : List ℕ) (code : Code) (scalars entries result : ℕ) → length shared ≤ 256
+pub list_is : (shared : List SharedDeclaration) (stores : List ℕ) (code : CheckedBlock) (scalars entries result : ℕ) → length shared ≤ 256
     → AreCapped stores (λ i. block_count (is_store_to i) code)
     → scalars ≡ scalars_of shared code → entries ≡ shared_sum (λ i e. list_part (slice_index stores i) e) shared → result ≡ capped (scalars + entries)
     → result ≡ capped (list_of shared code)

@@ -3,23 +3,15 @@
 use Rattle.std.specs.Prelude.{◌≡◌, ℕ, ◌+◌, ◌*◌, ◌^◌, ◌<◌, ◌≤◌, ◌||◌, Bool, false, min, max, if◌then◌else◌, List, [], ◌∷◌, Some, slice_get, slice_index, take}
 use Rattle.std.specs.Prelude.{All}
 use Rattle.alp_text.specs.declared.lines.Span.{Span}
-use Rattle.task_ast.specs.Tree.{Task, Program}
+pub use Rattle.task_ast.specs.Paths.{CheckedTask, CheckedProgram}
 use Rattle.task_ast.specs.declared.Extent.{Extent}
 use Rattle.task_ast.specs.declared.Extent.TheVariants.{Scalar, Long, Array}
 use Rattle.task_ast.specs.declared.SharedDeclaration.{SharedDeclaration}
-use Rattle.task_ast.specs.declared.names.VariableName.{VariableName}
-use Rattle.task_ast.specs.declared.names.TaskName.{TaskName}
 use Rattle.cost_bound.specs.Table.{capped, cycles_column, words_column, block_price}
-use Rattle.cost_bound.specs.Counts.{Code, emits_of, stores_of, block_assigns}
+use Rattle.cost_bound.specs.Counts.{CheckedBlock, emits_of, stores_of, block_assigns}
 use Rattle.cost_bound.specs.declared.fault.Over.{Over}
 use Rattle.cost_bound.specs.declared.fault.Over.TheVariants.{TooManyEmits, BoundTooLarge, TooLarge}
 use Rattle.cost_bound.specs.declared.allowance.Allow.{Allow}
-
-abbrev pub CheckedTask : Type 0
-CheckedTask = Task VariableName TaskName
-
-abbrev pub CheckedProgram : Type 0
-CheckedProgram = Program VariableName TaskName
 
 -- a sum over the shared variables, of a number and an extent each
 abbrev pub shared_sum_from : (ℕ → Extent → ℕ) → ℕ → List SharedDeclaration → ℕ
@@ -35,7 +27,7 @@ scalar_part assigned (Scalar _) = if assigned then 1 else 0
 scalar_part assigned (Long _) = if assigned then 2 else 0
 scalar_part assigned (Array _) = 0
 
-abbrev pub scalars_of : List SharedDeclaration → Code → ℕ
+abbrev pub scalars_of : List SharedDeclaration → CheckedBlock → ℕ
 scalars_of shared code = shared_sum (λ i extent. scalar_part (block_assigns i code) extent) shared
 
 -- the entries of a task's commit list: its scalars, and of each array the counted stores, but no more than it has elements
@@ -44,7 +36,7 @@ list_part stores (Scalar _) = 0
 list_part stores (Long _) = 0
 list_part stores (Array length) = min length stores
 
-abbrev pub list_of : List SharedDeclaration → Code → ℕ
+abbrev pub list_of : List SharedDeclaration → CheckedBlock → ℕ
 list_of shared code = scalars_of shared code + shared_sum (λ i extent. list_part (stores_of i code) extent) shared
 
 -- whether a variable stands on the left of an assignment in some task
@@ -70,16 +62,16 @@ place_part written (Array length) = if written then 3 * length else length
 abbrev pub places_of : CheckedProgram → ℕ
 places_of p = shared_sum (λ i extent. place_part (is_written p.tasks i) extent) p.shared
 
-abbrev pub greatest : (Code → ℕ) → List CheckedTask → ℕ
+abbrev pub greatest : (CheckedBlock → ℕ) → List CheckedTask → ℕ
 greatest f [] = 0
 greatest f (t ∷ ts) = max (f t.body) (greatest f ts)
 
-abbrev pub total : (Code → ℕ) → List CheckedTask → ℕ
+abbrev pub total : (CheckedBlock → ℕ) → List CheckedTask → ℕ
 total f [] = 0
 total f (t ∷ ts) = f t.body + total f ts
 
 -- the cycles of a boot, the clearing of the versions, an attempt of a task and its commit
-abbrev pub task_bound : ℕ → List SharedDeclaration → Code → ℕ
+abbrev pub task_bound : ℕ → List SharedDeclaration → CheckedBlock → ℕ
 task_bound versions shared code = 400 + 12 * versions + 72 * scalars_of shared code + block_price cycles_column code + 40 * list_of shared code + 40 *
     emits_of code
 
@@ -88,7 +80,7 @@ abbrev pub bound_of : CheckedProgram → ℕ
 bound_of p = greatest (task_bound (versions_of p) p.shared) p.tasks
 
 -- the words of a task's code
-abbrev pub task_words : List SharedDeclaration → Code → ℕ
+abbrev pub task_words : List SharedDeclaration → CheckedBlock → ℕ
 task_words shared code = 200 + 16 * scalars_of shared code + block_price (words_column (scalars_of shared code)) code
 
 -- the size, in words

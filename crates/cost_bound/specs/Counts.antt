@@ -1,14 +1,11 @@
 -- How often a task may emit or store to an array, and which variables it assigns.
 use Rattle.std.specs.Prelude.{ℕ, ◌+◌, ◌-◌, ◌*◌, ◌==◌, ◌||◌, Bool, true, false, max, if◌then◌else◌}
+pub use Rattle.task_ast.specs.Paths.{CheckedBlock}
 use Rattle.task_ast.specs.Tree.{Statement, declare, assign, store, choose, loop, emit, transition, Choice, nothing, otherwise, test, Block, end, step}
 use Rattle.task_ast.specs.declared.names.Variable.{Variable}
 use Rattle.task_ast.specs.declared.names.Variable.TheVariants.{Shared, Local}
 use Rattle.task_ast.specs.declared.names.VariableName.{VariableName}
 use Rattle.task_ast.specs.declared.names.TaskName.{TaskName}
-
--- what stands in a task, with its names looked up
-abbrev pub Code : Type 0
-Code = Block VariableName TaskName
 
 abbrev mutual
   -- how often a task comes by statements of a kind at most: 1 where one stands, a block the sum, an `if` its greatest block,
@@ -50,7 +47,7 @@ unfoldable pub emits_of : {V T : Type 0} → Block V T → ℕ
 emits_of b = block_count is_emit b
 
 -- counted stores to a shared array
-unfoldable pub stores_of : ℕ → Code → ℕ
+unfoldable pub stores_of : ℕ → CheckedBlock → ℕ
 stores_of i b = block_count (is_store_to i) b
 
 abbrev mutual
@@ -69,6 +66,6 @@ abbrev mutual
   choice_assigns i (otherwise block) = block_assigns i block
   choice_assigns i (test _ block more) = block_assigns i block || choice_assigns i more
 
-  pub block_assigns : ℕ → Code → Bool
+  pub block_assigns : ℕ → CheckedBlock → Bool
   block_assigns i end = false
   block_assigns i (step s more) = statement_assigns i s || block_assigns i more

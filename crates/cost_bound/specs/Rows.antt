@@ -1,6 +1,6 @@
 -- What statements cost, and what the allowance of a few small sources comes to, counted by hand from the table.
 use Rattle.std.specs.Prelude.{◌≡◌, ℕ, ◌+◌, ◌*◌, ◌≤◌, Some, None, List, [], ◌∷◌}
-use Rattle.alp_text.specs.declared.lines.Span.{Span}
+use Rattle.task_ast.specs.Worked.{nowhere, here}
 use Rattle.task_ast.specs.Tree.{Expression, Statement}
 use Rattle.task_ast.specs.Tree as t
 use Rattle.task_ast.specs.declared.WordType.TheVariants.{Unsigned, Long}
@@ -10,7 +10,6 @@ use Rattle.task_ast.specs.declared.UnaryOperator.TheVariants.{Negate}
 use Rattle.task_ast.specs.declared.ShiftOperator.TheVariants.{Left, Right}
 use Rattle.task_ast.specs.declared.ShortCircuitOperator.TheVariants.{And as BothHold}
 use Rattle.task_ast.specs.declared.Extent.{Extent}
-use Rattle.task_ast.specs.declared.PlacedOperator.{PlacedOperator}
 use Rattle.task_ast.specs.declared.Extent.TheVariants.{Scalar, Array}
 use Rattle.task_ast.specs.declared.Extent.TheVariants as extent
 use Rattle.task_ast.specs.declared.SharedDeclaration.{SharedDeclaration}
@@ -19,18 +18,11 @@ use Rattle.task_ast.specs.declared.names.Variable.TheVariants.{Shared, Local}
 use Rattle.task_ast.specs.declared.names.VariableName.{VariableName}
 use Rattle.task_ast.specs.declared.names.TaskName.{TaskName}
 use Rattle.cost_bound.specs.Table.{statement_price, cycles_column, words_column}
-use Rattle.cost_bound.specs.Counts.{Code}
+use Rattle.cost_bound.specs.Counts.{CheckedBlock}
 use Rattle.cost_bound.specs.Allowance.{CheckedProgram, CheckedTask, bound_of, words_of, versions_of, list_of, greatest}
 
--- a place in a text, which no price looks at
-abbrev pub place : Span
-place = record { from = 0; to = 0 }
-
-abbrev pub here : BinaryOperator → PlacedOperator
-here op = record { operator = op; span = place }
-
 abbrev pub named : Variable → VariableName
-named v = record { span = place; variable = v; word_type = Unsigned }
+named v = record { span = nowhere; variable = v; word_type = Unsigned }
 
 abbrev pub x : VariableName
 x = named (Shared 0)
@@ -52,23 +44,23 @@ j = named (Local 1)
 
 -- a long
 abbrev pub l : VariableName
-l = record { span = place; variable = Shared 0; word_type = Long }
+l = record { span = nowhere; variable = Shared 0; word_type = Long }
 
-abbrev pub goes_to : ℕ → Code
-goes_to n = t.step (t.transition (record { span = place; task = n })) t.end
+abbrev pub goes_to : ℕ → CheckedBlock
+goes_to n = t.step (t.transition (record { span = nowhere; task = n })) t.end
 
 abbrev pub declared : Extent → SharedDeclaration
-declared extent = record { word_type = Unsigned; name = place; extent = extent }
+declared extent = record { word_type = Unsigned; name = nowhere; extent = extent }
 
-abbrev pub source : List SharedDeclaration → List Code → CheckedProgram
-source shared codes = record { shared = shared; tasks = tasks_of codes; entry = record { span = place; task = 0 } }
+abbrev pub source : List SharedDeclaration → List CheckedBlock → CheckedProgram
+source shared codes = record { shared = shared; tasks = tasks_of codes; entry = record { span = nowhere; task = 0 } }
   where
-    tasks_of : List Code → List CheckedTask
+    tasks_of : List CheckedBlock → List CheckedTask
     tasks_of [] = []
-    tasks_of (c ∷ cs) = record { name = place; body = c } ∷ tasks_of cs
+    tasks_of (c ∷ cs) = record { name = nowhere; body = c } ∷ tasks_of cs
 
 -- `x = sense();` and the transition
-abbrev pub senses : Code
+abbrev pub senses : CheckedBlock
 senses = t.step (t.assign x t.sense) (goes_to 1)
 
 -- `x = x + sense(); emit(x); transition_to(..);`
@@ -113,10 +105,10 @@ emits e = priced (t.emit e)
 abbrev pub sums : BinaryOperator → Expression VariableName
 sums op = t.binary (here op) (t.name x) t.sense
 
-abbrev pub sets : Code
+abbrev pub sets : CheckedBlock
 sets = t.step (t.assign x (t.number 1)) t.end
 
-abbrev pub sets_twice : Code
+abbrev pub sets_twice : CheckedBlock
 sets_twice = t.step (t.assign x (t.number 1)) sets
 
 -- each line of the table
@@ -128,7 +120,7 @@ pub record PriceRows : Type 0 where
   pub sum : emits (sums Add) ≡ (180, 72)
   pub comparison : emits (sums Greater) ≡ (180, 72)
   pub short_circuit : emits (t.short_circuit BothHold (t.name x) t.sense) ≡ (180, 72)
-  pub shift : emits (t.shift Left (t.name x) (record { value = 3; span = place })) ≡ (200, 56)
+  pub shift : emits (t.shift Left (t.name x) (record { value = 3; span = nowhere })) ≡ (200, 56)
   pub product : emits (sums Multiply) ≡ (440, 72)
   pub quotient : emits (sums Divide) ≡ (540, 72)
   pub remainder : emits (sums Remainder) ≡ (540, 72)
@@ -137,7 +129,7 @@ pub record PriceRows : Type 0 where
   pub declaration_with_value : priced (t.declare Unsigned i (Some (t.number 1))) ≡ (80, 40)
   pub assignment : priced (t.assign x (t.number 1)) ≡ (80, 40)
   pub store : priced (t.store y (t.number 0) (t.name x)) ≡ (200, 92)
-  pub transition : priced (t.transition (record { span = place; task = 0 })) ≡ (100, 72)
+  pub transition : priced (t.transition (record { span = nowhere; task = 0 })) ≡ (100, 72)
   -- the cycles of the greatest block, which is the one in the middle, and the words of all
   pub choice : priced (t.choose (t.test (t.name x) sets (t.test (t.name x) sets_twice (t.otherwise sets)))) ≡ (280, 240)
   pub choice_without_else : priced (t.choose (t.test (t.name x) t.end t.nothing)) ≡ (80, 40)
@@ -155,7 +147,7 @@ pub record LongPriceRows : Type 0 where
   -- the sum is of one word, since a comparison is; only the comparison has a long part
   pub part_of_a_part : emits (t.binary (here Add) (t.binary (here Greater) (t.name l) t.sense) t.sense) ≡ (340, 136)
   pub short_circuit : emits (t.short_circuit BothHold (t.name l) t.sense) ≡ (260, 104)
-  pub shift : emits (t.shift Left (t.name l) (record { value = 3; span = place })) ≡ (540, 88)
+  pub shift : emits (t.shift Left (t.name l) (record { value = 3; span = nowhere })) ≡ (540, 88)
   pub declaration_with_value : priced (t.declare Unsigned i (Some (t.name l))) ≡ (120, 56)
   pub assignment : priced (t.assign l (t.number 1)) ≡ (120, 56)
   pub assignment_of_a_long : priced (t.assign x (t.name l)) ≡ (120, 56)
@@ -163,9 +155,9 @@ pub record LongPriceRows : Type 0 where
 
 -- `l = l + sense(); x = l >> 16; transition_to(..);`, where l is a long
 abbrev pub long_sum : CheckedProgram
-long_sum = source (record { word_type = Long; name = place; extent = extent.Long 65535 } ∷ declared (Scalar 0) ∷ [])
+long_sum = source (record { word_type = Long; name = nowhere; extent = extent.Long 65535 } ∷ declared (Scalar 0) ∷ [])
     (t.step (t.assign l (t.binary (here Add) (t.name l) t.sense))
-    (t.step (t.assign y (t.shift Right (t.name l) (record { value = 16; span = place }))) (goes_to 0)) ∷ [])
+    (t.step (t.assign y (t.shift Right (t.name l) (record { value = 16; span = nowhere }))) (goes_to 0)) ∷ [])
 
 -- Of two arrays of 4 and 8 elements, y and z: ten stores to y in a loop, two to z, and the scalar x assigned twice. Then a task that
 -- assigns x once more, and loops over no turn in which it would store to z. A third array is only read.

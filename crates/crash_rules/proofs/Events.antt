@@ -70,7 +70,7 @@ gate_positions before now h =
       since = h.taken;
       span_from = h.span_from;
       span_to = h.span_to;
-      spans = (positions_of h).spans ++ record { from = h.span_from; to = h.span_to } ∷ [];
+      spans = (positions_of h).spans ++ (h.span_from, h.span_to) ∷ [];
     })
     (cond (is_decide before now) (record { since = h.since; span_from = h.since; span_to = h.taken; spans = (positions_of h).spans }) (positions_of h))) [
       | true ↦ ap (λ l. record { since = h.taken; span_from = h.span_from; span_to = h.span_to; spans = l })

@@ -1,10 +1,11 @@
 -- What is read off the effects of a run. Its events are those of the board's runs: a boot is a power-up; a decide is a write after
 -- which GATE is 1 and before which it wasn't; a done is one after which GATE is 0 and before which it was 1. Positions count the
 -- readings taken.
-use Rattle.std.specs.Prelude.{◌≡◌, ℕ, ◌+◌, ◌≤◌, ◌==◌, ◌&&◌, Bool, true, false, not, if◌then◌else◌, List, [], ◌∷◌, ◌++◌, length, map}
+use Rattle.std.specs.Prelude.{◌≡◌, ℕ, ◌+◌, ◌≤◌, ◌==◌, Bool, true, false, if◌then◌else◌, List, [], ◌∷◌, ◌++◌, length, map}
 use Rattle.std.specs.List.{slice_range}
 use Rattle.machine_effects.specs.fram_board.Board.{BoardValue, BoardOutcome}
 use Rattle.machine_effects.specs.fram_board.Effects.{Effect, effects_of}
+pub use Rattle.machine_effects.specs.fram_board.Gate.{is_decide, is_done}
 use Rattle.machine_effects.specs.World.{World, world_after_one, world_after, readings_taken}
 
 -- a done: the span of the decide before it, and FRAM and the accepted words behind it
@@ -24,14 +25,6 @@ pub record History : Type 0 where
   pub span_to : ℕ
   pub decided : Bool  -- whether no done came since the last decide
   pub completed : List Done  -- the dones, in order
-
--- GATE is 1 now and wasn't before
-abbrev pub is_decide : ℕ → ℕ → Bool
-is_decide before now = (now == 1) && not (before == 1)
-
--- GATE is 0 now and was 1 before
-abbrev pub is_done : ℕ → ℕ → Bool
-is_done before now = (now == 0) && (before == 1)
 
 -- the history behind one effect, but for its event
 abbrev pub with_effect : Effect → History → History
@@ -94,17 +87,12 @@ decided_readings readings h = slice_range readings h.span_from h.span_to
 abbrev pub done_readings : List ℕ → Done → List ℕ
 done_readings readings d = slice_range readings d.span_from d.span_to
 
--- a span of readings
-pub record Span : Type 0 where
-  pub from : ℕ
-  pub to : ℕ
-
--- the positions of a history: those at the last boot or done and of the last decide, and the spans of the dones
+-- the positions of a history: those at the last boot or done and of the last decide, and from where to where each done has its span
 pub record Positions : Type 0 where
   pub since : ℕ
   pub span_from : ℕ
   pub span_to : ℕ
-  pub spans : List Span
+  pub spans : List (ℕ × ℕ)
 
 -- the positions of a history
 abbrev pub positions_of : History → Positions
@@ -112,13 +100,13 @@ positions_of h = record {
   since = h.since;
   span_from = h.span_from;
   span_to = h.span_to;
-  spans = map (λ d. record { from = d.span_from; to = d.span_to }) h.completed;
+  spans = map (λ d. (d.span_from, d.span_to)) h.completed;
 }
 
 -- the positions behind an instruction, by GATE before and behind it, and by how many readings were taken behind it
 abbrev pub positions_behind : ℕ → ℕ → ℕ → Positions → Positions
 positions_behind before now taken p =
-    if is_done before now then record p { since = taken; spans = p.spans ++ record { from = p.span_from; to = p.span_to } ∷ [] }
+    if is_done before now then record p { since = taken; spans = p.spans ++ (p.span_from, p.span_to) ∷ [] }
     else if is_decide before now then record p { span_from = p.since; span_to = taken }
     else p
 

@@ -2,6 +2,7 @@ pub mod Model
 pub mod History
 pub mod Runs
 pub mod Laws
+pub use Rattle.machine_effects.specs.address_space as address_space
 pub use Rattle.machine_effects.specs.msp_isa as msp_isa
 pub use Rattle.machine_effects.specs.msp_cycles as msp_cycles
 pub use Rattle.machine_effects.specs.msp_step as msp_step

@@ -1,6 +1,7 @@
 -- What the crash theorem needs to know of a source, of its runtime and of what FRAM stands for: the model, and what each layer
 -- owes. Nothing here knows where anything is in FRAM.
 use Rattle.std.specs.Prelude.{◌≡◌, ◌≢◌, ℕ, zero, suc, ◌<◌, ◌==◌, if◌then◌else◌, nat_lt, Bool, true, false, List, [], ◌∷◌, ◌++◌, length, drop, All}
+pub use Rattle.machine_effects.specs.alp_words.Words.{IsWord}
 use Rattle.machine_effects.specs.fram_board.Effects.{Effect, Store}
 use Rattle.machine_effects.specs.World.{World, world_after_one, world_after, fram_after, readings_taken, EachStore}
 
@@ -26,10 +27,6 @@ HoldsThroughout P (e ∷ es) x = P x × HoldsThroughout P es (world_after_one e 
 -- the readings left behind effects
 abbrev pub readings_left : List Effect → List ℕ → List ℕ
 readings_left es readings = drop (length (readings_taken es)) readings
-
--- a word is a number below 65536
-abbrev pub IsWord : ℕ → Type 0
-IsWord w = w < 0x10000
 
 -- a source with its runtime. St is what a state of the source is: its shared words, its current task and the words emitted so far
 pub record Model (St : Type 0) : Type 1 where

@@ -22,7 +22,7 @@ use Rattle.msp_step.proofs.msp_decode.Interface.{blank_of, same_instruction}
 use Rattle.msp_step.specs.declared.machine.Stop.{Stop}
 use Rattle.msp_step.specs.declared.machine.Stop.TheVariants as stop
 use Rattle.msp_step.specs.Access.{BusModel}
-use Rattle.msp_step.specs.Effect.{sum16}
+use Rattle.msp_step.specs.Effect.{word_sum}
 use Rattle.msp_step.specs.Step.{FetchedAt, IsNoInstruction, IsLongerThan, First, Second, Third}
 use Rattle.msp_step.proofs.Interface.{fetched_at}
 use Rattle.fram_board.proofs.Legal.{BeginsAt, legal_or_not}
@@ -143,7 +143,7 @@ abbrev pub InstructionOrStop : {S : Type 0} → BusModel S → S → ℕ → Typ
 InstructionOrStop bus s pc = ((i : Instr) × IsInstruction i × FetchedAt bus s pc (encoding i)) ⊎ ((e : Stop) × IsNoInstruction bus s pc e)
 
 fitted : {S : Type 0} (bus : BusModel S) (s : S) (pc v u w : ℕ) (j : Instr) → BeginsAt v j → bus.fetches s pc ≡ Some v
-    → (1 < length (encoding j) → bus.fetches s (sum16 pc 2) ≡ Some u) → (2 < length (encoding j) → bus.fetches s (sum16 (sum16 pc 2) 2) ≡ Some w)
+    → (1 < length (encoding j) → bus.fetches s (word_sum pc 2) ≡ Some u) → (2 < length (encoding j) → bus.fetches s (word_sum (word_sum pc 2) 2) ≡ Some w)
     → InstructionOrStop bus s pc
 fitted bus s pc v u w j h first second third =
     let i = fit j u w h.is in
@@ -151,24 +151,24 @@ fitted bus s pc v u w j h first second third =
     let len = i.1.len in
     inl (i.0, i.1.is, fetched_at bus s pc (encoding i.0) v u w (subst P h.begins i.1.front) first (λ l. second (omega arith)) (λ l. third (omega arith)))
 
-at_third : {S : Type 0} (bus : BusModel S) (s : S) (pc v u : ℕ) (j : Instr) → BeginsAt v j → bus.fetches s pc ≡ Some v → bus.fetches s (sum16 pc 2) ≡ Some u
-    → 2 < length (encoding j) → (o : Option ℕ) → bus.fetches s (sum16 (sum16 pc 2) 2) ≡ o → InstructionOrStop bus s pc
-at_third bus s pc v u j h first second long None e = inr (stop.Bus pc (sum16 (sum16 pc 2) 2), (refl, Third v u first (longer 2 v j h long) second e))
+at_third : {S : Type 0} (bus : BusModel S) (s : S) (pc v u : ℕ) (j : Instr) → BeginsAt v j → bus.fetches s pc ≡ Some v → bus.fetches s (word_sum pc 2) ≡ Some u
+    → 2 < length (encoding j) → (o : Option ℕ) → bus.fetches s (word_sum (word_sum pc 2) 2) ≡ o → InstructionOrStop bus s pc
+at_third bus s pc v u j h first second long None e = inr (stop.Bus pc (word_sum (word_sum pc 2) 2), (refl, Third v u first (longer 2 v j h long) second e))
 at_third bus s pc v u j h first second long (Some w) e = fitted bus s pc v u w j h first (λ l. second) (λ l. e)
 
-has_third : {S : Type 0} (bus : BusModel S) (s : S) (pc v u : ℕ) (j : Instr) → BeginsAt v j → bus.fetches s pc ≡ Some v → bus.fetches s (sum16 pc 2) ≡ Some u
+has_third : {S : Type 0} (bus : BusModel S) (s : S) (pc v u : ℕ) (j : Instr) → BeginsAt v j → bus.fetches s pc ≡ Some v → bus.fetches s (word_sum pc 2) ≡ Some u
     → (2 < length (encoding j)) ⊎ (length (encoding j) ≤ 2) → InstructionOrStop bus s pc
-has_third bus s pc v u j h first second (inl long) = at_third bus s pc v u j h first second long (bus.fetches s (sum16 (sum16 pc 2) 2)) refl
+has_third bus s pc v u j h first second (inl long) = at_third bus s pc v u j h first second long (bus.fetches s (word_sum (word_sum pc 2) 2)) refl
 has_third bus s pc v u j h first second (inr short) = fitted bus s pc v u 0 j h first (λ l. second) (λ l. absurd (omega arith))
 
 at_second : {S : Type 0} (bus : BusModel S) (s : S) (pc v : ℕ) (j : Instr) → BeginsAt v j → bus.fetches s pc ≡ Some v
-    → 1 < length (encoding j) → (o : Option ℕ) → bus.fetches s (sum16 pc 2) ≡ o → InstructionOrStop bus s pc
-at_second bus s pc v j h first long None e = inr (stop.Bus pc (sum16 pc 2), (refl, Second v first (longer 1 v j h long) e))
+    → 1 < length (encoding j) → (o : Option ℕ) → bus.fetches s (word_sum pc 2) ≡ o → InstructionOrStop bus s pc
+at_second bus s pc v j h first long None e = inr (stop.Bus pc (word_sum pc 2), (refl, Second v first (longer 1 v j h long) e))
 at_second bus s pc v j h first long (Some u) e = has_third bus s pc v u j h first e (cases_lt 2 (length (encoding j)))
 
 has_second : {S : Type 0} (bus : BusModel S) (s : S) (pc v : ℕ) (j : Instr) → BeginsAt v j → bus.fetches s pc ≡ Some v
     → (1 < length (encoding j)) ⊎ (length (encoding j) ≤ 1) → InstructionOrStop bus s pc
-has_second bus s pc v j h first (inl long) = at_second bus s pc v j h first long (bus.fetches s (sum16 pc 2)) refl
+has_second bus s pc v j h first (inl long) = at_second bus s pc v j h first long (bus.fetches s (word_sum pc 2)) refl
 has_second bus s pc v j h first (inr short) = fitted bus s pc v 0 0 j h first (λ l. absurd (omega arith)) (λ l. absurd (omega arith))
 
 begins_or_not : {S : Type 0} (bus : BusModel S) (s : S) (pc v : ℕ) → bus.fetches s pc ≡ Some v → ((j : Instr) × BeginsAt v j) ⊎ IsIllegal v

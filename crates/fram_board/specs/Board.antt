@@ -5,6 +5,7 @@ use Rattle.msp_step.specs.declared.machine.Stop.{Stop}
 use Rattle.msp_step.specs.declared.machine.Stepped as cpu
 use Rattle.msp_step.specs.Registers.{Registers, registers_of, kept, powered_up}
 use Rattle.msp_step.specs.Step.{Outcome, IsCurrentInstruction, IsStopped, StepResult, execution}
+use Rattle.state_text.specs.address_space.Limits.{reset_vector}
 use Rattle.state_text.specs.image_text.ImageValue.{place_of}
 use Rattle.fram_board.specs.declared.board.Stepped.{Stepped}
 use Rattle.fram_board.specs.declared.receiver.Receiver.{Receiver}
@@ -26,7 +27,7 @@ filled_words n w = replicate n w
 
 -- the reset vector
 abbrev pub vector_of : List ℕ → ℕ
-vector_of fram = slice_index fram (place_of 0xFFFE)
+vector_of fram = slice_index fram (place_of reset_vector)
 
 -- the board with this FRAM and these readings, before anything was done, whose receiver takes this number next
 abbrev pub started : List ℕ → ℕ → List ℕ → BoardValue

@@ -8,6 +8,8 @@ use Rattle.alp_words.specs.Words.{word_bytes, word_of_bytes}
 use Rattle.msp_step.specs.declared.bus.Refused.{Refused}
 use Rattle.msp_step.specs.declared.bus.Refused.TheVariants as refused
 use Rattle.msp_step.specs.Access.{BusModel}
+use Rattle.state_text.specs.address_space.Limits.{ram_first, ram_end, fram_first, fram_end, fram_words}
+pub use Rattle.state_text.specs.address_space.Limits.{sensor_port, number_port, data_port}
 use Rattle.state_text.specs.image_text.ImageValue.{place_of}
 
 -- memory and ports during one instruction
@@ -19,25 +21,13 @@ pub record BusState : Type 0 where
   pub taken : ℕ  -- how many of them were taken
   pub offered : Option ℕ  -- the word that the instruction wrote to OUTDATA, if it did
 
--- the sensor port SENSOR
-abbrev pub sensor_port : ℕ
-sensor_port = 0x200
-
--- the port OUTNUM: the number of the word that is offered next
-abbrev pub number_port : ℕ
-number_port = 0x202
-
--- the port OUTDATA: a word written here is offered to the receiver
-abbrev pub data_port : ℕ
-data_port = 0x204
-
 -- the addresses of RAM
 abbrev pub is_ram : ℕ → Bool
-is_ram a = nat_le 0x1C00 a && nat_lt a 0x2400
+is_ram a = nat_le ram_first a && nat_lt a ram_end
 
 -- the addresses of FRAM
 abbrev pub is_fram : ℕ → Bool
-is_fram a = nat_le 0x4400 a && nat_lt a 0x10000
+is_fram a = nat_le fram_first a && nat_lt a fram_end
 
 -- the addresses of memory
 abbrev pub is_memory : ℕ → Bool
@@ -49,7 +39,7 @@ is_word a = (a % 2 == 0) && is_memory a
 
 -- where the word of RAM stands in the list to which an address belongs
 abbrev pub ram_place : ℕ → ℕ
-ram_place a = (a - 0x1C00) / 2
+ram_place a = (a - ram_first) / 2
 
 -- the word to which an address of memory belongs
 abbrev pub memory_word : BusState → ℕ → ℕ
@@ -116,7 +106,7 @@ board_bus = record {
 
 -- the lists are as long as the memory map says, and no more readings are taken than there are
 pub record IsBusState (s : BusState) : Type 0 where
-  pub fram : length s.fram ≡ 24064
+  pub fram : length s.fram ≡ fram_words
   pub ram : length s.ram ≡ 1024
   pub taken : s.taken ≤ length s.readings
   pub few : length s.readings ≤ 262144

@@ -4,7 +4,9 @@ pub mod Saved
 pub mod Steps
 pub mod Effects
 pub mod Run
+pub mod Gate
 pub mod Laws
+pub use Rattle.state_text.specs.address_space as address_space
 pub use Rattle.state_text.specs.image_text.alp_text as alp_text
 pub use Rattle.state_text.specs.image_text.text_parts as text_parts
 pub use Rattle.alp_words.specs as alp_words

@@ -4,6 +4,7 @@ ghost use Rattle.std.specs.Prelude.{◌≡◌, ◌==◌, ◌%◌, if◌then◌el
 ghost use Rattle.std.specs.Prelude.{Some, None, false};
 ghost use Rattle.std.proofs.Common.{refl};
 ghost use Rattle.alp_words.specs.declared.Width.TheVariants.{Word, Byte};
+ghost use Rattle.state_text.specs.address_space.Limits.{fram_words};
 ghost use Rattle.state_text.specs.image_text.ImageValue.{word_at};
 ghost use Rattle.fram_board.specs.Bus.{IsBusState, is_ram, is_memory, is_word, memory_word, with_word, byte_of, with_byte, next_reading, port_written};
 ghost use Rattle.fram_board.specs.Bus.{board_bus};
@@ -11,14 +12,11 @@ ghost use Rattle.fram_board.specs.Board.{filled_words, vector_of};
 
 use alp_words::{Width, from_bytes, to_bytes};
 use msp_step::{Bus, Refused};
+use state_text::address_space::{
+    FRAM_FIRST, OUTDATA, OUTNUM, RAM_END, RAM_FIRST, RESET_VECTOR, SENSOR, fram_index,
+};
 use std::alloc::{AllocError, Global};
 use std::marker::Model;
-
-const SENSOR: u16 = 0x0200;
-
-const OUTNUM: u16 = 0x0202;
-
-const OUTDATA: u16 = 0x0204;
 
 /// RAM, FRAM, the sensor's readings and the ports.
 #[derive(Drop)]
@@ -58,13 +56,13 @@ impl Model for Devices {
 fn is_ram(address: u16) -> bool
     ensures { result ≡ is_ram address }
 {
-    (0x1c00..0x2400).contains(&address)
+    (RAM_FIRST..RAM_END).contains(&address)
 }
 
 fn is_memory(address: u16) -> bool
     ensures { result ≡ is_memory address }
 {
-    0x4400 <= address || is_ram(address)
+    FRAM_FIRST <= address || is_ram(address)
 }
 
 fn is_even(address: u16) -> bool
@@ -111,7 +109,7 @@ fn fill_words(words: &mut Vec<u16>, word: u16)
 impl Devices {
     /// This FRAM and these readings, none of them taken; RAM and OUTNUM are 0.
     pub fn new(alloc: Global, fram: &[u16], readings: &[u16]) -> Result<Devices, AllocError>
-        requires fram { length fram.now ≡ 24064 }
+        requires fram { length fram.now ≡ fram_words }
         requires readings { length readings.now ≤ 262144 }
         ensures { IfOk result (λ d. d ≡ record {
           fram = fram.now;
@@ -145,10 +143,10 @@ impl Devices {
         requires { IsTrue (is_memory address) }
         ensures { result ≡ memory_word self.now address }
     {
-        if 0x4400 <= address {
-            self.fram[usize::from((address - 0x4400) / 2)]
+        if FRAM_FIRST <= address {
+            self.fram[fram_index(address)]
         } else {
-            self.ram[usize::from((address - 0x1c00) / 2)]
+            self.ram[usize::from((address - RAM_FIRST) / 2)]
         }
     }
 
@@ -160,10 +158,10 @@ impl Devices {
     {
         if !is_even(address) {
             None
-        } else if 0x4400 <= address {
-            Some(self.fram[usize::from((address - 0x4400) / 2)])
+        } else if FRAM_FIRST <= address {
+            Some(self.fram[fram_index(address)])
         } else if is_ram(address) {
-            Some(self.ram[usize::from((address - 0x1c00) / 2)])
+            Some(self.ram[usize::from((address - RAM_FIRST) / 2)])
         } else {
             None
         }
@@ -177,11 +175,11 @@ impl Devices {
     {
         if !is_even(address) {
             false
-        } else if 0x4400 <= address {
-            self.fram[usize::from((address - 0x4400) / 2)] = word;
+        } else if FRAM_FIRST <= address {
+            self.fram[fram_index(address)] = word;
             true
         } else if is_ram(address) {
-            self.ram[usize::from((address - 0x1c00) / 2)] = word;
+            self.ram[usize::from((address - RAM_FIRST) / 2)] = word;
             true
         } else {
             false
@@ -193,10 +191,10 @@ impl Devices {
         requires { IsTrue (is_memory address) }
         ensures { self.new ≡ with_word self.old address word }
     {
-        if 0x4400 <= address {
-            self.fram[usize::from((address - 0x4400) / 2)] = word;
+        if FRAM_FIRST <= address {
+            self.fram[fram_index(address)] = word;
         } else {
-            self.ram[usize::from((address - 0x1c00) / 2)] = word;
+            self.ram[usize::from((address - RAM_FIRST) / 2)] = word;
         }
     }
 
@@ -205,8 +203,8 @@ impl Devices {
     pub fn fram_word(&self, address: u16) -> Option<u16>
         ensures { result ≡ word_at self.now.fram address }
     {
-        if address >= 0x4400 && is_even(address) {
-            Some(self.fram[usize::from((address - 0x4400) / 2)])
+        if FRAM_FIRST <= address && is_even(address) {
+            Some(self.fram[fram_index(address)])
         } else {
             None
         }
@@ -215,7 +213,7 @@ impl Devices {
     /// All words of the FRAM, the first at 0x4400.
     pub fn fram(&self) -> &[u16]
         ensures value { result.now ≡ self.now.fram }
-        ensures len { length result.now ≡ 24064 }
+        ensures len { length result.now ≡ fram_words }
     {
         self.fram.as_slice()
     }
@@ -224,7 +222,7 @@ impl Devices {
     pub fn vector(&self) -> u16
         ensures { result ≡ vector_of self.now.fram }
     {
-        self.fram[(0xfffe - 0x4400) / 2]
+        self.fram[fram_index(RESET_VECTOR)]
     }
 
     /// How many readings were taken.

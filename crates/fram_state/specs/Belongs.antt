@@ -1,5 +1,6 @@
 -- Which states a board may go on from with an image, and what is answered about one.
 use Rattle.std.specs.Prelude.{◌≡◌, ℕ, ◌⊎◌, List, Option, Some, None, Result, Ok, Err}
+use Rattle.image_text.specs.address_space.Limits.{fram_first}
 use Rattle.image_text.specs.image_map.MapValue.{MapValue}
 use Rattle.image_text.specs.ImageValue.{ImageValue}
 use Rattle.state_text.specs.declared.state.State.{State}
@@ -24,7 +25,7 @@ answer_of None None = Ok tt
 
 -- the answer about a state that has this map, as an image of these words has
 abbrev pub answer_with : MapValue → List ℕ → State → Result (Unit {0}) StateFault
-answer_with m image s = answer_of (first_other m image s.image.words 0x4400) (first_broken m s.image.words s.receiver)
+answer_with m image s = answer_of (first_other m image s.image.words fram_first) (first_broken m s.image.words s.receiver)
 
 -- the answer about a state: by the map that it shares with the image, if they share one
 abbrev pub IsAnswer : ImageValue → State → Result (Unit {0}) StateFault → Type 0

@@ -4,6 +4,7 @@ use denote.Ref.{Bor}
 use Rattle.std.specs.Ordering.{nat_cmp}
 use Rattle.std.specs.Cmp.Lexicographic.{slice_cmp}
 use Rattle.std.specs.BTreeMap.{BTreeMap, get_by}
+use Rattle.image_text.specs.address_space.Limits.{fram_words}
 use Rattle.image_text.specs.image_map.Kept.{IsMap}
 use Rattle.task_ast.specs.View.{program_of}
 use Rattle.fram_state.specs.declared.edition.Edition.{Edition}
@@ -17,7 +18,7 @@ edition_of e = record { text = e.text.now; program = program_of e.source.now; na
 
 -- its words are a FRAM's, and its map has the variables that its source declares
 pub record IsEdition (e : EditionValue) : Type 0 where
-  pub words : length e.words ≡ 24064
+  pub words : length e.words ≡ fram_words
   pub rules : IsMap e.named
   pub few_shared : length e.program.shared ≤ 256
   pub few_tasks : length e.program.tasks ≤ 64

@@ -1,5 +1,6 @@
 -- What holds of the answers about states.
 use Rattle.std.specs.Prelude.{◌≡◌, ℕ, List, length, Some, Result, Ok}
+use Rattle.image_text.specs.address_space.Limits.{fram_first, fram_words}
 use Rattle.image_text.specs.image_map.MapValue.{MapValue}
 use Rattle.image_text.specs.ImageValue.{ImageValue}
 use Rattle.state_text.specs.declared.state.State.{State}
@@ -16,8 +17,8 @@ AnswersAreOne = (image : ImageValue) (s : State) (a b : Result (Unit {0}) StateF
 
 -- so many words are an image's
 pub record AreImages (image words : List ℕ) : Type 0 where
-  pub of_image : length image ≡ 24064
-  pub of_state : length words ≡ 24064
+  pub of_image : length image ≡ fram_words
+  pub of_state : length words ≡ fram_words
 
 -- a state that belongs to an image is taken
 abbrev pub BelongingStatesAreTaken : Type 0
@@ -25,7 +26,7 @@ BelongingStatesAreTaken = (image : ImageValue) (s : State) → AreImages image.w
 
 -- the word that is told is the first one, by its address
 abbrev pub OtherWordsAreFirst : Type 0
-OtherWordsAreFirst = (m : MapValue) (image words : List ℕ) (a : ℕ) → AreImages image words → first_other m image words 0x4400 ≡ Some a
+OtherWordsAreFirst = (m : MapValue) (image words : List ℕ) (a : ℕ) → AreImages image words → first_other m image words fram_first ≡ Some a
     → IsFirstOther m image words a
 
 -- of a state that can be migrated no other fault is told than want of memory

@@ -11,6 +11,7 @@ pub mod Migrated
 pub mod Laid
 pub mod Editions
 pub mod Laws
+pub use Rattle.state_text.specs.address_space as address_space
 pub use Rattle.state_text.specs.alp_text as alp_text
 pub use Rattle.state_text.specs.image_map as image_map
 pub use Rattle.state_text.specs.image_text as image_text

@@ -1,6 +1,7 @@
 -- Stretches of memory: the addresses from one on, up to another.
 use Rattle.std.specs.Prelude.{◌≡◌, ℕ, ◌+◌, ◌*◌, ◌<◌, ◌≤◌, ◌&&◌, Bool, true, nat_le, nat_lt, List, Option, option_map, find}
 use Rattle.std.specs.List.{list_any}
+use Rattle.image_text.specs.address_space.Limits.{fram_end}
 use Rattle.fram_state.specs.declared.stretch.Stretch.{Stretch}
 
 -- so many words from an address on
@@ -30,4 +31,4 @@ lies_in s outer = nat_le outer.from s.from && nat_le s.to outer.to
 
 -- whether a stretch that begins in the FRAM lies in it
 abbrev pub fits_fram : Stretch → Bool
-fits_fram s = nat_le s.to 65536
+fits_fram s = nat_le s.to fram_end

@@ -1,6 +1,7 @@
 //! The words of a new edition's FRAM, which are written over those of its image.
 ghost use Rattle.std.specs.Prelude.{◌≡◌, ◌≤◌, ◌+◌, ◌<◌, ◌^◌, IfOk, OnOk, length};
-ghost use Rattle.image_text.specs.image_map.MapValue.{IsFramWord, IsVariable};
+ghost use Rattle.image_text.specs.address_space.Limits.{IsFramWord, fram_words};
+ghost use Rattle.image_text.specs.image_map.MapValue.{IsVariable};
 ghost use Rattle.image_text.specs.ImageValue.{place_of};
 ghost use Rattle.fram_state.specs.Suits.{line_of, declared_line};
 ghost use Rattle.fram_state.specs.Kept.{shared_names};
@@ -13,6 +14,7 @@ use crate::edition::Edition;
 use crate::kept::{Numbers, kept_from};
 use crate::runtime::{word_in, words_from};
 use image_text::Variable;
+use image_text::address_space::fram_index;
 use source_meaning::initial_words;
 use source_report::spelled;
 use std::alloc::{AllocError, Global};
@@ -31,12 +33,12 @@ fn put_row(words: &mut [u16], place: usize, row: &[u16])
 
 // Writes a word at an address.
 fn put_word(words: &mut [u16], address: u16, word: u16)
-    requires all { length words.old ≡ 24064 }
+    requires all { length words.old ≡ fram_words }
     requires address { IsFramWord address }
     ensures word { words.new ≡ with_word words.old address word }
-    ensures len { length words.new ≡ 24064 }
+    ensures len { length words.new ≡ fram_words }
 {
-    words[(address as usize - 0x4400) / 2] = word;
+    words[fram_index(address)] = word;
 }
 
 // The words of the variable of a number in the FRAM of an edition.
@@ -64,11 +66,11 @@ fn put_variable<'a>(
     requires names { HasNumbers (shared_names old.now.text.now old.now.source.now.shared.items) numbers.now }
     requires place { IsVariable v.now }
     requires line { line_of v.now ≡ declared_line text.now declaration.now }
-    requires all { length words.old ≡ 24064 }
+    requires all { length words.old ≡ fram_words }
     ensures row { OnOk result (words.new ≡ with_row (place_of v.now.address) (row_of (edition_of old.now) text.now declaration.now) words.old) }
-    ensures len { length words.new ≡ 24064 }
+    ensures len { length words.new ≡ fram_words }
 {
-    let place = (v.address as usize - 0x4400) / 2;
+    let place = fram_index(v.address);
     let name = spelled(text, declaration.name);
     let shared = old.source.shared.as_slice();
     match kept_from(old.text, shared, numbers, name, declaration) {
@@ -92,9 +94,9 @@ fn put_variables<'a>(
     requires old { IsEdition (edition_of old.now) }
     requires new { IsEdition (edition_of new.now) }
     requires names { HasNumbers (shared_names old.now.text.now old.now.source.now.shared.items) numbers.now }
-    requires all { length words.old ≡ 24064 }
+    requires all { length words.old ≡ fram_words }
     ensures rows { OnOk result (words.new ≡ with_rows new.now.map.now.variables (rows_of (edition_of old.now) (edition_of new.now)) words.old) }
-    ensures len { length words.new ≡ 24064 }
+    ensures len { length words.new ≡ fram_words }
 {
     let shared = new.source.shared.as_slice();
     let variables = new.map.variables();

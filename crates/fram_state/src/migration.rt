@@ -1,6 +1,7 @@
 //! An old state as one of a new edition of its program.
 ghost use Rattle.std.specs.Prelude.{◌≡◌, ◌↔◌, ◌<◌, ◌^◌, ℕ, IfOk, IfErr, IfSome, IfNone, IsTrue, Some, length};
 ghost use Rattle.task_ast.specs.View.{block_view, program_of};
+ghost use Rattle.image_text.specs.address_space.Limits.{fram_words};
 ghost use Rattle.image_text.specs.image_map.MapValue.{MapValue};
 ghost use Rattle.source_report.specs.source_values.Runs.{task_body};
 ghost use Rattle.fram_state.specs.Kept.{shared_names};
@@ -139,7 +140,7 @@ fn words_behind<'a>(
     requires new { IsEdition (edition_of new.now) }
     requires current { spec.current (edition_of old.now) < length old.now.source.now.tasks.items }
     ensures words { IfOk result (λ v. Migrates (edition_of old.now) (edition_of new.now) v.items) }
-    ensures len { IfOk result (λ v. length v.items ≡ 24064) }
+    ensures len { IfOk result (λ v. length v.items ≡ fram_words) }
     ensures fault { IfErr result (IsFault (edition_of old.now) (edition_of new.now)) }
 {
     if is_pending(old) {

@@ -1,9 +1,11 @@
 //! What the words of a FRAM hold.
 ghost use Rattle.std.specs.Prelude.{◌≡◌, ◌≤◌, ◌*◌, ◌/◌, ◌-◌, length};
-ghost use Rattle.image_text.specs.image_map.MapValue.{IsFramWord, AreFramWords};
+ghost use Rattle.image_text.specs.address_space.Limits.{IsFramWord, fram_words};
+ghost use Rattle.image_text.specs.image_map.MapValue.{AreFramWords};
 ghost use Rattle.fram_state.specs.Runtime.{word_in, words_from, runtime_of};
 
 use image_text::RuntimeWords;
+use image_text::address_space::fram_index;
 
 /// What the words of the runtime hold.
 #[derive(Clone, Copy)]
@@ -20,11 +22,11 @@ pub struct Runtime {
 
 /// The word at an address.
 pub fn word_in(words: &[u16], address: u16) -> u16
-    requires all { length words.now ≡ 24064 }
+    requires all { length words.now ≡ fram_words }
     requires address { IsFramWord address }
     ensures { result ≡ word_in words.now address }
 {
-    words[(address as usize - 0x4400) / 2]
+    words[fram_index(address)]
 }
 
 /// So many words from an address on, as far as the FRAM goes.
@@ -33,14 +35,14 @@ pub fn words_from(words: &[u16], address: u16, count: usize) -> &[u16]
     requires { IsFramWord address }
     ensures { result.now ≡ words_from words.now address count }
 {
-    let first = ((address as usize - 0x4400) / 2).min(words.len());
+    let first = fram_index(address).min(words.len());
     let rest = &words[first..];
     &rest[..count.min(rest.len())]
 }
 
 /// What the words of the runtime hold.
 pub fn runtime_of(places: RuntimeWords, words: &[u16]) -> Runtime
-    requires all { length words.now ≡ 24064 }
+    requires all { length words.now ≡ fram_words }
     requires places { AreFramWords places }
     ensures { result ≡ runtime_of places words.now }
 {

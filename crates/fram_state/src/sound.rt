@@ -1,5 +1,6 @@
 //! The rules of sound states.
 ghost use Rattle.std.specs.Prelude.{◌≡◌, length, find, not};
+ghost use Rattle.image_text.specs.address_space.Limits.{fram_words};
 ghost use Rattle.fram_state.specs.Sound as sound;
 ghost use Rattle.fram_state.specs.Sound.{entries_of, is_pending, is_base, first_broken};
 
@@ -166,7 +167,7 @@ fn first_failed(
 
 /// The first rule that a state with this map breaks: one of these words of the FRAM, whose receiver takes this number next.
 pub fn first_broken(map: &Map, words: &[u16], number: u16) -> Option<Rule>
-    requires { length words.now ≡ 24064 }
+    requires { length words.now ≡ fram_words }
     ensures { result ≡ first_broken map.now words.now number }
 {
     map.rules();

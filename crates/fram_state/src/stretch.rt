@@ -1,5 +1,7 @@
 //! Stretches of memory.
 
+use image_text::address_space::FRAM_END;
+
 /// The addresses from one on, up to another.
 #[derive(Clone, Copy)]
 pub struct Stretch {
@@ -41,6 +43,6 @@ impl Stretch {
     pub fn fits_fram(self) -> bool
         ensures { result ≡ fits_fram self }
     {
-        self.to <= 65536
+        self.to <= FRAM_END as u64
     }
 }

@@ -5,6 +5,7 @@ use Rattle.std.proofs.lemmas.Bool.Decides.{nat_tests}
 use Rattle.std.proofs.lemmas.List.Elements.{All-nil, All-cons, All-push}
 use Rattle.std.specs.Str.{bytes_eq}
 use Rattle.std.proofs.lemmas.Bool.{and_parts, and_from}
+use Rattle.address_space.specs.Limits.{fram_first}
 use Rattle.image_map.specs.declared.parts.Variable.{Variable}
 use Rattle.image_map.specs.MapValue.{MapValue, TaskValue, IsFramWord, IsVariable, are_different, are_scalars, is_among, is_used}
 use Rattle.image_map.specs.MapValue.{is_fram_word, word_count, fits, is_kind}
@@ -40,8 +41,8 @@ map_more f (y ∷ xs) x = ap (λ r. f y ∷ r) (map_more f xs x)
 
 is_fram : (a : ℕ) → a < 65536 → is_fram_word a ≡ true → IsFramWord a
 is_fram a l h =
-    let p = and_parts (nat_le 17408 a) (a % 2 == 0) h in
-    let low : nat_le 17408 a ≡ true = p.0 in
+    let p = and_parts (nat_le fram_first a) (a % 2 == 0) h in
+    let low : nat_le fram_first a ≡ true = p.0 in
     let even : (a % 2 == 0) ≡ true = p.1 in
     record { low = grind (arith, nat_tests, low); high = l; even = grind (arith, nat_tests, even) }
 

@@ -6,6 +6,7 @@ use Rattle.std.specs.Str.{bytes_eq}
 use Rattle.std.proofs.lemmas.Bool.Decides.{nat_tests}
 use Rattle.std.proofs.lemmas.Bool.{and_parts}
 use Rattle.std.proofs.lemmas.List.{map-append}
+use Rattle.address_space.specs.Limits.{fram_first}
 use Rattle.image_map.specs.declared.parts.Variable.{Variable}
 use Rattle.image_map.specs.MapValue.{MapValue, TaskValue, IsFramWord, IsVariable, is_fram_word, is_among, variable_names, task_names, are_different}
 use Rattle.image_map.specs.Kept.{IsMap}
@@ -23,7 +24,7 @@ pub fram_test : (a : ℕ) → IsFramWord a → is_fram_word a ≡ true
 fram_test a h =
     let l = h.low in
     let e = h.even in
-    let low : nat_le 17408 a ≡ true = grind (arith, nat_tests) in
+    let low : nat_le fram_first a ≡ true = grind (arith, nat_tests) in
     let even : (a % 2 == 0) ≡ true = grind (arith, nat_tests) in
     rw (low, even) refl
 

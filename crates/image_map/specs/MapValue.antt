@@ -1,8 +1,10 @@
 -- What a map is, its rules, and what a line may add to it.
-use Rattle.std.specs.Prelude.{◌≡◌, ℕ, ◌+◌, ◌*◌, ◌%◌, ◌^◌, ◌==◌, ◌<◌, ◌≤◌, ◌&&◌, ◌||◌, Bool, true, false, nat_lt, nat_le, not, if◌then◌else◌, List, [], ◌∷◌}
+use Rattle.std.specs.Prelude.{◌≡◌, ℕ, ◌+◌, ◌*◌, ◌%◌, ◌^◌, ◌==◌, ◌<◌, ◌&&◌, ◌||◌, Bool, true, false, nat_lt, nat_le, not, if◌then◌else◌, List, [], ◌∷◌}
 use Rattle.std.specs.Prelude.{◌++◌, length, map, Option, Some, None, is_none}
 use Rattle.std.specs.List.{list_any}
 use Rattle.std.specs.Str.{bytes_eq}
+use Rattle.address_space.specs.Limits.{fram_first, fram_end}
+pub use Rattle.address_space.specs.Limits.{IsFramWord}
 use Rattle.image_map.specs.declared.parts.RuntimeWords.{RuntimeWords}
 use Rattle.image_map.specs.declared.parts.Place.{Place}
 use Rattle.image_map.specs.declared.parts.ValueType.{ValueType}
@@ -28,7 +30,7 @@ pub record MapValue : Type 0 where
 
 -- whether a word of the FRAM stands at an address below 10000
 abbrev pub is_fram_word : ℕ → Bool
-is_fram_word a = nat_le 17408 a && (a % 2 == 0)
+is_fram_word a = nat_le fram_first a && (a % 2 == 0)
 
 -- the words of a scalar of this type: a long has two
 abbrev pub scalar_words : ValueType → ℕ
@@ -43,7 +45,7 @@ word_count t (Some n) = n
 
 -- whether so many words from an address on are all there, and there is one at least
 abbrev pub fits : ℕ → ℕ → Bool
-fits a n = nat_lt 0 n && nat_le (a + 2 * n) 65536
+fits a n = nat_lt 0 n && nat_le (a + 2 * n) fram_end
 
 -- whether the numbers of this type have two words
 abbrev pub is_long : ValueType → Bool
@@ -128,12 +130,6 @@ onto_last name (t ∷ u ∷ ts) = t ∷ onto_last name (u ∷ ts)
 -- a map whose last task has one private scalar more
 abbrev pub with_private : MapValue → List ℕ → MapValue
 with_private m name = record m { tasks = onto_last name m.tasks }
-
--- an even address of the FRAM
-pub record IsFramWord (a : ℕ) : Type 0 where
-  pub low : 17408 ≤ a
-  pub high : a < 65536
-  pub even : a % 2 ≡ 0
 
 -- each word of the runtime stands at an even address of the FRAM
 pub record AreFramWords (w : RuntimeWords) : Type 0 where

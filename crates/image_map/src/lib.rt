@@ -9,6 +9,7 @@ mod parse;
 mod parts;
 mod print;
 
+pub use address_space;
 pub use fault::MapFault;
 pub use line::number_behind;
 pub use map::{Map, is_fram_word};

@@ -5,6 +5,7 @@ ghost use Rattle.image_map.specs.MapValue.{is_fram_word, fits, is_kind, is_among
 
 use crate::name::Name;
 use crate::parts::{Place, RuntimeWords, Task, ValueType, Variable};
+use address_space::{FRAM_END, FRAM_FIRST};
 use std::alloc::{AllocError, Global};
 use std::marker::Model;
 
@@ -43,13 +44,13 @@ impl Model for Map {
 pub fn is_fram_word(address: u16) -> bool
     ensures { result ≡ is_fram_word address }
 {
-    address >= 0x4400 && address % 2 == 0
+    address >= FRAM_FIRST && address % 2 == 0
 }
 
 fn fits(address: u16, words: u16) -> bool
     ensures { result ≡ fits address words }
 {
-    words > 0 && address as u32 + 2 * words as u32 <= 65536
+    words > 0 && address as u32 + 2 * words as u32 <= FRAM_END
 }
 
 fn is_kind(value_type: ValueType, length: Option<u16>) -> bool

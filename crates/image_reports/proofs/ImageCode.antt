@@ -6,7 +6,7 @@ use Rattle.link_image.specs.msp_isa.declared.instructions.Instr.{Instr}
 use Rattle.link_image.specs.msp_isa.Encoding.{encoding, IsInstruction}
 use Rattle.link_image.specs.msp_step.declared.machine.Stop.{Stop}
 use Rattle.link_image.specs.msp_step.declared.machine.Stop.TheVariants as stop
-use Rattle.link_image.specs.msp_step.Effect.{sum16}
+use Rattle.link_image.specs.msp_step.Effect.{word_sum}
 use Rattle.link_image.specs.msp_step.Step.{off_bit, FetchedAt}
 use Rattle.link_image.specs.image_text.ImageValue.{place_of}
 use Rattle.link_image.specs.fram_board.Bus.{board_bus, memory_word, ram_place}
@@ -132,7 +132,7 @@ pub words_fetched : (b : BoardValue) (a : ℕ) (ws : List ℕ) → a % 2 ≡ 0 �
     → FetchedAt board_bus (opened b) a ws
 words_fetched b a [] e l h k = tt
 words_fetched b a (w ∷ ws) e l h k =
-    let n : sum16 a 2 ≡ a + 2 = omega (arith, h) in (
+    let n : word_sum a 2 ≡ a + 2 = omega (arith, h) in (
       word_fetched b a w e l (omega (arith, h)) k.0,
       subst (λ q. FetchedAt board_bus (opened b) q ws) (sym n) (words_fetched b (a + 2) ws (omega arith) (omega arith) (omega (arith, h)) k.1),
     )

@@ -1,7 +1,8 @@
 -- What an image is: the words of the FRAM, by their addresses, and what is said of them.
-use Rattle.std.specs.Prelude.{ℕ, ◌<◌, ◌-◌, ◌/◌, Bool, if◌then◌else◌, List, length, Option, Some, None, slice_index, replicate}
+use Rattle.std.specs.Prelude.{ℕ, ◌<◌, if◌then◌else◌, List, length, Option, Some, None, slice_index, replicate}
+pub use Rattle.image_map.specs.address_space.Limits.{place_of}
 use Rattle.image_map.specs.MapValue.{MapValue}
-use Rattle.image_map.specs.MapValue as map_value
+pub use Rattle.image_map.specs.MapValue.{is_fram_word}
 
 -- the words from 4400 to FFFE, and the map, if there is one
 pub record ImageValue : Type 0 where
@@ -16,14 +17,6 @@ HasTask (Some m) = 0 < length m.tasks
 -- so many words, all 0
 unfoldable pub zeros : ℕ → List ℕ
 zeros n = replicate n 0
-
--- whether a word of the FRAM stands at an address below 10000
-abbrev pub is_fram_word : ℕ → Bool
-is_fram_word a = map_value.is_fram_word a
-
--- where the word of an address stands in the list
-abbrev pub place_of : ℕ → ℕ
-place_of a = (a - 17408) / 2
 
 -- the word at an address, if one stands there
 abbrev pub word_at : List ℕ → ℕ → Option ℕ

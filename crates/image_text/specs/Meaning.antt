@@ -3,6 +3,7 @@ use Rattle.std.specs.Prelude.{◌≡◌, ℕ, ◌+◌, ◌-◌, ◌*◌, ◌<◌
 use Rattle.std.specs.Prelude.{Result, slice_get, slice_index, is_some, unwrap_or}
 use Rattle.std.specs.Option.{option_or}
 use Rattle.text_parts.specs.Fields.{fields, no_fields}
+use Rattle.image_map.specs.address_space.Limits.{fram_first, fram_end, fram_words}
 use Rattle.image_map.specs.declared.fault.MapFault.TheVariants as map_fault
 use Rattle.image_text.specs.declared.fault.ImageFault.{ImageFault}
 use Rattle.image_map.specs.MapValue.{MapValue}
@@ -46,8 +47,8 @@ given ms x = byte_at None ms x
 pub record Fits (ms : List LineMeaning) (bs : List ℕ) : Type 0 where
   pub place : ℕ
   pub here : next_address None ms ≡ Some place
-  pub low : 17408 ≤ place
-  pub high : place + length bs ≤ 65536
+  pub low : fram_first ≤ place
+  pub high : place + length bs ≤ fram_end
   pub free : (x : ℕ) → place ≤ x → x < place + length bs → given ms x ≡ None
 
 -- a line behind others that isn't the end, and whose bytes fit
@@ -73,12 +74,12 @@ IsBadLine ms said = (said ≡ None) ⊎ ((bs : List ℕ) × (said ≡ Some (byte
 
 -- bytes of which one is outside the FRAM
 abbrev pub IsOutside : List LineMeaning → Option LineMeaning → Type 0
-IsOutside ms said = (bs : List ℕ) × (a : ℕ) × (said ≡ Some (bytes bs)) × (next_address None ms ≡ Some a) × ((a < 17408) ⊎ (65536 < a + length bs))
+IsOutside ms said = (bs : List ℕ) × (a : ℕ) × (said ≡ Some (bytes bs)) × (next_address None ms ≡ Some a) × ((a < fram_first) ⊎ (fram_end < a + length bs))
 
 -- bytes in the FRAM, at one of which an earlier line gave a byte
 abbrev pub IsTwice : List LineMeaning → Option LineMeaning → Type 0
 IsTwice ms said = (bs : List ℕ) × (a : ℕ) × (x : ℕ) × (said ≡ Some (bytes bs)) × (next_address None ms ≡ Some a)
-    × (17408 ≤ a) × (a + length bs ≤ 65536) × (a ≤ x) × (x < a + length bs) × (is_some (given ms x) ≡ true)
+    × (fram_first ≤ a) × (a + length bs ≤ fram_end) × (a ≤ x) × (x < a + length bs) × (is_some (given ms x) ≡ true)
 
 -- the lines before the n-th go on, and the n-th has a fault behind them
 pub record FaultAt (ls : List (List ℕ)) (n : ℕ) (IsFault : List LineMeaning → Option LineMeaning → Type 0) : Type 0 where
@@ -102,8 +103,9 @@ pub record EndsAt (ls : List (List ℕ)) (ms : List LineMeaning) (rest : List (L
 
 -- the lines end, both bytes of the reset vector are given, and these are the words: low byte first, 0 where no byte is given
 pub record IsImageOf (ms : List LineMeaning) (words : List ℕ) : Type 0 where
-  pub len : length words ≡ 24064
-  pub each : (k : ℕ) → k < 24064 → slice_index words k ≡ unwrap_or (given ms (17408 + 2 * k)) 0 + 256 * unwrap_or (given ms (17408 + 2 * k + 1)) 0
+  pub len : length words ≡ fram_words
+  pub each : (k : ℕ) → k < fram_words
+      → slice_index words k ≡ unwrap_or (given ms (fram_first + 2 * k)) 0 + 256 * unwrap_or (given ms (fram_first + 2 * k + 1)) 0
 
 -- both bytes of the reset vector are given
 abbrev pub HasReset : List LineMeaning → Type 0

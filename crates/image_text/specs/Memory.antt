@@ -1,6 +1,7 @@
 -- The bytes of the FRAM that lines give, each at its place.
 use Rattle.std.specs.Prelude.{ℕ, ◌+◌, ◌-◌, ◌||◌, Bool, true, false, nat_lt, if◌then◌else◌, List, [], ◌∷◌, length, Option, Some, None, Result, Ok, Err}
 use Rattle.std.specs.Prelude.{slice_index_or, slice_set, is_some}
+use Rattle.image_map.specs.address_space.Limits.{fram_first, fram_end}
 use Rattle.image_text.specs.declared.fault.ImageFault.{ImageFault}
 use Rattle.image_text.specs.declared.fault.ImageFault.TheVariants as fault
 use Rattle.image_text.specs.Line.{LineMeaning, nothing, address, bytes, quit}
@@ -23,8 +24,8 @@ put_at n a len None = Err (fault.Twice n)
 -- the bytes of the n-th line at the next address
 abbrev pub place : ℕ → Placed → List ℕ → Option ℕ → Result (Bool × Placed) ImageFault
 place n p bs None = Err (fault.BadLine n)
-place n p bs (Some a) = if nat_lt a 17408 || nat_lt 65536 (a + length bs) then Err (fault.OutsideFram n)
-    else put_at n a (length bs) (put_once (a - 17408) bs p.memory)
+place n p bs (Some a) = if nat_lt a fram_first || nat_lt fram_end (a + length bs) then Err (fault.OutsideFram n)
+    else put_at n a (length bs) (put_once (a - fram_first) bs p.memory)
 
 -- what is placed behind the n-th line, and whether the image goes on
 abbrev pub step : ℕ → Placed → Option LineMeaning → Result (Bool × Placed) ImageFault

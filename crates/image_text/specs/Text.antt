@@ -2,6 +2,7 @@
 use Rattle.std.specs.Prelude.{◌≡◌, ◌<◌, ℕ, ◌+◌, ◌*◌, ◌/◌, ◌%◌, ◌==◌, ◌||◌, Bool, true, false, not, if◌then◌else◌, List, [], ◌∷◌, ◌++◌, length, map, Option}
 use Rattle.std.specs.Prelude.{Some, None}
 use Rattle.alp_words.specs.Words.{word_bytes}
+use Rattle.image_map.specs.address_space.Limits.{fram_first}
 use Rattle.image_map.specs.MapValue.{MapValue}
 use Rattle.image_map.specs.Text.{map_fields}
 use Rattle.text_parts.specs.Groups.{groups}
@@ -44,7 +45,7 @@ upper_hex4 w = upper_hex (w / 256) ++ upper_hex (w % 256)
 
 -- the lines of a section: its address, then 16 bytes a line, which are 8 words
 abbrev pub section_lines : Section → List (List (List ℕ))
-section_lines s = ((64 ∷ upper_hex4 (17408 + 2 * s.place)) ∷ []) ∷ map (map upper_hex) (map bytes_in (groups 8 s.words))
+section_lines s = ((64 ∷ upper_hex4 (fram_first + 2 * s.place)) ∷ []) ∷ map (map upper_hex) (map bytes_in (groups 8 s.words))
 
 -- the lines of sections, then `q`
 unfoldable pub lines_of_sections : List Section → List (List (List ℕ))

@@ -5,6 +5,7 @@ ghost use Rattle.image_text.specs.Reading.{empty};
 
 use crate::fault::ImageFault;
 use crate::line::{add_bytes, address_of};
+use image_map::address_space::{FRAM_END, FRAM_FIRST};
 use std::alloc::{AllocError, Global};
 use text_parts::{is_blank, next_field};
 
@@ -83,10 +84,11 @@ impl ImageBuilder {
             return Err(ImageFault::BadLine { line: n });
         };
         let len = self.line.len() as u64;
-        if address < 0x4400 || address as u64 + len > 0x10000 {
+        let first = FRAM_FIRST as u32;
+        if address < first || address as u64 + len > FRAM_END as u64 {
             return Err(ImageFault::OutsideFram { line: n });
         }
-        let from = (address - 0x4400) as usize;
+        let from = (address - first) as usize;
         if !put_once(&mut self.memory, from, self.line.as_slice()) {
             return Err(ImageFault::Twice { line: n });
         }

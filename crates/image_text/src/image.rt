@@ -1,7 +1,9 @@
 //! The type of images.
 ghost use Rattle.std.specs.Prelude.{◌≡◌, ◌<◌, ◌≤◌, ◌%◌, length, IfOk, Some, None, option_map, slice_set};
+ghost use Rattle.image_map.specs.address_space.Limits.{fram_first, fram_words};
 ghost use Rattle.image_text.specs.ImageValue.{word_at, place_of, zeros, HasTask};
 
+use image_map::address_space::{FRAM_WORDS, fram_index};
 use image_map::{Map, is_fram_word};
 use std::alloc::{AllocError, Global};
 use std::marker::Model;
@@ -15,13 +17,14 @@ pub struct Image {
 
 impl Model for Image {
     ghost use Rattle.std.specs.Prelude.{◌≡◌, length};
+    ghost use Rattle.image_map.specs.address_space.Limits.{fram_words};
     ghost use Rattle.image_text.specs.ImageValue.{ImageValue, HasTask};
 
     ghost Value = { ImageValue };
 
     ghost view = { λ a. record { words = a.words.items; map = a.map } };
 
-    ghost invariant = { λ a. (length a.words.items ≡ 24064) × HasTask a.map };
+    ghost invariant = { λ a. (length a.words.items ≡ fram_words) × HasTask a.map };
 }
 
 // A vector of so many zeros.
@@ -36,7 +39,7 @@ fn zeros(alloc: Global, n: usize) -> Result<Vec<u16>, AllocError>
 impl Image {
     /// The image of 24,064 words, the first at 0x4400, without a map.
     pub fn of(words: Vec<u16>) -> Image
-        requires { length words.items ≡ 24064 }
+        requires { length words.items ≡ fram_words }
         ensures { result ≡ record { words = words.items; map = None } }
     {
         Image { words, map: None }
@@ -44,16 +47,16 @@ impl Image {
 
     /// All words 0, and no map.
     pub fn blank(alloc: Global) -> Result<Image, AllocError>
-        ensures { IfOk result (λ image. image ≡ record { words = zeros 24064; map = None }) }
+        ensures { IfOk result (λ image. image ≡ record { words = zeros fram_words; map = None }) }
     {
-        let words = zeros(alloc, 24064)?;
+        let words = zeros(alloc, FRAM_WORDS)?;
         Ok(Image { words, map: None })
     }
 
     /// All words, the first at 0x4400.
     pub fn words(&self) -> &[u16]
         ensures value { result.now ≡ self.now.words }
-        ensures len { length result.now ≡ 24064 }
+        ensures len { length result.now ≡ fram_words }
     {
         self.words.as_slice()
     }
@@ -63,7 +66,7 @@ impl Image {
         ensures { result ≡ word_at self.now.words address }
     {
         if is_fram_word(address) {
-            Some(self.words[(address as usize - 0x4400) / 2])
+            Some(self.words[fram_index(address)])
         } else {
             None
         }
@@ -71,16 +74,16 @@ impl Image {
 
     /// Puts a word at an even address of the FRAM, and leaves the others.
     pub fn set(&mut self, address: u16, w: u16)
-        requires low { 17408 ≤ address }
+        requires low { fram_first ≤ address }
         requires even { address % 2 ≡ 0 }
         ensures { self.new ≡ record self.old { words = slice_set self.old.words (place_of address) w } }
     {
-        self.words[(address as usize - 0x4400) / 2] = w;
+        self.words[fram_index(address)] = w;
     }
 
     /// Puts all words, the first at 0x4400.
     pub fn set_words(&mut self, words: &[u16])
-        requires { length words.now ≡ 24064 }
+        requires { length words.now ≡ fram_words }
         ensures { self.new ≡ record self.old { words = words.now } }
     {
         self.words.copy_from_slice(words);

@@ -1,5 +1,6 @@
 //! Texts read as images.
 ghost use Rattle.std.specs.Prelude.{◌≡◌, ◌<◌, ◌+◌, ◌*◌, length, IfOk, unwrap_or, Some, None, Ok};
+ghost use Rattle.image_map.specs.address_space.Limits.{fram_words};
 ghost use Rattle.image_map.specs.Reading.{map_lines};
 ghost use Rattle.text_parts.specs.Lines.{lines};
 ghost use Rattle.image_text.specs.Read as read;
@@ -11,6 +12,7 @@ use crate::builder::ImageBuilder;
 use crate::fault::ImageFault;
 use crate::image::Image;
 use alp_words::from_bytes;
+use image_map::address_space::FRAM_WORDS;
 use image_map::{Map, MapText, read_map};
 use std::alloc::{AllocError, Global};
 use text_parts::{cut_line, is_blank_line};
@@ -37,10 +39,10 @@ fn word_from(low: Option<u8>, high: Option<u8>) -> u16
 fn words_of(alloc: Global, memory: &[Option<u8>]) -> Result<Vec<u16>, AllocError>
     requires { length memory.now ≡ 48128 }
     ensures value { IfOk result (λ v. v.items ≡ words_of memory.now) }
-    ensures len { IfOk result (λ v. length v.items ≡ 24064) }
+    ensures len { IfOk result (λ v. length v.items ≡ fram_words) }
 {
     let mut words = Vec::new(alloc);
-    for i in 0..24064usize {
+    for i in 0..FRAM_WORDS {
         words.push(word_from(memory[2 * i], memory[2 * i + 1]))?;
     }
     Ok(words)

@@ -1,5 +1,6 @@
 //! Images written as texts.
 ghost use Rattle.std.specs.Prelude.{◌≡◌, ◌≤◌, ◌<◌, ◌+◌, ◌*◌, ◌^◌, ◌++◌, ◌∷◌, [], All, List, ℕ, None, option_map, Ok, OnOk, IfOk, MatchOption, map, length};
+ghost use Rattle.image_map.specs.address_space.Limits.{fram_words};
 ghost use Rattle.text_parts.specs.Groups.{groups};
 ghost use Rattle.text_parts.specs.Hex.{upper_hex};
 ghost use Rattle.text_parts.specs.Printed.{spaced, printed};
@@ -10,6 +11,7 @@ ghost use Rattle.image_text.specs.Reading.{image_of};
 
 use crate::image::Image;
 use alp_words::to_bytes;
+use image_map::address_space::FRAM_FIRST;
 use image_map::{Map, push_map};
 use std::alloc::{AllocError, Global};
 use text_parts::{cut_group, upper_hex};
@@ -129,16 +131,16 @@ fn push_words(out: &mut Vec<u8>, words: &[u16]) -> Result<(), AllocError>
 }
 
 fn push_section(out: &mut Vec<u8>, place: usize, words: &[u16]) -> Result<(), AllocError>
-    requires { place < 24064 }
+    requires { place < fram_words }
     ensures { OnOk result (out.new.items ≡ out.old.items ++ printed (section_lines (record { place = place; words = words.now }))) }
 {
-    push_address(out, (0x4400 + 2 * place) as u16)?;
+    push_address(out, (FRAM_FIRST as usize + 2 * place) as u16)?;
     push_words(out, words)?;
     Ok(())
 }
 
 fn push_sections(out: &mut Vec<u8>, words: &[u16]) -> Result<(), AllocError>
-    requires { length words.now ≡ 24064 }
+    requires { length words.now ≡ fram_words }
     ensures text { OnOk result (out.new.items ≡ out.old.items ++ text_of words.now) }
     ensures ranges { All (λ w. w < 2 ^ 16) words.now }
 {

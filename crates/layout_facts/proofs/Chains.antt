@@ -2,7 +2,7 @@
 use Rattle.std.proofs.Common.{◌≡◌, ℕ, zero, suc, ◌<◌, ◌≤◌, List, [], ◌∷◌, length, arith, ap, subst, sym, Some, None}
 use Rattle.std.specs.Prelude.{slice_get, All}
 use Rattle.std.proofs.lemmas.List.Elements.{All-head, All-tail}
-use Rattle.compiled_model.specs.cost_bound.Counts.{Code, emits_of}
+use Rattle.compiled_model.specs.cost_bound.Counts.{CheckedBlock, emits_of}
 use Rattle.compiled_model.specs.cost_bound.Allowance.{CheckedProgram, CheckedTask, greatest, list_of}
 use Rattle.compiled_model.proofs.war_analysis.Interface.{element}
 use Rattle.compiled_model.specs.source_values.Runs.{body_of, task_body}
@@ -13,7 +13,7 @@ pub places_are_apart : PlacesAreApart
 places_are_apart p allow plans l h = apart_of l h.layout.rules
 
 -- none is greater than the greatest
-pub at_most_greatest : (f : Code → ℕ) (ts : List CheckedTask) (t : ℕ) (task : CheckedTask) → slice_get ts t ≡ Some task → f task.body ≤ greatest f ts
+pub at_most_greatest : (f : CheckedBlock → ℕ) (ts : List CheckedTask) (t : ℕ) (task : CheckedTask) → slice_get ts t ≡ Some task → f task.body ≤ greatest f ts
 at_most_greatest f [] t task e = let no : None ≡ Some task = e in cc
 at_most_greatest f (x ∷ ts) zero task e =
     let same : x ≡ task = cc in
@@ -21,7 +21,7 @@ at_most_greatest f (x ∷ ts) zero task e =
     omega (arith, body)
 at_most_greatest f (x ∷ ts) (suc t) task e = let rest = at_most_greatest f ts t task e in omega (arith, rest)
 
-greatest_within : (f : Code → ℕ) (most : ℕ) (ts : List CheckedTask) → All (λ t. f t.body ≤ most) ts → greatest f ts ≤ most
+greatest_within : (f : CheckedBlock → ℕ) (most : ℕ) (ts : List CheckedTask) → All (λ t. f t.body ≤ most) ts → greatest f ts ≤ most
 greatest_within f most [] h = omega arith
 greatest_within f most (t ∷ ts) h =
     let here = All-head (λ t. f t.body ≤ most) t ts h in
@@ -29,7 +29,7 @@ greatest_within f most (t ∷ ts) h =
     omega (arith, here, rest)
 
 -- the body of a task that there is
-body_within : (f : Code → ℕ) (p : CheckedProgram) (t : ℕ) → t < length p.tasks → f (task_body p t) ≤ greatest f p.tasks
+body_within : (f : CheckedBlock → ℕ) (p : CheckedProgram) (t : ℕ) → t < length p.tasks → f (task_body p t) ≤ greatest f p.tasks
 body_within f p t lt =
     let task = element p.tasks t lt in
     subst (λ x. f x ≤ greatest f p.tasks) (sym (ap body_of task.1)) (at_most_greatest f p.tasks t task.0 task.1)

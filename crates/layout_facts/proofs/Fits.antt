@@ -20,7 +20,7 @@ use Rattle.compiled_model.specs.war_analysis.Plans.{is_scalar, IsScalarAt, IsArr
 use Rattle.compiled_model.specs.lower.Agreement.{IsKnown, IsTarget, IsTargetOf, IsArray, IsWrittenArray, IsLocal, ExpressionFits, StatementFits}
 use Rattle.compiled_model.specs.lower.Agreement.{ChoiceFits, BlockFits}
 use Rattle.compiled_model.specs.lower.Agreement as fits
-use Rattle.whole_programs.specs.Uses.{IsWordName, IsArrayName, IsLocalName, IsOfType, ExpressionUses, StatementUses, ChoiceUses, BlockUses}
+use Rattle.whole_programs.specs.Uses.{IsWordName, IsArrayName, IsOfType, ExpressionUses, StatementUses, ChoiceUses, BlockUses}
 use Rattle.whole_programs.proofs.Interface.{assignment_writes, store_writes, loop_writes, taken_writes, passed_writes, first_writes, others_write}
 use Rattle.whole_programs.proofs.Interface.{block_assigned}
 use Rattle.layout_facts.specs.Facts.{task_places}
@@ -57,7 +57,7 @@ array_word shared Long (Shared v) h t = by (slice_get shared v) h t
     by (Some d) h t = no_array d.extent h t
 
 -- nor is a local
-local_word : (shared : List SharedDeclaration) (of : WordType) (x : Variable) → IsLocalName x → IsOfType shared of x → IsOneWord of
+local_word : (shared : List SharedDeclaration) (of : WordType) (x : Variable) → IsLocal x → IsOfType shared of x → IsOneWord of
 local_word shared of (Shared v) h t = absurd h
 local_word shared of (Local n) h t = t
 
@@ -77,11 +77,7 @@ module _ (shared : List SharedDeclaration) (p : Places) (written : ℕ → Bool)
   is_array (Shared v) h = have.arrays v h
   is_array (Local n) h = absurd h
 
-  is_local : (x : Variable) → IsLocalName x → IsLocal x
-  is_local (Shared v) h = absurd h
-  is_local (Local n) h = h
-
-  local_target : (x : Variable) → IsLocalName x → IsTarget p written x
+  local_target : (x : Variable) → IsLocal x → IsTarget p written x
   local_target (Shared v) h = absurd h
   local_target (Local n) h = h
 
@@ -127,7 +123,7 @@ module _ (shared : List SharedDeclaration) (p : Places) (written : ℕ → Bool)
         (written_array x.variable h.0 (λ v k. w v (store_writes v x index e k)), expression_fits index h.1, expression_fits e h.2, h.3)
     statement_fits (t.choose choice) h w = choice_fits choice h w
     statement_fits (t.loop x from tested below stepped body) h w =
-        (is_local x.variable h.0, λ some. block_fits body h.1 (λ v k. w v (loop_writes v x from tested below stepped body some k)))
+        (h.0, λ some. block_fits body h.1 (λ v k. w v (loop_writes v x from tested below stepped body some k)))
     statement_fits (t.emit e) h w = expression_fits e h
     statement_fits (t.transition task) h w = tt
 

@@ -6,7 +6,7 @@ use Rattle.std.proofs.lemmas.Bool.{or_cases, or_left, or_right, and_parts, and_f
 use Rattle.compiled_model.proofs.path_sums.Interface.{some_writes, writes_some, private_is, is_private_of}
 use Rattle.compiled_model.specs.path_sums.Access.{writes, SomePath, IsPrivate}
 use Rattle.compiled_model.specs.task_ast.declared.names.Variable.TheVariants.{Shared}
-use Rattle.compiled_model.specs.cost_bound.Counts.{Code}
+use Rattle.compiled_model.specs.cost_bound.Counts.{CheckedBlock}
 use Rattle.compiled_model.specs.source_values.Runs.{task_body}
 use Rattle.compiled_model.specs.lower.Seen.{some_path_writes}
 use Rattle.compiled_model.proofs.memory_map.Interface.{scalar_home}
@@ -127,13 +127,13 @@ scalar_is holds k (Array a n c ∷ places) (suc v) home copy width i e l h =
     scalar_is holds (k + 1) places v home copy width i e l (sym (ap holds same) ∙ h)
 
 -- what stays in place, by paths
-pub in_place_written : (body : Code) (v : ℕ) → stays_in_place body v ≡ true → SomePath body (writes (Shared v))
+pub in_place_written : (body : CheckedBlock) (v : ℕ) → stays_in_place body v ≡ true → SomePath body (writes (Shared v))
 in_place_written body v h = some_writes (Shared v) body (and_parts (some_path_writes body v) (not (is_private_in body v)) h).0
 
-pub in_place_not_private : (body : Code) (v : ℕ) → stays_in_place body v ≡ true → is_private_in body v ≡ false
+pub in_place_not_private : (body : CheckedBlock) (v : ℕ) → stays_in_place body v ≡ true → is_private_in body v ≡ false
 in_place_not_private body v h = not-true (is_private_in body v) (and_parts (some_path_writes body v) (not (is_private_in body v)) h).1
 
-pub stays_by_paths : (body : Code) (v : ℕ) → SomePath body (writes (Shared v)) → (IsPrivate body (Shared v) → ⊥) → stays_in_place body v ≡ true
+pub stays_by_paths : (body : CheckedBlock) (v : ℕ) → SomePath body (writes (Shared v)) → (IsPrivate body (Shared v) → ⊥) → stays_in_place body v ≡ true
 stays_by_paths body v w none =
     and_from (some_path_writes body v) (not (is_private_in body v)) (writes_some (Shared v) body w)
     (⊎_elim (λ e. absurd (none (private_is (Shared v) body e))) (λ e. ap not e) (cases_Bool (is_private_in body v)))

@@ -1,7 +1,7 @@
 -- Lists of different elements: how many there can be.
 use Rattle.std.proofs.Common.{◌≡◌, ℕ, zero, suc, ◌+◌, ◌<◌, ◌≤◌, ◌⊎◌, inl, inr, Bool, true, false, ◌&&◌, ltb, List, [], ◌∷◌, length, arith, ap, subst, sym}
 use Rattle.std.proofs.Common.{Some, refl}
-use Rattle.std.specs.Prelude.{slice_get, All, AllPairs, ◌==◌, if◌then◌else◌}
+use Rattle.std.specs.Prelude.{slice_get, All, AllPairs, ◌==◌}
 use Rattle.std.proofs.lemmas.Bool.{cases_Bool, eqb-true, eq-eqb, ne_eqb, lt-ltb, le-ltb, cases_lt, cases_eq, cases_order, and_right}
 use Rattle.std.proofs.lemmas.List.Elements.{All-head, All-tail}
 use Rattle.compiled_model.specs.task_ast.declared.Extent.{Extent}
@@ -10,11 +10,8 @@ use Rattle.compiled_model.specs.task_ast.declared.SharedDeclaration.{SharedDecla
 use Rattle.compiled_model.specs.cost_bound.Allowance.{shared_sum_from, list_part}
 use Rattle.compiled_model.specs.war_analysis.Plans.{is_scalar}
 use Rattle.compiled_model.specs.memory_map.Spots.{Element}
+use Rattle.compiled_model.specs.lower.alp_words.Words.{bit}
 use Rattle.compiled_model.specs.lower.Spots.{listed_of, AreDifferent}
-
--- 1 where a test holds
-abbrev bit : Bool → ℕ
-bit t = if t then 1 else 0
 
 -- how many of these elements are of an array and have an index below a number
 abbrev below_in : ℕ → ℕ → List Element → ℕ

@@ -5,7 +5,7 @@ use Rattle.std.proofs.lemmas.List.Elements.{All-weaker}
 use Rattle.compiled_model.specs.lower.Seen.{some_path_writes, places_seen, map_seen}
 use Rattle.compiled_model.specs.lower.Spots.{Room, HasRoom}
 use Rattle.compiled_model.proofs.lower.Interface.{SeenFrom, scalar, array, read, seen_from}
-use Rattle.compiled_model.specs.cost_bound.Counts.{Code}
+use Rattle.compiled_model.specs.cost_bound.Counts.{CheckedBlock}
 use Rattle.compiled_model.specs.memory_map.declared.place.ArrayCopies.{ArrayCopies}
 use Rattle.compiled_model.specs.memory_map.declared.place.ScalarWidth.{ScalarWidth}
 use Rattle.compiled_model.specs.memory_map.declared.place.VariablePlace.{VariablePlace}
@@ -14,7 +14,7 @@ use Rattle.compiled_model.specs.memory_map.MemoryMap.{MemoryMap, TaskPlace}
 use Rattle.compiled_model.specs.memory_map.Places.{home_region}
 use Rattle.compiled_model.specs.memory_map.Spots.{places_of, Element, IsCopied, IsWordOf}
 
-module _ (body : Code) (l : MemoryMap) where
+module _ (body : CheckedBlock) (l : MemoryMap) where
   -- a word of a variable is the same word
   pub word_of_seen : (v i a : ℕ) → IsWordOf (map_seen body l) v i a → IsWordOf l v i a
   word_of_seen v i a w = by w.place (seen_from (some_path_writes body) l.variables v w.place w.at) w.below w.address

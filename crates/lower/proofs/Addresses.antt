@@ -8,8 +8,7 @@ use Rattle.array_versions.specs.Behaviour.{Behaviour, strays, is_place, at_place
 use Rattle.memory_map.specs.declared.place.ArrayCopies.{ArrayCopies}
 use Rattle.memory_map.proofs.Interface.{words_scalar}
 use Rattle.memory_map.specs.Spots.{Places, address_of, scalar_address, IsScalarPlace, IsScalarAt, IsScalarWord, IsArrayAt, Element, IsElement, IsCopied, Spot}
-use Rattle.memory_map.specs.Spots.{IsSpot, element_in, copy_in}
-use Rattle.memory_map.specs.Spots.{version_in, element_address, copy_address, version_address, spot_address}
+use Rattle.memory_map.specs.Spots.{IsSpot, element_in, copy_in, version_in, element_address, copy_address, version_address, spot_address}
 use Rattle.lower.specs.Spots.{Room, AreApart, AreEven, AreDifferent}
 
 -- ---- places

@@ -1,6 +1,6 @@
 -- The program of statements does what they do.
-use Rattle.std.proofs.Common.{◌≡◌, ℕ, zero, suc, ◌+◌, ◌-◌, ◌*◌, ◌/◌, ◌%◌, ◌<◌, ◌≤◌, List, [], ◌∷◌, ◌++◌, length, Option, Some, None, Bool, true, false}
-use Rattle.std.proofs.Common.{refl, sym, ap, ◌∙◌, subst, arith, if◌then◌else◌, le_refl, ⊎_elim}
+use Rattle.std.proofs.Common.{◌≡◌, ℕ, zero, suc, ◌+◌, ◌-◌, ◌*◌, ◌/◌, ◌%◌, ◌<◌, ◌≤◌, List, [], ◌∷◌, ◌++◌, length, Option, Some, None, Bool, true, false, refl}
+use Rattle.std.proofs.Common.{sym, ap, ◌∙◌, subst, arith, if◌then◌else◌, le_refl, ⊎_elim}
 use Rattle.std.specs.Prelude.{slice_get, get_or}
 use Rattle.std.proofs.lemmas.Bool.{cases_lt}
 use Rattle.array_versions.specs.fram_board.Effects.{Store}
@@ -13,8 +13,8 @@ use Rattle.task_ast.specs.declared.names.Variable.TheVariants.{Shared, Local}
 use Rattle.cost_bound.specs.Allowance.{CheckedTask}
 use Rattle.source_values.specs.Values.{word_at, with_word, converted, value_of, holds}
 use Rattle.source_values.specs.Statements as source
-use Rattle.source_values.specs.Statements.{Attempt, Outcome, goes_on, to_task, if_value, run_statement, run_choice, run_block}
-use Rattle.source_values.specs.Statements.{statement_emits, choice_emits, block_emits}
+use Rattle.source_values.specs.Statements.{Attempt, Outcome, goes_on, to_task, if_value, run_statement, run_choice, run_block, statement_emits, choice_emits}
+use Rattle.source_values.specs.Statements.{block_emits}
 use Rattle.cost_bound.specs.Counts.{statement_count, choice_count, block_count, is_shared, is_store_to, stores_of}
 use Rattle.source_values.proofs.Interface.{more_turns}
 use Rattle.task_ast.specs.Types.{IsOneWord, type_of, joined_type}
@@ -26,19 +26,16 @@ use Rattle.array_versions.specs.declared.operations.PlainOperation.{PlainOperati
 use Rattle.array_versions.specs.Operations.{plain_word}
 use Rattle.array_versions.specs.Program.{Program, keep, emit_word, versioned_write, versioned_update, choose, repeat, nothing, step, joined}
 use Rattle.array_versions.specs.Behaviour as words
-use Rattle.array_versions.specs.Behaviour.{WordState, Behaviour, behind_effects, then_on}
-use Rattle.array_versions.specs.Behaviour.{local_updated, is_place, at_place, stored, with_local, word_emitted, way_by_top, tested}
-use Rattle.array_versions.specs.Behaviour.{behaviour}
+use Rattle.array_versions.specs.Behaviour.{WordState, Behaviour, behind_effects, then_on, local_updated, is_place, at_place, stored, with_local, word_emitted}
+use Rattle.array_versions.specs.Behaviour.{way_by_top, tested, behaviour}
 use Rattle.array_versions.proofs.Interface.{joined_go_on, joined_assoc, decided_by_truth}
-use Rattle.lower.specs.Lowered.{update_step, write_long, setting, long_setting, updating, of_words, sides_set, scalar_assignment, lowering, lowered_long}
-use Rattle.lower.specs.Lowered.{one, write_step, written_array, list_place, store_step, update_element_step, loop_local, assignment}
-use Rattle.lower.specs.Lowered.{index_and_value, element_setting, element_updating, element_sides_set, element_assignment}
-use Rattle.lower.specs.Lowered.{lowered_transition, lowered_expression, lowered_test}
+use Rattle.lower.specs.Lowered.{update_step, write_long, setting, long_setting, updating, of_words, sides_set, scalar_assignment, lowering, lowered_long, one}
+use Rattle.lower.specs.Lowered.{write_step, written_array, list_place, store_step, update_element_step, loop_local, assignment, index_and_value}
+use Rattle.lower.specs.Lowered.{element_setting, element_updating, element_sides_set, element_assignment, lowered_transition, lowered_expression, lowered_test}
 use Rattle.lower.specs.Lowered.{lowered_statement, lowered_choice, lowered_block, lowered_task, lowered_tasks}
 use Rattle.lower.specs.Spots.{listed_of}
 use Rattle.lower.specs.Agreement.{HoldVariables, IsTarget, IsWrittenArray, IsLocal, ExpressionFits, StatementFits, ChoiceFits, BlockFits, StandsFor}
-use Rattle.lower.specs.Agreement.{at_variable}
-use Rattle.lower.specs.Agreement.{IsLongTarget, IsTargetOf, at_emit_count, in_buffer, valued, long_valued, converted_to, truth_of, AgreesWithValue}
+use Rattle.lower.specs.Agreement.{at_variable, IsLongTarget, IsTargetOf, at_emit_count, in_buffer, valued, long_valued, converted_to, truth_of, AgreesWithValue}
 use Rattle.lower.specs.Agreement.{AgreesWithLong, BlocksAgree}
 use Rattle.lower.proofs.Addresses.{fram_place, placed, spot_place, first_address}
 use Rattle.lower.proofs.Updates.{is_update, update_goes_on, is_element_update, element_update_goes_on, is_of_words, joined_words}
@@ -47,8 +44,8 @@ use Rattle.lower.proofs.Values.{small_modulo, holds_bit, truth_pushed}
 use Rattle.lower.proofs.Longs.{test_agrees}
 use Rattle.lower.proofs.EachExpression.{high_is, lowering_agrees, expressions_agree, longs_agree}
 use Rattle.lower.proofs.Emitted.{EmitsAtMost, statement_emitted, block_emitted}
-use Rattle.lower.proofs.Stored.{same_variables, same_list, same_emits, spot_list, spot_emits, scalar_set, local_holds, after_emit, emit_spots}
-use Rattle.lower.proofs.Stored.{first_held, emit_list, emitted_emits, few_entries}
+use Rattle.lower.proofs.Stored.{same_variables, same_list, same_emits, spot_list, spot_emits, scalar_set, local_holds, after_emit, emit_spots, first_held}
+use Rattle.lower.proofs.Stored.{emit_list, emitted_emits, few_entries}
 use Rattle.lower.proofs.Neighbours.{runs_are_few}
 use Rattle.lower.proofs.Transitions.{transition_behaves}
 use Rattle.lower.proofs.Ends.{Scene, Does, does_then, does_alone, does_at, does_value}

@@ -1,7 +1,7 @@
 -- What tasks spend along the way that they take, against the allowance of a source: the entries of the private scalars are paid for once, at
 -- the transition.
-use Rattle.std.proofs.Common.{◌≡◌, ℕ, zero, suc, ◌+◌, ◌-◌, ◌*◌, ◌%◌, ◌==◌, ◌≤◌, max, Bool, true, false, if◌then◌else◌, List, [], ◌∷◌, length, Some}
-use Rattle.std.proofs.Common.{Option, None, refl, sym, subst, arith}
+use Rattle.std.proofs.Common.{◌≡◌, ℕ, zero, suc, ◌+◌, ◌-◌, ◌*◌, ◌%◌, ◌==◌, ◌≤◌, max, Bool, true, false, if◌then◌else◌, List, [], ◌∷◌, length, Some, Option}
+use Rattle.std.proofs.Common.{None, refl, sym, subst, arith}
 use Rattle.task_ast.specs.Tree as t
 use Rattle.task_ast.specs.Paths.{CheckedExpression, CheckedStatement, CheckedChoice, CheckedBlock}
 use Rattle.task_ast.specs.declared.PlacedOperator.{PlacedOperator}
@@ -20,19 +20,16 @@ use Rattle.array_versions.specs.declared.operations.PlainOperation.{PlainOperati
 use Rattle.array_versions.specs.Operations.{is_true, compare_words}
 use Rattle.array_versions.specs.Program as word
 use Rattle.array_versions.specs.Program.{Step, Test, Program, choose, repeat, emit_word, store_number, move_word, jump, nothing, step, joined}
-use Rattle.array_versions.specs.Behaviour.{WordState, End, GoesOn, Jumps, Short, Strays, Broken, Behaviour, behaves, broken, on_end, then_on}
-use Rattle.array_versions.specs.Behaviour.{is_place}
-use Rattle.array_versions.specs.Behaviour.{goes_on, strays, with_stack, with_top, way_by_top, way_by_two, with_local, turns, step_behaviour, tested}
-use Rattle.array_versions.specs.Behaviour.{behaviour}
-use Rattle.array_versions.specs.Cost.{step_cycles, test_cycles, cycles_of, spent_on, top_spent, spent_by_top, spent_by_two, turns_spent, step_spent}
-use Rattle.array_versions.specs.Cost.{test_spent, spent}
+use Rattle.array_versions.specs.Behaviour.{WordState, End, GoesOn, Jumps, Short, Strays, Broken, Behaviour, behaves, broken, on_end, then_on, is_place, goes_on}
+use Rattle.array_versions.specs.Behaviour.{strays, with_stack, with_top, way_by_top, way_by_two, with_local, turns, step_behaviour, tested, behaviour}
+use Rattle.array_versions.specs.Cost.{step_cycles, test_cycles, cycles_of, spent_on, top_spent, spent_by_top, spent_by_two, turns_spent, step_spent, test_spent}
+use Rattle.array_versions.specs.Cost.{spent}
 use Rattle.array_versions.proofs.Interface.{joined_go_on, joined_cycles, joined_spend, ways_keep_to_cycles}
 use Rattle.memory_map.specs.Spots.{Places}
 use Rattle.lower.specs.Lowered.{write_long, update_step, setting, long_setting, updating, of_words, sides_set, scalar_assignment, lowered_long}
-use Rattle.lower.specs.Lowered.{update_element_step, index_and_value, element_setting, element_updating, element_sides_set}
-use Rattle.lower.specs.Lowered.{one, write_step, store_step, assignment, element_assignment, entries, lowered_transition, loop_local}
-use Rattle.lower.specs.Lowered.{lowered_expression}
-use Rattle.lower.specs.Lowered.{lowered_test, lowered_statement, lowered_choice, lowered_block}
+use Rattle.lower.specs.Lowered.{update_element_step, index_and_value, element_setting, element_updating, element_sides_set, one, write_step, store_step}
+use Rattle.lower.specs.Lowered.{assignment, element_assignment, entries, lowered_transition, loop_local, lowered_expression, lowered_test, lowered_statement}
+use Rattle.lower.specs.Lowered.{lowered_choice, lowered_block}
 use Rattle.lower.specs.Sizes.{entry_cycles, BlocksKeepToCycles}
 use Rattle.lower.proofs.Sizes.{expression_cycles, long_cycles_kept, test_cycles_kept}
 

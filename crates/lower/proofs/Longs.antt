@@ -1,6 +1,6 @@
 -- The programs of longs leave both words of their values, the high one on top.
-use Rattle.std.proofs.Common.{◌≡◌, ℕ, ◌+◌, ◌-◌, ◌*◌, ◌/◌, ◌%◌, ◌==◌, List, Option, Some, None, Bool, true, false, not, nat_lt}
-use Rattle.std.proofs.Common.{refl, sym, ap, ◌∙◌, subst, arith, eq-eqb, ne_eqb, ⊎_elim, bit_or, bit_xor}
+use Rattle.std.proofs.Common.{◌≡◌, ℕ, ◌+◌, ◌-◌, ◌*◌, ◌/◌, ◌%◌, ◌==◌, List, Option, Some, None, Bool, true, false, not, nat_lt, refl, sym, ap, ◌∙◌, subst, arith}
+use Rattle.std.proofs.Common.{eq-eqb, ne_eqb, ⊎_elim, bit_or, bit_xor}
 use Rattle.std.proofs.lemmas.Bool.{cases_eq}
 use Rattle.std.proofs.lemmas.Nat.{le_or_l, le_or_r}
 use Rattle.std.specs.Int.Bits.{xor_self, xor_assoc, xor_zero_r}
@@ -26,15 +26,11 @@ use Rattle.lower.specs.declared.operations.LongQuestion.TheVariants as question
 use Rattle.lower.specs.declared.operations.LongMeaning.{LongMeaning}
 use Rattle.lower.specs.declared.operations.LongMeaning.TheVariants as meaning
 use Rattle.lower.specs.Operations.{long_meaning, long_shift}
-use Rattle.lower.specs.Lowered.{one, Lowering, as_test, as_long, word_program, value_test, widening, long_words}
-use Rattle.lower.specs.Lowered.{long_program}
-use Rattle.lower.specs.Lowered.{long_zero, answer, long_binary_lowering}
+use Rattle.lower.specs.Lowered.{one, Lowering, as_test, as_long, word_program, value_test, widening, long_words, long_program, long_zero, answer}
+use Rattle.lower.specs.Lowered.{long_binary_lowering}
 use Rattle.task_check.specs.Occurrences.{is_refused}
-use Rattle.lower.specs.Agreement.{valued, long_valued, AgreesAt, AgreesWithValue, AgreesWithLong, converted_to}
-use Rattle.lower.specs.Agreement.{truth_of}
-use Rattle.lower.proofs.Values.{agrees_then, pair_value, pair_truth, pair_is_truth, truth_pushed, LoweringAgrees, by_word}
-use Rattle.lower.proofs.Values.{by_test}
-use Rattle.lower.proofs.Values.{not_value, not_agrees}
+use Rattle.lower.specs.Agreement.{valued, long_valued, AgreesAt, AgreesWithValue, AgreesWithLong, converted_to, truth_of}
+use Rattle.lower.proofs.Values.{agrees_then, pair_value, pair_truth, pair_is_truth, truth_pushed, LoweringAgrees, by_word, by_test, not_value, not_agrees}
 
 -- ---- numbers
 

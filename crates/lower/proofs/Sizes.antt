@@ -1,6 +1,6 @@
 -- The words of a task's code, and the cycles of its expressions, are within the allowance of a source.
-use Rattle.std.proofs.Common.{◌≡◌, ℕ, ◌+◌, ◌*◌, ◌<◌, ◌≤◌, ◌==◌, Bool, true, false, List, [], ◌∷◌, length, Option, Some, None, slice_get, refl}
-use Rattle.std.proofs.Common.{sym, ap, arith, nat_le, if◌then◌else◌}
+use Rattle.std.proofs.Common.{◌≡◌, ℕ, ◌+◌, ◌*◌, ◌<◌, ◌≤◌, ◌==◌, Bool, true, false, List, [], ◌∷◌, length, Option, Some, None, slice_get, refl, sym, ap, arith}
+use Rattle.std.proofs.Common.{nat_le, if◌then◌else◌}
 use Rattle.std.proofs.lemmas.Bool.Decides.{nat_tests}
 use Rattle.task_ast.specs.Tree as t
 use Rattle.task_ast.specs.Paths.{CheckedExpression, CheckedStatement, CheckedChoice, CheckedBlock}
@@ -20,8 +20,7 @@ use Rattle.task_ast.specs.declared.names.Variable.{Variable}
 use Rattle.task_ast.specs.declared.names.Variable.TheVariants.{Shared, Local}
 use Rattle.task_ast.proofs.Interface.{width_least}
 use Rattle.source_values.specs.Values.{by_width, joined_type, type_of}
-use Rattle.cost_bound.specs.Table.{cycles_column, words_column, operator_price, expression_price, statement_price, conditions_price, blocks_price}
-use Rattle.cost_bound.specs.Table.{block_price}
+use Rattle.cost_bound.specs.Table.{cycles_column, words_column, operator_price, expression_price, statement_price, conditions_price, blocks_price, block_price}
 use Rattle.array_versions.specs.declared.operations.UnaryOperation.TheVariants.{Negate, Complement}
 use Rattle.array_versions.specs.declared.operations.BinaryOperation.TheVariants.{Plain}
 use Rattle.array_versions.specs.declared.operations.PlainOperation.{PlainOperation}
@@ -48,15 +47,12 @@ use Rattle.lower.specs.declared.operations.LongMeaning.{LongMeaning}
 use Rattle.lower.specs.declared.operations.LongMeaning.TheVariants as meaning
 use Rattle.lower.specs.Operations.{binary_meaning, shift_operation, operand_type, long_meaning, long_shift}
 use Rattle.lower.specs.Sizes.{BlocksKeepToWords}
-use Rattle.lower.specs.Lowered.{one, read_step, write_step, read_long, write_long, element_read, element_step, store_step}
-use Rattle.lower.specs.Lowered.{Lowering, as_word, as_test, as_bits, as_long, word_program, value_test, widening, long_words, long_program, name_lowering}
-use Rattle.lower.specs.Lowered.{unary_lowering, long_zero, long_unary_lowering, operand_lowering, answer, long_binary_lowering, sides_lowering, shift_lowering}
-use Rattle.lower.specs.Lowered.{update_step, setting, long_setting, updating, of_words, sides_set, scalar_assignment, widened_type}
-use Rattle.lower.specs.Lowered.{lowered_long}
-use Rattle.lower.specs.Lowered.{index_and_value, element_setting, update_element_step, element_updating, element_sides_set}
-use Rattle.lower.specs.Lowered.{binary_lowering, sides_test, lowering, assignment, element_assignment, entries, lowered_transition}
-use Rattle.lower.specs.Lowered.{lowered_expression}
-use Rattle.lower.specs.Lowered.{lowered_test, lowered_statement, lowered_choice, lowered_block}
+use Rattle.lower.specs.Lowered.{one, read_step, write_step, read_long, write_long, element_read, element_step, store_step, Lowering, as_word, as_test, as_bits}
+use Rattle.lower.specs.Lowered.{as_long, word_program, value_test, widening, long_words, long_program, name_lowering, unary_lowering, long_zero}
+use Rattle.lower.specs.Lowered.{long_unary_lowering, operand_lowering, answer, long_binary_lowering, sides_lowering, shift_lowering, update_step, setting}
+use Rattle.lower.specs.Lowered.{long_setting, updating, of_words, sides_set, scalar_assignment, widened_type, lowered_long, index_and_value, element_setting}
+use Rattle.lower.specs.Lowered.{update_element_step, element_updating, element_sides_set, binary_lowering, sides_test, lowering, assignment, element_assignment}
+use Rattle.lower.specs.Lowered.{entries, lowered_transition, lowered_expression, lowered_test, lowered_statement, lowered_choice, lowered_block}
 
 -- ---- words
 

@@ -2,8 +2,7 @@
 use Rattle.std.proofs.Common.{◌≡◌, ℕ, ◌+◌, ◌*◌, ◌%◌, ◌==◌, ◌<◌, ◌≤◌, List, [], ◌∷◌, ◌++◌, length, get_or, slice_set, slice_get, Option, Some, None, Contains}
 use Rattle.std.proofs.Common.{All, refl, sym, ap, ◌∙◌, subst, arith, eq-eqb, ne_eqb, ⊎_elim, length-append, if◌then◌else◌}
 use Rattle.std.proofs.lemmas.Bool.{cases_eq}
-use Rattle.std.proofs.lemmas.List.{get_or-set_same, get_or-set_other, length-set, get_or_append_left, get_or_past}
-use Rattle.std.proofs.lemmas.List.{length-map}
+use Rattle.std.proofs.lemmas.List.{get_or-set_same, get_or-set_other, length-set, get_or_append_left, get_or_past, length-map}
 use Rattle.runtime_effects.specs.Places.{CopyPair, entries_from}
 use Rattle.runtime_effects.proofs.Interface.{entries_alike, entries_are_few}
 use Rattle.std.proofs.Math.Seq.{get_or-append_seam}
@@ -22,8 +21,8 @@ use Rattle.memory_map.specs.declared.place.ArrayCopies.{ArrayCopies}
 use Rattle.memory_map.specs.declared.place.VariablePlace.{VariablePlace}
 use Rattle.memory_map.specs.declared.place.VariablePlace.TheVariants.{Scalar, Array}
 use Rattle.memory_map.proofs.Interface.{first_word}
-use Rattle.memory_map.specs.Spots.{Places, address_of, scalar_address, IsScalarAt, words_at, IsScalarWord, IsArrayAt, Element, IsElement, IsCopied}
-use Rattle.memory_map.specs.Spots.{Spot, scalar, element, copy, version, IsSpot, element_address, copy_address, version_address, spot_address}
+use Rattle.memory_map.specs.Spots.{Places, address_of, scalar_address, IsScalarAt, words_at, IsScalarWord, IsArrayAt, Element, IsElement, IsCopied, Spot}
+use Rattle.memory_map.specs.Spots.{scalar, element, copy, version, IsSpot, element_address, copy_address, version_address, spot_address}
 
 -- ---- another word of a shared variable
 

@@ -20,7 +20,8 @@ use Rattle.array_versions.specs.declared.operations.PlainOperation.{PlainOperati
 use Rattle.array_versions.specs.declared.operations.PlainOperation.TheVariants as plain
 use Rattle.array_versions.specs.Operations.{plain_word}
 use Rattle.lower.specs.Operations.{plain_operation}
-use Rattle.lower.specs.Lowered.{is_same, is_name, updating, of_words, is_number, are_alike, element_updating}
+use Rattle.path_sums.specs.Access.{is_same}
+use Rattle.lower.specs.Lowered.{is_name, updating, of_words, is_number, are_alike, element_updating}
 
 -- an operation that is one of words
 pub record IsOfWords (of : WordType) (o : Option PlainOperation) (p : PlainOperation) : Type 0 where
@@ -50,8 +51,8 @@ pub record IsUpdate (x : Variable) (op : BinaryOperator) (a : CheckedExpression)
   pub operation : plain_operation op ≡ Some o
 
 same_variable : (x y : Variable) → is_same x y ≡ true → y ≡ x
-same_variable (Shared v) (Shared w) e = ap Shared (sym (eqb-true v w e))
-same_variable (Local m) (Local n) e = ap Local (sym (eqb-true m n e))
+same_variable (Shared v) (Shared w) e = ap Shared (eqb-true w v e)
+same_variable (Local m) (Local n) e = ap Local (eqb-true n m e)
 same_variable (Shared v) (Local n) e = absurd (cc)
 same_variable (Local m) (Shared w) e = absurd (cc)
 

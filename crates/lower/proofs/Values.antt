@@ -1,6 +1,6 @@
 -- The programs of expressions of words leave their values.
-use Rattle.std.proofs.Common.{◌≡◌, ℕ, ◌+◌, ◌*◌, ◌%◌, ◌==◌, ◌<◌, ◌≤◌, List, [], ◌∷◌, ◌++◌, Option, Some, None, Bool, true, false, not}
-use Rattle.std.proofs.Common.{nat_le, nat_lt, refl, sym, ap, ◌∙◌, subst, arith, le-ltb, lt-ltb, get_or, ⊎_elim, if◌then◌else◌, bit_and}
+use Rattle.std.proofs.Common.{◌≡◌, ℕ, ◌+◌, ◌*◌, ◌%◌, ◌==◌, ◌<◌, ◌≤◌, List, [], ◌∷◌, ◌++◌, Option, Some, None, Bool, true, false, not, nat_le, nat_lt, refl, sym}
+use Rattle.std.proofs.Common.{ap, ◌∙◌, subst, arith, le-ltb, lt-ltb, get_or, ⊎_elim, if◌then◌else◌, bit_and}
 use Rattle.array_versions.specs.alp_words.Words.{bit}
 use Rattle.array_versions.specs.fram_board.Effects.{Effect, Store, Take, Send}
 use Rattle.std.proofs.lemmas.Bool.{cases_lt}
@@ -17,8 +17,7 @@ use Rattle.task_ast.specs.declared.ShortCircuitOperator.{ShortCircuitOperator}
 use Rattle.task_ast.specs.declared.ShortCircuitOperator.TheVariants.{And as BothHold, Or as OneHolds}
 use Rattle.task_ast.specs.declared.names.Variable.{Variable}
 use Rattle.task_ast.specs.declared.names.Variable.TheVariants.{Shared, Local}
-use Rattle.source_values.specs.Values.{◌>>?◌, Variables, word_at, holds, unary_value, binary_value, shift_value, shifted_value}
-use Rattle.source_values.specs.Values.{is_settled, next_reading}
+use Rattle.source_values.specs.Values.{◌>>?◌, Variables, word_at, holds, unary_value, binary_value, shift_value, shifted_value, is_settled, next_reading}
 use Rattle.array_versions.specs.declared.operations.UnaryOperation.{UnaryOperation}
 use Rattle.array_versions.specs.declared.operations.UnaryOperation.TheVariants.{Negate, Complement}
 use Rattle.array_versions.specs.declared.operations.BinaryOperation.{BinaryOperation}
@@ -27,9 +26,8 @@ use Rattle.array_versions.specs.declared.operations.PlainOperation.TheVariants.{
 use Rattle.array_versions.specs.declared.operations.Comparison.TheVariants.{CommonBit}
 use Rattle.array_versions.specs.Operations.{unary_word, binary_word, shift_word, shifted_word, compare_words}
 use Rattle.array_versions.specs.Program.{Test, Program, load, local, unary, binary, compares, fails, nothing, joined}
-use Rattle.array_versions.specs.Behaviour.{WordState, End, GoesOn, Jumps, Short, Strays, Broken, Behaviour, goes_on, behind_effects, on_end, then_on}
-use Rattle.array_versions.specs.Behaviour.{is_place, at_place, pushed, number_pushed, local_pushed, reading_pushed, way_by_top, way_by_two, tested}
-use Rattle.array_versions.specs.Behaviour.{behaviour}
+use Rattle.array_versions.specs.Behaviour.{WordState, End, GoesOn, Jumps, Short, Strays, Broken, Behaviour, goes_on, behind_effects, on_end, then_on, is_place}
+use Rattle.array_versions.specs.Behaviour.{at_place, pushed, number_pushed, local_pushed, reading_pushed, way_by_top, way_by_two, tested, behaviour}
 use Rattle.array_versions.proofs.Interface.{joined_go_on, then_on_assoc, decided_by_truth}
 use Rattle.memory_map.specs.MemoryMap.{word_place}
 use Rattle.memory_map.specs.declared.words.RuntimeWord.TheVariants.{Version}
@@ -37,16 +35,15 @@ use Rattle.memory_map.specs.declared.place.ArrayCopies.{ArrayCopies}
 use Rattle.memory_map.specs.declared.place.VariablePlace.{VariablePlace}
 use Rattle.memory_map.specs.declared.place.VariablePlace.TheVariants.{Array}
 use Rattle.memory_map.proofs.Interface.{word_even, first_word}
-use Rattle.memory_map.specs.Spots.{Places, address_of, scalar_address, IsScalarWord, IsArrayAt, Element, IsElement, IsCopied, scalar, element, copy}
-use Rattle.memory_map.specs.Spots.{version}
+use Rattle.memory_map.specs.Spots.{Places, address_of, scalar_address, IsScalarWord, IsArrayAt, Element, IsElement, IsCopied, scalar, element, copy, version}
 use Rattle.lower.specs.declared.operations.BinaryMeaning.{BinaryMeaning}
 use Rattle.lower.specs.declared.operations.BinaryMeaning.TheVariants.{Calculates, CommonBits, Holds, Fails}
 use Rattle.lower.specs.Operations.{binary_meaning, shift_operation}
 use Rattle.lower.specs.Lowered.{one, read_step, element_read, element_step, Lowering, as_word, as_test, word_program, value_test, unary_lowering}
 use Rattle.lower.specs.Lowered.{binary_lowering, sides_test}
 use Rattle.lower.specs.Spots.{Room, AreApart, AreEven}
-use Rattle.lower.specs.Agreement.{IsKnown, IsArray, own_word, HoldVariables, TakesAndStores, OnlyTakes, valued, EndsAt, AgreesAt, AgreesWithValue}
-use Rattle.lower.specs.Agreement.{truth_value, truth_of}
+use Rattle.lower.specs.Agreement.{IsKnown, IsArray, own_word, HoldVariables, TakesAndStores, OnlyTakes, valued, EndsAt, AgreesAt, AgreesWithValue, truth_value}
+use Rattle.lower.specs.Agreement.{truth_of}
 use Rattle.lower.proofs.Addresses.{fram_place, placed, spot_place, first_address, element_is, copy_is, version_is, has_element}
 
 -- ---- effects

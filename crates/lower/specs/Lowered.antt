@@ -16,6 +16,7 @@ use Rattle.task_ast.specs.declared.names.Variable.{Variable}
 use Rattle.task_ast.specs.declared.names.Variable.TheVariants.{Shared, Local}
 use Rattle.task_ast.specs.declared.names.VariableName.{VariableName}
 use Rattle.task_ast.specs.declared.names.TaskName.{TaskName}
+use Rattle.path_sums.specs.Access.{is_same}
 use Rattle.source_values.specs.Values.{by_width, joined_type, type_of}
 use Rattle.source_values.specs.Runs.{CheckedProgram}
 use Rattle.array_versions.specs.declared.operations.UnaryOperation.TheVariants.{Negate, Complement}
@@ -24,12 +25,9 @@ use Rattle.array_versions.specs.declared.operations.PlainOperation.TheVariants.{
 use Rattle.array_versions.specs.declared.operations.BinaryOperation.TheVariants.{Plain}
 use Rattle.array_versions.specs.declared.operations.Comparison.TheVariants.{CommonBit}
 use Rattle.array_versions.specs.declared.operations.LongOperation.TheVariants as with_longs
-use Rattle.array_versions.specs.Program.{Step, Test, Program, number, load, keep, update, local, set_local, update_local, unary, binary, shift, element}
-use Rattle.array_versions.specs.Program.{long, emit_word}
-use Rattle.array_versions.specs.Program.{list_entry, sense}
-use Rattle.array_versions.specs.Program.{truth, choose, repeat, versioned_read, versioned_write, versioned_update, store_number, move_word, jump, holds}
-use Rattle.array_versions.specs.Program.{compares, both, either}
-use Rattle.array_versions.specs.Program.{fails, nothing, step, joined, behind}
+use Rattle.array_versions.specs.Program.{Step, Test, Program, number, load, keep, update, local, set_local, update_local, unary, binary, shift, element, long}
+use Rattle.array_versions.specs.Program.{emit_word, list_entry, sense, truth, choose, repeat, versioned_read, versioned_write, versioned_update, store_number}
+use Rattle.array_versions.specs.Program.{move_word, jump, holds, compares, both, either, fails, nothing, step, joined, behind}
 use Rattle.array_versions.specs.declared.program.ArrayPlace.{ArrayPlace}
 use Rattle.array_versions.specs.declared.program.ListPlace.{ListPlace}
 use Rattle.memory_map.specs.declared.words.RuntimeWord.TheVariants.{NextTask, Gate, ListLength, EmitCount, Base, SentBase, Version}
@@ -263,12 +261,6 @@ setting p x e = behind (lowered_expression p e) (write_step p x)
 -- sets a long to an expression's value
 abbrev pub long_setting : Places → Variable → CheckedExpression → Program
 long_setting p x e = joined (lowered_long p e) (write_long p x)
-
--- whether two variables are one
-abbrev pub is_same : Variable → Variable → Bool
-is_same (Shared v) (Shared w) = v == w
-is_same (Local m) (Local n) = m == n
-is_same _ _ = false
 
 -- whether an expression is a variable alone
 abbrev pub is_name : Variable → CheckedExpression → Bool

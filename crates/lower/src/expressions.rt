@@ -1,6 +1,6 @@
 //! The programs of expressions, which leave the expression's value on top of the stack, as one word or as a long, and the tests that
 //! expressions are.
-ghost use Rattle.std.specs.Prelude.{◌≡◌, OnOk, IfOk};
+ghost use Rattle.std.specs.Prelude.{◌≡◌, ◌%◌, ◌/◌, OnOk, IfOk};
 ghost use Rattle.array_versions.specs.Program.{joined, behind};
 ghost use Rattle.array_versions.specs.Program as step;
 ghost use Rattle.array_versions.specs.View.{program_of, test_of};
@@ -9,17 +9,16 @@ ghost use Rattle.task_ast.specs.View.{expression_of};
 ghost use Rattle.source_values.specs.Values.{type_of};
 ghost use Rattle.task_ast.specs.declared.names.Variable.TheVariants.{Shared};
 ghost use Rattle.lower.specs.View.{places_in, lowering_of};
-ghost use Rattle.lower.specs.Lowered.{one, read_step, read_long, element_step, word_program, value_test, widening, name_lowering};
-ghost use Rattle.lower.specs.Lowered.{long_words, long_program, unary_lowering, long_unary_lowering, operand_lowering, binary_lowering, answer};
-ghost use Rattle.lower.specs.Lowered.{long_binary_lowering};
-ghost use Rattle.lower.specs.Lowered.{sides_lowering, shift_lowering, sides_test, widened_type, lowering};
-ghost use Rattle.lower.specs.Lowered.{as_word, as_test, as_bits, as_long, lowered_expression, lowered_long, lowered_test};
+ghost use Rattle.lower.specs.Lowered.{one, read_step, read_long, element_step, word_program, value_test, widening, name_lowering, long_words, long_program};
+ghost use Rattle.lower.specs.Lowered.{unary_lowering, long_unary_lowering, operand_lowering, binary_lowering, answer, long_binary_lowering, sides_lowering};
+ghost use Rattle.lower.specs.Lowered.{shift_lowering, sides_test, widened_type, lowering, as_word, as_test, as_bits, as_long, lowered_expression, lowered_long};
+ghost use Rattle.lower.specs.Lowered.{lowered_test};
 
 use crate::operations::{
     BinaryMeaning, LongMeaning, LongQuestion, binary_meaning, long_meaning, long_shift,
     operand_type, shift_operation,
 };
-use crate::places::{TaskPlaces, array_place, high_address, local_number};
+use crate::places::{TaskPlaces, array_place, high_address, low_word};
 use array_versions::{
     BinaryOperation, Comparison, LongOperation, PlainOperation, UnaryOperation, WordProgram,
     WordTest,
@@ -45,6 +44,34 @@ pub enum ExpressionProgram {
     Long(WordProgram),
 }
 
+// A number of one word.
+fn number(alloc: Global, n: u16) -> Result<ExpressionProgram, AllocError>
+    ensures { IfOk result (λ l. lowering_of l ≡ as_word (one (step.number n))) }
+{
+    let mut program = WordProgram::new(alloc);
+    program.number(n)?;
+    Ok(ExpressionProgram::Word(program))
+}
+
+// A number as a long.
+fn long_number(alloc: Global, n: u32) -> Result<ExpressionProgram, AllocError>
+    ensures { IfOk result (λ l. lowering_of l ≡ as_long (step.step (step.number (n % 65536)) (one (step.number (n / 65536))))) }
+{
+    let mut program = WordProgram::new(alloc);
+    program.number(low_word(n))?;
+    program.number((n / 65536) as u16)?;
+    Ok(ExpressionProgram::Long(program))
+}
+
+// The next reading.
+fn reading(alloc: Global) -> Result<ExpressionProgram, AllocError>
+    ensures { IfOk result (λ l. lowering_of l ≡ as_word (one step.sense)) }
+{
+    let mut program = WordProgram::new(alloc);
+    program.sense()?;
+    Ok(ExpressionProgram::Word(program))
+}
+
 fn read(
     variable: Variable,
     places: &TaskPlaces<'_>,
@@ -55,7 +82,7 @@ fn read(
 {
     match variable {
         Variable::Shared(number) => program.load(places.address_of(number)),
-        Variable::Local(number) => program.local(local_number(number)),
+        Variable::Local(number) => program.local(low_word(number)),
     }
 }
 
@@ -76,7 +103,7 @@ fn read_long(
             program.load(high_address(address))?;
         }
         Variable::Local(number) => {
-            program.local(local_number(number))?;
+            program.local(low_word(number))?;
             program.number(0)?;
         }
     }
@@ -512,28 +539,15 @@ fn lower(
     ensures word_type { IfOk result (λ x. x.1 ≡ type_of (expression_of e.now)) }
 {
     match e {
-        Expr::Number(n) => {
-            let mut program = WordProgram::new(alloc);
-            program.number(*n)?;
-            Ok((ExpressionProgram::Word(program), literal_type(*n)))
-        }
-        Expr::LongNumber(n) => {
-            let mut program = WordProgram::new(alloc);
-            program.number((*n % 65536) as u16)?;
-            program.number((*n / 65536) as u16)?;
-            Ok((ExpressionProgram::Long(program), WordType::Long))
-        }
+        Expr::Number(n) => Ok((number(alloc, *n)?, literal_type(*n))),
+        Expr::LongNumber(n) => Ok((long_number(alloc, *n)?, WordType::Long)),
         Expr::Name(x) => Ok((name(alloc, x.word_type, x.variable, places)?, x.word_type)),
         Expr::Element(x, index) => {
             let (mut program, _) = value(alloc, index, places)?;
             read_element(x.variable, places, &mut program)?;
             Ok((ExpressionProgram::Word(program), x.word_type))
         }
-        Expr::Sense => {
-            let mut program = WordProgram::new(alloc);
-            program.sense()?;
-            Ok((ExpressionProgram::Word(program), WordType::Unsigned))
-        }
+        Expr::Sense => Ok((reading(alloc)?, WordType::Unsigned)),
         Expr::Unary(op, operand) => {
             let (operand, word_type) = lower(alloc, operand, places)?;
             let program = of_operand(alloc, word_type, *op, operand)?;

@@ -1,23 +1,12 @@
 //! What an assignment in place does: where the left side of its operator is what is assigned.
 ghost use Rattle.std.specs.Prelude.{◌≡◌};
 ghost use Rattle.task_ast.specs.View.{expression_of};
-ghost use Rattle.lower.specs.Lowered.{is_same, is_name, updating, of_words, is_number, are_alike, is_element, element_updating};
+ghost use Rattle.lower.specs.Lowered.{is_name, updating, of_words, is_number, are_alike, is_element, element_updating};
 
 use crate::operations::plain_operation;
 use array_versions::PlainOperation;
+use path_sums::is_same;
 use task_ast::{BinaryOperator, Expr, Variable, VariableName, WordType};
-
-// Whether two variables are one.
-fn is_same(first: Variable, second: Variable) -> bool
-    ensures { result ≡ is_same first second }
-{
-    match (first, second) {
-        (Variable::Shared(v), Variable::Shared(w)) => v == w,
-        (Variable::Local(m), Variable::Local(n)) => m == n,
-        (Variable::Shared(_), Variable::Local(_)) | (Variable::Local(_), Variable::Shared(_)) =>
-            false,
-    }
-}
 
 // Whether an expression is a variable alone.
 fn is_name(variable: Variable, e: &Expr<VariableName>) -> bool

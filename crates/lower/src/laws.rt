@@ -38,7 +38,7 @@ pub fn expressions_keep_to_cycles()
     ensures { ExpressionsKeepToCycles }
 {}
 
-/// The code of statements takes no more cycles than the allowance has for them, along the way that it takes, and 21 for each
+/// The code of statements takes no more cycles than the allowance has for them, along the way that it takes, and 26 for each
 /// private scalar where it leaves by a transition.
 #[tactic(auto, using(crate::proofs::Costs::blocks_keep_to_cycles))]
 pub fn statements_keep_to_cycles()

@@ -119,8 +119,8 @@ impl<'l> TaskPlaces<'l> {
     }
 }
 
-/// The number of a local in a word program. A task has at most 256 locals.
-pub fn local_number(number: u32) -> u16
+/// The low word of a number. A local's and a task's are no more than that: a task has at most 256 locals, and a program at most 64 tasks.
+pub fn low_word(number: u32) -> u16
     ensures { result ≡ number % 65536 }
 {
     (number % 65536) as u16
@@ -130,5 +130,5 @@ pub fn local_number(number: u32) -> u16
 pub fn high_address(address: u16) -> u16
     ensures { result ≡ high_address address }
 {
-    ((address as u32 + 2) % 65536) as u16
+    address.wrapping_add(2)
 }

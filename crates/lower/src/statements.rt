@@ -9,13 +9,12 @@ ghost use Rattle.task_ast.specs.declared.names.VariableName.{VariableName};
 ghost use Rattle.task_ast.specs.declared.names.TaskName.{TaskName};
 ghost use Rattle.lower.specs.View.{places_in};
 ghost use Rattle.lower.specs.Lowered.{one, write_step, write_long, update_step, update_element_step, loop_local, lowered_test, setting, long_setting};
-ghost use Rattle.lower.specs.Lowered.{assignment, scalar_assignment};
-ghost use Rattle.lower.specs.Lowered.{index_and_value, element_setting, element_assignment, declaration, emission};
+ghost use Rattle.lower.specs.Lowered.{assignment, scalar_assignment, index_and_value, element_setting, element_assignment, declaration, emission};
 ghost use Rattle.lower.specs.Lowered.{lowered_expression, lowered_transition, lowered_statement, lowered_choice, lowered_block};
 
 use crate::expressions::{append, lower_expression, lower_long, lower_test};
 use crate::in_place::{element_updating, of_words, updating};
-use crate::places::{TaskPlaces, high_address, local_number};
+use crate::places::{TaskPlaces, high_address, low_word};
 use crate::runs::list_entries;
 use array_versions::{LongOperation, PlainOperation, WordProgram};
 use memory_map::RuntimeWord;
@@ -33,7 +32,7 @@ fn write(
 {
     match variable {
         Variable::Shared(number) => program.keep(places.address_of(number)),
-        Variable::Local(number) => program.set_local(local_number(number)),
+        Variable::Local(number) => program.set_local(low_word(number)),
     }
 }
 
@@ -55,7 +54,7 @@ fn write_long(
         }
         Variable::Local(number) => {
             program.long(LongOperation::LowWord)?;
-            program.set_local(local_number(number))
+            program.set_local(low_word(number))
         }
     }
 }
@@ -72,7 +71,7 @@ fn update(
 {
     match variable {
         Variable::Shared(number) => program.update(operation, places.address_of(number)),
-        Variable::Local(number) => program.update_local(operation, local_number(number)),
+        Variable::Local(number) => program.update_local(operation, low_word(number)),
     }
 }
 
@@ -301,7 +300,7 @@ fn loop_local(variable: Variable) -> u16
     ensures { result ≡ loop_local variable }
 {
     match variable {
-        Variable::Local(number) => local_number(number),
+        Variable::Local(number) => low_word(number),
         Variable::Shared(_) => 0,
     }
 }
@@ -322,7 +321,7 @@ fn lower_transition(
     let base = layout.word_place(RuntimeWord::Base);
     let sent_base = layout.word_place(RuntimeWord::SentBase);
     let gate = layout.word_place(RuntimeWord::Gate);
-    program.store_number(next_task, local_number(task))?;
+    program.store_number(next_task, low_word(task))?;
     list_entries(places.privates, list_length, layout.list().address, program)?;
     program.move_word(base, sent_base)?;
     program.store_number(gate, 1)?;

@@ -25,7 +25,7 @@ use Rattle.fram_board.specs.msp_step.declared.operand.Location.{Location}
 use Rattle.fram_board.specs.msp_step.declared.operand.Location.TheVariants.{Register, Memory}
 use Rattle.fram_board.specs.msp_step.Registers.{Registers, with_register}
 use Rattle.fram_board.specs.msp_step.Access.{BusModel, Access, Completed, Faulted, then_do, read_answer, write_answer, read_at, write_at}
-use Rattle.fram_board.specs.msp_step.Effect.{Operated, sum16, step_of, status_with, Written, source, load, store, finish, operand_location, incremented}
+use Rattle.fram_board.specs.msp_step.Effect.{Operated, word_sum, step_of, status_with, Written, source, load, store, finish, operand_location, incremented}
 use Rattle.fram_board.specs.msp_step.Effect.{destination_operand, after_source, operated, flags_of, with_flags, reads_destination, writes_destination}
 use Rattle.fram_board.specs.msp_step.Effect.{destination_location, two_operand_effect, is_met, distance, read_modify_write, rotated, shifted, exchanged}
 use Rattle.fram_board.specs.msp_step.Effect.{sign_extended}
@@ -40,7 +40,7 @@ pub record IsClosed {S : Type 0} (bus : BusModel S) (W : ℕ → Type 0) (P : Re
   pub after : (s : S) (a : ℕ) (w : Width) (v : ℕ) → Q s → bus.reads s a w ≡ Ok v → Q (bus.after_read s a w)
   pub write : (s : S) (a : ℕ) (w : Width) (v : ℕ) (t : S) → Q s → W v → bus.writes s a w v ≡ Some t → Q t
   pub narrow : (w : Width) (v : ℕ) → W v → W (operand w v)
-  pub sum : (a b : ℕ) → W (sum16 a b)
+  pub sum : (a b : ℕ) → W (word_sum a b)
   pub constant : (k : Konst) → W (constant_value k)
   pub status : (sr : ℕ) (f : Flags) → W (status_with sr f)
   pub two : (op : TwoOp) (w : Width) (d s : ℕ) (f : Flags) → W d → W s → W (operated op w d s f).value
@@ -112,12 +112,12 @@ module _ {S : Type 0} (bus : BusModel S) (W : ℕ → Type 0) (P : Registers →
   finish_gives true r w l v s p q h = store_gives r w l v s p q h
   finish_gives false r w l v s p q h = (p, q)
 
-  pc_gives : (r : Registers) (a b : ℕ) → P r → P (with_register r 0 (sum16 a b))
-  pc_gives r a b p = closed.with r 0 (sum16 a b) (omega arith) (closed.sum a b) p
+  pc_gives : (r : Registers) (a b : ℕ) → P r → P (with_register r 0 (word_sum a b))
+  pc_gives r a b p = closed.with r 0 (word_sum a b) (omega arith) (closed.sum a b) p
 
   increment_gives : (o : Operand) (r : Registers) (w : Width) → P r → P (incremented r w o)
   increment_gives (mode.Increment b) r w p =
-      closed.with r (index_number b) (sum16 (r (index_number b)) (step_of w (index_number b))) (index_below b)
+      closed.with r (index_number b) (word_sum (r (index_number b)) (step_of w (index_number b))) (index_below b)
       (closed.sum (r (index_number b)) (step_of w (index_number b))) p
   increment_gives (mode.Reg n) r w p = p
   increment_gives (mode.Indexed b x) r w p = p
@@ -153,19 +153,19 @@ module _ {S : Type 0} (bus : BusModel S) (W : ℕ → Type 0) (P : Registers →
   two_gives : (op : TwoOp) (w : Width) (x : Src) (d : Dst) (r : Registers) (s : S) → SourceHas W x → P r → Q s
       → Gives Q Left (two_operand_effect bus op w x d r s)
   two_gives op w x d r s i p q =
-      let first = sum16 (r 0) 2 in
-      let ext = sum16 first (2 * length (source_row x).extension) in
+      let first = word_sum (r 0) 2 in
+      let ext = word_sum first (2 * length (source_row x).extension) in
       then_gives (source bus (with_register r 0 first) w x s) _ Loaded Left (source_gives (with_register r 0 first) w x s i (pc_gives r (r 0) 2 p) q)
-      (λ y t g k. after_gives op w (destination_location (with_register y.1 0 (sum16 ext (2 * length (destination_row d).extension))) ext d) y.0
-      (with_register y.1 0 (sum16 ext (2 * length (destination_row d).extension))) t
+      (λ y t g k. after_gives op w (destination_location (with_register y.1 0 (word_sum ext (2 * length (destination_row d).extension))) ext d) y.0
+      (with_register y.1 0 (word_sum ext (2 * length (destination_row d).extension))) t
       (pc_gives y.1 ext (2 * length (destination_row d).extension) g.1) k g.0)
 
   modified_gives : (f : Width → ℕ → Flags → Operated) → ((w : Width) (v : ℕ) (g : Flags) → W v → W (f w v g).value)
       → (w : Width) (o : Operand) (r : Registers) (s : S) → P r → Q s → Gives Q Left (read_modify_write bus f w o r s)
   modified_gives f keeps w o r s p q =
-      let first = sum16 (r 0) 2 in
+      let first = word_sum (r 0) 2 in
       let moved = with_register r 0 first in
-      let ready = with_register (incremented moved w o) 0 (sum16 first (2 * length (operand_row o).extension)) in
+      let ready = with_register (incremented moved w o) 0 (word_sum first (2 * length (operand_row o).extension)) in
       then_gives (load bus moved w (operand_location moved first o) s) _ W Left (load_gives moved w (operand_location moved first o) s (pc_gives r (r 0) 2 p) q)
       (λ v t g k. store_gives (with_flags ready (f w v (flags_of (ready 2))).flags) w (operand_location moved first o) (f w v (flags_of (ready 2))).value t
       (flags_gives (f w v (flags_of (ready 2))).flags ready (pc_gives (incremented moved w o) first (2 * length (operand_row o).extension)
@@ -176,19 +176,19 @@ module _ {S : Type 0} (bus : BusModel S) (W : ℕ → Type 0) (P : Registers →
 
   push_gives : (w : Width) (x : Src) (r : Registers) (s : S) → SourceHas W x → P r → Q s → Gives Q Left (push_effect bus w x r s)
   push_gives w x r s i p q =
-      let first = sum16 (r 0) 2 in
+      let first = word_sum (r 0) 2 in
       then_gives (source bus (with_register r 0 first) w x s) _ Loaded Left (source_gives (with_register r 0 first) w x s i (pc_gives r (r 0) 2 p) q)
       (λ y t g k.
-      let ready = with_register y.1 0 (sum16 first (2 * length (source_row x).extension)) in
+      let ready = with_register y.1 0 (word_sum first (2 * length (source_row x).extension)) in
       write_gives (below_stack ready) w y.0 (with_register ready 1 (below_stack ready), Some (below_stack ready, y.0)) t Left k g.0
       (lowered_gives ready (pc_gives y.1 first (2 * length (source_row x).extension) g.1)))
 
   call_gives : (x : Src) (r : Registers) (s : S) → SourceHas W x → P r → Q s → Gives Q Left (call_effect bus x r s)
   call_gives x r s i p q =
-      let first = sum16 (r 0) 2 in
+      let first = word_sum (r 0) 2 in
       then_gives (source bus (with_register r 0 first) Word x s) _ Loaded Left (source_gives (with_register r 0 first) Word x s i (pc_gives r (r 0) 2 p) q)
       (λ y t g k.
-      let ready = with_register y.1 0 (sum16 first (2 * length (source_row x).extension)) in
+      let ready = with_register y.1 0 (word_sum first (2 * length (source_row x).extension)) in
       let ok : P ready = pc_gives y.1 first (2 * length (source_row x).extension) g.1 in
       write_gives (below_stack ready) Word (ready 0) (
         with_register (with_register ready 1 (below_stack ready)) 0 y.0,
@@ -199,9 +199,9 @@ module _ {S : Type 0} (bus : BusModel S) (W : ℕ → Type 0) (P : Registers →
 
   reti_gives : (r : Registers) (s : S) → P r → Q s → Gives Q Left (reti_effect bus r s)
   reti_gives r s p q = then_gives (read_at bus (r 1) Word s) _ W Left (read_gives (r 1) Word s q) (λ sr t g k.
-      then_gives (read_at bus (sum16 (r 1) 2) Word t) _ W Left (read_gives (sum16 (r 1) 2) Word t k) (λ pc u h j. (
-        closed.with (with_register (with_register r 1 (sum16 (r 1) 4)) 2 sr) 0 pc (omega arith) h
-            (closed.with (with_register r 1 (sum16 (r 1) 4)) 2 sr (omega arith) g (closed.with r 1 (sum16 (r 1) 4) (omega arith) (closed.sum (r 1) 4) p)),
+      then_gives (read_at bus (word_sum (r 1) 2) Word t) _ W Left (read_gives (word_sum (r 1) 2) Word t k) (λ pc u h j. (
+        closed.with (with_register (with_register r 1 (word_sum (r 1) 4)) 2 sr) 0 pc (omega arith) h
+            (closed.with (with_register r 1 (word_sum (r 1) 4)) 2 sr (omega arith) g (closed.with r 1 (word_sum (r 1) 4) (omega arith) (closed.sum (r 1) 4) p)),
         j,
       )))
 
@@ -213,8 +213,8 @@ module _ {S : Type 0} (bus : BusModel S) (W : ℕ → Type 0) (P : Registers →
   one_gives (one.Push w x) r s i p q = push_gives w x r s i p q
   one_gives (one.Call x) r s i p q = call_gives x r s i p q
 
-  jump_gives : (b : Bool) (r : Registers) (d : ℕ) → P r → P (with_register r 0 (if b then sum16 (sum16 (r 0) 2) d else sum16 (r 0) 2))
-  jump_gives true r d p = pc_gives r (sum16 (r 0) 2) d p
+  jump_gives : (b : Bool) (r : Registers) (d : ℕ) → P r → P (with_register r 0 (if b then word_sum (word_sum (r 0) 2) d else word_sum (r 0) 2))
+  jump_gives true r d p = pc_gives r (word_sum (r 0) 2) d p
   jump_gives false r d p = pc_gives r (r 0) 2 p
 
   pub effect_gives : (i : Instr) (r : Registers) (s : S) → InstructionHas W i → P r → Q s → Gives Q (λ y. P y.0) (effect bus i r s)

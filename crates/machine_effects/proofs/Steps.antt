@@ -20,7 +20,7 @@ use Rattle.fram_board.specs.msp_step.declared.machine.Stop.{Stop}
 use Rattle.fram_board.specs.msp_step.declared.machine.Stop.TheVariants as stop
 use Rattle.fram_board.specs.msp_step.Registers.{Registers, with_register, kept, registers_of}
 use Rattle.fram_board.specs.msp_step.Access.{BusModel, Access, Completed, Faulted}
-use Rattle.fram_board.specs.msp_step.Effect.{Written, sum16}
+use Rattle.fram_board.specs.msp_step.Effect.{Written, word_sum}
 use Rattle.fram_board.specs.msp_step.Step.{FetchedAt, NotFetched, First, Second, Third, IsStopped, IsCurrentInstruction, effect, stop_of, Outcome, outcome_of}
 use Rattle.fram_board.specs.msp_step.Step.{StepResult}
 use Rattle.fram_board.specs.msp_step.Step.{Stopped, Executed}
@@ -48,13 +48,13 @@ use Rattle.machine_effects.proofs.Logs.{takes, LoggedBy, effect_logged, offered_
 module _ {S T : Type 0} (b : BusModel S) (c : BusModel T) (s : S) (t : T) (same : (a : ℕ) → b.fetches s a ≡ c.fetches t a) where
   fetched_alike : (ws : List ℕ) (a : ℕ) → FetchedAt b s a ws → FetchedAt c t a ws
   fetched_alike [] a h = tt
-  fetched_alike (w ∷ ws) a h = (sym (same a) ∙ h.0, fetched_alike ws (sum16 a 2) h.1)
+  fetched_alike (w ∷ ws) a h = (sym (same a) ∙ h.0, fetched_alike ws (word_sum a 2) h.1)
 
   missing_alike : (pc a : ℕ) → NotFetched b s pc a → NotFetched c t pc a
   missing_alike pc a (First none) = First (sym (same pc) ∙ none)
-  missing_alike pc a (Second w was longer none) = Second w (sym (same pc) ∙ was) longer (sym (same (sum16 pc 2)) ∙ none)
+  missing_alike pc a (Second w was longer none) = Second w (sym (same pc) ∙ was) longer (sym (same (word_sum pc 2)) ∙ none)
   missing_alike pc a (Third w v was longer there none) =
-      Third w v (sym (same pc) ∙ was) longer (sym (same (sum16 pc 2)) ∙ there) (sym (same (sum16 (sum16 pc 2) 2)) ∙ none)
+      Third w v (sym (same pc) ∙ was) longer (sym (same (word_sum pc 2)) ∙ there) (sym (same (word_sum (word_sum pc 2) 2)) ∙ none)
 
   stopped_alike : (r : Registers) (e : Stop) → IsStopped b r s e → IsStopped c r t e
   stopped_alike r stop.Off h = h

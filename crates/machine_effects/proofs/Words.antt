@@ -4,6 +4,7 @@ use Rattle.std.proofs.Common.{◌++◌, All, length, drop, slice_index, slice_se
 use Rattle.std.proofs.lemmas.Bool.{cases_lt}
 use Rattle.std.proofs.lemmas.List.{length-replicate}
 use Rattle.std.proofs.lemmas.List.Elements.{All-set, All-replicate}
+use Rattle.fram_board.specs.alp_words.Words.{IsWord}
 use Rattle.fram_board.specs.alp_words.declared.Width.{Width}
 use Rattle.fram_board.specs.alp_words.declared.Width.TheVariants.{Word, Byte}
 use Rattle.fram_board.specs.msp_isa.declared.operands.Src.TheVariants as src
@@ -40,49 +41,49 @@ use Rattle.machine_effects.specs.Laws.{PowerUpKeepsWords, FreshIsWhole}
 use Rattle.machine_effects.proofs.Alike.{SameBus, buses_alike}
 use Rattle.machine_effects.proofs.Along.{IsClosed, InstructionHas, Gives, effect_gives}
 use Rattle.machine_effects.proofs.Steps.{begins}
-use Rattle.machine_effects.proofs.Values.{IsSmall, AreSmall, narrow_small, sum_small, constant_small, status_small, two_small, rotate_small, shift_small}
+use Rattle.machine_effects.proofs.Values.{AreSmall, narrow_small, sum_small, constant_small, status_small, two_small, rotate_small, shift_small}
 use Rattle.machine_effects.proofs.Values.{exchange_small, extend_small, byte_small, bytes_small, kept_small, with_small}
 
 -- what the machine's bus holds are words
 record OfWords (t : MachineBus) : Type 0 where
-  pub fram : (a : ℕ) → IsSmall (t.fram a)
-  pub ram : (a : ℕ) → IsSmall (t.ram a)
+  pub fram : (a : ℕ) → IsWord (t.fram a)
+  pub ram : (a : ℕ) → IsWord (t.ram a)
   pub readings : All (λ w. w < 0x10000) t.readings_left
-  pub outnum : IsSmall t.outnum
+  pub outnum : IsWord t.outnum
 
-either_small : (b : Bool) (x y : ℕ) → IsSmall x → IsSmall y → IsSmall (if b then x else y)
+either_small : (b : Bool) (x y : ℕ) → IsWord x → IsWord y → IsWord (if b then x else y)
 either_small true x y h k = h
 either_small false x y h k = k
 
-put_small : (f : ℕ → ℕ) (a v : ℕ) → IsSmall v → ((x : ℕ) → IsSmall (f x)) → (x : ℕ) → IsSmall (put f a v x)
+put_small : (f : ℕ → ℕ) (a v : ℕ) → IsWord v → ((x : ℕ) → IsWord (f x)) → (x : ℕ) → IsWord (put f a v x)
 put_small f a v h k x = either_small (x == a) v (f x) h (k x)
 
 all_tail : (w : ℕ) (ws : List ℕ) → All (λ x. x < 0x10000) (w ∷ ws) → All (λ x. x < 0x10000) ws
 all_tail w ws h k d low = h (suc k) d (omega arith)
 
-all_head : (w : ℕ) (ws : List ℕ) → All (λ x. x < 0x10000) (w ∷ ws) → IsSmall w
+all_head : (w : ℕ) (ws : List ℕ) → All (λ x. x < 0x10000) (w ∷ ws) → IsWord w
 all_head w ws h = h zero 0 (omega arith)
 
-word_small : (t : MachineBus) (a : ℕ) → OfWords t → IsSmall (machine_word t a)
+word_small : (t : MachineBus) (a : ℕ) → OfWords t → IsWord (machine_word t a)
 word_small t a q = either_small (is_ram a) (t.ram (word_address a)) (t.fram (word_address a)) (q.ram (word_address a)) (q.fram (word_address a))
 
-first_small : (ws : List ℕ) (v : ℕ) → All (λ x. x < 0x10000) ws → first_reading ws ≡ Ok v → IsSmall v
+first_small : (ws : List ℕ) (v : ℕ) → All (λ x. x < 0x10000) ws → first_reading ws ≡ Ok v → IsWord v
 first_small [] v h e = absurd cc
-first_small (w ∷ ws) v h e = let same : w ≡ v = cc in subst IsSmall same (all_head w ws h)
+first_small (w ∷ ws) v h e = let same : w ≡ v = cc in subst IsWord same (all_head w ws h)
 
 -- what a test leads to
-ok_on : (b : Bool) (x v : ℕ) (o : Result ℕ Refused) → IsSmall x → (o ≡ Ok v → IsSmall v) → (if b then Ok x else o) ≡ Ok v → IsSmall v
-ok_on true x v o h k e = let same : x ≡ v = cc in subst IsSmall same h
+ok_on : (b : Bool) (x v : ℕ) (o : Result ℕ Refused) → IsWord x → (o ≡ Ok v → IsWord v) → (if b then Ok x else o) ≡ Ok v → IsWord v
+ok_on true x v o h k e = let same : x ≡ v = cc in subst IsWord same h
 ok_on false x v o h k e = k e
 
-sensed_on : (b : Bool) (v : ℕ) (o : Result ℕ Refused) → (o ≡ Ok v → IsSmall v) → (if b then o else Err refused.Bus) ≡ Ok v → IsSmall v
+sensed_on : (b : Bool) (v : ℕ) (o : Result ℕ Refused) → (o ≡ Ok v → IsWord v) → (if b then o else Err refused.Bus) ≡ Ok v → IsWord v
 sensed_on true v o k e = k e
 sensed_on false v o k e = absurd cc
 
-no_word : (v : ℕ) → ◌≡◌ {A = Result ℕ Refused} (Err refused.Bus) (Ok v) → IsSmall v
+no_word : (v : ℕ) → ◌≡◌ {A = Result ℕ Refused} (Err refused.Bus) (Ok v) → IsWord v
 no_word v e = absurd cc
 
-machine_read_small : (t : MachineBus) (a : ℕ) (w : Width) (v : ℕ) → OfWords t → machine_read t a w ≡ Ok v → IsSmall v
+machine_read_small : (t : MachineBus) (a : ℕ) (w : Width) (v : ℕ) → OfWords t → machine_read t a w ≡ Ok v → IsWord v
 machine_read_small t a Word v q e =
     ok_on (is_word a) (machine_word t a) v _ (word_small t a q) (λ g. sensed_on (a == sensor_port) v (first_reading t.readings_left)
     (λ r. first_small t.readings_left v q.readings r) g) e
@@ -101,7 +102,7 @@ machine_after_words : (t : MachineBus) (a : ℕ) (w : Width) → OfWords t → O
 machine_after_words t a Word q = after_words (a == sensor_port) t q
 machine_after_words t a Byte q = q
 
-stored_words : (b : Bool) (t : MachineBus) (log : List Effect) (a v : ℕ) → IsSmall v → OfWords t
+stored_words : (b : Bool) (t : MachineBus) (log : List Effect) (a v : ℕ) → IsWord v → OfWords t
     → OfWords (if b then record t { ram = put t.ram a v } else record t { fram = put t.fram a v; log = log })
 stored_words true t log a v h q = record { fram = q.fram; ram = put_small t.ram a v h q.ram; readings = q.readings; outnum = q.outnum }
 stored_words false t log a v h q = record { fram = put_small t.fram a v h q.fram; ram = q.ram; readings = q.readings; outnum = q.outnum }
@@ -114,12 +115,12 @@ if_some : (b : Bool) (x y : Option MachineBus) → WordsIf x → WordsIf y → W
 if_some true x y h k = h
 if_some false x y h k = k
 
-port_words : (t : MachineBus) (a v : ℕ) → IsSmall v → OfWords t → WordsIf (machine_port_written t a v)
+port_words : (t : MachineBus) (a v : ℕ) → IsWord v → OfWords t → WordsIf (machine_port_written t a v)
 port_words t a v h q =
     if_some (a == number_port) (Some (record t { outnum = v })) _ (record { fram = q.fram; ram = q.ram; readings = q.readings; outnum = h })
     (if_some (a == data_port) (Some _) None (record { fram = q.fram; ram = q.ram; readings = q.readings; outnum = q.outnum }) tt)
 
-written_words : (t : MachineBus) (a : ℕ) (w : Width) (v : ℕ) → IsSmall v → OfWords t → WordsIf (machine_written t a w v)
+written_words : (t : MachineBus) (a : ℕ) (w : Width) (v : ℕ) → IsWord v → OfWords t → WordsIf (machine_written t a w v)
 written_words t a Word v h q =
     if_some (is_word a) (Some (machine_stored t a v)) (machine_port_written t a v)
     (stored_words (is_ram a) t (t.log ++ Store (word_address a) v ∷ []) (word_address a) v h q) (port_words t a v h q)
@@ -128,10 +129,10 @@ written_words t a Byte v h q =
     if_some (is_memory a) (Some (machine_stored t a x)) None (stored_words (is_ram a) t (t.log ++ Store (word_address a) x ∷ []) (word_address a) x
     (bytes_small (machine_word t a) a v (word_small t a q)) q) tt
 
-machine_write_words : (t : MachineBus) (a : ℕ) (w : Width) (v : ℕ) (u : MachineBus) → OfWords t → IsSmall v → machine_written t a w v ≡ Some u → OfWords u
+machine_write_words : (t : MachineBus) (a : ℕ) (w : Width) (v : ℕ) (u : MachineBus) → OfWords t → IsWord v → machine_written t a w v ≡ Some u → OfWords u
 machine_write_words t a w v u q h e = subst (λ x. WordsIf x) e (written_words t a w v h q)
 
-machine_closed_words : IsClosed machine_bus IsSmall AreSmall OfWords
+machine_closed_words : IsClosed machine_bus IsWord AreSmall OfWords
 machine_closed_words = record {
   register = λ r n p. p n;
   with = λ r n v low w p. with_small r n v low w p;
@@ -151,8 +152,8 @@ machine_closed_words = record {
 }
 
 -- the immediate of an instruction whose words are fetched
-module _ {S : Type 0} (bus : BusModel S) (s : S) (fetches : (a v : ℕ) → bus.fetches s a ≡ Some v → IsSmall v) where
-  immediate_fetched : (i : Instr) (pc : ℕ) → FetchedAt bus s pc (encoding i) → InstructionHas IsSmall i
+module _ {S : Type 0} (bus : BusModel S) (s : S) (fetches : (a v : ℕ) → bus.fetches s a ≡ Some v → IsWord v) where
+  immediate_fetched : (i : Instr) (pc : ℕ) → FetchedAt bus s pc (encoding i) → InstructionHas IsWord i
   immediate_fetched (instr.Two op w (src.Immediate n) d) pc h = fetches _ n h.1.0
   immediate_fetched (instr.Two op w (src.Operand p) d) pc h = tt
   immediate_fetched (instr.Two op w (src.Constant k) d) pc h = tt
@@ -170,7 +171,7 @@ module _ {S : Type 0} (bus : BusModel S) (s : S) (fetches : (a v : ℕ) → bus.
   immediate_fetched instr.Reti pc h = tt
 
 -- the same of an instruction that is encoded in words
-immediate_encoded : (i : Instr) → All (λ w. w < 0x10000) (encoding i) → InstructionHas IsSmall i
+immediate_encoded : (i : Instr) → All (λ w. w < 0x10000) (encoding i) → InstructionHas IsWord i
 immediate_encoded (instr.Two op w (src.Immediate n) d) h = h 1 0 (omega arith)
 immediate_encoded (instr.Two op w (src.Operand p) d) h = tt
 immediate_encoded (instr.Two op w (src.Constant k) d) h = tt
@@ -187,8 +188,8 @@ immediate_encoded (instr.One (one.Sxt p)) h = tt
 immediate_encoded (instr.Jump c o) h = tt
 immediate_encoded instr.Reti h = tt
 
-some_on : (b : Bool) (x v : ℕ) → IsSmall x → ◌≡◌ {A = Option ℕ} (if b then Some x else None) (Some v) → IsSmall v
-some_on true x v h e = let same : x ≡ v = cc in subst IsSmall same h
+some_on : (b : Bool) (x v : ℕ) → IsWord x → ◌≡◌ {A = Option ℕ} (if b then Some x else None) (Some v) → IsWord v
+some_on true x v h e = let same : x ≡ v = cc in subst IsWord same h
 some_on false x v h e = absurd cc
 
 outcome_words : (pc c : ℕ) (m : Access MachineBus (Registers × Option Written)) → Gives OfWords (λ y. AreSmall y.0) m → LeavesWords (machine_outcome pc c m)
@@ -198,10 +199,10 @@ outcome_words pc c (Faulted e a t) h = tt
 opened_words : (s : MachineBoard) → IsMachineOfWords s → OfWords (machine_opened s)
 opened_words s h = record { fram = h.fram; ram = h.ram; readings = h.readings; outnum = h.outnum }
 
-executed_words : (s : MachineBoard) (i : Instr) → IsMachineOfWords s → InstructionHas IsSmall i → LeavesWords (machine_executed s i)
+executed_words : (s : MachineBoard) (i : Instr) → IsMachineOfWords s → InstructionHas IsWord i → LeavesWords (machine_executed s i)
 executed_words s i h k =
     outcome_words (s.registers 0) (cycles_of i) (effect machine_bus i s.registers (machine_opened s))
-    (effect_gives machine_bus IsSmall AreSmall OfWords machine_closed_words i s.registers (machine_opened s) k h.registers (opened_words s h))
+    (effect_gives machine_bus IsWord AreSmall OfWords machine_closed_words i s.registers (machine_opened s) k h.registers (opened_words s h))
 
 pub machine_words_stay_words : MachineWordsStayWords
 machine_words_stay_words s o h (NoInstruction e k) = tt
@@ -227,31 +228,31 @@ record ListsOfWords (s : BusState) : Type 0 where
   pub fram : All (λ w. w < 0x10000) s.fram
   pub ram : All (λ w. w < 0x10000) s.ram
   pub readings : All (λ w. w < 0x10000) s.readings
-  pub outnum : IsSmall s.outnum
+  pub outnum : IsWord s.outnum
 
 past_end : (ws : List ℕ) (k : ℕ) → length ws ≤ k → slice_index ws k ≡ 0
 past_end [] k h = refl
 past_end (w ∷ ws) zero h = absurd (omega arith)
 past_end (w ∷ ws) (suc k) h = past_end ws k (omega arith)
 
-index_by : (ws : List ℕ) (k : ℕ) → All (λ w. w < 0x10000) ws → (k < length ws) ⊎ (length ws ≤ k) → IsSmall (slice_index ws k)
+index_by : (ws : List ℕ) (k : ℕ) → All (λ w. w < 0x10000) ws → (k < length ws) ⊎ (length ws ≤ k) → IsWord (slice_index ws k)
 index_by ws k h (inl low) = h k 0 low
-index_by ws k h (inr high) = let e = past_end ws k high in subst IsSmall (sym e) (omega arith)
+index_by ws k h (inr high) = let e = past_end ws k high in subst IsWord (sym e) (omega arith)
 
 -- one of words is a word
-pub index_small : (ws : List ℕ) (k : ℕ) → All (λ w. w < 0x10000) ws → IsSmall (slice_index ws k)
+pub index_small : (ws : List ℕ) (k : ℕ) → All (λ w. w < 0x10000) ws → IsWord (slice_index ws k)
 index_small ws k h = index_by ws k h (cases_lt k (length ws))
 
-list_word_small : (s : BusState) (a : ℕ) → ListsOfWords s → IsSmall (memory_word s a)
+list_word_small : (s : BusState) (a : ℕ) → ListsOfWords s → IsWord (memory_word s a)
 list_word_small s a q =
     either_small (is_ram a) (slice_index s.ram (ram_place a)) (slice_index s.fram (place_of a)) (index_small s.ram (ram_place a) q.ram)
     (index_small s.fram (place_of a) q.fram)
 
-next_on : (b : Bool) (x v : ℕ) → IsSmall x → ◌≡◌ {A = Result ℕ Refused} (if b then Ok x else Err refused.NoReading) (Ok v) → IsSmall v
-next_on true x v h e = let same : x ≡ v = cc in subst IsSmall same h
+next_on : (b : Bool) (x v : ℕ) → IsWord x → ◌≡◌ {A = Result ℕ Refused} (if b then Ok x else Err refused.NoReading) (Ok v) → IsWord v
+next_on true x v h e = let same : x ≡ v = cc in subst IsWord same h
 next_on false x v h e = absurd cc
 
-read_small : (s : BusState) (a : ℕ) (w : Width) (v : ℕ) → ListsOfWords s → read_of s a w ≡ Ok v → IsSmall v
+read_small : (s : BusState) (a : ℕ) (w : Width) (v : ℕ) → ListsOfWords s → read_of s a w ≡ Ok v → IsWord v
 read_small s a Word v q e =
     ok_on (is_word a) (memory_word s a) v _ (list_word_small s a q) (λ g. sensed_on (a == sensor_port) v (next_reading s)
     (λ r. next_on (nat_lt s.taken (length s.readings)) (slice_index s.readings s.taken) v (index_small s.readings s.taken q.readings) r) g) e
@@ -269,18 +270,18 @@ if_lists : (b : Bool) (x y : Option BusState) → ListsIf x → ListsIf y → Li
 if_lists true x y h k = h
 if_lists false x y h k = k
 
-word_lists : (b : Bool) (s : BusState) (i j v : ℕ) → IsSmall v → ListsOfWords s
+word_lists : (b : Bool) (s : BusState) (i j v : ℕ) → IsWord v → ListsOfWords s
     → ListsOfWords (if b then record s { ram = slice_set s.ram i v } else record s { fram = slice_set s.fram j v })
 word_lists true s i j v h q = record { fram = q.fram; ram = All-set (λ w. w < 0x10000) s.ram i v h q.ram; readings = q.readings; outnum = q.outnum }
 word_lists false s i j v h q = record { fram = All-set (λ w. w < 0x10000) s.fram j v h q.fram; ram = q.ram; readings = q.readings; outnum = q.outnum }
 
-port_lists : (s : BusState) (a v : ℕ) → IsSmall v → ListsOfWords s → ListsIf (port_written s a v)
+port_lists : (s : BusState) (a v : ℕ) → IsWord v → ListsOfWords s → ListsIf (port_written s a v)
 port_lists s a v h q =
     if_lists (a == number_port) (Some (record s { outnum = v })) _ (record { fram = q.fram; ram = q.ram; readings = q.readings; outnum = h })
     (if_lists (a == data_port) (Some (record s { offered = Some v })) None (record
     { fram = q.fram; ram = q.ram; readings = q.readings; outnum = q.outnum }) tt)
 
-written_lists : (s : BusState) (a : ℕ) (w : Width) (v : ℕ) → IsSmall v → ListsOfWords s → ListsIf (written s a w v)
+written_lists : (s : BusState) (a : ℕ) (w : Width) (v : ℕ) → IsWord v → ListsOfWords s → ListsIf (written s a w v)
 written_lists s a Word v h q =
     if_lists (is_word a) (Some (with_word s a v)) (port_written s a v) (word_lists (is_ram a) s (ram_place a) (place_of a) v h q) (port_lists s a v h q)
 written_lists s a Byte v h q =
@@ -288,10 +289,10 @@ written_lists s a Byte v h q =
     if_lists (is_memory a) (Some (with_word s a x)) None (word_lists (is_ram a) s (ram_place a) (place_of a) x
     (bytes_small (memory_word s a) a v (list_word_small s a q)) q) tt
 
-write_lists : (s : BusState) (a : ℕ) (w : Width) (v : ℕ) (t : BusState) → ListsOfWords s → IsSmall v → written s a w v ≡ Some t → ListsOfWords t
+write_lists : (s : BusState) (a : ℕ) (w : Width) (v : ℕ) (t : BusState) → ListsOfWords s → IsWord v → written s a w v ≡ Some t → ListsOfWords t
 write_lists s a w v t q h e = subst (λ x. ListsIf x) e (written_lists s a w v h q)
 
-board_closed_words : IsClosed board_bus IsSmall AreSmall ListsOfWords
+board_closed_words : IsClosed board_bus IsWord AreSmall ListsOfWords
 board_closed_words = record {
   register = λ r n p. p n;
   with = λ r n v low w p. with_small r n v low w p;
@@ -313,14 +314,14 @@ board_closed_words = record {
 all_nil : All (λ w. w < 0x10000) []
 all_nil k d low = absurd (omega arith)
 
-all_cons : (w : ℕ) (ws : List ℕ) → IsSmall w → All (λ x. x < 0x10000) ws → All (λ x. x < 0x10000) (w ∷ ws)
+all_cons : (w : ℕ) (ws : List ℕ) → IsWord w → All (λ x. x < 0x10000) ws → All (λ x. x < 0x10000) (w ∷ ws)
 all_cons w ws h k zero d low = h
 all_cons w ws h k (suc n) d low = k n d (omega arith)
 
 -- the same as pairs
 abbrev AllIn : List ℕ → Type 0
 AllIn [] = Unit {0}
-AllIn (w ∷ ws) = IsSmall w × AllIn ws
+AllIn (w ∷ ws) = IsWord w × AllIn ws
 
 from_pairs : (ws : List ℕ) → AllIn ws → All (λ x. x < 0x10000) ws
 from_pairs [] h = all_nil
@@ -352,7 +353,7 @@ outcome_lists b o h (Executed i k) =
     let q = opened_lists b h in
     let has = immediate_fetched board_bus (opened b) (λ a v e. some_on (is_word a) (memory_word (opened b) a) v (list_word_small (opened b) a q) e) i
     (registers_of b.cpu 0) k.fetched in
-    access_lists b i (effect board_bus i (registers_of b.cpu) (opened b)) h (effect_gives board_bus IsSmall AreSmall ListsOfWords board_closed_words i
+    access_lists b i (effect board_bus i (registers_of b.cpu) (opened b)) h (effect_gives board_bus IsWord AreSmall ListsOfWords board_closed_words i
     (registers_of b.cpu) (opened b) has (registers_small b h) q)
 
 -- FRAM and readings stay words
@@ -425,7 +426,7 @@ power_up_keeps_words b p h w q =
     )
 
 -- a fresh board
-zero_small : IsSmall 0
+zero_small : IsWord 0
 zero_small = omega arith
 
 blank : (n : ℕ) → All (λ w. w < 0x10000) (filled_words n 0)
@@ -436,7 +437,7 @@ blank_length : (n : ℕ) → length (filled_words n 0) ≡ n
 unfolding filled_words
 blank_length n = length-replicate n 0
 
-fresh_registers : (v : ℕ) → IsSmall v → All (λ w. w < 0x10000) (powered_up v 0)
+fresh_registers : (v : ℕ) → IsWord v → All (λ w. w < 0x10000) (powered_up v 0)
 fresh_registers v h = from_pairs (powered_up v 0) (
   kept_small 0 v h,
   (

@@ -1,5 +1,6 @@
 -- Laws of the machine, and that it is the board.
 use Rattle.std.specs.Prelude.{ℕ, ◌≡◌, ◌<◌, ◌≤◌, List, All, ◌++◌, length, Some}
+use Rattle.fram_board.specs.address_space.Limits.{fram_words}
 use Rattle.fram_board.specs.msp_isa.declared.instructions.Instr.{Instr}
 use Rattle.fram_board.specs.msp_isa.Encoding.{encoding}
 use Rattle.fram_board.specs.msp_step.Registers.{registers_of, powered_up}
@@ -92,7 +93,7 @@ FreshMachine = (fram readings : List ℕ) → machine_of (fresh fram readings) �
 
 -- it is whole where FRAM is as large as the memory map says, and holds words where FRAM and the readings do
 abbrev pub FreshIsWhole : Type 0
-FreshIsWhole = (fram readings : List ℕ) → length fram ≡ 24064 → length readings ≤ 262144
+FreshIsWhole = (fram readings : List ℕ) → length fram ≡ fram_words → length readings ≤ 262144
     → All (λ w. w < 0x10000) fram → All (λ w. w < 0x10000) readings → IsWhole (fresh fram readings) × IsOfWords (fresh fram readings)
 
 -- a charge of the board is the machine's

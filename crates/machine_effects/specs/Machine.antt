@@ -3,6 +3,8 @@
 -- cycles are those of every bus (SLAU049 and SLAU144, CPU chapter).
 use Rattle.std.specs.Prelude.{ℕ, zero, suc, ◌-◌, ◌%◌, ◌≡◌, ◌<◌, ◌≤◌, ◌==◌, ◌&&◌, if◌then◌else◌, slice_index, List, [], ◌∷◌, ◌++◌, Result, Ok, Err, Option}
 use Rattle.std.specs.Prelude.{Some, None}
+use Rattle.fram_board.specs.address_space.Limits.{ram_first, ram_end, reset_vector}
+pub use Rattle.fram_board.specs.address_space.Limits.{IsFramWord as IsFram}
 use Rattle.fram_board.specs.alp_words.declared.Width.{Width}
 use Rattle.fram_board.specs.alp_words.declared.Width.TheVariants.{Word, Byte}
 use Rattle.fram_board.specs.msp_isa.declared.instructions.Instr.{Instr}
@@ -161,17 +163,11 @@ Code = ℕ → Option Instr
 abbrev pub exec : Code → MachineBoard → MachineOutcome
 exec code s = step_with (code (s.registers 0)) s
 
--- an even address in FRAM
-pub record IsFram (a : ℕ) : Type 0 where
-  pub even : a % 2 ≡ 0
-  pub low : 0x4400 ≤ a
-  pub high : a < 0x10000
-
 -- an even address in RAM
 pub record IsRam (a : ℕ) : Type 0 where
   pub even : a % 2 ≡ 0
-  pub low : 0x1C00 ≤ a
-  pub high : a < 0x2400
+  pub low : ram_first ≤ a
+  pub high : a < ram_end
 
 -- FRAM by addresses, from the list of its words
 abbrev pub fram_of : List ℕ → ℕ → ℕ
@@ -184,7 +180,7 @@ ram_of words a = if (a % 2 == 0) && is_ram a then slice_index words (ram_place a
 -- a power-up: PC is the reset vector and SR is 0; FRAM and the readings are as before
 abbrev pub machine_powered : MachineBoard → PowerState → MachineBoard
 machine_powered s p = record s {
-  registers = registers_of (kept 0 (s.fram 0xFFFE) ∷ kept 1 p.sp ∷ 0 ∷ 0 ∷ p.work);
+  registers = registers_of (kept 0 (s.fram reset_vector) ∷ kept 1 p.sp ∷ 0 ∷ 0 ∷ p.work);
   ram = ram_of p.ram;
   outnum = p.outnum;
 }

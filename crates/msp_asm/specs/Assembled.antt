@@ -1,6 +1,7 @@
 -- The image of a text, or its first fault: a line that is none, or else the first fault of the least line.
 use Rattle.std.specs.Prelude.{◌≡◌, ℕ, ◌+◌, List, [], ◌∷◌, map, Option, Some, None, Result, Ok, Err, unwrap_or}
 pub use Rattle.alp_text.specs.Sequence.{◌>>=◌}
+use Rattle.image_text.specs.address_space.Limits.{fram_first, fram_words}
 use Rattle.image_text.specs.Reading.{empty}
 use Rattle.asm_line.specs.Pieces.{Located, lines_left}
 use Rattle.asm_line.specs.Lines.{line_of}
@@ -40,7 +41,8 @@ all_words m = map (λ w. unwrap_or w 0) m
 
 -- the words of the image that a text assembles to, or its first fault; the first address is 4400
 unfoldable pub assembled : List ℕ → Result (List ℕ) AsmFault
-assembled text = labels_of no_labels 1 0x4400 (lines_in text) >>= λ f. placed f 1 0x4400 (empty 24064) (lines_in text) >>= λ m. Ok (all_words m)
+assembled text = labels_of no_labels 1 fram_first (lines_in text)
+    >>= λ f. placed f 1 fram_first (empty fram_words) (lines_in text) >>= λ m. Ok (all_words m)
 
 -- the fault of a call is that of the text, unless memory was refused
 abbrev pub Fails : {A : Type 0} → AsmFault → Result A AsmFault → Type 0

@@ -2,6 +2,7 @@
 use Rattle.std.specs.Prelude.{◌≡◌, ℕ, zero, suc, ◌+◌, ◌-◌, ◌*◌, ◌⊎◌, List, [], ◌∷◌, ◌++◌, length, codes, slice_index, Some}
 use Rattle.msp_isa.specs.declared.instructions.Instr.{Instr}
 use Rattle.msp_isa.specs.Encoding.{encoding, IsInstruction, IsPrefix}
+use Rattle.image_text.specs.address_space.Limits.{fram_first}
 use Rattle.image_text.specs.Text.{Section, sections}
 use Rattle.msp_asm.specs.Written.{number_text, instr_text}
 use Rattle.msp_asm.specs.Alone.{line_alone}
@@ -38,7 +39,7 @@ AreLinesOf a zero (w ∷ ws) text = (line : List ℕ) × (n : ℕ) × (rest : Li
 
 -- a section's `.org` and its lines
 abbrev pub IsSectionOf : ℕ → List ℕ → List ℕ → Type 0
-IsSectionOf place ws text = (lines : List ℕ) × AreLinesOf (0x4400 + 2 * place) 0 ws lines × (text ≡ org_line (0x4400 + 2 * place) ++ lines)
+IsSectionOf place ws text = (lines : List ℕ) × AreLinesOf (fram_first + 2 * place) 0 ws lines × (text ≡ org_line (fram_first + 2 * place) ++ lines)
 
 -- the text of sections
 abbrev pub AreSectionsOf : List Section → List ℕ → Type 0

@@ -1,6 +1,7 @@
 -- The words of lines, each put at its place in the FRAM.
-use Rattle.std.specs.Prelude.{ℕ, ◌+◌, ◌-◌, ◌*◌, ◌/◌, ◌%◌, ◌==◌, ◌&&◌, ◌||◌, Bool, false, nat_lt, if◌then◌else◌, List, length, Option, Some, None, Result, Ok}
+use Rattle.std.specs.Prelude.{ℕ, ◌+◌, ◌*◌, ◌%◌, ◌==◌, ◌&&◌, ◌||◌, Bool, false, nat_lt, if◌then◌else◌, List, length, Option, Some, None, Result, Ok}
 use Rattle.std.specs.Prelude.{Err}
+use Rattle.image_text.specs.address_space.Limits.{fram_first, fram_end, place_of}
 use Rattle.image_text.specs.Memory.{put_once}
 use Rattle.asm_line.specs.Values.{ValueMeaning, number, out_of_range, label, here}
 use Rattle.asm_line.specs.Lines.{StatementMeaning, nothing, org, words, jump, instruction, LineMeaning}
@@ -11,7 +12,7 @@ use Rattle.msp_asm.specs.Program.{line_fault, line_words}
 
 -- an `.org` to an odd address or one below the FRAM, which ends at FFFF
 abbrev pub is_bad_address : ValueMeaning → Bool
-is_bad_address (number n) = nat_lt n 0x4400 || (n % 2 == 1)
+is_bad_address (number n) = nat_lt n fram_first || (n % 2 == 1)
 is_bad_address (out_of_range n) = false
 is_bad_address (label p) = false
 is_bad_address here = false
@@ -31,8 +32,8 @@ put_or n None = Err (fault.Overlap n)
 
 -- words from an address on, where all of them are in the FRAM
 abbrev pub place : ℕ → ℕ → List ℕ → List (Option ℕ) → Result (List (Option ℕ)) AsmFault
-place n a ws m = if nat_lt 0 (length ws) && (nat_lt a 0x4400 || nat_lt 65536 (a + 2 * length ws)) then Err (fault.Outside n)
-    else put_or n (put_once ((a - 0x4400) / 2) ws m)
+place n a ws m = if nat_lt 0 (length ws) && (nat_lt a fram_first || nat_lt fram_end (a + 2 * length ws)) then Err (fault.Outside n)
+    else put_or n (put_once (place_of a) ws m)
 
 -- a fault, or else the rest
 abbrev pub unless : {A : Type 0} → Option AsmFault → Result A AsmFault → Result A AsmFault

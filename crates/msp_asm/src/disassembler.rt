@@ -2,6 +2,7 @@
 ghost use Rattle.std.specs.Prelude.{◌≡◌, ◌≢◌, ◌<◌, ◌≤◌, ◌+◌, ◌*◌, ◌^◌, ◌++◌, [], List, ℕ, All, zero, length, true, false, Some, Ok, IfSome, IfNone, OnOk};
 ghost use Rattle.std.specs.Prelude.{OnErr, slice_index, slice_index_or};
 ghost use Rattle.msp_isa.specs.declared.instructions.Instr.{Instr};
+ghost use Rattle.image_text.specs.address_space.Limits.{fram_end, fram_words};
 ghost use Rattle.msp_isa.specs.Encoding.{encoding, IsInstruction, IsPrefix};
 ghost use Rattle.msp_asm.specs.Written.{instr_text};
 ghost use Rattle.msp_asm.specs.Alone.{line_alone};
@@ -12,6 +13,7 @@ use crate::alone::line_alone;
 use crate::written::{Text, push_instr, push_number, push_text};
 use alp_io::{Failed, Sink, write_all};
 use arrayvec::ArrayVec;
+use image_text::address_space::FRAM_FIRST;
 use image_text::{Image, cut_section};
 use msp_decode::decode;
 use msp_encode::encode;
@@ -95,7 +97,7 @@ fn next_line(address: u16, words: &[u16]) -> (Text, usize)
 
 // Writes the lines of a section's words, of which the first stands at an address.
 fn write_lines<S: Sink>(sink: &mut S, address: usize, words: &[u16]) -> Result<(), Failed>
-    requires { address + 2 * length words.now ≤ 65536 }
+    requires { address + 2 * length words.now ≤ fram_end }
     ensures whole { OnOk result (IsWritten (AreLinesOf address 0 words.now) (S.contents sink.old) (S.contents sink.new)) }
     ensures part { OnErr result (IsCut (AreLinesOf address 0 words.now) (S.contents sink.old) (S.contents sink.new)) }
     ensures cause { HasCause (S.faults sink.old) (S.faults sink.new) result }
@@ -127,13 +129,13 @@ fn org_text(address: u16) -> Text
 
 // Writes a section: the words from a place of the FRAM on, counted in words.
 fn write_section<S: Sink>(sink: &mut S, place: usize, words: &[u16]) -> Result<(), Failed>
-    requires fits { place + length words.now ≤ 24064 }
+    requires fits { place + length words.now ≤ fram_words }
     requires some { 0 < length words.now }
     ensures whole { OnOk result (IsWritten (IsSectionOf place words.now) (S.contents sink.old) (S.contents sink.new)) }
     ensures part { OnErr result (IsCut (IsSectionOf place words.now) (S.contents sink.old) (S.contents sink.new)) }
     ensures cause { HasCause (S.faults sink.old) (S.faults sink.new) result }
 {
-    let address = 0x4400 + 2 * place;
+    let address = FRAM_FIRST as usize + 2 * place;
     write_all(sink, org_text(address as u16).as_slice())?;
     write_lines(sink, address, words)
 }

@@ -1,5 +1,6 @@
 //! Laws of the definitions, as contracts of functions that do nothing.
 ghost use Rattle.std.specs.Prelude.{◌≡◌, ℕ, List, map, Some, Ok};
+ghost use Rattle.image_text.specs.address_space.Limits.{fram_first};
 ghost use Rattle.asm_line.specs.Lines.{LineMeaning, line_of};
 ghost use Rattle.asm_line.specs.Pieces.{Located};
 ghost use Rattle.msp_asm.specs.Labels.{Table};
@@ -21,7 +22,7 @@ pub fn lines_alone()
 #[tactic(auto, using(crate::proofs::FirstLabels::labels_first))]
 pub fn labels_stand_first()
     ensures { (ls : List Located) (ms : List LineMeaning) (f : Table) (name : List ℕ) → map line_of ls ≡ map Some ms
-        → labels_of no_labels 1 0x4400 ls ≡ Ok f → f name ≡ first_with name 1 0x4400 ms }
+        → labels_of no_labels 1 fram_first ls ≡ Ok f → f name ≡ first_with name 1 fram_first ms }
 {}
 
 /// The words of an image have one text.

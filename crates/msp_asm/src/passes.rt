@@ -1,5 +1,6 @@
 //! The two passes over a text: its labels, then its words.
 ghost use Rattle.std.specs.Prelude.{◌≡◌, ◌<◌, IfOk, Some, length};
+ghost use Rattle.image_text.specs.address_space.Limits.{fram_first, fram_words};
 ghost use Rattle.image_text.specs.Reading.{empty};
 ghost use Rattle.asm_line.specs.Pieces.{lines_left};
 ghost use Rattle.asm_line.specs.Views.{located};
@@ -11,6 +12,7 @@ use crate::labels::{Labels, Place, note};
 use crate::placing::line_into;
 use crate::words::after;
 use asm_line::{Piece, cut_line, line_of};
+use image_text::address_space::{FRAM_FIRST, FRAM_WORDS};
 use std::alloc::{AllocError, Global};
 use std::collections::BTreeMap;
 
@@ -25,10 +27,10 @@ fn empty_words(alloc: Global, n: usize) -> Result<Vec<Option<u16>>, AllocError>
 /// The first pass: the labels of a text.
 pub fn labels_of<'a>(alloc: Global, text: Piece<'a>) -> Result<Labels<'a>, AsmFault>
     requires { length text.text.now < 4294967295 }
-    ensures { Gives label_at result (labels_of no_labels 1 0x4400 (lines_left (Some (located text.entry)))) }
+    ensures { Gives label_at result (labels_of no_labels 1 fram_first (lines_left (Some (located text.entry)))) }
 {
     let mut labels = BTreeMap::new(alloc);
-    let mut address = 0x4400;
+    let mut address = FRAM_FIRST;
     let mut n = 1usize;
     let mut left = Some(text);
     while let Some(rest) = left {
@@ -56,12 +58,12 @@ pub fn words_of<'a>(
 ) -> Result<Vec<Option<u16>>, AsmFault>
     requires { length text.text.now < 4294967295 }
     ensures value { Gives (λ v. v.items) result
-        (placed (label_at labels.now) 1 0x4400 (empty 24064) (lines_left (Some (located text.entry)))) }
-    ensures len { IfOk result (λ v. length v.items ≡ 24064) }
+        (placed (label_at labels.now) 1 fram_first (empty fram_words) (lines_left (Some (located text.entry)))) }
+    ensures len { IfOk result (λ v. length v.items ≡ fram_words) }
 {
-    let mut memory = empty_words(alloc, 24064)?;
+    let mut memory = empty_words(alloc, FRAM_WORDS)?;
     let mut words = Vec::new(alloc);
-    let mut address = 0x4400;
+    let mut address = FRAM_FIRST;
     let mut n = 1usize;
     let mut left = Some(text);
     while let Some(rest) = left {

@@ -1,5 +1,6 @@
 //! The words of lines, each put at its place in the FRAM.
 ghost use Rattle.std.specs.Prelude.{◌≡◌, ◌≤◌, ◌<◌, ◌+◌, length, vec_len, MatchBool, Some, None, OnOk};
+ghost use Rattle.image_text.specs.address_space.Limits.{fram_words};
 ghost use Rattle.image_text.specs.Memory.{put_once};
 ghost use Rattle.asm_line.specs.LineViews.{statement_meaning, line_meaning};
 ghost use Rattle.asm_line.specs.ValueViews.{meaning_of};
@@ -12,6 +13,7 @@ use crate::faults::line_fault;
 use crate::labels::Labels;
 use crate::words::push_words;
 use asm_line::{Line, Statement, Value};
+use image_text::address_space::{FRAM_END, FRAM_FIRST};
 
 // Puts words from a place on, and says whether none of the places was taken.
 fn put_once(memory: &mut Vec<Option<u16>>, from: usize, words: &[u16]) -> bool
@@ -36,7 +38,7 @@ fn is_bad_address(value: &Value<'_>) -> bool
     ensures { result ≡ is_bad_address (meaning_of value.now) }
 {
     match value {
-        Value::Number(n) => *n < 0x4400 || *n % 2 == 1,
+        Value::Number(n) => *n < FRAM_FIRST || *n % 2 == 1,
         _ => false,
     }
 }
@@ -56,14 +58,19 @@ fn place(
     address: u16,
     words: &[u16],
 ) -> Result<(), AsmFault>
-    requires { vec_len memory.old ≡ 24064 }
-    ensures len { vec_len memory.new ≡ 24064 }
+    requires { vec_len memory.old ≡ fram_words }
+    ensures len { vec_len memory.new ≡ fram_words }
     ensures value { Gives (λ _. memory.new.items) result (place line address words.now memory.old.items) }
 {
-    if !words.is_empty() && (address < 0x4400 || words.len() > (0x10000 - address as usize) / 2) {
+    let room = (FRAM_END as usize - address as usize) / 2;
+    if !words.is_empty() && (address < FRAM_FIRST || words.len() > room) {
         return Err(AsmFault::Outside { line });
     }
-    if put_once(memory, (address as usize).saturating_sub(0x4400) / 2, words) {
+    if put_once(
+        memory,
+        (address as usize).saturating_sub(FRAM_FIRST as usize) / 2,
+        words,
+    ) {
         Ok(())
     } else {
         Err(AsmFault::Overlap { line })
@@ -80,8 +87,8 @@ pub fn line_into<'a>(
     words: &mut Vec<u16>,
     memory: &mut Vec<Option<u16>>,
 ) -> Result<(), AsmFault>
-    requires { vec_len memory.old ≡ 24064 }
-    ensures len { vec_len memory.new ≡ 24064 }
+    requires { vec_len memory.old ≡ fram_words }
+    ensures len { vec_len memory.new ≡ fram_words }
     ensures value { Gives (λ _. memory.new.items) result
         (line_into (label_at labels.now) n address (line_meaning line.now) memory.old.items) }
 {

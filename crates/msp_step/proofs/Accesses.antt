@@ -21,7 +21,7 @@ use Rattle.msp_step.specs.Registers.{Registers, with_register}
 use Rattle.msp_step.specs.Access.{BusModel, Access, Completed, Faulted, then_do, read_answer, write_answer, read_at, write_at}
 use Rattle.msp_step.specs.Reads.{HasRead, Nothing, Once, OnlyReads}
 use Rattle.msp_step.specs.Effect.{Written, Operated, load, store, source, destination_operand, finish, after_source, two_operand_effect, reads_destination}
-use Rattle.msp_step.specs.Effect.{writes_destination, operand_location, incremented, operated, flags_of, with_flags, destination_location, sum16}
+use Rattle.msp_step.specs.Effect.{writes_destination, operand_location, incremented, operated, flags_of, with_flags, destination_location, word_sum}
 use Rattle.msp_step.specs.Effect.{read_modify_write, written_back, rotated, shifted, exchanged, sign_extended, pushed, push_effect, called, call_effect}
 use Rattle.msp_step.specs.Effect.{reti_effect, below_stack}
 use Rattle.msp_step.specs.Step.{effect, one_operand_effect}
@@ -108,9 +108,9 @@ after_source_ends bus s t op w l v r h =
 two_ends : {S : Type 0} (bus : BusModel S) (s : S) (op : TwoOp) (w : Width) (x : Src) (d : Dst) (r : Registers)
     → Ends bus 2 s (two_operand_effect bus op w x d r s)
 two_ends bus s op w x d r =
-    let first = sum16 (r 0) 2 in
-    let ext = sum16 first (2 * length (source_row x).extension) in
-    let moved : Registers → Registers = λ q. with_register q 0 (sum16 ext (2 * length (destination_row d).extension)) in
+    let first = word_sum (r 0) 2 in
+    let ext = word_sum first (2 * length (source_row x).extension) in
+    let moved : Registers → Registers = λ q. with_register q 0 (word_sum ext (2 * length (destination_row d).extension)) in
     then_ends {A = ℕ × Registers} bus 1 2 s (source bus (with_register r 0 first) w x s)
     (λ y t. after_source bus op w (destination_location (moved y.1) ext d) y.0 (moved y.1) t) (omega arith) (source_reads bus s (with_register r 0 first) w x)
     (λ y t h. after_source_ends bus s t op w (destination_location (moved y.1) ext d) y.0 (moved y.1) h)
@@ -118,26 +118,26 @@ two_ends bus s op w x d r =
 modify_ends : {S : Type 0} (bus : BusModel S) (s : S) (f : Width → ℕ → Flags → Operated) (w : Width) (p : Operand) (r : Registers)
     → Ends bus 2 s (read_modify_write bus f w p r s)
 modify_ends bus s f w p r =
-    let first = sum16 (r 0) 2 in
+    let first = word_sum (r 0) 2 in
     let moved = with_register r 0 first in
     let l = operand_location moved first p in
-    let past = with_register (incremented moved w p) 0 (sum16 first (2 * length (operand_row p).extension)) in
+    let past = with_register (incremented moved w p) 0 (word_sum first (2 * length (operand_row p).extension)) in
     then_ends {A = ℕ} bus 1 2 s (load bus moved w l s) (λ v t. written_back bus f w l v past t) (omega arith) (load_reads bus 0 s s moved w l (none_read bus s))
     (λ v t h. store_ends bus 2 s t (with_flags past (f w v (flags_of (past 2))).flags) w l (f w v (flags_of (past 2))).value
     (weaken bus 1 2 s t (omega arith) h))
 
 push_ends : {S : Type 0} (bus : BusModel S) (s : S) (w : Width) (x : Src) (r : Registers) → Ends bus 2 s (push_effect bus w x r s)
 push_ends bus s w x r =
-    let first = sum16 (r 0) 2 in
-    let past : Registers → Registers = λ q. with_register q 0 (sum16 first (2 * length (source_row x).extension)) in
+    let first = word_sum (r 0) 2 in
+    let past : Registers → Registers = λ q. with_register q 0 (word_sum first (2 * length (source_row x).extension)) in
     then_ends {A = ℕ × Registers} bus 1 2 s (source bus (with_register r 0 first) w x s) (λ y t. pushed bus w y.0 (past y.1) t) (omega arith)
     (source_reads bus s (with_register r 0 first) w x)
     (λ y t h. write_ends bus 2 s t (below_stack (past y.1)) w y.0 (with_register (past y.1) 1 (below_stack (past y.1))) (weaken bus 1 2 s t (omega arith) h))
 
 call_ends : {S : Type 0} (bus : BusModel S) (s : S) (x : Src) (r : Registers) → Ends bus 2 s (call_effect bus x r s)
 call_ends bus s x r =
-    let first = sum16 (r 0) 2 in
-    let past : Registers → Registers = λ q. with_register q 0 (sum16 first (2 * length (source_row x).extension)) in
+    let first = word_sum (r 0) 2 in
+    let past : Registers → Registers = λ q. with_register q 0 (word_sum first (2 * length (source_row x).extension)) in
     then_ends {A = ℕ × Registers} bus 1 2 s (source bus (with_register r 0 first) Word x s) (λ y t. called bus y.0 (past y.1) t) (omega arith)
     (source_reads bus s (with_register r 0 first) Word x)
     (λ y t h. write_ends bus 2 s t (below_stack (past y.1)) Word (past y.1 0) (with_register (with_register (past y.1) 1 (below_stack (past y.1))) 0 y.0)
@@ -145,11 +145,11 @@ call_ends bus s x r =
 
 reti_ends : {S : Type 0} (bus : BusModel S) (s : S) (r : Registers) → Ends bus 2 s (reti_effect bus r s)
 reti_ends bus s r =
-    let after : ℕ → ℕ → Registers = λ sr pc. with_register (with_register (with_register r 1 (sum16 (r 1) 4)) 2 sr) 0 pc in
-    then_ends {A = ℕ} bus 1 2 s (read_at bus (r 1) Word s) (λ sr t. then_do (read_at bus (sum16 (r 1) 2) Word t) (λ pc u. Completed (after sr pc, None) u))
+    let after : ℕ → ℕ → Registers = λ sr pc. with_register (with_register (with_register r 1 (word_sum (r 1) 4)) 2 sr) 0 pc in
+    then_ends {A = ℕ} bus 1 2 s (read_at bus (r 1) Word s) (λ sr t. then_do (read_at bus (word_sum (r 1) 2) Word t) (λ pc u. Completed (after sr pc, None) u))
     (omega arith) (read_reads bus 0 s s (r 1) Word (none_read bus s))
-    (λ sr t h. then_ends {A = ℕ} bus 2 2 s (read_at bus (sum16 (r 1) 2) Word t) (λ pc u. Completed (after sr pc, None) u) (omega arith)
-    (read_reads bus 1 s t (sum16 (r 1) 2) Word h) (λ pc u g. (u, g, refl)))
+    (λ sr t h. then_ends {A = ℕ} bus 2 2 s (read_at bus (word_sum (r 1) 2) Word t) (λ pc u. Completed (after sr pc, None) u) (omega arith)
+    (read_reads bus 1 s t (word_sum (r 1) 2) Word h) (λ pc u g. (u, g, refl)))
 
 one_ends : {S : Type 0} (bus : BusModel S) (s : S) (o : OneOp) (r : Registers) → Ends bus 2 s (one_operand_effect bus o r s)
 one_ends bus s (one.Rrc w p) r = modify_ends bus s rotated w p r

@@ -11,7 +11,7 @@ use Rattle.msp_step.specs.declared.machine.Stepped.{Stepped}
 use Rattle.msp_step.specs.Registers.{Registers}
 use Rattle.msp_cycles.specs.Cycles.{cycles_of}
 use Rattle.msp_step.specs.Access.{BusModel, Access, Completed, Faulted}
-use Rattle.msp_step.specs.Effect.{Written, sum16}
+use Rattle.msp_step.specs.Effect.{Written, word_sum}
 use Rattle.msp_step.specs.Step.{FetchedAt, IsCurrentInstruction, NotFetched, First, Second, Third, IsStopped, Outcome, outcome_of, effect, execution}
 use Rattle.msp_step.specs.Step.{StepResult, Stopped, Executed, Costs, off_bit}
 
@@ -31,7 +31,7 @@ abbrev word_at : Option ℕ → ℕ
 word_at o = unwrap_or o 0
 
 in_front : {S : Type 0} (bus : BusModel S) (s : S) (pc : ℕ) (ws : List ℕ) → length ws < 4 → FetchedAt bus s pc ws
-    → IsPrefix ws (word_at (bus.fetches s pc) ∷ word_at (bus.fetches s (sum16 pc 2)) ∷ word_at (bus.fetches s (sum16 (sum16 pc 2) 2)) ∷ [])
+    → IsPrefix ws (word_at (bus.fetches s pc) ∷ word_at (bus.fetches s (word_sum pc 2)) ∷ word_at (bus.fetches s (word_sum (word_sum pc 2) 2)) ∷ [])
 in_front bus s pc [] few f = tt
 in_front bus s pc (x ∷ []) few f = (sym (ap word_at f.0), tt)
 in_front bus s pc (x ∷ y ∷ []) few f = (sym (ap word_at f.0), (sym (ap word_at f.1.0), tt))
@@ -52,13 +52,13 @@ some_same : {w v : ℕ} {o : Option ℕ} → o ≡ Some w → o ≡ Some v → w
 some_same a b = let e = sym a ∙ b in cc
 
 second_there : {S : Type 0} (bus : BusModel S) (s : S) (pc : ℕ) (ws : List ℕ) → 1 < length ws → FetchedAt bus s pc ws → (w : ℕ)
-    × (bus.fetches s (sum16 pc 2) ≡ Some w)
+    × (bus.fetches s (word_sum pc 2) ≡ Some w)
 second_there bus s pc [] l f = absurd (omega arith)
 second_there bus s pc (x ∷ []) l f = absurd (omega arith)
 second_there bus s pc (x ∷ y ∷ ws) l f = (y, f.1.0)
 
 third_there : {S : Type 0} (bus : BusModel S) (s : S) (pc : ℕ) (ws : List ℕ) → 2 < length ws → FetchedAt bus s pc ws → (w : ℕ)
-    × (bus.fetches s (sum16 (sum16 pc 2) 2) ≡ Some w)
+    × (bus.fetches s (word_sum (word_sum pc 2) 2) ≡ Some w)
 third_there bus s pc [] l f = absurd (omega arith)
 third_there bus s pc (x ∷ []) l f = absurd (omega arith)
 third_there bus s pc (x ∷ y ∷ []) l f = absurd (omega arith)

@@ -8,12 +8,12 @@ use Rattle.msp_step.specs.declared.machine.Stop.TheVariants as stop
 use Rattle.msp_step.specs.declared.machine.Words.{Words}
 use Rattle.msp_step.specs.Registers.{Registers}
 use Rattle.msp_step.specs.Access.{BusModel}
-use Rattle.msp_step.specs.Effect.{sum16}
+use Rattle.msp_step.specs.Effect.{word_sum}
 use Rattle.msp_step.specs.Step.{FetchedAt, AreWordsAt, AreCurrentWords, IsCurrentInstruction, IsNoInstruction, IsLongerThan, First, Second, Third}
 
 -- words that are fetched one after another
 pub fetched_at : {S : Type 0} (bus : BusModel S) (s : S) (pc : ℕ) (xs : List ℕ) (w0 w1 w2 : ℕ) → IsPrefix xs (w0 ∷ w1 ∷ w2 ∷ []) → bus.fetches s pc ≡ Some w0
-    → (1 < length xs → bus.fetches s (sum16 pc 2) ≡ Some w1) → (2 < length xs → bus.fetches s (sum16 (sum16 pc 2) 2) ≡ Some w2) → FetchedAt bus s pc xs
+    → (1 < length xs → bus.fetches s (word_sum pc 2) ≡ Some w1) → (2 < length xs → bus.fetches s (word_sum (word_sum pc 2) 2) ≡ Some w2) → FetchedAt bus s pc xs
 fetched_at bus s pc [] w0 w1 w2 h f g k = tt
 fetched_at bus s pc (x ∷ []) w0 w1 w2 h f g k = (f ∙ ap Some (sym h.0), tt)
 fetched_at bus s pc (x ∷ y ∷ []) w0 w1 w2 h f g k = (f ∙ ap Some (sym h.0), (g (omega arith) ∙ ap Some (sym h.1.0), tt))
@@ -26,11 +26,11 @@ pub first_missing : {S : Type 0} (bus : BusModel S) (s : S) (pc : ℕ) (e : Stop
 first_missing bus s pc e h = subst (λ x. IsNoInstruction bus s pc x) (sym h.0) (refl, First h.1)
 
 pub second_missing : {S : Type 0} (bus : BusModel S) (s : S) (pc w : ℕ) (e : Stop) → IsLongerThan 1 w → bus.fetches s pc ≡ Some w
-    → (e ≡ stop.Bus pc (sum16 pc 2)) × (bus.fetches s (sum16 pc 2) ≡ None) → IsNoInstruction bus s pc e
+    → (e ≡ stop.Bus pc (word_sum pc 2)) × (bus.fetches s (word_sum pc 2) ≡ None) → IsNoInstruction bus s pc e
 second_missing bus s pc w e longer was h = subst (λ x. IsNoInstruction bus s pc x) (sym h.0) (refl, Second w was longer h.1)
 
 pub third_missing : {S : Type 0} (bus : BusModel S) (s : S) (pc w v : ℕ) (e : Stop) → IsLongerThan 2 w → bus.fetches s pc ≡ Some w
-    → bus.fetches s (sum16 pc 2) ≡ Some v → (e ≡ stop.Bus pc (sum16 (sum16 pc 2) 2)) × (bus.fetches s (sum16 (sum16 pc 2) 2) ≡ None)
+    → bus.fetches s (word_sum pc 2) ≡ Some v → (e ≡ stop.Bus pc (word_sum (word_sum pc 2) 2)) × (bus.fetches s (word_sum (word_sum pc 2) 2) ≡ None)
     → IsNoInstruction bus s pc e
 third_missing bus s pc w v e longer was then_was h = subst (λ x. IsNoInstruction bus s pc x) (sym h.0) (refl, Third w v was longer then_was h.1)
 
@@ -57,7 +57,7 @@ longer_by n first count (j, is, begins, len) all long =
 
 -- words that were fetched stand there as whichever instruction they begin with
 pub words_stand : {S : Type 0} (bus : BusModel S) (s : S) (pc w0 w1 w2 count : ℕ) → Begins w0 count → HaveWords w0 count → bus.fetches s pc ≡ Some w0
-    → (1 < count → bus.fetches s (sum16 pc 2) ≡ Some w1) → (2 < count → bus.fetches s (sum16 (sum16 pc 2) 2) ≡ Some w2)
+    → (1 < count → bus.fetches s (word_sum pc 2) ≡ Some w1) → (2 < count → bus.fetches s (word_sum (word_sum pc 2) 2) ≡ Some w2)
     → AreWordsAt bus s pc (record { first = w0; second = w1; third = w2 })
 words_stand bus s pc w0 w1 w2 count (j, is, begins, len) all f g k = record {
   begun = (j, is, begins);

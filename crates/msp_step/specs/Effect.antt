@@ -4,6 +4,7 @@ use Rattle.std.specs.Prelude.{ℕ, ◌+◌, ◌-◌, ◌*◌, ◌/◌, ◌%◌, 
 use Rattle.alp_words.specs.declared.Width.{Width}
 use Rattle.alp_words.specs.declared.Width.TheVariants.{Word, Byte}
 use Rattle.alp_words.specs.declared.Flags.{Flags}
+pub use Rattle.alp_words.specs.Words.{word_sum}
 use Rattle.alp_words.specs.Words.{bit, same, operand, sum_of, difference_of, decimal_of, and_of, xor_of, rrc_of, rra_of, swapped, sxt_of}
 use Rattle.msp_isa.specs.declared.registers.SourceRegister.{SourceRegister}
 use Rattle.msp_isa.specs.declared.registers.SourceRegister.TheVariants as source_register
@@ -28,10 +29,6 @@ use Rattle.msp_step.specs.declared.effect.Modification.TheVariants as change
 use Rattle.msp_step.specs.Registers.{Registers, with_register}
 use Rattle.msp_step.specs.Access.{BusModel, Access, Completed, then_do, read_at, write_at}
 
--- a sum modulo 65536
-abbrev pub sum16 : ℕ → ℕ → ℕ
-sum16 a b = (a + b) % 0x10000
-
 -- a register that can be a source, among all registers
 abbrev pub register_of : SourceRegister → Reg
 register_of source_register.Pc = reg.Pc
@@ -41,8 +38,8 @@ register_of (source_register.Index b) = reg.Index b
 -- where an operand is; ext is the address of its own word
 abbrev pub operand_location : Registers → ℕ → Operand → Location
 operand_location r ext (mode.Reg h) = Register (register_of h)
-operand_location r ext (mode.Indexed b x) = Memory (sum16 (r (index_number b)) x)
-operand_location r ext (mode.Symbolic x) = Memory (sum16 ext x)
+operand_location r ext (mode.Indexed b x) = Memory (word_sum (r (index_number b)) x)
+operand_location r ext (mode.Symbolic x) = Memory (word_sum ext x)
 operand_location r ext (mode.Absolute a) = Memory a
 operand_location r ext (mode.Indirect p) = Memory (r (indirect_number p))
 operand_location r ext (mode.Increment b) = Memory (r (index_number b))
@@ -50,8 +47,8 @@ operand_location r ext (mode.Increment b) = Memory (r (index_number b))
 -- where a destination is; ext is the address of its own word
 abbrev pub destination_location : Registers → ℕ → Dst → Location
 destination_location r ext (dst.Reg n) = Register n
-destination_location r ext (dst.Indexed b x) = Memory (sum16 (r (index_number b)) x)
-destination_location r ext (dst.Symbolic x) = Memory (sum16 ext x)
+destination_location r ext (dst.Indexed b x) = Memory (word_sum (r (index_number b)) x)
+destination_location r ext (dst.Symbolic x) = Memory (word_sum ext x)
 destination_location r ext (dst.Absolute a) = Memory a
 
 -- by how much a register goes up: by 1 for a byte, SP always by 2
@@ -61,7 +58,7 @@ step_of Byte n = if n == 1 then 2 else 1
 
 -- the registers after an operand: @Rn+ raises its register, the other modes none
 abbrev pub incremented : Registers → Width → Operand → Registers
-incremented r w (mode.Increment b) = with_register r (index_number b) (sum16 (r (index_number b)) (step_of w (index_number b)))
+incremented r w (mode.Increment b) = with_register r (index_number b) (word_sum (r (index_number b)) (step_of w (index_number b)))
 incremented r w (mode.Reg h) = r
 incremented r w (mode.Indexed b x) = r
 incremented r w (mode.Symbolic x) = r
@@ -160,10 +157,10 @@ after_source bus op w l v r s =
 -- an instruction of two operands: the source with its increment, then the destination, from PC behind the instruction
 abbrev pub two_operand_effect : {S : Type 0} → BusModel S → TwoOp → Width → Src → Dst → Registers → S → Access S (Registers × Option Written)
 two_operand_effect bus op w sr d r s =
-    let first = sum16 (r 0) 2 in
-    let ext = sum16 first (2 * length (source_row sr).extension) in
+    let first = word_sum (r 0) 2 in
+    let ext = word_sum first (2 * length (source_row sr).extension) in
     then_do (source bus (with_register r 0 first) w sr s) (λ x t.
-    let moved = with_register x.1 0 (sum16 ext (2 * length (destination_row d).extension)) in
+    let moved = with_register x.1 0 (word_sum ext (2 * length (destination_row d).extension)) in
     after_source bus op w (destination_location moved ext d) x.0 moved t)
 
 -- whether a jump's condition is met
@@ -184,8 +181,8 @@ distance o = (2 * o + (if (o / 0x200) == 0 then 0 else 0x10000 - 0x800)) % 0x100
 -- a jump: PC moves behind it, and by the distance where the condition is met
 abbrev pub jump_effect : Condition → ℕ → Registers → Registers
 jump_effect c o r =
-    let next = sum16 (r 0) 2 in
-    with_register r 0 (if is_met c (flags_of (r 2)) then sum16 next (distance o) else next)
+    let next = word_sum (r 0) 2 in
+    with_register r 0 (if is_met c (flags_of (r 2)) then word_sum next (distance o) else next)
 
 -- what follows the load of a place
 abbrev pub written_back : {S : Type 0} → BusModel S → (Width → ℕ → Flags → Operated) → Width → Location → ℕ → Registers → S
@@ -198,11 +195,11 @@ written_back bus f w l v r t =
 abbrev pub read_modify_write : {S : Type 0} → BusModel S → (Width → ℕ → Flags → Operated) → Width → Operand → Registers → S
     → Access S (Registers × Option Written)
 read_modify_write bus f w p r s =
-    let first = sum16 (r 0) 2 in
+    let first = word_sum (r 0) 2 in
     let moved = with_register r 0 first in
     let l = operand_location moved first p in
     then_do (load bus moved w l s) (λ v t.
-    written_back bus f w l v (with_register (incremented moved w p) 0 (sum16 first (2 * length (operand_row p).extension))) t)
+    written_back bus f w l v (with_register (incremented moved w p) 0 (word_sum first (2 * length (operand_row p).extension))) t)
 
 -- RRC
 abbrev pub rotated : Width → ℕ → Flags → Operated
@@ -229,7 +226,7 @@ modification_of change.Sxt = sign_extended
 
 -- down by two
 abbrev pub below_stack : Registers → ℕ
-below_stack r = sum16 (r 1) 0xFFFE
+below_stack r = word_sum (r 1) 0xFFFE
 
 -- what follows the operand of PUSH
 abbrev pub pushed : {S : Type 0} → BusModel S → Width → ℕ → Registers → S → Access S (Registers × Option Written)
@@ -238,9 +235,9 @@ pushed bus w v r s = write_at bus (below_stack r) w v (with_register r 1 (below_
 -- PUSH: the operand, then SP goes down by two, then the store at SP
 abbrev pub push_effect : {S : Type 0} → BusModel S → Width → Src → Registers → S → Access S (Registers × Option Written)
 push_effect bus w x r s =
-    let first = sum16 (r 0) 2 in
+    let first = word_sum (r 0) 2 in
     then_do (source bus (with_register r 0 first) w x s) (λ y t.
-    pushed bus w y.0 (with_register y.1 0 (sum16 first (2 * length (source_row x).extension))) t)
+    pushed bus w y.0 (with_register y.1 0 (word_sum first (2 * length (source_row x).extension))) t)
 
 -- what follows the operand of CALL
 abbrev pub called : {S : Type 0} → BusModel S → ℕ → Registers → S → Access S (Registers × Option Written)
@@ -249,13 +246,13 @@ called bus to r s = write_at bus (below_stack r) Word (r 0) (with_register (with
 -- CALL: the operand, then SP goes down by two, then the address behind the instruction at SP, then PC
 abbrev pub call_effect : {S : Type 0} → BusModel S → Src → Registers → S → Access S (Registers × Option Written)
 call_effect bus x r s =
-    let first = sum16 (r 0) 2 in
+    let first = word_sum (r 0) 2 in
     then_do (source bus (with_register r 0 first) Word x s) (λ y t.
-    called bus y.0 (with_register y.1 0 (sum16 first (2 * length (source_row x).extension))) t)
+    called bus y.0 (with_register y.1 0 (word_sum first (2 * length (source_row x).extension))) t)
 
 -- RETI: SR, then PC from the stack, SP up by two after each
 abbrev pub reti_effect : {S : Type 0} → BusModel S → Registers → S → Access S (Registers × Option Written)
 reti_effect bus r s =
     then_do (read_at bus (r 1) Word s) (λ sr t.
-    then_do (read_at bus (sum16 (r 1) 2) Word t) (λ pc u.
-    Completed (with_register (with_register (with_register r 1 (sum16 (r 1) 4)) 2 sr) 0 pc, None) u))
+    then_do (read_at bus (word_sum (r 1) 2) Word t) (λ pc u.
+    Completed (with_register (with_register (with_register r 1 (word_sum (r 1) 4)) 2 sr) 0 pc, None) u))

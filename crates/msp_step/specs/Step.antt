@@ -16,13 +16,14 @@ use Rattle.msp_step.specs.declared.machine.Stepped.{Stepped}
 use Rattle.msp_step.specs.declared.machine.Words.{Words}
 use Rattle.msp_step.specs.Registers.{Registers}
 use Rattle.msp_step.specs.Access.{BusModel, Access, Completed, Faulted}
-use Rattle.msp_step.specs.Effect.{Written, sum16, two_operand_effect, jump_effect, read_modify_write, rotated, shifted, exchanged, sign_extended, push_effect}
+use Rattle.msp_step.specs.Effect.{Written, word_sum, two_operand_effect, jump_effect, read_modify_write, rotated, shifted, exchanged, sign_extended}
+use Rattle.msp_step.specs.Effect.{push_effect}
 use Rattle.msp_step.specs.Effect.{call_effect, reti_effect}
 
 -- these words stand at an address, as instructions are fetched
 abbrev pub FetchedAt : {S : Type 0} → BusModel S → S → ℕ → List ℕ → Type 0
 FetchedAt bus s a [] = Unit {0}
-FetchedAt bus s a (w ∷ ws) = (bus.fetches s a ≡ Some w) × FetchedAt bus s (sum16 a 2) ws
+FetchedAt bus s a (w ∷ ws) = (bus.fetches s a ≡ Some w) × FetchedAt bus s (word_sum a 2) ws
 
 -- the effect of an instruction of one operand
 abbrev pub one_operand_effect : {S : Type 0} → BusModel S → OneOp → Registers → S → Access S (Registers × Option Written)
@@ -69,10 +70,10 @@ pub record IsLongerThan (n w : ℕ) : Type 0 where
 -- a word at PC can't be fetched: the first, or one that the instruction has besides
 pub data NotFetched {S : Type 0} (bus : BusModel S) (s : S) (pc : ℕ) : ℕ → Type 0 where
   First : bus.fetches s pc ≡ None → NotFetched bus s pc pc
-  Second : (w : ℕ) → bus.fetches s pc ≡ Some w → IsLongerThan 1 w → bus.fetches s (sum16 pc 2) ≡ None
-      → NotFetched bus s pc (sum16 pc 2)
-  Third : (w v : ℕ) → bus.fetches s pc ≡ Some w → IsLongerThan 2 w → bus.fetches s (sum16 pc 2) ≡ Some v
-      → bus.fetches s (sum16 (sum16 pc 2) 2) ≡ None → NotFetched bus s pc (sum16 (sum16 pc 2) 2)
+  Second : (w : ℕ) → bus.fetches s pc ≡ Some w → IsLongerThan 1 w → bus.fetches s (word_sum pc 2) ≡ None
+      → NotFetched bus s pc (word_sum pc 2)
+  Third : (w v : ℕ) → bus.fetches s pc ≡ Some w → IsLongerThan 2 w → bus.fetches s (word_sum pc 2) ≡ Some v
+      → bus.fetches s (word_sum (word_sum pc 2) 2) ≡ None → NotFetched bus s pc (word_sum (word_sum pc 2) 2)
 
 -- no instruction can be had at an address: a word of it can't be fetched, or the first begins none
 abbrev pub IsNoInstruction : {S : Type 0} → BusModel S → S → ℕ → Stop → Type 0

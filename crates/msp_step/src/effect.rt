@@ -4,7 +4,7 @@ ghost use Rattle.std.specs.Prelude.{◌≡◌, ℕ, ◌+◌, ◌*◌, ◌/◌, �
 ghost use Rattle.msp_step.specs.Access.{Completed, write_at};
 ghost use Rattle.msp_step.specs.Answer.{answer};
 ghost use Rattle.msp_step.specs.Registers.{registers_of, with_register};
-ghost use Rattle.msp_step.specs.Effect.{load, store, source, destination_location, sum16, flags_of, status_with, operated, with_flags, reads_destination};
+ghost use Rattle.msp_step.specs.Effect.{load, store, source, destination_location, word_sum, flags_of, status_with, operated, with_flags, reads_destination};
 ghost use Rattle.msp_step.specs.Effect.{writes_destination, destination_operand, finish, after_source, two_operand_effect, read_modify_write, written_back};
 ghost use Rattle.msp_step.specs.Effect.{modification_of, below_stack, pushed, push_effect, called, call_effect, reti_effect, is_met, distance, jump_effect};
 ghost use Rattle.msp_isa.specs.Encoding.{source_row, destination_row};

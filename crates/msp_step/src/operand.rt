@@ -4,7 +4,7 @@ ghost use Rattle.std.specs.Prelude.{◌≡◌, ℕ, ◌+◌, ◌*◌, ◌/◌, �
 ghost use Rattle.msp_step.specs.Access.{read_at, write_at};
 ghost use Rattle.msp_step.specs.Answer.{answer};
 ghost use Rattle.msp_step.specs.Registers.{registers_of, with_register};
-ghost use Rattle.msp_step.specs.Effect.{load, store, source, operand_location, destination_location, incremented, step_of, register_of, sum16};
+ghost use Rattle.msp_step.specs.Effect.{load, store, source, operand_location, destination_location, incremented, step_of, register_of, word_sum};
 ghost use Rattle.msp_isa.specs.Encoding.{index_number, register_number};
 ghost use Rattle.alp_words.specs.Words.{operand};
 

@@ -1,16 +1,7 @@
 -- The first place of a text at which something is so.
 use Rattle.std.specs.Prelude.{◌≤◌, ◌⊎◌, nat_le, if◌then◌else◌, Option, None, Some, List, [], ◌∷◌}
 use Rattle.alp_text.specs.declared.lines.Span.{Span}
-use Rattle.task_ast.specs.declared.names.VariableName.{VariableName}
-use Rattle.task_ast.specs.declared.names.TaskName.{TaskName}
-use Rattle.task_ast.specs.Tree.{Task, Program}
-
--- a source, and a task of it, whose names have been looked up
-abbrev pub CheckedProgram : Type 0
-CheckedProgram = Program VariableName TaskName
-
-abbrev pub CheckedTask : Type 0
-CheckedTask = Task VariableName TaskName
+pub use Rattle.task_ast.specs.Paths.{CheckedProgram, CheckedTask}
 
 -- the first place that is so, by where it begins; or no place is
 abbrev pub IsFirst : Option Span → (Span → Type 0) → Type 0

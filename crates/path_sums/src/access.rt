@@ -32,7 +32,8 @@ const UNIT: AccessSummary = AccessSummary {
     writes: false,
 };
 
-fn same(v: Variable, w: Variable) -> bool
+/// Whether two variables are one.
+pub fn is_same(v: Variable, w: Variable) -> bool
     ensures { result ≡ is_same v w }
 {
     match (v, w) {
@@ -67,7 +68,7 @@ fn gone(v: Variable) -> AccessSummary
 fn read_of(v: Variable, name: &VariableName) -> AccessSummary
     ensures { result ≡ (summary v).one (read name.now) }
 {
-    if same(v, name.variable) {
+    if is_same(v, name.variable) {
         AccessSummary {
             untouched: false,
             exposed: true,
@@ -82,7 +83,7 @@ fn read_of(v: Variable, name: &VariableName) -> AccessSummary
 fn write_of(v: Variable, name: &VariableName) -> AccessSummary
     ensures { result ≡ (summary v).one (write name.now) }
 {
-    if same(v, name.variable) {
+    if is_same(v, name.variable) {
         AccessSummary {
             untouched: false,
             writes: true,

@@ -8,7 +8,7 @@ use Rattle.task_ast.specs.declared.SharedDeclaration.{SharedDeclaration}
 use Rattle.task_ast.specs.declared.TaskDeclaration.{TaskDeclaration}
 use Rattle.task_ast.specs.declared.names.VariableName.{VariableName}
 use Rattle.task_ast.specs.declared.names.TaskName.{TaskName}
-use Rattle.cost_bound.specs.Counts.{Code, emits_of}
+use Rattle.cost_bound.specs.Counts.{CheckedBlock, emits_of}
 use Rattle.cost_bound.specs.Allowance.{CheckedTask, CheckedProgram, shared_sum_from, version_part, place_part, is_written, total, greatest, task_words}
 use Rattle.cost_bound.specs.Allowance.{list_of, words_of, versions_of}
 use Rattle.memory_map.specs.Words.{row_words}
@@ -33,7 +33,7 @@ places_split written i (d ∷ ds) =
     = places_split written (i + 1) ds in
     omega (arith, here, rest)
 
-total_split : (f g h : Code → ℕ) (ts : List CheckedTask) → ((c : Code) → f c ≡ g c + h c) → total f ts ≡ total g ts + total h ts
+total_split : (f g h : CheckedBlock → ℕ) (ts : List CheckedTask) → ((c : CheckedBlock) → f c ≡ g c + h c) → total f ts ≡ total g ts + total h ts
 total_split f g h [] e = refl
 total_split f g h (t ∷ ts) e =
     let here : f t.body ≡ g t.body + h t.body = e t.body in
@@ -70,7 +70,7 @@ sum_step part (x ∷ xs) i extent l at =
     ∙ ap (λ k. part i extent + shared_sum_from part (i + 1) (drop k (x ∷ xs))) (sym (add-one i))
 
 -- a task of those that are left, and those behind it
-pub total_step : (f : Code → ℕ) (tasks : List (TaskDeclaration VariableName TaskName)) (i : ℕ) (task : TaskDeclaration VariableName TaskName)
+pub total_step : (f : CheckedBlock → ℕ) (tasks : List (TaskDeclaration VariableName TaskName)) (i : ℕ) (task : TaskDeclaration VariableName TaskName)
     → i < length tasks → task ≡ get_or tasks i task
     → total f (map task_of (drop i tasks)) ≡ f (task_of task).body + total f (map task_of (drop (i + 1) tasks))
 total_step f tasks i task l at =
@@ -78,13 +78,13 @@ total_step f tasks i task l at =
     ∙ ap (λ k. f (task_of task).body + total f (map task_of (drop k tasks))) (sym (add-one i))
 
 -- no more than all of them
-pub total_left : (f : Code → ℕ) (tasks : List (TaskDeclaration VariableName TaskName)) (i : ℕ)
+pub total_left : (f : CheckedBlock → ℕ) (tasks : List (TaskDeclaration VariableName TaskName)) (i : ℕ)
     → total f (map task_of (drop i tasks)) ≤ total f (map task_of tasks)
 total_left f tasks zero = omega arith
 total_left f [] (suc i) = omega arith
 total_left f (t ∷ ts) (suc i) = let rest = total_left f ts i in omega (arith, rest)
 
-pub total_part : (f : Code → ℕ) (tasks : List (TaskDeclaration VariableName TaskName)) (i : ℕ) (task : TaskDeclaration VariableName TaskName)
+pub total_part : (f : CheckedBlock → ℕ) (tasks : List (TaskDeclaration VariableName TaskName)) (i : ℕ) (task : TaskDeclaration VariableName TaskName)
     → i < length tasks → task ≡ get_or tasks i task
     → f (task_of task).body ≤ total f (map task_of tasks)
 total_part f tasks i task l at = let a = total_step f tasks i task l at in let b = total_left f tasks i in omega (arith, a, b)

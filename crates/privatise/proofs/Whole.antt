@@ -12,7 +12,7 @@ use Rattle.task_ast.specs.declared.Extent.{Extent}
 use Rattle.task_ast.specs.declared.Extent.TheVariants as extent
 use Rattle.task_ast.specs.declared.SharedDeclaration.{SharedDeclaration}
 use Rattle.cost_bound.specs.declared.allowance.Allow.{Allow}
-use Rattle.cost_bound.specs.Counts.{Code, emits_of}
+use Rattle.cost_bound.specs.Counts.{CheckedBlock, emits_of}
 use Rattle.cost_bound.specs.Allowance.{CheckedProgram, version_part, is_written, total, greatest, list_of, words_of, versions_of, IsAllowed}
 use Rattle.cost_bound.proofs.Interface.{written_sum}
 use Rattle.war_analysis.specs.PlanValue.{TaskPlanValue}
@@ -224,7 +224,7 @@ some_and : (o : Option VariablePlace) (place : VariablePlace) → o ≡ Some pla
     → IsSomeAnd o (λ place. is_scalar_place place ≡ true)
 some_and o place e h = subst (λ o. IsSomeAnd o (λ place. is_scalar_place place ≡ true)) (sym e) h
 
-private_place : (shared : List SharedDeclaration) (code : Code) (written : List Bool) (free : Free) (places : List VariablePlace)
+private_place : (shared : List SharedDeclaration) (code : CheckedBlock) (written : List Bool) (free : Free) (places : List VariablePlace)
     → ArePlaced shared written free places → (i : ℕ) → IsPrivateIn shared code i → IsScalarPlaceAt places i
 private_place shared code written free places k i h =
     let d = some_scalar (slice_get shared i) h.scalar in

@@ -4,7 +4,7 @@ use Rattle.task_ast.specs.declared.Extent.{Extent}
 use Rattle.task_ast.specs.declared.Extent.TheVariants as extent
 use Rattle.task_ast.specs.declared.SharedDeclaration.{SharedDeclaration}
 use Rattle.cost_bound.specs.declared.allowance.Allow.{Allow}
-use Rattle.cost_bound.specs.Counts.{Code}
+use Rattle.cost_bound.specs.Counts.{CheckedBlock}
 use Rattle.cost_bound.specs.Allowance.{CheckedProgram, CheckedTask, is_written, total, words_of}
 use Rattle.war_analysis.specs.PlanValue.{TaskPlanValue}
 use Rattle.memory_map.specs.address_space.Limits.{fram_first}
@@ -32,7 +32,7 @@ pub record AreVariables (p : CheckedProgram) (places : List VariablePlace) : Typ
       → IsPlaceOf (is_written p.tasks i) d.extent place
 
 -- the private scalars of the plan, and the words of the task's code
-pub record IsTaskLayout (shared : List SharedDeclaration) (code : Code) (plan : TaskPlanValue) (t : TaskPlace) : Type 0 where
+pub record IsTaskLayout (shared : List SharedDeclaration) (code : CheckedBlock) (plan : TaskPlanValue) (t : TaskPlace) : Type 0 where
   pub privates : map (λ s. s.number) t.privates ≡ plan.private_scalars
   pub words : t.code.words ≡ body_words shared code
 

@@ -3,7 +3,7 @@ use Rattle.std.specs.Prelude.{ℕ, ◌+◌, ◌-◌, ◌*◌, Bool, if◌then◌
 use Rattle.task_ast.specs.declared.Extent.{Extent}
 use Rattle.task_ast.specs.declared.Extent.TheVariants.{Scalar, Long, Array}
 use Rattle.task_ast.specs.declared.SharedDeclaration.{SharedDeclaration}
-use Rattle.cost_bound.specs.Counts.{Code}
+use Rattle.cost_bound.specs.Counts.{CheckedBlock}
 use Rattle.memory_map.specs.Words.{row_words}
 use Rattle.cost_bound.specs.Table.{words_column, block_price}
 use Rattle.cost_bound.specs.Allowance.{CheckedProgram, CheckedTask, shared_sum, scalars_of, is_written, total}
@@ -29,7 +29,7 @@ abbrev pub copy_words : CheckedProgram → ℕ
 copy_words p = shared_sum (λ i extent. copy_part (is_written p.tasks i) extent) p.shared
 
 -- the words of a task's code, as the allowance has them
-abbrev pub body_words : List SharedDeclaration → Code → ℕ
+abbrev pub body_words : List SharedDeclaration → CheckedBlock → ℕ
 body_words shared code = block_price (words_column (scalars_of shared code)) code
 
 -- of the commit
@@ -42,7 +42,7 @@ abbrev pub own_boot_words : ℕ
 own_boot_words = 599 - row_words - commit_words
 
 -- of the start of a task, with the copies of its scalars
-abbrev pub entry_words : List SharedDeclaration → Code → ℕ
+abbrev pub entry_words : List SharedDeclaration → CheckedBlock → ℕ
 entry_words shared code = 200 + 16 * scalars_of shared code
 
 -- of boot and all starts

@@ -1,5 +1,5 @@
 -- A good report is one that its first state may be followed by, behind the bound or without it.
-use Rattle.std.proofs.Common.{◌≡◌, ◌≤◌, ◌<◌, ◌^◌, ℕ, ◌+◌, ◌⊎◌, List, [], ◌∷◌, ◌++◌, length, map, sum_by, arith, refl, ap, ap₂, sym, ◌∙◌, subst, append_assoc}
+use Rattle.std.proofs.Common.{◌≡◌, ◌≤◌, ◌<◌, ◌^◌, ℕ, ◌+◌, ◌⊎◌, List, [], ◌∷◌, ◌++◌, length, map, arith, refl, ap, ap₂, sym, ◌∙◌, subst, append_assoc}
 use Rattle.std.proofs.Common.{Option, Some, None}
 use Rattle.std.proofs.lemmas.List.Sums.{sum_by-cons}
 use Rattle.alp_io.specs.declared.report.Reason.{Reason}
@@ -8,7 +8,7 @@ use Rattle.alp_io.specs.Report.{bound_line, end_line}
 use Rattle.source_values.specs.Values.{◌>>?◌}
 use Rattle.source_values.specs.Runs.{CheckedProgram, Completion, State, Transition, first_state, state_after, exactly, attempt_of, completion_of}
 use Rattle.source_values.specs.Runs.{transition_of, source_run}
-use Rattle.source_report.specs.SourceReport.{Committed, readings_of, transition_lines, source_report}
+use Rattle.source_report.specs.SourceReport.{Committed, readings_of, words_in, transition_lines, source_report}
 use Rattle.source_report.specs.Apart.{AreApart}
 use Rattle.report_audit.specs.Good.{IsGoodReport}
 use Rattle.report_audit.specs.Fronts.{IsRest, Ended, More}
@@ -66,9 +66,6 @@ run_on program s readings more ts e = by_one (transition_of program s readings) 
         = ap (λ p. p >>? λ y. source_run program (state_after s y) more >>? λ ys. Some (y ∷ ys)) is in
         absurd (cc (e, none))
     by_one (Some t) is = by_others t (source_run program (state_after s t) more) is refl
-
-abbrev words_in : List Transition → ℕ
-words_in ts = sum_by (λ x. length x.emitted) ts
 
 -- the end of a report, and its counts
 pub record HasEnd (reason : Reason) (accepted repeats : ℕ) : Type 0 where

@@ -1,5 +1,6 @@
 -- The charges of a board's run as charges of the machine.
 use Rattle.std.specs.Prelude.{◌≡◌, ℕ, ◌+◌, ◌*◌, ◌%◌, ◌<◌, ◌≤◌, List, [], ◌∷◌, ◌++◌, length, All}
+use Rattle.crash_rules.specs.address_space.Limits.{fram_first, fram_end, reset_vector}
 use Rattle.crash_rules.specs.msp_isa.declared.instructions.Instr.{Instr}
 use Rattle.crash_rules.specs.msp_step.declared.machine.Stop.{Stop}
 use Rattle.crash_rules.specs.fram_board.Board.{BoardValue, PowerState, powered}
@@ -89,15 +90,15 @@ charges_of b (c ∷ cs) = record { powered = machine_of (powered b c.start); ste
 pub record IsPlacedProgram (c : Program) (p : ℕ) (is : List Instr) (entry : ℕ) : Type 0 where
   pub instructions : AreInstructions is
   pub even : p % 2 ≡ 0
-  pub low : 0x4400 ≤ p
-  pub high : p + 2 * length (words_of is) < 0x10000
+  pub low : fram_first ≤ p
+  pub high : p + 2 * length (words_of is) < fram_end
   pub steps : c.step ≡ exec (placed p is)
-  pub powers : (s : MachineBoard) (q : PowerState) → IsMachineOfWords s → IsPowerState q → s.fram 0xFFFE ≡ entry → c.IsPoweredUp (machine_powered s q)
+  pub powers : (s : MachineBoard) (q : PowerState) → IsMachineOfWords s → IsPowerState q → s.fram reset_vector ≡ entry → c.IsPoweredUp (machine_powered s q)
 
 -- steps that store on none of so many words from p on, nor on the reset vector, and never come to where no instruction stands
 pub record LeavesProgram (p n : ℕ) (r : MachineStretch) : Type 0 where
   pub code : LeavesCode p n r
-  pub vector : EachStore (IsElsewhere 0xFFFE) r.effects
+  pub vector : EachStore (IsElsewhere reset_vector) r.effects
 
 -- wherever charges of a program lead, the steps of a further one are such
 abbrev pub AlwaysLeaves : Program → ℕ → ℕ → ℕ → MachineBoard → History → Type 0

@@ -2,10 +2,10 @@
 use Rattle.std.proofs.Common.{◌≡◌, ℕ, suc, ◌+◌, ◌%◌, ◌<◌, ◌≤◌, ◌==◌, [], ◌∷◌, List, Some, refl, ap, ◌∙◌, subst, arith, Bool, true, false, not}
 use Rattle.std.proofs.Common.{if◌then◌else◌, zero}
 use Rattle.std.proofs.lemmas.Bool.Decides.{nat_tests}
-use Rattle.msp_isa.specs.declared.instructions.TwoOp.TheVariants.{Sub, Cmp}
-use Rattle.msp_isa.specs.declared.operands.Konst.TheVariants.{Zero, One}
-use Rattle.msp_isa.specs.declared.instructions.Condition.TheVariants.{Equal, NotEqual, Always}
-use Rattle.runtime_effects.specs.msp_step.Effect.{sum16, distance}
+use Rattle.code_forms.specs.msp_isa.declared.instructions.TwoOp.TheVariants.{Sub, Cmp}
+use Rattle.code_forms.specs.msp_isa.declared.operands.Konst.TheVariants.{Zero, One}
+use Rattle.code_forms.specs.msp_isa.declared.instructions.Condition.TheVariants.{Equal, NotEqual, Always}
+use Rattle.runtime_effects.specs.msp_step.Effect.{word_sum, distance}
 use Rattle.runtime_effects.specs.machine_effects.World.{put}
 use Rattle.runtime_effects.specs.machine_effects.Going.{Goes}
 use Rattle.runtime_effects.specs.machine_effects.Machine.{Code}
@@ -48,16 +48,16 @@ one_less u = end_of u (forms_run (Calculate Sub (Constant One) R4 ∷ []) u).sta
 
 module _ (code : Code) (tidy : IsTidy code) where
   -- a jump that is always taken
-  pub jumps_to : (p q o : ℕ) (u : Core) → code p ≡ Some (instruction_of (Jump Always o)) → u.pc ≡ p → sum16 (p + 2) (distance o) ≡ q
+  pub jumps_to : (p q o : ℕ) (u : Core) → code p ≡ Some (instruction_of (Jump Always o)) → u.pc ≡ p → word_sum (p + 2) (distance o) ≡ q
       → Comes code [] 1 2 u (λ v. v ≡ record u { pc = q })
   jumps_to p q o u h e there =
       one_form code tidy (Jump Always o) u (record u { pc = q }) [] 2 (λ v. v ≡ record u { pc = q }) (ap code e ∙ h) tt
-      (ap (λ x. Goes [] 2 (record u { pc = sum16 (x + 2) (distance o) })) e ∙ ap (λ x. Goes [] 2 (record u { pc = x })) there) refl
+      (ap (λ x. Goes [] 2 (record u { pc = word_sum (x + 2) (distance o) })) e ∙ ap (λ x. Goes [] 2 (record u { pc = x })) there) refl
 
   -- a loop: its turn begins 8 bytes behind its test, and its count stands at q
   module _ (p address over back q end : ℕ) (turn : List Form) (stands : Stands code p (counted address turn over back))
-      (there : sum16 (p + 2 + 2) (distance over) ≡ end) (count_at : p + 2 + 2 + 4 + forms_bytes turn ≡ q)
-      (again : sum16 (q + 2 + 2) (distance back) ≡ p + 2 + 2 + 4) (out : q + 2 + 2 ≡ end) where
+      (there : word_sum (p + 2 + 2) (distance over) ≡ end) (count_at : p + 2 + 2 + 4 + forms_bytes turn ≡ q)
+      (again : word_sum (q + 2 + 2) (distance back) ≡ p + 2 + 2 + 4) (out : q + 2 + 2 ≡ end) where
     pub turn_stands : Stands code (p + 2 + 2 + 4) turn
     turn_stands = stands_front code (p + 2 + 2 + 4) turn (loop_end back) stands.1.1.1
 
@@ -74,8 +74,8 @@ module _ (code : Code) (tidy : IsTidy code) where
         let t : Core = record (tested u) { pc = if b then end else p + 2 + 2 } in
         then_on code 1 1 1 2 u (tested u) (λ v. v ≡ t) [] [] (check u e)
         (one_form code tidy (Jump Equal over) (tested u) t [] 2 (λ v. v ≡ t) (ap (λ x. code (x + 2)) e ∙ stands.1.0) tt
-        (ap (λ x. Goes [] 2 (record (tested u) { pc = if x then sum16 (u.pc + 2 + 2) (distance over) else u.pc + 2 + 2 })) z
-        ∙ ap (λ x. Goes [] 2 (record (tested u) { pc = if b then sum16 (x + 2 + 2) (distance over) else x + 2 + 2 })) e
+        (ap (λ x. Goes [] 2 (record (tested u) { pc = if x then word_sum (u.pc + 2 + 2) (distance over) else u.pc + 2 + 2 })) z
+        ∙ ap (λ x. Goes [] 2 (record (tested u) { pc = if b then word_sum (x + 2 + 2) (distance over) else x + 2 + 2 })) e
         ∙ ap (λ x. Goes [] 2 (record (tested u) { pc = if b then x else p + 2 + 2 })) there)
         refl)
 
@@ -98,8 +98,8 @@ module _ (code : Code) (tidy : IsTidy code) where
         then_on code 1 1 1 2 u (one_less u) (λ v. v ≡ t) [] []
         (straight code tidy ms 1 u (one_less u) [] 1 (λ v. v ≡ one_less u) (tt, tt) (ap code e ∙ counting.0, tt) ((tt, tt), tt) refl refl refl)
         (one_form code tidy (Jump NotEqual back) (one_less u) t [] 2 (λ v. v ≡ t) (ap (λ x. code (x + 2)) e ∙ counting.1.0) tt
-        (ap (λ x. Goes [] 2 (record (one_less u) { pc = if not x then sum16 (u.pc + 2 + 2) (distance back) else u.pc + 2 + 2 })) z
-        ∙ ap (λ x. Goes [] 2 (record (one_less u) { pc = if not b then sum16 (x + 2 + 2) (distance back) else x + 2 + 2 })) e
+        (ap (λ x. Goes [] 2 (record (one_less u) { pc = if not x then word_sum (u.pc + 2 + 2) (distance back) else u.pc + 2 + 2 })) z
+        ∙ ap (λ x. Goes [] 2 (record (one_less u) { pc = if not b then word_sum (x + 2 + 2) (distance back) else x + 2 + 2 })) e
         ∙ ap (λ x. Goes [] 2 (record (one_less u) { pc = if not b then x else q + 2 + 2 })) again
         ∙ ap (λ x. Goes [] 2 (record (one_less u) { pc = if not b then p + 2 + 2 + 4 else x })) out)
         refl)

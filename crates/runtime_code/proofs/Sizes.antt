@@ -1,6 +1,6 @@
 -- The length of code.
 use Rattle.std.proofs.Common.{◌≡◌, ℕ, ◌*◌, List, [], ◌∷◌, ◌++◌, length, refl, arith, length-append}
-use Rattle.msp_isa.specs.Encoding.{encoding}
+use Rattle.code_forms.specs.msp_isa.Encoding.{encoding}
 use Rattle.code_forms.specs.Forms.{Form, instruction_of}
 use Rattle.code_forms.specs.Code.{forms_bytes}
 use Rattle.code_forms.specs.Placed.{instructions, words_of, AreInstructions}

@@ -1,8 +1,8 @@
 -- Loops that count down.
 use Rattle.std.specs.Prelude.{ℕ, zero, suc, List, [], ◌∷◌, ◌++◌}
-use Rattle.msp_isa.specs.declared.instructions.TwoOp.TheVariants.{Sub, Cmp}
-use Rattle.msp_isa.specs.declared.operands.Konst.TheVariants.{Zero, One}
-use Rattle.msp_isa.specs.declared.instructions.Condition.TheVariants.{Equal, NotEqual}
+use Rattle.code_forms.specs.msp_isa.declared.instructions.TwoOp.TheVariants.{Sub, Cmp}
+use Rattle.code_forms.specs.msp_isa.declared.operands.Konst.TheVariants.{Zero, One}
+use Rattle.code_forms.specs.msp_isa.declared.instructions.Condition.TheVariants.{Equal, NotEqual}
 use Rattle.code_forms.specs.Forms.{Form, Move, Calculate, Jump, Constant, Number, ToRegister, R4, R5}
 
 -- where R4 is 0, over the loop's words; else R5 := the address of what it goes over

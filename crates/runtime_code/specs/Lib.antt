@@ -4,7 +4,8 @@ pub mod Addresses
 pub mod LayoutPlaces
 pub mod Laws
 pub use Rattle.runtime_effects.specs.text_parts as text_parts
-pub use Rattle.msp_isa.specs.alp_words as alp_words
+pub use Rattle.code_forms.specs.alp_words as alp_words
+pub use Rattle.code_forms.specs.msp_isa as msp_isa
 pub use Rattle.runtime_effects.specs.msp_cycles as msp_cycles
 pub use Rattle.runtime_effects.specs.msp_step as msp_step
 pub use Rattle.runtime_effects.specs.image_map as image_map

@@ -4,8 +4,7 @@ ghost use Rattle.std.specs.Prelude.{◌≡◌, ◌<◌, ℕ};
 ghost use Rattle.code_forms.specs.Placed.{instructions};
 ghost use Rattle.runtime_code.specs.Counted.{loop_begin, loop_end};
 
-use crate::writing::{cmp, jump, mov, set, sub};
-use msp_isa::{Condition, IndexRegister, Instr, Konst, Src};
+use code_forms::{Condition, Instr, Konst, Src, TO_R4, TO_R5, cmp, constant, jump, mov, sub};
 
 /// The beginning of a loop: where R4 is 0 it leads over so many words, else R5 becomes the address.
 pub fn loop_begin(address: u16, over: u16) -> [Instr; 3]
@@ -13,9 +12,9 @@ pub fn loop_begin(address: u16, over: u16) -> [Instr; 3]
     ensures { result ≡ instructions (loop_begin address over) }
 {
     [
-        cmp(Src::Constant(Konst::Zero), set(IndexRegister::R4)),
+        cmp(constant(Konst::Zero), TO_R4),
         jump(Condition::Equal, over),
-        mov(Src::Immediate(address), set(IndexRegister::R5)),
+        mov(Src::Immediate(address), TO_R5),
     ]
 }
 
@@ -25,7 +24,7 @@ pub fn loop_end(back: u16) -> [Instr; 2]
     ensures { result ≡ instructions (loop_end back) }
 {
     [
-        sub(Src::Constant(Konst::One), set(IndexRegister::R4)),
+        sub(constant(Konst::One), TO_R4),
         jump(Condition::NotEqual, back),
     ]
 }

@@ -1,13 +1,14 @@
-//! What the code of the boot and of the commit have in common: how their instructions are written, loops that count down, and
-//! stretches of code whose steps and cycles are known exactly.
+//! What the code of the boot and of the commit have in common: loops that count down, and stretches of code whose steps and
+//! cycles are known exactly.
 #![tactic(auto)]
 
 mod addresses;
 mod counted;
 mod laws;
-mod writing;
 
 pub use addresses::start_address;
 pub use counted::{loop_begin, loop_end};
 pub use laws::{layout_is_in_fram, layout_keeps_apart};
-pub use writing::{add, branch, cmp, jump, load, mov, read, set, sub};
+
+// How boot and commit write their instructions.
+pub use code_forms as forms;

@@ -1,5 +1,6 @@
 -- What commit and attempt start need of FRAM, and where the runtime's places stand.
 use Rattle.std.specs.Prelude.{◌≡◌, ◌≢◌, ℕ, ◌+◌, ◌*◌, ◌%◌, ◌<◌, ◌≤◌, ◌⊎◌, length, All}
+use Rattle.memory_map.specs.address_space.Limits.{fram_first, fram_end}
 use Rattle.memory_map.specs.declared.words.RuntimeWord.{RuntimeWord}
 use Rattle.machine_effects.specs.Machine.{IsFram}
 use Rattle.memory_map.specs.declared.words.RuntimeWord.TheVariants.{CurrentTask, NextTask, ListLength, EmitCount, SentBase}
@@ -9,8 +10,8 @@ use Rattle.runtime_effects.specs.Places.{CopyPair, entry_bytes, listed}
 -- so many bytes from an address on are words of FRAM, with room behind them
 pub record IsRegion (p bytes : ℕ) : Type 0 where
   pub even : p % 2 ≡ 0
-  pub low : 0x4400 ≤ p
-  pub high : p + bytes < 0x10000
+  pub low : fram_first ≤ p
+  pub high : p + bytes < fram_end
 
 -- the runtime's words and lists stand in FRAM
 pub record AreInFram (m : MemoryMap) : Type 0 where
@@ -35,7 +36,7 @@ pub record LeavesCommit (m : MemoryMap) (a : ℕ) : Type 0 where
 pub record IsCopied (m : MemoryMap) (x : CopyPair) : Type 0 where
   pub home : IsFram x.home
   pub copy : IsFram x.copy
-  pub before_last : x.copy + 2 < 0x10000
+  pub before_last : x.copy + 2 < fram_end
   pub leaves : LeavesCommit m x.home
 
 -- FRAM on which a commit can be made: its entries, the words that they name and its emits are within their capacities, and it copies

@@ -1,11 +1,8 @@
 -- The source that is generated from a number: its draws are made in the order of the text.
 -- 8 scalars, each with a draw; 2 arrays; 16 tasks, each with 6 draws for its statements and one for the task that comes next.
 use Rattle.std.specs.Prelude.{ℕ, zero, suc, ◌+◌, ◌/◌, ◌%◌, ◌==◌, if◌then◌else◌, List, [], ◌∷◌, ◌++◌, codes, decimal, flat_map}
+pub use Rattle.alp_text.specs.Pieces.{texts}
 use Rattle.source_generator.specs.Draws.{drawn, draws, behind}
-
--- texts one behind the other
-abbrev pub texts : List (List ℕ) → List ℕ
-texts = flat_map (λ text. text)
 
 -- the statement that a draw chooses, by its remainder by 6; its capital letters are still open
 abbrev pub template : ℕ → List ℕ

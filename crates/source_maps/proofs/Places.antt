@@ -9,7 +9,8 @@ use Rattle.task_ast.specs.declared.Extent.{Extent}
 use Rattle.task_ast.specs.declared.Extent.TheVariants as extent
 use Rattle.task_ast.specs.declared.SharedDeclaration.{SharedDeclaration}
 use Rattle.image_map.specs.MapValue.{IsFramWord, IsVariable, scalar_words, word_count, fits, is_long, is_kind, variable_names}
-use Rattle.source_runs.specs.Naming.{length_of, is_wide, AreVariablesOf}
+use Rattle.source_report.specs.source_values.Runs.{is_long_extent}
+use Rattle.source_runs.specs.Naming.{length_of, AreVariablesOf}
 use Rattle.source_report.specs.SourceReport.{spelled}
 use Rattle.memory_map.specs.address_space.Limits.{fram_first, reset_vector}
 use Rattle.memory_map.specs.declared.place.VariablePlace.{VariablePlace}
@@ -121,7 +122,7 @@ names_of_variables text (d ∷ ds) [] h = absurd h
 names_of_variables text (d ∷ ds) (p ∷ ps) h = ap (λ l. spelled text d.name ∷ l) (names_of_variables text ds ps h.1)
 
 -- a long has the type of one
-wide_there : (w : WordType) (e : Extent) → is_long (value_type_of w e) ≡ is_wide e
+wide_there : (w : WordType) (e : Extent) → is_long (value_type_of w e) ≡ is_long_extent e
 wide_there w (extent.Scalar v) = no_long w
 wide_there w (extent.Long n) = refl
 wide_there w (extent.Array n) = no_long w

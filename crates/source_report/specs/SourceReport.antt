@@ -76,6 +76,10 @@ abbrev pub position_after : ℕ → List Committed → ℕ
 position_after at [] = at
 position_after at (span ∷ spans) = position_after span.to spans
 
+-- how many words transitions emit
+abbrev pub words_in : List Transition → ℕ
+words_in ts = sum_by (λ t. length t.emitted) ts
+
 -- the end is `limit` where as many transitions are made as there may be, else `readings`: the next attempt is short
 abbrev pub IsEnding : Reason → ℕ → ℕ → Outcome → Type 0
 IsEnding Limit most made next = made ≡ most
@@ -94,4 +98,4 @@ pub record IsMeanReport (source_text : List ℕ) (program : CheckedProgram) (rea
   pub ending : let end = state_behind (first_state program) transitions in
       IsEnding reason 10000 (length spans) (attempt_of program end.task end.shared (drop (position_after 0 spans) readings))
   pub lines : text ≡ source_report source_text program 1 spans transitions
-      ++ end_line reason (length spans) (sum_by (λ t. length t.emitted) transitions) 0
+      ++ end_line reason (length spans) (words_in transitions) 0

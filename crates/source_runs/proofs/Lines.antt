@@ -16,14 +16,14 @@ use Rattle.model_runs.specs.image_map.MapValue.{MapValue, is_long, word_count}
 use Rattle.model_runs.specs.board_run.History.{SharedNumber, array_words, scalar_number, number_of, variable_numbers, shared_numbers}
 use Rattle.model_runs.specs.board_run.History.{changed_line}
 use Rattle.model_runs.specs.board_run.History as board
-use Rattle.source_report.specs.source_values.Runs.{CheckedProgram, State, Transition, state_after}
+use Rattle.source_report.specs.source_values.Runs.{CheckedProgram, is_long_extent, State, Transition, state_after}
 use Rattle.source_report.specs.SourceReport.{spelled, Committed, emitted_lines, change_line, element_lines, variable_lines, transition_lines, source_report}
 use Rattle.source_report.specs.SourceReport as source
 use Rattle.model_runs.specs.machine_effects.World.{World}
 use Rattle.model_runs.specs.crash_rules.History.{Done}
 use Rattle.model_runs.specs.Events.{counted, words_between, word_lines, change_lines, done_lines, dones_lines}
 use Rattle.model_runs.proofs.Interface.{few_words_have_lines}
-use Rattle.source_runs.specs.Naming.{length_of, is_wide, AreVariablesOf, IsMapOf}
+use Rattle.source_runs.specs.Naming.{length_of, AreVariablesOf, IsMapOf}
 use Rattle.source_runs.specs.Transitions.{words_at, rows_in, HasWordsOf, StandsForTransition, StandForTransitions, committed_by}
 use Rattle.source_runs.specs.EventLaws.{DonesAreTransitions}
 
@@ -63,7 +63,7 @@ array_lines name a i (suc n) x y =
     (array_lines name (a + 2) (i + 1) n x y)
 
 -- the lines of a variable's words
-words_lines : (name : List ℕ) (a : ℕ) (t : ValueType) (e : Extent) (x y : World) → is_long t ≡ is_wide e
+words_lines : (name : List ℕ) (a : ℕ) (t : ValueType) (e : Extent) (x y : World) → is_long t ≡ is_long_extent e
     → change_lines (variable_numbers name a t (length_of e)) x y
     ≡ variable_lines name e (words_at x a (word_count t (length_of e))) (words_at y a (word_count t (length_of e)))
 words_lines name a t (Array n) x y is = array_lines name a 0 n x y
@@ -86,7 +86,7 @@ module _ (text : List ℕ) (v : Variable) (d : SharedDeclaration) (x y : World) 
   AreLinesOf name o = change_lines (variable_numbers v.name v.address v.value_type o) x y
       ≡ variable_lines name d.extent (words_at x v.address (word_count v.value_type o)) (words_at y v.address (word_count v.value_type o))
 
-  variable_same : v.name ≡ spelled text d.name → v.length ≡ length_of d.extent → is_long v.value_type ≡ is_wide d.extent
+  variable_same : v.name ≡ spelled text d.name → v.length ≡ length_of d.extent → is_long v.value_type ≡ is_long_extent d.extent
       → AreLinesOf (spelled text d.name) v.length
   variable_same e l long =
       subst (AreLinesOf (spelled text d.name)) (sym l)

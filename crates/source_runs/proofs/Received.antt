@@ -1,5 +1,5 @@
 -- The receiver of a run accepted the words that its transitions emitted, and has heard no more than its charges pay for.
-use Rattle.std.proofs.Common.{◌≡◌, ◌≤◌, ℕ, ◌+◌, ◌-◌, refl, sym, ap, subst, arith, Bool, true, false, if◌then◌else◌, List, [], ◌∷◌, ◌++◌, length, sum_by}
+use Rattle.std.proofs.Common.{◌≡◌, ◌≤◌, ℕ, ◌+◌, ◌-◌, refl, sym, ap, subst, arith, Bool, true, false, if◌then◌else◌, List, [], ◌∷◌, ◌++◌, length}
 use Rattle.std.proofs.Common.{length-append, append-nil, Option, Some, None, Result, Ok, Err, ◌∙◌}
 use Rattle.std.proofs.lemmas.List.Sums.{sum_by-cons}
 use Rattle.model_runs.specs.msp_isa.declared.instructions.Instr.{Instr}
@@ -16,6 +16,7 @@ use Rattle.model_runs.specs.fram_board.Board.{BoardValue, opened, answer_of, exe
 use Rattle.model_runs.specs.fram_board.Run.{Measure, Moment, Charges, Stopped, RunOutcome, run_outcome, BoardCharge, price, ChargeRun, Spent, NoInstruction}
 use Rattle.model_runs.specs.fram_board.Run.{TooDear, Refused, Executed, Run, Over, Next, Last, word_list, accepted_by, accepted_words}
 use Rattle.model_runs.proofs.fram_board.Interface.{price_low, counted}
+use Rattle.source_report.specs.SourceReport.{words_in}
 use Rattle.source_report.specs.source_values.Runs.{State, Transition, state_after}
 use Rattle.model_runs.specs.machine_effects.World.{World}
 use Rattle.model_runs.specs.machine_effects.Runs.{last_board}
@@ -29,10 +30,6 @@ use Rattle.model_runs.proofs.Interface.{Together, moments_lead, first_histories_
 use Rattle.model_runs.specs.board_run.History.{start_with}
 use Rattle.source_runs.specs.Transitions.{HasWordsOf, StandForTransitions}
 use Rattle.model_runs.specs.Runs.{all_amounts}
-
--- the words that transitions emitted
-abbrev words_in : List Transition → ℕ
-words_in ts = sum_by (λ t. length t.emitted) ts
 
 -- the words accepted at the last done are those of the transitions up to it
 words_at_last : (m : MapValue) (x : World) (s : State) (ds : List Done) (ts : List Transition) → HasWordsOf m x s → StandForTransitions m s ds ts

@@ -1,11 +1,11 @@
 -- A map that is a source's.
-use Rattle.std.specs.Prelude.{◌≡◌, ℕ, Bool, true, false, List, [], ◌∷◌, map, Option, Some, None}
+use Rattle.std.specs.Prelude.{◌≡◌, ℕ, List, [], ◌∷◌, map, Option, Some, None}
 use Rattle.source_report.specs.task_ast.declared.SharedDeclaration.{SharedDeclaration}
 use Rattle.source_report.specs.task_ast.declared.Extent.{Extent}
 use Rattle.source_report.specs.task_ast.declared.Extent.TheVariants.{Scalar, Long, Array}
 use Rattle.model_runs.specs.image_map.declared.parts.Variable.{Variable}
 use Rattle.model_runs.specs.image_map.MapValue.{MapValue, is_long}
-use Rattle.source_report.specs.source_values.Runs.{CheckedProgram}
+use Rattle.source_report.specs.source_values.Runs.{CheckedProgram, is_long_extent}
 use Rattle.source_report.specs.SourceReport.{spelled}
 
 -- the length of an array; nothing for a scalar
@@ -14,19 +14,13 @@ length_of (Scalar w) = None
 length_of (Long n) = None
 length_of (Array n) = Some n
 
--- whether a variable of this extent is a long
-abbrev pub is_wide : Extent → Bool
-is_wide (Scalar w) = false
-is_wide (Long n) = true
-is_wide (Array n) = false
-
 -- a map's variables are these declarations', by name, length and whether it is a long, in order
 abbrev pub AreVariablesOf : List ℕ → List Variable → List SharedDeclaration → Type 0
 AreVariablesOf text [] [] = Unit {0}
 AreVariablesOf text [] (d ∷ ds) = ⊥
 AreVariablesOf text (v ∷ vs) [] = ⊥
 AreVariablesOf text (v ∷ vs) (d ∷ ds) = (v.name ≡ spelled text d.name) × (v.length ≡ length_of d.extent)
-    × (is_long v.value_type ≡ is_wide d.extent) × AreVariablesOf text vs ds
+    × (is_long v.value_type ≡ is_long_extent d.extent) × AreVariablesOf text vs ds
 
 -- a map names the shared variables and the tasks of a source, in order
 pub record IsMapOf (text : List ℕ) (program : CheckedProgram) (m : MapValue) : Type 0 where

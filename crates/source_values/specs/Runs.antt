@@ -1,16 +1,13 @@
 -- The run of a source: whole tasks, one after another, each on its own list of readings.
 use Rattle.std.specs.Prelude.{ℕ, ◌<◌, ◌≤◌, ◌/◌, ◌%◌, Bool, true, false, List, [], ◌∷◌, ◌++◌, map, replicate, Option, Some, None, slice_get}
-use Rattle.task_ast.specs.Tree.{Program, Task, Block, end}
+use Rattle.task_ast.specs.Tree.{Task, Block, end}
+pub use Rattle.task_ast.specs.Paths.{CheckedProgram}
 use Rattle.task_ast.specs.declared.Extent.{Extent}
 use Rattle.task_ast.specs.declared.Extent.TheVariants.{Scalar, Long, Array}
 use Rattle.task_ast.specs.declared.names.VariableName.{VariableName}
 use Rattle.task_ast.specs.declared.names.TaskName.{TaskName}
 use Rattle.source_values.specs.Values.{◌>>?◌}
 use Rattle.source_values.specs.Statements.{Attempt, Outcome, goes_on, to_task, short, run_block, block_emits}
-
--- a source whose names have been looked up
-abbrev pub CheckedProgram : Type 0
-CheckedProgram = Program VariableName TaskName
 
 -- whether a shared variable is a long
 abbrev pub is_long_extent : Extent → Bool

@@ -5,6 +5,7 @@ use Rattle.std.specs.Prelude.{Option, Some, None}
 use Rattle.std.specs.Prelude.{slice_index, slice_index_or, slice_set}
 pub use Rattle.task_ast.specs.alp_text.Sequence.{◌>>?◌}
 use Rattle.alp_words.specs.Words.{word_sum, word_difference, word_product, quotient, remainder, arithmetic_shift, biased, bit}
+pub use Rattle.alp_words.specs.Words.{two_words, sign_word}
 pub use Rattle.task_ast.specs.Types.{by_width, is_long, joined_type, binary_type, unary_type, literal_type, type_of}
 use Rattle.task_ast.specs.Tree.{Expression, number, long_number, name, element, sense, unary, binary, shift, short_circuit}
 use Rattle.task_ast.specs.declared.WordType.{WordType}
@@ -38,10 +39,6 @@ abbrev pub with_word : Variables → Variable → ℕ → ℕ → Variables
 with_word m (Shared v) i w = record m { shared = slice_set m.shared v (slice_set (slice_index_or m.shared v []) i w) }
 with_word m (Local n) i w = record m { locals = slice_set m.locals n w }
 
--- what two words are worth, the low one first
-abbrev pub two_words : ℕ → ℕ → ℕ
-two_words low high = low + 65536 * high
-
 -- what a row of words shows at an index: a word, or at 0 the number of a long's two words
 abbrev pub shown : Bool → List ℕ → ℕ → ℕ
 shown is_long row i = if is_long then (if i == 0 then two_words (slice_index row 0) (slice_index row 1) else 0) else slice_index row i
@@ -49,10 +46,6 @@ shown is_long row i = if is_long then (if i == 0 then two_words (slice_index row
 -- the value of a scalar: its word, or of a long one its two words
 abbrev pub scalar_value : Variables → VariableName → ℕ
 scalar_value m x = by_width x.word_type (word_at m x.variable 0) (two_words (word_at m x.variable 0) (word_at m x.variable 1))
-
--- the high word of an int that becomes long: its sign
-abbrev pub sign_word : ℕ → ℕ
-sign_word w = if nat_lt w 32768 then 0 else 65535
 
 -- A number of one type as one of another: an unsigned becomes long by a high word of 0, an int by its sign; a long that becomes one word is
 -- cut to its low word.

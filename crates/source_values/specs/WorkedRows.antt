@@ -1,13 +1,11 @@
 -- Worked examples of values, types and statements, as the definitions give them.
 use Rattle.std.specs.Prelude.{◌≡◌, ℕ, List, [], ◌∷◌, Some, None}
-use Rattle.task_ast.specs.alp_text.declared.lines.Span.{Span}
+use Rattle.task_ast.specs.Worked.{nowhere, here}
 use Rattle.task_ast.specs.Tree.{number, long_number, name, element, sense, unary, binary, shift, short_circuit, declare, assign, store, loop, emit}
 use Rattle.task_ast.specs.Tree.{transition, end, step}
 use Rattle.task_ast.specs.declared.WordType.TheVariants.{Unsigned, Int, Long}
 use Rattle.task_ast.specs.declared.UnaryOperator.TheVariants.{Negate, Complement, Not}
-use Rattle.task_ast.specs.declared.BinaryOperator.{BinaryOperator}
 use Rattle.task_ast.specs.declared.BinaryOperator.TheVariants.{Divide, Remainder, Add, Subtract, Less, GreaterEqual, Equal, And, Xor, Or}
-use Rattle.task_ast.specs.declared.PlacedOperator.{PlacedOperator}
 use Rattle.task_ast.specs.declared.ShiftOperator.TheVariants.{Left, Right}
 use Rattle.task_ast.specs.declared.ShortCircuitOperator.TheVariants as short_circuit_operator
 use Rattle.task_ast.specs.declared.Literal.{Literal}
@@ -17,10 +15,6 @@ use Rattle.task_ast.specs.declared.names.VariableName.{VariableName}
 use Rattle.source_values.specs.Values.{Variables, value_of, type_of}
 use Rattle.source_values.specs.Statements.{Attempt, goes_on, to_task, short, run_statement, run_block}
 use Rattle.source_values.specs.Runs.{initial_words}
-
--- where a name stands means nothing here
-abbrev pub nowhere : Span
-nowhere = record { from = 0; to = 0 }
 
 -- `shared int p = -3; shared unsigned a[2];` and a local
 abbrev pub p : VariableName
@@ -40,9 +34,6 @@ by_one = record { value = 1; span = nowhere }
 
 abbrev pub by : ℕ → Literal
 by count = record { value = count; span = nowhere }
-
-abbrev pub here : BinaryOperator → PlacedOperator
-here op = record { operator = op; span = nowhere }
 
 -- `shared int p = -3; shared unsigned long l = 4294967295UL;` and a local
 abbrev pub l : VariableName

@@ -3,14 +3,11 @@
 use Rattle.std.specs.Prelude.{◌≡◌, ℕ, zero, suc, ◌+◌, ◌*◌, ◌%◌, ◌<◌, ◌≤◌, ◌⊎◌, true, List, [], ◌∷◌, ◌++◌, length, take, slice_index}
 use Rattle.runtime_effects.specs.memory_map.MemoryMap.{word_place}
 use Rattle.runtime_effects.specs.memory_map.declared.words.RuntimeWord.TheVariants.{CurrentTask, NextTask, Gate, ListLength, EmitCount, Base, SentBase, Version}
+pub use Rattle.runtime_effects.specs.machine_effects.alp_words.Words.{HoldsWords}
 use Rattle.runtime_effects.specs.machine_effects.World.{World, world_after}
 use Rattle.runtime_effects.specs.Places.{CopyPair, entry_bytes, listed}
 use Rattle.runtime_effects.specs.Stages.{commit_effects}
 use Rattle.stands_for.specs.Layout.{ProgramPlaces, StateView, IsSharedWord, IsCopyWord, IsAmong}
-
--- every word of FRAM is a word
-abbrev pub HoldsWords : (ℕ → ℕ) → Type 0
-HoldsWords f = (a : ℕ) → f a < 0x10000
 
 -- so many words from an address on
 abbrev pub words_at : ℕ → ℕ → (ℕ → ℕ) → List ℕ

@@ -18,7 +18,7 @@ use Rattle.msp_step.specs.declared.operand.Location.{Location}
 use Rattle.msp_step.specs.declared.operand.Location.TheVariants.{Register, Memory}
 use Rattle.msp_step.specs.Registers.{Registers, with_register}
 use Rattle.msp_step.specs.Access.{BusModel, Access, Completed, Faulted, then_do, read_answer, write_answer, read_at, write_at}
-use Rattle.msp_step.specs.Effect.{sum16, Operated, load, store, source, operand_location, incremented, destination_operand, finish, after_source}
+use Rattle.msp_step.specs.Effect.{word_sum, Operated, load, store, source, operand_location, incremented, destination_operand, finish, after_source}
 use Rattle.msp_step.specs.Effect.{two_operand_effect, with_flags, operated, flags_of, reads_destination, writes_destination, read_modify_write, rotated}
 use Rattle.msp_step.specs.Effect.{shifted, exchanged, sign_extended, push_effect, call_effect, reti_effect}
 use Rattle.msp_step.specs.Step.{effect, one_operand_effect}
@@ -86,27 +86,27 @@ module _ (S T : Type 0) (b : BusModel S) (c : BusModel T) (R : S → T → Type 
 
   two_alike : (op : TwoOp) (w : Width) (x : Src) (d : Dst) (r : Registers) (s : S) (t : T) → R s t
       → Alike R (two_operand_effect b op w x d r s) (two_operand_effect c op w x d r t)
-  two_alike op w x d r s t h = then_alike (source b (with_register r 0 (sum16 (r 0) 2)) w x s) (source c (with_register r 0 (sum16 (r 0) 2)) w x t) _ _
-      (source_alike (with_register r 0 (sum16 (r 0) 2)) w x s t h) (λ y s' t' k. after_alike op w _ y.0 _ s' t' k)
+  two_alike op w x d r s t h = then_alike (source b (with_register r 0 (word_sum (r 0) 2)) w x s) (source c (with_register r 0 (word_sum (r 0) 2)) w x t) _ _
+      (source_alike (with_register r 0 (word_sum (r 0) 2)) w x s t h) (λ y s' t' k. after_alike op w _ y.0 _ s' t' k)
 
   modification_alike : (f : Width → ℕ → Flags → Operated) (w : Width) (p : Operand) (r : Registers) (s : S) (t : T) → R s t
       → Alike R (read_modify_write b f w p r s) (read_modify_write c f w p r t)
   modification_alike f w p r s t h =
-      let moved = with_register r 0 (sum16 (r 0) 2) in
-      let l = operand_location moved (sum16 (r 0) 2) p in
+      let moved = with_register r 0 (word_sum (r 0) 2) in
+      let l = operand_location moved (word_sum (r 0) 2) p in
       then_alike (load b moved w l s) (load c moved w l t) _ _ (load_alike moved w l s t h) (λ v s' t' k. store_alike _ w l _ s' t' k)
 
   push_alike : (w : Width) (x : Src) (r : Registers) (s : S) (t : T) → R s t → Alike R (push_effect b w x r s) (push_effect c w x r t)
-  push_alike w x r s t h = then_alike (source b (with_register r 0 (sum16 (r 0) 2)) w x s) (source c (with_register r 0 (sum16 (r 0) 2)) w x t) _ _
-      (source_alike (with_register r 0 (sum16 (r 0) 2)) w x s t h) (λ y s' t' k. write_alike _ w y.0 _ s' t' k)
+  push_alike w x r s t h = then_alike (source b (with_register r 0 (word_sum (r 0) 2)) w x s) (source c (with_register r 0 (word_sum (r 0) 2)) w x t) _ _
+      (source_alike (with_register r 0 (word_sum (r 0) 2)) w x s t h) (λ y s' t' k. write_alike _ w y.0 _ s' t' k)
 
   call_alike : (x : Src) (r : Registers) (s : S) (t : T) → R s t → Alike R (call_effect b x r s) (call_effect c x r t)
-  call_alike x r s t h = then_alike (source b (with_register r 0 (sum16 (r 0) 2)) Word x s) (source c (with_register r 0 (sum16 (r 0) 2)) Word x t) _ _
-      (source_alike (with_register r 0 (sum16 (r 0) 2)) Word x s t h) (λ y s' t' k. write_alike _ Word _ _ s' t' k)
+  call_alike x r s t h = then_alike (source b (with_register r 0 (word_sum (r 0) 2)) Word x s) (source c (with_register r 0 (word_sum (r 0) 2)) Word x t) _ _
+      (source_alike (with_register r 0 (word_sum (r 0) 2)) Word x s t h) (λ y s' t' k. write_alike _ Word _ _ s' t' k)
 
   reti_alike : (r : Registers) (s : S) (t : T) → R s t → Alike R (reti_effect b r s) (reti_effect c r t)
   reti_alike r s t h = then_alike (read_at b (r 1) Word s) (read_at c (r 1) Word t) _ _ (read_alike (r 1) Word s t h)
-      (λ sr s' t' k. then_alike (read_at b (sum16 (r 1) 2) Word s') (read_at c (sum16 (r 1) 2) Word t') _ _ (read_alike (sum16 (r 1) 2) Word s' t' k)
+      (λ sr s' t' k. then_alike (read_at b (word_sum (r 1) 2) Word s') (read_at c (word_sum (r 1) 2) Word t') _ _ (read_alike (word_sum (r 1) 2) Word s' t' k)
       (λ pc s2 t2 j. (refl, j)))
 
   one_alike : (o : OneOp) (r : Registers) (s : S) (t : T) → R s t → Alike R (one_operand_effect b o r s) (one_operand_effect c o r t)

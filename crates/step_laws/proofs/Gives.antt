@@ -12,7 +12,7 @@ use Rattle.msp_step.specs.msp_isa.declared.instructions.TwoOp.TheVariants.{Mov, 
 use Rattle.msp_step.specs.msp_isa.Encoding.{index_number, source_row, destination_row}
 use Rattle.msp_step.specs.Registers.{Registers, with_register}
 use Rattle.msp_step.specs.Access.{BusModel, Access, Completed, Faulted, then_do, write_answer}
-use Rattle.msp_step.specs.Effect.{sum16, step_of, source, load, operand_location, incremented, destination_location, push_effect, call_effect}
+use Rattle.msp_step.specs.Effect.{word_sum, step_of, source, load, operand_location, incremented, destination_location, push_effect, call_effect}
 use Rattle.msp_step.specs.Step.{effect}
 use Rattle.step_laws.specs.Effects.{Gives, ComparesOnly, MovesOnly, StatusIsTheResult, StatusStays}
 
@@ -31,16 +31,16 @@ write_gives None a s x P h = tt
 
 pub compares_cmp : {S : Type 0} (bus : BusModel S) → ComparesOnly bus Cmp
 unfolding effect
-compares_cmp bus w x d r s = then_gives (source bus (with_register r 0 (sum16 (r 0) 2)) w x s) _ (λ y. y.1 ≡ None) (λ y t.
-    let extension = sum16 (sum16 (r 0) 2) (2 * length (source_row x).extension) in
-    let moved = with_register y.1 0 (sum16 extension (2 * length (destination_row d).extension)) in
+compares_cmp bus w x d r s = then_gives (source bus (with_register r 0 (word_sum (r 0) 2)) w x s) _ (λ y. y.1 ≡ None) (λ y t.
+    let extension = word_sum (word_sum (r 0) 2) (2 * length (source_row x).extension) in
+    let moved = with_register y.1 0 (word_sum extension (2 * length (destination_row d).extension)) in
     then_gives (load bus moved w (destination_location moved extension d) t) _ (λ z. z.1 ≡ None) (λ v u. refl))
 
 pub compares_bit : {S : Type 0} (bus : BusModel S) → ComparesOnly bus Bit
 unfolding effect
-compares_bit bus w x d r s = then_gives (source bus (with_register r 0 (sum16 (r 0) 2)) w x s) _ (λ y. y.1 ≡ None) (λ y t.
-    let extension = sum16 (sum16 (r 0) 2) (2 * length (source_row x).extension) in
-    let moved = with_register y.1 0 (sum16 extension (2 * length (destination_row d).extension)) in
+compares_bit bus w x d r s = then_gives (source bus (with_register r 0 (word_sum (r 0) 2)) w x s) _ (λ y. y.1 ≡ None) (λ y t.
+    let extension = word_sum (word_sum (r 0) 2) (2 * length (source_row x).extension) in
+    let moved = with_register y.1 0 (word_sum extension (2 * length (destination_row d).extension)) in
     then_gives (load bus moved w (destination_location moved extension d) t) _ (λ z. z.1 ≡ None) (λ v u. refl))
 
 pub moves : {S : Type 0} (bus : BusModel S) → MovesOnly bus
@@ -78,7 +78,7 @@ register_keeps index.R14 r v = refl
 register_keeps index.R15 r v = refl
 
 pub increment_keeps : (p : Operand) (r : Registers) (w : Width) → incremented r w p 2 ≡ r 2
-increment_keeps (mode.Increment b) r w = register_keeps b r (sum16 (r (index_number b)) (step_of w (index_number b)))
+increment_keeps (mode.Increment b) r w = register_keeps b r (word_sum (r (index_number b)) (step_of w (index_number b)))
 increment_keeps (mode.Reg h) r w = refl
 increment_keeps (mode.Indexed b x) r w = refl
 increment_keeps (mode.Symbolic x) r w = refl
@@ -92,13 +92,13 @@ source_keeps bus r w (src.Constant k) s = refl
 
 push_keeps : {S : Type 0} (bus : BusModel S) (w : Width) (x : Src) (r : Registers) (s : S) → Gives (push_effect bus w x r s) (λ y. y.0 2 ≡ r 2)
 push_keeps bus w x r s =
-    let first = sum16 (r 0) 2 in
+    let first = word_sum (r 0) 2 in
     then_keeps (source bus (with_register r 0 first) w x s) _ (λ y. y.1 2 ≡ r 2) (λ y. y.0 2 ≡ r 2) (source_keeps bus (with_register r 0 first) w x s)
-    (λ y t k. write_gives (bus.writes t (sum16 (y.1 1) 0xFFFE) w y.0) _ t _ (λ z. z.0 2 ≡ r 2) k)
+    (λ y t k. write_gives (bus.writes t (word_sum (y.1 1) 0xFFFE) w y.0) _ t _ (λ z. z.0 2 ≡ r 2) k)
 
 call_keeps : {S : Type 0} (bus : BusModel S) (x : Src) (r : Registers) (s : S) → Gives (call_effect bus x r s) (λ y. y.0 2 ≡ r 2)
 call_keeps bus x r s =
-    let first = sum16 (r 0) 2 in
+    let first = word_sum (r 0) 2 in
     then_keeps (source bus (with_register r 0 first) Word x s) _ (λ y. y.1 2 ≡ r 2) (λ y. y.0 2 ≡ r 2) (source_keeps bus (with_register r 0 first) Word x s)
     (λ y t k. write_gives (bus.writes t _ Word _) _ t _ (λ z. z.0 2 ≡ r 2) k)
 

@@ -21,7 +21,7 @@ use Rattle.msp_step.specs.msp_isa.declared.instructions.Instr.TheVariants as ins
 use Rattle.msp_step.specs.msp_isa.Encoding.{encoding, index_number, register_number, operand_row, source_row, destination_row}
 use Rattle.msp_step.specs.Registers.{Registers, with_register}
 use Rattle.msp_step.specs.Access.{BusModel, Access, Completed, Faulted}
-use Rattle.msp_step.specs.Effect.{Written, Operated, sum16, source, operand_location, incremented, written_back, read_modify_write, exchanged, rotated}
+use Rattle.msp_step.specs.Effect.{Written, Operated, word_sum, source, operand_location, incremented, written_back, read_modify_write, exchanged, rotated}
 use Rattle.msp_step.specs.Effect.{shifted, sign_extended, pushed, load, store, finish, destination_operand, destination_location, after_source, operated}
 use Rattle.msp_step.specs.Effect.{flags_of, with_flags, reads_destination, writes_destination}
 use Rattle.msp_step.specs.Step.{effect}
@@ -49,20 +49,20 @@ store_keeps_status bus r w extension (dst.Absolute a) v s other = write_gives (b
 pub mov_keeps : {S : Type 0} (bus : BusModel S) → CopiesKeepStatus bus Mov
 unfolding effect
 mov_keeps bus w x d other r s =
-    let first = sum16 (r 0) 2 in
-    let extension = sum16 first (2 * length (source_row x).extension) in
+    let first = word_sum (r 0) 2 in
+    let extension = word_sum first (2 * length (source_row x).extension) in
     then_keeps (source bus (with_register r 0 first) w x s) _ (λ y. y.1 2 ≡ r 2) (λ y. y.0 2 ≡ r 2) (source_keeps bus (with_register r 0 first) w x s) (λ y t k.
-    let moved = with_register y.1 0 (sum16 extension (2 * length (destination_row d).extension)) in
+    let moved = with_register y.1 0 (word_sum extension (2 * length (destination_row d).extension)) in
     gives_more (store bus moved w (destination_location moved extension d) y.0 t) (λ z. z.0 2 ≡ moved 2) (λ z. z.0 2 ≡ r 2) (λ z h. h ∙ k)
     (store_keeps_status bus moved w extension d y.0 t other))
 
 pub bic_keeps : {S : Type 0} (bus : BusModel S) → CopiesKeepStatus bus Bic
 unfolding effect
 bic_keeps bus w x d other r s =
-    let first = sum16 (r 0) 2 in
-    let extension = sum16 first (2 * length (source_row x).extension) in
+    let first = word_sum (r 0) 2 in
+    let extension = word_sum first (2 * length (source_row x).extension) in
     then_keeps (source bus (with_register r 0 first) w x s) _ (λ y. y.1 2 ≡ r 2) (λ y. y.0 2 ≡ r 2) (source_keeps bus (with_register r 0 first) w x s) (λ y t k.
-    let moved = with_register y.1 0 (sum16 extension (2 * length (destination_row d).extension)) in
+    let moved = with_register y.1 0 (word_sum extension (2 * length (destination_row d).extension)) in
     then_gives (load bus moved w (destination_location moved extension d) t) _ (λ z. z.0 2 ≡ r 2) (λ v u.
     gives_more (store bus moved w (destination_location moved extension d) (operated Bic w v y.0 (flags_of (moved 2))).value u) (λ z. z.0 2 ≡ moved 2)
     (λ z. z.0 2 ≡ r 2) (λ z h. h ∙ k) (store_keeps_status bus moved w extension d _ u other)))
@@ -70,10 +70,10 @@ bic_keeps bus w x d other r s =
 pub bis_keeps : {S : Type 0} (bus : BusModel S) → CopiesKeepStatus bus Bis
 unfolding effect
 bis_keeps bus w x d other r s =
-    let first = sum16 (r 0) 2 in
-    let extension = sum16 first (2 * length (source_row x).extension) in
+    let first = word_sum (r 0) 2 in
+    let extension = word_sum first (2 * length (source_row x).extension) in
     then_keeps (source bus (with_register r 0 first) w x s) _ (λ y. y.1 2 ≡ r 2) (λ y. y.0 2 ≡ r 2) (source_keeps bus (with_register r 0 first) w x s) (λ y t k.
-    let moved = with_register y.1 0 (sum16 extension (2 * length (destination_row d).extension)) in
+    let moved = with_register y.1 0 (word_sum extension (2 * length (destination_row d).extension)) in
     then_gives (load bus moved w (destination_location moved extension d) t) _ (λ z. z.0 2 ≡ r 2) (λ v u.
     gives_more (store bus moved w (destination_location moved extension d) (operated Bis w v y.0 (flags_of (moved 2))).value u) (λ z. z.0 2 ≡ moved 2)
     (λ z. z.0 2 ≡ r 2) (λ z h. h ∙ k) (store_keeps_status bus moved w extension d _ u other)))
@@ -117,22 +117,22 @@ finish_keeps_pc true bus r q w extension d v s other = store_keeps_pc bus r q w 
 finish_keeps_pc false bus r q w extension d v s other = refl
 
 -- PC behind an instruction of words in front of it, from an even PC
-behind : (pc a b n : ℕ) → pc % 2 ≡ 0 → n ≡ a + b → sum16 (sum16 (sum16 pc 2) (2 * a)) (2 * b) / 2 * 2 ≡ (pc + 2 * suc n) % 0x10000
+behind : (pc a b n : ℕ) → pc % 2 ≡ 0 → n ≡ a + b → word_sum (word_sum (word_sum pc 2) (2 * a)) (2 * b) / 2 * 2 ≡ (pc + 2 * suc n) % 0x10000
 behind pc a b n even is = omega arith
 
 two_moves : {S : Type 0} (bus : BusModel S) (op : TwoOp) (w : Width) (x : Src) (d : Dst) → IsNot reg.Pc d → MovesOn bus (instr.Two op w x d)
 unfolding effect
 two_moves bus op w x d other r s even =
-    let first = sum16 (r 0) 2 in
+    let first = word_sum (r 0) 2 in
     let a = length (source_row x).extension in
     let b = length (destination_row d).extension in
-    let extension = sum16 first (2 * a) in
+    let extension = word_sum first (2 * a) in
     let P : Registers × Option Written → Type 0 = λ z. z.0 0 ≡ (r 0 + 2 * length (encoding (instr.Two op w x d))) % 0x10000 in
     let at = behind (r 0) a b _ even (length-append (source_row x).extension (destination_row d).extension) in
     then_gives (source bus (with_register r 0 first) w x s)
-    (λ y t. after_source bus op w (destination_location (with_register y.1 0 (sum16 extension (2 * b))) extension d) y.0
-    (with_register y.1 0 (sum16 extension (2 * b))) t) P (λ y t.
-    let moved = with_register y.1 0 (sum16 extension (2 * b)) in
+    (λ y t. after_source bus op w (destination_location (with_register y.1 0 (word_sum extension (2 * b))) extension d) y.0
+    (with_register y.1 0 (word_sum extension (2 * b))) t) P (λ y t.
+    let moved = with_register y.1 0 (word_sum extension (2 * b)) in
     let l = destination_location moved extension d in
     let o : ℕ → _ = λ v. operated op w v y.0 (flags_of (moved 2)) in
     then_gives (destination_operand (reads_destination op) bus moved w l t)
@@ -167,28 +167,28 @@ store_operand_keeps_pc bus r q w extension (mode.Increment b) v s other = write_
 pub swap_keeps : {S : Type 0} (bus : BusModel S) → SwapKeepsStatus bus
 unfolding effect
 swap_keeps bus o other r s =
-    let first = sum16 (r 0) 2 in
+    let first = word_sum (r 0) 2 in
     let moved = with_register r 0 first in
     let l = operand_location moved first o in
-    let past = with_register (incremented moved Word o) 0 (sum16 first (2 * length (operand_row o).extension)) in
+    let past = with_register (incremented moved Word o) 0 (word_sum first (2 * length (operand_row o).extension)) in
     let P : Registers × Option Written → Type 0 = λ y. y.0 2 ≡ r 2 in
     then_gives (load bus moved Word l s) (λ v t. written_back bus exchanged Word l v past t) P (λ v t.
     gives_more (store bus past Word l (exchanged Word v (flags_of (past 2))).value t) (λ z. z.0 2 ≡ past 2) P (λ z h. h ∙ increment_keeps o moved Word)
     (store_operand_keeps_status bus past moved Word first o _ t other))
 
 -- PC behind an instruction of one operand
-behind_one : (pc a : ℕ) → pc % 2 ≡ 0 → sum16 (sum16 pc 2) (2 * a) / 2 * 2 ≡ (pc + 2 * suc a) % 0x10000
+behind_one : (pc a : ℕ) → pc % 2 ≡ 0 → word_sum (word_sum pc 2) (2 * a) / 2 * 2 ≡ (pc + 2 * suc a) % 0x10000
 behind_one pc a even = omega arith
 
 modify_moves : {S : Type 0} (bus : BusModel S) (f : Width → ℕ → Flags → Operated) (w : Width) (o : Operand) → o ≢ mode.Reg source_register.Pc
     → (r : Registers) (s : S) → r 0 % 2 ≡ 0
     → Gives (read_modify_write bus f w o r s) (λ y. y.0 0 ≡ (r 0 + 2 * suc (length (operand_row o).extension)) % 0x10000)
 modify_moves bus f w o other r s even =
-    let first = sum16 (r 0) 2 in
+    let first = word_sum (r 0) 2 in
     let moved = with_register r 0 first in
     let l = operand_location moved first o in
     let a = length (operand_row o).extension in
-    let past = with_register (incremented moved w o) 0 (sum16 first (2 * a)) in
+    let past = with_register (incremented moved w o) 0 (word_sum first (2 * a)) in
     let P : Registers × Option Written → Type 0 = λ y. y.0 0 ≡ (r 0 + 2 * suc a) % 0x10000 in
     then_gives (load bus moved w l s) (λ v t. written_back bus f w l v past t) P (λ v t.
     let done = f w v (flags_of (past 2)) in
@@ -198,10 +198,10 @@ modify_moves bus f w o other r s even =
 push_moves : {S : Type 0} (bus : BusModel S) (w : Width) (x : Src) → MovesOn bus (instr.One (one.Push w x))
 unfolding effect
 push_moves bus w x r s even =
-    let first = sum16 (r 0) 2 in
+    let first = word_sum (r 0) 2 in
     let a = length (source_row x).extension in
     let P : Registers × Option Written → Type 0 = λ y. y.0 0 ≡ (r 0 + 2 * suc a) % 0x10000 in
-    then_gives (source bus (with_register r 0 first) w x s) (λ y t. pushed bus w y.0 (with_register y.1 0 (sum16 first (2 * a))) t) P (λ y t.
+    then_gives (source bus (with_register r 0 first) w x s) (λ y t. pushed bus w y.0 (with_register y.1 0 (word_sum first (2 * a))) t) P (λ y t.
     write_gives (bus.writes t _ w y.0) _ t _ P (behind_one (r 0) a even))
 
 pub moves_by_length : {S : Type 0} (bus : BusModel S) → MovesByLength bus

@@ -12,7 +12,7 @@ use Rattle.msp_step.specs.msp_isa.declared.operands.Dst.TheVariants as dst
 use Rattle.msp_step.specs.msp_isa.Encoding.{index_number, register_number, source_row, destination_row}
 use Rattle.msp_step.specs.Registers.{Registers, with_register}
 use Rattle.msp_step.specs.Access.{BusModel}
-use Rattle.msp_step.specs.Effect.{Written, sum16, step_of, source, load, store, finish, operand_location, incremented, destination_operand}
+use Rattle.msp_step.specs.Effect.{Written, word_sum, step_of, source, load, store, finish, operand_location, incremented, destination_operand}
 use Rattle.msp_step.specs.Effect.{destination_location, after_source, operated, flags_of, with_flags, status_with, reads_destination, writes_destination}
 use Rattle.msp_step.specs.Step.{effect}
 use Rattle.step_laws.specs.Effects.{Gives, DoesNotRaise, SourceDoesNotRaise, DoesNotWrite, RegistersStay}
@@ -28,7 +28,7 @@ flags_keep r None n other = refl
 flags_keep r (Some f) n other = other_register r 2 (status_with (r 2) f) n other
 
 raised_keeps : (o : Operand) (r : Registers) (w : Width) (n : ℕ) → DoesNotRaise n o → incremented r w o n ≡ r n
-raised_keeps (mode.Increment b) r w n other = other_register r (index_number b) (sum16 (r (index_number b)) (step_of w (index_number b))) n other
+raised_keeps (mode.Increment b) r w n other = other_register r (index_number b) (word_sum (r (index_number b)) (step_of w (index_number b))) n other
 raised_keeps (mode.Reg h) r w n other = refl
 raised_keeps (mode.Indexed b x) r w n other = refl
 raised_keeps (mode.Symbolic x) r w n other = refl
@@ -57,18 +57,18 @@ finish_keeps_other false bus r q w extension d v s n other = refl
 pub registers_stay : {S : Type 0} (bus : BusModel S) → RegistersStay bus
 unfolding effect
 registers_stay bus n op w x d not_pc not_sr not_raised not_written r s =
-    let first = sum16 (r 0) 2 in
+    let first = word_sum (r 0) 2 in
     let started = with_register r 0 first in
     let b = length (destination_row d).extension in
-    let extension = sum16 first (2 * length (source_row x).extension) in
+    let extension = word_sum first (2 * length (source_row x).extension) in
     let P : Registers × Option Written → Type 0 = λ z. z.0 n ≡ r n in
-    then_keeps (source bus started w x s) (λ y t. after_source bus op w (destination_location (with_register y.1 0 (sum16 extension (2 * b))) extension d)
-    y.0 (with_register y.1 0 (sum16 extension (2 * b))) t) (λ y. y.1 n ≡ started n) P (source_keeps_other bus started w x s n not_raised) (λ y t k.
-    let moved = with_register y.1 0 (sum16 extension (2 * b)) in
+    then_keeps (source bus started w x s) (λ y t. after_source bus op w (destination_location (with_register y.1 0 (word_sum extension (2 * b))) extension d)
+    y.0 (with_register y.1 0 (word_sum extension (2 * b))) t) (λ y. y.1 n ≡ started n) P (source_keeps_other bus started w x s n not_raised) (λ y t k.
+    let moved = with_register y.1 0 (word_sum extension (2 * b)) in
     let l = destination_location moved extension d in
     let o : ℕ → _ = λ v. operated op w v y.0 (flags_of (moved 2)) in
     then_gives (destination_operand (reads_destination op) bus moved w l t)
     (λ v u. finish (writes_destination op) bus (with_flags moved (o v).flags) w l (o v).value u) P (λ v u.
     gives_more (finish (writes_destination op) bus (with_flags moved (o v).flags) w l (o v).value u) (λ z. z.0 n ≡ with_flags moved (o v).flags n) P
-    (λ z h. h ∙ flags_keep moved (o v).flags n not_sr ∙ other_register y.1 0 (sum16 extension (2 * b)) n not_pc ∙ k ∙ other_register r 0 first n not_pc)
+    (λ z h. h ∙ flags_keep moved (o v).flags n not_sr ∙ other_register y.1 0 (word_sum extension (2 * b)) n not_pc ∙ k ∙ other_register r 0 first n not_pc)
     (finish_keeps_other (writes_destination op) bus (with_flags moved (o v).flags) moved w extension d (o v).value u n not_written)))

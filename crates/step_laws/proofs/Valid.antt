@@ -21,7 +21,7 @@ use Rattle.msp_step.specs.declared.operand.Location.{Location}
 use Rattle.msp_step.specs.declared.operand.Location.TheVariants.{Register, Memory}
 use Rattle.msp_step.specs.Registers.{Registers, with_register}
 use Rattle.msp_step.specs.Access.{BusModel, read_at}
-use Rattle.msp_step.specs.Effect.{Operated, sum16, step_of, source, load, store, finish, operand_location, incremented, destination_operand, after_source}
+use Rattle.msp_step.specs.Effect.{Operated, word_sum, step_of, source, load, store, finish, operand_location, incremented, destination_operand, after_source}
 use Rattle.msp_step.specs.Effect.{operated, flags_of, with_flags, reads_destination, writes_destination, two_operand_effect, read_modify_write, rotated}
 use Rattle.msp_step.specs.Effect.{shifted, exchanged, sign_extended, push_effect, call_effect, reti_effect}
 use Rattle.msp_step.specs.Step.{effect, one_operand_effect}
@@ -59,7 +59,7 @@ valid_register reg.R3 r v h = valid_r3 r v h
 valid_register (reg.Index b) r v h = valid_index b r v h
 
 valid_increment : (p : Operand) (r : Registers) (w : Width) → IsValid r → IsValid (incremented r w p)
-valid_increment (mode.Increment b) r w h = valid_index b r (sum16 (r (index_number b)) (step_of w (index_number b))) h
+valid_increment (mode.Increment b) r w h = valid_index b r (word_sum (r (index_number b)) (step_of w (index_number b))) h
 valid_increment (mode.Reg n) r w h = h
 valid_increment (mode.Indexed b x) r w h = h
 valid_increment (mode.Symbolic x) r w h = h
@@ -93,37 +93,38 @@ after_valid bus op w l v r s h = then_gives (destination_operand (reads_destinat
 
 two_valid : {S : Type 0} (bus : BusModel S) (op : TwoOp) (w : Width) (x : Src) (d : Dst) (r : Registers) (s : S) → IsValid r
     → Gives (two_operand_effect bus op w x d r s) (λ y. IsValid y.0)
-two_valid bus op w x d r s h = then_keeps (source bus (with_register r 0 (sum16 (r 0) 2)) w x s) _ (λ y. IsValid y.1) (λ y. IsValid y.0)
-    (source_valid bus (with_register r 0 (sum16 (r 0) 2)) w x s (valid_pc r (sum16 (r 0) 2) h))
+two_valid bus op w x d r s h = then_keeps (source bus (with_register r 0 (word_sum (r 0) 2)) w x s) _ (λ y. IsValid y.1) (λ y. IsValid y.0)
+    (source_valid bus (with_register r 0 (word_sum (r 0) 2)) w x s (valid_pc r (word_sum (r 0) 2) h))
     (λ y t k. after_valid bus op w _ y.0 _ t (valid_pc y.1 _ k))
 
 modified_valid : {S : Type 0} (bus : BusModel S) (f : Width → ℕ → Flags → Operated) (w : Width) (p : Operand) (r : Registers) (s : S) → IsValid r
     → Gives (read_modify_write bus f w p r s) (λ y. IsValid y.0)
 modified_valid bus f w p r s h =
-    let first = sum16 (r 0) 2 in
+    let first = word_sum (r 0) 2 in
     let moved = with_register r 0 first in
-    let ready = with_register (incremented moved w p) 0 (sum16 first (2 * length (operand_row p).extension)) in
+    let ready = with_register (incremented moved w p) 0 (word_sum first (2 * length (operand_row p).extension)) in
     then_gives (load bus moved w (operand_location moved first p) s) _ (λ y. IsValid y.0)
     (λ v t. store_valid bus (with_flags ready (f w v (flags_of (ready 2))).flags) w (operand_location moved first p) (f w v (flags_of (ready 2))).value t
     (valid_flags (f w v (flags_of (ready 2))).flags ready (valid_pc (incremented moved w p) _ (valid_increment p moved w (valid_pc r first h)))))
 
 push_valid : {S : Type 0} (bus : BusModel S) (w : Width) (x : Src) (r : Registers) (s : S) → IsValid r → Gives (push_effect bus w x r s) (λ y. IsValid y.0)
 push_valid bus w x r s h =
-    let first = sum16 (r 0) 2 in
+    let first = word_sum (r 0) 2 in
     then_keeps (source bus (with_register r 0 first) w x s) _ (λ y. IsValid y.1) (λ y. IsValid y.0)
     (source_valid bus (with_register r 0 first) w x s (valid_pc r first h))
     (λ y t k. write_gives (bus.writes t _ w y.0) _ t _ (λ z. IsValid z.0) (valid_index index.Sp _ _ (valid_pc y.1 _ k)))
 
 call_valid : {S : Type 0} (bus : BusModel S) (x : Src) (r : Registers) (s : S) → IsValid r → Gives (call_effect bus x r s) (λ y. IsValid y.0)
 call_valid bus x r s h =
-    let first = sum16 (r 0) 2 in
+    let first = word_sum (r 0) 2 in
     then_keeps (source bus (with_register r 0 first) Word x s) _ (λ y. IsValid y.1) (λ y. IsValid y.0)
     (source_valid bus (with_register r 0 first) Word x s (valid_pc r first h))
     (λ y t k. write_gives (bus.writes t _ Word _) _ t _ (λ z. IsValid z.0) (valid_pc _ y.0 (valid_index index.Sp _ _ (valid_pc y.1 _ k))))
 
 reti_valid : {S : Type 0} (bus : BusModel S) (r : Registers) (s : S) → IsValid r → Gives (reti_effect bus r s) (λ y. IsValid y.0)
 reti_valid bus r s h = then_gives (read_at bus (r 1) Word s) _ (λ y. IsValid y.0) (λ sr t.
-    then_gives (read_at bus (sum16 (r 1) 2) Word t) _ (λ y. IsValid y.0) (λ pc u. valid_pc _ pc (valid_sr _ sr (valid_index index.Sp r (sum16 (r 1) 4) h))))
+    then_gives (read_at bus (word_sum (r 1) 2) Word t) _ (λ y. IsValid y.0)
+    (λ pc u. valid_pc _ pc (valid_sr _ sr (valid_index index.Sp r (word_sum (r 1) 4) h))))
 
 one_valid : {S : Type 0} (bus : BusModel S) (o : OneOp) (r : Registers) (s : S) → IsValid r → Gives (one_operand_effect bus o r s) (λ y. IsValid y.0)
 one_valid bus (one.Rrc w p) r s h = modified_valid bus rotated w p r s h

@@ -21,7 +21,7 @@ use Rattle.msp_step.specs.msp_isa.Encoding.{encoding, index_number, register_num
 use Rattle.msp_step.specs.declared.operand.Location.TheVariants.{Register}
 use Rattle.msp_step.specs.Registers.{Registers, with_register}
 use Rattle.msp_step.specs.Access.{BusModel, Access, Completed, Faulted, then_do}
-use Rattle.msp_step.specs.Effect.{sum16, source, store, destination_location, after_source, operated, flags_of, writes_destination}
+use Rattle.msp_step.specs.Effect.{word_sum, source, store, destination_location, after_source, operated, flags_of, writes_destination}
 use Rattle.msp_step.specs.Step.{effect}
 
 -- a fact of what an access gives, where it is served
@@ -37,10 +37,10 @@ ComparesOnly {S} bus op = (w : Width) (x : Src) (d : Dst) (r : Registers) (s : S
 -- MOV is the read of its source and the write of its destination, which it doesn't read
 abbrev pub MovesOnly : {S : Type 0} → BusModel S → Type 0
 MovesOnly {S} bus = (w : Width) (x : Src) (d : Dst) (r : Registers) (s : S)
-    → let first = sum16 (r 0) 2 in
-    let extension = sum16 first (2 * length (source_row x).extension) in
+    → let first = word_sum (r 0) 2 in
+    let extension = word_sum first (2 * length (source_row x).extension) in
     effect bus (instr.Two Mov w x d) r s ≡ then_do (source bus (with_register r 0 first) w x s) (λ y t.
-    let moved = with_register y.1 0 (sum16 extension (2 * length (destination_row d).extension)) in
+    let moved = with_register y.1 0 (word_sum extension (2 * length (destination_row d).extension)) in
     store bus moved w (destination_location moved extension d) y.0 t)
 
 -- a result that is written to SR stays there, whatever the flags

@@ -10,7 +10,7 @@ use Rattle.task_ast.specs.declared.ShortCircuitOperator.{ShortCircuitOperator}
 use Rattle.task_ast.specs.declared.Literal.{Literal}
 use Rattle.task_ast.specs.declared.names.VariableName.{VariableName}
 use Rattle.task_ast.specs.declared.names.TaskName.{TaskName}
-use Rattle.task_ast.specs.Tree.{Expression, Statement, Choice, Block}
+use Rattle.task_ast.specs.Tree.{Expression, Statement, Choice, Block, Task, Program}
 use Rattle.task_ast.specs.Tree as t
 
 -- the parts of a source whose names have been looked up
@@ -25,6 +25,12 @@ CheckedChoice = Choice VariableName TaskName
 
 abbrev pub CheckedBlock : Type 0
 CheckedBlock = Block VariableName TaskName
+
+abbrev pub CheckedTask : Type 0
+CheckedTask = Task VariableName TaskName
+
+abbrev pub CheckedProgram : Type 0
+CheckedProgram = Program VariableName TaskName
 
 -- What a path does with a variable: the name says where in the text, and which shared or local variable. An array counts as a whole.
 pub data Access : Type 0 where

@@ -6,7 +6,7 @@ use Rattle.std.proofs.lemmas.Option.{get_or_from_slice_get}
 use Rattle.layout_facts.specs.fram_board.Effects.{Effect, Store}
 use Rattle.layout_facts.specs.machine_effects.World.{World, readings_taken, EachStore}
 use Rattle.layout_facts.proofs.machine_effects.Interface.{readings_taken-append, each_store-append}
-use Rattle.layout_facts.specs.cost_bound.Counts.{emits_of, stores_of, Code}
+use Rattle.layout_facts.specs.cost_bound.Counts.{emits_of, stores_of, CheckedBlock}
 use Rattle.layout_facts.specs.lower.Seen.{some_path_writes}
 use Rattle.layout_facts.specs.source_values.Statements.{Attempt, Outcome, goes_on, to_task, short, run_block, block_emits}
 use Rattle.layout_facts.specs.source_values.Runs.{CheckedProgram, State, Completion, completion_of, attempt_of, fresh_attempt, EndsWell, TransitionComes}
@@ -54,7 +54,7 @@ module _ (p : CheckedProgram) (l : MemoryMap) (given : IsGiven p l) (s : State) 
   here = places p l given s.task i
 
   -- its statements
-  abbrev code : Code
+  abbrev code : CheckedBlock
   code = body p l given s.task i
 
   -- its room

@@ -13,7 +13,7 @@ use Rattle.layout_facts.proofs.machine_effects.Interface.{fram_after-append, wor
 use Rattle.layout_facts.proofs.crash_rules.Interface.{world_fram}
 use Rattle.layout_facts.specs.task_ast.declared.SharedDeclaration.{SharedDeclaration}
 use Rattle.layout_facts.specs.task_ast.declared.names.Variable.TheVariants.{Shared}
-use Rattle.layout_facts.specs.cost_bound.Counts.{emits_of, Code}
+use Rattle.layout_facts.specs.cost_bound.Counts.{emits_of, CheckedBlock}
 use Rattle.layout_facts.specs.cost_bound.Allowance.{is_written, list_of}
 use Rattle.layout_facts.proofs.war_analysis.Interface.{element as item_at}
 use Rattle.layout_facts.specs.source_values.Values.{word_at}
@@ -65,7 +65,7 @@ module _ (p : CheckedProgram) (l : MemoryMap) (given : IsGiven p l) (s : State) 
   here = places p l given s.task i
 
   -- its statements
-  abbrev code : Code
+  abbrev code : CheckedBlock
   code = body p l given s.task i
 
   -- its room

@@ -4,7 +4,7 @@ use Rattle.layout_facts.specs.cost_bound.declared.allowance.Allow.{Allow}
 use Rattle.layout_facts.proofs.path_sums.Interface.{is_private_of}
 use Rattle.layout_facts.specs.task_ast.declared.names.Variable.TheVariants.{Shared}
 use Rattle.layout_facts.specs.path_runs.Laws.{IsScalarIn}
-use Rattle.layout_facts.specs.cost_bound.Counts.{Code, stores_of}
+use Rattle.layout_facts.specs.cost_bound.Counts.{CheckedBlock, stores_of}
 use Rattle.layout_facts.specs.cost_bound.Allowance.{CheckedTask}
 use Rattle.layout_facts.specs.war_analysis.PlanValue.{TaskPlanValue}
 use Rattle.layout_facts.specs.source_values.Runs.{CheckedProgram}
@@ -58,7 +58,7 @@ pub record IsVersionWord (l : MemoryMap) (a : ℕ) : Type 0 where
   pub is : a ≡ l.versions.address + 2 * number
 
 -- of a scalar that is private in it a task has the copy, of each other scalar the words themselves
-pub record ArePrivates (l : MemoryMap) (body : Code) (t : TaskPlace) : Type 0 where
+pub record ArePrivates (l : MemoryMap) (body : CheckedBlock) (t : TaskPlace) : Type 0 where
   pub private : (v home copy : ℕ) (width : ScalarWidth) → slice_get l.variables v ≡ Some (Scalar home copy width) → is_private_in body v ≡ true
       → address_of (places_of (map_seen body l) t) v ≡ copy
   pub left : (v home copy : ℕ) (width : ScalarWidth) → slice_get l.variables v ≡ Some (Scalar home copy width) → is_private_in body v ≡ false

@@ -23,7 +23,7 @@ use Rattle.layout_facts.specs.source_values.Statements.{Attempt, run_block}
 use Rattle.layout_facts.specs.war_analysis.Plans.{is_scalar, IsScalarAt, IsArrayAt}
 use Rattle.layout_facts.specs.source_values.Runs.{is_long_extent}
 use Rattle.layout_facts.specs.privatise.Sizes.{home_part}
-use Rattle.layout_facts.specs.whole_programs.Uses.{IsArrayName, IsLocalName, IsOfType, StatementUses, ChoiceUses, BlockUses}
+use Rattle.layout_facts.specs.whole_programs.Uses.{IsArrayName, IsLocal, IsOfType, StatementUses, ChoiceUses, BlockUses}
 use Rattle.layout_facts.specs.path_runs.Laws.{IsScalarInStatement, IsScalarInChoice, IsScalarIn}
 use Rattle.layout_facts.proofs.path_runs.Interface.{first_writes_forget}
 
@@ -64,7 +64,7 @@ module _ (shared : List SharedDeclaration) (v : ℕ) (scalar : IsScalarAt shared
       subst (λ m. m ≤ by_width of 1 2) (sym wide) (all_words of d.extent is width)
 
   -- a local is no shared variable
-  no_local : (x : Variable) → IsLocalName x → is_same (Shared v) x ≡ true → ⊥
+  no_local : (x : Variable) → IsLocal x → is_same (Shared v) x ≡ true → ⊥
   no_local (Local m) h e = let never : false ≡ true = e in cc
   no_local (Shared u) h e = h
 

@@ -7,7 +7,7 @@ use Rattle.std.specs.Prelude.{Contains, slice_get, slice_index_or}
 use Rattle.layout_facts.specs.machine_effects.World.{World}
 use Rattle.layout_facts.specs.runtime_effects.Places.{entries_from}
 use Rattle.layout_facts.proofs.path_sums.Interface.{is_private_of}
-use Rattle.layout_facts.specs.cost_bound.Counts.{Code}
+use Rattle.layout_facts.specs.cost_bound.Counts.{CheckedBlock}
 use Rattle.layout_facts.specs.source_values.Values.{Variables, word_at}
 use Rattle.layout_facts.specs.source_values.Statements.{Attempt, run_block}
 use Rattle.layout_facts.specs.source_values.Runs.{CheckedProgram, State, fresh_attempt, task_body}
@@ -65,7 +65,7 @@ module _ (p : CheckedProgram) (l : MemoryMap) (given : IsGiven p l) (s : State) 
   here = places p l given s.task i
 
   -- its statements
-  abbrev code : Code
+  abbrev code : CheckedBlock
   code = body p l given s.task i
 
   -- what is known of it

@@ -2,7 +2,7 @@
 use Rattle.std.proofs.Common.{◌≡◌, ℕ, zero, suc, ◌+◌, ◌-◌, ◌*◌, ◌%◌, ◌==◌, ◌<◌, List, [], ◌∷◌, Option, Some, None, Bool, true, false, nat_lt, refl}
 use Rattle.std.proofs.Common.{arith}
 use Rattle.std.proofs.Common.{if◌then◌else◌}
-use Rattle.std.specs.List.{AllByRecursion}
+use Rattle.layout_facts.specs.array_versions.alp_words.Words.{AreWords}
 use Rattle.layout_facts.specs.fram_board.Effects.{Effect, Store}
 use Rattle.layout_facts.specs.machine_effects.World.{EachStore}
 use Rattle.layout_facts.proofs.machine_effects.Interface.{each_store-append}
@@ -32,9 +32,6 @@ use Rattle.layout_facts.proofs.array_versions.Interface.{put_words, local_words,
 -- the word of each store is a word
 abbrev pub StoresWords : List Effect → Type 0
 StoresWords = EachStore (λ a w. w < 0x10000)
-
-abbrev AreWords : List ℕ → Type 0
-AreWords vs = AllByRecursion (λ v. v < 0x10000) vs
 
 end_stores : (e : End) (next : WordState → Behaviour) → EndsInWords e → ((t : WordState) → IsStateOfWords t → StoresWords (next t).effects) → StoresWords
     (on_end e next).effects

@@ -2,7 +2,7 @@
 use Rattle.std.proofs.Common.{◌≡◌, ℕ, ◌+◌, ◌*◌, ◌<◌, ◌≤◌, ◌∙◌, length, Some, false, not, sym, ap, subst, ⊎_elim, arith}
 use Rattle.std.proofs.lemmas.Bool.{cases_Bool, and_from}
 use Rattle.std.specs.Prelude.{true, slice_get}
-use Rattle.layout_facts.specs.cost_bound.Counts.{emits_of, Code}
+use Rattle.layout_facts.specs.cost_bound.Counts.{emits_of, CheckedBlock}
 use Rattle.layout_facts.specs.cost_bound.Allowance.{list_of}
 use Rattle.layout_facts.specs.source_values.Runs.{CheckedProgram, task_body}
 use Rattle.layout_facts.specs.memory_map.declared.words.RuntimeWord.TheVariants.{CurrentTask, Gate, ListLength, EmitCount, Base, Version}
@@ -119,7 +119,7 @@ module _ (p : CheckedProgram) (l : MemoryMap) (given : IsGiven p l) (k : ℕ) (i
   here = places p l given k i
 
   -- its statements
-  abbrev code : Code
+  abbrev code : CheckedBlock
   code = body p l given k i
 
   -- its room

@@ -2,7 +2,7 @@
 use Rattle.std.proofs.Common.{◌≡◌, ℕ, ◌+◌, ◌*◌, ◌<◌, List, [], ◌∷◌, false, length, map, Some, sym, ap, ◌∙◌, subst, ⊎_elim, arith}
 use Rattle.std.specs.Prelude.{Contains, slice_get, option_map}
 use Rattle.std.proofs.lemmas.Option.{slice_get-map, get_or_from_slice_get}
-use Rattle.layout_facts.specs.cost_bound.Counts.{Code}
+use Rattle.layout_facts.specs.cost_bound.Counts.{CheckedBlock}
 use Rattle.layout_facts.specs.cost_bound.Allowance.{CheckedTask}
 use Rattle.layout_facts.proofs.war_analysis.Interface.{element}
 use Rattle.layout_facts.specs.source_values.Runs.{CheckedProgram, body_of, task_body}
@@ -38,7 +38,7 @@ task_at p l count k h =
     record { task = a.0; layout = b.0; task_is = a.1; layout_is = b.1 }
 
 module _ (p : CheckedProgram) (l : MemoryMap) (given : IsGiven p l) (k : ℕ) (i : IsAt p l k) where
-  abbrev pub body : Code
+  abbrev pub body : CheckedBlock
   body = i.task.body
 
   abbrev pub places : Places

@@ -3,7 +3,7 @@ use Rattle.std.proofs.Common.{◌≡◌, ℕ, ◌+◌, ◌*◌, ◌==◌, ◌<�
 use Rattle.std.proofs.Common.{ne_eqb, if◌then◌else◌}
 use Rattle.std.proofs.lemmas.Bool.{cases_eq, cases_Bool}
 use Rattle.std.specs.Prelude.{Contains, slice_get}
-use Rattle.layout_facts.specs.cost_bound.Counts.{Code}
+use Rattle.layout_facts.specs.cost_bound.Counts.{CheckedBlock}
 use Rattle.layout_facts.specs.lower.Seen.{some_path_writes, map_seen}
 use Rattle.layout_facts.proofs.lower.Interface.{scalar_seen, array_seen, array_read}
 use Rattle.layout_facts.specs.compiled_model.Places.{is_private_in}
@@ -55,7 +55,7 @@ module _ (p : Places) (f : ℕ → ℕ) (x : Element) (elements length : ℕ) (b
 pub own_word_of : (p : Places) (f : ℕ → ℕ) (x : Element) → IsElement p x → OwnWord p f x
 own_word_of p f x h = own_by p f x h.elements h.length h.below h.copies h.is_array.place
 
-module _ (l : MemoryMap) (body : Code) (t : TaskPlace) (privates : ArePrivates l body t) where
+module _ (l : MemoryMap) (body : CheckedBlock) (t : TaskPlace) (privates : ArePrivates l body t) where
   -- the places that the task works on
   abbrev seen : Places
   seen = places_of (map_seen body l) t

@@ -5,6 +5,7 @@ use Rattle.layout_facts.specs.cost_bound.declared.allowance.Allow.{Allow}
 use Rattle.layout_facts.specs.source_values.Runs.{CheckedProgram, State}
 use Rattle.layout_facts.specs.source_values.Running.{IsRunnable}
 use Rattle.layout_facts.specs.war_analysis.PlanValue.{TaskPlanValue}
+use Rattle.layout_facts.specs.memory_map.address_space.Limits.{fram_first}
 use Rattle.layout_facts.specs.memory_map.declared.words.RuntimeWord.TheVariants.{ListLength, EmitCount}
 use Rattle.layout_facts.specs.memory_map.MemoryMap.{MemoryMap, word_place}
 use Rattle.layout_facts.specs.array_versions.Behaviour.{behaviour, started}
@@ -35,7 +36,7 @@ CompiledSourcesKeepTheLaws = OfTexts (λ p l. ModelLaws (compiled_model p l))
 -- a store to the runtime's words, to its lists, or to copies: behind the beginning of FRAM and before the code, to CLN and EN within the
 -- capacities of the list and the buffer
 pub record IsBelowCode (l : MemoryMap) (a w : ℕ) : Type 0 where
-  pub from : 0x4400 ≤ a
+  pub from : fram_first ≤ a
   pub below : a < l.boot.address
   pub list : a ≡ word_place l ListLength → w ≤ l.entries
   pub emits : a ≡ word_place l EmitCount → w ≤ l.emits.words

@@ -15,7 +15,7 @@ use Rattle.task_ast.specs.declared.names.TaskName.{TaskName}
 use Rattle.task_ast.specs.View.{block_view, task_of}
 use Rattle.task_ast.specs.declared.names.Variable.TheVariants.{Shared}
 use Rattle.cost_bound.specs.path_sums.Access.{writes, SomePath, IsPrivate}
-use Rattle.cost_bound.specs.Counts.{Code}
+use Rattle.cost_bound.specs.Counts.{CheckedBlock}
 use Rattle.cost_bound.specs.Allowance.{CheckedTask}
 use Rattle.war_analysis.specs.PlanValue.{TaskPlanValue}
 use Rattle.war_analysis.specs.Plans.{is_scalar, IsPrivateIn, IsVersionedIn, IsTaskPlan, ArePlans}
@@ -33,14 +33,14 @@ within xs i P h = elim (cases_lt i (length xs)) [
   | inr past ↦ absurd (subst (λ o. IsSomeAnd o P) (slice_get_past xs i past) h)
 ]
 
-pub private_within : (shared : List SharedDeclaration) (code : Code) (i : ℕ) → IsPrivateIn shared code i → i < length shared
+pub private_within : (shared : List SharedDeclaration) (code : CheckedBlock) (i : ℕ) → IsPrivateIn shared code i → i < length shared
 private_within shared code i h = within shared i (λ d. is_scalar d.extent ≡ true) h.scalar
 
-pub versioned_within : (shared : List SharedDeclaration) (code : Code) (i : ℕ) → IsVersionedIn shared code i → i < length shared
+pub versioned_within : (shared : List SharedDeclaration) (code : CheckedBlock) (i : ℕ) → IsVersionedIn shared code i → i < length shared
 versioned_within shared code i h = within shared i (λ d. is_scalar d.extent ≡ false) h.array
 
 -- one variable, what the paths say of it, and whether it is found
-module _ (shared : List SharedDeclaration) (code : Code) (i : ℕ) (extent : Extent) (mark r : Bool)
+module _ (shared : List SharedDeclaration) (code : CheckedBlock) (i : ℕ) (extent : Extent) (mark r : Bool)
     (at : (d : SharedDeclaration) → slice_get shared i ≡ Some d → extent ≡ d.extent) where
   pub private_found : IsTrue mark ↔ IsPrivate code (Shared i) → (d : SharedDeclaration) → slice_get shared i ≡ Some d → r ≡ (mark && is_scalar extent)
       → r ≡ true
@@ -100,7 +100,7 @@ extent_at : (shared : List SharedDeclaration) (i : ℕ) (extent : Extent) → ((
     → (d : SharedDeclaration) → slice_get shared i ≡ Some d → extent ≡ d.extent
 extent_at shared i extent h d e = h d ∙ ap (λ x. x.extent) (get_or_from_slice_get shared i d d e)
 
-module _ (shared : List SharedDeclaration) (code : Code) (n : ℕ) (extent : Extent) (mark r : Bool) (xs ys : List ℕ)
+module _ (shared : List SharedDeclaration) (code : CheckedBlock) (n : ℕ) (extent : Extent) (mark r : Bool) (xs ys : List ℕ)
     (lt : n < length shared) (at : (d : SharedDeclaration) → extent ≡ (get_or shared n d).extent) (e : ys ≡ (if r then xs ++ n ∷ [] else xs)) where
   pub next_private : IsTrue mark ↔ IsPrivate code (Shared n) → r ≡ (mark && is_scalar extent) → AreNumbersBelow (IsPrivateIn shared code) n xs
       → AreNumbersBelow (IsPrivateIn shared code) (n + 1) ys

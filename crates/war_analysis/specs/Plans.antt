@@ -5,7 +5,7 @@ use Rattle.task_ast.specs.declared.Extent.TheVariants.{Scalar, Long, Array}
 use Rattle.task_ast.specs.declared.SharedDeclaration.{SharedDeclaration}
 use Rattle.task_ast.specs.declared.names.Variable.TheVariants.{Shared}
 use Rattle.cost_bound.specs.path_sums.Access.{writes, SomePath, IsPrivate}
-use Rattle.cost_bound.specs.Counts.{Code}
+use Rattle.cost_bound.specs.Counts.{CheckedBlock}
 use Rattle.cost_bound.specs.Allowance.{CheckedTask, CheckedProgram}
 use Rattle.war_analysis.specs.PlanValue.{TaskPlanValue}
 
@@ -25,12 +25,12 @@ IsArrayAt shared i = IsSomeAnd (slice_get shared i) (λ d. is_scalar d.extent �
 
 -- A shared scalar is private in a task exactly where some path of the task writes it, and not every path writes it before it reads it
 -- and before its transition. A scalar that the task writes and that isn't private in it stays in place.
-pub record IsPrivateIn (shared : List SharedDeclaration) (code : Code) (i : ℕ) : Type 0 where
+pub record IsPrivateIn (shared : List SharedDeclaration) (code : CheckedBlock) (i : ℕ) : Type 0 where
   pub scalar : IsScalarAt shared i
   pub owed : IsPrivate code (Shared i)
 
 -- a shared array is versioned in a task exactly where some path of the task writes one of its elements
-pub record IsVersionedIn (shared : List SharedDeclaration) (code : Code) (i : ℕ) : Type 0 where
+pub record IsVersionedIn (shared : List SharedDeclaration) (code : CheckedBlock) (i : ℕ) : Type 0 where
   pub array : IsArrayAt shared i
   pub written : SomePath code (writes (Shared i))
 
@@ -41,7 +41,7 @@ pub record AreNumbers (P : ℕ → Type 0) (xs : List ℕ) : Type 0 where
   pub each : (i : ℕ) → P i → Contains xs i
 
 -- what a task works on in copies
-pub record IsTaskPlan (shared : List SharedDeclaration) (code : Code) (plan : TaskPlanValue) : Type 0 where
+pub record IsTaskPlan (shared : List SharedDeclaration) (code : CheckedBlock) (plan : TaskPlanValue) : Type 0 where
   pub private_scalars : AreNumbers (IsPrivateIn shared code) plan.private_scalars
   pub versioned_arrays : AreNumbers (IsVersionedIn shared code) plan.versioned_arrays
 

@@ -53,7 +53,7 @@ use Rattle.lower.specs.Lowered.{update_element_step, index_and_value, element_up
 use Rattle.lower.specs.Lowered.{unary_lowering, binary_lowering, sides_test, lowering, lowered_expression, lowered_test, assignment, loop_local}
 use Rattle.lower.specs.Lowered.{entries}
 use Rattle.lower.specs.Lowered.{lowered_transition, lowered_statement, lowered_choice, lowered_block}
-use Rattle.whole_programs.specs.Uses.{IsWordName, IsLocalName, StatementUses, ChoiceUses, BlockUses}
+use Rattle.whole_programs.specs.Uses.{IsWordName, IsLocal, StatementUses, ChoiceUses, BlockUses}
 
 -- ---- loops
 
@@ -260,7 +260,7 @@ apart : (m y : ℕ) → m < 256 → y < 256 → (y == m) ≡ false → m % 65536
 apart m y l k h e = absurd (let other : y ≢ m = grind (arith, nat_tests) in other (omega arith))
 
 -- a local may stand for a word
-pub local_word : (shared : List SharedDeclaration) (x : Variable) → IsLocalName x → IsWordName shared x
+pub local_word : (shared : List SharedDeclaration) (x : Variable) → IsLocal x → IsWordName shared x
 local_word shared (Shared v) h = absurd h
 local_word shared (Local m) h = h
 
@@ -303,7 +303,7 @@ module _ (p : Places) (shared : List SharedDeclaration) (y : ℕ) (low : y < 256
   typed_assignment_spares Int x e n h = assignment_spares x e n h
   typed_assignment_spares Unsigned x e n h = assignment_spares x e n h
 
-  loop_apart : (v : Variable) → IsLocalName v → is_same_local v (Local y) ≡ false → loop_local v ≢ y % 65536
+  loop_apart : (v : Variable) → IsLocal v → is_same_local v (Local y) ≡ false → loop_local v ≢ y % 65536
   loop_apart (Shared n) w h = absurd w
   loop_apart (Local m) w h = apart m y w low h
 

@@ -56,7 +56,7 @@ use Rattle.lower.specs.Lowered.{update_step, setting, updating, sides_set, assig
 use Rattle.lower.specs.Lowered.{stored_array, update_element_step, index_and_value, element_setting, element_updating, element_sides_set, element_assignment}
 use Rattle.lower.specs.Lowered.{loop_local, entries, lowered_transition, lowered_statement, lowered_choice, lowered_block}
 use Rattle.whole_programs.specs.Needs.{ExpressionFits, StatementFits, ChoiceFits, BlockFits}
-use Rattle.whole_programs.specs.Uses.{IsWordName, IsLocalName, ExpressionUses, StatementUses, ChoiceUses, BlockUses}
+use Rattle.whole_programs.specs.Uses.{IsWordName, IsLocal, ExpressionUses, StatementUses, ChoiceUses, BlockUses}
 use Rattle.whole_programs.proofs.Spared.{IsGood, GoodStatement, GoodChoice, GoodBlock, is_good, local_word, block_spares}
 
 -- ---- places
@@ -397,7 +397,7 @@ module _ (p : Places) (words : PlacesOfWords p) where
     element_assignment_sound room x index e f g m n = element_setting_sound room x index e f g m n
 
     -- a loop by its local
-    loop_sound : (v : Variable) (from below : ℕ) (body : CheckedBlock) → IsGood v body → IsLocalName v → BlockUses shared body → GoodBlock body
+    loop_sound : (v : Variable) (from below : ℕ) (body : CheckedBlock) → IsGood v body → IsLocal v → BlockUses shared body → GoodBlock body
         → IsWord from → IsWord below → Sound (lowered_block p body)
         → StepSound (repeat (loop_local v) from below (lowered_block p body))
     loop_sound (Shared v) from below body good w n g f b h = absurd w

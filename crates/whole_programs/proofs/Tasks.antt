@@ -25,7 +25,7 @@ use Rattle.lower.specs.task_check.Occurrences.{operator_role, count_role, elemen
 use Rattle.lower.specs.task_check.Occurrences.{and_front, expression_names, statement_names, choice_names, names_up_to, task_names, shared_names, program_names}
 use Rattle.lower.specs.task_check.LookedUp.{expression_back, statement_back, choice_back, block_back, task_back, expression_variables}
 use Rattle.lower.specs.task_check.LookedUp.{statement_variables, choice_variables, block_variables, task_variables}
-use Rattle.whole_programs.specs.Uses.{IsWordName, IsLocalName, ExpressionUses, StatementUses, ChoiceUses, BlockUses}
+use Rattle.whole_programs.specs.Uses.{IsWordName, IsLocal, ExpressionUses, StatementUses, ChoiceUses, BlockUses}
 use Rattle.whole_programs.specs.UseLaws.{NamesAreUsedAsDeclared}
 use Rattle.whole_programs.specs.StackLaws.{enough}
 use Rattle.whole_programs.proofs.Declared.{program_declared}
@@ -101,10 +101,10 @@ module _ (shared : List SharedDeclaration) (types : Span → WordType) where
       ((l.0, r.0), λ w. w, r.2)
 
   -- the variable of a loop that is no bad one is a local
-  loop_local : (a b c : VariableName) (body : CheckedBlock) → (is_good_loop a b c body ≡ false → ⊥) → IsWordName shared a.variable → IsLocalName a.variable
+  loop_local : (a b c : VariableName) (body : CheckedBlock) → (is_good_loop a b c body ≡ false → ⊥) → IsWordName shared a.variable → IsLocal a.variable
   loop_local a b c body none h = by a.variable b.variable c.variable (block_assigns a.variable body) none h
     where
-      by : (x y z : Variable) (k : Bool) → (((is_same_local x y && is_same_local x z) && not k) ≡ false → ⊥) → IsWordName shared x → IsLocalName x
+      by : (x y z : Variable) (k : Bool) → (((is_same_local x y && is_same_local x z) && not k) ≡ false → ⊥) → IsWordName shared x → IsLocal x
       by (Shared n) y z k none h = absurd (none refl)
       by (Local n) y z k none h = h
 

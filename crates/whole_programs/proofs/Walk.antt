@@ -19,7 +19,7 @@ use Rattle.lower.specs.task_check.Faults.{line_at, first_fault, is_repeated, is_
 use Rattle.lower.specs.task_check.Faults.{limit_fault}
 use Rattle.lower.specs.task_check.SharedTypes.{type_in, shared_type}
 use Rattle.lower.proofs.task_check.Interface.{no_fault, no_name_fault}
-use Rattle.whole_programs.specs.Uses.{IsWordName, IsArrayName, IsLocalName, IsOfType}
+use Rattle.whole_programs.specs.Uses.{IsWordName, IsArrayName, IsLocal, IsOfType}
 use Rattle.whole_programs.proofs.Declared.{Declared}
 use Rattle.whole_programs.proofs.Symbols.{AreSound, Few, front_clean, here_clean, symbol_sound}
 use Rattle.whole_programs.proofs.NameTypes.{Typed, symbol_typed, as_wide}
@@ -39,7 +39,7 @@ pub data Use : Type 0 where
 abbrev IsUsed : List SharedDeclaration → Naming → Variable → Type 0
 IsUsed shared word v = IsWordName shared v
 IsUsed shared array v = IsArrayName shared v
-IsUsed shared declared v = IsLocalName v
+IsUsed shared declared v = IsLocal v
 
 -- the variable of a name is used so, it is of its type, and that is as wide as the type of the name
 abbrev pub IsNamed : List SharedDeclaration → (Span → WordType) → Naming → Span → TypedVariable → Type 0

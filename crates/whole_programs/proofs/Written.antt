@@ -13,7 +13,7 @@ use Rattle.lower.specs.path_sums.Access.{is_same, summary, summary_unit, summary
 use Rattle.lower.specs.path_sums.Reaches.{statement_falls_through, choice_falls_through, block_falls_through}
 use Rattle.lower.specs.path_sums.declared.access.AccessSummary.{AccessSummary}
 use Rattle.lower.specs.cost_bound.Counts.{is_shared, statement_assigns, choice_assigns, block_assigns}
-use Rattle.whole_programs.specs.Uses.{IsLocalName, StatementUses, ChoiceUses, BlockUses}
+use Rattle.whole_programs.specs.Uses.{IsLocal, StatementUses, ChoiceUses, BlockUses}
 
 -- ---- tests
 
@@ -59,11 +59,11 @@ same_is : (v : ℕ) (x : Variable) → is_same (Shared v) x ≡ is_shared v x
 same_is v (Shared u) = refl
 same_is v (Local n) = refl
 
-local_differs : (v : ℕ) (x : Variable) → IsLocalName x → is_same (Shared v) x ≡ false
+local_differs : (v : ℕ) (x : Variable) → IsLocal x → is_same (Shared v) x ≡ false
 local_differs v (Shared u) h = absurd h
 local_differs v (Local n) h = refl
 
-no_write : (v : ℕ) (x : Variable) → IsLocalName x → (if is_same (Shared v) x then summary_write else summary_unit).writes ≡ false
+no_write : (v : ℕ) (x : Variable) → IsLocal x → (if is_same (Shared v) x then summary_write else summary_unit).writes ≡ false
 no_write v x h = write_is (is_same (Shared v) x) ∙ local_differs v x h
 
 -- ---- expressions

@@ -10,6 +10,7 @@ use Rattle.lower.specs.task_ast.Paths.{CheckedExpression, CheckedStatement, Chec
 use Rattle.lower.specs.task_ast.Types.{IsOneWord, is_long, joined_type, type_of}
 use Rattle.lower.specs.task_check.Occurrences.{is_refused}
 use Rattle.lower.specs.source_values.Runs.{is_long_extent}
+pub use Rattle.lower.specs.Agreement.{IsLocal}
 use Rattle.privatise.specs.war_analysis.Plans.{IsScalarAt, IsArrayAt}
 
 -- a variable of a type is a long exactly where the type is long
@@ -34,11 +35,6 @@ abbrev pub IsArrayName : List SharedDeclaration → Variable → Type 0
 IsArrayName shared (Shared v) = IsArrayAt shared v
 IsArrayName shared (Local n) = ⊥
 
--- a local of at most 256
-abbrev pub IsLocalName : Variable → Type 0
-IsLocalName (Shared v) = ⊥
-IsLocalName (Local n) = n < 256
-
 -- each name in an expression is used so: an array's where there is an index, a scalar's elsewhere; an index isn't long, and no operator is
 -- refused to its operands
 abbrev pub ExpressionUses : List SharedDeclaration → CheckedExpression → Type 0
@@ -57,13 +53,13 @@ ExpressionUses shared (t.short_circuit op a b) = ExpressionUses shared a × Expr
 abbrev mutual
   -- the same of a statement; what it declares, and what it counts in, is a local
   pub StatementUses : List SharedDeclaration → CheckedStatement → Type 0
-  StatementUses shared (t.declare of x None) = IsLocalName x.variable
-  StatementUses shared (t.declare of x (Some e)) = IsLocalName x.variable × ExpressionUses shared e × IsOfType shared x.word_type x.variable
+  StatementUses shared (t.declare of x None) = IsLocal x.variable
+  StatementUses shared (t.declare of x (Some e)) = IsLocal x.variable × ExpressionUses shared e × IsOfType shared x.word_type x.variable
   StatementUses shared (t.assign x e) = IsWordName shared x.variable × ExpressionUses shared e × IsOfType shared x.word_type x.variable
   StatementUses shared (t.store x index e) =
       IsArrayName shared x.variable × ExpressionUses shared index × ExpressionUses shared e × IsOneWord (type_of index)
   StatementUses shared (t.choose choice) = ChoiceUses shared choice
-  StatementUses shared (t.loop x from tested below stepped body) = IsLocalName x.variable × BlockUses shared body
+  StatementUses shared (t.loop x from tested below stepped body) = IsLocal x.variable × BlockUses shared body
   StatementUses shared (t.emit e) = ExpressionUses shared e
   StatementUses shared (t.transition task) = Unit {0}
 

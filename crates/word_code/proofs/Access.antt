@@ -3,8 +3,7 @@ use Rattle.word_code.proofs.Names.{◌≡◌, ℕ, ◌+◌, ◌*◌, ◌%◌, �
 use Rattle.word_code.proofs.Names.{nat_le, if◌then◌else◌, both_ways, nat_tests, word_sum, sum16, distance, Store, put, IsFram, R4, R5, Core, Number, Constant}
 use Rattle.word_code.proofs.Names.{ToRegister, ToIndexed, Form, Move, Calculate, Update, form_bytes, Stands, forms_bytes, Runs, stands_front, stands_back}
 use Rattle.word_code.proofs.Names.{forms_bytes-append, WordState, is_place, stored, word_emitted, entry_stored, number_source, check_code, zero_code}
-use Rattle.word_code.proofs.Names.{fetch_code}
-use Rattle.word_code.proofs.Names.{element_code, emit_code, pair_code, entry_code}
+use Rattle.word_code.proofs.Names.{fetch_code, element_code, emit_code, pair_code, entry_code}
 use Rattle.array_versions.specs.msp_step.msp_isa.declared.instructions.Condition.TheVariants as condition
 use Rattle.array_versions.specs.msp_step.msp_isa.declared.instructions.TwoOp.TheVariants as op
 use Rattle.array_versions.specs.msp_step.msp_isa.declared.operands.Konst.TheVariants as konst

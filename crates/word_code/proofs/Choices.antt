@@ -1,21 +1,18 @@
 -- Tests: where the code goes on.
 use Rattle.word_code.specs.Code.{is_turned, compare_source}
-use Rattle.word_code.proofs.Names.{Option, Waiting, right_source, stays, Source, Register, R5, WorkRegister, flags_after, operated, source_bytes}
-use Rattle.word_code.proofs.Names.{source_cycles, to_register, source_operand, TwoOp, IsNotMov, writes_destination, ◌≤◌}
+use Rattle.word_code.proofs.Names.{Option, Waiting, right_source, stays, Source, Register, R5, WorkRegister, flags_after, operated, source_bytes, source_cycles}
+use Rattle.word_code.proofs.Names.{to_register, source_operand, TwoOp, IsNotMov, writes_destination, ◌≤◌, form_bytes, ◌≡◌, ℕ, ◌+◌, ◌*◌, ◌%◌, ◌<◌, ◌==◌, not, []}
+use Rattle.word_code.proofs.Names.{◌∷◌, Some, refl, sym, ap, ap₂, ◌∙◌, subst, arith, Bool, true, false, if◌then◌else◌, not-not, Flags, Word, Condition, is_met}
+use Rattle.word_code.proofs.Names.{R4, Core, Constant, Form, Calculate, instruction_of, Stands, forms_bytes, Runs, Comparison, Above, SignedAbove, CommonBit}
+use Rattle.word_code.proofs.Names.{is_true, compare_words, WordState, Behaviour, compare_form, holding, failing, jump_over, decision}
 use Rattle.word_code.proofs.Middles.{IsRead, calculate}
-use Rattle.word_code.proofs.Follows.{stands_elsewhere}
-use Rattle.word_code.proofs.Registers.{Holds}
+use Rattle.word_code.proofs.Follows.{stands_elsewhere, StandsFor, Follows, then_end}
+use Rattle.word_code.proofs.Registers.{Holds, Has, line, equal_flag}
 use Rattle.word_code.proofs.Sides.{Aiming, is_read, reading_cycles, reading_price, compare_stays}
-use Rattle.word_code.proofs.Names.{form_bytes, ◌≡◌, ℕ, ◌+◌, ◌*◌, ◌%◌, ◌<◌, ◌==◌, not, [], ◌∷◌, Some, refl, sym, ap, ap₂, ◌∙◌, subst, arith, Bool, true, false}
-use Rattle.word_code.proofs.Names.{if◌then◌else◌, not-not, Flags, Word, Condition, is_met, R4, Core, Constant, Form, Calculate, instruction_of, Stands}
-use Rattle.word_code.proofs.Names.{forms_bytes, Runs, Comparison, Above, SignedAbove, CommonBit, is_true, compare_words, WordState, Behaviour, compare_form}
-use Rattle.word_code.proofs.Names.{holding, failing, jump_over, decision}
 use Rattle.array_versions.specs.msp_step.msp_isa.declared.instructions.Condition.TheVariants as condition
 use Rattle.array_versions.specs.msp_step.msp_isa.declared.instructions.TwoOp.TheVariants as op
 use Rattle.array_versions.specs.msp_step.msp_isa.declared.operands.Konst.TheVariants as konst
-use Rattle.word_code.proofs.Registers.{Has, line, equal_flag}
 use Rattle.word_code.proofs.Stretches.{Setting, runs_on, so_runs}
-use Rattle.word_code.proofs.Follows.{StandsFor, Follows, then_end}
 use Rattle.word_code.proofs.Jumps.{stands_low, Decided, over_part}
 use Rattle.word_code.proofs.Values.{difference_flags, compared_flags, compare_met, failing_met}
 

@@ -1,10 +1,8 @@
 -- How much code takes: its bytes, with those of the pushes that are owed for words that wait.
 use Rattle.word_code.proofs.Names.{◌≡◌, ℕ, zero, suc, ◌+◌, ◌-◌, ◌*◌, ◌<◌, ◌≤◌, List, [], ◌∷◌, ◌++◌, refl, arith, Bool, true, false, nat_le, nat_lt, ltb-true}
-use Rattle.word_code.proofs.Names.{eqb-true, ◌==◌}
-use Rattle.word_code.proofs.Names.{if◌then◌else◌, nat_tests, source_bytes, Form, Push, instruction_of, form_bytes, forms_bytes, instructions}
+use Rattle.word_code.proofs.Names.{eqb-true, ◌==◌, if◌then◌else◌, nat_tests, source_bytes, Form, Push, instruction_of, form_bytes, forms_bytes, instructions}
 use Rattle.word_code.proofs.Names.{forms_bytes-append, ShiftOperation, Left, Right, SignedRight, right_words, shift_words, Waiting, waiting_source, flushed}
-use Rattle.word_code.proofs.Names.{top_of}
-use Rattle.word_code.proofs.Names.{source_from, below_top, any_held, cleared, kept, number_source, four_from, five_from, top_to_four, top_to_five}
+use Rattle.word_code.proofs.Names.{top_of, source_from, below_top, any_held, cleared, kept, number_source, four_from, five_from, top_to_four, top_to_five}
 use Rattle.word_code.proofs.Names.{two_to_registers, repeated, double, halve, right_code, shift_by, last_bit, shift_code, shift_middle, AreInstructions}
 use Rattle.array_versions.specs.msp_step.msp_isa.Encoding.{IsInstruction}
 use Rattle.word_code.specs.declared.waiting.Waiting.TheVariants as waiting

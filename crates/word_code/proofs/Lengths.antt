@@ -1,26 +1,21 @@
 -- The code of a program is instructions, whose jumps reach no further than ten bits say, and is no longer than its words say.
 use Rattle.word_code.specs.Code.{is_turned, compare_source, any_at}
-use Rattle.word_code.proofs.Names.{Move, ToFram}
-use Rattle.word_code.proofs.Names.{sides}
-use Rattle.word_code.proofs.Names.{◌≡◌, ℕ, ◌+◌, ◌-◌, ◌*◌, ◌<◌, ◌≤◌, ◌==◌, List, [], ◌∷◌, ◌++◌, length, refl, arith, length-append, Bool, true, false}
-use Rattle.word_code.proofs.Names.{not, nat_le, nat_lt, Option, Some, None, if◌then◌else◌, nat_tests, word_sum, Condition, R4, R5, Register, Constant}
+use Rattle.word_code.proofs.Names.{ToFram, sides, ◌≡◌, ℕ, ◌+◌, ◌-◌, ◌*◌, ◌<◌, ◌≤◌, ◌==◌, List, [], ◌∷◌, ◌++◌, length, refl, arith, length-append, Bool, true}
+use Rattle.word_code.proofs.Names.{false, not, nat_le, nat_lt, Option, Some, None, if◌then◌else◌, nat_tests, word_sum, Condition, R4, R5, Register, Constant}
 use Rattle.word_code.proofs.Names.{Number, Ram, Source, source_bytes, ToRegister, ToRam, ToIndexed, target_bytes, Form, Move, Calculate, Update, Push, Jump}
-use Rattle.word_code.proofs.Names.{Skip}
-use Rattle.word_code.proofs.Names.{instruction_of, form_bytes, forms_bytes, instruction_words, instructions, bytes_are, forms_bytes-append, UnaryOperation}
-use Rattle.word_code.proofs.Names.{Negate, BinaryOperation, Multiply, Divide, Remainder, Plain, PlainOperation, And, Left, Right}
-use Rattle.word_code.proofs.Names.{Comparison, Equal, ArrayPlace, ListPlace, Step, Test, Program, number, load, keep, update, local, set_local, update_local}
-use Rattle.word_code.proofs.Names.{unary, binary, shift, long, element, emit_word, list_entry, versioned_read, versioned_write, versioned_update, sense, truth}
-use Rattle.word_code.proofs.Names.{choose}
-use Rattle.word_code.proofs.Names.{repeat, store_number, move_word, jump, holds, compares, both, either, fails, nothing, step, unary_words, binary_words}
-use Rattle.word_code.proofs.Names.{right_words, step_words, test_words, words_of, Bound, Waiting, local_register, local_address, waiting_source}
-use Rattle.word_code.proofs.Names.{flushed, top_of, source_from, below_top, kept, stays, right_source, power, top_power}
-use Rattle.word_code.proofs.Names.{two_code, power_code, power_result, five_from, two_to_registers, unary_middle}
-use Rattle.word_code.proofs.Names.{binary_middle, binary_result, plain_instruction, update_code}
-use Rattle.word_code.proofs.Names.{check_code, zero_code, fetch_code, element_code, emit_code, pair_code, own_code, read_code, stored_code, write_code}
-use Rattle.word_code.proofs.Names.{compare_form, holding, failing, size, pass_over, decision, holds_code, compares_code, truth_code, number_code, turn_end}
-use Rattle.word_code.proofs.Names.{turns_code, waiting_behind, waiting_after, step_code, test_code, steps_code, top_number, element_at, bound_of, is_inside}
-use Rattle.word_code.proofs.Names.{block_code, code_of, rests, rest_source, to_rest, indexed_update, known_update, known_index, update_at, CodeHasItsBytes}
-use Rattle.word_code.proofs.Names.{CodeHasItsWords, made_code, first_update, by_version, inside_update, CodeIsInstructions}
+use Rattle.word_code.proofs.Names.{Skip, instruction_of, form_bytes, forms_bytes, instruction_words, instructions, bytes_are, forms_bytes-append}
+use Rattle.word_code.proofs.Names.{UnaryOperation, Negate, BinaryOperation, Multiply, Divide, Remainder, Plain, PlainOperation, And, Left, Right, Comparison}
+use Rattle.word_code.proofs.Names.{Equal, ArrayPlace, ListPlace, Step, Test, Program, number, load, keep, update, local, set_local, update_local, unary, binary}
+use Rattle.word_code.proofs.Names.{shift, long, element, emit_word, list_entry, versioned_read, versioned_write, versioned_update, sense, truth, choose, repeat}
+use Rattle.word_code.proofs.Names.{store_number, move_word, jump, holds, compares, both, either, fails, nothing, step, unary_words, binary_words, right_words}
+use Rattle.word_code.proofs.Names.{step_words, test_words, words_of, Bound, Waiting, local_register, local_address, waiting_source, flushed, top_of}
+use Rattle.word_code.proofs.Names.{source_from, below_top, kept, stays, right_source, power, top_power, two_code, power_code, power_result, five_from}
+use Rattle.word_code.proofs.Names.{two_to_registers, unary_middle, binary_middle, binary_result, plain_instruction, update_code, check_code, zero_code}
+use Rattle.word_code.proofs.Names.{fetch_code, element_code, emit_code, pair_code, own_code, read_code, stored_code, write_code, compare_form, holding, failing}
+use Rattle.word_code.proofs.Names.{size, pass_over, decision, holds_code, compares_code, truth_code, number_code, turn_end, turns_code, waiting_behind}
+use Rattle.word_code.proofs.Names.{waiting_after, step_code, test_code, steps_code, top_number, element_at, bound_of, is_inside, block_code, code_of, rests}
+use Rattle.word_code.proofs.Names.{rest_source, to_rest, indexed_update, known_update, known_index, update_at, CodeHasItsBytes, CodeHasItsWords, made_code}
+use Rattle.word_code.proofs.Names.{first_update, by_version, inside_update, CodeIsInstructions}
 use Rattle.array_versions.specs.msp_step.msp_isa.Encoding.{encoding, IsInstruction}
 use Rattle.array_versions.specs.msp_step.msp_isa.declared.instructions.TwoOp.TheVariants as op
 use Rattle.array_versions.specs.msp_step.msp_isa.declared.instructions.Condition.TheVariants as condition
@@ -30,9 +25,8 @@ use Rattle.word_code.specs.declared.waiting.Waiting.TheVariants as waiting
 use Rattle.array_versions.proofs.Interface.{right_low}
 use Rattle.word_code.proofs.UpdateBytes.{ways_bytes, checked_bytes, known_bytes, reads_bytes, first_bytes, inside_bytes, near_size}
 use Rattle.word_code.proofs.CodeTakes.{Are, Takes, are-append, behind, so_takes, either_takes, nothing_takes, number_bytes, kept_bytes_of, kept_bytes}
-use Rattle.word_code.proofs.CodeTakes.{source_short}
-use Rattle.word_code.proofs.CodeTakes.{shift_takes, shift_most, flushed_takes, cleared_takes, five_takes, four_takes, top_to_four_takes, top_to_five_takes}
-use Rattle.word_code.proofs.CodeTakes.{two_takes}
+use Rattle.word_code.proofs.CodeTakes.{source_short, shift_takes, shift_most, flushed_takes, cleared_takes, five_takes, four_takes, top_to_four_takes}
+use Rattle.word_code.proofs.CodeTakes.{top_to_five_takes, two_takes}
 use Rattle.word_code.proofs.LongLengths.{long_takes}
 
 -- ---- the parts of steps

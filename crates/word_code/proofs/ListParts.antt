@@ -1,12 +1,10 @@
 -- A word is listed: the last entry gets longer, or there is one more.
 use Rattle.word_code.proofs.Names.{◌≡◌, ℕ, suc, zero, ◌+◌, ◌-◌, ◌*◌, ◌%◌, ◌<◌, ◌==◌, ◌&&◌, not, List, [], ◌∷◌, Some, refl, sym, ap, ap₂, ◌∙◌, subst, arith}
-use Rattle.word_code.proofs.Names.{Bool}
-use Rattle.word_code.proofs.Names.{true, false, if◌then◌else◌, ne_eqb, drop, word_sum, sum16, distance, Effect, Store, put, IsFram, put_other, WorkRegister, R4}
-use Rattle.word_code.proofs.Names.{R5, R6, R7, work_number, Core, Register, Constant, Indexed, ToRegister, ToIndexed, Form, Move, Calculate, Update, Jump}
-use Rattle.word_code.proofs.Names.{instruction_of, Stands, Runs, stands_front, form_at, forms_at, forms_behind, ArrayPlace, ListPlace, WordState, Behaviour}
-use Rattle.word_code.proofs.Names.{strays, behind_effects, is_place, stored, raised, entry_stored, ends_before, listed_behind, first_stored, put_words}
-use Rattle.word_code.proofs.Names.{mark_code}
-use Rattle.word_code.proofs.Names.{next_code, word_code, first_code}
+use Rattle.word_code.proofs.Names.{Bool, true, false, if◌then◌else◌, ne_eqb, drop, word_sum, sum16, distance, Effect, Store, put, IsFram, put_other}
+use Rattle.word_code.proofs.Names.{WorkRegister, R4, R5, R6, R7, work_number, Core, Register, Constant, Indexed, ToRegister, ToIndexed, Form, Move, Calculate}
+use Rattle.word_code.proofs.Names.{Update, Jump, instruction_of, Stands, Runs, stands_front, form_at, forms_at, forms_behind, ArrayPlace, ListPlace, WordState}
+use Rattle.word_code.proofs.Names.{Behaviour, strays, behind_effects, is_place, stored, raised, entry_stored, ends_before, listed_behind, first_stored}
+use Rattle.word_code.proofs.Names.{put_words, mark_code, next_code, word_code, first_code}
 use Rattle.array_versions.specs.msp_step.msp_isa.declared.instructions.Condition.TheVariants as condition
 use Rattle.array_versions.specs.msp_step.msp_isa.declared.instructions.TwoOp.TheVariants as op
 use Rattle.array_versions.specs.msp_step.msp_isa.declared.operands.Konst.TheVariants as konst

@@ -1,19 +1,17 @@
 -- The code of operations with longs takes no more than their words say.
 use Rattle.word_code.proofs.Names.{◌≡◌, ℕ, zero, suc, ◌+◌, ◌-◌, ◌*◌, ◌<◌, List, [], ◌∷◌, ◌++◌, refl, arith, Bool, true, false, nat_le, nat_lt, ltb-true}
-use Rattle.word_code.proofs.Names.{if◌then◌else◌, R5, R7, WorkRegister, Register, Source, source_bytes, ToRegister, Form, Move, right_words}
-use Rattle.word_code.proofs.Names.{Left, Right, Waiting, top_of, source_from, below_top, kept, rests}
+use Rattle.word_code.proofs.Names.{if◌then◌else◌, R5, R7, WorkRegister, Register, Source, source_bytes, ToRegister, Form, Move, right_words, Left, Right}
+use Rattle.word_code.proofs.Names.{Waiting, top_of, source_from, below_top, kept, rests}
 use Rattle.word_code.specs.declared.waiting.Waiting.TheVariants as waiting
 use Rattle.array_versions.proofs.Interface.{right_low}
 use Rattle.array_versions.specs.Cost.{long_words}
 use Rattle.array_versions.specs.declared.operations.LongOperation.{LongOperation}
 use Rattle.array_versions.specs.declared.operations.LongOperation.TheVariants as with_longs
 use Rattle.word_code.specs.Code.{below_two, parted, parting, six_from, pair_from, pair_to_registers, side_from, side_source, long_sides, high_source}
-use Rattle.word_code.specs.Code.{low_source}
-use Rattle.word_code.specs.Code.{long_calculation, below_code, above_code, times_code, long_double, long_halve, byte_to_left, byte_to_right, long_right_code}
-use Rattle.word_code.specs.Code.{left_by}
-use Rattle.word_code.specs.Code.{right_by, dropped, high_code, high_behind, pair_lost, short_code, short_behind, left_code, left_behind, right_shift_code}
-use Rattle.word_code.specs.Code.{complement_code}
-use Rattle.word_code.specs.Code.{right_behind, widen_code, longs_lost, longs_code, longs_under, long_code, long_behind}
+use Rattle.word_code.specs.Code.{low_source, long_calculation, below_code, above_code, times_code, long_double, long_halve, byte_to_left, byte_to_right}
+use Rattle.word_code.specs.Code.{long_right_code, left_by, right_by, dropped, high_code, high_behind, pair_lost, short_code, short_behind, left_code}
+use Rattle.word_code.specs.Code.{left_behind, right_shift_code, complement_code, right_behind, widen_code, longs_lost, longs_code, longs_under, long_code}
+use Rattle.word_code.specs.Code.{long_behind}
 use Rattle.word_code.proofs.CodeTakes.{Takes, behind, so_takes, nothing_takes, number_bytes, kept_bytes_of, kept_bytes, source_short, shift_takes, shift_most}
 use Rattle.word_code.proofs.CodeTakes.{flushed_takes, cleared_takes, four_takes, top_to_four_takes}
 

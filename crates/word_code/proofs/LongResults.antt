@@ -1,9 +1,8 @@
 -- The code of an operation with longs does what the operation does.
 use Rattle.word_code.proofs.Names.{◌≡◌, ℕ, ◌+◌, ◌-◌, ◌*◌, ◌/◌, ◌%◌, ◌^◌, ◌<◌, ◌≤◌, Bool, true, false, nat_le, nat_lt, if◌then◌else◌, List, [], ◌∷◌, ◌++◌}
-use Rattle.word_code.proofs.Names.{length}
-use Rattle.word_code.proofs.Names.{Option, None, Some, refl, sym, ap, ap₂, ◌∙◌, subst, arith, ltb-true, nat_tests, Core, Form, R4, R6, Runs}
-use Rattle.word_code.proofs.Names.{Source, Stands, forms_bytes, Waiting, WordState, Behaviour, GoesOn, goes_on, broken}
-use Rattle.word_code.proofs.Names.{with_stack, Left, Right, shift_word, flushed, top_of, below_top, any_held, kept, top_to_four, shift_middle, PlainOperation}
+use Rattle.word_code.proofs.Names.{length, Option, None, Some, refl, sym, ap, ap₂, ◌∙◌, subst, arith, ltb-true, nat_tests, Core, Form, R4, R6, Runs, Source}
+use Rattle.word_code.proofs.Names.{Stands, forms_bytes, Waiting, WordState, Behaviour, GoesOn, goes_on, broken, with_stack, Left, Right, shift_word, flushed}
+use Rattle.word_code.proofs.Names.{top_of, below_top, any_held, kept, top_to_four, shift_middle, PlainOperation}
 use Rattle.word_code.specs.declared.waiting.Waiting.TheVariants as waiting
 use Rattle.array_versions.specs.Behaviour.{with_words}
 use Rattle.array_versions.specs.Cost.{long_cycles}
@@ -12,14 +11,13 @@ use Rattle.array_versions.specs.declared.operations.LongOperation.{LongOperation
 use Rattle.array_versions.specs.declared.operations.LongOperation.TheVariants as with_longs
 use Rattle.array_versions.specs.Operations.{two_words, plain_long, long_to_left, long_to_right, sign_word, all_bits, long_pops, long_pushes, long_result}
 use Rattle.word_code.specs.Code.{below_two, long_waits, parted, parting, long_sides, low_source, high_source, long_calculation, below_code, above_code}
-use Rattle.word_code.specs.Code.{longs_lost, pair_lost, pair_to_registers, short_code, short_behind, left_by, right_by, dropped, lifted}
-use Rattle.word_code.specs.Code.{high_code, high_behind, left_code, left_behind, right_shift_code, right_behind, complement_code, widen_code, long_code}
-use Rattle.word_code.specs.Code.{long_behind}
+use Rattle.word_code.specs.Code.{longs_lost, pair_lost, pair_to_registers, short_code, short_behind, left_by, right_by, dropped, lifted, high_code, high_behind}
+use Rattle.word_code.specs.Code.{left_code, left_behind, right_shift_code, right_behind, complement_code, widen_code, long_code, long_behind}
 use Rattle.word_code.proofs.Memory.{AreWords}
 use Rattle.word_code.proofs.Stretches.{Setting, two_parts, nothing_run, so_runs, dearer}
 use Rattle.word_code.proofs.Registers.{HasWord, Holds, Has}
-use Rattle.word_code.proofs.Operands.{owed, none_held, clear_cycles, owed_kept, load_cycles, load_owed, Describes, Waits, waiting_word, head_is}
-use Rattle.word_code.proofs.Operands.{words_same, dressed, flush_part, four_part, five_part, drop_part, top_to_four_part, result_waits, waits_more}
+use Rattle.word_code.proofs.Operands.{owed, none_held, clear_cycles, owed_kept, load_cycles, load_owed, Describes, Waits, waiting_word, head_is, words_same}
+use Rattle.word_code.proofs.Operands.{dressed, flush_part, four_part, five_part, drop_part, top_to_four_part, result_waits, waits_more}
 use Rattle.word_code.proofs.Follows.{reach_more}
 use Rattle.word_code.proofs.Results.{Does, StepDoes, does_behind, made_waits, value_part}
 use Rattle.word_code.proofs.ShiftParts.{shift_part}

@@ -1,16 +1,14 @@
 -- Longs to registers: the left one to R6 and R4, the right one to where its words are read.
 use Rattle.word_code.proofs.Names.{◌≡◌, ℕ, ◌+◌, ◌≤◌, Bool, true, false, if◌then◌else◌, List, [], ◌∷◌, ◌++◌, Option, Some, None, refl, sym, ap, ◌∙◌, subst}
 use Rattle.word_code.proofs.Names.{arith, drop, get_or, put, Core, Form, Move, ToRegister, Register, WorkRegister, R5, R6, R7, work_number, Runs, Source}
-use Rattle.word_code.proofs.Names.{SourceNeeds}
-use Rattle.word_code.proofs.Names.{source_value, source_read, source_operand, source_cycles, to_register, Stands, forms_bytes, Waiting, WordState, with_stack}
-use Rattle.word_code.proofs.Names.{top_of, below_top, any_held, cleared, kept, four_from, rests, source_from, waiting_source}
+use Rattle.word_code.proofs.Names.{SourceNeeds, source_value, source_read, source_operand, source_cycles, to_register, Stands, forms_bytes, Waiting, WordState}
+use Rattle.word_code.proofs.Names.{with_stack, top_of, below_top, any_held, cleared, kept, four_from, rests, source_from, waiting_source}
 use Rattle.word_code.specs.declared.waiting.Waiting.TheVariants as waiting
 use Rattle.word_code.specs.Code.{below_two, in_six, six_from, pair_from, pair_to_registers, side_from, long_sides, high_source, low_source}
 use Rattle.word_code.proofs.Memory.{local_words, local_word, in_register}
 use Rattle.word_code.proofs.Stretches.{two_parts, Setting, dearer, nothing_run, so_runs}
 use Rattle.word_code.proofs.Operands.{IsThere, owed, load_cycles, load_price, load_owed, number_cases, source_still, source_needs, source_word, Describes}
-use Rattle.word_code.proofs.Operands.{Waits}
-use Rattle.word_code.proofs.Operands.{IsLoaded, words_same, words_kept, move_part, take_part, drop_part, four_part, clear_cycles, owed_kept, none_held}
+use Rattle.word_code.proofs.Operands.{Waits, IsLoaded, words_same, words_kept, move_part, take_part, drop_part, four_part, clear_cycles, owed_kept, none_held}
 use Rattle.word_code.proofs.Operands.{waiting_word, waiting_words, behind_cleared}
 use Rattle.word_code.proofs.Sides.{side_cycles, reading_cycles, side_owed}
 use Rattle.word_code.proofs.LongWords.{Pair}

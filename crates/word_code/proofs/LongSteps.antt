@@ -1,8 +1,8 @@
 -- What instructions make of longs in registers.
 use Rattle.word_code.proofs.Names.{◌≡◌, ℕ, ◌+◌, ◌-◌, ◌%◌, ◌<◌, ◌≤◌, Bool, true, false, not, nat_le, nat_lt, [], ◌∷◌, ◌++◌, Some, refl, ap, ap₂, ◌∙◌, subst}
-use Rattle.word_code.proofs.Names.{arith, not-not, bit, Flags, Core, Calculate, Constant, R4, R6, TwoOp, IsNotMov, Word, Runs, Source}
-use Rattle.word_code.proofs.Names.{source_operand, source_cycles, source_bytes, to_register, flags_after, operated, writes_destination, instruction_of, Stands}
-use Rattle.word_code.proofs.Names.{forms_bytes, PlainOperation, Add, Subtract, plain_instruction, WordState}
+use Rattle.word_code.proofs.Names.{arith, not-not, bit, Flags, Core, Calculate, Constant, R4, R6, TwoOp, IsNotMov, Word, Runs, Source, source_operand}
+use Rattle.word_code.proofs.Names.{source_cycles, source_bytes, to_register, flags_after, operated, writes_destination, instruction_of, Stands, forms_bytes}
+use Rattle.word_code.proofs.Names.{PlainOperation, Add, Subtract, plain_instruction, WordState}
 use Rattle.std.specs.Prelude.{bit_xor}
 use Rattle.array_versions.specs.msp_step.msp_isa.declared.instructions.TwoOp.TheVariants as op
 use Rattle.array_versions.specs.msp_step.msp_isa.declared.operands.Konst.TheVariants as konst
@@ -12,8 +12,7 @@ use Rattle.word_code.proofs.Stretches.{Setting, runs_on, so_runs, two_parts}
 use Rattle.word_code.proofs.Registers.{Has, Holds, Flagged, IsCarry, line}
 use Rattle.word_code.proofs.Follows.{stands_elsewhere}
 use Rattle.word_code.proofs.Middles.{calculate, plain_needs}
-use Rattle.word_code.proofs.LongWords.{Pair, pair, worth, pair_of, AreSmall, are_made, below_carry, above_carry, mask_value, turned_value, no_carry}
-use Rattle.word_code.proofs.LongWords.{sign_value}
+use Rattle.word_code.proofs.LongWords.{Pair, pair, worth, pair_of, AreSmall, are_made, below_carry, above_carry, mask_value, turned_value, no_carry, sign_value}
 use Rattle.word_code.proofs.LongSides.{HasPair, HasLongs}
 
 -- an instruction that reads its destination and writes it

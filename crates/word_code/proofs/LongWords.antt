@@ -1,14 +1,14 @@
 -- Arithmetic of longs by their words: what the low words carry goes into the high ones.
-use Rattle.word_code.proofs.Names.{◌≡◌, ℕ, zero, suc, ◌+◌, ◌-◌, ◌*◌, ◌/◌, ◌%◌, ◌^◌, ◌<◌, ◌≤◌, ◌==◌, Bool, true, false, not, nat_le, nat_lt, if◌then◌else◌}
-use Rattle.word_code.proofs.Names.{refl, sym, ap, ap₂, ◌∙◌, arith, le-leb, ltb-true, eqb-true, bit, bit_and, nat_tests, and_le_r, mul-mod_first, pow-add, Flags}
-use Rattle.word_code.proofs.Names.{Word, and_mask}
-use Rattle.word_code.proofs.Names.{operated, flags_after, PlainOperation, Add, Subtract, And, plain_instruction}
+use Rattle.word_code.proofs.Names.{◌≡◌, ℕ, zero, suc, ◌+◌, ◌-◌, ◌*◌, ◌/◌, ◌%◌, ◌^◌, ◌<◌, ◌≤◌, ◌==◌, Bool, true, false, not, nat_le, nat_lt, if◌then◌else◌, refl}
+use Rattle.word_code.proofs.Names.{sym, ap, ap₂, ◌∙◌, arith, le-leb, ltb-true, eqb-true, bit, bit_and, nat_tests, and_le_r, mul-mod_first, pow-add, Flags, Word}
+use Rattle.word_code.proofs.Names.{and_mask, operated, flags_after, PlainOperation, Add, Subtract, And, plain_instruction}
 use Rattle.std.specs.Prelude.{bit_or, bit_xor}
 use Rattle.std.specs.Int.Bits.{xor_add_and}
 use Rattle.std.proofs.lemmas.Bool.{leb-true}
 use Rattle.std.proofs.Math.Nat.{div-div-eq-div-mul}
 use Rattle.std.proofs.lemmas.Nat.{and_shr, and_mod, or_shr, or_mod, xor_shr, xor_mod}
 use Rattle.array_versions.specs.declared.operations.PlainOperation.TheVariants.{Xor, Or}
+pub use Rattle.array_versions.specs.alp_words.Words.{swapped as swap}
 use Rattle.array_versions.specs.Operations.{two_words, plain_long, sign_word, all_bits}
 use Rattle.word_code.specs.Code.{high_instruction}
 
@@ -35,9 +35,6 @@ pub record AreSmall (a : Pair) : Type 0 where
 
 pub worth_small : (a : Pair) → AreSmall a → worth a < 0x100000000
 worth_small a s = omega (arith, s.low, s.high)
-
-pub pair_small : (n : ℕ) → n < 0x100000000 → AreSmall (pair_of n)
-pair_small n h = record { low = omega arith; high = omega arith }
 
 pub low_of : (a : Pair) → AreSmall a → worth a % 0x10000 ≡ a.low
 low_of a s = let l = s.low in omega arith
@@ -250,10 +247,6 @@ half_high n = omega arith
 -- its top bit is 0
 pub top_is_zero : (n : ℕ) → n < 0x80000000 → nat_le 0x8000 (n / 0x10000) ≡ false
 top_is_zero n h = not_at_most 0x8000 (n / 0x10000) (omega arith)
-
--- a word with its bytes exchanged
-abbrev pub swap : ℕ → ℕ
-swap v = v % 0x100 * 0x100 + v / 0x100
 
 -- eight places to the left
 pub up_low : (n : ℕ) → (n % 0x10000 * 256) % 0x10000 ≡ (n * 256) % 0x100000000 % 0x10000

@@ -1,16 +1,9 @@
 -- The stack and the locals: the first eight in registers, the others in RAM.
 use Rattle.word_code.proofs.Names.{◌≡◌, ℕ, zero, suc, ◌+◌, ◌-◌, ◌*◌, ◌<◌, ◌≤◌, List, [], ◌∷◌, length, get_or, Option, Some, refl, sym, ap, ◌∙◌, subst, arith}
-use Rattle.word_code.proofs.Names.{Bool, true, false, nat_eq, nat_lt, eq-eqb, ne_eqb, if◌then◌else◌, AllByRecursion, nat_tests, same_Some, put, IsFram, IsRam}
+use Rattle.word_code.proofs.Names.{Bool, true, false, nat_eq, nat_lt, eq-eqb, ne_eqb, if◌then◌else◌, nat_tests, same_Some, put, IsFram, IsRam}
 use Rattle.word_code.proofs.Names.{put_same, put_other, work_number, HasPushRoom, is_place, assigned, local_register, local_address}
 use Rattle.word_code.proofs.Stretches.{Setting}
-
--- words
-abbrev pub AreWords : List ℕ → Type 0
-AreWords vs = AllByRecursion (λ v. v < 0x10000) vs
-
--- words at each address
-abbrev pub HoldsWords : (ℕ → ℕ) → Type 0
-HoldsWords f = (a : ℕ) → f a < 0x10000
+pub use Rattle.array_versions.specs.alp_words.Words.{AreWords, HoldsWords}
 
 -- the stack in RAM, its top first
 abbrev pub StackIs : (ℕ → ℕ) → ℕ → List ℕ → Type 0

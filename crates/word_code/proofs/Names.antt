@@ -14,8 +14,7 @@ pub use Rattle.std.specs.Option.{unwrap_or}
 -- words and instructions
 pub use Rattle.array_versions.specs.msp_step.msp_isa.Constant.{constant_value}
 pub use Rattle.array_versions.specs.msp_step.msp_isa.alp_words.Words.{word_sum, and_of, bit, quotient, remainder, sum_of, word_product, arithmetic_shift}
-pub use Rattle.array_versions.specs.msp_step.msp_isa.alp_words.Words.{biased, same, is_negative}
-pub use Rattle.array_versions.specs.msp_step.msp_isa.alp_words.Words.{difference_of}
+pub use Rattle.array_versions.specs.msp_step.msp_isa.alp_words.Words.{biased, same, is_negative, difference_of}
 pub use Rattle.array_versions.specs.msp_step.msp_isa.alp_words.declared.Flags.{Flags}
 pub use Rattle.array_versions.specs.msp_step.msp_isa.alp_words.declared.Width.TheVariants.{Word}
 pub use Rattle.array_versions.specs.msp_step.msp_isa.declared.instructions.Condition.{Condition}
@@ -28,7 +27,7 @@ pub use Rattle.array_versions.specs.machine_effects.Going.{At, stretch, Goes, St
 pub use Rattle.array_versions.specs.machine_effects.Machine.{IsFram, IsRam, MachineBoard, exec, Code}
 pub use Rattle.array_versions.specs.machine_effects.World.{put, IsPrefix}
 pub use Rattle.array_versions.specs.machine_effects.msp_cycles.Cycles.{CycleRow, cycles_of, source_cycles, to_register, to_memory, push}
-pub use Rattle.array_versions.specs.msp_step.Effect.{sum16, distance, is_met, operated, writes_destination}
+pub use Rattle.array_versions.specs.msp_step.Effect.{word_sum as sum16, distance, is_met, operated, writes_destination}
 -- forms of instructions
 pub use Rattle.code_forms.proofs.Interface.{stands_at, stands_front, stands_back, end_of, forms_bytes-append, form_small, bytes_are, form_at, forms_at}
 pub use Rattle.code_forms.proofs.Interface.{forms_behind, first_forms}

@@ -5,8 +5,7 @@ use Rattle.word_code.proofs.Names.{Flags, unwrap_or, AllByRecursion, put, Goes, 
 use Rattle.word_code.proofs.Names.{to_memory, push, put_same, put_other, WorkRegister, R4, R5, work_number, Core, Source, Number, Constant, source_operand}
 use Rattle.word_code.proofs.Names.{source_bytes, source_value, source_read, SourceNeeds, ToRegister, Form, Move, Calculate, Push, HasPushRoom, instruction_of}
 use Rattle.word_code.proofs.Names.{form_bytes, Stands, forms_bytes, Runs, WordState, with_stack, pushed, Waiting, number_source, waiting_source, flushed}
-use Rattle.word_code.proofs.Names.{top_of}
-use Rattle.word_code.proofs.Names.{source_from, below_top, any_held, cleared, kept, four_from, five_from, top_to_four, top_to_five}
+use Rattle.word_code.proofs.Names.{top_of, source_from, below_top, any_held, cleared, kept, four_from, five_from, top_to_four, top_to_five}
 use Rattle.array_versions.specs.msp_step.msp_isa.declared.instructions.TwoOp.TheVariants as op
 use Rattle.array_versions.specs.msp_step.msp_isa.declared.operands.Konst.TheVariants as konst
 use Rattle.word_code.specs.declared.waiting.Waiting.TheVariants as waiting

@@ -1,13 +1,10 @@
 -- The steps that are straight code: words of FRAM, locals, jumps.
 use Rattle.word_code.proofs.Names.{◌≡◌, ℕ, ◌+◌, ◌-◌, ◌%◌, ◌<◌, Bool, true, false, nat_lt, List, [], ◌∷◌, length, Option, Some, refl, sym, ap, ap₂, ◌∙◌, ◌++◌}
-use Rattle.word_code.proofs.Names.{◌==◌, subst, arith}
-use Rattle.word_code.proofs.Names.{put_other, ◌≤◌, eq-eqb, if◌then◌else◌, cycles_of, source_cycles, to_register, to_memory, Store, put, Goes, At, stretch}
-use Rattle.word_code.proofs.Names.{IsFram, Konst}
-use Rattle.word_code.proofs.Names.{constant_value, work_number, Core, Source, source_operand, source_bytes, source_read, Constant, Fram, Ram, ToRegister}
-use Rattle.word_code.proofs.Names.{ToFram}
-use Rattle.word_code.proofs.Names.{ToRam, Move, Push, Branch, instruction_of, Stands, forms_bytes, forms_run, Runs, stands_at, end_of, WordState, behaves}
-use Rattle.word_code.proofs.Names.{goes_on, Jumps, broken, with_stack, pushed, stored, with_local, is_place, word_stored, jumped, Waiting, HasJumped}
-use Rattle.word_code.proofs.Names.{local_register, local_address, local_target, number_source, source_from, number_code}
+use Rattle.word_code.proofs.Names.{◌==◌, subst, arith, put_other, ◌≤◌, eq-eqb, if◌then◌else◌, cycles_of, source_cycles, to_register, to_memory, Store, put}
+use Rattle.word_code.proofs.Names.{Goes, At, stretch, IsFram, Konst, constant_value, work_number, Core, Source, source_operand, source_bytes, source_read}
+use Rattle.word_code.proofs.Names.{Constant, Fram, Ram, ToRegister, ToFram, ToRam, Move, Push, Branch, instruction_of, Stands, forms_bytes, forms_run, Runs}
+use Rattle.word_code.proofs.Names.{stands_at, end_of, WordState, behaves, goes_on, Jumps, broken, with_stack, pushed, stored, with_local, is_place, word_stored}
+use Rattle.word_code.proofs.Names.{jumped, Waiting, HasJumped, local_register, local_address, local_target, number_source, source_from, number_code}
 use Rattle.word_code.proofs.Stretches.{Setting, straight, hop}
 use Rattle.word_code.proofs.Memory.{local_words, in_ram, Memory, push_needs, local_needs, push_memory, set_register, set_ram, place_is}
 use Rattle.word_code.proofs.Follows.{StandsFor, Follows, guarded}

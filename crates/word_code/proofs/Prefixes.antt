@@ -1,13 +1,10 @@
 -- The effects so far are a prefix of all.
 use Rattle.word_code.proofs.Names.{◌≡◌, ℕ, zero, suc, ◌+◌, ◌-◌, ◌≤◌, List, [], ◌++◌, refl, sym, ap, ◌∙◌, subst, arith, append_assoc, append-nil, suc-add}
-use Rattle.word_code.proofs.Names.{Effect}
-use Rattle.word_code.proofs.Names.{IsPrefix, StepOutcome, Goes, Stops, Stretch, stretch, At, Halted, after_effects, continued, going, MachineBoard, exec}
+use Rattle.word_code.proofs.Names.{Effect, IsPrefix, StepOutcome, Goes, Stops, stretch, At, Halted, after_effects, continued, going, MachineBoard, exec}
 use Rattle.word_code.proofs.Names.{board_of, IsWithin, RunsStayWithin, StarvingStaysWithin}
+use Rattle.array_versions.specs.machine_effects.Machine.{MachineStretch as MachineStretchOf}
 use Rattle.array_versions.specs.msp_step.declared.machine.Stop.{Stop}
 use Rattle.array_versions.specs.msp_step.declared.machine.Stop.TheVariants as stop
-
-abbrev MachineStretchOf : Type 0
-MachineStretchOf = Stretch MachineBoard Stop
 
 -- one stretch is the front of another
 record IsFront (r q : MachineStretchOf) : Type 0 where

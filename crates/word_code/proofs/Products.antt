@@ -1,9 +1,8 @@
 -- Multiplication: a turn for each bit of the right side, up to its highest.
 use Rattle.word_code.proofs.Names.{◌≡◌, ℕ, zero, suc, ◌+◌, ◌*◌, ◌/◌, ◌%◌, ◌^◌, ◌<◌, ◌==◌, not, List, [], ◌∷◌, Some, refl, sym, ap, ap₂, ◌∙◌, subst, arith, Bool}
 use Rattle.word_code.proofs.Names.{true, false, eqb-true, bit_and, nat_tests, and_mask, and_le_r, mul-mod_first, bit, sum16, distance, R4, R5, R6, Core}
-use Rattle.word_code.proofs.Names.{Register}
-use Rattle.word_code.proofs.Names.{Constant, ToRegister, Form, Move, Calculate, Modify, Jump, instruction_of, Stands, forms_bytes, Runs, form_at, forms_at}
-use Rattle.word_code.proofs.Names.{Multiply, binary_word, WordState, binary_middle, multiply_turn}
+use Rattle.word_code.proofs.Names.{Register, Constant, ToRegister, Form, Move, Calculate, Modify, Jump, instruction_of, Stands, forms_bytes, Runs, form_at}
+use Rattle.word_code.proofs.Names.{forms_at, Multiply, binary_word, WordState, binary_middle, multiply_turn}
 use Rattle.array_versions.specs.msp_step.msp_isa.declared.instructions.Condition.TheVariants as condition
 use Rattle.array_versions.specs.msp_step.msp_isa.declared.instructions.TwoOp.TheVariants as op
 use Rattle.array_versions.specs.msp_step.msp_isa.declared.operands.Konst.TheVariants as konst

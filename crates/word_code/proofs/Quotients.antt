@@ -2,10 +2,8 @@
 use Rattle.word_code.proofs.Names.{◌≡◌, ℕ, zero, suc, ◌+◌, ◌-◌, ◌*◌, ◌/◌, ◌%◌, ◌^◌, ◌<◌, ◌≤◌, ◌==◌, ◌⊎◌, inl, inr, ⊎_elim, not, List, [], ◌∷◌, Some, refl, sym}
 use Rattle.word_code.proofs.Names.{ap, ap₂, ◌∙◌, subst, arith, Bool, true, false, nat_le, eq-eqb, if◌then◌else◌, nat_tests, div-mul-add, mod-mul-add, cases_eq}
 use Rattle.word_code.proofs.Names.{bit, quotient, remainder, sum16, distance, R4, R5, R6, R7, Core, Register, Number, Constant, ToRegister, Form, Move}
-use Rattle.word_code.proofs.Names.{Calculate}
-use Rattle.word_code.proofs.Names.{Jump, instruction_of, Stands, Runs, form_at, forms_at, forms_behind, Divide, Remainder, binary_word, WordState}
-use Rattle.word_code.proofs.Names.{binary_middle}
-use Rattle.word_code.proofs.Names.{divide_middle, divide_turn}
+use Rattle.word_code.proofs.Names.{Calculate, Jump, instruction_of, Stands, Runs, form_at, forms_at, forms_behind, Divide, Remainder, binary_word, WordState}
+use Rattle.word_code.proofs.Names.{binary_middle, divide_middle, divide_turn}
 use Rattle.array_versions.proofs.machine_effects.fram_board.alp_words.Interface.{bit_below}
 use Rattle.array_versions.specs.msp_step.msp_isa.declared.instructions.Condition.TheVariants as condition
 use Rattle.array_versions.specs.msp_step.msp_isa.declared.instructions.TwoOp.TheVariants as op

@@ -12,8 +12,7 @@ use Rattle.word_code.proofs.Names.{versioned_pushed, versioned_stored, reading_p
 use Rattle.word_code.proofs.Names.{flushed, top_of, source_from, below_top, any_held, cleared, kept, top_to_four, top_to_five, plain_instruction, update_code}
 use Rattle.word_code.proofs.Names.{sides, right_source, power, known_element, two_code, power_code, power_result, two_to_registers, unary_middle, binary_middle}
 use Rattle.word_code.proofs.Names.{binary_result, shift_middle, element_code, emit_code, read_code, write_code, top_number, element_at, is_inside}
-use Rattle.word_code.proofs.Names.{waiting_behind}
-use Rattle.word_code.proofs.Names.{step_code}
+use Rattle.word_code.proofs.Names.{waiting_behind, step_code, Store, stored}
 use Rattle.std.specs.Int.{trailing_zeros}
 use Rattle.code_forms.specs.Forms as forms
 use Rattle.word_code.specs.declared.waiting.Waiting.TheVariants as waiting
@@ -22,14 +21,12 @@ use Rattle.word_code.proofs.Stretches.{two_parts, Setting, hop, dearer_stall, no
 use Rattle.word_code.proofs.Registers.{With, HasWord, HasSides, Holds, Has}
 use Rattle.word_code.proofs.Operands.{Waits, IsThere, owed_by, owed, none_held, clear_cycles, owed_kept, load_cycles, load_owed, store_cycles, store_owed}
 use Rattle.word_code.proofs.Operands.{Describes, Top, waiting_word, bare, dressed, flush_under, flush_part, clear_under, below_part, top_to_four_part}
-use Rattle.word_code.proofs.Operands.{top_to_five_part, result_waits, waits_more, drop_part}
+use Rattle.word_code.proofs.Operands.{top_to_five_part, result_waits, waits_more, drop_part, take_part}
 use Rattle.word_code.proofs.Sides.{Aiming, is_read, side_cycles, reading_cycles, reading_price, side_owed, sides_part, two_to_registers_part}
 use Rattle.word_code.proofs.Middles.{plain_step, UnaryMiddle, BinaryMiddle, negate_middle, complement_middle}
 use Rattle.word_code.proofs.Follows.{StandsFor, stands_elsewhere, Follows, Reaches, reach_more, then_reach, reaches, reach_guarded}
 use Rattle.word_code.proofs.LoopBounds.{Bounded, top_inside, under_inside}
-use Rattle.word_code.proofs.Names.{Store, stored}
 use Rattle.word_code.specs.Code.{any_at}
-use Rattle.word_code.proofs.Operands.{take_part}
 use Rattle.word_code.proofs.Parts.{local_part, keep_part, keep_beside, set_part}
 use Rattle.word_code.proofs.Updates.{update_part, update_local_part}
 use Rattle.word_code.proofs.Products.{multiply_middle}

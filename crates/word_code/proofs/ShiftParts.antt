@@ -1,13 +1,12 @@
 -- Shifts by a count.
 use Rattle.word_code.proofs.Names.{◌≡◌, ℕ, zero, suc, ◌+◌, ◌-◌, ◌*◌, ◌/◌, ◌%◌, ◌^◌, ◌<◌, ◌≤◌, ◌==◌, not, List, [], ◌∷◌, ◌++◌, Some, refl, sym, ap, ◌∙◌, subst}
 use Rattle.word_code.proofs.Names.{arith, Bool, true, false, nat_lt, nat_le, ltb-true, if◌then◌else◌, bit_and, bit_xor, eqb-true, nat_tests, and_mask}
-use Rattle.word_code.proofs.Names.{mul-mod_first, pow-add, bit}
-use Rattle.word_code.proofs.Names.{arithmetic_shift, R4, Core, Register, Number, Constant, ToRegister, Form, Move, Calculate, Modify, instruction_of}
-use Rattle.word_code.proofs.Names.{form_bytes}
-use Rattle.word_code.proofs.Names.{Stands, forms_bytes, Runs, stands_front, stands_back, ShiftOperation, Left, Right, SignedRight, shifted_word, shift_word}
-use Rattle.word_code.proofs.Names.{WordState, repeated, right_code, shift_by, last_bit, shift_code, shift_middle}
+use Rattle.word_code.proofs.Names.{mul-mod_first, pow-add, bit, arithmetic_shift, R4, Core, Register, Number, Constant, ToRegister, Form, Move, Calculate}
+use Rattle.word_code.proofs.Names.{Modify, instruction_of, form_bytes, Stands, forms_bytes, Runs, stands_front, stands_back, ShiftOperation, Left, Right}
+use Rattle.word_code.proofs.Names.{SignedRight, shifted_word, shift_word, WordState, repeated, right_code, shift_by, last_bit, shift_code, shift_middle}
 use Rattle.std.proofs.Math.Nat.{div-div-eq-div-mul}
 use Rattle.std.proofs.lemmas.Grind.{and_high_numeral}
+use Rattle.array_versions.specs.alp_words.Words.{swapped as swap}
 use Rattle.array_versions.specs.msp_step.msp_isa.declared.instructions.TwoOp.TheVariants as op
 use Rattle.array_versions.specs.msp_step.msp_isa.declared.operands.Konst.TheVariants as konst
 use Rattle.array_versions.specs.msp_step.declared.effect.Modification.TheVariants as change
@@ -75,9 +74,6 @@ halved_signed k y h = signed_by (nat_le 0x8000 y) k y h refl
 
 power_add : (j : ℕ) → 2 ^ (8 + j) ≡ 256 * 2 ^ j
 power_add j = pow-add 2 8 j
-
-abbrev swap : ℕ → ℕ
-swap v = v % 0x100 * 0x100 + v / 0x100
 
 pub high_byte : (v : ℕ) → v < 0x10000 → bit_and (swap v) 0xFF00 ≡ (v * 256) % 0x10000
 high_byte v h =

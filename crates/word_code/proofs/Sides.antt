@@ -1,11 +1,10 @@
 -- The two sides of an operation: the left one in R4, and the right one in R5, or read where it waits.
 use Rattle.word_code.specs.Code.{is_turned, compare_sides, compare_source}
-use Rattle.word_code.proofs.Names.{Comparison}
-use Rattle.word_code.proofs.Names.{Core, Form, R5, Register, Runs, Source, SourceNeeds, Stands, Waiting, WordState, WorkRegister, any_held, below_top, cleared}
-use Rattle.word_code.proofs.Names.{drop, five_from, flushed, forms_bytes, four_from, get_or, kept, rest_source, rests, right_source, right_to_rest, sides}
-use Rattle.word_code.proofs.Names.{source_cycles, source_from, source_operand, source_read, source_value, stays, to_memory, to_register, to_rest, top_of}
-use Rattle.word_code.proofs.Names.{two_to_registers, update_sides, waiting_source, with_stack, work_number, ◌≡◌, ℕ, ◌+◌, ◌≤◌, Bool, true, false, if◌then◌else◌}
-use Rattle.word_code.proofs.Names.{List, [], ◌∷◌, ◌++◌, Option, Some, None, refl, sym, ap, ◌∙◌, subst, arith}
+use Rattle.word_code.proofs.Names.{Comparison, Core, Form, R5, Register, Runs, Source, SourceNeeds, Stands, Waiting, WordState, WorkRegister, any_held}
+use Rattle.word_code.proofs.Names.{below_top, cleared, drop, five_from, flushed, forms_bytes, four_from, get_or, kept, rest_source, rests, right_source}
+use Rattle.word_code.proofs.Names.{right_to_rest, sides, source_cycles, source_from, source_operand, source_read, source_value, stays, to_memory, to_register}
+use Rattle.word_code.proofs.Names.{to_rest, top_of, two_to_registers, update_sides, waiting_source, with_stack, work_number, ◌≡◌, ℕ, ◌+◌, ◌≤◌, Bool, true}
+use Rattle.word_code.proofs.Names.{false, if◌then◌else◌, List, [], ◌∷◌, ◌++◌, Option, Some, None, refl, sym, ap, ◌∙◌, subst, arith}
 use Rattle.word_code.specs.declared.waiting.Waiting.TheVariants as waiting
 use Rattle.word_code.proofs.Stretches.{two_parts, Setting, dearer, nothing_run, so_runs}
 use Rattle.word_code.proofs.Registers.{With, HasSides}

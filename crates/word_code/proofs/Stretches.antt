@@ -1,8 +1,7 @@
 -- Stretches of code that stays, with room for locals and a stack.
 use Rattle.word_code.proofs.Names.{subst, ◌≡◌, ℕ, ◌+◌, ◌*◌, ◌≤◌, List, [], ◌++◌, Some, arith, forms_bytes, stands_front, stands_back, forms_bytes-append}
-use Rattle.word_code.proofs.Names.{Effect}
-use Rattle.word_code.proofs.Names.{Goes, Stops, At, stretch, Code, Core, Form, instruction_of, form_step, FormNeeds, Stands, AreStraight, forms_run, FormsNeed}
-use Rattle.word_code.proofs.Names.{IsTidy, Runs, Starves}
+use Rattle.word_code.proofs.Names.{Effect, Goes, Stops, At, stretch, Code, Core, Form, instruction_of, form_step, FormNeeds, Stands, AreStraight, forms_run}
+use Rattle.word_code.proofs.Names.{FormsNeed, IsTidy, Runs, Starves}
 use Rattle.array_versions.specs.msp_step.declared.machine.Stop.TheVariants as stop
 use Rattle.code_forms.proofs.Interface as blocks
 

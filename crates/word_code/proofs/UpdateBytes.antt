@@ -1,8 +1,7 @@
 -- How long the code of an element is that is updated in place.
 use Rattle.word_code.proofs.Names.{◌≡◌, ℕ, ◌+◌, ◌*◌, ◌≤◌, List, [], ◌∷◌, ◌++◌, arith, word_sum, R4, R7, Source, source_bytes, Number, ToRegister, Form, Move}
 use Rattle.word_code.proofs.Names.{Calculate, Update, Jump, forms_bytes, forms_bytes-append, form_small, PlainOperation, ArrayPlace, ListPlace}
-use Rattle.word_code.proofs.Names.{plain_instruction}
-use Rattle.word_code.proofs.Names.{size, made_code, first_update, by_version, inside_update, checked_update, known_update}
+use Rattle.word_code.proofs.Names.{plain_instruction, size, made_code, first_update, by_version, inside_update, checked_update, known_update}
 use Rattle.array_versions.specs.msp_step.msp_isa.declared.instructions.Condition.TheVariants as condition
 use Rattle.word_code.proofs.Jumps.{whole_size}
 

@@ -1,12 +1,9 @@
 -- Operations in place: on a word of FRAM, and on a local.
 use Rattle.word_code.proofs.Names.{◌≡◌, ℕ, ◌+◌, ◌<◌, Bool, true, false, nat_lt, if◌then◌else◌, List, [], ◌∷◌, Option, Some, refl, sym, ap, ap₂, ◌∙◌, subst}
-use Rattle.word_code.proofs.Names.{arith}
-use Rattle.word_code.proofs.Names.{Word, operated, cycles_of, Store, put, Goes, R4, R5, Core, Register, Ram, source_bytes, source_value, source_read}
-use Rattle.word_code.proofs.Names.{ToRegister}
-use Rattle.word_code.proofs.Names.{ToRam, Move, Calculate, Update, Form, flags_after, instruction_of, form_bytes, Stands, forms_bytes, forms_run, Runs}
-use Rattle.word_code.proofs.Names.{stands_at}
-use Rattle.word_code.proofs.Names.{end_of, PlainOperation, plain_word, WordState, goes_on, with_stack, stored, assigned, with_local, is_place, word_stored}
-use Rattle.word_code.proofs.Names.{Waiting, plain_instruction, local_register, local_address, source_from, ram_update, update_code}
+use Rattle.word_code.proofs.Names.{arith, Word, operated, cycles_of, Store, put, Goes, R4, R5, Core, Register, Ram, source_bytes, source_value, source_read}
+use Rattle.word_code.proofs.Names.{ToRegister, ToRam, Move, Calculate, Update, Form, flags_after, instruction_of, form_bytes, Stands, forms_bytes, forms_run}
+use Rattle.word_code.proofs.Names.{Runs, stands_at, end_of, PlainOperation, plain_word, WordState, goes_on, with_stack, stored, assigned, with_local, is_place}
+use Rattle.word_code.proofs.Names.{word_stored, Waiting, plain_instruction, local_register, local_address, source_from, ram_update, update_code}
 use Rattle.word_code.proofs.Registers.{Has, HasTwo}
 use Rattle.word_code.proofs.Operands.{Top, bare, load_cycles, load_price, store_cycles, store_price, to_five_part}
 use Rattle.word_code.proofs.Stretches.{Setting, straight, hop, runs_on, dearer}

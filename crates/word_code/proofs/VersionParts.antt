@@ -3,9 +3,8 @@ use Rattle.word_code.proofs.Names.{◌≡◌, ℕ, ◌+◌, ◌-◌, ◌*◌, �
 use Rattle.word_code.proofs.Names.{nat_lt, if◌then◌else◌, both_ways, sum16, distance, Store, put, IsFram, R4, R5, R6, Core, Register, Constant, Fram, Indexed}
 use Rattle.word_code.proofs.Names.{ToRegister, ToIndexed, Form, Move, Calculate, Update, Jump, instruction_of, Stands, forms_bytes, Runs, stands_front}
 use Rattle.word_code.proofs.Names.{stands_back, form_at, first_forms, forms_behind, forms_bytes-append, ArrayPlace, ListPlace, WordState, goes_on}
-use Rattle.word_code.proofs.Names.{behind_effects}
-use Rattle.word_code.proofs.Names.{is_place, stored, first_stored, own_stored, versioned_stored, put_words, check_code, own_code, read_code, first_code}
-use Rattle.word_code.proofs.Names.{stored_code, write_code}
+use Rattle.word_code.proofs.Names.{behind_effects, is_place, stored, first_stored, own_stored, versioned_stored, put_words, check_code, own_code, read_code}
+use Rattle.word_code.proofs.Names.{first_code, stored_code, write_code}
 use Rattle.array_versions.specs.msp_step.msp_isa.declared.instructions.Condition.TheVariants as condition
 use Rattle.array_versions.specs.msp_step.msp_isa.declared.instructions.TwoOp.TheVariants as op
 use Rattle.array_versions.specs.msp_step.msp_isa.declared.operands.Konst.TheVariants as konst

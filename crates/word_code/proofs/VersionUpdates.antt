@@ -1,15 +1,13 @@
 -- Elements that are updated in place.
 use Rattle.word_code.proofs.Names.{rests, ◌≡◌, ℕ, ◌+◌, ◌-◌, ◌*◌, ◌%◌, ◌<◌, ◌≤◌, ◌==◌, not, Bool, true, false, nat_lt, nat_le, if◌then◌else◌, List, [], ◌∷◌}
-use Rattle.word_code.proofs.Names.{◌++◌}
-use Rattle.word_code.proofs.Names.{Some, None, refl, sym, ap, ap₂, ◌∙◌, subst, arith, word_sum, Word, operated, sum16, distance, cycles_of, source_cycles}
+use Rattle.word_code.proofs.Names.{◌++◌, Some, None, refl, sym, ap, ap₂, ◌∙◌, subst, arith, word_sum, Word, operated, sum16, distance, cycles_of, source_cycles}
 use Rattle.word_code.proofs.Names.{to_register, to_memory, Store, put, Goes, IsFram, R4, R6, R7, Core, Source, source_bytes, source_value, source_operand}
 use Rattle.word_code.proofs.Names.{Register, Number, Fram, Indexed, ToRegister, ToIndexed, Form, Move, Calculate, Update, Jump, flags_after, instruction_of}
 use Rattle.word_code.proofs.Names.{form_bytes, Stands, forms_bytes, Runs, stands_front, stands_back, forms_bytes-append, PlainOperation, ArrayPlace, ListPlace}
 use Rattle.word_code.proofs.Names.{plain_word, versioned_update, WordState, Behaviour, goes_on, behind_effects, with_two, with_stack, is_place, at_place}
-use Rattle.word_code.proofs.Names.{stored}
-use Rattle.word_code.proofs.Names.{first_stored, own_place, own_kept, own_updated, versioned_updated, plain_small, put_words, Bound, Waiting, top_of, below_top}
-use Rattle.word_code.proofs.Names.{plain_instruction, first_code, size, double, rest_source, right_to_rest, update_sides, made_code, attempt_form, first_update}
-use Rattle.word_code.proofs.Names.{by_version, inside_update, checked_update, indexed_update, known_update, update_at, is_inside}
+use Rattle.word_code.proofs.Names.{stored, first_stored, own_place, own_kept, own_updated, versioned_updated, plain_small, put_words, Bound, Waiting, top_of}
+use Rattle.word_code.proofs.Names.{below_top, plain_instruction, first_code, size, double, rest_source, right_to_rest, update_sides, made_code, attempt_form}
+use Rattle.word_code.proofs.Names.{first_update, by_version, inside_update, checked_update, indexed_update, known_update, update_at, is_inside}
 use Rattle.array_versions.specs.msp_step.msp_isa.declared.instructions.Condition.TheVariants as condition
 use Rattle.array_versions.specs.msp_step.msp_isa.declared.instructions.TwoOp.TheVariants as op
 use Rattle.word_code.specs.declared.waiting.Waiting.TheVariants as waiting

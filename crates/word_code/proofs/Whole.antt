@@ -1,21 +1,17 @@
 -- The code of a word program does what the program does, within the cycles of the way that it takes.
-use Rattle.word_code.proofs.Names.{top_of}
-use Rattle.word_code.proofs.Names.{instruction_of, Condition, Runs, ◌≤◌, R4, form_small, ◌≡◌, ℕ, suc, ◌+◌, ◌-◌, ◌*◌, ◌<◌, Bool, true, false, not, nat_lt}
-use Rattle.word_code.proofs.Names.{if◌then◌else◌, List, [], ◌∷◌, ◌++◌, length, All, Some, ◌≢◌, None, refl, sym, ap, subst, arith, AllByRecursion, Effect, Core}
-use Rattle.word_code.proofs.Names.{Form, form_bytes, Move, Branch, Fram, ToFram, Stands, forms_bytes, stands_front, stands_back, forms_behind}
-use Rattle.word_code.proofs.Names.{forms_bytes-append}
-use Rattle.word_code.proofs.Names.{Comparison, is_true, compare_words, Step, Test, Program, number, load, keep, update, local, set_local, update_local, unary}
-use Rattle.word_code.proofs.Names.{binary, shift, long, element, emit_word, list_entry, versioned_read, versioned_write, versioned_update, sense, truth, choose}
-use Rattle.word_code.proofs.Names.{repeat}
-use Rattle.word_code.proofs.Names.{store_number, move_word, jump, holds, compares, both, either, fails, nothing, step, WordState, started, End, GoesOn, Jumps}
-use Rattle.word_code.proofs.Names.{Short, Strays, Broken, Behaviour, with_stack, with_local, with_top, with_two, is_place, local_pushed, local_updated}
-use Rattle.word_code.proofs.Names.{number_pushed, way_by_top, way_by_two, step_behaviour, then_on, tested, behaviour, Place, start, assigning, Moves, EachTurn}
-use Rattle.word_code.proofs.Names.{EachStepWay, EachTestWay, EachWay, StepLocalsBelow, TestLocalsBelow, StepSpares, TestSpares, Spares, LocalsBelow}
-use Rattle.word_code.proofs.Names.{StepLoopsCount, TestLoopsCount, LoopsCount, StepOfWords, TestOfWords, OfWords, top_spent, spent_by_top, spent_by_two}
-use Rattle.word_code.proofs.Names.{step_spent, spent_on, test_spent, spent, Matches, GoesWell, matches_local, start_matches, step_well, well}
-use Rattle.word_code.proofs.Names.{whole_ends_soundly}
-use Rattle.word_code.proofs.Names.{local_words, words_step, words, Leaves, leaves, Bound, Waiting, number_source, flushed, below_top, kept, top_to_four}
-use Rattle.word_code.proofs.Names.{entry_code, compare_form, holding, failing, size, pass_over, decision, holds_code, compares_code, truth_code}
+use Rattle.word_code.proofs.Names.{top_of, instruction_of, Condition, Runs, ◌≤◌, R4, form_small, ◌≡◌, ℕ, suc, ◌+◌, ◌-◌, ◌*◌, ◌<◌, Bool, true, false, not}
+use Rattle.word_code.proofs.Names.{nat_lt, if◌then◌else◌, List, [], ◌∷◌, ◌++◌, length, All, Some, ◌≢◌, None, refl, sym, ap, subst, arith, AllByRecursion}
+use Rattle.word_code.proofs.Names.{Effect, Core, Form, form_bytes, Move, Branch, Fram, ToFram, Stands, forms_bytes, stands_front, stands_back, forms_behind}
+use Rattle.word_code.proofs.Names.{forms_bytes-append, Comparison, is_true, compare_words, Step, Test, Program, number, load, keep, update, local, set_local}
+use Rattle.word_code.proofs.Names.{update_local, unary, binary, shift, long, element, emit_word, list_entry, versioned_read, versioned_write, versioned_update}
+use Rattle.word_code.proofs.Names.{sense, truth, choose, repeat, store_number, move_word, jump, holds, compares, both, either, fails, nothing, step, WordState}
+use Rattle.word_code.proofs.Names.{started, End, GoesOn, Jumps, Short, Strays, Broken, Behaviour, with_stack, with_local, with_top, with_two, is_place}
+use Rattle.word_code.proofs.Names.{local_pushed, local_updated, number_pushed, way_by_top, way_by_two, step_behaviour, then_on, tested, behaviour, Place, start}
+use Rattle.word_code.proofs.Names.{assigning, Moves, EachTurn, EachStepWay, EachTestWay, EachWay, StepLocalsBelow, TestLocalsBelow, StepSpares, TestSpares}
+use Rattle.word_code.proofs.Names.{Spares, LocalsBelow, StepLoopsCount, TestLoopsCount, LoopsCount, StepOfWords, TestOfWords, OfWords, top_spent, spent_by_top}
+use Rattle.word_code.proofs.Names.{spent_by_two, step_spent, spent_on, test_spent, spent, Matches, GoesWell, matches_local, start_matches, step_well, well}
+use Rattle.word_code.proofs.Names.{whole_ends_soundly, local_words, words_step, words, Leaves, leaves, Bound, Waiting, number_source, flushed, below_top, kept}
+use Rattle.word_code.proofs.Names.{top_to_four, entry_code, compare_form, holding, failing, size, pass_over, decision, holds_code, compares_code, truth_code}
 use Rattle.word_code.proofs.Names.{number_code, turns_code, waiting_behind, waiting_after, bound_of, step_code, test_code, steps_code, block_code, code_of}
 use Rattle.word_code.proofs.Names.{ComesTo, CodeDoesAsProgram}
 use Rattle.array_versions.specs.Laws.{IsStateOfWords, EndsInWords, IsSound}

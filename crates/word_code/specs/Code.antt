@@ -1,8 +1,9 @@
 -- The code of a word program, which does the same wherever it stands: the stack is at SP, its top first, below the words that wait to be pushed; the
 -- locals stand in R8 to R15 and, from the ninth on, in RAM; R4 to R7 are for work.
-use Rattle.std.specs.Prelude.{ℕ, zero, suc, ◌+◌, ◌-◌, ◌*◌, ◌/◌, Bool, true, false, not, List, [], ◌∷◌, ◌++◌, get_or, ◌==◌, if◌then◌else◌, nat_le, nat_lt}
-use Rattle.std.specs.Prelude.{◌||◌, ◌&&◌, ◌^◌, Option, Some, None}
+use Rattle.std.specs.Prelude.{ℕ, zero, suc, ◌+◌, ◌-◌, ◌*◌, ◌/◌, Bool, true, false, not, List, [], ◌∷◌, ◌++◌, get_or, ◌==◌, if◌then◌else◌, nat_le, nat_lt, ◌&&◌}
+use Rattle.std.specs.Prelude.{◌^◌, Option, Some, None}
 use Rattle.std.specs.Int.{w16, trailing_zeros}
+use Rattle.std.specs.List.{list_any}
 use Rattle.array_versions.specs.msp_step.msp_isa.declared.instructions.TwoOp.{TwoOp}
 use Rattle.array_versions.specs.msp_step.msp_isa.declared.instructions.TwoOp.TheVariants as op
 use Rattle.array_versions.specs.msp_step.msp_isa.declared.registers.SourceRegister.TheVariants as source_register
@@ -14,9 +15,8 @@ use Rattle.array_versions.specs.msp_step.msp_isa.declared.instructions.Condition
 use Rattle.array_versions.specs.msp_step.declared.effect.Modification.TheVariants as change
 use Rattle.array_versions.specs.msp_step.msp_isa.alp_words.Words.{word_sum}
 use Rattle.code_forms.specs.Forms as forms
-use Rattle.code_forms.specs.Forms.{WorkRegister, R4, R5, R6, R7, R8, R9, R10, R11, R12, R13, R14, R15, Register, Number, Constant, Fram, Ram, Indexed}
-use Rattle.code_forms.specs.Forms.{Popped, Source, ToRegister, ToFram, ToRam, ToIndexed, Target, Form, Move, Calculate, Update, Push, Modify, Jump, Skip}
-use Rattle.code_forms.specs.Forms.{Branch}
+use Rattle.code_forms.specs.Forms.{WorkRegister, R4, R5, R6, R7, R8, R9, R10, R11, R12, R13, R14, R15, Register, Number, Constant, Fram, Ram, Indexed, Popped}
+use Rattle.code_forms.specs.Forms.{Source, ToRegister, ToFram, ToRam, ToIndexed, Target, Form, Move, Calculate, Update, Push, Modify, Jump, Skip, Branch}
 use Rattle.code_forms.specs.Code.{forms_bytes}
 use Rattle.word_code.specs.declared.bounds.Bound.{Bound}
 use Rattle.word_code.specs.declared.waiting.Waiting.{Waiting}
@@ -36,11 +36,8 @@ use Rattle.array_versions.specs.declared.program.ListPlace.{ListPlace}
 use Rattle.array_versions.specs.declared.operations.LongOperation.{LongOperation}
 use Rattle.array_versions.specs.declared.operations.LongOperation.TheVariants as with_longs
 use Rattle.array_versions.specs.Program.{Step, Test, Program, number, load, keep, update, local, set_local, update_local, unary, binary, shift, long, element}
-use Rattle.array_versions.specs.Program.{emit_word}
-use Rattle.array_versions.specs.Program.{list_entry}
-use Rattle.array_versions.specs.Program.{versioned_read, versioned_write, versioned_update, sense, truth, choose, repeat, store_number, move_word, jump, holds}
-use Rattle.array_versions.specs.Program.{compares}
-use Rattle.array_versions.specs.Program.{both, either, fails, nothing, step}
+use Rattle.array_versions.specs.Program.{emit_word, list_entry, versioned_read, versioned_write, versioned_update, sense, truth, choose, repeat, store_number}
+use Rattle.array_versions.specs.Program.{move_word, jump, holds, compares, both, either, fails, nothing, step}
 
 -- the registers of the first eight locals
 abbrev pub local_registers : List WorkRegister
@@ -54,21 +51,13 @@ local_register n = get_or local_registers n R15
 abbrev pub local_address : ℕ → ℕ
 local_address n = 0x1C20 + 2 * n
 
--- a local as a source
-abbrev pub local_source : ℕ → Source
-local_source n = if nat_lt n 8 then Register (local_register n) else Ram (local_address n)
-
--- and as what MOV writes
+-- a local as what MOV writes
 abbrev pub local_target : ℕ → Target
 local_target n = if nat_lt n 8 then ToRegister (local_register n) else ToRam (local_address n)
 
 -- the top of the stack to a register
 abbrev pub pop_to : WorkRegister → Form
 pop_to b = Move Popped (ToRegister b)
-
--- a register to the top of the stack
-abbrev pub push_from : WorkRegister → Form
-push_from b = Push (Register b)
 
 -- a number as a source: some take no word of their own
 abbrev pub number_source : ℕ → Source
@@ -112,8 +101,7 @@ is_held _ = false
 
 -- so does one of them
 abbrev pub any_held : List Waiting → Bool
-any_held [] = false
-any_held (o ∷ os) = is_held o || any_held os
+any_held os = list_any is_held os
 
 -- in front of code that writes registers for work, the words below what it takes: where one of them waits in such a register all are pushed
 abbrev pub cleared : List Waiting → List Form
@@ -130,8 +118,7 @@ is_at a _ = false
 
 -- so is one of them
 abbrev pub any_at : ℕ → List Waiting → Bool
-any_at a [] = false
-any_at a (o ∷ os) = is_at a o || any_at a os
+any_at a os = list_any (is_at a) os
 
 -- in front of a store to that word, the words below what it takes: where one of them is that word all are pushed
 abbrev pub spared : ℕ → List Waiting → List Form
@@ -522,8 +509,7 @@ bound_of n below = record { local = n; below = below }
 
 -- a local is surely below a length: a loop around the code ends its turns there or before
 abbrev pub is_bounded : List Bound → ℕ → ℕ → Bool
-is_bounded [] n length = false
-is_bounded (b ∷ bs) n length = ((b.local == n) && nat_le b.below length) || is_bounded bs n length
+is_bounded bs n length = list_any (λ b. (b.local == n) && nat_le b.below length) bs
 
 -- so is an index that waits: a number that is, or such a local
 abbrev pub is_inside : List Bound → Option Waiting → ℕ → Bool

@@ -6,10 +6,8 @@ mod bounds;
 pub mod laws;
 mod waiting;
 
-// What word programs are made of.
-pub use array_versions::{
-    ArrayPlace, BinaryOperation, Comparison, ListPlace, LongOperation, PlainOperation,
-    ShiftOperation, UnaryOperation, WordProgram, WordStep, WordTest,
-};
 pub use bounds::Bound;
 pub use waiting::Waiting;
+
+// What their code is made of.
+pub use code_forms as forms;

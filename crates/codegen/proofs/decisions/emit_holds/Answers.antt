@@ -1,7 +1,7 @@
 use Rattle.codegen.proofs.Names.{◌++◌, ◌∷◌, refl, R4, Constant, Calculate, flushed, below_top, kept, top_to_four, decision}
-use Rattle.msp_isa.specs.declared.instructions.Condition.TheVariants as condition
-use Rattle.msp_isa.specs.declared.instructions.TwoOp.TheVariants as op
-use Rattle.msp_isa.specs.declared.operands.Konst.TheVariants as konst
+use Rattle.word_code.specs.msp_isa.declared.instructions.Condition.TheVariants as condition
+use Rattle.word_code.specs.msp_isa.declared.instructions.TwoOp.TheVariants as op
+use Rattle.word_code.specs.msp_isa.declared.operands.Konst.TheVariants as konst
 use Rattle.codegen.proofs.Emitted.{made_next, part_behind}
 use Rattle.codegen.proofs.decisions.emit_holds.Goals as goal
 

@@ -1,8 +1,8 @@
 use Rattle.codegen.proofs.Names.{◌∷◌, [], refl, ap, ◌∙◌, on_ok_weaker, Word, Two, R4, R6, index_of}
 use Rattle.word_code.specs.Code.{parted, parting, longs_lost, long_sides, low_source, high_source, below_code}
-use Rattle.msp_isa.specs.declared.instructions.TwoOp.TheVariants as op
-use Rattle.msp_isa.specs.declared.operands.Dst.TheVariants as dst
-use Rattle.msp_isa.specs.declared.registers.Reg.TheVariants as reg
+use Rattle.word_code.specs.msp_isa.declared.instructions.TwoOp.TheVariants as op
+use Rattle.word_code.specs.msp_isa.declared.operands.Dst.TheVariants as dst
+use Rattle.word_code.specs.msp_isa.declared.registers.Reg.TheVariants as reg
 use Rattle.codegen.proofs.Emitted.{cons}
 use Rattle.codegen.proofs.LongEmitted.{third_behind}
 use Rattle.codegen.proofs.longs.emit_below.Goals as goal

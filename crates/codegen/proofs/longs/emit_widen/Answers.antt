@@ -1,8 +1,8 @@
 use Rattle.codegen.proofs.Names.{◌++◌, [], refl, ap, ◌∙◌, on_ok_weaker, Word, Two, R6, index_of, top_to_four}
 use Rattle.word_code.specs.Code.{widen_code}
-use Rattle.msp_isa.specs.declared.instructions.TwoOp.TheVariants as op
-use Rattle.msp_isa.specs.declared.operands.Dst.TheVariants as dst
-use Rattle.msp_isa.specs.declared.registers.Reg.TheVariants as reg
+use Rattle.word_code.specs.msp_isa.declared.instructions.TwoOp.TheVariants as op
+use Rattle.word_code.specs.msp_isa.declared.operands.Dst.TheVariants as dst
+use Rattle.word_code.specs.msp_isa.declared.registers.Reg.TheVariants as reg
 use Rattle.codegen.proofs.Emitted.{cons, code_behind}
 use Rattle.codegen.proofs.longs.emit_widen.Goals as goal
 

@@ -1,7 +1,7 @@
 use Rattle.codegen.proofs.Names.{◌++◌, ◌∷◌, [], ap, ap₂, ◌∙◌, on_ok_weaker, Word, Two, R4, index_of, Calculate, instruction_of, top_of, plain_instruction}
 use Rattle.codegen.proofs.Names.{sides, right_source}
-use Rattle.msp_isa.specs.declared.operands.Dst.TheVariants as dst
-use Rattle.msp_isa.specs.declared.registers.Reg.TheVariants as reg
+use Rattle.word_code.specs.msp_isa.declared.operands.Dst.TheVariants as dst
+use Rattle.word_code.specs.msp_isa.declared.registers.Reg.TheVariants as reg
 use Rattle.codegen.proofs.Emitted.{two_behind}
 use Rattle.codegen.proofs.operations.emit_plain.Goals as goal
 

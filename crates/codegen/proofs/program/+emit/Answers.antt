@@ -1,9 +1,9 @@
 use Rattle.codegen.proofs.Names.{◌+◌, ◌∷◌, ◌++◌, [], drop, not, refl, sym, ap, ◌∙◌, subst, arith, rules, append_assoc, false, true, if◌then◌else◌, lt-ltb}
 use Rattle.codegen.proofs.Names.{le-ltb, List, append-nil, Form, instructions, Waiting, forms_bytes-append, step_of, steps_of, test_of, StepLocalsBelow}
 use Rattle.codegen.proofs.Names.{TestLocalsBelow, LocalsBelow, OfWords, words_of, step_words, test_words, flushed, holds_code, compares_code, truth_code, size}
-use Rattle.codegen.proofs.Names.{pass_over, jump_back, number_code, turn_end, turns_code, waiting_after, step_code, test_code, steps_code, bound_of, block_code}
+use Rattle.codegen.proofs.Names.{pass_over, jump_back, number_code, turn_end, turns_code, waiting_after, step_code, test_code, steps_code, block_code}
 use Rattle.word_code.specs.array_versions.declared.program.WordStep as word_step
-use Rattle.msp_isa.specs.declared.instructions.Condition.TheVariants as condition
+use Rattle.word_code.specs.msp_isa.declared.instructions.Condition.TheVariants as condition
 use Rattle.codegen.proofs.Emitted.{made_next, test_items, step_of-choose, step_of-read, step_of-write, step_of-update, test_of-holds, test_of-compares}
 use Rattle.codegen.proofs.Emitted.{test_of-both, test_of-either, part_behind, two_behind, own_behind, on_ok_items, words_at_most, own_words, step_owed}
 use Rattle.codegen.proofs.Emitted.{left_front}
@@ -258,50 +258,51 @@ emit_test-returns-in_ok-emit_test-in-Either-2-clause-code t c =
 
 pub emit_loop-code_words-over-requires : goal.emit_loop-code_words-over-requires
 emit_loop-code_words-over-requires t c =
-    let inner = bound_of c.args.n c.args.below ∷ c.args.bounds.now in
+    let inner = c.args.own ∷ c.args.bounds.now in
     let body = steps_of c.args.body.now in
-    let end = turn_end c.args.n c.args.below in
+    let end = turn_end c.args.own.local c.args.own.below in
     let made = block_code inner body in
     let block = made_next (λ ws. block_code ws body) _ _ [] [] _ _ c.in_ok-emit_block.ensures.code (c.deref.ensures.value ∙ c.in_ok-inner.ensures)
     c.new-turn.ensures.items in
-    let turn = made_next (turn_end c.args.n) _ c.args.below made [] _ _ c.in_ok-emit_turn_end.ensures refl block in
-    let words = own_words c.deref-then-from-below-2.result.now (made ++ end) (c.deref-then-from-below-2.ensures.value ∙ turn) in
-    omega (arith, words, forms_bytes-append made end, (inner_takes inner body).bytes, (turn_end_takes c.args.n c.args.below).bytes, c.requires.room)
+    let turn = made_next (turn_end c.args.own.local) _ c.args.own.below made [] _ _ c.in_ok-emit_turn_end.ensures refl block in
+    let words = own_words c.deref-then-from-own-2.result.now (made ++ end) (c.deref-then-from-own-2.ensures.value ∙ turn) in
+    omega (arith, words, forms_bytes-append made end, (inner_takes inner body).bytes, (turn_end_takes c.args.own.local c.args.own.below).bytes, c.requires.room)
 
 pub emit_loop-emit_jump_back-requires : goal.emit_loop-emit_jump_back-requires
 emit_loop-emit_jump_back-requires t c =
-    let inner = bound_of c.args.n c.args.below ∷ c.args.bounds.now in
+    let inner = c.args.own ∷ c.args.bounds.now in
     let body = steps_of c.args.body.now in
-    let end = turn_end c.args.n c.args.below in
+    let end = turn_end c.args.own.local c.args.own.below in
     let made = block_code inner body in
     let block = made_next (λ ws. block_code ws body) _ _ [] [] _ _ c.in_ok-emit_block.ensures.code (c.deref.ensures.value ∙ c.in_ok-inner.ensures)
     c.new-turn.ensures.items in
-    let turn = made_next (turn_end c.args.n) _ c.args.below made [] _ _ c.in_ok-emit_turn_end.ensures refl block in
-    let words = own_words c.deref-then-from-below-2.result.now (made ++ end) (c.deref-then-from-below-2.ensures.value ∙ turn) in
+    let turn = made_next (turn_end c.args.own.local) _ c.args.own.below made [] _ _ c.in_ok-emit_turn_end.ensures refl block in
+    let words = own_words c.deref-then-from-own-2.result.now (made ++ end) (c.deref-then-from-own-2.ensures.value ∙ turn) in
     let short = inner_takes inner body in
-    omega (arith, words, forms_bytes-append made end, short.bytes, (turn_end_takes c.args.n c.args.below).bytes, c.requires.room, c.code_words-over.ensures)
+    let last = turn_end_takes c.args.own.local c.args.own.below in
+    omega (arith, words, forms_bytes-append made end, short.bytes, last.bytes, c.requires.room, c.code_words-over.ensures)
 
-pub emit_loop-returns-then-from-below-clause-code : goal.emit_loop-returns-then-from-below-clause-code
-emit_loop-returns-then-from-below-clause-code t c =
-    let inner = bound_of c.args.n c.args.below ∷ c.args.bounds.now in
+pub emit_loop-returns-then-from-own-clause-code : goal.emit_loop-returns-then-from-own-clause-code
+emit_loop-returns-then-from-own-clause-code t c =
+    let inner = c.args.own ∷ c.args.bounds.now in
     let old = c.args.code.now.items in
-    let below = c.args.below in
+    let below = c.args.own.below in
     let made = block_code inner (steps_of c.args.body.now) in
     let pushes = flushed c.args.waiting.now.items in
-    let start = number_code c.args.n c.args.from in
-    let turn = made ++ turn_end c.args.n below in
+    let start = number_code c.args.own.local c.args.from in
+    let turn = made ++ turn_end c.args.own.local below in
     let back = jump_back condition.NotEqual condition.Equal in
     let block = made_next (λ ws. block_code ws (steps_of c.args.body.now)) _ _ [] [] _ _ c.in_ok-emit_block.ensures.code
     (c.deref.ensures.value ∙ c.in_ok-inner.ensures) c.new-turn.ensures.items in
-    let own = made_next (turn_end c.args.n) _ below made [] _ _ c.in_ok-emit_turn_end.ensures refl block in
-    let words = own_words c.deref-then-from-below-2.result.now turn (c.deref-then-from-below-2.ensures.value ∙ own) in
-    let first = c.in_ok-extend_from_slice.ensures.items ∙ ap (λ l. c.emit_number.new.code.items ++ l) (c.deref-then-from-below.ensures.value ∙ own)
+    let own = made_next (turn_end c.args.own.local) _ below made [] _ _ c.in_ok-emit_turn_end.ensures refl block in
+    let words = own_words c.deref-then-from-own-2.result.now turn (c.deref-then-from-own-2.ensures.value ∙ own) in
+    let first = c.in_ok-extend_from_slice.ensures.items ∙ ap (λ l. c.emit_number.new.code.items ++ l) (c.deref-then-from-own.ensures.value ∙ own)
     ∙ ap (λ l. l ++ instructions turn) c.in_ok-emit_number.ensures ∙ two_behind c.emit_all.new.code.items start turn
     ∙ ap (λ l. l ++ instructions (start ++ turn)) c.in_ok-emit_all.ensures.code ∙ two_behind old pushes (start ++ turn) in
     part_behind c.emit_jump_back.result old c.extend_from_slice.new.self.items c.emit_jump_back.new.code.items (pushes ++ (start ++ turn))
     (back c.code_words-over.result) (back (size turn)) _ first (ap back (c.code_words-over.ensures ∙ words))
     (append_assoc pushes (start ++ turn) (back (size turn)) ∙ ap (λ l. pushes ++ l) (append_assoc start turn (back (size turn)))
-    ∙ ap (λ b. pushes ++ (start ++ (if b then turns_code c.args.n below made else []))) (sym (lt-ltb c.args.from below c.if-from-below.true)))
+    ∙ ap (λ b. pushes ++ (start ++ (if b then turns_code c.args.own.local below made else []))) (sym (lt-ltb c.args.from below c.if-from-own.true)))
     c.emit_jump_back.ensures
 
 pub emit_step-code_words-requires : goal.emit_step-code_words-requires
@@ -405,11 +406,11 @@ emit_step-returns-in_ok-extend_from_slice-in-Choose-clause-code t c =
 
 pub emit_loop-returns-clause-code : goal.emit_loop-returns-clause-code
 emit_loop-returns-clause-code t c =
-    let inner = bound_of c.args.n c.args.below ∷ c.args.bounds.now in
+    let inner = c.args.own ∷ c.args.bounds.now in
     let old = c.args.code.now.items in
     let pushes = flushed c.args.waiting.now.items in
-    let start = number_code c.args.n c.args.from in
-    let turns = turns_code c.args.n c.args.below (block_code inner (steps_of c.args.body.now)) in
+    let start = number_code c.args.own.local c.args.from in
+    let turns = turns_code c.args.own.local c.args.own.below (block_code inner (steps_of c.args.body.now)) in
     c.in_ok-emit_number.ensures ∙ ap (λ l. l ++ instructions start) c.in_ok-emit_all.ensures.code ∙ two_behind old pushes start
     ∙ ap (λ l. old ++ instructions (pushes ++ l)) (sym (append-nil start))
-    ∙ ap (λ b. old ++ instructions (pushes ++ (start ++ (if b then turns else [])))) (sym (le-ltb c.args.from c.args.below c.if-from-below.false))
+    ∙ ap (λ b. old ++ instructions (pushes ++ (start ++ (if b then turns else [])))) (sym (le-ltb c.args.from c.args.own.below c.if-from-own.false))

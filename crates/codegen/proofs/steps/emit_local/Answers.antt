@@ -1,7 +1,7 @@
 use Rattle.codegen.proofs.Names.{ap, ◌∙◌, le-ltb, One, Word, Push, Ram, flushed, local_address}
-use Rattle.msp_isa.specs.declared.instructions.OneOp.TheVariants as one
-use Rattle.msp_isa.specs.declared.operands.Operand.TheVariants as operand
-use Rattle.msp_isa.specs.declared.operands.Src.TheVariants as src
+use Rattle.word_code.specs.msp_isa.declared.instructions.OneOp.TheVariants as one
+use Rattle.word_code.specs.msp_isa.declared.operands.Operand.TheVariants as operand
+use Rattle.word_code.specs.msp_isa.declared.operands.Src.TheVariants as src
 use Rattle.codegen.proofs.Emitted.{one_behind}
 use Rattle.codegen.proofs.steps.emit_local.Goals as goal
 

@@ -1,5 +1,5 @@
 use Rattle.codegen.proofs.Names.{ap₂, Word, Two, Move, flushed, top_of, source_from, below_top, local_target}
-use Rattle.msp_isa.specs.declared.instructions.TwoOp.TheVariants.{Mov}
+use Rattle.word_code.specs.msp_isa.declared.instructions.TwoOp.TheVariants.{Mov}
 use Rattle.codegen.proofs.Emitted.{one_behind}
 use Rattle.codegen.proofs.steps.emit_set_local.Goals as goal
 

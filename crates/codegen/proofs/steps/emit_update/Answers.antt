@@ -1,5 +1,5 @@
 use Rattle.codegen.proofs.Names.{ap₂, ◌∙◌, Word, Two, Update, flushed, top_of, source_from, below_top, plain_instruction}
-use Rattle.msp_isa.specs.declared.operands.Dst.TheVariants as dst
+use Rattle.word_code.specs.msp_isa.declared.operands.Dst.TheVariants as dst
 use Rattle.codegen.proofs.Emitted.{one_behind}
 use Rattle.codegen.proofs.steps.emit_update.Goals as goal
 

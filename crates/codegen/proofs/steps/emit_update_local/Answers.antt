@@ -1,7 +1,7 @@
 use Rattle.codegen.proofs.Names.{refl, ap, ap₂, ◌∙◌, lt-ltb, le-ltb, ◌++◌, Word, Two, Calculate, source_operand, flushed, top_of, source_from, below_top}
 use Rattle.codegen.proofs.Names.{local_register, plain_instruction, ram_update}
-use Rattle.msp_isa.specs.declared.operands.Dst.TheVariants as dst
-use Rattle.msp_isa.specs.declared.registers.Reg.TheVariants as reg
+use Rattle.word_code.specs.msp_isa.declared.operands.Dst.TheVariants as dst
+use Rattle.word_code.specs.msp_isa.declared.registers.Reg.TheVariants as reg
 use Rattle.codegen.proofs.Emitted.{one_behind, part_behind}
 use Rattle.codegen.proofs.steps.emit_update_local.Goals as goal
 

@@ -1,5 +1,5 @@
 use Rattle.codegen.proofs.Names.{◌-◌, get_or, length, ap, ◌∙◌, rules, Word, One}
-use Rattle.msp_isa.specs.declared.instructions.OneOp.TheVariants as one
+use Rattle.word_code.specs.msp_isa.declared.instructions.OneOp.TheVariants as one
 use Rattle.word_code.specs.declared.waiting.Waiting.TheVariants as waiting
 use Rattle.codegen.proofs.Emitted.{flushed_step}
 use Rattle.codegen.proofs.waiting.emit_flushed.Goals as goal
