@@ -13,7 +13,7 @@ use Rattle.machine_effects.specs.World.{World, world_after_one, world_after, rea
 use Rattle.machine_effects.proofs.Interface.{taking_takes, world_after-append}
 use Rattle.crash_rules.specs.Model.{IsElsewhere}
 use Rattle.crash_rules.specs.History.{History, is_done, is_decide, with_effect, behind_decide, behind_done, behind_gate, observe_one, observe, Positions}
-use Rattle.crash_rules.specs.History.{positions_of, positions_behind, EventsOfInstructions}
+use Rattle.crash_rules.specs.History.{Done, positions_of, positions_behind, EventsOfInstructions}
 use Rattle.crash_rules.proofs.Observed.{observe-append, with_effects, not_done, not_decide, observe_quiet, observed_taken}
 
 takes_store : (P : ℕ → ℕ → Type 0) (ws : List ℕ) → EachStore P (map (λ w. Take w) ws)
@@ -59,7 +59,7 @@ same_positions v taken p =
       since = taken;
       span_from = p.span_from;
       span_to = p.span_to;
-      spans = p.spans ++ record { from = p.span_from; to = p.span_to } ∷ [];
+      spans = p.spans ++ (p.span_from, p.span_to) ∷ [];
     })
     (cond c (record { since = p.since; span_from = p.since; span_to = taken; spans = p.spans }) p)) (not_done v) (not_decide v)
 
@@ -74,7 +74,7 @@ gate_positions before now h =
     })
     (cond (is_decide before now) (record { since = h.since; span_from = h.since; span_to = h.taken; spans = (positions_of h).spans }) (positions_of h))) [
       | true ↦ ap (λ l. record { since = h.taken; span_from = h.span_from; span_to = h.span_to; spans = l })
-          (map-append (λ d. record { from = d.span_from; to = d.span_to }) h.completed (record {
+          (map-append (λ (d : Done). (d.span_from, d.span_to)) h.completed (record {
             span_from = h.span_from;
             span_to = h.span_to;
             world = h.world;

@@ -169,10 +169,10 @@ words_keep_gate h (Some w) = kept_gate (nat_lt (length h.accepted) 256) h w
 -- events
 abbrev pub gated_from : MapValue → board.History → BoardValue → ℕ → ℕ → board.History
 gated_from m h b before now =
-    record (if board.is_done before now then completed m h b else if board.is_decide before now then decided h b else h) { gate = now }
+    record (if is_done before now then completed m h b else if is_decide before now then decided h b else h) { gate = now }
 
 abbrev pub gate_lines : MapValue → board.History → BoardValue → ℕ → ℕ → List ℕ
-gate_lines m h b before now = if board.is_done before now then transition_lines m h b else []
+gate_lines m h b before now = if is_done before now then transition_lines m h b else []
 
 -- what an event adds
 pub record Told (m : MapValue) (x : World) (k j : History) (lines : List ℕ) : Type 0 where
