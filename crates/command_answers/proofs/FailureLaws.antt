@@ -1,6 +1,7 @@
 -- Why a part of a command failed is why the command did.
-use Rattle.std.proofs.Common.{◌≡◌, ◌∙◌, ℕ, List, Some, None, Result, Ok, Err, refl, sym, ap, subst, IfOk, IfErr}
+use Rattle.std.proofs.Common.{◌≡◌, ◌∙◌, ℕ, List, Some, None, Result, Ok, Err, refl, sym, ap, subst, arith, inl, inr, IfOk, IfErr}
 use Rattle.std.specs.Prelude.{slice_get}
+use Rattle.alp_io.specs.Count.{Rose}
 use Rattle.command_answers.specs.declared.failure.Failure.{Failure}
 use Rattle.command_answers.specs.declared.failure.Failure.TheVariants.{Refused, Put, Write, Memory}
 use Rattle.command_answers.specs.CommandAnswers.{IsWhole}
@@ -10,6 +11,11 @@ use Rattle.command_answers.specs.Outside.{Shelved, Written, Stands, IsSilent, Wh
 use Rattle.command_answers.specs.Promises.{Product, Promise}
 use Rattle.command_answers.specs.Refusals.{Refusal}
 use Rattle.command_answers.specs.Views.{refusal_of}
+
+-- what is never written to has no fault
+pub never_rises : Rose 0 0 → ⊥
+never_rises (inl lt) = omega arith
+never_rises (inr e) = omega arith
 
 pub refusal_fails : (e : Failure) (name : List ℕ) (P : Refusal → Type 0) (promise : Promise) (texts : List (List ℕ)) (place : ℕ) (shelf : Shelved)
     (out : Written)

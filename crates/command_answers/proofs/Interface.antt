@@ -1,7 +1,7 @@
 -- What the proofs of other crates cite.
 
 -- Why a part of a command failed is why the command did.
-pub use Rattle.command_answers.proofs.FailureLaws.{refusal_fails, memory_fails, nothing_done, output_alone, none_put, whole_by, fails_by}
+pub use Rattle.command_answers.proofs.FailureLaws.{never_rises, refusal_fails, memory_fails, nothing_done, output_alone, none_put, whole_by, fails_by}
 -- A command that puts a file, and then may write.
 pub use Rattle.command_answers.proofs.PutLaws.{put_whole, put_breaks, put_fails}
 -- A failure that is a refusal of one kind is one of a wider kind.

@@ -1,7 +1,6 @@
 -- The trace of `gen`, and the run of a generated source's image on it.
-use Rattle.std.proofs.Common.{◌≡◌, ◌∙◌, ℕ, zero, suc, ◌<◌, ◌^◌, List, Ok, Err, Option, refl, sym, ap, subst, arith, All, inl, inr}
+use Rattle.std.proofs.Common.{◌≡◌, ◌∙◌, ℕ, zero, suc, ◌<◌, ◌^◌, List, Ok, Err, Option, refl, sym, ap, subst, arith, All}
 use Rattle.std.proofs.lemmas.List.Elements.{All-nil, All-cons}
-use Rattle.plain_commands.specs.alp_io.Count.{Rose}
 use Rattle.plain_commands.specs.cost_bound.declared.allowance.Allow.{Allow}
 use Rattle.plain_commands.specs.energy_trace.Ranges.{IsCharge}
 use Rattle.plain_commands.specs.energy_trace.TraceValue.{TraceValue}
@@ -29,6 +28,7 @@ use Rattle.compiler_commands.specs.Build.{IsBuilt}
 use Rattle.compiler_commands.specs.Gen.{Generates}
 use Rattle.plain_commands.specs.RunReport.{ending_of, IsReportFrom}
 use Rattle.compiler_commands.specs.ToldRuns.{IsTold, IsToldOnTraces}
+use Rattle.plain_commands.proofs.command_answers.Interface.{never_rises}
 use Rattle.plain_commands.proofs.Interface.{is_written}
 
 -- ---- the trace is of words
@@ -73,14 +73,10 @@ no_fault trace old new x board after watch now ends r cause = go x r cause
     faulty : at_fault ≡ well → ⊥
     faulty e = cc
 
-    never : Rose 0 0 → ⊥
-    never (inl lt) = omega arith
-    never (inr e) = omega arith
-
     go : (y : RunFault) → IsRunOf watch (charges_of trace.charges) board old new (Err y) after now → HasWriteCause 0 0 (Err y) → ⊥
     go (fault.Illegal pc word) q w = let f = is_written _ _ trace old new (Err (fault.Illegal pc word)) after now q in faulty (ends at_fault f.0 f.1)
     go (fault.Bus pc address) q w = let f = is_written _ _ trace old new (Err (fault.Bus pc address)) after now q in faulty (ends at_fault f.0 f.1)
-    go fault.Write q w = never (w.failed refl)
+    go fault.Write q w = never_rises (w.failed refl)
 
 -- the run of a board and a history is that of the same ones
 pub ran_as : (b c : BoardValue) (h k : History) (trace : TraceValue) (end : RunEnd) (board : BoardValue) (now : History) → b ≡ c → h ≡ k

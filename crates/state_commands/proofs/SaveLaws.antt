@@ -1,5 +1,5 @@
 -- The run that `save` makes, the line that it writes, and the state that it puts.
-use Rattle.std.proofs.Common.{◌≡◌, ◌∙◌, ℕ, List, [], ◌∷◌, Option, Some, None, Result, Ok, Err, refl, sym, ap, subst, arith, inl, inr}
+use Rattle.std.proofs.Common.{◌≡◌, ◌∙◌, ℕ, List, [], ◌∷◌, Option, Some, None, Result, Ok, Err, refl, sym, ap, subst}
 use Rattle.std.specs.Io.KnownBytes.{Appends}
 use Rattle.plain_commands.specs.alp_io.Count.{Rose}
 use Rattle.plain_commands.specs.alp_io.Sink.{AppendsProperPrefix}
@@ -24,13 +24,10 @@ use Rattle.plain_commands.specs.command_answers.Outside.{Shelved, Written, Stand
 use Rattle.plain_commands.specs.RunReport.{ending_of}
 use Rattle.plain_commands.specs.source_runs.Traces.{IsTraceOfWords}
 use Rattle.state_commands.specs.Saved.{IsSavedAt, RanFrom, RanOn, Saves, RunsOnWords, IsOfWords, from_state, told_end, told_fault, save_promise}
+use Rattle.plain_commands.proofs.command_answers.Interface.{never_rises}
 use Rattle.plain_commands.proofs.Interface.{ends_well, ends_at_fault}
 
 -- ---- the run, to a sink that never fails
-
-never_rises : Rose 0 0 → ⊥
-never_rises (inl lt) = omega arith
-never_rises (inr e) = omega arith
 
 ran_by : (s : State) (t : TraceValue) (old new : Option (List ℕ)) (end : Result RunEnd RunFault) (after : BoardValue) (now : History)
     → IsRunOf (start_of s.image) (charges_of t.charges) (from_state s t) old new end after now → HasWriteCause 0 0 end → RanFrom s t end after now.completed
