@@ -1,5 +1,6 @@
 -- What holds of the states of images of accepted sources.
 use Rattle.std.specs.Prelude.{◌≡◌, ℕ, ◌<◌, ◌≤◌, List, length, All, Some, IfSome}
+use Rattle.fram_state.specs.address_space.Limits.{fram_words}
 use Rattle.fram_state.specs.state_text.declared.state.State.{State}
 use Rattle.fram_state.specs.Belongs.{Belongs}
 use Rattle.fram_state.specs.Suits.{Suits}
@@ -33,7 +34,7 @@ StatesAreWorlds = OfImages (λ text p allow image c. (s : State) (accepted : Lis
 
 -- and a state of the image's map, with such a world and with the image's words from the code on, belongs to the image
 abbrev pub WorldsAreStates : Type 0
-WorldsAreStates = OfImages (λ text p allow image c. (s : State) (accepted : List ℕ) → length s.image.words ≡ 24064 → MayHaveAccepted s accepted
+WorldsAreStates = OfImages (λ text p allow image c. (s : State) (accepted : List ℕ) → length s.image.words ≡ fram_words → MayHaveAccepted s accepted
     → s.image.map ≡ image.map → HasCodeWords c.layout image s → BelongsTo p c.layout image (world_of s accepted) → Belongs image s)
 
 -- the image, before anything was done, is a state that belongs to it

@@ -1,5 +1,6 @@
 -- States as worlds, the source's states that they have, and the runs that go on from them as sources tell them.
 use Rattle.std.specs.Prelude.{◌≡◌, ℕ, ◌%◌, ◌<◌, ◌≤◌, List, ◌++◌, length, All}
+use Rattle.fram_state.specs.address_space.Limits.{fram_words}
 use Rattle.fram_state.specs.state_text.declared.state.State.{State}
 use Rattle.fram_state.specs.Belongs.{Belongs}
 use Rattle.image_reports.specs.link_image.image_text.ImageValue.{ImageValue}
@@ -33,7 +34,7 @@ MayHaveAccepted s accepted = length accepted % 0x10000 ≡ s.receiver
 
 -- a state has as many words as the FRAM, and they and its receiver's number are below 65536
 pub record HasFramWords (s : State) : Type 0 where
-  pub count : length s.image.words ≡ 24064
+  pub count : length s.image.words ≡ fram_words
   pub are_words : All (λ w. w < 0x10000) s.image.words
   pub receiver : s.receiver < 0x10000
 

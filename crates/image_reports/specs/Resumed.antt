@@ -3,6 +3,7 @@
 use Rattle.std.specs.Prelude.{◌≡◌, ℕ, ◌^◌, ◌%◌, ◌<◌, ◌≤◌, ◌==◌, true, if◌then◌else◌, List, [], ◌++◌, length, drop, All}
 use Rattle.link_image.specs.msp_step.declared.machine.Stop.{Stop}
 use Rattle.link_image.specs.msp_step.declared.machine.Stop.TheVariants as stop
+use Rattle.link_image.specs.memory_map.address_space.Limits.{fram_words}
 use Rattle.link_image.specs.image_map.MapValue.{MapValue}
 use Rattle.link_image.specs.image_text.ImageValue.{ImageValue}
 use Rattle.link_image.specs.fram_board.Board.{BoardValue, started}
@@ -119,7 +120,7 @@ ImagesBelong = (text : List ℕ) (p : CheckedProgram) (allow : Allow) (image : I
 abbrev pub ImagesResume : Type 0
 ImagesResume = (text : List ℕ) (p : CheckedProgram) (allow : Allow) (image : ImageValue) → IsAcceptedText text p allow
     → (c : IsCompiled text p allow image)
-    → (words : List ℕ) → length words ≡ 24064 → All (λ w. w < 0x10000) words
+    → (words : List ℕ) → length words ≡ fram_words → All (λ w. w < 0x10000) words
     → (number : ℕ) (accepted : List ℕ) → length accepted % 0x10000 ≡ number
     → let x : World = record { fram = fram_of words; accepted = accepted } in BelongsTo p c.layout image x
     → (cs : List BoardCharge) → ArePowerStates cs → (readings : List ℕ) → All (λ w. w < 0x10000) readings → length readings ≤ 262144

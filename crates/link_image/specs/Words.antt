@@ -1,6 +1,6 @@
 -- The words of a compiled image.
 use Rattle.std.specs.Prelude.{◌≡◌, ◌<◌, ℕ, ◌-◌, ◌/◌, ◌==◌, if◌then◌else◌, List, length, All, slice_index}
-use Rattle.memory_map.specs.address_space.Limits.{reset_vector}
+use Rattle.memory_map.specs.address_space.Limits.{fram_words, reset_vector}
 use Rattle.whole_programs.specs.source_values.Runs.{CheckedProgram, initial_rows}
 use Rattle.linked_code.specs.machine_effects.Machine.{IsFram, fram_of}
 use Rattle.linked_code.specs.code_forms.Placed.{words_of}
@@ -35,6 +35,6 @@ AreWords = All (λ w. w < 0x10000)
 
 -- the words of the image, from 4400 on
 pub record AreImageWords (p : CheckedProgram) (l : MemoryMap) (words : List ℕ) : Type 0 where
-  pub count : length words ≡ 24064
+  pub count : length words ≡ fram_words
   pub are_words : AreWords words
   pub each : (a : ℕ) → IsFram a → fram_of words a ≡ image_word p l a

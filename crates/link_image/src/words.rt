@@ -1,6 +1,6 @@
 //! The words of the FRAM.
 ghost use Rattle.std.specs.Prelude.{◌≡◌, ◌+◌, ◌-◌, ◌*◌, ◌/◌, ◌%◌, ◌==◌, ◌≤◌, ℕ, All, length, map, if◌then◌else◌, slice_index};
-ghost use Rattle.memory_map.specs.address_space.Limits.{fram_first, reset_vector};
+ghost use Rattle.memory_map.specs.address_space.Limits.{fram_first, fram_words, reset_vector};
 ghost use Rattle.image_text.specs.ImageValue.{zeros};
 ghost use Rattle.linked_code.specs.machine_effects.Machine.{IsFram, fram_of};
 ghost use Rattle.whole_programs.specs.source_values.Runs.{initial_words};
@@ -51,7 +51,7 @@ fn put_initial(image: &mut Image, extent: Extent, place: VariablePlace)
 
 // Puts the initial words of each shared scalar into an image without words.
 fn put_scalars(image: &mut Image, shared: &[SharedDeclaration], variables: &[VariablePlace])
-    requires blank { image.old.words ≡ zeros 24064 }
+    requires blank { image.old.words ≡ zeros fram_words }
     requires places { ArePlacesOf shared.now variables.now }
     requires order { AreInOrder fram_first (map home_region variables.now) reset_vector }
     ensures each { (a : ℕ) → IsFram a → fram_of image.new.words a ≡ shared_word variables.now (map (λ d. initial_words d.extent) shared.now) a }
@@ -86,7 +86,7 @@ pub fn put_image(
     layout: &Layout,
     code: &[u16],
 )
-    requires blank { image.old.words ≡ zeros 24064 }
+    requires blank { image.old.words ≡ zeros fram_words }
     requires places { ArePlacesOf shared.now layout.now.variables }
     requires room { layout.now.boot.address + 2 * length code.now ≤ reset_vector }
     ensures each { (a : ℕ) → IsFram a → fram_of image.new.words a ≡ (if a == reset_vector then layout.now.boot.address

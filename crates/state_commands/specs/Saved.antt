@@ -1,6 +1,7 @@
 -- The state that `save` puts, and the line that it writes.
 use Rattle.std.specs.Prelude.{◌≡◌, ◌<◌, ℕ, List, [], ◌∷◌, All, length, Option, Some, None, Result, Ok, IsSomeAnd}
 use Rattle.plain_commands.specs.alp_io.Report.{illegal_line, bus_line, end_line}
+use Rattle.fram_state.specs.address_space.Limits.{fram_words}
 use Rattle.plain_commands.specs.energy_trace.TraceValue.{TraceValue}
 use Rattle.plain_commands.specs.energy_trace.Reading.{trace_of}
 use Rattle.plain_commands.specs.state_text.declared.state.State.{State}
@@ -38,7 +39,7 @@ IsSavedAt ending file s = file ≡ None
 
 -- what the type of a state says of it: it has as many words as the FRAM, and they and its receiver's number are below 65536
 abbrev pub IsOfWords : State → Type 0
-IsOfWords s = (length s.image.words ≡ 24064) × All (λ w. w < 0x10000) s.image.words × (s.receiver < 0x10000)
+IsOfWords s = (length s.image.words ≡ fram_words) × All (λ w. w < 0x10000) s.image.words × (s.receiver < 0x10000)
 
 -- so a run from it on a trace is one of words
 abbrev pub RunsOnWords : State → TraceValue → RunOutcome → Type 0
