@@ -26,7 +26,7 @@ use Rattle.plain_commands.specs.command_answers.Ending.{Ending, well, at_fault}
 use Rattle.compiler_commands.specs.Generated.{RanSo, ended_line, four_lines, generated_lines}
 use Rattle.compiler_commands.specs.Build.{IsBuilt}
 use Rattle.compiler_commands.specs.Gen.{Generates}
-use Rattle.plain_commands.specs.RunReport.{ending_of, IsReportFrom}
+use Rattle.plain_commands.specs.RunReport.{ending_of, IsRunReport}
 use Rattle.compiler_commands.specs.ToldRuns.{IsTold, IsToldOnTraces}
 use Rattle.plain_commands.proofs.command_answers.Interface.{never_rises}
 use Rattle.plain_commands.proofs.Interface.{is_written}
@@ -65,24 +65,22 @@ generated_words number bound trace low is = subst IsTraceOfWords (sym is) (gener
 -- ---- a run that ends well and is written nowhere
 
 -- its end is no fault, and a sink that never fails gives no other
-pub no_fault : (trace : TraceValue) (old new : Option (List ℕ)) (x : RunFault) (board after : BoardValue) (watch now : History)
-    → ((ending : Ending) (output : List ℕ) → IsReportFrom board watch trace ending output → ending ≡ well)
+pub no_fault : (image : ImageValue) (trace : TraceValue) (old new : Option (List ℕ)) (x : RunFault) (board after : BoardValue) (watch now : History)
+    → board ≡ fresh image.words trace.readings → watch ≡ start_of image
+    → ((ending : Ending) (output : List ℕ) → IsRunReport image trace ending output → ending ≡ well)
     → IsRunOf watch (charges_of trace.charges) board old new (Err x) after now → HasWriteCause 0 0 (Err x) → ⊥
-no_fault trace old new x board after watch now ends r cause = go x r cause
+no_fault image trace old new x board after watch now is_board is_watch ends r cause =
+    go x (subst (λ h. IsRunOf h (charges_of trace.charges) (fresh image.words trace.readings) old new (Err x) after now) is_watch
+    (subst (λ b. IsRunOf watch (charges_of trace.charges) b old new (Err x) after now) is_board r)) cause
   where
     faulty : at_fault ≡ well → ⊥
     faulty e = cc
 
-    go : (y : RunFault) → IsRunOf watch (charges_of trace.charges) board old new (Err y) after now → HasWriteCause 0 0 (Err y) → ⊥
+    go : (y : RunFault) → IsRunOf (start_of image) (charges_of trace.charges) (fresh image.words trace.readings) old new (Err y) after now
+        → HasWriteCause 0 0 (Err y) → ⊥
     go (fault.Illegal pc word) q w = let f = is_written _ _ trace old new (Err (fault.Illegal pc word)) after now q in faulty (ends at_fault f.0 f.1)
     go (fault.Bus pc address) q w = let f = is_written _ _ trace old new (Err (fault.Bus pc address)) after now q in faulty (ends at_fault f.0 f.1)
     go fault.Write q w = never_rises (w.failed refl)
-
--- the run of a board and a history is that of the same ones
-pub ran_as : (b c : BoardValue) (h k : History) (trace : TraceValue) (end : RunEnd) (board : BoardValue) (now : History) → b ≡ c → h ≡ k
-    → RanSo b h trace end board now → RanSo c k trace end board now
-ran_as b c h k trace end board now is_board is_watch r =
-    subst (λ x. RanSo c x trace end board now) is_watch (subst (λ x. RanSo x h trace end board now) is_board r)
 
 -- the last line is that of the answer
 ended_so : (e : End) (end : RunEnd) (b : BoardValue) (now : History) → Ok end ≡ answer_of e → ended_line end b now ≡ last_line now e b
@@ -92,10 +90,10 @@ ended_so (Stopped stop.NoReading) end b now is = let same : end ≡ run_end.Read
 ended_so (Stopped (stop.Illegal pc word)) end b now is = cc
 ended_so (Stopped (stop.Bus pc address)) end b now is = cc
 
-pub lines_of_run : (number bound : ℕ) (start : BoardValue) (before : History) (trace : TraceValue) (end : RunEnd) (board : BoardValue) (now : History)
-    → (r : RanSo start before trace end board now)
-    → four_lines number bound (ended_line end board now) now ≡ generated_lines number bound before r.outcome
-lines_of_run number bound start before trace end board now r =
+pub lines_of_run : (number bound : ℕ) (image : ImageValue) (trace : TraceValue) (end : RunEnd) (board : BoardValue) (now : History)
+    → (r : RanSo image trace end board now)
+    → four_lines number bound (ended_line end board now) now ≡ generated_lines number bound (start_of image) r.outcome
+lines_of_run number bound image trace end board now r =
     let line : ended_line end board now ≡ last_line now r.outcome.ending r.outcome.board =
     ap (λ b. ended_line end b now) r.at_end ∙ ended_so r.outcome.ending end r.outcome.board now r.answer in
     ap (λ l. four_lines number bound l now) line

@@ -2,11 +2,12 @@
 use Rattle.std.specs.Prelude.{◌≡◌, ℕ, ◌%◌, List, [], ◌∷◌, ◌++◌, codes, decimal, Ok}
 use Rattle.plain_commands.specs.alp_io.Report.{texts, bound_line, end_line}
 use Rattle.plain_commands.specs.energy_trace.TraceValue.{TraceValue}
-use Rattle.plain_commands.specs.fram_board.Board.{BoardValue}
+use Rattle.plain_commands.specs.image_text.ImageValue.{ImageValue}
+use Rattle.plain_commands.specs.fram_board.Board.{BoardValue, fresh}
 use Rattle.plain_commands.specs.fram_board.Run.{RunOutcome, Run}
 use Rattle.plain_commands.specs.board_run.declared.trace_run.RunEnd.{RunEnd}
 use Rattle.plain_commands.specs.board_run.Charges.{charges_of}
-use Rattle.plain_commands.specs.board_run.History.{History, total}
+use Rattle.plain_commands.specs.board_run.History.{History, start_of, total}
 use Rattle.plain_commands.specs.board_run.Report.{after_all, answer_of, last_line}
 use Rattle.plain_commands.specs.Ends.{reason_of}
 
@@ -30,10 +31,10 @@ generated_lines number bound start r = let now = after_all start r.moments in fo
 abbrev pub ended_line : RunEnd → BoardValue → History → List ℕ
 ended_line end b now = end_line (reason_of end) now.completed b.receiver.accepted b.receiver.repeats
 
--- the run of a board on a trace, from a history on, which answers so, and the board and the history at its end
-pub record RanSo (start : BoardValue) (before : History) (trace : TraceValue) (end : RunEnd) (board : BoardValue) (now : History) : Type 0 where
+-- the run of the image's fresh board on a trace, which answers so, and the board and the history at its end
+pub record RanSo (image : ImageValue) (trace : TraceValue) (end : RunEnd) (board : BoardValue) (now : History) : Type 0 where
   pub outcome : RunOutcome
-  pub run : Run (charges_of trace.charges) start outcome
+  pub run : Run (charges_of trace.charges) (fresh image.words trace.readings) outcome
   pub answer : Ok end ≡ answer_of outcome.ending
   pub at_end : board ≡ outcome.board
-  pub history : now ≡ after_all before outcome.moments
+  pub history : now ≡ after_all (start_of image) outcome.moments

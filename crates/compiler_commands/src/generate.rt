@@ -1,5 +1,7 @@
 //! `gen N IMAGE`: the image of a generated source, put as an image text, and the four lines of its run on a generated trace.
 ghost use Rattle.std.specs.Prelude.{◌≡◌, ◌<◌, ◌≤◌, ◌^◌, [], ℕ, List, IfOk, IfErr, length};
+ghost use Rattle.plain_commands.specs.fram_board.Board.{fresh};
+ghost use Rattle.plain_commands.specs.board_run.History.{start_of};
 ghost use Rattle.plain_commands.specs.alp_io.Shelf.{NeverFall};
 ghost use Rattle.image_reports.specs.task_ast.View.{program_of};
 ghost use Rattle.plain_commands.specs.source_meaning.Acceptance.{IsAcceptedText};
@@ -10,7 +12,7 @@ ghost use Rattle.plain_commands.specs.command_answers.declared.failure.Failure.T
 ghost use Rattle.plain_commands.specs.command_answers.Ending.{Ending, well};
 ghost use Rattle.compiler_commands.specs.Generated.{RanSo};
 ghost use Rattle.compiler_commands.specs.Build.{IsBuilt};
-ghost use Rattle.plain_commands.specs.RunReport.{IsReportFrom};
+ghost use Rattle.plain_commands.specs.RunReport.{IsRunReport};
 ghost use Rattle.compiler_commands.specs.ToldRuns.{IsToldOnTraces};
 ghost use Rattle.plain_commands.specs.command_answers.CommandAnswers.{CommandAnswers, IsWhole, TextAnswers};
 ghost use Rattle.plain_commands.specs.command_answers.Outcomes.{FailsBy};
@@ -22,7 +24,7 @@ use plain_commands::answers::{Failure, Status, answer_failure, put_file};
 use plain_commands::board_runs::{RunEnd, Watch, run};
 use plain_commands::boards::Board;
 use plain_commands::outside::{NullSink, Report, Shelf, Sink};
-use plain_commands::texts::{Accepted, Trace, source_of};
+use plain_commands::texts::{Accepted, Image, Trace, source_of};
 use source_generator::{generated_source, generated_trace};
 use std::alloc::{AllocError, Global};
 
@@ -45,11 +47,14 @@ fn trace_of_number<'t>(alloc: Global, number: u32, bound: u32) -> Result<Trace, 
     Ok(trace)
 }
 
-// Runs a board to its end, which is well; nothing is written. Takes no memory.
-fn run_alone(trace: &Trace, board: &mut Board, watch: &mut Watch<'_>) -> RunEnd
-    requires { (ending : Ending) (output : List ℕ) → IsReportFrom board.old watch.old trace.now ending output → ending ≡ well }
-    ensures { RanSo board.old watch.old trace.now result board.new watch.new }
+// Runs a board that is new from the image, whose run ends well; nothing is written. Takes no memory.
+fn run_alone(image: &Image, trace: &Trace, board: &mut Board, watch: &mut Watch<'_>) -> RunEnd
+    requires board { board.old ≡ fresh image.now.words trace.now.readings }
+    requires watch { watch.old ≡ start_of image.now }
+    requires ends_well { (ending : Ending) (output : List ℕ) → IsRunReport image.now trace.now ending output → ending ≡ well }
+    ensures { RanSo image.now trace.now result board.new watch.new }
 {
+    let _ = image;
     let mut sink = NullSink;
     let mut report = Report::new(&mut sink);
     match run(board, trace, watch, &mut report) {
@@ -87,7 +92,7 @@ fn put_generated<'t, H: Shelf, O: Sink>(
     let mut board = Board::new(alloc, &built.image, trace.readings())?;
     let mut watch = Watch::new(alloc, &built.image)?;
     put_file(alloc, shelf, words.image, built.text.as_slice())?;
-    let end = run_alone(trace, &mut board, &mut watch);
+    let end = run_alone(&built.image, trace, &mut board, &mut watch);
     let numbers = GenNumbers {
         number: words.number,
         bound: source.allow().cycles,
