@@ -25,7 +25,8 @@ returns-in_err-write_end-in-Ok-clause-failure g c =
     handed_on _ _ _ c.from_residual-in_err-write_end-in-Ok.ensures
     (put_breaks (λ output. output ≡ _) _ _ _ _ _ _ _ refl
     (λ output line. saves_well _ _ _ _ _ _ ran _ _ output c.in-Ok.is (c.in_ok-text-in-Ok.ensures.text, c.in_ok-text-in-Ok.ensures.reads_back) line)
-    c.as_slice.ensures.value c.in_ok-put_file-in-Ok.ensures.put (_, refl, c.in_err-write_end-in-Ok.ensures.bytes.part, c.in_err-write_end-in-Ok.ensures.cause.failed))
+    c.as_slice.ensures.value c.in_ok-put_file-in-Ok.ensures.put
+    (_, refl, c.in_err-write_end-in-Ok.ensures.bytes.part, c.in_err-write_end-in-Ok.ensures.cause.failed))
 
 pub returns-in_ok-write_end-in-Ok-clause-whole : goal.returns-in_ok-write_end-in-Ok-clause-whole
 returns-in_ok-write_end-in-Ok-clause-whole g c =
