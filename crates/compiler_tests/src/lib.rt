@@ -1,11 +1,5 @@
-//! Tests of the compiler's parts against addresses counted and words assembled by hand.
+//! Tests of the layout of sources against addresses counted by hand, with the places that no image shows.
 #![tactic(auto)]
 
 #[cfg(test)]
-mod code;
-#[cfg(test)]
 mod layouts;
-#[cfg(test)]
-mod longs;
-#[cfg(test)]
-mod programs;

@@ -1,11 +1,9 @@
-//! Tests of the passes over sources, as far as no call of the program shows them: tokens, trees that no source has, steps of the
-//! meaning, and generated sources.
+//! Tests of the passes over sources, as far as no call of the program shows them: tokens, trees that no source has, and steps of the
+//! meaning.
 #![tactic(auto)]
 
 #[cfg(test)]
 mod drawn;
-#[cfg(test)]
-mod generated;
 #[cfg(test)]
 mod passes;
 #[cfg(test)]

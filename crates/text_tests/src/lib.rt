@@ -14,6 +14,4 @@ mod numbers;
 #[cfg(test)]
 mod parts;
 #[cfg(test)]
-mod states;
-#[cfg(test)]
 mod words;

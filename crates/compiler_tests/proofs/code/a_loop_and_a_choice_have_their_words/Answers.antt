@@ -1,7 +1,0 @@
-use Rattle.std.proofs.Common.{subst, sym}
-use Rattle.codegen.specs.array_versions.Form.{IsWhole}
-use Rattle.compiler_tests.proofs.Whole.{looping_is_whole}
-use Rattle.compiler_tests.proofs.code.a_loop_and_a_choice_have_their_words.Goals as goal
-
-pub emit-requires-clause-whole : goal.emit-requires-clause-whole
-emit-requires-clause-whole g c = subst IsWhole (sym c.in_ok-program.ensures) looping_is_whole

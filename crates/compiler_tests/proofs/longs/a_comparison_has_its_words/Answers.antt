@@ -1,7 +1,0 @@
-use Rattle.std.proofs.Common.{subst, sym}
-use Rattle.codegen.specs.array_versions.Form.{IsWhole}
-use Rattle.compiler_tests.proofs.LongsWhole.{below_is_whole}
-use Rattle.compiler_tests.proofs.longs.a_comparison_has_its_words.Goals as goal
-
-pub emit-requires-clause-whole : goal.emit-requires-clause-whole
-emit-requires-clause-whole g c = subst IsWhole (sym c.in_ok-program.ensures) below_is_whole
