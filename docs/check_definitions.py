@@ -1,6 +1,7 @@
 #!/usr/bin/env python3
 """Shows that the first part of docs/DEFINITIONS.md names exactly the files of definitions below the program's clauses on `try`: the closure
-of imports from alpaca_cli/specs/Answers.antt, without what the compiler exactly builds, the law of images, the assembler, the generator, saved states and the audit.
+of imports from alpaca_cli/specs/Answers.antt, without what the compiler exactly builds, the law of images, the assembler, the generator, saved
+states and the audit.
 usage: docs/check_definitions.py"""
 import os
 import re
@@ -9,7 +10,8 @@ import sys
 ROOT = os.path.join(os.path.dirname(os.path.abspath(__file__)), "..")
 CRATES = os.path.join(ROOT, "crates")
 START = "alpaca_cli/specs/Answers.antt"
-APART = ("link_image/", "image_reports/", "asm_line/", "msp_asm/", "source_generator/", "state_text/", "fram_state/", "compiled_states/", "state_commands/", "alpaca_cli/specs/OfSources.antt", "report_audit/")
+APART = ("link_image/", "image_reports/", "asm_line/", "msp_asm/", "source_generator/", "state_text/", "fram_state/", "compiled_states/",
+         "state_commands/", "alpaca_cli/specs/OfSources.antt", "report_audit/")
 
 
 def imports(text):
@@ -37,11 +39,10 @@ def closure(start):
 
 
 def named(page):
-    """The files that the tables of a page name: the first of a row with its folder, the others beside it."""
-    for row in page.split("\n"):
-        cells = row.split(" | ")
+    """The files that the rows of a page name between "in" and ":", the first of a row with its folder, the others beside it."""
+    for files in re.findall(r"^- .*?, in ((?:`[^`]*`,? ?)+):", page.replace("\n  ", " "), re.M):
         folder = ""
-        for word in re.findall(r"`([\w/]+\.antt)`", cells[1]) if len(cells) > 1 else []:
+        for word in re.findall(r"`([\w/]+\.antt)`", files):
             folder = os.path.dirname(word) or folder
             yield os.path.join(folder, os.path.basename(word))
 

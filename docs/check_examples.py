@@ -3,10 +3,10 @@
 
 usage: docs/check_examples.py PROGRAM [PAGE ..]
 
-A block whose info string is `file NAME` is a file. A block `console` holds commands, `$ alpaca WORDS`, `$ cat FILES` or
-`$ bench/bounds.py alpaca FILE`, each followed by what it prints on standard output and standard error; a last line `[status N]` is the exit status where it isn't 0.
-`> NAME` at a command's end puts standard output into that file, and a line `...` stands for any lines. The blocks of a page run
-in its order, in one folder, where at first the files of examples/ lie. A block with the name of one of these has to be that file.
+A block whose info string is `file NAME` is a file, and `part NAME` are lines of a file of examples/. A block `console` holds commands, `$ alpaca WORDS`,
+`$ cat FILES` or `$ bench/bounds.py alpaca FILE`, each followed by what it prints on standard output and standard error; a last line `[status N]` is the exit
+status where it isn't 0. `> NAME` at a command's end puts standard output into that file, and a line `...` stands for any lines. The blocks of a page run in
+its order, in one folder, where at first the files of examples/ lie. A block with the name of one of these has to be that file.
 """
 import pathlib
 import shlex
@@ -101,6 +101,9 @@ def check(program, page):
                 if is_another(name, text):
                     wrong += 1
                     print(f"{page.name}: {name} isn't the file of examples/")
+            elif kind == "part" and not agree((EXAMPLES / name).read_text().splitlines(), ["...", *lines, "..."]):
+                wrong += 1
+                print(f"{page.name}: {name} in examples/ has no such lines")
             elif kind == "console":
                 for command, wanted in commands(lines):
                     ran += 1

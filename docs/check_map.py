@@ -1,6 +1,6 @@
 #!/usr/bin/env python3
 """Shows that docs/ARCHITECTURE.md agrees with crates.txt: each crate has one room and each room is a crate, a crate stands on no crate below it
-in its own table, and the drawings name crates alone. crates.txt lists the lowest crates first.
+in its own list, and the drawings name crates alone. crates.txt lists the lowest crates first.
 usage: docs/check_map.py"""
 import os
 import re
@@ -17,12 +17,12 @@ def crates():
 
 
 def rooms(page):
-    """The crates of each table, in order."""
-    tables = {}
+    """The crates of each list, in order."""
+    lists = {}
     for section in page.split("\n## ")[1:]:
-        cells = re.findall(r"^\| (`[^|]*`) \|", section, re.M)
-        tables[section.split("\n")[0]] = [name for cell in cells for name in re.findall(r"`(\w+)`", cell)]
-    return tables
+        heads = re.findall(r"^- (`[^:]*`):", section, re.M)
+        lists[section.split("\n")[0]] = [name for head in heads for name in re.findall(r"`(\w+)`", head)]
+    return lists
 
 
 def faults(below, page):
@@ -31,15 +31,15 @@ def faults(below, page):
         for low in below[name]:
             if low in below and listed.index(low) > listed.index(name):
                 yield "crates.txt: %s comes before %s, on which it stands" % (name, low)
-    tables = rooms(page)
-    named = [name for table in tables.values() for name in table]
+    lists = rooms(page)
+    named = [name for row in lists.values() for name in row]
     yield from ("no room: " + name for name in listed if name not in named)
     yield from ("no crate: " + name for name in named if name not in listed)
     yield from ("two rooms: " + name for name in set(named) if named.count(name) > 1)
-    for title, table in tables.items():
-        for at, name in enumerate(table):
+    for title, row in lists.items():
+        for at, name in enumerate(row):
             for low in below.get(name, []):
-                if low in table[at:]:
+                if low in row[at:]:
                     yield "%s: %s stands above %s, on which it stands" % (title, name, low)
     for drawing in re.findall(r"```\n(.*?)```", page, re.S):
         for word in sorted(set(re.findall(r"\w+_\w+", drawing))):

@@ -211,7 +211,7 @@ fn read_body<'a>(alloc: Global, map: Map, text: &'a [u8], n: u32) -> Result<MapT
 /// One blank parts the fields of a line. The lines are `map`, `bound B`, `words CUR NEXT GATE CLN EN BASE SB VER`, then `list`,
 /// `emits`, `versions` and perhaps `copies`, each with an address and a capacity, then `scalar NAME TYPE ADDRESS` and `array NAME TYPE ADDRESS N`,
 /// then `task NAME`, each followed by `private NAME` lines, and `end`. An address is four upper-case hexadecimal digits, a number
-/// decimal and below 2^32, and TYPE is `unsigned`, `int` or, of a scalar, `long`. `Memory` is the answer where memory was refused, and only then.
+/// decimal and below 2^32, and TYPE is `unsigned`, `int` or, of a scalar, `long`. `Memory` is want of memory, and says nothing of the text.
 pub fn read_map(alloc: Global, text: &[u8], n: u32) -> Result<MapText<'_>, MapFault>
     requires { n + length text.now < 4294967296 }
     ensures value { Gives read_text result (map_lines n (lines text.now)) }

@@ -115,7 +115,7 @@ fn finish<'a>(
 ///
 /// LF and CRLF end a line. A line is blank, or `@` and 1 to 8 hexadecimal digits, the address of the next byte, or bytes of
 /// two hexadecimal digits with blanks between, or `q` in either case. Bytes that aren't given are 0.
-/// `Memory` is the answer where memory was refused, and only then.
+/// `Memory` is want of memory, and says nothing of the text.
 pub fn read_front(alloc: Global, text: &[u8]) -> Result<ImageFront<'_>, ImageFault>
     requires { length text.now < 4294967295 }
     ensures value { Gives read.read_front result (front_of (lines text.now)) }
@@ -149,7 +149,7 @@ fn read_image(alloc: Global, text: &[u8]) -> Result<Image, ImageFault>
 /// The image that a TI-TXT text is, or its first fault: that of what stands up to its `q` (see `read_front`), then `BadMap`.
 ///
 /// Behind `q` all lines are blank, or the lines of a map stand at once (see `read_map`), and nothing behind them.
-/// `Memory` is the answer where memory was refused, and only then.
+/// `Memory` is want of memory, and says nothing of the text.
 pub fn parse_image(alloc: Global, text: &[u8]) -> Result<Image, ImageFault>
     requires { length text.now < 4294967295 }
     ensures value { Gives (λ image. image) result (image_of text.now) }

@@ -31,7 +31,7 @@ fn all_words(alloc: Global, memory: &[Option<u16>]) -> Result<Vec<u16>, AllocErr
 /// the least line that has one, in the order of `AsmFault`.
 ///
 /// A line is `[label:] [operation operands] [; comment]`, ended by LF or CRLF. The first address is 0x4400, and words that
-/// aren't given are 0; the image has no map. `Memory` is the answer where memory was refused, and only then.
+/// aren't given are 0; the image has no map. `Memory` is want of memory, and says nothing of the text.
 pub fn assemble(alloc: Global, text: &[u8]) -> Result<Image, AsmFault>
     requires { length text.now < 4294967295 }
     ensures value { Gives (λ image. image.words) result (assembled text.now) }

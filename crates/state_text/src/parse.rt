@@ -110,7 +110,7 @@ fn read_state(alloc: Global, text: &[u8]) -> Result<State, ImageFault>
 /// line behind it that goes on to no state.
 ///
 /// A state is the text of an image (see `parse_image`), and behind it one line `receiver N`, where N is a decimal number below 65536 and
-/// one space parts the two; nothing stands behind that line. Without it N is 0. `Memory` is the answer where memory was refused, and only then.
+/// one space parts the two; nothing stands behind that line. Without it N is 0. `Memory` is want of memory, and says nothing of the text.
 pub fn parse_state(alloc: Global, text: &[u8]) -> Result<State, ImageFault>
     requires { length text.now < 4294967295 }
     ensures value { Gives (λ s. s) result (state_of text.now) }
