@@ -1,9 +1,11 @@
-//! Tests of the passes over sources, as far as no call of the program shows them: tokens, trees that no source has, and steps of the
-//! meaning.
+//! Tests of the passes over sources, as far as no call of the program shows them: tokens, trees that no source has, steps of the
+//! meaning, and places of a layout.
 #![tactic(auto)]
 
 #[cfg(test)]
 mod drawn;
+#[cfg(test)]
+mod layouts;
 #[cfg(test)]
 mod passes;
 #[cfg(test)]
