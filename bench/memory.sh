@@ -28,6 +28,10 @@ minuses=$(printf '%253s' '' | tr ' ' -)
 fill 'shared int a;task t{' "a=${minuses}1;" "$end" >tokens
 fill 'shared int a;task t{' 'a=1;' "$end" >statements
 fill 'task t{if(1){}' 'else if(1){}' "$end" >arms
+fill 'task t{' 'if(1){}' "$end" >ifs
+fill 'task t{' "$(printf 'if(1){%.0s' $(seq 62))$(printf '}%.0s' $(seq 62))" "$end" >nested
+fill 'shared int a;task t{' "a=1$(printf '+1%.0s' $(seq 126));" "$end" >sums
+fill 'shared int a;task t{' "a=a$(printf '+a%.0s' $(seq 126));" "$end" >uses
 awk 'BEGIN {
     printf "task t{"
     for (n = 100000; n < 187370; n++) printf "int l%d;", n
@@ -56,7 +60,7 @@ awk 'BEGIN {
 }' >arrays
 
 measure "a small source" mean small none
-for text in lines tokens statements arms names; do
+for text in lines tokens sums uses statements nested ifs arms names; do
     measure "$text, $(wc -c <$text) bytes" mean $text none
 done
 measure "1,000,000 charges and 262,144 readings, $(wc -c <charges) bytes" mean sensing charges

@@ -20,8 +20,19 @@ def imports(text):
         path = words.rstrip(".").split(".")
         while os.path.isdir(os.path.join(CRATES, path[0])) and not os.path.exists(os.path.join(CRATES, crate, "specs", path[0] + ".antt")):
             crate, path = path[0], path[1:]
+        crate, path = passed_on(crate, path)
         files = ("%s/specs/%s.antt" % (crate, "/".join(path[:k])) for k in range(len(path), 0, -1))
         yield from [f for f in files if os.path.exists(os.path.join(CRATES, f))][:1]
+
+
+def passed_on(crate, path):
+    """Where a module lies that a crate passes on under its own name."""
+    lib = os.path.join(CRATES, crate, "specs", "Lib.antt")
+    if not path or not os.path.exists(lib):
+        return crate, path
+    with open(lib) as file:
+        lower = re.search(r"^pub use Rattle\.(\w+)\.specs\.%s as %s$" % (path[0], path[0]), file.read(), re.M)
+    return (lower.group(1), path) if lower else (crate, path)
 
 
 def closure(start):

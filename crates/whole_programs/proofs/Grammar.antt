@@ -14,7 +14,7 @@ use Rattle.lower.specs.task_lex.declared.token.Token.{Token}
 use Rattle.lower.specs.task_lex.declared.token.Kind.{Kind}
 use Rattle.lower.specs.task_lex.declared.token.Kind.TheVariants as k
 use Rattle.lower.specs.task_lex.Lex.{is_end, width_after}
-use Rattle.source_meaning.specs.task_parse.declared.operators.Infix.{Infix}
+use Rattle.source_meaning.specs.task_parse.task_grammar.declared.operators.Infix.{Infix}
 use Rattle.source_meaning.specs.task_parse.Parsed.{Expression, Statement, Block, Tested, Task, Program}
 use Rattle.source_meaning.specs.task_parse.Grammar.{prefix_of, infix_of, weakest, type_of, IsExpression, IsGiven, IsStatement, IsElses, IsArm, IsBlock}
 use Rattle.source_meaning.specs.task_parse.Grammar.{IsStatements, Row}

@@ -1,0 +1,9 @@
+pub mod Parsed
+pub mod Grammar
+pub mod Reading
+pub mod Expressions
+pub mod Statements
+pub mod Programs
+pub mod Gives
+pub mod Nesting
+pub mod Stops

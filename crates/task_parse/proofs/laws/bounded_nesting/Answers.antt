@@ -1,5 +1,0 @@
-use Rattle.task_parse.proofs.Nesting.{nesting_is_bounded}
-use Rattle.task_parse.proofs.laws.bounded_nesting.Goals as goal
-
-pub returns : goal.returns
-returns c = nesting_is_bounded

@@ -1,5 +1,0 @@
-use Rattle.task_parse.proofs.OneAnswer.{one_answer}
-use Rattle.task_parse.proofs.laws.one_answer.Goals as goal
-
-pub returns : goal.returns
-returns c = one_answer
