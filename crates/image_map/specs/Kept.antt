@@ -1,5 +1,5 @@
 -- What a map keeps.
-use Rattle.std.specs.Prelude.{◌≡◌, ◌+◌, ◌^◌, ◌<◌, ◌≤◌, true, [], ◌++◌, length, IfSome, All}
+use Rattle.std.specs.Prelude.{◌≡◌, ◌^◌, ◌<◌, ◌≤◌, true, [], ◌++◌, length, IfSome, All}
 use Rattle.image_map.specs.MapValue.{AreFramWords, IsPlace, IsVariable, MapValue, are_different, are_scalars, task_names, variable_names}
 
 -- the rules of a map

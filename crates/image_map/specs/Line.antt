@@ -8,11 +8,12 @@ pub use Rattle.alp_text.specs.Sequence.{◌>>?◌}
 use Rattle.text_parts.specs.Fields.{fields, is_blank, no_fields}
 use Rattle.image_map.specs.declared.parts.RuntimeWords.{RuntimeWords}
 use Rattle.image_map.specs.declared.parts.Place.{Place}
+use Rattle.image_map.specs.declared.line.FourAddresses.{FourAddresses}
 use Rattle.image_map.specs.declared.parts.ValueType.{ValueType}
 use Rattle.image_map.specs.declared.parts.ValueType.TheVariants as value_type
 use Rattle.image_map.specs.declared.parts.Variable.{Variable}
 use Rattle.image_map.specs.Names.{name_of}
-use Rattle.image_map.specs.MapValue.{is_fram_word}
+use Rattle.image_map.specs.MapValue.{is_fram_word, IsFramWord}
 
 -- whether each blank of a line is a space with another byte before and behind it; `apart` says whether a blank stands before, or nothing
 abbrev pub single_from : Bool → List ℕ → Bool
@@ -96,20 +97,34 @@ start_of fs = behind (codes "map") fs >>? λ fs. alone fs true
 abbrev pub bound_of : List (List ℕ) → Option ℕ
 bound_of fs = behind (codes "bound") fs >>? λ fs. next_number fs >>? λ n. alone n.1 n.0
 
+-- four words of the FRAM
+pub record AreFour (f : FourAddresses) : Type 0 where
+  pub first : IsFramWord f.first
+  pub second : IsFramWord f.second
+  pub third : IsFramWord f.third
+  pub fourth : IsFramWord f.fourth
+
+-- the first four fields as addresses, and the others
+abbrev pub next_four : List (List ℕ) → Option (FourAddresses × List (List ℕ))
+next_four fs = next_address fs >>? λ a. next_address a.1 >>? λ b. next_address b.1 >>? λ c. next_address c.1 >>? λ d.
+    Some (record { first = a.0; second = b.0; third = c.0; fourth = d.0 }, d.1)
+
+-- the runtime's words at eight addresses
+abbrev pub words_at : FourAddresses → FourAddresses → RuntimeWords
+words_at head tail = record {
+  current_task = head.first;
+  next_task = head.second;
+  gate = head.third;
+  list_length = head.fourth;
+  emit_count = tail.first;
+  base = tail.second;
+  sent_base = tail.third;
+  version = tail.fourth;
+}
+
 -- `words CUR NEXT GATE CLN EN BASE SB VER`
 abbrev pub words_of : List (List ℕ) → Option RuntimeWords
-words_of fs = behind (codes "words") fs >>? λ fs. next_address fs >>? λ cur. next_address cur.1 >>? λ next. next_address next.1 >>? λ gate.
-    next_address gate.1 >>? λ cln. next_address cln.1 >>? λ en. next_address en.1 >>? λ base. next_address base.1 >>? λ sb. next_address sb.1 >>? λ ver.
-    alone ver.1 (record {
-      current_task = cur.0;
-      next_task = next.0;
-      gate = gate.0;
-      list_length = cln.0;
-      emit_count = en.0;
-      base = base.0;
-      sent_base = sb.0;
-      version = ver.0;
-    })
+words_of fs = behind (codes "words") fs >>? λ fs. next_four fs >>? λ head. next_four head.1 >>? λ tail. alone tail.1 (words_at head.0 tail.0)
 
 -- `list ADDRESS N`, `emits ADDRESS N`, `versions ADDRESS N` or `copies ADDRESS N`, by the first word
 abbrev pub place_of : List ℕ → List (List ℕ) → Option Place

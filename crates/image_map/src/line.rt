@@ -4,7 +4,7 @@ ghost use Rattle.text_parts.specs.Fields.{fields, no_fields};
 ghost use Rattle.image_map.specs.MapValue.{IsFramWord, AreFramWords};
 ghost use Rattle.image_map.specs.Line.{single_from, line_fields, address_digit, fram_word, address_of, decimal_below, type_of, next_address, next_number};
 ghost use Rattle.image_map.specs.Line.{next_length, next_name, next_type, behind, start_of, bound_of, words_of, place_of, scalar_of, array_of, lone_name};
-ghost use Rattle.image_map.specs.Line.{number_behind};
+ghost use Rattle.image_map.specs.Line.{AreFour, next_four, words_at, number_behind};
 
 use crate::map::is_fram_word;
 use crate::name::Name;
@@ -178,33 +178,64 @@ pub fn bound_of(line: &[u8]) -> Option<u32>
     }
 }
 
+// Four addresses of a line, in their order.
+#[derive(Clone, Copy)]
+struct FourAddresses {
+    first: u16,
+    second: u16,
+    third: u16,
+    fourth: u16,
+}
+
+fn next_four(line: &[u8]) -> Option<(FourAddresses, &[u8])>
+    ensures value { option_map (λ p. (p.0, fields p.1.now)) result ≡ next_four (fields line.now) }
+    ensures addresses { IfSome result (λ p. AreFour p.0) }
+{
+    let (first, rest) = next_address(line)?;
+    let (second, rest) = next_address(rest)?;
+    let (third, rest) = next_address(rest)?;
+    let (fourth, rest) = next_address(rest)?;
+    Some((
+        FourAddresses {
+            first,
+            second,
+            third,
+            fourth,
+        },
+        rest,
+    ))
+}
+
+// The runtime's words at eight addresses.
+fn words_at(head: FourAddresses, tail: FourAddresses) -> RuntimeWords
+    ensures value { result ≡ words_at head tail }
+    ensures addresses { AreFour head → AreFour tail → AreFramWords result }
+{
+    RuntimeWords {
+        current_task: head.first,
+        next_task: head.second,
+        gate: head.third,
+        list_length: head.fourth,
+        emit_count: tail.first,
+        base: tail.second,
+        sent_base: tail.third,
+        version: tail.fourth,
+    }
+}
+
 /// The addresses of a line `words CUR NEXT GATE CLN EN BASE SB VER`.
 pub fn words_of(line: &[u8]) -> Option<RuntimeWords>
     ensures value { result ≡ words_of (line_fields line.now) }
     ensures addresses { IfSome result AreFramWords }
 {
     let rest = behind(b"words", line)?;
-    let (current_task, rest) = next_address(rest)?;
-    let (next_task, rest) = next_address(rest)?;
-    let (gate, rest) = next_address(rest)?;
-    let (list_length, rest) = next_address(rest)?;
-    let (emit_count, rest) = next_address(rest)?;
-    let (base, rest) = next_address(rest)?;
-    let (sent_base, rest) = next_address(rest)?;
-    let (version, rest) = next_address(rest)?;
-    if !is_blank_line(rest) {
-        return None;
+    let (head, rest) = next_four(rest)?;
+    let (tail, rest) = next_four(rest)?;
+    if is_blank_line(rest) {
+        Some(words_at(head, tail))
+    } else {
+        None
     }
-    Some(RuntimeWords {
-        current_task,
-        next_task,
-        gate,
-        list_length,
-        emit_count,
-        base,
-        sent_base,
-        version,
-    })
 }
 
 /// The place of a line that begins with `word`: an address and a number.

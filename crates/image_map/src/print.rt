@@ -15,13 +15,19 @@ use alp_text::print_u64;
 use std::alloc::AllocError;
 use text_parts::upper_hex;
 
+fn push_field(out: &mut Vec<u8>, field: &[u8]) -> Result<(), AllocError>
+    ensures { OnOk result (out.new.items ≡ out.old.items ++ 32 ∷ field.now) }
+{
+    out.push(b' ')?;
+    out.extend_from_slice(field)
+}
+
 #[tactic(auto, unfolding(crate::specs::Text::tail_text))]
 fn push_tail(out: &mut Vec<u8>, fields: &[&[u8]]) -> Result<(), AllocError>
     ensures { OnOk result (out.new.items ≡ out.old.items ++ tail_text (map (λ f. f.now) fields.now)) }
 {
     for field in fields {
-        out.push(b' ')?;
-        out.extend_from_slice(field)?;
+        push_field(out, field)?;
     }
     Ok(())
 }
@@ -32,8 +38,7 @@ fn push_line(out: &mut Vec<u8>, first: &[u8], fields: &[&[u8]]) -> Result<(), Al
 {
     out.extend_from_slice(first)?;
     push_tail(out, fields)?;
-    out.push(b'\n')?;
-    Ok(())
+    out.extend_from_slice(b"\n")
 }
 
 #[tactic(auto, unfolding(crate::specs::Text::address_text, text_parts::specs::Hex::upper_hex))]
@@ -222,6 +227,5 @@ pub fn push_map(out: &mut Vec<u8>, map: &Map) -> Result<(), AllocError>
     push_copies(out, map.copies())?;
     push_variables(out, map.variables())?;
     push_tasks(out, map.tasks())?;
-    push_line(out, b"end", &[])?;
-    Ok(())
+    push_line(out, b"end", &[])
 }

@@ -71,21 +71,18 @@ pub fn cut_section(place: usize, words: &[u16]) -> Option<(usize, &[u16], &[u16]
 fn push_address(out: &mut Vec<u8>, address: u16) -> Result<(), AllocError>
     ensures { OnOk result (out.new.items ≡ out.old.items ++ (64 ∷ upper_hex4 address) ++ 10 ∷ []) }
 {
-    out.push(b'@')?;
-    out.extend_from_slice(&upper_hex((address / 256) as u8))?;
-    out.extend_from_slice(&upper_hex((address % 256) as u8))?;
-    out.push(b'\n')?;
-    Ok(())
+    let [a, b] = upper_hex((address / 256) as u8);
+    let [c, d] = upper_hex((address % 256) as u8);
+    out.extend_from_slice(&[b'@', a, b, c, d, b'\n'])
 }
 
 fn push_pair(out: &mut Vec<u8>, w: u16) -> Result<(), AllocError>
     ensures { OnOk result (out.new.items ≡ out.old.items ++ pair_text w) }
 {
     let [low, high] = to_bytes(w);
-    out.extend_from_slice(&upper_hex(low))?;
-    out.push(b' ')?;
-    out.extend_from_slice(&upper_hex(high))?;
-    Ok(())
+    let [a, b] = upper_hex(low);
+    let [c, d] = upper_hex(high);
+    out.extend_from_slice(&[a, b, b' ', c, d])
 }
 
 #[tactic(auto, unfolding(crate::specs::Text::tail_text))]
@@ -106,16 +103,14 @@ fn push_pairs(out: &mut Vec<u8>, words: &[u16]) -> Result<(), AllocError>
         return Ok(());
     };
     push_pair(out, *first)?;
-    push_tail(out, rest)?;
-    Ok(())
+    push_tail(out, rest)
 }
 
 fn push_line(out: &mut Vec<u8>, words: &[u16]) -> Result<(), AllocError>
     ensures { OnOk result (out.new.items ≡ out.old.items ++ (spaced (map upper_hex (bytes_in words.now)) ++ 10 ∷ [])) }
 {
     push_pairs(out, words)?;
-    out.push(b'\n')?;
-    Ok(())
+    out.extend_from_slice(b"\n")
 }
 
 #[tactic(auto, unfolding(text_parts::specs::Printed::printed))]
@@ -135,8 +130,7 @@ fn push_section(out: &mut Vec<u8>, place: usize, words: &[u16]) -> Result<(), Al
     ensures { OnOk result (out.new.items ≡ out.old.items ++ printed (section_lines (record { place = place; words = words.now }))) }
 {
     push_address(out, (FRAM_FIRST as usize + 2 * place) as u16)?;
-    push_words(out, words)?;
-    Ok(())
+    push_words(out, words)
 }
 
 fn push_sections(out: &mut Vec<u8>, words: &[u16]) -> Result<(), AllocError>
@@ -151,8 +145,7 @@ fn push_sections(out: &mut Vec<u8>, words: &[u16]) -> Result<(), AllocError>
         place = at + section.len();
         rest = behind;
     }
-    out.extend_from_slice(b"q\n")?;
-    Ok(())
+    out.extend_from_slice(b"q\n")
 }
 
 // Writes the lines of a map, if there is one.

@@ -18,4 +18,5 @@ pub use Rattle.task_check.specs as task_check
 pub use Rattle.cost_bound.specs as cost_bound
 pub use Rattle.source_values.specs as source_values
 pub use Rattle.array_versions.specs as array_versions
+pub use Rattle.variable_places.specs as variable_places
 pub use Rattle.path_runs.specs as path_runs

@@ -36,6 +36,7 @@ use Rattle.memory_map.specs.declared.place.VariablePlace.{VariablePlace}
 use Rattle.memory_map.specs.declared.place.VariablePlace.TheVariants.{Scalar, Array}
 use Rattle.memory_map.specs.MemoryMap.{MemoryMap, TaskPlace, word_place}
 use Rattle.memory_map.specs.Spots.{Places, places_of, address_of}
+pub use Rattle.variable_places.specs.Places.{high_address, array_place, no_array, list_place, written_array, stored_array}
 use Rattle.lower.specs.declared.runs.Run.{Run}
 use Rattle.lower.specs.Runs.{runs_of}
 use Rattle.lower.specs.Seen.{map_seen}
@@ -66,10 +67,6 @@ abbrev pub update_step : Places → PlainOperation → Variable → Step
 update_step p op (Shared v) = update op (address_of p v)
 update_step p op (Local n) = update_local op (n % 65536)
 
--- the address of the high word of a long: it stands right behind the low one
-abbrev pub high_address : ℕ → ℕ
-high_address address = (address + 2) % 65536
-
 -- pushes a variable as a long, which is two words with the high one on top. A local has one word
 abbrev pub read_long : Places → Variable → Program
 read_long p (Shared v) = step (load (address_of p v)) (step (load (high_address (address_of p v))) (one (long with_longs.Join)))
@@ -79,18 +76,6 @@ read_long p (Local n) = step (local (n % 65536)) (step (number 0) (one (long wit
 abbrev pub write_long : Places → Variable → Program
 write_long p (Shared v) = step (keep (high_address (address_of p v))) (one (keep (address_of p v)))
 write_long p (Local n) = step (long with_longs.LowWord) (one (set_local (n % 65536)))
-
--- the elements of an array, their copies and their version words
-abbrev pub array_place : ℕ → ℕ → ArrayCopies → ArrayPlace
-array_place elements length c = record { elements = elements; copies = c.copies; versions = c.versions; length = length }
-
--- an array of no elements
-abbrev pub no_array : ArrayPlace
-no_array = record { elements = 0; copies = 0; versions = 0; length = 0 }
-
--- the number of the attempt, and the commit list
-abbrev pub list_place : Places → ListPlace
-list_place p = record { ver = word_place p.map Version; cln = word_place p.map ListLength; list = p.map.list.address }
 
 -- pops an index and pushes an element of the array at a place: as this attempt has the element where the task writes the array, else
 -- where it stands
@@ -104,18 +89,6 @@ element_read p None = element 0 0
 abbrev pub element_step : Places → Variable → Step
 element_step p (Shared v) = element_read p (slice_get p.map.variables v)
 element_step p (Local n) = element 0 0
-
--- the array at a place that a task may write
-abbrev pub written_array : Option VariablePlace → ArrayPlace
-written_array (Some (Array elements length (Some c))) = array_place elements length c
-written_array (Some (Array elements length None)) = no_array
-written_array (Some (Scalar home copy width)) = no_array
-written_array None = no_array
-
--- the same by its variable
-abbrev pub stored_array : Places → Variable → ArrayPlace
-stored_array p (Shared v) = written_array (slice_get p.map.variables v)
-stored_array p (Local n) = no_array
 
 -- pops a word and an index, and stores the word in the copy of an element
 abbrev pub store_step : Places → Variable → Step

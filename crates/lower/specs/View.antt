@@ -1,14 +1,9 @@
 -- What the Rust values stand for.
 use Rattle.array_versions.specs.View.{program_of, test_of}
-use Rattle.memory_map.specs.Spots.{Places}
+pub use Rattle.variable_places.specs.View.{places_in}
 use Rattle.lower.specs.declared.expressions.ExpressionProgram.{ExpressionProgram}
 use Rattle.lower.specs.declared.expressions.ExpressionProgram.TheVariants.{Word, Test, Bits, Long}
-use Rattle.lower.specs.declared.places.TaskPlaces.{TaskPlaces}
 use Rattle.lower.specs.Lowered.{Lowering, as_word, as_test, as_bits, as_long}
-
--- what a task has of a memory map, as it stands in memory
-abbrev pub places_in : TaskPlaces → Places
-places_in p = record { map = record p.layout.now { variables = p.variables.now }; privates = p.privates.now }
 
 -- what an expression comes to
 abbrev pub lowering_of : ExpressionProgram → Lowering

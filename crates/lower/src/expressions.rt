@@ -12,13 +12,12 @@ ghost use Rattle.lower.specs.View.{places_in, lowering_of};
 ghost use Rattle.lower.specs.Lowered.{one, read_step, read_long, element_step, word_program, value_test, widening, name_lowering, long_words, long_program};
 ghost use Rattle.lower.specs.Lowered.{unary_lowering, long_unary_lowering, operand_lowering, binary_lowering, answer, long_binary_lowering, sides_lowering};
 ghost use Rattle.lower.specs.Lowered.{shift_lowering, sides_test, widened_type, lowering, as_word, as_test, as_bits, as_long, lowered_expression, lowered_long};
-ghost use Rattle.lower.specs.Lowered.{lowered_test};
+ghost use Rattle.lower.specs.Lowered.{Lowering, lowered_test};
 
 use crate::operations::{
     BinaryMeaning, LongMeaning, LongQuestion, binary_meaning, long_meaning, long_shift,
     operand_type, shift_operation,
 };
-use crate::places::{TaskPlaces, array_place, high_address, low_word};
 use array_versions::{
     BinaryOperation, Comparison, LongOperation, PlainOperation, UnaryOperation, WordProgram,
     WordTest,
@@ -30,6 +29,7 @@ use task_ast::{
     BinaryOperator, Expr, ShiftOperator, ShortCircuitOperator, UnaryOperator, Variable,
     VariableName, WordType,
 };
+use variable_places::{TaskPlaces, array_place, high_address, low_word};
 
 /// What an expression comes to.
 #[derive(Drop)]
@@ -177,6 +177,20 @@ fn read_element(
         Variable::Shared(number) => read_array(number, places, program),
         Variable::Local(_) => program.element(0, 0),
     }
+}
+
+// An element by the program of its index.
+fn element(
+    variable: Variable,
+    index: WordProgram,
+    places: &TaskPlaces<'_>,
+) -> Result<ExpressionProgram, AllocError>
+    ensures { IfOk result (λ l. lowering_of l
+        ≡ as_word (behind (program_of index) (element_step (places_in places.now) variable))) }
+{
+    let mut program = index;
+    read_element(variable, places, &mut program)?;
+    Ok(ExpressionProgram::Word(program))
 }
 
 // The truth of a test as a word.
@@ -491,33 +505,44 @@ fn shifted(
 }
 
 // `&&` or `||` of two tests.
-fn short_circuit(
+fn both_or_either(
     alloc: Global,
     op: ShortCircuitOperator,
     left: WordTest,
     right: WordTest,
-) -> Result<ExpressionProgram, AllocError>
-    ensures { IfOk result (λ l. lowering_of l ≡ as_test (sides_test op (test_of left) (test_of right))) }
+) -> Result<WordTest, AllocError>
+    ensures { IfOk result (λ c. test_of c ≡ sides_test op (test_of left) (test_of right)) }
 {
-    let test = match op {
-        ShortCircuitOperator::And => WordTest::both(alloc, left, right)?,
-        ShortCircuitOperator::Or => WordTest::either(alloc, left, right)?,
-    };
-    Ok(ExpressionProgram::Test(test))
+    match op {
+        ShortCircuitOperator::And => WordTest::both(alloc, left, right),
+        ShortCircuitOperator::Or => WordTest::either(alloc, left, right),
+    }
 }
 
-// The program that leaves an expression's value on top of the stack, as one word, and its type.
-#[cycle(expression)]
-fn value(
+// `&&` or `||` of what two sides come to.
+fn short_circuit(
     alloc: Global,
-    e: &Expr<VariableName>,
-    places: &TaskPlaces<'_>,
-) -> Result<(WordProgram, WordType), AllocError>
-    ensures steps { IfOk result (λ x. program_of x.0 ≡ lowered_expression (places_in places.now) (expression_of e.now)) }
-    ensures word_type { IfOk result (λ x. x.1 ≡ type_of (expression_of e.now)) }
+    op: ShortCircuitOperator,
+    left: ExpressionProgram,
+    right: ExpressionProgram,
+) -> Result<ExpressionProgram, AllocError>
+    ensures { IfOk result (λ l. lowering_of l
+        ≡ as_test (sides_test op (value_test (lowering_of left)) (value_test (lowering_of right)))) }
 {
-    let (program, word_type) = lower(alloc, e, places)?;
-    Ok((into_program(alloc, program)?, word_type))
+    let left = into_test(left)?;
+    let right = into_test(right)?;
+    Ok(ExpressionProgram::Test(both_or_either(alloc, op, left, right)?))
+}
+
+// What an expression comes to, with its type.
+fn with_type(
+    program: Result<ExpressionProgram, AllocError>,
+    word_type: WordType,
+) -> Result<(ExpressionProgram, WordType), AllocError>
+    ensures program { (l : Lowering) → IfOk program (λ p. lowering_of p ≡ l) → IfOk result (λ x. lowering_of x.0 ≡ l) }
+    ensures word_type { IfOk result (λ x. x.1 ≡ word_type) }
+{
+    Ok((program?, word_type))
 }
 
 // Puts a program behind another.
@@ -539,15 +564,14 @@ fn lower(
     ensures word_type { IfOk result (λ x. x.1 ≡ type_of (expression_of e.now)) }
 {
     match e {
-        Expr::Number(n) => Ok((number(alloc, *n)?, literal_type(*n))),
-        Expr::LongNumber(n) => Ok((long_number(alloc, *n)?, WordType::Long)),
-        Expr::Name(x) => Ok((name(alloc, x.word_type, x.variable, places)?, x.word_type)),
+        Expr::Number(n) => with_type(number(alloc, *n), literal_type(*n)),
+        Expr::LongNumber(n) => with_type(long_number(alloc, *n), WordType::Long),
+        Expr::Name(x) => with_type(name(alloc, x.word_type, x.variable, places), x.word_type),
         Expr::Element(x, index) => {
-            let (mut program, _) = value(alloc, index, places)?;
-            read_element(x.variable, places, &mut program)?;
-            Ok((ExpressionProgram::Word(program), x.word_type))
+            let index = lower_expression(alloc, index, places)?;
+            with_type(element(x.variable, index, places), x.word_type)
         }
-        Expr::Sense => Ok((reading(alloc)?, WordType::Unsigned)),
+        Expr::Sense => with_type(reading(alloc), WordType::Unsigned),
         Expr::Unary(op, operand) => {
             let (operand, word_type) = lower(alloc, operand, places)?;
             let program = of_operand(alloc, word_type, *op, operand)?;
@@ -573,13 +597,13 @@ fn lower(
         Expr::ShortCircuit(op, a, b) => {
             let (left, _) = lower(alloc, a, places)?;
             let (right, _) = lower(alloc, b, places)?;
-            let program = short_circuit(alloc, *op, into_test(left)?, into_test(right)?)?;
-            Ok((program, WordType::Int))
+            with_type(short_circuit(alloc, *op, left, right), WordType::Int)
         }
     }
 }
 
 /// The program that leaves an expression's value on top of the stack, as one word.
+#[cycle(expression)]
 pub fn lower_expression(
     alloc: Global,
     e: &Expr<VariableName>,
@@ -587,8 +611,22 @@ pub fn lower_expression(
 ) -> Result<WordProgram, AllocError>
     ensures { IfOk result (λ p. program_of p ≡ lowered_expression (places_in places.now) (expression_of e.now)) }
 {
-    let (program, _) = value(alloc, e, places)?;
-    Ok(program)
+    let (program, _) = lower(alloc, e, places)?;
+    into_program(alloc, program)
+}
+
+/// Puts the program that leaves an expression's value, as one word, behind another.
+pub fn append_expression(
+    alloc: Global,
+    e: &Expr<VariableName>,
+    places: &TaskPlaces<'_>,
+    program: &mut WordProgram,
+) -> Result<(), AllocError>
+    ensures { OnOk result (program_of program.new
+        ≡ joined (program_of program.old) (lowered_expression (places_in places.now) (expression_of e.now))) }
+{
+    let value = lower_expression(alloc, e, places)?;
+    append(program, value)
 }
 
 /// The program that leaves an expression's value on top of the stack, as a long.

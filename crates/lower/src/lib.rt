@@ -12,7 +12,6 @@ mod in_place;
 pub mod laws;
 mod lowering;
 mod operations;
-mod places;
 mod runs;
 mod statements;
 

@@ -6,7 +6,6 @@ ghost use Rattle.task_ast.specs.View.{block_view};
 ghost use Rattle.lower.specs.Seen.{some_path_writes, place_seen, places_seen};
 ghost use Rattle.lower.specs.Lowered.{lowered_task, lowered};
 
-use crate::places::TaskPlaces;
 use crate::statements::lower_block;
 use array_versions::WordProgram;
 use memory_map::{Layout, TaskLayout, VariablePlace};
@@ -14,6 +13,7 @@ use path_sums::access_summary;
 use std::alloc::{AllocError, Global};
 use task_ast::{Stmt, TaskName, Variable, VariableName};
 use task_check::Checked;
+use variable_places::TaskPlaces;
 
 // A variable's place as a task sees it: an array that the task doesn't write is read where it stands.
 fn place_seen(written: bool, place: VariablePlace) -> VariablePlace

@@ -12,15 +12,15 @@ ghost use Rattle.lower.specs.Lowered.{one, write_step, write_long, update_step, 
 ghost use Rattle.lower.specs.Lowered.{assignment, scalar_assignment, index_and_value, element_setting, element_assignment, declaration, emission};
 ghost use Rattle.lower.specs.Lowered.{lowered_expression, lowered_transition, lowered_statement, lowered_choice, lowered_block};
 
-use crate::expressions::{append, lower_expression, lower_long, lower_test};
+use crate::expressions::{append, append_expression, lower_long, lower_test};
 use crate::in_place::{element_updating, of_words, updating};
-use crate::places::{TaskPlaces, high_address, low_word};
 use crate::runs::list_entries;
 use array_versions::{LongOperation, PlainOperation, WordProgram};
 use memory_map::RuntimeWord;
 use std::alloc::{AllocError, Global};
 use task_ast::types::{joined_type, type_of};
 use task_ast::{Arm, Expr, Stmt, TaskName, Variable, VariableName, WordType};
+use variable_places::{TaskPlaces, high_address, low_word};
 
 fn write(
     variable: Variable,
@@ -87,7 +87,7 @@ fn set(
     ensures { OnOk result (program_of program.new
         ≡ joined (program_of program.old) (setting (places_in places.now) variable (expression_of e.now))) }
 {
-    append(program, lower_expression(alloc, e, places)?)?;
+    append_expression(alloc, e, places, program)?;
     write(variable, places, program)
 }
 
@@ -120,7 +120,7 @@ fn set_in_place(
     ensures { OnOk result (program_of program.new ≡ joined (program_of program.old)
         (behind (lowered_expression (places_in places.now) (expression_of e.now)) (update_step (places_in places.now) operation variable))) }
 {
-    append(program, lower_expression(alloc, e, places)?)?;
+    append_expression(alloc, e, places, program)?;
     update(operation, variable, places, program)
 }
 
@@ -184,8 +184,8 @@ fn index_and_value(
     ensures { OnOk result (program_of program.new ≡ joined (program_of program.old)
         (index_and_value (places_in places.now) (expression_of index.now) (expression_of e.now))) }
 {
-    append(program, lower_expression(alloc, index, places)?)?;
-    append(program, lower_expression(alloc, e, places)?)
+    append_expression(alloc, index, places, program)?;
+    append_expression(alloc, e, places, program)
 }
 
 // Sets an element to an expression's value.
@@ -289,7 +289,7 @@ fn emit(
     ensures { OnOk result (program_of program.new
         ≡ joined (program_of program.old) (emission (places_in places.now) (expression_of e.now))) }
 {
-    append(program, lower_expression(alloc, e, places)?)?;
+    append_expression(alloc, e, places, program)?;
     let layout = places.layout;
     let emit_count = layout.word_place(RuntimeWord::EmitCount);
     program.emit_word(emit_count, layout.emits().address)

@@ -50,10 +50,7 @@ fn push_letter(out: &mut Vec<u8>, draw: u16, letter: u8) -> Result<(), AllocErro
         b'B' => push_number(out, draw / 48 % 8),
         b'C' => push_number(out, draw / 384 % 2),
         b'D' => push_number(out, draw),
-        _ => {
-            out.push(letter)?;
-            Ok(())
-        }
+        _ => out.extend_from_slice(&[letter]),
     }
 }
 
@@ -137,8 +134,7 @@ fn push_task(out: &mut Vec<u8>, number: u16, generator: &mut Generator) -> Resul
 {
     push_task_head(out, number)?;
     push_statements(out, generator)?;
-    push_task_end(out, number, generator.draw())?;
-    Ok(())
+    push_task_end(out, number, generator.draw())
 }
 
 fn push_tasks(out: &mut Vec<u8>, generator: &mut Generator) -> Result<(), AllocError>

@@ -1,4 +1,6 @@
 use Rattle.std.proofs.Common.{◌∙◌, arith}
+use Rattle.std.proofs.lemmas.Result.{on_ok_weaker}
+use Rattle.text_parts.proofs.Interface.{added}
 use Rattle.image_text.proofs.Printed.{text_begins, text_more, text_end}
 use Rattle.image_text.proofs.print.push_sections.Goals as goal
 
@@ -15,4 +17,5 @@ loop-at-preserved c = record {
 }
 
 pub returns-clause-text : goal.returns-clause-text
-returns-clause-text c = text_end _ _ _ _ c.loop-at.invariant.left c.in_default.ensures.cut c.in_ok-extend_from_slice.ensures.items
+returns-clause-text c = on_ok_weaker c.extend_from_slice.result (text_end _ _ _ _ c.loop-at.invariant.left c.in_default.ensures.cut)
+    (added _ _ _ _ c.extend_from_slice.ensures.items)

@@ -1,7 +1,7 @@
 //! Where what a task works on stands.
 ghost use Rattle.std.specs.Prelude.{◌≡◌, ◌%◌, slice_get};
 ghost use Rattle.memory_map.specs.Spots.{copy_among, home_of};
-ghost use Rattle.lower.specs.Lowered.{high_address, array_place, no_array, written_array};
+ghost use Rattle.variable_places.specs.Places.{high_address, array_place, no_array, written_array};
 
 use array_versions::{ArrayPlace, ListPlace};
 use memory_map::{ArrayCopies, Layout, PrivateScalar, RuntimeWord, VariablePlace};
@@ -84,8 +84,8 @@ fn written_array(variables: &[VariablePlace], number: u32) -> ArrayPlace
 
 impl<'l> TaskPlaces<'l> {
     ghost use Rattle.memory_map.specs.Spots.{address_of};
-    ghost use Rattle.lower.specs.Lowered.{list_place, stored_array};
-    ghost use Rattle.lower.specs.View.{places_in};
+    ghost use Rattle.variable_places.specs.Places.{list_place, stored_array};
+    ghost use Rattle.variable_places.specs.View.{places_in};
 
     /// The address of a shared variable in the task: that of its copy where it is private there, else that of its first word.
     pub fn address_of(&self, number: u32) -> u16
