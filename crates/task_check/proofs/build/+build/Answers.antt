@@ -9,7 +9,8 @@ use Rattle.task_check.proofs.build.+build.Goals as goal
 
 pub block-returns-clause-place : goal.block-returns-clause-place
 block-returns-clause-place t c =
-    ap (λ xs. spec.block_back (block_view xs)) c.shrink_to_fit.ensures.items ∙ block_back_list _ ∙ ap node.block_of (all_read statement_of _ c.args.body.now c.loop-i.i (omega arith) c.loop-i.invariant.0)
+    ap (λ xs. spec.block_back (block_view xs)) c.shrink_to_fit.ensures.items ∙ block_back_list _
+    ∙ ap node.block_of (all_read statement_of _ c.args.body.now c.loop-i.i (omega arith) c.loop-i.invariant.0)
 
 pub block-loop-i-preserved : goal.block-loop-i-preserved
 block-loop-i-preserved t c = (

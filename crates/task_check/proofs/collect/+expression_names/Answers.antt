@@ -13,7 +13,7 @@ put_role-requires t c =
     let first = occurrence c.in-Binary.op.span c.operator_role.result in
     let count : c.len-at.result ≡ length front = search rules in
     let names : c.expression_names-in-Binary-2.new.names.items ≡ expression_names types left (front ++ first ∷ []) =
-      c.in_ok-left-in-Binary.ensures.names ∙ ap (expression_names types left) c.in_ok-add-in-Binary.ensures in
+    c.in_ok-left-in-Binary.ensures.names ∙ ap (expression_names types left) c.in_ok-add-in-Binary.ensures in
     let within = stands_within types left front first in
     let sizes = ap length names in
     omega arith
@@ -26,7 +26,7 @@ returns-in_ok-left-in-Binary-clause-names t c =
     let first = occurrence c.in-Binary.op.span c.operator_role.result in
     let count : c.len-at.result ≡ length front = search rules in
     let names : c.expression_names-in-Binary-2.new.names.items ≡ expression_names types left (front ++ first ∷ []) =
-      c.in_ok-left-in-Binary.ensures.names ∙ ap (expression_names types left) c.in_ok-add-in-Binary.ensures in
+    c.in_ok-left-in-Binary.ensures.names ∙ ap (expression_names types left) c.in_ok-add-in-Binary.ensures in
     let last = occurrence c.in-Binary.op.span c.operator_role-role.result in
     let whole : expression_names types left (front ++ last ∷ []) ≡ expression_names types (expression_of c.args.e.now) c.args.names.now.items = search rules in
     c.put_role.ensures ∙ ap (λ n. set c.expression_names-in-Binary-2.new.names.items n last) count ∙ ap (λ xs. set xs (length front) last) names
@@ -40,7 +40,7 @@ put_role-requires-in-Shift t c =
     let first = occurrence c.in-Shift.count.span c.count_role.result in
     let count : c.len-at-in-Shift.result ≡ length front = search rules in
     let names : c.expression_names-in-Shift.new.names.items ≡ expression_names types left (front ++ first ∷ []) =
-      c.in_ok-left-in-Shift.ensures.names ∙ ap (expression_names types left) c.in_ok-add-in-Shift.ensures in
+    c.in_ok-left-in-Shift.ensures.names ∙ ap (expression_names types left) c.in_ok-add-in-Shift.ensures in
     let within = stands_within types left front first in
     let sizes = ap length names in
     omega arith
@@ -53,7 +53,7 @@ returns-in_ok-left-in-Shift-clause-names t c =
     let first = occurrence c.in-Shift.count.span c.count_role.result in
     let count : c.len-at-in-Shift.result ≡ length front = search rules in
     let names : c.expression_names-in-Shift.new.names.items ≡ expression_names types left (front ++ first ∷ []) =
-      c.in_ok-left-in-Shift.ensures.names ∙ ap (expression_names types left) c.in_ok-add-in-Shift.ensures in
+    c.in_ok-left-in-Shift.ensures.names ∙ ap (expression_names types left) c.in_ok-add-in-Shift.ensures in
     let last = occurrence c.in-Shift.count.span c.count_role-in-Shift.result in
     let whole : expression_names types left (front ++ last ∷ []) ≡ expression_names types (expression_of c.args.e.now) c.args.names.now.items = search rules in
     c.put_role-in-Shift.ensures ∙ ap (λ n. set c.expression_names-in-Shift.new.names.items n last) count ∙ ap (λ xs. set xs (length front) last) names
