@@ -1,4 +1,5 @@
 mod Tables
+mod Operands
 mod Walks
 mod Fronts
 mod Parts

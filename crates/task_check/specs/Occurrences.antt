@@ -15,9 +15,13 @@ use Rattle.task_check.specs.declared.occurrence.Role.TheVariants as role
 use Rattle.task_check.specs.declared.occurrence.Occurrence.{Occurrence}
 use Rattle.task_check.specs.SharedTypes.{shared_type}
 
+-- what stands at a place, by its role
+abbrev pub occurrence : Span → Role → Occurrence
+occurrence s r = record { span = s; role = r }
+
 -- one more, in front of those behind it
 abbrev pub and_front : List Occurrence → Span → Role → List Occurrence
-and_front behind s r = behind ++ record { span = s; role = r } ∷ []
+and_front behind s r = behind ++ occurrence s r ∷ []
 
 -- whether an operator takes no operand of a type: `*`, `/` and `%` take no long
 abbrev pub is_refused : BinaryOperator → WordType → Bool
@@ -40,9 +44,13 @@ most_count Unsigned = 15
 abbrev pub count_role : ℕ → WordType → Role
 count_role count t = role.Operand (nat_lt (most_count t) count) (kept.Number count)
 
--- an array's name with its index, which isn't long; its fault keeps the name
+-- an array's name with its index of this type, which isn't long; its fault keeps the name
+abbrev pub element_of : WordType → Span → List Occurrence → List Occurrence
+element_of index s behind = and_front (and_front behind s (role.Operand (is_long index) (kept.Name s))) s role.Element
+
+-- the same, by the index
 abbrev pub element_front : (Span → WordType) → Span → Expression Span → List Occurrence → List Occurrence
-element_front types s index behind = and_front (and_front behind s (role.Operand (is_long (expression_type types index)) (kept.Name s))) s role.Element
+element_front types s index behind = element_of (expression_type types index) s behind
 
 -- the names of an expression over names of these types, in front of those behind it
 abbrev pub expression_names : (Span → WordType) → Expression Span → List Occurrence → List Occurrence

@@ -316,6 +316,7 @@ fn arms<'a>(
         found.push(test)?;
         rest = left;
     }
+    found.shrink_to_fit();
     Ok((found, rest))
 }
 
@@ -336,6 +337,7 @@ fn block<'a>(
         found.push(s)?;
         rest = left;
     }
+    found.shrink_to_fit();
     Ok((found, rest))
 }
 

@@ -1,8 +1,9 @@
 //! The names of a tree, each where it stands: from the last of the text to the first.
 
-ghost use Rattle.std.specs.Prelude.{◌≡◌, List, [], Option, map, IfOk};
+ghost use Rattle.std.specs.Prelude.{◌≡◌, ◌<◌, List, [], Option, length, map, set, IfOk};
 ghost use Rattle.alp_text.specs.declared.lines.Span.{Span};
 ghost use Rattle.task_ast.specs.Tree.{Block, choice_of};
+ghost use Rattle.task_ast.specs.Types.{expression_type};
 ghost use Rattle.std.specs.Option.{option_map};
 ghost use Rattle.task_ast.specs.View.{expression_of, statement_of, tested_of, task_of, block_view, last_view, program_of};
 ghost use Rattle.task_check.specs.declared.occurrence.Occurrence.{Occurrence};
@@ -11,10 +12,10 @@ ghost use Rattle.task_check.specs.Occurrences as spec;
 
 use crate::fault::Kept;
 use crate::occurrence::{Occurrence, Role};
-use crate::types::{SharedTypes, expression_type, shared_types};
+use crate::types::{SharedTypes, name_type, shared_types};
 use alp_text::Span;
 use std::alloc::{AllocError, Global};
-use task_ast::types::{is_long, joined_type};
+use task_ast::types::{binary_type, is_long, joined_type, literal_type, unary_type};
 use task_ast::{
     Arm, BinaryOperator, Expr, SharedDeclaration, Stmt, TaskDeclaration, Tree, WordType,
 };
@@ -76,25 +77,80 @@ fn count_role(count: u16, word_type: WordType) -> Role
     }
 }
 
-// An array's name with its index, behind which stand the names so far.
-fn add_element(
-    types: &SharedTypes<'_>,
-    name: Span,
-    index: &Expr<Span>,
-    names: &mut Vec<Occurrence>,
-) -> Result<(), AllocError>
-    requires { HasSharedTypes types.now }
-    ensures { IfOk result (λ _. names.new.items ≡ spec.element_front (types_of types.now) name (expression_of index.now) names.old.items) }
+// An array's name with its index of this type, behind which stand the names so far.
+fn add_element(name: Span, index: WordType, names: &mut Vec<Occurrence>) -> Result<(), AllocError>
+    ensures { IfOk result (λ _. names.new.items ≡ spec.element_of index name names.old.items) }
 {
     let role = Role::Operand {
-        refused: is_long(expression_type(types, index)),
+        refused: is_long(index),
         kept: Kept::Name(name),
     };
     add(names, name, role)?;
     add(names, name, Role::Element)
 }
 
+// What stands at a place of the list gets its role.
+fn put_role(names: &mut Vec<Occurrence>, at: usize, span: Span, role: Role)
+    requires { at < length names.old.items }
+    ensures { names.new.items ≡ set names.old.items at (spec.occurrence span role) }
+{
+    names[at] = Occurrence { span, role };
+}
+
+// The names of an expression, and its type, which is found on the way. What an operator's operands forbid is known when both of them are
+// walked, so its role is put last.
 fn expression_names(
+    types: &SharedTypes<'_>,
+    e: &Expr<Span>,
+    names: &mut Vec<Occurrence>,
+) -> Result<WordType, AllocError>
+    requires { HasSharedTypes types.now }
+    ensures typed { IfOk result (λ of. of ≡ expression_type (types_of types.now) (expression_of e.now)) }
+    ensures names { IfOk result (λ _. names.new.items ≡ spec.expression_names (types_of types.now) (expression_of e.now) names.old.items) }
+{
+    match e {
+        Expr::Number(n) => Ok(literal_type(*n)),
+        Expr::LongNumber(_) => Ok(WordType::Long),
+        Expr::Sense => Ok(WordType::Unsigned),
+        Expr::Name(name) => {
+            add(names, *name, Role::Scalar)?;
+            Ok(name_type(types, *name))
+        }
+        Expr::Element(name, index) => {
+            let index = expression_names(types, index, names)?;
+            add_element(*name, index, names)?;
+            Ok(name_type(types, *name))
+        }
+        Expr::Unary(op, inner) => {
+            let inner = expression_names(types, inner, names)?;
+            Ok(unary_type(*op, inner))
+        }
+        Expr::Binary(op, left, right) => {
+            let right = expression_names(types, right, names)?;
+            let at = names.len();
+            add(names, op.span, operator_role(op.operator, right))?;
+            let left = expression_names(types, left, names)?;
+            let role = operator_role(op.operator, joined_type(left, right));
+            put_role(names, at, op.span, role);
+            Ok(binary_type(op.operator, left, right))
+        }
+        Expr::ShortCircuit(_, left, right) => {
+            expression_names(types, right, names)?;
+            expression_names(types, left, names)?;
+            Ok(WordType::Int)
+        }
+        Expr::Shift(_, left, count) => {
+            let at = names.len();
+            add(names, count.span, count_role(count.value, WordType::Int))?;
+            let left = expression_names(types, left, names)?;
+            put_role(names, at, count.span, count_role(count.value, left));
+            Ok(left)
+        }
+    }
+}
+
+// The names of an expression whose type nothing asks for.
+fn whole_names(
     types: &SharedTypes<'_>,
     e: &Expr<Span>,
     names: &mut Vec<Occurrence>,
@@ -102,30 +158,23 @@ fn expression_names(
     requires { HasSharedTypes types.now }
     ensures { IfOk result (λ _. names.new.items ≡ spec.expression_names (types_of types.now) (expression_of e.now) names.old.items) }
 {
-    match e {
-        Expr::Number(_) | Expr::LongNumber(_) | Expr::Sense => Ok(()),
-        Expr::Name(name) => add(names, *name, Role::Scalar),
-        Expr::Element(name, index) => {
-            expression_names(types, index, names)?;
-            add_element(types, *name, index, names)
-        }
-        Expr::Unary(_, inner) => expression_names(types, inner, names),
-        Expr::Binary(op, left, right) => {
-            let operands = joined_type(expression_type(types, left), expression_type(types, right));
-            expression_names(types, right, names)?;
-            add(names, op.span, operator_role(op.operator, operands))?;
-            expression_names(types, left, names)
-        }
-        Expr::ShortCircuit(_, left, right) => {
-            expression_names(types, right, names)?;
-            expression_names(types, left, names)
-        }
-        Expr::Shift(_, left, count) => {
-            let role = count_role(count.value, expression_type(types, left));
-            add(names, count.span, role)?;
-            expression_names(types, left, names)
-        }
-    }
+    expression_names(types, e, names)?;
+    Ok(())
+}
+
+// The names of an element that is assigned, behind which stand the names so far.
+fn element_names(
+    types: &SharedTypes<'_>,
+    name: Span,
+    index: &Expr<Span>,
+    names: &mut Vec<Occurrence>,
+) -> Result<(), AllocError>
+    requires { HasSharedTypes types.now }
+    ensures { IfOk result (λ _. names.new.items ≡ spec.element_front (types_of types.now) name (expression_of index.now)
+        (spec.expression_names (types_of types.now) (expression_of index.now) names.old.items)) }
+{
+    let index = expression_names(types, index, names)?;
+    add_element(name, index, names)
 }
 
 fn value_names(
@@ -137,7 +186,7 @@ fn value_names(
     ensures { IfOk result (λ _. names.new.items ≡ spec.value_names (types_of types.now) (option_map expression_of value.now) names.old.items) }
 {
     match value {
-        Some(e) => expression_names(types, e, names),
+        Some(e) => whole_names(types, e, names),
         None => Ok(()),
     }
 }
@@ -169,13 +218,12 @@ fn statement_names(
             )
         }
         Stmt::Assign(name, e) => {
-            expression_names(types, e, names)?;
+            whole_names(types, e, names)?;
             add(names, *name, Role::Scalar)
         }
         Stmt::Store(name, index, e) => {
-            expression_names(types, e, names)?;
-            expression_names(types, index, names)?;
-            add_element(types, *name, index, names)
+            whole_names(types, e, names)?;
+            element_names(types, *name, index, names)
         }
         Stmt::If(arms, None) => arms_names(types, arms, names),
         Stmt::If(arms, Some(last)) => {
@@ -195,7 +243,7 @@ fn statement_names(
             add(names, *tested, Role::Counter)?;
             add(names, *variable, Role::Counter)
         }
-        Stmt::Emit(e) => expression_names(types, e, names),
+        Stmt::Emit(e) => whole_names(types, e, names),
         Stmt::TransitionTo(name) => add(names, *name, Role::Target),
     }
 }
@@ -214,7 +262,7 @@ fn arms_names(
 {
     for i in (0..arms.len()).rev() {
         block_names(types, &arms[i].block, names)?;
-        expression_names(types, &arms[i].condition, names)?;
+        whole_names(types, &arms[i].condition, names)?;
     }
     Ok(())
 }

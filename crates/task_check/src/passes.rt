@@ -91,21 +91,22 @@ fn check_paths(
     })
 }
 
-// The checks behind those of names, of which the walk tells.
+// The checks behind those of names, of which the walk tells. The names are let go before the source is built.
 fn check_named(
     alloc: Global,
     source: &[u8],
     tree: Tree,
-    names: &[Occurrence],
+    names: Vec<Occurrence>,
     walk: Walk,
 ) -> Result<Checked, CheckFault>
     requires short { length source.now < 2 ^ 32 - 1 }
-    requires names { names.now ≡ occurrences.program_names source.now (program_of tree) }
-    requires walked { IsWalked source.now names.now names.now walk }
+    requires names { names.items ≡ occurrences.program_names source.now (program_of tree) }
+    requires walked { IsWalked source.now names.items names.items walk }
     ensures answer { MatchResult result (λ c. IsAccepted source.now (program_of tree) (program_of c.source))
         (λ e. IsRefusedOrMemory source.now (program_of tree) e) }
     ensures lines { IfOk result (λ c. c.task_lines.items ≡ map (λ t. line_of source.now t.name.from) c.source.tasks.items) }
 {
+    drop(names);
     let (wrong_use, too_many) = (walk.wrong_use, walk.too_many);
     match wrong_use {
         Some(fault) => Err(fault),
@@ -124,10 +125,10 @@ fn check_names(
     alloc: Global,
     source: &[u8],
     tree: Tree,
-    names: &[Occurrence],
+    names: Vec<Occurrence>,
 ) -> Result<Checked, CheckFault>
     requires short { length source.now < 2 ^ 32 - 1 }
-    requires names { names.now ≡ occurrences.program_names source.now (program_of tree) }
+    requires names { names.items ≡ occurrences.program_names source.now (program_of tree) }
     ensures answer { MatchResult result (λ c. IsAccepted source.now (program_of tree) (program_of c.source))
         (λ e. IsRefusedOrMemory source.now (program_of tree) e) }
     ensures lines { IfOk result (λ c. c.task_lines.items ≡ map (λ t. line_of source.now t.name.from) c.source.tasks.items) }
@@ -137,8 +138,8 @@ fn check_names(
     if names.len() >= u32::MAX as usize {
         return Err(CheckFault::Memory);
     }
-    let globals = globals_of(alloc, source, names)?;
-    let walk = walk_names(alloc, source, names, &globals)?;
+    let globals = globals_of(alloc, source, &names)?;
+    let walk = walk_names(alloc, source, &names, &globals)?;
     check_named(alloc, source, tree, names, walk)
 }
 
@@ -150,5 +151,5 @@ pub fn check(alloc: Global, source: &[u8], tree: Tree) -> Result<Checked, CheckF
     ensures lines { IfOk result (λ c. c.task_lines.items ≡ map (λ t. line_of source.now t.name.from) c.source.tasks.items) }
 {
     let names = program_names(alloc, source, &tree)?;
-    check_names(alloc, source, tree, &names)
+    check_names(alloc, source, tree, names)
 }

@@ -1,8 +1,6 @@
-//! The types of names, and so of expressions, as far as the uses of a source ask for them.
+//! The types of names, as far as the uses of a source ask for them.
 
 ghost use Rattle.std.specs.Prelude.{◌≡◌, IfOk};
-ghost use Rattle.task_ast.specs.View.{expression_of};
-ghost use Rattle.task_ast.specs.Types.{expression_type};
 ghost use Rattle.task_check.specs.Tables.{HasTypes};
 ghost use Rattle.task_check.specs.Typed.{HasSharedTypes, types_of};
 
@@ -10,8 +8,7 @@ use crate::table::{Table, empty, get, set};
 use crate::text::text_of;
 use alp_text::Span;
 use std::alloc::{AllocError, Global};
-use task_ast::types::{binary_type, literal_type, unary_type};
-use task_ast::{Expr, SharedDeclaration, WordType};
+use task_ast::{SharedDeclaration, WordType};
 
 /// The shared variables of a source, and a table of their types by their names.
 #[derive(Drop)]
@@ -59,30 +56,10 @@ pub fn shared_types<'a>(
     })
 }
 
-fn name_type(types: &SharedTypes<'_>, name: Span) -> WordType
+/// The type of a name.
+pub fn name_type(types: &SharedTypes<'_>, name: Span) -> WordType
     requires { HasSharedTypes types.now }
     ensures { result ≡ types_of types.now name }
 {
     get(&types.table, text_of(types.source, name)).unwrap_or(WordType::Unsigned)
-}
-
-/// The type of an expression.
-pub fn expression_type(types: &SharedTypes<'_>, e: &Expr<Span>) -> WordType
-    requires { HasSharedTypes types.now }
-    ensures { result ≡ expression_type (types_of types.now) (expression_of e.now) }
-{
-    match e {
-        Expr::Number(n) => literal_type(*n),
-        Expr::LongNumber(_) => WordType::Long,
-        Expr::Name(name) | Expr::Element(name, _) => name_type(types, *name),
-        Expr::Sense => WordType::Unsigned,
-        Expr::Unary(op, operand) => unary_type(*op, expression_type(types, operand)),
-        Expr::Binary(op, a, b) => binary_type(
-            op.operator,
-            expression_type(types, a),
-            expression_type(types, b),
-        ),
-        Expr::Shift(_, operand, _) => expression_type(types, operand),
-        Expr::ShortCircuit(_, _, _) => WordType::Int,
-    }
 }

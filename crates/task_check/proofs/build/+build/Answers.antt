@@ -1,6 +1,6 @@
 use Rattle.std.proofs.Common.{arith, ◌∙◌, ap, sym, map}
 use Rattle.task_ast.specs.Tree as node
-use Rattle.task_ast.specs.View.{statement_of, tested_of}
+use Rattle.task_ast.specs.View.{statement_of, tested_of, block_view}
 use Rattle.task_check.specs.LookedUp as spec
 use Rattle.task_check.specs.Parts as parts
 use Rattle.task_check.proofs.Parts.{read_on_through, block_back_list, block_variables_list, block_targets_list, push_variables, push_targets}
@@ -9,7 +9,8 @@ use Rattle.task_check.proofs.build.+build.Goals as goal
 
 pub block-returns-clause-place : goal.block-returns-clause-place
 block-returns-clause-place t c =
-    block_back_list _ ∙ ap node.block_of (all_read statement_of _ c.args.body.now c.loop-i.i (omega arith) c.loop-i.invariant.0)
+    ap (λ xs. spec.block_back (block_view xs)) c.shrink_to_fit.ensures.items ∙ block_back_list _
+    ∙ ap node.block_of (all_read statement_of _ c.args.body.now c.loop-i.i (omega arith) c.loop-i.invariant.0)
 
 pub block-loop-i-preserved : goal.block-loop-i-preserved
 block-loop-i-preserved t c = (
@@ -30,7 +31,11 @@ arms-loop-i-preserved t c = (
 )
 
 pub block-returns-clause-variables : goal.block-returns-clause-variables
-block-returns-clause-variables t c = c.loop-i.invariant.1 ∙ sym (block_variables_list (map statement_of c.loop-i.found.items) c.loop-i.rest.variables.now)
+block-returns-clause-variables t c =
+    c.loop-i.invariant.1 ∙ sym (block_variables_list (map statement_of c.loop-i.found.items) c.loop-i.rest.variables.now)
+    ∙ ap (λ xs. spec.block_variables (block_view xs) c.loop-i.rest.variables.now) (sym c.shrink_to_fit.ensures.items)
 
 pub block-returns-clause-targets : goal.block-returns-clause-targets
-block-returns-clause-targets t c = c.loop-i.invariant.2 ∙ sym (block_targets_list (map statement_of c.loop-i.found.items) c.loop-i.rest.targets.now)
+block-returns-clause-targets t c =
+    c.loop-i.invariant.2 ∙ sym (block_targets_list (map statement_of c.loop-i.found.items) c.loop-i.rest.targets.now)
+    ∙ ap (λ xs. spec.block_targets (block_view xs) c.loop-i.rest.targets.now) (sym c.shrink_to_fit.ensures.items)
