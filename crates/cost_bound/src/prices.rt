@@ -4,11 +4,11 @@ ghost use Rattle.task_ast.specs.Tree.{Block, choice_of, choose};
 ghost use Rattle.task_ast.specs.declared.names.VariableName.{VariableName};
 ghost use Rattle.task_ast.specs.declared.names.TaskName.{TaskName};
 ghost use Rattle.task_ast.specs.View.{expression_of, statement_of, tested_of, block_view};
-ghost use Rattle.task_ast.specs.Types.{by_width};
+ghost use Rattle.task_ast.specs.Types.{by_width, type_of};
 ghost use Rattle.cost_bound.specs.Table.{capped, operator_price, expression_price, statement_price, block_price, conditions_price, blocks_price};
 ghost use Rattle.cost_bound.specs.Table.{blocks_together, turns_together, words_column};
 
-use task_ast::types::{joined_type, type_of};
+use task_ast::types::{binary_type, joined_type, literal_type, unary_type};
 use task_ast::{Arm, BinaryOperator, Expr, Stmt, TaskName, VariableName, WordType};
 
 /// One column of the table of prices: what each kind of node costs, its parts aside.
@@ -112,35 +112,53 @@ fn operator_price(column: &Column, op: BinaryOperator, operands: WordType) -> u6
     }
 }
 
+// What an expression costs in a column, and its type, which its parts' types tell on the way.
+fn priced(column: &Column, e: &Expr<VariableName>) -> (u64, WordType)
+    ensures price { result.0 ≡ capped (expression_price column.now (expression_of e.now)) }
+    ensures typed { result.1 ≡ type_of (expression_of e.now) }
+{
+    match e {
+        Expr::Number(n) => (plus(column.leaf, 0), literal_type(*n)),
+        Expr::LongNumber(_) => (plus(column.long, 0), WordType::Long),
+        Expr::Name(x) => {
+            let price = by_width(x.word_type, column.leaf, column.long);
+            (plus(price, 0), x.word_type)
+        }
+        Expr::Element(x, index) => {
+            let (index, _) = priced(column, index);
+            (plus(column.element, index), x.word_type)
+        }
+        Expr::Sense => (plus(column.leaf, 0), WordType::Unsigned),
+        Expr::Unary(op, inner) => {
+            let (price, of) = priced(column, inner);
+            let own = by_width(of, column.operator, column.long);
+            (plus(own, price), unary_type(*op, of))
+        }
+        Expr::Binary(op, a, b) => {
+            let (left, of) = priced(column, a);
+            let (right, with) = priced(column, b);
+            let own = operator_price(column, op.operator, joined_type(of, with));
+            let word_type = binary_type(op.operator, of, with);
+            (plus(own, plus(left, right)), word_type)
+        }
+        Expr::Shift(_, left, _) => {
+            let (price, of) = priced(column, left);
+            let own = by_width(of, column.shift, column.long_shift);
+            (plus(own, price), of)
+        }
+        Expr::ShortCircuit(_, a, b) => {
+            let (left, of) = priced(column, a);
+            let (right, with) = priced(column, b);
+            let own = by_width(joined_type(of, with), column.operator, column.long);
+            (plus(own, plus(left, right)), WordType::Int)
+        }
+    }
+}
+
 fn expression_price(column: &Column, e: &Expr<VariableName>) -> u64
     ensures { result ≡ capped (expression_price column.now (expression_of e.now)) }
 {
-    match e {
-        Expr::Number(_) | Expr::Sense => plus(column.leaf, 0),
-        Expr::LongNumber(_) => plus(column.long, 0),
-        Expr::Name(x) => plus(by_width(x.word_type, column.leaf, column.long), 0),
-        Expr::Element(_, index) => plus(column.element, expression_price(column, index)),
-        Expr::Unary(_, inner) => plus(
-            by_width(type_of(inner), column.operator, column.long),
-            expression_price(column, inner),
-        ),
-        Expr::Binary(op, a, b) => plus(
-            operator_price(column, op.operator, joined_type(type_of(a), type_of(b))),
-            plus(expression_price(column, a), expression_price(column, b)),
-        ),
-        Expr::Shift(_, left, _) => plus(
-            by_width(type_of(left), column.shift, column.long_shift),
-            expression_price(column, left),
-        ),
-        Expr::ShortCircuit(_, a, b) => plus(
-            by_width(
-                joined_type(type_of(a), type_of(b)),
-                column.operator,
-                column.long,
-            ),
-            plus(expression_price(column, a), expression_price(column, b)),
-        ),
-    }
+    priced(column, e).0
 }
 
 #[cycle(prices)]
@@ -205,12 +223,9 @@ fn conditions_price(column: &Column, arms: &[Arm<VariableName, TaskName>]) -> u6
 {
     let mut n = 0;
     for i in (0..arms.len()).rev() {
-        let condition = &arms[i].condition;
-        let own = plus(
-            column.condition,
-            by_width(type_of(condition), 0, column.long_condition),
-        );
-        n = plus(plus(own, expression_price(column, condition)), n);
+        let (price, of) = priced(column, &arms[i].condition);
+        let own = plus(column.condition, by_width(of, 0, column.long_condition));
+        n = plus(plus(own, price), n);
     }
     n
 }
