@@ -8,6 +8,7 @@ mod Written
 mod Placing
 mod Ready
 mod Laid
+mod One
 pub mod Interface
 pub use Rattle.memory_map.proofs as memory_map
 pub use Rattle.linked_code.proofs.fram_board as fram_board

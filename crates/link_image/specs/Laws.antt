@@ -54,3 +54,8 @@ pub record HasStates (text : List ℕ) (p : CheckedProgram) (allow : Allow) (l :
 abbrev pub ImagesHaveStates : Type 0
 ImagesHaveStates = (text : List ℕ) (p : CheckedProgram) (allow : Allow) (image : ImageValue) → IsAcceptedText text p allow
     → (c : IsCompiled text p allow image) → HasStates text p allow c.layout
+
+-- an accepted source has one image
+abbrev pub ImagesAreOne : Type 0
+ImagesAreOne = (text : List ℕ) (p : CheckedProgram) (allow : Allow) (a b : ImageValue) → IsAcceptedText text p allow → IsCompiled text p allow a
+    → IsCompiled text p allow b → a ≡ b

@@ -1,9 +1,11 @@
 //! Laws of the images of accepted sources. The functions do nothing: their contracts are the laws.
 
-ghost use Rattle.link_image.specs.Laws.{ImagesAreFresh, ImagesHaveStates, MapsFindStates};
+ghost use Rattle.link_image.specs.Laws.{ImagesAreFresh, ImagesAreOne, ImagesHaveStates, MapsFindStates};
 
 use linked_code::{layouts_have_room, linked_is_code};
 use lower::laws::statements_keep_to_words;
+use privatise::one_layout;
+use war_analysis::one_plan;
 
 /// Of an accepted source's image the code stands from the boot's address on, which is the reset vector, and has room there; before
 /// anything was done its world rests at the source's first state.
@@ -13,6 +15,14 @@ pub fn images_are_fresh()
     layouts_have_room();
     linked_is_code();
     statements_keep_to_words();
+}
+
+/// An accepted source has one image.
+pub fn images_are_one()
+    ensures { ImagesAreOne }
+{
+    one_plan();
+    one_layout();
 }
 
 /// Where a world rests at a state of the source, the image's map finds the state's words in it.

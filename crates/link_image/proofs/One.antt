@@ -1,0 +1,51 @@
+-- An accepted source has one image: its plan and its layout are one, they say each word, and the map.
+use Rattle.std.proofs.Common.{◌≡◌, ◌∙◌, ℕ, ◌+◌, ◌*◌, ◌<◌, List, length, get_or, ap, arith, sym, subst, Some, slice_index}
+use Rattle.std.proofs.lemmas.List.{same_lists, get_or_default}
+use Rattle.memory_map.specs.address_space.Limits.{fram_first, fram_words}
+use Rattle.linked_code.specs.cost_bound.declared.allowance.Allow.{Allow}
+use Rattle.linked_code.specs.cost_bound.Allowance.{IsAllowed}
+use Rattle.whole_programs.specs.source_values.Runs.{CheckedProgram}
+use Rattle.war_analysis.specs.PlanValue.{TaskPlanValue}
+use Rattle.war_analysis.specs.Laws.{OnePlan}
+use Rattle.privatise.specs.Layouts.{IsLayout}
+use Rattle.privatise.specs.Laws.{OneLayout}
+use Rattle.memory_map.specs.MemoryMap.{MemoryMap}
+use Rattle.image_text.specs.ImageValue.{ImageValue, place_of}
+use Rattle.linked_code.specs.machine_effects.Machine.{IsFram, fram_of}
+use Rattle.source_maps.specs.Maps.{map_of}
+use Rattle.link_image.specs.Words.{AreImageWords, image_word}
+use Rattle.link_image.specs.Laws.{ImagesAreOne}
+use Rattle.link_image.proofs.Fram.{fram_at}
+
+-- words of the FRAM that are the same at each address
+same_words : (f : ℕ → ℕ) (xs ys : List ℕ) → length xs ≡ fram_words → length ys ≡ fram_words → ((a : ℕ) → IsFram a → fram_of xs a ≡ f a)
+    → ((a : ℕ) → IsFram a → fram_of ys a ≡ f a)
+    → xs ≡ ys
+same_words f xs ys count same x y = same_lists xs ys (count ∙ sym same) each
+  where
+    stands : (k : ℕ) → k < length xs → IsFram (fram_first + 2 * k)
+    stands k h = record { even = omega arith; low = omega arith; high = omega (arith, count, h) }
+
+    place : (k : ℕ) → place_of (fram_first + 2 * k) ≡ k
+    place k = omega arith
+
+    at : (ws : List ℕ) (k : ℕ) → k < length xs → slice_index ws k ≡ fram_of ws (fram_first + 2 * k)
+    at ws k h = ap (slice_index ws) (sym (place k)) ∙ sym (fram_at ws (fram_first + 2 * k) (stands k h))
+
+    each : (k d : ℕ) → k < length xs → get_or xs k d ≡ get_or ys k d
+    each k d h =
+        let a = fram_first + 2 * k in
+        let is = stands k h in
+        get_or_default xs k d 0 h ∙ at xs k h ∙ x a is ∙ sym (y a is) ∙ sym (at ys k h) ∙ get_or_default ys k 0 d (omega (arith, count, same, h))
+
+same_image : (a b : ImageValue) → a.words ≡ b.words → a.map ≡ b.map → a ≡ b
+same_image a b words map = λ j. record { words = words j; map = map j }
+
+pub images_are_one : ((p : CheckedProgram) → OnePlan p) → ((p : CheckedProgram) (allow : Allow) → IsAllowed p allow → OneLayout p allow) → ImagesAreOne
+images_are_one one_plan one_layout text p allow a b ok x y =
+    let plans : y.plans ≡ x.plans = one_plan p y.plans x.plans y.is_plan x.is_plan in
+    let other = subst (λ ps. IsLayout p allow ps y.layout) plans y.is_layout in
+    let layout : x.layout ≡ y.layout = one_layout p allow ok.allowed x.plans x.layout y.layout x.is_plan x.is_layout other in
+    let said = subst (λ l. AreImageWords p l b.words) (sym layout) y.words in
+    let words = same_words (image_word p x.layout) a.words b.words x.words.count said.count x.words.each said.each in
+    same_image a b words (x.map ∙ ap (λ l. Some (map_of text p l allow)) layout ∙ sym y.map)
