@@ -57,6 +57,17 @@ variable_next before fram vs d i h =
     ∙ told_both before fram (variable_numbers v.name v.address v.value_type v.length) (shared_numbers (drop (suc i) vs))
     ∙ ap (λ j. told_lines before fram (variable_numbers v.name v.address v.value_type v.length) ++ told_lines before fram (shared_numbers (drop j vs))) e
 
+-- the same of a variable that is looked at
+pub variable_of : (before fram : List ℕ) (vs us : List Variable) (v : Variable) (i : ℕ) → us ≡ vs → v ≡ get_or us i v → i < length us
+    → told_lines before fram (shared_numbers (drop i vs))
+    ≡ told_lines before fram (variable_numbers v.name v.address v.value_type v.length) ++ told_lines before fram (shared_numbers (drop (i + 1) vs))
+variable_of before fram vs us v i e is h =
+    let P : List Variable → Type 0 = λ x. i < length x in
+    let at : v ≡ get_or vs i v = is ∙ ap (λ x. get_or x i v) e in
+    variable_next before fram vs v i (subst P e h)
+    ∙ ap (λ (u : Variable). told_lines before fram (variable_numbers u.name u.address u.value_type u.length)
+    ++ told_lines before fram (shared_numbers (drop (i + 1) vs))) (sym at)
+
 -- the words of an array from an index on
 abbrev pub words_left : List ℕ → ℕ → ℕ → ℕ → List SharedNumber
 words_left name a n i = array_words name (a + 2 * i) i (n - i)

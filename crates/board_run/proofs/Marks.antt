@@ -109,14 +109,18 @@ followed_put t fram place next word f inside is none = record {
         let at : i ≡ place = grind (arith, nat_tests, e) in
         let P : ℕ → Type 0 = λ k. slice_index (slice_set t.words place word) k ≡ slice_index fram k in
         subst P (sym at) (get_or-set_same t.words place word 0 (omega arith) ∙ is)
+
     elsewhere : (i : ℕ) → (i == place) ≡ false → slice_index (slice_set t.words place word) i ≡ slice_index t.words i
     elsewhere i e = get_or-set_other t.words place i word 0 (λ at. let c : (i == place) ≡ true = grind (arith, nat_tests, at) in let d : true ≡ false = sym c ∙ e in cc)
+
     earlier : (i : ℕ) (before : Bool) → i < fram_words → i < next → (i == place) ≡ false → nat_lt i place ≡ before → slice_index t.words i ≡ slice_index fram i
     earlier i true small to e o = f.done i small (grind (arith, nat_tests, o))
     earlier i false small to e o = f.left i small (none i (grind (arith, nat_tests, o, e)) to)
+
     by_place : (i : ℕ) → i < fram_words → i < next → (at : Bool) → (i == place) ≡ at → slice_index (slice_set t.words place word) i ≡ slice_index fram i
     by_place i small to true e = here i e
     by_place i small to false e = elsewhere i e ∙ earlier i (nat_lt i place) small to e refl
+
     at_place : (i : ℕ) → i < fram_words → (IsMarked (record t { words = slice_set t.words place word }) i → ⊥) → (at : Bool) → (i == place) ≡ at
         → slice_index (slice_set t.words place word) i ≡ slice_index fram i
     at_place i small not true e = here i e

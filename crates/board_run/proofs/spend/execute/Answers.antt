@@ -1,6 +1,7 @@
 use Rattle.std.proofs.Common.{arith, sym, ◌∙◌}
 use Rattle.board_run.specs.Charges.{measure_of}
 use Rattle.board_run.specs.State.{seen_so}
+use Rattle.board_run.proofs.Written.{follows_but}
 use Rattle.board_run.proofs.Turns.{too_dear, refused, turned, turned_partly}
 use Rattle.board_run.proofs.spend.execute.Goals as goal
 
@@ -27,3 +28,7 @@ returns-clause-turn g c = turned (seen_so c.args.watch.now) (seen_so c.note.new.
     c.requires.some c.requires.next (omega (arith, c.if-price-left.false, c.price-price.ensures)) (omega (arith, c.price-price.ensures))
     (sym c.execute.ensures.answer ∙ c.in-Ok.is) c.execute.ensures.board
     c.in_ok-note.ensures.bytes.whole c.in_ok-note.ensures.history
+
+pub note-requires : goal.note-requires
+note-requires g c = follows_but c.args.watch.now c.args.board.now c.execute.new.self c.args.instruction.now c.in-Ok.done c.taken-taken.ensures.valid c.requires.next (sym c.execute.ensures.answer ∙ c.in-Ok.is) c.execute.ensures.board
+    c.requires.follows

@@ -53,4 +53,4 @@ loop-i-preserved g c = record {
 
 pub returns-clause-bytes : goal.returns-clause-bytes
 returns-clause-bytes g c = lines_end tt _ _ _ _ (ap (told_lines c.args.shadow.now.words c.args.board.now.fram)
-    (no_words_left _ _ _ _ (omega (arith, c.loop-i-test.false)))) c.loop-i.invariant.lines
+    (no_words_left c.args.v.now.name c.args.v.now.address c.args.length c.loop-i.i (omega (arith, c.loop-i-test.false)))) c.loop-i.invariant.lines
