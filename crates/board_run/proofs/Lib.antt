@@ -3,5 +3,7 @@ pub mod Spends
 pub mod Charges
 pub mod Placed
 pub mod Changes
+pub mod Written
+pub mod Marks
 pub mod Transitions
 pub mod Interface

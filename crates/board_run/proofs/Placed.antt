@@ -63,7 +63,7 @@ behind_scalar vs v long h e all none is =
     let rest = rest_are v (behind_first vs) are in
     (rest, begins (behind_first vs) rest, subst Q (sym is) (scalar_stands v (are 0 v (omega arith)) none))
 
-in_array : (a n i : ℕ) → IsFramWord a → fits a n ≡ true → i < n → IsFramWord (a + 2 * i)
+pub in_array : (a n i : ℕ) → IsFramWord a → fits a n ≡ true → i < n → IsFramWord (a + 2 * i)
 in_array a n i h f l =
     let p = and_parts (nat_lt 0 n) (nat_le (a + 2 * n) 65536) f in
     let q : nat_le (a + 2 * n) 65536 ≡ true = p.1 in
@@ -78,7 +78,7 @@ index_in vs v rest n i e len h =
     let Q : Option ℕ → Type 0 = λ o. i < number_count o in
     subst Q len (subst P e h)
 
-fits_so : (v : Variable) (n : ℕ) → v.length ≡ Some n → IsVariable v → fits v.address n ≡ true
+pub fits_so : (v : Variable) (n : ℕ) → v.length ≡ Some n → IsVariable v → fits v.address n ≡ true
 fits_so v n len h = ap (λ o. fits v.address (word_count v.value_type o)) (sym len) ∙ h.fits
 
 -- behind the last word of an array
@@ -94,9 +94,9 @@ behind_array vs v n i h e all len index =
     let word = in_array v.address n i v_is.address (fits_so v n len v_is) (index_in vs v (behind_first vs) n i split len index) in
     (rest, begins (behind_first vs) rest, (word, λ l. cc))
 
-array_next : (name : List ℕ) (a : ℕ) (t : ValueType) (i n : ℕ) → i < n → numbers_from name a t (Some n) i
-    ≡ record { name = name; index = Some i; address = a + 2 * i; is_long = false } ∷ numbers_from name a t (Some n) (i + 1)
-array_next name a t i n h =
+pub array_next : (name : List ℕ) (a i n : ℕ) → i < n → array_words name (a + 2 * i) i (n - i)
+    ≡ record { name = name; index = Some i; address = a + 2 * i; is_long = false } ∷ array_words name (a + 2 * (i + 1)) (i + 1) (n - (i + 1))
+array_next name a i n h =
     ap (array_words name (a + 2 * i) i) (let e : n - i ≡ suc (n - (i + 1)) = omega arith in e)
     ∙ ap (λ b. record { name = name; index = Some i; address = a + 2 * i; is_long = false } ∷ array_words name b (i + 1) (n - (i + 1)))
     (let e : a + 2 * i + 2 ≡ a + 2 * (i + 1) = omega arith in e)
@@ -107,6 +107,6 @@ cut_in_array vs v n i h e len less =
     let split = first_and_rest vs v h e in
     let rest : List SharedNumber = shared_numbers (behind_first vs) in
     ap (λ x. numbers_left x i) split ∙ ap (λ o. numbers_from v.name v.address v.value_type o i ++ rest) len
-    ∙ ap (λ x. x ++ rest) (array_next v.name v.address v.value_type i n (omega arith))
+    ∙ ap (λ x. x ++ rest) (array_next v.name v.address i n (omega arith))
     ∙ ap (λ x. record { name = v.name; index = Some i; address = v.address + 2 * i; is_long = false } ∷ x)
     (ap (λ o. numbers_from v.name v.address v.value_type o (i + 1) ++ rest) (sym len) ∙ ap (λ x. numbers_left x (i + 1)) (sym split))

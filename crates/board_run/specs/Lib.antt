@@ -1,6 +1,7 @@
 pub mod Charges
 pub mod History
 pub mod Report
+pub mod Shadow
 pub mod Parts
 pub mod State
 pub mod Watched

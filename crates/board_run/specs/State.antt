@@ -1,11 +1,18 @@
 -- What a watch keeps.
-use Rattle.std.specs.Prelude.{◌≡◌, ℕ, ◌+◌, ◌*◌, ◌-◌, ◌<◌, true, List, [], ◌∷◌, ◌++◌, Option, Some, None}
+use Rattle.std.specs.Prelude.{◌≡◌, ℕ, ◌+◌, ◌*◌, ◌-◌, ◌<◌, true, List, [], ◌∷◌, ◌++◌, Option, Some, None, option_map}
 use Rattle.image_text.specs.image_map.declared.parts.ValueType.{ValueType}
 use Rattle.image_text.specs.image_map.declared.parts.Variable.{Variable}
 use Rattle.image_text.specs.image_map.MapValue.{MapValue, IsFramWord}
 use Rattle.board_run.specs.declared.state.State.{State}
+use Rattle.board_run.specs.declared.seen.Seen.{Seen}
 use Rattle.board_run.specs.declared.numbers.PlacedNumber.{PlacedNumber}
-use Rattle.board_run.specs.History.{History, SharedNumber, array_words, scalar_number, shared_numbers}
+use Rattle.board_run.specs.History.{History, SharedNumber, array_words, scalar_number, shared_numbers, values_in, changed_lines}
+use Rattle.board_run.specs.Shadow.{ShadowValue, Covers, CoversBut}
+
+-- the shared numbers of a map in the words of a shadow
+abbrev pub shared_in : Option MapValue → List ℕ → List ℕ
+shared_in None words = []
+shared_in (Some m) words = values_in words (shared_numbers m.variables)
 
 -- what is kept, with the map, as a history
 abbrev pub history_of : Option MapValue → State → History
@@ -14,7 +21,7 @@ history_of m s = record {
   gate = s.gate;
   completed = s.completed;
   task = s.task;
-  shared = s.shared.items;
+  shared = shared_in m s.shadow.words;
   accepted = s.accepted.items;
   more = s.more;
   since = s.since;
@@ -49,3 +56,28 @@ numbers_left (v ∷ vs) i = numbers_from v.name v.address v.value_type v.length 
 abbrev pub HasIndex : List Variable → ℕ → Type 0
 HasIndex [] i = Unit {0}
 HasIndex (v ∷ vs) i = i < number_count v.length
+
+-- what has been seen, as it stands in memory
+abbrev pub seen_so : Seen → History
+seen_so s = history_of (option_map (λ m. m.now) s.map) s.state
+
+-- with a map, the shadow covers a FRAM
+abbrev pub FollowsBy : Option MapValue → ShadowValue → List ℕ → Type 0
+FollowsBy None s fram = Unit {0}
+FollowsBy (Some m) s fram = Covers s fram
+
+-- the same but for the word that an instruction wrote
+abbrev pub FollowsButBy : Option MapValue → Option ℕ → ShadowValue → List ℕ → Type 0
+FollowsButBy None wrote s fram = Unit {0}
+FollowsButBy (Some m) wrote s fram = CoversBut wrote s fram
+
+-- what is seen follows a FRAM
+abbrev pub Follows : Seen → List ℕ → Type 0
+Follows s fram = FollowsBy (option_map (λ m. m.now) s.map) s.state.shadow fram
+
+abbrev pub FollowsBut : Option ℕ → Seen → List ℕ → Type 0
+FollowsBut wrote s fram = FollowsButBy (option_map (λ m. m.now) s.map) wrote s.state.shadow fram
+
+-- the lines of shared numbers whose words were otherwise before
+abbrev pub told_lines : List ℕ → List ℕ → List SharedNumber → List ℕ
+told_lines before fram ps = changed_lines ps (values_in before ps) fram

@@ -2,6 +2,8 @@
 #![tactic(auto)]
 
 mod numbers;
+mod seen;
+mod shadow;
 mod spend;
 mod state;
 mod trace_run;

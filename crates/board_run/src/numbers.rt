@@ -52,3 +52,10 @@ pub fn cut_number(variables: &[Variable], i: u16) -> Option<(PlacedNumber<'_>, &
         }
     }
 }
+
+/// The number of a low and a high word.
+pub fn long_of(low: u16, high: u16) -> u32
+    ensures { result ≡ low + 65536 * high }
+{
+    low as u32 + 65536 * high as u32
+}

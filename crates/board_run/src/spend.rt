@@ -1,13 +1,14 @@
 //! One charge of a run.
-ghost use Rattle.std.specs.Prelude.{◌≡◌, ◌+◌, ◌-◌, ◌^◌, ◌<◌, ◌≤◌};
+ghost use Rattle.std.specs.Prelude.{◌≡◌, ◌+◌, ◌-◌, ◌^◌, ◌<◌, ◌≤◌, OnOk};
 ghost use Rattle.alp_io.specs.Count.{HasCause};
 ghost use Rattle.fram_board.specs.Board.{IsNextInstruction};
 ghost use Rattle.fram_board.specs.Steps.{AreNextWords};
 ghost use Rattle.fram_board.specs.Run.{price};
 ghost use Rattle.board_run.specs.Charges.{measure_of};
+ghost use Rattle.board_run.specs.State.{seen_so, Follows};
 ghost use Rattle.board_run.specs.Parts.{IsTurn, IsSpent};
 
-use crate::watch::Watch;
+use crate::seen::Seen;
 use alp_io::{Failed, Report, Sink};
 use energy_trace::ChargeKind;
 use fram_board::Board;
@@ -44,22 +45,26 @@ fn execute<S: Sink>(
     instruction: &Instr,
     kind: ChargeKind,
     left: u32,
-    watch: &mut Watch<'_>,
+    watch: &mut Seen<'_>,
     report: &mut Report<'_, S>,
 ) -> Result<Turn, Failed>
     requires next { IsNextInstruction board.old instruction.now }
     requires some { 0 < left }
+    requires follows { Follows watch.old board.old.fram }
     requires accepted { board.old.receiver.accepted < 2 ^ 64 - 1 }
     requires repeats { board.old.receiver.repeats < 2 ^ 64 - 1 }
     ensures same_sink { report.new.sink.ghost_name ≡ report.old.sink.ghost_name }
-    ensures turn { IsTurn watch.old (measure_of kind) left board.old
-        (S.contents report.old.sink.now) (S.contents report.new.sink.now) result board.new watch.new }
+    ensures follows { OnOk result (Follows watch.new board.new.fram) }
+    ensures turn { IsTurn (seen_so watch.old) (measure_of kind) left board.old
+        (S.contents report.old.sink.now) (S.contents report.new.sink.now) result board.new (seen_so watch.new) }
     ensures cause { HasCause (S.faults report.old.sink.now) (S.faults report.new.sink.now) result }
 {
     let price = price(kind, instruction);
     if price > left {
         return Ok(Turn::Spent);
     }
+    // Tells the proof that the memory is whole.
+    let _taken = board.taken();
     let done = match board.execute(instruction) {
         Ok(done) => done,
         Err(stop) => return Ok(Turn::Stopped(stop)),
@@ -75,16 +80,18 @@ fn execute_words<S: Sink>(
     words: Words,
     kind: ChargeKind,
     left: u32,
-    watch: &mut Watch<'_>,
+    watch: &mut Seen<'_>,
     report: &mut Report<'_, S>,
 ) -> Result<Turn, Failed>
     requires next { AreNextWords board.old words }
     requires some { 0 < left }
+    requires follows { Follows watch.old board.old.fram }
     requires accepted { board.old.receiver.accepted < 2 ^ 64 - 1 }
     requires repeats { board.old.receiver.repeats < 2 ^ 64 - 1 }
     ensures same_sink { report.new.sink.ghost_name ≡ report.old.sink.ghost_name }
-    ensures turn { IsTurn watch.old (measure_of kind) left board.old
-        (S.contents report.old.sink.now) (S.contents report.new.sink.now) result board.new watch.new }
+    ensures follows { OnOk result (Follows watch.new board.new.fram) }
+    ensures turn { IsTurn (seen_so watch.old) (measure_of kind) left board.old
+        (S.contents report.old.sink.now) (S.contents report.new.sink.now) result board.new (seen_so watch.new) }
     ensures cause { HasCause (S.faults report.old.sink.now) (S.faults report.new.sink.now) result }
 {
     let Words {
@@ -110,14 +117,16 @@ fn take_turn<S: Sink>(
     board: &mut Board,
     kind: ChargeKind,
     left: u32,
-    watch: &mut Watch<'_>,
+    watch: &mut Seen<'_>,
     report: &mut Report<'_, S>,
 ) -> Result<Turn, Failed>
+    requires follows { Follows watch.old board.old.fram }
     requires accepted { board.old.receiver.accepted < 2 ^ 64 - 1 }
     requires repeats { board.old.receiver.repeats < 2 ^ 64 - 1 }
     ensures same_sink { report.new.sink.ghost_name ≡ report.old.sink.ghost_name }
-    ensures turn { IsTurn watch.old (measure_of kind) left board.old
-        (S.contents report.old.sink.now) (S.contents report.new.sink.now) result board.new watch.new }
+    ensures follows { OnOk result (Follows watch.new board.new.fram) }
+    ensures turn { IsTurn (seen_so watch.old) (measure_of kind) left board.old
+        (S.contents report.old.sink.now) (S.contents report.new.sink.now) result board.new (seen_so watch.new) }
     ensures cause { HasCause (S.faults report.old.sink.now) (S.faults report.new.sink.now) result }
 {
     if left == 0 {
@@ -134,14 +143,16 @@ pub fn spend<S: Sink>(
     board: &mut Board,
     kind: ChargeKind,
     amount: u32,
-    watch: &mut Watch<'_>,
+    watch: &mut Seen<'_>,
     report: &mut Report<'_, S>,
 ) -> Result<Option<Stop>, Failed>
+    requires follows { Follows watch.old board.old.fram }
     requires accepted { board.old.receiver.accepted < 2 ^ 63 + 2 ^ 62 }
     requires repeats { board.old.receiver.repeats < 2 ^ 63 + 2 ^ 62 }
     ensures same_sink { report.new.sink.ghost_name ≡ report.old.sink.ghost_name }
-    ensures spent { IsSpent watch.old (measure_of kind) amount board.old
-        (S.contents report.old.sink.now) (S.contents report.new.sink.now) result board.new watch.new }
+    ensures follows { OnOk result (Follows watch.new board.new.fram) }
+    ensures spent { IsSpent (seen_so watch.old) (measure_of kind) amount board.old
+        (S.contents report.old.sink.now) (S.contents report.new.sink.now) result board.new (seen_so watch.new) }
     ensures cause { HasCause (S.faults report.old.sink.now) (S.faults report.new.sink.now) result }
 {
     let mut left = amount;

@@ -1,18 +1,20 @@
 //! What a watch keeps of a run.
-ghost use Rattle.std.specs.Prelude.{◌≡◌, ◌+◌, ◌*◌, ◌<◌, ◌≤◌, ◌++◌, true, Some, None, OnOk, IfOk, option_map, flat_map, length, vec_len};
+ghost use Rattle.std.specs.Prelude.{◌≡◌, ◌+◌, ◌*◌, ◌<◌, ◌≤◌, ◌++◌, true, Some, None, OnOk, IfOk, option_map, flat_map};
 ghost use Rattle.alp_io.specs.Count.{HasCause};
 ghost use Rattle.alp_io.specs.Sink.{Writes};
 ghost use Rattle.alp_io.specs.Report.{accepted_line};
-ghost use Rattle.image_text.specs.image_map.MapValue.{MapValue, IsFramWord};
-ghost use Rattle.board_run.specs.History.{word_in, task_name, more_lines, changed_line, changed_lines, number_at, values_in, shared_numbers};
+ghost use Rattle.image_text.specs.image_map.MapValue.{MapValue, IsFramWord, IsVariable};
+ghost use Rattle.board_run.specs.History.{word_in, task_name, more_lines, changed_line, number_at, number_of, shared_numbers, variable_numbers, array_words};
 ghost use Rattle.board_run.specs.History.{is_decide, is_done};
-ghost use Rattle.board_run.specs.State.{placed};
+ghost use Rattle.board_run.specs.Shadow.{Covers, CoversBut};
+ghost use Rattle.board_run.specs.State.{placed, told_lines, StandsInFram};
 
-use crate::numbers::{PlacedNumber, cut_number};
+use crate::numbers::{PlacedNumber, long_of};
+use crate::shadow::Shadow;
 use alp_io::{Failed, Report, Sink};
 use arrayvec::ArrayVec;
 use fram_board::{Board, Stepped};
-use image_text::{Image, Map};
+use image_text::{Image, Map, Variable};
 use std::alloc::{AllocError, Global};
 
 /// What is known of a run, beside the map.
@@ -24,8 +26,8 @@ pub struct State {
     pub completed: u64,
     /// CUR at the last done.
     pub task: u16,
-    /// All shared numbers at the last done.
-    pub shared: Vec<u32>,
+    /// The FRAM at the last done.
+    pub shadow: Shadow,
     /// The first 256 words accepted since, and how many came behind them.
     pub accepted: ArrayVec<u16, 256>,
     pub more: u64,
@@ -43,13 +45,6 @@ pub fn word(board: &Board, address: u16) -> u16
     ensures { result ≡ word_in board.now.fram address }
 {
     board.word(address).unwrap()
-}
-
-// The number of a low and a high word.
-fn long_of(low: u16, high: u16) -> u32
-    ensures { result ≡ low + 65536 * high }
-{
-    low as u32 + 65536 * high as u32
 }
 
 // The number of the FRAM at an address.
@@ -113,51 +108,115 @@ fn write_number<S: Sink>(
     report.value(place.name, place.index, now)
 }
 
-// The lines of the shared numbers that have changed; they are kept as they are now.
-fn write_changes<S: Sink>(
-    map: &Map,
-    shared: &mut Vec<u32>,
+// The same of the number at a place, by what it was in the shadow.
+fn write_place<S: Sink>(
+    place: PlacedNumber<'_>,
+    shadow: &Shadow,
     board: &Board,
     report: &mut Report<'_, S>,
 ) -> Result<(), Failed>
-    requires { vec_len shared.old ≡ length (shared_numbers map.now.variables) }
+    requires { StandsInFram (placed place) }
     ensures same_sink { report.new.sink.ghost_name ≡ report.old.sink.ghost_name }
-    ensures kept { OnOk result (shared.new.items ≡ values_in board.now.fram (shared_numbers map.now.variables)) }
-    ensures len { vec_len shared.new ≡ vec_len shared.old }
     ensures bytes { Writes (S.contents report.old.sink.now) (S.contents report.new.sink.now) result
-        (changed_lines (shared_numbers map.now.variables) shared.old.items board.now.fram) }
+        (changed_line (placed place.entry) (number_of (word_in shadow.now.words) (placed place.entry)) (number_of (word_in board.now.fram) (placed place.entry))) }
+    ensures cause { HasCause (S.faults report.old.sink.now) (S.faults report.new.sink.now) result }
+{
+    let was = shadow.number(place.address, place.is_long);
+    let now = number(board, place.address, place.is_long);
+    write_number(place, was, now, report)
+}
+
+// The lines of the words of an array that have changed.
+fn write_array<S: Sink>(
+    v: &Variable,
+    length: u16,
+    shadow: &Shadow,
+    board: &Board,
+    report: &mut Report<'_, S>,
+) -> Result<(), Failed>
+    requires variable { IsVariable v.now }
+    requires length { v.now.length ≡ Some length }
+    requires covers { Covers shadow.now board.now.fram }
+    ensures same_sink { report.new.sink.ghost_name ≡ report.old.sink.ghost_name }
+    ensures bytes { Writes (S.contents report.old.sink.now) (S.contents report.new.sink.now) result
+        (told_lines shadow.now.words board.now.fram (array_words v.now.name v.now.address 0 length)) }
+    ensures cause { HasCause (S.faults report.old.sink.now) (S.faults report.new.sink.now) result }
+{
+    let mut i = shadow.next_index(v.address, 0, length);
+    while i < length {
+        let place = PlacedNumber {
+            name: v.name.as_bytes(),
+            index: Some(i),
+            address: v.address + 2 * i,
+            is_long: false,
+        };
+        write_place(place, shadow, board, report)?;
+        i = shadow.next_index(v.address, i + 1, length);
+    }
+    Ok(())
+}
+
+// The lines of the numbers of a variable that have changed.
+fn write_variable<S: Sink>(
+    v: &Variable,
+    shadow: &Shadow,
+    board: &Board,
+    report: &mut Report<'_, S>,
+) -> Result<(), Failed>
+    requires variable { IsVariable v.now }
+    requires covers { Covers shadow.now board.now.fram }
+    ensures same_sink { report.new.sink.ghost_name ≡ report.old.sink.ghost_name }
+    ensures bytes { Writes (S.contents report.old.sink.now) (S.contents report.new.sink.now) result
+        (told_lines shadow.now.words board.now.fram (variable_numbers v.now.name v.now.address v.now.value_type v.now.length)) }
+    ensures cause { HasCause (S.faults report.old.sink.now) (S.faults report.new.sink.now) result }
+{
+    let Some(length) = v.length else {
+        let place = PlacedNumber {
+            name: v.name.as_bytes(),
+            index: None,
+            address: v.address,
+            is_long: v.value_type.is_long(),
+        };
+        return write_place(place, shadow, board, report);
+    };
+    write_array(v, length, shadow, board, report)
+}
+
+// The lines of the shared numbers that have changed. What isn't marked in the shadow is not looked at.
+fn write_changes<S: Sink>(
+    map: &Map,
+    shadow: &Shadow,
+    board: &Board,
+    report: &mut Report<'_, S>,
+) -> Result<(), Failed>
+    requires { Covers shadow.now board.now.fram }
+    ensures same_sink { report.new.sink.ghost_name ≡ report.old.sink.ghost_name }
+    ensures bytes { Writes (S.contents report.old.sink.now) (S.contents report.new.sink.now) result
+        (told_lines shadow.now.words board.now.fram (shared_numbers map.now.variables)) }
     ensures cause { HasCause (S.faults report.old.sink.now) (S.faults report.new.sink.now) result }
 {
     map.rules();
-    let mut rest = map.variables();
-    let mut i = 0;
-    let mut k = 0;
-    while let Some((place, behind, next)) = cut_number(rest, i) {
-        let now = number(board, place.address, place.is_long);
-        write_number(place, shared[k], now, report)?;
-        shared[k] = now;
-        rest = behind;
-        i = next;
-        k += 1;
+    for v in map.variables() {
+        write_variable(v, shadow, board, report)?;
     }
     Ok(())
 }
 
 impl State {
-    ghost use Rattle.std.specs.Prelude.{◌≡◌, ◌<◌, Option, Some, None, OnOk, IfOk, option_map, length, vec_len};
+    ghost use Rattle.std.specs.Prelude.{◌≡◌, ◌<◌, Option, Some, None, OnOk, IfOk, option_map, length};
     ghost use Rattle.alp_io.specs.Count.{HasCause};
     ghost use Rattle.alp_io.specs.Sink.{Writes};
     ghost use Rattle.image_text.specs.image_map.MapValue.{MapValue};
     ghost use Rattle.std.specs.Prelude.{[], if◌then◌else◌};
     ghost use Rattle.fram_board.specs.Run.{word_list};
-    ghost use Rattle.board_run.specs.History.{shared_numbers, with_word, with_words, transition_lines, completed, decided, gated, is_done, behind_instruction};
+    ghost use Rattle.board_run.specs.History.{with_word, with_words, transition_lines, completed, decided, gated, is_done, behind_instruction};
     ghost use Rattle.board_run.specs.History.{instruction_lines, start_with, start_of};
     ghost use Rattle.board_run.specs.State.{history_of};
 
     // A word more was accepted.
     fn keep(&mut self, w: u16)
         ensures history { (m : Option MapValue) → history_of m self.new ≡ with_word (history_of m self.old) w }
-        ensures shadow { self.new.shared ≡ self.old.shared }
+        ensures shadow { self.new.shadow ≡ self.old.shadow }
         ensures gate { self.new.gate ≡ self.old.gate }
     {
         if self.accepted.len() < 256 {
@@ -170,7 +229,7 @@ impl State {
     // A decide at this board.
     fn decide(&mut self, board: &Board)
         ensures history { (m : Option MapValue) → history_of m self.new ≡ decided (history_of m self.old) board.now }
-        ensures shadow { self.new.shared ≡ self.old.shared }
+        ensures shadow { self.new.shadow ≡ self.old.shadow }
     {
         self.span_from = self.since;
         self.span_to = board.taken();
@@ -184,10 +243,10 @@ impl State {
         board: &Board,
         report: &mut Report<'_, S>,
     ) -> Result<(), Failed>
-        requires { vec_len self.old.shared ≡ length (shared_numbers map.now.variables) }
+        requires { Covers self.old.shadow board.now.fram }
         ensures same_sink { report.new.sink.ghost_name ≡ report.old.sink.ghost_name }
         ensures history { OnOk result (history_of (Some map.now) self.new ≡ completed map.now (history_of (Some map.now) self.old) board.now) }
-        ensures shadow { vec_len self.new.shared ≡ vec_len self.old.shared }
+        ensures covers { OnOk result (Covers self.new.shadow board.now.fram) }
         ensures bytes { Writes (S.contents report.old.sink.now) (S.contents report.new.sink.now) result
             (transition_lines map.now (history_of (Some map.now) self.old) board.now) }
         ensures cause { HasCause (S.faults report.old.sink.now) (S.faults report.new.sink.now) result }
@@ -204,7 +263,8 @@ impl State {
         )?;
         write_words(self.accepted.as_slice(), report)?;
         write_more(self.more, report)?;
-        write_changes(map, &mut self.shared, board, report)?;
+        write_changes(map, &self.shadow, board, report)?;
+        self.shadow.settle(board);
         self.task = next;
         self.accepted.clear();
         self.more = 0;
@@ -221,10 +281,10 @@ impl State {
         board: &Board,
         report: &mut Report<'_, S>,
     ) -> Result<(), Failed>
-        requires { vec_len self.old.shared ≡ length (shared_numbers map.now.variables) }
+        requires { Covers self.old.shadow board.now.fram }
         ensures same_sink { report.new.sink.ghost_name ≡ report.old.sink.ghost_name }
         ensures history { OnOk result (history_of (Some map.now) self.new ≡ gated map.now (history_of (Some map.now) self.old) board.now now) }
-        ensures shadow { vec_len self.new.shared ≡ vec_len self.old.shared }
+        ensures covers { OnOk result (Covers self.new.shadow board.now.fram) }
         ensures bytes { Writes (S.contents report.old.sink.now) (S.contents report.new.sink.now) result
             (if is_done self.old.gate now then transition_lines map.now (history_of (Some map.now) self.old) board.now else []) }
         ensures cause { HasCause (S.faults report.old.sink.now) (S.faults report.new.sink.now) result }
@@ -250,16 +310,17 @@ impl State {
         board: &Board,
         report: &mut Report<'_, S>,
     ) -> Result<(), Failed>
-        requires { vec_len self.old.shared ≡ length (shared_numbers map.now.variables) }
+        requires { CoversBut done.now.wrote self.old.shadow board.now.fram }
         ensures same_sink { report.new.sink.ghost_name ≡ report.old.sink.ghost_name }
         ensures history { OnOk result (history_of (Some map.now) self.new ≡
             behind_instruction (Some map.now) (history_of (Some map.now) self.old) (word_list done.now.accepted) board.now) }
-        ensures shadow { vec_len self.new.shared ≡ vec_len self.old.shared }
+        ensures covers { OnOk result (Covers self.new.shadow board.now.fram) }
         ensures bytes { Writes (S.contents report.old.sink.now) (S.contents report.new.sink.now) result
             (instruction_lines (Some map.now) (history_of (Some map.now) self.old) (word_list done.now.accepted) board.now) }
         ensures cause { HasCause (S.faults report.old.sink.now) (S.faults report.new.sink.now) result }
     {
         map.rules();
+        self.shadow.note_write(done.wrote);
         self.keep_accepted(done);
         let now = word(board, map.words().gate);
         self.note_gate(map, now, board, report)
@@ -269,7 +330,7 @@ impl State {
     #[inline(always)]
     fn keep_accepted(&mut self, done: &Stepped)
         ensures history { (m : Option MapValue) → history_of m self.new ≡ with_words (history_of m self.old) (word_list done.now.accepted) }
-        ensures shadow { self.new.shared ≡ self.old.shared }
+        ensures shadow { self.new.shadow ≡ self.old.shadow }
         ensures gate { self.new.gate ≡ self.old.gate }
     {
         if let Some(w) = done.accepted {
@@ -277,42 +338,45 @@ impl State {
         }
     }
 
-    /// What is known before a run of a board that is new from this image, whose map this is.
+    /// What is known before a run of a board that is new from this image, whose map this is. Fails where memory is refused.
     pub fn of(alloc: Global, image: &Image, map: Option<&Map>) -> Result<State, AllocError>
         requires { option_map (λ m. m.now) map ≡ image.now.map }
         ensures { IfOk result (λ s. history_of image.now.map s ≡ start_of image.now) }
     {
+        let blank = State::blank(alloc, image)?;
         match map {
-            None => Ok(State::blank(alloc)),
-            Some(map) => State::start(alloc, image, map),
+            None => Ok(blank),
+            Some(map) => Ok(blank.with_words(image, map)),
         }
     }
 
-    fn blank(alloc: Global) -> State
-        ensures { history_of None result ≡ start_with [] None }
+    fn blank(alloc: Global, image: &Image) -> Result<State, AllocError>
+        ensures history { IfOk result (λ s. history_of None s ≡ start_with [] None) }
+        ensures shadow { IfOk result (λ s. s.shadow.words ≡ image.now.words) }
     {
-        State {
+        Ok(State {
             gate: 0,
             completed: 0,
             task: 0,
-            shared: Vec::new(alloc),
+            shadow: Shadow::of(alloc, image.words())?,
             accepted: ArrayVec::new(),
             more: 0,
             since: 0,
             span_from: 0,
             span_to: 0,
-        }
+        })
     }
 
-    fn start(alloc: Global, image: &Image, map: &Map) -> Result<State, AllocError>
-        ensures { IfOk result (λ s. history_of (Some map.now) s ≡ start_with image.now.words (Some map.now)) }
+    // The same with GATE and CUR of the image.
+    fn with_words(mut self, image: &Image, map: &Map) -> State
+        requires history { history_of None self ≡ start_with [] None }
+        requires shadow { self.shadow.words ≡ image.now.words }
+        ensures { history_of (Some map.now) result ≡ start_with image.now.words (Some map.now) }
     {
         map.rules();
-        let mut state = State::blank(alloc);
-        state.gate = word_of(image, map.words().gate);
-        state.task = word_of(image, map.words().current_task);
-        state.shared = shared_of(alloc, image, map)?;
-        Ok(state)
+        self.gate = word_of(image, map.words().gate);
+        self.task = word_of(image, map.words().current_task);
+        self
     }
 }
 
@@ -335,34 +399,4 @@ fn word_of(image: &Image, address: u16) -> u16
     ensures { result ≡ word_in image.now.words address }
 {
     image.word(address).unwrap()
-}
-
-// The number of an image at an address.
-fn number_of(image: &Image, address: u16, is_long: bool) -> u32
-    requires low { IsFramWord address }
-    requires high { is_long ≡ true → IsFramWord (address + 2) }
-    ensures { result ≡ number_at (word_in image.now.words) address is_long }
-{
-    let low = word_of(image, address);
-    if is_long {
-        long_of(low, word_of(image, address + 2))
-    } else {
-        low as u32
-    }
-}
-
-// What the shared numbers of a map are in an image.
-fn shared_of(alloc: Global, image: &Image, map: &Map) -> Result<Vec<u32>, AllocError>
-    ensures { IfOk result (λ v. v.items ≡ values_in image.now.words (shared_numbers map.now.variables)) }
-{
-    map.rules();
-    let mut shared = Vec::new(alloc);
-    let mut rest = map.variables();
-    let mut i = 0;
-    while let Some((place, behind, next)) = cut_number(rest, i) {
-        shared.push(number_of(image, place.address, place.is_long))?;
-        rest = behind;
-        i = next;
-    }
-    Ok(shared)
 }

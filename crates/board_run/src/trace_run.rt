@@ -1,13 +1,15 @@
 //! The run of a board under a trace.
-ghost use Rattle.std.specs.Prelude.{◌≡◌, ◌+◌, ◌*◌, ◌^◌, ◌<◌, ◌≤◌, ◌∷◌, [], None, All, replicate};
+ghost use Rattle.std.specs.Prelude.{◌≡◌, ◌+◌, ◌*◌, ◌^◌, ◌<◌, ◌≤◌, ◌∷◌, [], None, OnOk, All, replicate};
 ghost use Rattle.alp_io.specs.Count.{HasCause};
 ghost use Rattle.alp_io.specs.Sink.{Writes};
 ghost use Rattle.alp_io.specs.Report.{end_line};
 ghost use Rattle.energy_trace.specs.TraceValue.{charge_count};
 ghost use Rattle.board_run.specs.Charges.{charge_of, charges_of};
+ghost use Rattle.board_run.specs.State.{seen_so, Follows};
 ghost use Rattle.board_run.specs.Parts.{AreSpent, ended};
 ghost use Rattle.board_run.specs.Report.{IsEndOf, IsRestOf, IsRunOf, HasWriteCause};
 
+use crate::seen::Seen;
 use crate::spend::spend;
 use crate::watch::Watch;
 use alp_io::{Failed, Reason, Report, Sink};
@@ -56,14 +58,16 @@ impl From<Failed> for RunFault {
 fn spend_one<S: Sink>(
     board: &mut Board,
     charge: &Charge,
-    watch: &mut Watch<'_>,
+    watch: &mut Seen<'_>,
     report: &mut Report<'_, S>,
 ) -> Result<Option<Stop>, Failed>
+    requires follows { Follows watch.old board.old.fram }
     requires accepted { board.old.receiver.accepted < 2 ^ 63 + 2 ^ 62 }
     requires repeats { board.old.receiver.repeats < 2 ^ 63 + 2 ^ 62 }
     ensures same_sink { report.new.sink.ghost_name ≡ report.old.sink.ghost_name }
-    ensures spent { AreSpent watch.old (charge_of charge.now ∷ []) board.old
-        (S.contents report.old.sink.now) (S.contents report.new.sink.now) result board.new watch.new 4294967295 }
+    ensures follows { OnOk result (Follows watch.new board.new.fram) }
+    ensures spent { AreSpent (seen_so watch.old) (charge_of charge.now ∷ []) board.old
+        (S.contents report.old.sink.now) (S.contents report.new.sink.now) result board.new (seen_so watch.new) 4294967295 }
     ensures cause { HasCause (S.faults report.old.sink.now) (S.faults report.new.sink.now) result }
 {
     board.power_up(charge.fill);
@@ -75,14 +79,16 @@ fn spend_one<S: Sink>(
 fn spend_repeated<S: Sink>(
     board: &mut Board,
     charge: &Charge,
-    watch: &mut Watch<'_>,
+    watch: &mut Seen<'_>,
     report: &mut Report<'_, S>,
 ) -> Result<Option<Stop>, Failed>
+    requires follows { Follows watch.old board.old.fram }
     requires accepted { board.old.receiver.accepted + 4294967295 * charge.now.times < 2 ^ 63 + 2 ^ 62 }
     requires repeats { board.old.receiver.repeats + 4294967295 * charge.now.times < 2 ^ 63 + 2 ^ 62 }
     ensures same_sink { report.new.sink.ghost_name ≡ report.old.sink.ghost_name }
-    ensures spent { AreSpent watch.old (replicate charge.now.times (charge_of charge.now)) board.old
-        (S.contents report.old.sink.now) (S.contents report.new.sink.now) result board.new watch.new (4294967295 * charge.now.times) }
+    ensures follows { OnOk result (Follows watch.new board.new.fram) }
+    ensures spent { AreSpent (seen_so watch.old) (replicate charge.now.times (charge_of charge.now)) board.old
+        (S.contents report.old.sink.now) (S.contents report.new.sink.now) result board.new (seen_so watch.new) (4294967295 * charge.now.times) }
     ensures cause { HasCause (S.faults report.old.sink.now) (S.faults report.new.sink.now) result }
 {
     let mut left = charge.times;
@@ -100,15 +106,17 @@ fn spend_repeated<S: Sink>(
 fn spend_all<S: Sink>(
     board: &mut Board,
     charges: &[Charge],
-    watch: &mut Watch<'_>,
+    watch: &mut Seen<'_>,
     report: &mut Report<'_, S>,
 ) -> Result<Option<Stop>, Failed>
     requires few { charge_count charges.now ≤ 1000000 }
+    requires follows { Follows watch.old board.old.fram }
     requires accepted { board.old.receiver.accepted < 2 ^ 63 }
     requires repeats { board.old.receiver.repeats < 2 ^ 63 }
     ensures same_sink { report.new.sink.ghost_name ≡ report.old.sink.ghost_name }
-    ensures spent { AreSpent watch.old (charges_of charges.now) board.old
-        (S.contents report.old.sink.now) (S.contents report.new.sink.now) result board.new watch.new (4294967295 * charge_count charges.now) }
+    ensures follows { OnOk result (Follows watch.new board.new.fram) }
+    ensures spent { AreSpent (seen_so watch.old) (charges_of charges.now) board.old
+        (S.contents report.old.sink.now) (S.contents report.new.sink.now) result board.new (seen_so watch.new) (4294967295 * charge_count charges.now) }
     ensures cause { HasCause (S.faults report.old.sink.now) (S.faults report.new.sink.now) result }
 {
     for charge in charges {
@@ -123,26 +131,31 @@ fn spend_all<S: Sink>(
 fn write_end<S: Sink>(
     reason: Reason,
     board: &Board,
-    watch: &Watch<'_>,
+    watch: &Seen<'_>,
     report: &mut Report<'_, S>,
 ) -> Result<(), Failed>
     ensures same_sink { report.new.sink.ghost_name ≡ report.old.sink.ghost_name }
     ensures bytes { Writes (S.contents report.old.sink.now) (S.contents report.new.sink.now) result
-        (end_line reason watch.now.completed board.now.receiver.accepted board.now.receiver.repeats) }
+        (end_line reason (seen_so watch.now).completed board.now.receiver.accepted board.now.receiver.repeats) }
     ensures cause { HasCause (S.faults report.old.sink.now) (S.faults report.new.sink.now) result }
 {
-    report.end(reason, watch.completed(), board.accepted(), board.repeats())
+    report.end(
+        reason,
+        watch.state.completed,
+        board.accepted(),
+        board.repeats(),
+    )
 }
 
 // The last line of the report of a run that ended so.
 fn finish<S: Sink>(
     stop: Option<Stop>,
     board: &Board,
-    watch: &Watch<'_>,
+    watch: &Seen<'_>,
     report: &mut Report<'_, S>,
 ) -> Result<RunEnd, RunFault>
     ensures same_sink { report.new.sink.ghost_name ≡ report.old.sink.ghost_name }
-    ensures end { IsEndOf watch.now (ended stop) board.now (S.contents report.old.sink.now) (S.contents report.new.sink.now) result }
+    ensures end { IsEndOf (seen_so watch.now) (ended stop) board.now (S.contents report.old.sink.now) (S.contents report.new.sink.now) result }
     ensures cause { HasWriteCause (S.faults report.old.sink.now) (S.faults report.new.sink.now) result }
 {
     match stop {
@@ -169,18 +182,19 @@ fn finish<S: Sink>(
     }
 }
 
-// The run behind the line of the bound.
-fn run_charges<S: Sink>(
+/// The run behind the line of the bound.
+pub fn run_charges<S: Sink>(
     board: &mut Board,
     trace: &Trace,
-    watch: &mut Watch<'_>,
+    watch: &mut Seen<'_>,
     report: &mut Report<'_, S>,
 ) -> Result<RunEnd, RunFault>
+    requires follows { Follows watch.old board.old.fram }
     requires accepted { board.old.receiver.accepted < 2 ^ 63 }
     requires repeats { board.old.receiver.repeats < 2 ^ 63 }
     ensures same_sink { report.new.sink.ghost_name ≡ report.old.sink.ghost_name }
-    ensures run { IsRestOf watch.old (charges_of trace.now.charges) board.old
-        (S.contents report.old.sink.now) (S.contents report.new.sink.now) result board.new watch.new }
+    ensures run { IsRestOf (seen_so watch.old) (charges_of trace.now.charges) board.old
+        (S.contents report.old.sink.now) (S.contents report.new.sink.now) result board.new (seen_so watch.new) }
     ensures cause { HasWriteCause (S.faults report.old.sink.now) (S.faults report.new.sink.now) result }
 {
     let stop = spend_all(board, trace.charges(), watch, report)?;
@@ -214,5 +228,5 @@ pub fn run<S: Sink>(
     ensures cause { HasWriteCause (S.faults report.old.sink.now) (S.faults report.new.sink.now) result }
 {
     watch.write_bound(report)?;
-    run_charges(board, trace, watch, report)
+    watch.run_charges(board, trace, report)
 }

@@ -3,12 +3,13 @@ use Rattle.board_run.proofs.Spends.{spends_first, turn_left, turn_spent, turn_st
 use Rattle.board_run.proofs.spend.spend.Goals as goal
 
 pub loop-rest-init : goal.loop-rest-init
-loop-rest-init g c = record { same = refl; count = omega arith; on = spends_first _ _ _ _ _ }
+loop-rest-init g c = record { same = refl; count = omega arith; follows = c.requires.follows; on = spends_first _ _ _ _ _ }
 
 pub loop-rest-preserved : goal.loop-rest-preserved
 loop-rest-preserved g c = record {
   same = c.in_ok-rest.ensures.same_sink ∙ c.loop-rest.invariant.same;
   count = omega (arith, c.in_ok-rest.ensures.cause.later, c.loop-rest.invariant.count);
+  follows = c.in_ok-rest.ensures.follows;
   on = turn_left _ _ _ _ _ _ _ _ _ _ _ _ _ _ c.in-Left.is c.loop-rest.invariant.on c.in_ok-rest.ensures.turn;
 }
 

@@ -1,0 +1,128 @@
+//! What is seen of a run while it is made.
+ghost use Rattle.std.specs.Prelude.{◌≡◌, ◌%◌, ◌+◌, Some, None, List, ℕ, OnOk, IfOk, flat_map, option_map};
+ghost use Rattle.alp_io.specs.Count.{HasCause};
+ghost use Rattle.alp_io.specs.Sink.{Writes};
+ghost use Rattle.alp_io.specs.Report.{accepted_line};
+ghost use Rattle.fram_board.specs.Run.{word_list};
+ghost use Rattle.board_run.specs.History.{start_of, bound_lines, total, values_in, shared_numbers, instruction_lines, behind_instruction, behind_power_up};
+ghost use Rattle.board_run.specs.State.{seen_so, Follows, FollowsBut};
+
+use crate::numbers::cut_number;
+use crate::shadow::Shadow;
+use crate::state::State;
+use alp_io::{Failed, Report, Sink};
+use fram_board::{Board, Stepped};
+use image_text::{Image, Map};
+use std::alloc::{AllocError, Global};
+
+/// What is seen of a run: the map of its image, if it has one, and what is known of it.
+#[derive(Drop)]
+pub struct Seen<'a> {
+    pub map: Option<&'a Map>,
+    pub state: State,
+}
+
+impl<'a> Seen<'a> {
+    /// What is seen before a run of a board that is new from this image. Fails where memory is refused.
+    pub fn of(alloc: Global, image: &'a Image) -> Result<Seen<'a>, AllocError>
+        ensures { IfOk result (λ s. seen_so s ≡ start_of image.now) }
+    {
+        let map = image.map();
+        Ok(Seen {
+            map,
+            state: State::of(alloc, image, map)?,
+        })
+    }
+
+    /// From here on it follows whatever FRAM there is.
+    pub fn begin(&mut self)
+        ensures history { seen_so self.new ≡ seen_so self.old }
+        ensures follows { (fram : List ℕ) → Follows self.new fram }
+    {
+        self.state.shadow.mark_all();
+    }
+
+    /// The sum of all shared numbers at the last done, modulo 65536; 0 without a map.
+    pub fn sum(&self) -> u16
+        ensures { result ≡ total (seen_so self.now).shared % 65536 }
+    {
+        match self.map {
+            Some(map) => sum_of(map, &self.state.shadow),
+            None => 0,
+        }
+    }
+
+    /// Writes the line of the bound, if there is a map.
+    pub fn write_bound<S: Sink>(&self, report: &mut Report<'_, S>) -> Result<(), Failed>
+        ensures same_sink { report.new.sink.ghost_name ≡ report.old.sink.ghost_name }
+        ensures bytes { Writes (S.contents report.old.sink.now) (S.contents report.new.sink.now) result (bound_lines (seen_so self.now).map) }
+        ensures cause { HasCause (S.faults report.old.sink.now) (S.faults report.new.sink.now) result }
+    {
+        match self.map {
+            Some(map) => report.bound(map.bound()),
+            None => Ok(()),
+        }
+    }
+
+    /// Power came up.
+    pub fn note_power_up(&mut self, board: &Board)
+        ensures history { seen_so self.new ≡ behind_power_up (seen_so self.old).map (seen_so self.old) board.now }
+        ensures follows { (fram : List ℕ) → Follows self.old fram → Follows self.new fram }
+    {
+        if self.map.is_some() {
+            self.state.since = board.taken();
+        }
+    }
+
+    /// An instruction was executed, which left this board: its lines are written.
+    #[inline(always)]
+    pub fn note<S: Sink>(
+        &mut self,
+        done: &Stepped,
+        board: &Board,
+        report: &mut Report<'_, S>,
+    ) -> Result<(), Failed>
+        requires { FollowsBut done.now.wrote self.old board.now.fram }
+        ensures same_sink { report.new.sink.ghost_name ≡ report.old.sink.ghost_name }
+        ensures history { OnOk result (seen_so self.new ≡ behind_instruction (seen_so self.old).map (seen_so self.old) (word_list done.now.accepted) board.now) }
+        ensures follows { OnOk result (Follows self.new board.now.fram) }
+        ensures bytes { Writes (S.contents report.old.sink.now) (S.contents report.new.sink.now) result
+            (instruction_lines (seen_so self.old).map (seen_so self.old) (word_list done.now.accepted) board.now) }
+        ensures cause { HasCause (S.faults report.old.sink.now) (S.faults report.new.sink.now) result }
+    {
+        match self.map {
+            Some(map) => self.state.note(map, done, board, report),
+            None => write_accepted(done, report),
+        }
+    }
+}
+
+// The sum of the shared numbers of a map in a shadow.
+fn sum_of(map: &Map, shadow: &Shadow) -> u16
+    ensures { result ≡ total (values_in shadow.now.words (shared_numbers map.now.variables)) % 65536 }
+{
+    map.rules();
+    let mut sum = 0u16;
+    let mut rest = map.variables();
+    let mut i = 0;
+    while let Some((place, behind, next)) = cut_number(rest, i) {
+        let number = shadow.number(place.address, place.is_long);
+        sum = sum.wrapping_add((number % 65536) as u16);
+        rest = behind;
+        i = next;
+    }
+    sum
+}
+
+// The line of the word that an instruction made the receiver accept, if it did.
+#[inline(always)]
+fn write_accepted<S: Sink>(done: &Stepped, report: &mut Report<'_, S>) -> Result<(), Failed>
+    ensures same_sink { report.new.sink.ghost_name ≡ report.old.sink.ghost_name }
+    ensures bytes { Writes (S.contents report.old.sink.now) (S.contents report.new.sink.now) result (flat_map accepted_line (word_list done.now.accepted)) }
+    ensures cause { HasCause (S.faults report.old.sink.now) (S.faults report.new.sink.now) result }
+{
+    match done.accepted {
+        Some(w) => report.accepted(w),
+        None => Ok(()),
+    }
+}
