@@ -1,8 +1,9 @@
 -- Marks on the words of rows.
 use Rattle.std.proofs.Common.{◌≡◌, ◌<◌, ◌≤◌, ◌+◌, ◌*◌, ◌/◌, ◌%◌, ◌==◌, arith, ℕ, zero, suc, refl, sym, ◌∙◌, ap, subst, Bool, true, false, List, [], ◌∷◌}
-use Rattle.std.proofs.Common.{length, map, length-set, get_or, slice_index, slice_index_or, slice_set, nat_lt}
+use Rattle.std.proofs.Common.{length, map, take, drop, ◌++◌, length-set, get_or, slice_index, slice_index_or, slice_set, nat_lt}
 use Rattle.std.proofs.lemmas.Bool.Decides.{nat_tests}
 use Rattle.std.proofs.lemmas.List.{get_or-set_same, get_or-set_other, ext_get_or}
+use Rattle.std.proofs.Math.Seq.{take-append_seam}
 use Rattle.source_values.specs.Marks.{MarksValue, IsMarked, mark_of, word_in, Covers}
 
 -- a mark that is set leaves the others as they are
@@ -143,3 +144,7 @@ pub set_tracks : (m n : MarksValue) (base a b : List (List ℕ)) (v i w : ℕ) �
     → b ≡ slice_set a v (slice_set (get_or a v []) i w) → map (length {A = ℕ}) b ≡ map (length {A = ℕ}) a → IsMarked n v i
     → ((u j : ℕ) → IsMarked m u j → IsMarked n u j) → Covers m base a → (map (length {A = ℕ}) b ≡ map (length {A = ℕ}) base) × Covers n base b
 set_tracks m n base a b v i w lengths e same marked others h = (same ∙ lengths, covers_set m n base a b v i w e marked others h)
+
+-- what a slice of a whole vector leaves of it
+pub written_whole : {A : Type 0} (n : ℕ) (new old : List A) → length new ≡ n → take n (new ++ drop (length new) old) ≡ new
+written_whole n new old e = ap (λ k. take k (new ++ drop (length new) old)) (sym e) ∙ take-append_seam new (drop (length new) old)

@@ -35,7 +35,7 @@ returns-in-None-clause-short c =
     let attempt = attempt_is c.args.source.now c.args.self.now.task c.self.inside.task c.index.result.now c.deref.result.now c.restart.new.scratch
     c.args.self.now.shared c.args.readings.now
     h (omega (arith, h, c.requires.task, length-map c.args.source.now.tasks.items task_of)) c.index.ensures c.deref.ensures.value
-    (ap (λ t. t.rows) c.restart.ensures.shared ∙ c.self.inside.invariant.1.0 ∙ ap (λ r. r.shared) c.self.view_is) c.restart.ensures.locals c.restart.ensures.emitted in
+    (ap (λ t. t.rows) c.restart.ensures.shared ∙ c.self.invariant.1 ∙ ap (λ r. r.shared) c.self.view_is) c.restart.ensures.locals c.restart.ensures.emitted in
     attempt ∙ c.in-None.ensures.short
 
 pub returns-in-Some-clause-done : goal.returns-in-Some-clause-done
@@ -44,9 +44,9 @@ returns-in-Some-clause-done c =
     let attempt = attempt_is c.args.source.now c.args.self.now.task c.self.inside.task c.index.result.now c.deref.result.now c.restart.new.scratch
     c.args.self.now.shared c.args.readings.now
     h (omega (arith, h, c.requires.task, length-map c.args.source.now.tasks.items task_of)) c.index.ensures c.deref.ensures.value
-    (ap (λ t. t.rows) c.restart.ensures.shared ∙ c.self.inside.invariant.1.0 ∙ ap (λ r. r.shared) c.self.view_is) c.restart.ensures.locals c.restart.ensures.emitted in
+    (ap (λ t. t.rows) c.restart.ensures.shared ∙ c.self.invariant.1 ∙ ap (λ r. r.shared) c.self.view_is) c.restart.ensures.locals c.restart.ensures.emitted in
     let rest = (task_leaves (block_view c.deref.result.now) (attempt_in c.restart.new.scratch c.args.readings.now) c.in-Some.next
     (attempt_in c.run_task.new.scratch c.in-Some.left.now) c.in-Some.ensures.done).rest in
     let done = ap completion_of (attempt ∙ c.in-Some.ensures.done) in
-    done ∙ same_completion c.in-Some.next (ap (λ v. rows_of v.items) (sym c.swap-in-Some.ensures.x_after))
-    (ap (λ v. v.items) (sym c.swap-in-Some-2.ensures.x_after)) (sym rest)
+    done ∙ same_completion c.in-Some.next (ap (λ t. t.base) (sym c.settle.ensures.value))
+    (ap (λ v. v.items) (sym c.swap.ensures.x_after)) (sym rest)
