@@ -174,7 +174,9 @@ impl SourceRun {
                 Err(Short)
             }
             Some((next, left)) => {
-                self.scratch.shared.settle(&mut self.before, &mut self.written);
+                self.scratch
+                    .shared
+                    .settle(&mut self.before, &mut self.written);
                 mem::swap(&mut self.emitted, &mut self.scratch.emitted);
                 self.task = next;
                 let used = (readings.len() - left.len()) as u32;

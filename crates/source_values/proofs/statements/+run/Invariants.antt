@@ -1,4 +1,4 @@
-use Rattle.std.proofs.Common.{◌≡◌, ◌≤◌, ◌+◌, ◌-◌, ◌*◌, ℕ, Option, length, map, drop}
+use Rattle.std.proofs.Common.{◌≡◌, ◌≤◌, ◌+◌, ◌-◌, ◌*◌, Option, length, map, drop}
 use Rattle.task_ast.specs.Tree.{Block, choice_of}
 use Rattle.task_ast.specs.View.{tested_of, block_view}
 use Rattle.task_ast.specs.declared.names.VariableName.{VariableName}

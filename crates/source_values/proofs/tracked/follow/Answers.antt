@@ -1,5 +1,5 @@
 use Rattle.std.proofs.Common.{◌∙◌, ap, sym, length}
-use Rattle.source_values.proofs.Rows.{same_length, followed_more, followed_all, row_covered}
+use Rattle.source_values.proofs.Rows.{same_length, followed_more}
 use Rattle.source_values.proofs.tracked.follow.Goals as goal
 
 pub follow_row-requires-clause-same_length : goal.follow_row-requires-clause-same_length

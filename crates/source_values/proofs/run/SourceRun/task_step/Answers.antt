@@ -6,7 +6,7 @@ use Rattle.task_ast.specs.declared.names.TaskName.{TaskName}
 use Rattle.task_ast.specs.declared.Stmt.{Stmt}
 use Rattle.source_values.specs.Statements.{Attempt, run_block, block_emits}
 use Rattle.source_values.specs.Runs.{EndsWell, EmitsFit, TransitionComes, completion_of}
-use Rattle.source_values.specs.View.{rows_of, attempt_in}
+use Rattle.source_values.specs.View.{attempt_in}
 use Rattle.source_values.proofs.Tasks.{task_holds, attempt_is, task_leaves, same_completion}
 use Rattle.source_values.proofs.run.SourceRun.task_step.Goals as goal
 

@@ -11,8 +11,12 @@ invariant_of-self c =
     let P : List (Vec ℕ Global) → Type 0 = λ rows. (map (length {A = ℕ}) (rows_of rows) ≡ map (length {A = ℕ}) (rows_of c.self.inside.base.items))
     × Covers c.mark.new.self (rows_of c.self.inside.base.items) (rows_of rows) in
     let count : length c.set_row_word.new.rows ≡ c.self.inside.rows.len =
-    omega (arith, same_count c.set_row_word.new.rows c.deref_mut.result.now c.set_row_word.ensures.same_lengths, ap length c.deref_mut.ensures.value,
-    c.self.inside.rows.ok.0) in
+    omega (
+      arith,
+      same_count c.set_row_word.new.rows c.deref_mut.result.now c.set_row_word.ensures.same_lengths,
+      ap length c.deref_mut.ensures.value,
+      c.self.inside.rows.ok.0,
+    ) in
     let set = c.set_row_word.ensures.set
     ∙ ap (λ rows. slice_set (rows_of rows) c.args.v (slice_set (get_or (rows_of rows) c.args.v []) c.args.i c.args.w)) c.deref_mut.ensures.value in
     let same = c.set_row_word.ensures.same_lengths ∙ ap (λ rows. map (length {A = ℕ}) (rows_of rows)) c.deref_mut.ensures.value in
