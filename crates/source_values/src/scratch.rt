@@ -1,13 +1,13 @@
 //! The words that an attempt works on.
 
-ghost use Rattle.std.specs.Prelude.{◌≡◌, ℕ, List, length, slice_index, slice_set};
+ghost use Rattle.std.specs.Prelude.{◌≡◌, ℕ, List, length};
 ghost use Rattle.source_values.specs.Values.{word_at, with_word, scalar_value, converted};
 ghost use Rattle.source_values.specs.Numbers.{number_type, number_value};
 ghost use Rattle.source_values.specs.Statements.{assigned_to};
 ghost use Rattle.source_values.specs.View.{variables_of, attempt_in};
 
 use crate::numbers::{Number, number_of, two_words};
-use crate::tracked::Tracked;
+use crate::tracked::{Tracked, set_word, word_of};
 use arrayvec::ArrayVec;
 use task_ast::{Variable, VariableName, WordType};
 
@@ -20,20 +20,6 @@ pub struct Scratch {
     pub shared: Tracked,
     pub locals: Vec<u16>,
     pub emitted: ArrayVec<u16, 256>,
-}
-
-fn word_of(words: &[u16], i: usize) -> u16
-    ensures { result ≡ slice_index words.now i }
-{
-    words.get(i).copied().unwrap_or(0)
-}
-
-fn set_word(words: &mut [u16], i: usize, w: u16)
-    ensures { words.new ≡ slice_set words.old i w }
-{
-    if i < words.len() {
-        words[i] = w;
-    }
 }
 
 impl Scratch {

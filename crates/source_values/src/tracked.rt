@@ -29,13 +29,15 @@ impl Model for Tracked {
         × Covers t.marks (rows_of t.base.items) (rows_of t.rows.items) };
 }
 
-fn word_of(words: &[u16], i: usize) -> u16
+/// Word `i` of these; 0 where there is none.
+pub fn word_of(words: &[u16], i: usize) -> u16
     ensures { result ≡ slice_index words.now i }
 {
     words.get(i).copied().unwrap_or(0)
 }
 
-fn set_word(words: &mut [u16], i: usize, w: u16)
+/// Sets word `i` of these; nothing happens where there is none.
+pub fn set_word(words: &mut [u16], i: usize, w: u16)
     ensures { words.new ≡ slice_set words.old i w }
 {
     if i < words.len() {
@@ -43,6 +45,7 @@ fn set_word(words: &mut [u16], i: usize, w: u16)
     }
 }
 
+/// Word `i` of row `v`; 0 where there is none.
 pub fn row_word(rows: &[Vec<u16>], v: usize, i: usize) -> u16
     ensures { result ≡ slice_index (slice_index_or (rows_of rows.now) v []) i }
 {
