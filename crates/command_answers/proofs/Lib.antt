@@ -1,5 +1,6 @@
 mod FailureLaws
 mod MadeMore
+mod NameLaws
 mod PutLaws
 mod Refused
 mod ShelfLaws

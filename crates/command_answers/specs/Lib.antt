@@ -1,5 +1,6 @@
 pub mod CommandAnswers
 pub mod Ending
+pub mod FileNames
 pub mod InputFiles
 pub mod Messages
 pub mod Outcomes

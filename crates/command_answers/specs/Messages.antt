@@ -4,6 +4,7 @@ use Rattle.std.specs.Io.KnownBytes.{Appends}
 use Rattle.alp_io.specs.Count.{Rose}
 use Rattle.alp_io.specs.Report.{texts}
 use Rattle.alp_io.specs.Sink.{AppendsProperPrefix}
+use Rattle.command_answers.specs.FileNames.{told_name}
 
 -- the line was written once; or the count of faults rose, and a proper prefix of the line was written
 abbrev pub Tells : Option (List ℕ) → Option (List ℕ) → ℕ → ℕ → List ℕ → Type 0
@@ -11,15 +12,15 @@ Tells old new before now line = Appends old new line ⊎ (Rose before now × App
 
 -- the line where a file could not be read
 unfoldable pub unreadable_line : List ℕ → List ℕ
-unreadable_line name = texts (codes "cannot read " ∷ name ∷ codes "\n" ∷ [])
+unreadable_line name = texts (codes "cannot read " ∷ told_name name ∷ codes "\n" ∷ [])
 
 -- the line where a file has too many bytes
 unfoldable pub too_long_line : List ℕ → List ℕ
-too_long_line name = texts (codes "too long " ∷ name ∷ codes "\n" ∷ [])
+too_long_line name = texts (codes "too long " ∷ told_name name ∷ codes "\n" ∷ [])
 
 -- the line where a file could not be put
 unfoldable pub unput_line : List ℕ → List ℕ
-unput_line name = texts (codes "cannot write " ∷ name ∷ codes "\n" ∷ [])
+unput_line name = texts (codes "cannot write " ∷ told_name name ∷ codes "\n" ∷ [])
 
 -- the line where a write to the output failed
 unfoldable pub unwritable_line : List ℕ

@@ -4,6 +4,7 @@ use Rattle.alp_io.specs.Report.{texts}
 use Rattle.alp_text.specs.Numbers.{hex4}
 use Rattle.alp_text.specs.declared.lines.Span.{Span}
 use Rattle.source_report.specs.SourceReport.{spelled}
+use Rattle.command_answers.specs.FileNames.{told_name}
 
 -- what a fault keeps besides its line: nothing, a name, a number, or an address
 pub data Detail : Type 0 where
@@ -35,4 +36,5 @@ detail_text (address a) = 32 ∷ hex4 a
 
 -- the line where a text is refused
 unfoldable pub refused_line : List ℕ → Refusal → List ℕ
-refused_line file r = texts (codes "refused " ∷ file ∷ codes " " ∷ decimal r.line ∷ codes " " ∷ r.kind ∷ detail_text r.detail ∷ codes "\n" ∷ [])
+refused_line file r =
+    texts (codes "refused " ∷ told_name file ∷ codes " " ∷ decimal r.line ∷ codes " " ∷ r.kind ∷ detail_text r.detail ∷ codes "\n" ∷ [])

@@ -4,7 +4,9 @@
 mod answers;
 mod failure;
 mod inputs;
+mod laws;
 pub mod messages;
+mod names;
 mod puts;
 mod refusal;
 mod status;
@@ -12,6 +14,7 @@ mod status;
 pub use answers::{answer_failure, answer_unread};
 pub use failure::{Failure, refused_plainly};
 pub use inputs::{Texts, ThreeTexts, Unread, read_file, read_texts, read_three_texts};
+pub use laws::{names_are_told_plainly, told_names};
 pub use puts::put_file;
 pub use refusal::{Detail, Refusal, named, plain};
 pub use status::Status;

@@ -1,13 +1,17 @@
 //! The one line to standard error that goes with a status. A write that fails leaves the status as it is.
-ghost use Rattle.std.specs.Prelude.{◌≤◌, flat_map, ◌∷◌, [], codes};
+ghost use Rattle.std.specs.Prelude.{◌≤◌, flat_map, ◌∷◌, ◌++◌, [], codes};
+ghost use Rattle.alp_io.specs.Count.{HasCause};
 ghost use Rattle.alp_io.specs.Report.{texts};
+ghost use Rattle.alp_io.specs.Sink.{Writes};
+ghost use Rattle.command_answers.specs.FileNames.{told_name};
 ghost use Rattle.command_answers.specs.Messages.{Tells, unreadable_line, too_long_line, unput_line, unwritable_line, memory_line, machine_fault_line};
 ghost use Rattle.command_answers.specs.Messages.{differs_line, usage_line};
 ghost use Rattle.command_answers.specs.Refusals.{refused_line};
 ghost use Rattle.command_answers.specs.Views.{refusal_of};
 
+use crate::names::{is_plain, write_name};
 use crate::refusal::{Detail, Refusal};
-use alp_io::{Sink, write_pieces};
+use alp_io::{Failed, Sink, write_all, write_pieces};
 use alp_text::{print_hex4, print_u64};
 
 fn tell<E: Sink>(err: &mut E, pieces: &[&[u8]])
@@ -16,6 +20,43 @@ fn tell<E: Sink>(err: &mut E, pieces: &[&[u8]])
     ensures faults { E.faults err.old ≤ E.faults err.new }
 {
     let _ = write_pieces(err, pieces);
+}
+
+// Writes a line around a name that has control characters, in several calls.
+fn write_around<E: Sink>(
+    err: &mut E,
+    front: &[u8],
+    name: &[u8],
+    back: &[&[u8]],
+) -> Result<(), Failed>
+    ensures bytes { Writes (E.contents err.old) (E.contents err.new) result
+        (front.now ++ (told_name name.now ++ flat_map (λ piece. piece.now) back.now)) }
+    ensures cause { HasCause (E.faults err.old) (E.faults err.new) result }
+{
+    write_all(err, front)?;
+    write_name(err, name)?;
+    write_pieces(err, back)
+}
+
+fn tell_around<E: Sink>(err: &mut E, front: &[u8], name: &[u8], back: &[&[u8]])
+    ensures line { Tells (E.contents err.old) (E.contents err.new) (E.faults err.old) (E.faults err.new)
+        (front.now ++ (told_name name.now ++ flat_map (λ piece. piece.now) back.now)) }
+    ensures faults { E.faults err.old ≤ E.faults err.new }
+{
+    let _ = write_around(err, front, name, back);
+}
+
+// The line of a file, from what stands in front of its name.
+fn tell_file<E: Sink>(err: &mut E, front: &[u8], name: &[u8])
+    ensures line { Tells (E.contents err.old) (E.contents err.new) (E.faults err.old) (E.faults err.new)
+        (texts (front.now ∷ told_name name.now ∷ codes "\n" ∷ [])) }
+    ensures faults { E.faults err.old ≤ E.faults err.new }
+{
+    if is_plain(name) {
+        tell(err, &[front, name, b"\n"]);
+    } else {
+        tell_around(err, front, name, &[b"\n"]);
+    }
 }
 
 // The line of a refusal, from its parts.
@@ -28,23 +69,32 @@ fn tell_parts<'a, E: Sink>(
     detail: &'a [u8],
 )
     ensures line { Tells (E.contents err.old) (E.contents err.new) (E.faults err.old) (E.faults err.new)
-        (texts (codes "refused " ∷ name.now ∷ codes " " ∷ line.now ∷ codes " " ∷ kind.now ∷ space.now ∷ detail.now ∷ codes "\n" ∷ [])) }
+        (texts (codes "refused " ∷ told_name name.now ∷ codes " " ∷ line.now ∷ codes " " ∷ kind.now ∷ space.now ∷ detail.now ∷ codes "\n" ∷ [])) }
     ensures faults { E.faults err.old ≤ E.faults err.new }
 {
-    tell(
-        err,
-        &[
+    if is_plain(name) {
+        tell(
+            err,
+            &[
+                b"refused ",
+                name,
+                b" ",
+                line,
+                b" ",
+                kind,
+                space,
+                detail,
+                b"\n",
+            ],
+        );
+    } else {
+        tell_around(
+            err,
             b"refused ",
             name,
-            b" ",
-            line,
-            b" ",
-            kind,
-            space,
-            detail,
-            b"\n",
-        ],
-    );
+            &[b" ", line, b" ", kind, space, detail, b"\n"],
+        );
+    }
 }
 
 /// The line of a refused text.
@@ -75,7 +125,7 @@ pub fn tell_unreadable<E: Sink>(err: &mut E, name: &str)
     ensures line { Tells (E.contents err.old) (E.contents err.new) (E.faults err.old) (E.faults err.new) (unreadable_line name.now) }
     ensures faults { E.faults err.old ≤ E.faults err.new }
 {
-    tell(err, &[b"cannot read ", name.as_bytes(), b"\n"]);
+    tell_file(err, b"cannot read ", name.as_bytes());
 }
 
 #[tactic(auto, unfolding(crate::specs::Messages::too_long_line))]
@@ -83,7 +133,7 @@ pub fn tell_too_long<E: Sink>(err: &mut E, name: &str)
     ensures line { Tells (E.contents err.old) (E.contents err.new) (E.faults err.old) (E.faults err.new) (too_long_line name.now) }
     ensures faults { E.faults err.old ≤ E.faults err.new }
 {
-    tell(err, &[b"too long ", name.as_bytes(), b"\n"]);
+    tell_file(err, b"too long ", name.as_bytes());
 }
 
 #[tactic(auto, unfolding(crate::specs::Messages::unput_line))]
@@ -91,7 +141,7 @@ pub fn tell_unput<E: Sink>(err: &mut E, name: &str)
     ensures line { Tells (E.contents err.old) (E.contents err.new) (E.faults err.old) (E.faults err.new) (unput_line name.now) }
     ensures faults { E.faults err.old ≤ E.faults err.new }
 {
-    tell(err, &[b"cannot write ", name.as_bytes(), b"\n"]);
+    tell_file(err, b"cannot write ", name.as_bytes());
 }
 
 #[tactic(auto, unfolding(crate::specs::Messages::unwritable_line))]

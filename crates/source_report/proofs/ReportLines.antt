@@ -1,8 +1,10 @@
 -- The lines that are left of a report, one behind the other.
-use Rattle.std.proofs.Common.{◌≡◌, ◌<◌, ℕ, ◌+◌, List, [], ◌∷◌, ◌++◌, length, drop, get_or, arith, ap, ◌∙◌, drop-cons, sym, map, Some}
+use Rattle.std.proofs.Common.{◌≡◌, ◌<◌, ◌≤◌, ◌==◌, ℕ, zero, suc, ◌+◌, ◌-◌, List, [], ◌∷◌, ◌++◌, length, drop, get_or, slice_index, arith, ap, ◌∙◌, drop-cons, sym, map, Some}
+use Rattle.std.proofs.Common.{true, if◌then◌else◌}
+use Rattle.std.proofs.lemmas.Bool.Decides.{nat_tests}
 use Rattle.std.proofs.Math.ListN.{get_or-map}
 use Rattle.std.proofs.lemmas.List.{length-map, get_or-map as get_or-map_at}
-use Rattle.alp_io.specs.Report.{accepted_line}
+use Rattle.alp_io.specs.Report.{accepted_line, value_line}
 use Rattle.task_ast.specs.declared.SharedDeclaration.{SharedDeclaration}
 use Rattle.source_values.specs.Runs.{initial_words}
 use Rattle.source_report.specs.SourceReport.{spelled, emitted_lines, change_line, element_lines, variable_lines, change_lines}
@@ -20,6 +22,29 @@ rest_of_elements name before now i hb hn =
     let split_b : drop i before ≡ get_or before i 0 ∷ drop (i + 1) before = grind (arith, drop-cons before i 0) in
     let split_n : drop i now ≡ get_or now i 0 ∷ drop (i + 1) now = grind (arith, drop-cons now i 0) in
     ap (λ x. element_lines name i x (drop i now)) split_b ∙ ap (element_lines name i (get_or before i 0 ∷ drop (i + 1) before)) split_n
+
+-- no line for words that are the same
+unchanged : (name : List ℕ) (i b w : ℕ) → b ≡ w → change_line name (Some i) b w ≡ []
+unchanged name i b w e =
+    let same : (b == w) ≡ true = grind (arith, nat_tests, e) in
+    ap (λ x. if x then [] else value_line name (Some i) w) same
+
+-- the elements up to an index are the same: only those from there on have lines
+elements_passed_by : (n : ℕ) (name before now : List ℕ) (i j : ℕ) → j ≡ i + n → j ≤ length before → j ≤ length now
+    → ((k : ℕ) → i ≤ k → k < j → slice_index before k ≡ slice_index now k)
+    → element_lines name i (drop i before) (drop i now) ≡ element_lines name j (drop j before) (drop j now)
+elements_passed_by zero name before now i j e hb hn same =
+    let at : i ≡ j = omega arith in
+    ap (λ k. element_lines name k (drop k before) (drop k now)) at
+elements_passed_by (suc n) name before now i j e hb hn same =
+    rest_of_elements name before now i (omega arith) (omega arith)
+    ∙ ap (λ line. line ++ element_lines name (i + 1) (drop (i + 1) before) (drop (i + 1) now)) (unchanged name i _ _ (same i (omega arith) (omega arith)))
+    ∙ elements_passed_by n name before now (i + 1) j (omega arith) hb hn (λ k low high. same k (omega arith) high)
+
+pub elements_passed : (name before now : List ℕ) (i j : ℕ) → i ≤ j → j ≤ length before → j ≤ length now
+    → ((k : ℕ) → i ≤ k → k < j → slice_index before k ≡ slice_index now k)
+    → element_lines name i (drop i before) (drop i now) ≡ element_lines name j (drop j before) (drop j now)
+elements_passed name before now i j low hb hn same = elements_passed_by (j - i) name before now i j (omega arith) hb hn same
 
 -- rows that are as long as the declarations say
 abbrev pub IsShapedBy : List SharedDeclaration → List (List ℕ) → Type 0

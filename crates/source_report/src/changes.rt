@@ -56,7 +56,8 @@ fn write_elements<S: Sink>(
         (element_lines name.now 0 (slice_index_or run.now.before v []) (slice_index_or run.now.shared v [])) }
     ensures cause { HasCause (S.faults report.old.sink.now) (S.faults report.new.sink.now) result }
 {
-    for i in 0..n {
+    let mut i = run.next_written(v, 0, n);
+    while i < n {
         write_change(
             report,
             name,
@@ -64,6 +65,7 @@ fn write_elements<S: Sink>(
             run.before(v, i) as u32,
             run.word(v, i) as u32,
         )?;
+        i = run.next_written(v, i + 1, n);
     }
     Ok(())
 }

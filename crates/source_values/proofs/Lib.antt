@@ -1,6 +1,7 @@
 mod Choices
 mod Completions
 mod Emitted
+mod Marked
 mod Rows
 mod Takes
 mod Tasks

@@ -1,11 +1,13 @@
 -- Rows of words that change in one place.
-use Rattle.std.proofs.Common.{◌≡◌, ◌<◌, ◌≤◌, ◌+◌, ◌++◌, ◌∷◌, ℕ, List, [], map, length, get_or, take, slice_set, sym, ap, ◌∙◌, Vec, arith, add-one}
+use Rattle.std.proofs.Common.{◌≡◌, ◌<◌, ◌≤◌, ◌+◌, ◌++◌, ◌∷◌, ℕ, List, [], map, length, get_or, take, slice_set, slice_index, sym, ap, subst, ◌∙◌, Vec, arith, add-one}
 use Rattle.std.specs.Global.{Global}
 use Rattle.std.specs.Vec.{with_items}
 use Rattle.std.proofs.lemmas.List.{map-set, get_or-map, with_items_is, length-map, take_all}
 use Rattle.std.proofs.Math.ListN.{length-set}
 use Rattle.std.proofs.Math.Seq.{map-set_same, take-suc, take-suc-set}
-use Rattle.source_values.specs.View.{rows_of}
+use Rattle.source_values.specs.Rows.{rows_of}
+use Rattle.source_values.specs.Marks.{MarksValue, IsMarked, Covers}
+use Rattle.source_values.proofs.Marked.{covers_put}
 
 -- what the rows are where one word of the row that the code reached is set
 record Set (rows : List (Vec ℕ Global)) (v i w : ℕ) (r : Vec ℕ Global) (words : List ℕ) : Type 0 where
@@ -60,16 +62,20 @@ same_length to from i a b e h =
     ∙ ap (length {A = ℕ}) (get_or-map (λ row. row.items) rows i r [] k) in
     sym (at to a ht) ∙ ap (λ ls. get_or ls i 0) e ∙ at from b h
 
--- one row more
-pub record Copied (to from : List (Vec ℕ Global)) (i : ℕ) : Type 0 where
-  pub same_lengths : map (length {A = ℕ}) (rows_of to) ≡ map (length {A = ℕ}) (rows_of from)
-  pub copied : take i (rows_of to) ≡ take i (rows_of from)
+-- ---- rows that follow others, where they are marked
 
-pub copied_more : (to from : List (Vec ℕ Global)) (i : ℕ) (a b : Vec ℕ Global) (words : List ℕ)
-    → map (length {A = ℕ}) (rows_of to) ≡ map (length {A = ℕ}) (rows_of from) → take i (rows_of to) ≡ take i (rows_of from)
-    → i < length from → b ≡ get_or from i b → words ≡ b.items
-    → Copied (slice_set to i (with_items (get_or to i a) words)) from (i + 1)
-copied_more to from i a b words e c h is w =
+-- the rows up to one are those of the others, and words that aren't marked are the same
+pub record Followed (m : MarksValue) (to from : List (Vec ℕ Global)) (i : ℕ) : Type 0 where
+  pub same_lengths : map (length {A = ℕ}) (rows_of to) ≡ map (length {A = ℕ}) (rows_of from)
+  pub followed : take i (rows_of to) ≡ take i (rows_of from)
+  pub covers : Covers m (rows_of to) (rows_of from)
+
+-- one row more
+pub followed_more : (m : MarksValue) (to from : List (Vec ℕ Global)) (i : ℕ) (a b : Vec ℕ Global) (words : List ℕ)
+    → Followed m to from i → i < length from → b ≡ get_or from i b → words ≡ b.items
+    → Followed m (slice_set to i (with_items (get_or to i a) words)) from (i + 1)
+followed_more m to from i a b words f h is w =
+    let e = f.same_lengths in
     let ht : i < length to = omega (arith, same_count to from e) in
     let hr : i < length (rows_of to) = omega (arith, length-map to (λ row. row.items)) in
     let hf : i < length (rows_of from) = omega (arith, length-map from (λ row. row.items)) in
@@ -79,16 +85,29 @@ copied_more to from i a b words e c h is w =
     map-set (λ row. row.items) to i (with_items (get_or to i a) words) ∙ ap (λ ws. slice_set (rows_of to) i ws)
     (with_items_is (get_or to i a) words (old ∙ sym (get_or to i a).ok.0)) in
     let same : length words ≡ length (get_or (rows_of to) i []) = old ∙ ap length (sym (get_or-map (λ row. row.items) to i a [] ht)) in
+    let put : slice_set (rows_of to) i (get_or (rows_of from) i []) ≡ rows_of (slice_set to i (with_items (get_or to i a) words)) =
+    ap (λ ws. slice_set (rows_of to) i ws) (sym row) ∙ sym set in
+    let P : List (List ℕ) → Type 0 = λ rows. Covers m rows (rows_of from) in
     record {
       same_lengths = ap (map (length {A = ℕ})) set ∙ map-set_same (length {A = ℕ}) (rows_of to) i words [] same ∙ e;
-      copied = ap (take (i + 1)) set ∙ rw add-one (take-suc-set (rows_of to) i words hr ∙ ap (λ t. t ++ words ∷ []) c
+      followed = ap (take (i + 1)) set ∙ rw add-one (take-suc-set (rows_of to) i words hr ∙ ap (λ t. t ++ words ∷ []) f.followed
           ∙ ap (λ x. take i (rows_of from) ++ x ∷ []) row ∙ sym (take-suc (rows_of from) i [] hf));
+      covers = subst P put (covers_put m (rows_of to) (rows_of from) i f.covers);
     }
 
-pub copied_all : (to from : List (Vec ℕ Global)) (i : ℕ) → map (length {A = ℕ}) (rows_of to) ≡ map (length {A = ℕ}) (rows_of from)
+pub followed_all : (to from : List (Vec ℕ Global)) (i : ℕ) → map (length {A = ℕ}) (rows_of to) ≡ map (length {A = ℕ}) (rows_of from)
     → take i (rows_of to) ≡ take i (rows_of from) → length from ≤ i
     → rows_of to ≡ rows_of from
-copied_all to from i e c h =
+followed_all to from i e c h =
     let t : length (rows_of to) ≤ i = omega (arith, length-map to (λ row. row.items), same_count to from e) in
     let f : length (rows_of from) ≤ i = omega (arith, length-map from (λ row. row.items)) in
     sym (take_all i (rows_of to) t) ∙ c ∙ take_all i (rows_of from) f
+
+-- what isn't marked in a row that the code reached is the same
+pub row_covered : (m : MarksValue) (to from : List (Vec ℕ Global)) (v : ℕ) (a b : Vec ℕ Global) → Followed m to from v → v < length from
+    → b ≡ get_or from v b → (j : ℕ) → (IsMarked m v j → ⊥) → slice_index (get_or to v a).items j ≡ slice_index b.items j
+row_covered m to from v a b f h is j not =
+    let ht : v < length to = omega (arith, same_count to from f.same_lengths) in
+    let at_to : get_or (rows_of to) v [] ≡ (get_or to v a).items = get_or-map (λ row. row.items) to v a [] ht in
+    let at_from : get_or (rows_of from) v [] ≡ b.items = get_or-map (λ row. row.items) from v b [] h ∙ ap (λ r. r.items) (sym is) in
+    ap (λ ws. slice_index ws j) (sym at_to) ∙ f.covers v j not ∙ ap (λ ws. slice_index ws j) at_from

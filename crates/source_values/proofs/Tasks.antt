@@ -16,7 +16,7 @@ use Rattle.task_ast.specs.declared.Source.{Source}
 use Rattle.source_values.specs.declared.scratch.Scratch.{Scratch}
 use Rattle.source_values.specs.Statements.{Attempt, to_task, run_block}
 use Rattle.source_values.specs.Runs.{body_of, task_body, fresh_attempt, new_locals, attempt_of, Completion}
-use Rattle.source_values.specs.View.{rows_of, attempt_in}
+use Rattle.source_values.specs.View.{attempt_in}
 use Rattle.source_values.proofs.Uses.{block_uses}
 
 -- what holds of each task holds of the one that the code reached
@@ -31,7 +31,7 @@ task_holds P tasks i t h is all =
 pub attempt_is : (source : Source VariableName TaskName) (task i : ℕ) (t : TaskDeclaration VariableName TaskName) (body : List (Stmt VariableName TaskName))
     (s : Scratch) (shared : List (List ℕ)) (readings : List ℕ)
     → i ≡ task → i < length source.tasks.items → t ≡ get_or source.tasks.items i t → body ≡ t.body.items
-    → rows_of s.shared.items ≡ shared → s.locals.items ≡ new_locals → s.emitted.items ≡ []
+    → s.shared.rows ≡ shared → s.locals.items ≡ new_locals → s.emitted.items ≡ []
     → attempt_of (program_of source) task shared readings ≡ run_block (block_view body) (attempt_in s readings)
 attempt_is source task i t body s shared readings same h is b rows locals emitted =
     let found : task_body (program_of source) i ≡ block_view body =
@@ -39,8 +39,8 @@ attempt_is source task i t body s shared readings same h is b rows locals emitte
     ∙ ap (λ t. block_view t.body.items) (sym is) ∙ ap block_view (sym b) in
     let fresh : fresh_attempt shared readings ≡ attempt_in s readings =
     ap (λ r. fresh_attempt r readings) (sym rows)
-    ∙ ap (λ l. record { variables = record { shared = rows_of s.shared.items; locals = l }; emitted = []; left = readings }) (sym locals)
-    ∙ ap (λ e. record { variables = record { shared = rows_of s.shared.items; locals = s.locals.items }; emitted = e; left = readings }) (sym emitted) in
+    ∙ ap (λ l. record { variables = record { shared = s.shared.rows; locals = l }; emitted = []; left = readings }) (sym locals)
+    ∙ ap (λ e. record { variables = record { shared = s.shared.rows; locals = s.locals.items }; emitted = e; left = readings }) (sym emitted) in
     ap (λ j. attempt_of (program_of source) j shared readings) (sym same)
     ∙ ap (λ b. run_block b (fresh_attempt shared readings)) found ∙ ap (run_block (block_view body)) fresh
 

@@ -1,4 +1,6 @@
 pub mod Laws
+pub mod Marks
+pub mod Rows
 pub mod Values
 pub mod Numbers
 pub mod Statements

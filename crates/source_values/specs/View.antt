@@ -1,6 +1,6 @@
 -- What the values of the code stand for.
-use Rattle.std.specs.Prelude.{◌≡◌, ◌≤◌, ◌+◌, ℕ, List, [], map, Vec, Option, Some, None}
-use Rattle.std.specs.Global.{Global}
+use Rattle.std.specs.Prelude.{◌≡◌, ◌≤◌, ◌+◌, ℕ, List, [], Option, Some, None}
+pub use Rattle.source_values.specs.Rows.{rows_of}
 use Rattle.task_ast.specs.Tree.{Block, choice_of}
 use Rattle.task_ast.specs.declared.names.VariableName.{VariableName}
 use Rattle.task_ast.specs.declared.names.TaskName.{TaskName}
@@ -11,13 +11,9 @@ use Rattle.source_values.specs.declared.statements.Ran.{Ran}
 use Rattle.source_values.specs.declared.statements.Chosen.{Chosen}
 use Rattle.source_values.specs.declared.statements.Chosen.TheVariants.{Behind, NoneHolds}
 
--- rows of words
-abbrev pub rows_of : List (Vec ℕ Global) → List (List ℕ)
-rows_of = map (λ row. row.items)
-
 -- the variables of an attempt
 abbrev pub variables_of : Scratch → Variables
-variables_of s = record { shared = rows_of s.shared.items; locals = s.locals.items }
+variables_of s = record { shared = s.shared.rows; locals = s.locals.items }
 
 -- an attempt that has these readings left
 abbrev pub attempt_in : Scratch → List ℕ → Attempt

@@ -3,11 +3,13 @@
 #![tactic(auto)]
 
 pub mod laws;
+mod marks;
 mod numbers;
 mod operators;
 mod run;
 mod scratch;
 mod statements;
+mod tracked;
 mod values;
 
 pub use laws::{readings_left_over, worked_rows};

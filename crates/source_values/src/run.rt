@@ -9,8 +9,10 @@ ghost use Rattle.source_values.specs.Runs.{initial_words, initial_rows, new_loca
 ghost use Rattle.source_values.specs.Running.{IsRunnable, fresh_run};
 ghost use Rattle.source_values.specs.View.{rows_of, attempt_in, outcome_of};
 
-use crate::scratch::{Scratch, row_word};
+use crate::marks::Marks;
+use crate::scratch::Scratch;
 use crate::statements::run_block;
+use crate::tracked::{Tracked, row_word};
 use arrayvec::ArrayVec;
 use std::alloc::{AllocError, Global};
 use std::marker::Model;
@@ -36,7 +38,7 @@ pub struct Done {
 #[derive(Drop)]
 pub struct SourceRun {
     before: Vec<Vec<u16>>,
-    shared: Vec<Vec<u16>>,
+    written: Marks,
     emitted: ArrayVec<u16, 256>,
     task: u16,
     scratch: Scratch,
@@ -46,13 +48,15 @@ impl Model for SourceRun {
     ghost use Rattle.std.specs.Prelude.{◌≡◌, map, length};
     ghost use Rattle.source_values.specs.Runs.{RunState};
     ghost use Rattle.source_values.specs.View.{rows_of};
+    ghost use Rattle.source_values.specs.Marks.{Covers};
 
     ghost Value = { RunState };
 
-    ghost view = { λ r. record { before = rows_of r.before.items; shared = rows_of r.shared.items; emitted = r.emitted.items; task = r.task } };
+    ghost view = { λ r. record { before = rows_of r.before.items; shared = r.scratch.shared.base; emitted = r.emitted.items; task = r.task } };
 
-    ghost invariant = { λ r. (map length (rows_of r.before.items) ≡ map length (rows_of r.shared.items))
-        × (map length (rows_of r.scratch.shared.items) ≡ map length (rows_of r.shared.items))
+    ghost invariant = { λ r. (map length (rows_of r.before.items) ≡ map length r.scratch.shared.base)
+        × (r.scratch.shared.rows ≡ r.scratch.shared.base)
+        × Covers r.written (rows_of r.before.items) r.scratch.shared.base
         × (length r.scratch.locals.items ≡ 256) };
 }
 
@@ -88,32 +92,13 @@ fn initial_rows(alloc: Global, shared: &[SharedDeclaration]) -> Result<Vec<Vec<u
     Ok(rows)
 }
 
-fn copy_row(to: &mut [u16], from: &[u16])
-    requires { length to.old ≡ length from.now }
-    ensures { to.new ≡ from.now }
-{
-    to.copy_from_slice(from);
-}
-
-// Copies rows onto rows of the same lengths.
-fn copy_rows(to: &mut [Vec<u16>], from: &[Vec<u16>])
-    requires { map length (rows_of to.old) ≡ map length (rows_of from.now) }
-    ensures { rows_of to.new ≡ rows_of from.now }
-{
-    for (i, row) in from.iter().enumerate() {
-        copy_row(&mut to[i], row);
-    }
-}
-
-// Makes ready for an attempt on these shared words.
-fn restart(scratch: &mut Scratch, shared: &[Vec<u16>])
-    requires same_lengths { map length (rows_of scratch.old.shared.items) ≡ map length (rows_of shared.now) }
+// Makes ready for an attempt.
+fn restart(scratch: &mut Scratch)
     requires locals { length scratch.old.locals.items ≡ 256 }
-    ensures shared { rows_of scratch.new.shared.items ≡ rows_of shared.now }
+    ensures shared { scratch.new.shared ≡ scratch.old.shared }
     ensures locals { scratch.new.locals.items ≡ new_locals }
     ensures emitted { scratch.new.emitted.items ≡ [] }
 {
-    copy_rows(&mut scratch.shared, shared);
     scratch.locals.fill(0);
     scratch.emitted.clear();
 }
@@ -134,7 +119,7 @@ fn run_task<'r>(
     ensures left { IfSome result (λ x. length x.1.now ≤ length readings.now) }
     ensures few_emitted { OnSome result (length scratch.new.emitted.items ≤ 256) }
     ensures short { IfNone result (run_block (block_view body.now) (attempt_in scratch.old readings.now) ≡ short) }
-    ensures same_lengths { map length (rows_of scratch.new.shared.items) ≡ map length (rows_of scratch.old.shared.items) }
+    ensures same_base { scratch.new.shared.base ≡ scratch.old.shared.base }
     ensures same_locals { length scratch.new.locals.items ≡ length scratch.old.locals.items }
 {
     let ran = run_block(body, scratch, readings)?;
@@ -148,13 +133,15 @@ impl SourceRun {
         requires { IsRunnable (program_of source.now) }
         ensures { IfOk result (λ r. r ≡ fresh_run (program_of source.now)) }
     {
+        let base = initial_rows(alloc, &source.shared)?;
+        let rows = initial_rows(alloc, &source.shared)?;
         Ok(SourceRun {
             before: initial_rows(alloc, &source.shared)?,
-            shared: initial_rows(alloc, &source.shared)?,
+            written: Marks::new(alloc)?,
             emitted: ArrayVec::new(),
             task: source.entry.task as u16,
             scratch: Scratch {
-                shared: initial_rows(alloc, &source.shared)?,
+                shared: Tracked::new(base, rows, Marks::new(alloc)?),
                 locals: vec![in alloc; 0; 256]?,
                 emitted: ArrayVec::new(),
             },
@@ -178,14 +165,18 @@ impl SourceRun {
         ensures short { OnErr result (attempt_of (program_of source.now) self.old.task self.old.shared readings.now ≡ short) }
         ensures as_before { OnErr result (self.new ≡ self.old) }
     {
-        restart(&mut self.scratch, &self.shared);
+        restart(&mut self.scratch);
         let from = self.task;
         let body = &source.tasks[from as usize].body;
         match run_task(body, &mut self.scratch, readings, source.tasks.len()) {
-            None => Err(Short),
+            None => {
+                self.scratch.shared.undo();
+                Err(Short)
+            }
             Some((next, left)) => {
-                mem::swap(&mut self.before, &mut self.shared);
-                mem::swap(&mut self.shared, &mut self.scratch.shared);
+                self.scratch
+                    .shared
+                    .settle(&mut self.before, &mut self.written);
                 mem::swap(&mut self.emitted, &mut self.scratch.emitted);
                 self.task = next;
                 let used = (readings.len() - left.len()) as u32;
@@ -199,7 +190,7 @@ impl SourceRun {
     pub fn word(&self, v: u16, i: u16) -> u16
         ensures { result ≡ slice_index (slice_index_or self.now.shared v []) i }
     {
-        row_word(&self.shared, v as usize, i as usize)
+        self.scratch.shared.base_word(v as usize, i as usize)
     }
 
     /// The same at the transition before the last, at first the initial word.
@@ -207,6 +198,19 @@ impl SourceRun {
         ensures { result ≡ slice_index (slice_index_or self.now.before v []) i }
     {
         row_word(&self.before, v as usize, i as usize)
+    }
+
+    /// The first index from one on at which the last transition may have changed the word of shared variable `v`, if it comes before
+    /// the end; else the end.
+    pub fn next_written(&self, v: u16, from: u16, end: u16) -> u16
+        requires { from ≤ end }
+        ensures later { from ≤ result }
+        ensures inside { result ≤ end }
+        ensures same { (i : ℕ) → from ≤ i → i < result
+            → slice_index (slice_index_or self.now.before v []) i ≡ slice_index (slice_index_or self.now.shared v []) i }
+    {
+        let end = end as usize;
+        self.written.next(v as usize, from as usize, end).min(end) as u16
     }
 
     /// The words that the last transition emitted, at first none.

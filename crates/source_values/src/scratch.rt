@@ -1,12 +1,13 @@
 //! The words that an attempt works on.
 
-ghost use Rattle.std.specs.Prelude.{◌≡◌, ◌<◌, ℕ, List, length, map, [], slice_index, slice_index_or, slice_set};
+ghost use Rattle.std.specs.Prelude.{◌≡◌, ℕ, List, length};
 ghost use Rattle.source_values.specs.Values.{word_at, with_word, scalar_value, converted};
 ghost use Rattle.source_values.specs.Numbers.{number_type, number_value};
 ghost use Rattle.source_values.specs.Statements.{assigned_to};
-ghost use Rattle.source_values.specs.View.{rows_of, variables_of, attempt_in};
+ghost use Rattle.source_values.specs.View.{variables_of, attempt_in};
 
 use crate::numbers::{Number, number_of, two_words};
+use crate::tracked::{Tracked, set_word, word_of};
 use arrayvec::ArrayVec;
 use task_ast::{Variable, VariableName, WordType};
 
@@ -16,42 +17,9 @@ pub const MOST_EMITS: usize = 256;
 /// The words of an attempt: of each shared variable its words, the locals, and the words emitted so far.
 #[derive(Drop)]
 pub struct Scratch {
-    pub shared: Vec<Vec<u16>>,
+    pub shared: Tracked,
     pub locals: Vec<u16>,
     pub emitted: ArrayVec<u16, 256>,
-}
-
-fn word_of(words: &[u16], i: usize) -> u16
-    ensures { result ≡ slice_index words.now i }
-{
-    words.get(i).copied().unwrap_or(0)
-}
-
-fn set_word(words: &mut [u16], i: usize, w: u16)
-    ensures { words.new ≡ slice_set words.old i w }
-{
-    if i < words.len() {
-        words[i] = w;
-    }
-}
-
-pub fn row_word(rows: &[Vec<u16>], v: usize, i: usize) -> u16
-    ensures { result ≡ slice_index (slice_index_or (rows_of rows.now) v []) i }
-{
-    if v < rows.len() {
-        word_of(&rows[v], i)
-    } else {
-        0
-    }
-}
-
-fn set_row_word(rows: &mut [Vec<u16>], v: usize, i: usize, w: u16)
-    ensures set { rows_of rows.new ≡ slice_set (rows_of rows.old) v (slice_set (slice_index_or (rows_of rows.old) v []) i w) }
-    ensures same_lengths { map length (rows_of rows.new) ≡ map length (rows_of rows.old) }
-{
-    if v < rows.len() {
-        set_word(&mut rows[v], i, w);
-    }
 }
 
 impl Scratch {
@@ -60,7 +28,7 @@ impl Scratch {
         ensures { result ≡ word_at (variables_of self.now) variable i }
     {
         match variable {
-            Variable::Shared(v) => row_word(&self.shared, v as usize, i as usize),
+            Variable::Shared(v) => self.shared.word(v as usize, i as usize),
             Variable::Local(n) => word_of(&self.locals, n as usize),
         }
     }
@@ -81,11 +49,11 @@ impl Scratch {
     pub fn set(&mut self, variable: Variable, i: u32, w: u16)
         ensures variables { variables_of self.new ≡ with_word (variables_of self.old) variable i w }
         ensures emitted { self.new.emitted ≡ self.old.emitted }
-        ensures same_lengths { map length (rows_of self.new.shared.items) ≡ map length (rows_of self.old.shared.items) }
+        ensures same_base { self.new.shared.base ≡ self.old.shared.base }
         ensures same_locals { length self.new.locals.items ≡ length self.old.locals.items }
     {
         match variable {
-            Variable::Shared(v) => set_row_word(&mut self.shared, v as usize, i as usize, w),
+            Variable::Shared(v) => self.shared.set(v as usize, i as usize, w),
             Variable::Local(n) => set_word(&mut self.locals, n as usize, w),
         }
     }
@@ -95,7 +63,7 @@ impl Scratch {
         ensures attempt { (left : List ℕ) → attempt_in self.new left
             ≡ assigned_to (attempt_in self.old left) x.now (converted (number_type n) x.now.word_type (number_value n)) }
         ensures emitted { self.new.emitted ≡ self.old.emitted }
-        ensures same_lengths { map length (rows_of self.new.shared.items) ≡ map length (rows_of self.old.shared.items) }
+        ensures same_base { self.new.shared.base ≡ self.old.shared.base }
         ensures same_locals { length self.new.locals.items ≡ length self.old.locals.items }
     {
         match x.word_type {

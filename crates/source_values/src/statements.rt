@@ -7,7 +7,7 @@ ghost use Rattle.task_ast.specs.declared.names.VariableName.{VariableName};
 ghost use Rattle.task_ast.specs.declared.names.TaskName.{TaskName};
 ghost use Rattle.source_values.specs.Statements.{run_statement, run_choice, run_block, statement_emits, choice_emits, block_emits, with_value, goes_on};
 ghost use Rattle.source_values.specs.Statements.{assigned, assigned_value, word_of};
-ghost use Rattle.source_values.specs.View.{attempt_in, outcome_of, chosen_outcome, ChosenEmits, rows_of};
+ghost use Rattle.source_values.specs.View.{attempt_in, outcome_of, chosen_outcome, ChosenEmits};
 
 use crate::scratch::Scratch;
 use crate::values::evaluate;
@@ -46,7 +46,7 @@ fn assign<'r>(
     ensures outcome { with_value (expression_of e.now) (attempt_in scratch.old readings.now)
         (λ w s. goes_on (assigned_value s x.now (expression_of e.now) w)) ≡ outcome_of result scratch.new }
     ensures emitted { scratch.new.emitted ≡ scratch.old.emitted }
-    ensures same_lengths { map length (rows_of scratch.new.shared.items) ≡ map length (rows_of scratch.old.shared.items) }
+    ensures same_base { scratch.new.shared.base ≡ scratch.old.shared.base }
     ensures same_locals { length scratch.new.locals.items ≡ length scratch.old.locals.items }
 {
     let value = evaluate(e, scratch, readings)?;
@@ -65,7 +65,7 @@ fn store<'r>(
     ensures outcome { with_value (expression_of index.now) (attempt_in scratch.old readings.now)
         (λ i s. with_value (expression_of e.now) s (λ w s. goes_on (assigned s variable i (word_of (expression_of e.now) w)))) ≡ outcome_of result scratch.new }
     ensures emitted { scratch.new.emitted ≡ scratch.old.emitted }
-    ensures same_lengths { map length (rows_of scratch.new.shared.items) ≡ map length (rows_of scratch.old.shared.items) }
+    ensures same_base { scratch.new.shared.base ≡ scratch.old.shared.base }
     ensures same_locals { length scratch.new.locals.items ≡ length scratch.old.locals.items }
 {
     let i = evaluate(index, scratch, readings)?;
@@ -98,7 +98,7 @@ fn run_statement<'r>(
     requires { length scratch.old.emitted.items + statement_emits (statement_of statement.now) ≤ 256 }
     ensures outcome { run_statement (statement_of statement.now) (attempt_in scratch.old readings.now) ≡ outcome_of result scratch.new }
     ensures emitted { OnSome result (length scratch.new.emitted.items ≤ length scratch.old.emitted.items + statement_emits (statement_of statement.now)) }
-    ensures same_lengths { map length (rows_of scratch.new.shared.items) ≡ map length (rows_of scratch.old.shared.items) }
+    ensures same_base { scratch.new.shared.base ≡ scratch.old.shared.base }
     ensures same_locals { length scratch.new.locals.items ≡ length scratch.old.locals.items }
 {
     match statement {
@@ -151,7 +151,7 @@ fn run_arms<'r>(
         → run_choice (choice_of (map tested_of arms.now) last) (attempt_in scratch.old readings.now) ≡ chosen_outcome result last scratch.new }
     ensures emitted { ChosenEmits result (length scratch.old.emitted.items) (length scratch.new.emitted.items)
         (choice_emits (choice_of (map tested_of arms.now) None)) }
-    ensures same_lengths { map length (rows_of scratch.new.shared.items) ≡ map length (rows_of scratch.old.shared.items) }
+    ensures same_base { scratch.new.shared.base ≡ scratch.old.shared.base }
     ensures same_locals { length scratch.new.locals.items ≡ length scratch.old.locals.items }
 {
     let mut left = readings;
@@ -175,7 +175,7 @@ pub fn run_block<'r>(
     requires { length scratch.old.emitted.items + block_emits (block_view body.now) ≤ 256 }
     ensures outcome { run_block (block_view body.now) (attempt_in scratch.old readings.now) ≡ outcome_of result scratch.new }
     ensures emitted { OnSome result (length scratch.new.emitted.items ≤ length scratch.old.emitted.items + block_emits (block_view body.now)) }
-    ensures same_lengths { map length (rows_of scratch.new.shared.items) ≡ map length (rows_of scratch.old.shared.items) }
+    ensures same_base { scratch.new.shared.base ≡ scratch.old.shared.base }
     ensures same_locals { length scratch.new.locals.items ≡ length scratch.old.locals.items }
 {
     let mut left = readings;

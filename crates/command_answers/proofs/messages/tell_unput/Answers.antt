@@ -3,4 +3,4 @@ use Rattle.command_answers.proofs.messages.tell_unput.Goals as goal
 
 pub returns-clause-line : goal.returns-clause-line
 unfolding unput_line
-returns-clause-line g c = rw c.as_bytes.ensures.value at c.tell.ensures.line
+returns-clause-line g c = rw c.as_bytes.ensures.value at c.tell_file.ensures.line

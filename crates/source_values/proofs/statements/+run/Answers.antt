@@ -126,7 +126,7 @@ run_statement-loop-k-preserved t c = record {
       let kept = ap (λ e. length e.items) c.set.ensures.emitted in
       omega (arith, turn, same, kept, c.in_ok-ran-in-For.ensures.emitted, c.loop-k.invariant.emits);
   bound = omega arith;
-  same_lengths = search rules;
+  same_base = search rules;
   same_locals = search rules;
 }
 

@@ -1,10 +1,10 @@
-use Rattle.std.proofs.Common.{◌≡◌, ◌≤◌, ◌+◌, ◌-◌, ◌*◌, ℕ, Option, length, map, drop}
+use Rattle.std.proofs.Common.{◌≡◌, ◌≤◌, ◌+◌, ◌-◌, ◌*◌, Option, length, map, drop}
 use Rattle.task_ast.specs.Tree.{Block, choice_of}
 use Rattle.task_ast.specs.View.{tested_of, block_view}
 use Rattle.task_ast.specs.declared.names.VariableName.{VariableName}
 use Rattle.task_ast.specs.declared.names.TaskName.{TaskName}
 use Rattle.source_values.specs.Statements.{run_choice, run_block, turns, block_emits}
-use Rattle.source_values.specs.View.{attempt_in, rows_of}
+use Rattle.source_values.specs.View.{attempt_in}
 use Rattle.source_values.proofs.statements.+run.Given as goal
 
 abbrev pub invariant-run_arms-loop-arm : goal.invariant-run_arms-loop-arm
@@ -21,7 +21,7 @@ invariant-run_block-loop-statement l = record {
       ≡ run_block (block_view l.body) (attempt_in l.fn.scratch l.fn.readings);
   emits : length l.scratch.emitted.items + block_emits (block_view (drop l.statement-index l.body))
       ≤ length l.fn.scratch.emitted.items + block_emits (block_view l.body);
-  same_lengths : map (length {A = ℕ}) (rows_of l.scratch.shared.items) ≡ map (length {A = ℕ}) (rows_of l.fn.scratch.shared.items);
+  same_base : l.scratch.shared.base ≡ l.fn.scratch.shared.base;
   same_locals : length l.scratch.locals.items ≡ length l.fn.scratch.locals.items;
 }
 
@@ -32,6 +32,6 @@ invariant-run_statement-loop-k l = record {
   emits : length l.scratch.emitted.items + (l.k-end - l.k) * block_emits (block_view l.body.items)
       ≤ length l.fn.scratch.emitted.items + (l.k-end - l.initial.k) * block_emits (block_view l.body.items);
   bound : l.k ≤ l.initial.k + (l.k-end - l.initial.k);
-  same_lengths : map (length {A = ℕ}) (rows_of l.scratch.shared.items) ≡ map (length {A = ℕ}) (rows_of l.fn.scratch.shared.items);
+  same_base : l.scratch.shared.base ≡ l.fn.scratch.shared.base;
   same_locals : length l.scratch.locals.items ≡ length l.fn.scratch.locals.items;
 }

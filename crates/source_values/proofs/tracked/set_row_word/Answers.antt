@@ -1,5 +1,5 @@
 use Rattle.source_values.proofs.Rows.{rows_set, rows_set-lengths}
-use Rattle.source_values.proofs.scratch.set_row_word.Goals as goal
+use Rattle.source_values.proofs.tracked.set_row_word.Goals as goal
 
 pub returns-then-v-rows-clause-set : goal.returns-then-v-rows-clause-set
 returns-then-v-rows-clause-set c =
