@@ -1,5 +1,6 @@
 -- Rows of words that change in one place.
-use Rattle.std.proofs.Common.{◌≡◌, ◌<◌, ◌≤◌, ◌+◌, ◌++◌, ◌∷◌, ℕ, List, [], map, length, get_or, take, slice_set, slice_index, sym, ap, subst, ◌∙◌, Vec, arith, add-one}
+use Rattle.std.proofs.Common.{◌≡◌, ◌<◌, ◌≤◌, ◌+◌, ◌++◌, ◌∷◌, ℕ, List, [], map, length, get_or, take, sym, ap, ◌∙◌, Vec, arith, add-one}
+use Rattle.std.proofs.Common.{slice_set, slice_index, subst}
 use Rattle.std.specs.Global.{Global}
 use Rattle.std.specs.Vec.{with_items}
 use Rattle.std.proofs.lemmas.List.{map-set, get_or-map, with_items_is, length-map, take_all}
