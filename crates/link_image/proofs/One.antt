@@ -1,4 +1,4 @@
--- An accepted source has one image: its plan and its layout are one, they say each word, and the map.
+-- An accepted text has one image: its program and its allowance, its plan and its layout are one, and they say each word, and the map.
 use Rattle.std.proofs.Common.{◌≡◌, ◌∙◌, ℕ, ◌+◌, ◌*◌, ◌<◌, List, length, get_or, ap, arith, sym, subst, Some, slice_index}
 use Rattle.std.proofs.lemmas.List.{same_lists, get_or_default}
 use Rattle.memory_map.specs.address_space.Limits.{fram_first, fram_words}
@@ -13,7 +13,10 @@ use Rattle.memory_map.specs.MemoryMap.{MemoryMap}
 use Rattle.image_text.specs.ImageValue.{ImageValue, place_of}
 use Rattle.linked_code.specs.machine_effects.Machine.{IsFram, fram_of}
 use Rattle.source_maps.specs.Maps.{map_of}
+use Rattle.source_meaning.specs.Acceptance.{IsAcceptedText}
+use Rattle.source_meaning.specs.Laws.{OneProgram}
 use Rattle.link_image.specs.Words.{AreImageWords, image_word}
+use Rattle.link_image.specs.Compiled.{IsCompiled}
 use Rattle.link_image.specs.Laws.{ImagesAreOne}
 use Rattle.link_image.proofs.Fram.{fram_at}
 
@@ -41,11 +44,21 @@ same_words f xs ys count same x y = same_lists xs ys (count ∙ sym same) each
 same_image : (a b : ImageValue) → a.words ≡ b.words → a.map ≡ b.map → a ≡ b
 same_image a b words map = λ j. record { words = words j; map = map j }
 
-pub images_are_one : ((p : CheckedProgram) → OnePlan p) → ((p : CheckedProgram) (allow : Allow) → IsAllowed p allow → OneLayout p allow) → ImagesAreOne
-images_are_one one_plan one_layout text p allow a b ok x y =
-    let plans : y.plans ≡ x.plans = one_plan p y.plans x.plans y.is_plan x.is_plan in
-    let other = subst (λ ps. IsLayout p allow ps y.layout) plans y.is_layout in
-    let layout : x.layout ≡ y.layout = one_layout p allow ok.allowed x.plans x.layout y.layout x.is_plan x.is_layout other in
-    let said = subst (λ l. AreImageWords p l b.words) (sym layout) y.words in
-    let words = same_words (image_word p x.layout) a.words b.words x.words.count said.count x.words.each said.each in
-    same_image a b words (x.map ∙ ap (λ l. Some (map_of text p l allow)) layout ∙ sym y.map)
+-- where the plan and the layout of each program are one
+module _ (one_plan : (p : CheckedProgram) → OnePlan p) (one_layout : (p : CheckedProgram) (allow : Allow) → IsAllowed p allow → OneLayout p allow) where
+  one_of_program : (text : List ℕ) (p : CheckedProgram) (allow : Allow) (a b : ImageValue) → IsAcceptedText text p allow → IsCompiled text p allow a
+      → IsCompiled text p allow b → a ≡ b
+  one_of_program text p allow a b ok x y =
+      let plans : y.plans ≡ x.plans = one_plan p y.plans x.plans y.is_plan x.is_plan in
+      let other = subst (λ ps. IsLayout p allow ps y.layout) plans y.is_layout in
+      let layout : x.layout ≡ y.layout = one_layout p allow ok.allowed x.plans x.layout y.layout x.is_plan x.is_layout other in
+      let said = subst (λ l. AreImageWords p l b.words) (sym layout) y.words in
+      let words = same_words (image_word p x.layout) a.words b.words x.words.count said.count x.words.each said.each in
+      same_image a b words (x.map ∙ ap (λ l. Some (map_of text p l allow)) layout ∙ sym y.map)
+
+  pub images_are_one : OneProgram → ImagesAreOne
+  images_are_one one_program text a b x y =
+      let same = one_program text x.program y.program x.allow y.allow x.accepted y.accepted in
+      let of_program = subst (λ p. IsCompiled text p y.allow b) (sym same.0) y.compiled in
+      let compiled = subst (λ allow. IsCompiled text x.program allow b) (sym same.1) of_program in
+      one_of_program text x.program x.allow a b x.accepted x.compiled compiled

@@ -17,7 +17,7 @@ use Rattle.compiled_runs.specs.compiled_model.Places.{program_places}
 use Rattle.compiled_runs.specs.compiled_model.View.{state_view, state_in, state_left}
 use Rattle.link_image.specs.Words.{code_words}
 use Rattle.source_maps.specs.Maps.{map_of}
-use Rattle.link_image.specs.Compiled.{IsCompiled}
+use Rattle.link_image.specs.Compiled.{IsCompiled, IsImageOf}
 
 -- the world of an image before anything was done
 abbrev pub fresh_world : ImageValue → World
@@ -55,7 +55,6 @@ abbrev pub ImagesHaveStates : Type 0
 ImagesHaveStates = (text : List ℕ) (p : CheckedProgram) (allow : Allow) (image : ImageValue) → IsAcceptedText text p allow
     → (c : IsCompiled text p allow image) → HasStates text p allow c.layout
 
--- an accepted source has one image
+-- an accepted text has one image
 abbrev pub ImagesAreOne : Type 0
-ImagesAreOne = (text : List ℕ) (p : CheckedProgram) (allow : Allow) (a b : ImageValue) → IsAcceptedText text p allow → IsCompiled text p allow a
-    → IsCompiled text p allow b → a ≡ b
+ImagesAreOne = (text : List ℕ) (a b : ImageValue) → IsImageOf text a → IsImageOf text b → a ≡ b

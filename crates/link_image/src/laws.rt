@@ -5,6 +5,7 @@ ghost use Rattle.link_image.specs.Laws.{ImagesAreFresh, ImagesAreOne, ImagesHave
 use linked_code::{layouts_have_room, linked_is_code};
 use lower::laws::statements_keep_to_words;
 use privatise::one_layout;
+use source_meaning::one_program;
 use war_analysis::one_plan;
 
 /// Of an accepted source's image the code stands from the boot's address on, which is the reset vector, and has room there; before
@@ -17,10 +18,11 @@ pub fn images_are_fresh()
     statements_keep_to_words();
 }
 
-/// An accepted source has one image.
+/// An accepted text has one image.
 pub fn images_are_one()
     ensures { ImagesAreOne }
 {
+    one_program();
     one_plan();
     one_layout();
 }

@@ -1,5 +1,5 @@
--- No text is accepted and refused.
-use Rattle.std.proofs.Common.{◌≡◌, ◌∙◌, ℕ, List, refl, sym, subst}
+-- No text is accepted and refused, and an accepted one is one program.
+use Rattle.std.proofs.Common.{◌≡◌, ◌∙◌, ℕ, List, [], refl, sym, subst}
 use Rattle.source_values.specs.alp_text.declared.lines.Span.{Span}
 use Rattle.task_ast.specs.Tree.{Program}
 use Rattle.task_ast.specs.declared.names.VariableName.{VariableName}
@@ -21,7 +21,7 @@ use Rattle.cost_bound.specs.Allowance.{IsAllowed}
 use Rattle.cost_bound.specs.Laws as cost
 use Rattle.source_meaning.specs.declared.fault.SourceFault.TheVariants as source_fault
 use Rattle.source_meaning.specs.Acceptance.{Parses, Checks, IsNoProgram, IsUnchecked, IsTooCostly, task_lines}
-use Rattle.source_meaning.specs.Laws.{OneAnswer}
+use Rattle.source_meaning.specs.Laws.{OneAnswer, OneProgram}
 use Rattle.source_meaning.proofs.Unique.{same_tokens}
 
 no_flaw : (text : List ℕ) (words : List Token) (kind : Flaw) (line : ℕ) → lexed text ≡ tokens words → FirstFlaw text kind line → ⊥
@@ -36,6 +36,11 @@ same_program parses checks text p q x y =
     let tree = same_tree parses text x.tree y.tree x.parses y.parses in
     let other = subst (λ t. IsAccepted text t q) (sym tree) y.checks in
     checks.one_source text x.tree p q x.checks.named.looked_up other.named.looked_up
+
+pub one_program : parse.OneAnswer → check.OneAnswer → ((p : Program VariableName TaskName) (lines : List ℕ) → cost.OneAnswer p lines) → OneProgram
+one_program parses checks costs text p q a b x y =
+    let same = same_program parses checks text p q x.checks y.checks in
+    (same, (costs q []).one_allowance a b (subst (λ r. IsAllowed r a) same x.allowed) y.allowed)
 
 no_stop : parse.OneAnswer → (text : List ℕ) (tree : Program Span Span) (line : ℕ) → Parses text tree → IsNoProgram text line → ⊥
 no_stop law text tree line x refused =

@@ -1,4 +1,4 @@
--- No text is accepted and refused, and what is accepted can be run.
+-- No text is accepted and refused, an accepted one is one program, and can be run.
 use Rattle.std.specs.Prelude.{◌≡◌, ℕ, List}
 use Rattle.task_ast.specs.Tree.{Program}
 use Rattle.task_ast.specs.declared.names.VariableName.{VariableName}
@@ -13,6 +13,10 @@ use Rattle.source_meaning.specs.Acceptance.{IsAcceptedText, IsRefusedText}
 abbrev pub OneAnswer : Type 0
 OneAnswer = (text : List ℕ) (program : Program VariableName TaskName) (allow : Allow) (fault : SourceFault)
     → IsAcceptedText text program allow → IsRefusedText text fault → fault ≡ source_fault.Memory
+
+-- an accepted text is one program with one allowance
+abbrev pub OneProgram : Type 0
+OneProgram = (text : List ℕ) (p q : Program VariableName TaskName) (a b : Allow) → IsAcceptedText text p a → IsAcceptedText text q b → (p ≡ q) × (a ≡ b)
 
 -- each accepted text can be run
 abbrev pub AcceptedTextsRun : Type 0

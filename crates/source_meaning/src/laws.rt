@@ -1,6 +1,6 @@
 //! Laws of the passes.
 
-ghost use Rattle.source_meaning.specs.Laws.{AcceptedTextsRun, OneAnswer};
+ghost use Rattle.source_meaning.specs.Laws.{AcceptedTextsRun, OneAnswer, OneProgram};
 
 use cost_bound::one_answer as one_allowance;
 use task_check::one_answer as one_check;
@@ -9,6 +9,15 @@ use task_parse::one_answer as one_parse;
 /// No text is accepted and refused.
 pub fn one_answer()
     ensures { OneAnswer }
+{
+    one_parse();
+    one_check();
+    one_allowance();
+}
+
+/// An accepted text is one program, with one allowance.
+pub fn one_program()
+    ensures { OneProgram }
 {
     one_parse();
     one_check();

@@ -7,7 +7,7 @@ mod passes;
 mod state;
 
 pub use fault::SourceFault;
-pub use laws::{accepted_texts_run, one_answer};
+pub use laws::{accepted_texts_run, one_answer, one_program};
 pub use passes::{Accepted, accept};
 pub use source_values::{Done, Short, initial_words};
 pub use state::Meaning;

@@ -2,4 +2,4 @@ use Rattle.link_image.proofs.One.{images_are_one}
 use Rattle.link_image.proofs.laws.images_are_one.Goals as goal
 
 pub returns : goal.returns
-returns c = images_are_one c.one_plan.ensures c.one_layout.ensures
+returns c = images_are_one c.one_plan.ensures c.one_layout.ensures c.one_program.ensures
