@@ -1,17 +1,17 @@
 -- Lines of accepted words and of shared numbers that have changed, one after another.
-use Rattle.std.proofs.Common.{◌≡◌, ◌≤◌, ◌<◌, ℕ, zero, suc, ◌+◌, List, [], ◌∷◌, ◌++◌, length, drop, drop-cons, get_or, flat_map, arith, refl, ap, sym, map}
-use Rattle.std.proofs.Common.{subst, ◌∙◌, ◌*◌, ◌-◌, ◌%◌, ◌==◌, Bool, true, false, if◌then◌else◌, Option, Some, None, append_assoc, All, slice_index, append-nil, nat_lt, nat_le, Ok}
+use Rattle.std.proofs.Common.{◌≡◌, ◌≤◌, ◌<◌, ℕ, zero, suc, ◌+◌, List, [], ◌∷◌, ◌++◌, length, drop, drop-cons, get_or, flat_map, arith, refl, ap, sym}
+use Rattle.std.proofs.Common.{subst, ◌∙◌, ◌*◌, ◌-◌, ◌%◌, ◌==◌, true, false, if◌then◌else◌, Option, Some, None, append_assoc, All, slice_index, append-nil, nat_lt, nat_le, Ok}
 use Rattle.std.proofs.lemmas.Bool.Decides.{nat_tests}
 use Rattle.alp_io.specs.Report.{accepted_line, value_line}
 use Rattle.std.specs.Io.KnownBytes.{Appends}
 use Rattle.std.proofs.lemmas.Bool.{and_parts}
 use Rattle.alp_io.specs.Sink.{Writes}
 use Rattle.alp_io.proofs.Interface.{Progress}
-use Rattle.image_text.specs.address_space.Limits.{fram_words, place_of, IsFramWord}
+use Rattle.image_text.specs.address_space.Limits.{place_of}
 use Rattle.image_text.specs.image_map.declared.parts.ValueType.{ValueType}
 use Rattle.image_text.specs.image_map.declared.parts.Variable.{Variable}
-use Rattle.image_text.specs.image_map.MapValue.{IsVariable, fits}
-use Rattle.board_run.specs.History.{SharedNumber, array_words, variable_numbers, changed_line, changed_lines, values_in, word_in, number_of, shared_numbers}
+use Rattle.image_text.specs.image_map.MapValue.{IsVariable}
+use Rattle.board_run.specs.History.{SharedNumber, array_words, variable_numbers, changed_line, word_in, number_of, shared_numbers}
 use Rattle.board_run.specs.Shadow.{ShadowValue, IsMarked, Covers}
 use Rattle.board_run.specs.State.{numbers_from, numbers_left, HasIndex, told_lines}
 use Rattle.board_run.proofs.Placed.{begins, array_next, fits_so}

@@ -1,21 +1,20 @@
 -- An instruction changes no word of the FRAM but the one that it wrote.
-use Rattle.std.proofs.Common.{◌≡◌, ◌<◌, ◌≤◌, ◌-◌, ◌%◌, if◌then◌else◌, arith, ℕ, refl, sym, ◌∙◌, ap, subst, Bool, true, false, List, [], ◌∷◌, ◌++◌, map}
-use Rattle.std.proofs.Common.{slice_index, slice_set, slice_range, Option, Some, None, Result, Ok, Err}
+use Rattle.std.proofs.Common.{◌≡◌, ◌≤◌, ◌-◌, ◌%◌, if◌then◌else◌, arith, ℕ, refl, sym, ◌∙◌, ap, subst, Bool, true, false, List, [], ◌∷◌, ◌++◌, map}
+use Rattle.std.proofs.Common.{slice_index, slice_set, slice_range, Option, Some, None, Result, Ok}
 use Rattle.std.proofs.lemmas.List.{get_or-set_other}
 use Rattle.msp_isa.specs.declared.instructions.Instr.{Instr}
 use Rattle.msp_step.specs.declared.machine.Stop.{Stop}
 use Rattle.msp_step.specs.Step.{Executed}
-use Rattle.msp_step.specs.Registers.{registers_of}
 use Rattle.image_text.specs.image_map.MapValue.{MapValue}
-use Rattle.image_text.specs.address_space.Limits.{fram_words, place_of}
+use Rattle.image_text.specs.address_space.Limits.{place_of}
 use Rattle.fram_board.specs.declared.board.Stepped.{Stepped}
-use Rattle.fram_board.specs.Bus.{board_bus, is_fram}
-use Rattle.fram_board.specs.Board.{BoardValue, executed, opened, IsNextInstruction}
+use Rattle.fram_board.specs.Bus.{is_fram}
+use Rattle.fram_board.specs.Board.{BoardValue, executed, IsNextInstruction}
 use Rattle.fram_board.specs.Steps.{IsBoard, KeepsAllButTaken}
 use Rattle.fram_board.specs.Effects.{Effect, Store, Take, Send, takes_of, store_at, stores_of, sends_of, effects_of, stored}
 use Rattle.fram_board.proofs.Interface.{step_makes_its_effects, fram_low}
 use Rattle.board_run.specs.declared.seen.Seen.{Seen}
-use Rattle.board_run.specs.Shadow.{ShadowValue, IsMarked, IsWritten, Covers, CoversBut}
+use Rattle.board_run.specs.Shadow.{ShadowValue, IsWritten}
 use Rattle.board_run.specs.State.{FollowsBy, FollowsButBy, Follows, FollowsBut}
 
 -- none of these effects stores to the word at a place

@@ -1,11 +1,12 @@
 //! The FRAM as it was at the last done.
-ghost use Rattle.std.specs.Prelude.{◌≡◌, ℕ, ◌+◌, ◌*◌, ◌<◌, ◌≤◌, true, List, IfOk, length, slice_set};
+ghost use Rattle.std.specs.Prelude.{◌≡◌, ℕ, ◌+◌, ◌*◌, ◌<◌, ◌≤◌, true, false, List, [], All, IfOk, length, replicate, slice_index_or, slice_set};
 ghost use Rattle.image_text.specs.address_space.Limits.{IsFramWord, fram_first, fram_words, place_of};
 ghost use Rattle.board_run.specs.History.{word_in, number_at};
-ghost use Rattle.board_run.specs.Shadow.{IsMarked, IsShadow, Covers, CoversBut};
+ghost use Rattle.board_run.specs.Shadow.{HasLengths, IsMarked, IsShadow, AreRest, Covers, CoversBut};
 
 use crate::numbers::long_of;
 use crate::state::word;
+use arrayvec::ArrayVec;
 use fram_board::Board;
 use image_text::address_space::{FRAM_FIRST, FRAM_WORDS, fram_index};
 use std::alloc::{AllocError, Global};
@@ -21,13 +22,17 @@ const BLOCKS: usize = 752;
 const REGIONS: usize = 24;
 
 /// The words of the FRAM as they were at the last done, with marks on all that were written since. A block of words and a
-/// region of blocks are marked with each of theirs, so that what isn't marked is passed over as a whole.
+/// region of blocks are marked with each of theirs, so that what isn't marked is passed over as a whole. The first places that
+/// are marked are listed too, so that a done behind few writes looks at no others.
 #[derive(Drop)]
 pub struct Shadow {
     words: Vec<u16>,
     marks: Vec<bool>,
     blocks: Vec<bool>,
     regions: Vec<bool>,
+    places: ArrayVec<u16, 64>,
+    // Whether a place that is marked may be missing in the list.
+    full: bool,
 }
 
 impl Model for Shadow {
@@ -40,6 +45,8 @@ impl Model for Shadow {
       marks = s.marks.items;
       blocks = s.blocks.items;
       regions = s.regions.items;
+      places = s.places.items;
+      full = s.full;
     } };
 
     ghost invariant = { λ s. IsShadow (record {
@@ -47,56 +54,47 @@ impl Model for Shadow {
       marks = s.marks.items;
       blocks = s.blocks.items;
       regions = s.regions.items;
+      places = s.places.items;
+      full = s.full;
     }) };
 }
 
 // So many marks, none of them set.
 fn no_marks(alloc: Global, count: usize) -> Result<Vec<bool>, AllocError>
-    ensures { IfOk result (λ v. length v.items ≡ count) }
+    ensures count { IfOk result (λ v. length v.items ≡ count) }
+    ensures none { IfOk result (λ v. (i : ℕ) → slice_index_or v.items i false ≡ true → ⊥) }
 {
     vec![in alloc; false; count]
 }
 
-// Clears the marks of the words in a block.
-fn clear_block(marks: &mut Vec<bool>, block: usize)
-    requires marks { length marks.old.items ≡ fram_words }
-    requires block { block < 752 }
-    ensures { length marks.new.items ≡ fram_words }
+// Sets all marks, or clears all.
+fn set_all(marks: &mut Vec<bool>, is_marked: bool)
+    ensures { marks.new.items ≡ replicate (length marks.old.items) is_marked }
 {
-    marks[BLOCK * block..BLOCK * block + BLOCK].fill(false);
+    marks.fill(is_marked);
 }
 
-// Clears the marks of the blocks in a region, and those of their words.
-fn clear_region(marks: &mut Vec<bool>, blocks: &mut Vec<bool>, region: usize)
-    requires marks { length marks.old.items ≡ fram_words }
-    requires blocks { length blocks.old.items ≡ 752 }
-    requires region { region < 24 }
-    ensures marks { length marks.new.items ≡ fram_words }
-    ensures blocks { length blocks.new.items ≡ 752 }
+// The words at these places, which are those that differ or are marked, become those of the FRAM, and lose their marks.
+fn follow_places(
+    words: &mut Vec<u16>,
+    marks: &mut Vec<bool>,
+    blocks: &mut Vec<bool>,
+    regions: &mut Vec<bool>,
+    places: &[u16],
+    board: &Board,
+)
+    requires lengths { HasLengths words.old.items marks.old.items blocks.old.items regions.old.items }
+    requires inside { All (λ p. p < fram_words) places.now }
+    requires rest { AreRest words.old.items marks.old.items board.now.fram places.now }
+    ensures lengths { HasLengths words.new.items marks.new.items blocks.new.items regions.new.items }
+    ensures rest { AreRest words.new.items marks.new.items board.now.fram [] }
 {
-    let first = BLOCK * region;
-    for block in first..BLOCKS.min(first + BLOCK) {
-        if blocks[block] {
-            blocks[block] = false;
-            clear_block(marks, block);
-        }
-    }
-}
-
-// Clears all marks.
-fn clear_regions(marks: &mut Vec<bool>, blocks: &mut Vec<bool>, regions: &mut Vec<bool>)
-    requires marks { length marks.old.items ≡ fram_words }
-    requires blocks { length blocks.old.items ≡ 752 }
-    requires regions { length regions.old.items ≡ 24 }
-    ensures marks { length marks.new.items ≡ fram_words }
-    ensures blocks { length blocks.new.items ≡ 752 }
-    ensures regions { length regions.new.items ≡ 24 }
-{
-    for region in 0..REGIONS {
-        if regions[region] {
-            regions[region] = false;
-            clear_region(marks, blocks, region);
-        }
+    for listed in places {
+        let place = usize::from(*listed);
+        words[place] = word(board, FRAM_FIRST + 2 * place as u16);
+        marks[place] = false;
+        blocks[place / BLOCK] = false;
+        regions[place / REGION] = false;
     }
 }
 
@@ -111,6 +109,8 @@ impl Shadow {
             marks: no_marks(alloc, FRAM_WORDS)?,
             blocks: no_marks(alloc, BLOCKS)?,
             regions: no_marks(alloc, REGIONS)?,
+            places: ArrayVec::new(),
+            full: false,
         })
     }
 
@@ -136,6 +136,33 @@ impl Shadow {
         }
     }
 
+    // Whether the word at a place is marked.
+    #[inline(always)]
+    fn is_marked(&self, place: usize) -> bool
+        requires { place < fram_words }
+        ensures marked { result ≡ true → IsMarked self.now place }
+        ensures unmarked { result ≡ false → IsMarked self.now place → ⊥ }
+    {
+        self.marks[place]
+    }
+
+    // Marks the word at a place where it isn't marked yet.
+    fn add(&mut self, place: usize)
+        requires { place < fram_words }
+        ensures words { self.new.words ≡ self.old.words }
+        ensures marked { IsMarked self.new place }
+        ensures others { (i : ℕ) → IsMarked self.old i → IsMarked self.new i }
+    {
+        self.marks[place] = true;
+        self.blocks[place / BLOCK] = true;
+        self.regions[place / REGION] = true;
+        if self.places.is_full() {
+            self.full = true;
+        } else {
+            self.places.push(place as u16);
+        }
+    }
+
     /// Marks the word at an address of the FRAM.
     #[inline(always)]
     fn mark(&mut self, address: u16)
@@ -145,9 +172,9 @@ impl Shadow {
         ensures others { (i : ℕ) → IsMarked self.old i → IsMarked self.new i }
     {
         let place = fram_index(address);
-        self.marks[place] = true;
-        self.blocks[place / BLOCK] = true;
-        self.regions[place / REGION] = true;
+        if !self.is_marked(place) {
+            self.add(place);
+        }
     }
 
     /// Marks the word that an instruction wrote, if it stands in the FRAM.
@@ -156,9 +183,10 @@ impl Shadow {
         ensures words { self.new.words ≡ self.old.words }
         ensures covers { (fram : List ℕ) → CoversBut wrote self.old fram → Covers self.new fram }
     {
-        match wrote {
-            Some(address) if address >= FRAM_FIRST => self.mark(address),
-            _ => {}
+        // No word of the FRAM stands at 0.
+        let address = wrote.unwrap_or(0);
+        if address >= FRAM_FIRST {
+            self.mark(address);
         }
     }
 
@@ -167,9 +195,10 @@ impl Shadow {
         ensures words { self.new.words ≡ self.old.words }
         ensures covers { (fram : List ℕ) → Covers self.new fram }
     {
-        self.marks.fill(true);
-        self.blocks.fill(true);
-        self.regions.fill(true);
+        set_all(&mut self.marks, true);
+        set_all(&mut self.blocks, true);
+        set_all(&mut self.regions, true);
+        self.full = true;
     }
 
     // A place behind this one before which none is marked; this one exactly where it is marked itself.
@@ -177,16 +206,17 @@ impl Shadow {
     fn behind(&self, place: usize) -> usize
         requires { place < fram_words }
         ensures later { place ≤ result }
+        ensures here { result ≡ place → IsMarked self.now place }
         ensures none { (i : ℕ) → place ≤ i → i < result → IsMarked self.now i → ⊥ }
     {
-        if !self.regions[place / REGION] {
+        if self.is_marked(place) {
+            place
+        } else if !self.regions[place / REGION] {
             (place / REGION + 1) * REGION
         } else if !self.blocks[place / BLOCK] {
             (place / BLOCK + 1) * BLOCK
-        } else if !self.marks[place] {
-            place + 1
         } else {
-            place
+            place + 1
         }
     }
 
@@ -194,6 +224,7 @@ impl Shadow {
     fn next(&self, from: usize, end: usize) -> usize
         requires { end ≤ fram_words }
         ensures later { from ≤ result }
+        ensures here { result < end → IsMarked self.now result }
         ensures none { (i : ℕ) → from ≤ i → i < result → IsMarked self.now i → ⊥ }
     {
         let mut place = from;
@@ -214,6 +245,7 @@ impl Shadow {
         requires inside { from ≤ length }
         ensures later { from ≤ result }
         ensures end { result ≤ length }
+        ensures here { result < length → IsMarked self.now (place_of address + result) }
         ensures none { (i : ℕ) → from ≤ i → i < result → IsMarked self.now (place_of address + i) → ⊥ }
     {
         let first = fram_index(address);
@@ -229,33 +261,62 @@ impl Shadow {
         let _ = &self.words;
     }
 
-    // The word at a place becomes this one.
-    fn set(&mut self, place: usize, word: u16)
+    // The word at a place becomes this one, and loses its mark.
+    fn put(&mut self, place: usize, word: u16)
         requires { place < fram_words }
-        ensures { self.new ≡ record self.old { words = slice_set self.old.words place word } }
+        ensures { self.new ≡ record self.old {
+          words = slice_set self.old.words place word;
+          marks = slice_set self.old.marks place false;
+        } }
     {
         self.words[place] = word;
+        self.marks[place] = false;
     }
 
-    fn clear(&mut self)
-        ensures { self.new.words ≡ self.old.words }
-    {
-        clear_regions(&mut self.marks, &mut self.blocks, &mut self.regions);
-    }
-
-    // All words become those of the FRAM.
-    fn follow(&mut self, board: &Board)
+    // The words that are marked become those of the FRAM, and lose their marks.
+    fn follow_marked(&mut self, board: &Board)
         requires { Covers self.old board.now.fram }
-        ensures { self.new.words ≡ board.now.fram }
+        ensures words { self.new.words ≡ board.now.fram }
+        ensures none { (i : ℕ) → IsMarked self.new i → ⊥ }
     {
         // Tells the proof how long both are.
         let _taken = board.taken();
         self.whole();
         let mut place = self.next(0, FRAM_WORDS);
         while place < FRAM_WORDS {
-            self.set(place, word(board, FRAM_FIRST + 2 * place as u16));
+            self.put(place, word(board, FRAM_FIRST + 2 * place as u16));
             place = self.next(place + 1, FRAM_WORDS);
         }
+    }
+
+    // No block, no region and no place in the list is left of marks that are gone.
+    fn forget(&mut self)
+        requires { (i : ℕ) → IsMarked self.old i → ⊥ }
+        ensures { self.new.words ≡ self.old.words }
+    {
+        set_all(&mut self.blocks, false);
+        set_all(&mut self.regions, false);
+        self.places.clear();
+        self.full = false;
+    }
+
+    // The words that are listed become those of the FRAM, and no mark is left.
+    fn follow_listed(&mut self, board: &Board)
+        requires covers { Covers self.old board.now.fram }
+        requires listed { self.old.full ≡ false }
+        ensures { self.new.words ≡ board.now.fram }
+    {
+        // Tells the proof how long both are.
+        let _taken = board.taken();
+        follow_places(
+            &mut self.words,
+            &mut self.marks,
+            &mut self.blocks,
+            &mut self.regions,
+            self.places.as_slice(),
+            board,
+        );
+        self.places.clear();
     }
 
     /// The words become those of the FRAM, and no mark is left.
@@ -263,7 +324,11 @@ impl Shadow {
         requires { Covers self.old board.now.fram }
         ensures { self.new.words ≡ board.now.fram }
     {
-        self.follow(board);
-        self.clear();
+        if self.full {
+            self.follow_marked(board);
+            self.forget();
+        } else {
+            self.follow_listed(board);
+        }
     }
 }

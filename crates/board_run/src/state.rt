@@ -290,6 +290,9 @@ impl State {
         ensures cause { HasCause (S.faults report.old.sink.now) (S.faults report.new.sink.now) result }
     {
         let before = self.gate;
+        if now == before {
+            return Ok(());
+        }
         self.gate = now;
         if is_done(before, now) {
             self.complete(map, board, report)
