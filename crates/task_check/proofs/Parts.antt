@@ -1,6 +1,6 @@
 -- The parts of a looked-up source as lists.
-use Rattle.std.proofs.Common.{◌≡◌, ℕ, ◌+◌, ◌<◌, ◌≤◌, List, [], ◌∷◌, ◌++◌, length, take, get_or, map, Some, None, refl, sym, ap, ◌∙◌}
-use Rattle.std.proofs.lemmas.List.{map-append, take_more, take_all}
+use Rattle.std.proofs.Common.{◌≡◌, ℕ, List, [], ◌∷◌, ◌++◌, map, Some, None, refl, sym, ap, ◌∙◌}
+use Rattle.std.proofs.lemmas.List.{map-append, map-id}
 use Rattle.task_ast.specs.declared.Stmt.{Stmt}
 use Rattle.task_ast.specs.declared.Arm.{Arm}
 use Rattle.task_ast.specs.declared.TaskDeclaration.{TaskDeclaration}
@@ -103,23 +103,12 @@ if_back_some s ts b us d e h k =
 
 -- ---- turns of a loop
 
--- a list that grows as far as another is read
-pub read_on : {A B C : Type 0} (f : A → C) (g : B → C) (xs : List A) (x : A) (ys : List B) (i : ℕ) (y : B) → i < length ys → y ≡ get_or ys i y
-    → map f xs ≡ map g (take i ys) → f x ≡ g y → map f (xs ++ x ∷ []) ≡ map g (take (i + 1) ys)
-read_on f g xs x ys i y l at h e =
-    map-append f xs (x ∷ []) ∙ (ap (λ v. v ++ f x ∷ []) h
-    ∙ (ap (λ v. map g (take i ys) ++ v ∷ []) (e ∙ ap g at) ∙ (sym (map-append g (take i ys) (get_or ys i y ∷ [])) ∙ ap (map g) (sym (take_more ys i y l)))))
-
-pub map_map : {A B C : Type 0} (f : A → B) (g : B → C) (xs : List A) → map g (map f xs) ≡ map (λ x. g (f x)) xs
-map_map f g [] = refl
-map_map f g (x ∷ xs) = ap (λ v. g (f x) ∷ v) (map_map f g xs)
-
--- the same through a second function
-pub read_on_through : {A D B C : Type 0} (f : A → D) (h : D → C) (g : B → C) (xs new : List A) (x : A) (ys : List B) (i : ℕ) (y : B) → new ≡ xs ++ x ∷ []
-    → i < length ys → y ≡ get_or ys i y
-    → map h (map f xs) ≡ map g (take i ys) → h (f x) ≡ g y → map h (map f new) ≡ map g (take (i + 1) ys)
-read_on_through f h g xs new x ys i y is l at e k =
-    ap (λ v. map h (map f v)) is ∙ (map_map f h (xs ++ x ∷ []) ∙ read_on (λ v. h (f v)) g xs x ys i y l at (sym (map_map f h xs) ∙ e) k)
+-- a list that grows by what another has yielded
+pub read_on : {A B C D : Type 0} (f : A → D) (h : D → C) (g : B → C) (xs new : List A) (x : A) (ys : List B) (y : B) → new ≡ xs ++ x ∷ []
+    → map h (map f xs) ≡ map g ys → h (f x) ≡ g y → map h (map f new) ≡ map g (ys ++ y ∷ [])
+read_on f h g xs new x ys y is e k =
+    ap (λ v. map h (map f v)) is ∙ (ap (map h) (map-append f xs (x ∷ [])) ∙ (map-append h (map f xs) (f x ∷ [])
+    ∙ (ap (λ v. v ++ h (f x) ∷ []) e ∙ (ap (λ v. map g ys ++ v ∷ []) k ∙ sym (map-append g ys (y ∷ []))))))
 
 -- what is left to take after one more
 pub push_variables : (xs new : List (Stmt VariableName TaskName)) (x : Stmt VariableName TaskName) (all rest left : List TypedVariable) → new ≡ xs ++ x ∷ []
@@ -148,9 +137,9 @@ push_arm_targets xs new x all rest left is h k =
     h ∙ (ap (arms_targets (map tested_of xs)) k ∙ (sym (arms_targets_push (map tested_of xs) (tested_of x) left)
     ∙ ap (λ v. arms_targets v left) (sym (tests_push xs x) ∙ ap (map tested_of) (sym is))))
 
--- the end of a loop over all
-pub all_read : {B C : Type 0} (g : B → C) (zs : List C) (ys : List B) (n : ℕ) → length ys ≤ n → zs ≡ map g (take n ys) → zs ≡ map g ys
-all_read g zs ys n l h = h ∙ ap (map g) (take_all n ys l)
+-- the end of a loop that has yielded all
+pub all_read : {B C : Type 0} (g : B → C) (zs : List C) (xs ys : List B) → map (λ y. y) xs ≡ ys → zs ≡ map g xs → zs ≡ map g ys
+all_read g zs xs ys all h = h ∙ ap (map g) (sym (map-id xs) ∙ all)
 
 -- ---- tasks
 

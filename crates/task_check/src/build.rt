@@ -228,25 +228,26 @@ fn if_else(
 #[tactic(auto, using(crate::proofs::Parts::choice_uses))]
 fn statement<'a>(
     alloc: Global,
-    s: &Stmt<Span, Span>,
+    s: Stmt<Span, Span>,
     names: Names<'a>,
 ) -> Result<(Stmt<VariableName, TaskName>, Names<'a>), AllocError>
-    ensures place { IfOk result (λ x. spec.statement_back (statement_of x.0) ≡ statement_of s.now) }
+    ensures place { IfOk result (λ x. spec.statement_back (statement_of x.0) ≡ statement_of s) }
     ensures variables { IfOk result (λ x. names.entry.variables.now ≡ spec.statement_variables (statement_of x.0) x.1.variables.now) }
     ensures targets { IfOk result (λ x. names.entry.targets.now ≡ spec.statement_targets (statement_of x.0) x.1.targets.now) }
 {
     match s {
-        Stmt::Declare(word_type, name, e) => declared(alloc, *word_type, *name, e, names),
-        Stmt::Assign(name, e) => assigned(alloc, *name, e, names),
-        Stmt::Store(name, index, e) => stored(alloc, *name, index, e, names),
-        Stmt::If(tests, None) => {
+        Stmt::Declare(word_type, name, e) => declared(alloc, word_type, name, &e, names),
+        Stmt::Assign(name, e) => assigned(alloc, name, &e, names),
+        Stmt::Store(name, index, e) => stored(alloc, name, &index, &e, names),
+        Stmt::If(tests, last) => {
             let (tests, rest) = arms(alloc, tests, names)?;
-            Ok((if_only(tests), rest))
-        }
-        Stmt::If(tests, Some(last)) => {
-            let (tests, rest) = arms(alloc, tests, names)?;
-            let (last, rest) = block(alloc, last, rest)?;
-            Ok((if_else(tests, last), rest))
+            match last {
+                None => Ok((if_only(tests), rest)),
+                Some(last) => {
+                    let (last, rest) = block(alloc, last, rest)?;
+                    Ok((if_else(tests, last), rest))
+                }
+            }
         }
         Stmt::For {
             variable: first,
@@ -256,12 +257,11 @@ fn statement<'a>(
             stepped,
             body,
         } => {
-            let (first, rest) = variable(*first, names.variables)?;
-            let (tested, rest) = variable(*tested, rest)?;
-            let (stepped, variables) = variable(*stepped, rest)?;
+            let (first, rest) = variable(first, names.variables)?;
+            let (tested, rest) = variable(tested, rest)?;
+            let (stepped, variables) = variable(stepped, rest)?;
             let targets = names.targets;
             let (body, rest) = block(alloc, body, Names { variables, targets })?;
-            let (from, below) = (*from, *below);
             Ok((
                 Stmt::For {
                     variable: first,
@@ -274,9 +274,9 @@ fn statement<'a>(
                 rest,
             ))
         }
-        Stmt::Emit(e) => emitted(alloc, e, names),
+        Stmt::Emit(e) => emitted(alloc, &e, names),
         Stmt::TransitionTo(name) => {
-            let (name, rest) = target(*name, names)?;
+            let (name, rest) = target(name, names)?;
             Ok((Stmt::TransitionTo(name), rest))
         }
     }
@@ -285,34 +285,38 @@ fn statement<'a>(
 #[cycle(build)]
 fn arm<'a>(
     alloc: Global,
-    test: &Arm<Span, Span>,
+    test: Arm<Span, Span>,
     names: Names<'a>,
 ) -> Result<(Arm<VariableName, TaskName>, Names<'a>), AllocError>
-    ensures place { IfOk result (λ x. parts.tested_back (tested_of x.0) ≡ tested_of test.now) }
+    ensures place { IfOk result (λ x. parts.tested_back (tested_of x.0) ≡ tested_of test) }
     ensures variables { IfOk result (λ x. names.entry.variables.now ≡ spec.expression_variables (tested_of x.0).condition
         (spec.block_variables (tested_of x.0).block x.1.variables.now)) }
     ensures targets { IfOk result (λ x. names.entry.targets.now ≡ spec.block_targets (tested_of x.0).block x.1.targets.now) }
 {
-    let (condition, variables) = expression(alloc, &test.condition, names.variables)?;
+    let Arm {
+        condition,
+        block: body,
+    } = test;
+    let (condition, variables) = expression(alloc, &condition, names.variables)?;
     let targets = names.targets;
-    let (block, rest) = block(alloc, &test.block, Names { variables, targets })?;
+    let (block, rest) = block(alloc, body, Names { variables, targets })?;
     Ok((Arm { condition, block }, rest))
 }
 
 #[cycle(build)]
 fn arms<'a>(
     alloc: Global,
-    tests: &[Arm<Span, Span>],
+    tests: Vec<Arm<Span, Span>>,
     names: Names<'a>,
 ) -> Result<(Vec<Arm<VariableName, TaskName>>, Names<'a>), AllocError>
-    ensures place { IfOk result (λ x. map parts.tested_back (map tested_of x.0.items) ≡ map tested_of tests.now) }
+    ensures place { IfOk result (λ x. map parts.tested_back (map tested_of x.0.items) ≡ map tested_of tests.items) }
     ensures variables { IfOk result (λ x. names.entry.variables.now ≡ parts.arms_variables (map tested_of x.0.items) x.1.variables.now) }
     ensures targets { IfOk result (λ x. names.entry.targets.now ≡ parts.arms_targets (map tested_of x.0.items) x.1.targets.now) }
 {
     let mut found = Vec::new(alloc);
     let mut rest = names;
-    for i in 0..tests.len() {
-        let (test, left) = arm(alloc, &tests[i], rest)?;
+    for test in tests {
+        let (test, left) = arm(alloc, test, rest)?;
         found.push(test)?;
         rest = left;
     }
@@ -323,17 +327,17 @@ fn arms<'a>(
 #[cycle(build)]
 fn block<'a>(
     alloc: Global,
-    body: &[Stmt<Span, Span>],
+    body: Vec<Stmt<Span, Span>>,
     names: Names<'a>,
 ) -> Result<(Vec<Stmt<VariableName, TaskName>>, Names<'a>), AllocError>
-    ensures place { IfOk result (λ x. spec.block_back (block_view x.0.items) ≡ block_view body.now) }
+    ensures place { IfOk result (λ x. spec.block_back (block_view x.0.items) ≡ block_view body.items) }
     ensures variables { IfOk result (λ x. names.entry.variables.now ≡ spec.block_variables (block_view x.0.items) x.1.variables.now) }
     ensures targets { IfOk result (λ x. names.entry.targets.now ≡ spec.block_targets (block_view x.0.items) x.1.targets.now) }
 {
     let mut found = Vec::new(alloc);
     let mut rest = names;
-    for i in 0..body.len() {
-        let (s, left) = statement(alloc, &body[i], rest)?;
+    for s in body {
+        let (s, left) = statement(alloc, s, rest)?;
         found.push(s)?;
         rest = left;
     }
@@ -343,31 +347,31 @@ fn block<'a>(
 
 fn task<'a>(
     alloc: Global,
-    of: &TaskDeclaration<Span, Span>,
+    of: TaskDeclaration<Span, Span>,
     names: Names<'a>,
 ) -> Result<(TaskDeclaration<VariableName, TaskName>, Names<'a>), AllocError>
-    ensures place { IfOk result (λ x. spec.task_back (task_of x.0) ≡ task_of of.now) }
+    ensures place { IfOk result (λ x. spec.task_back (task_of x.0) ≡ task_of of) }
     ensures variables { IfOk result (λ x. names.entry.variables.now ≡ spec.block_variables (task_of x.0).body x.1.variables.now) }
     ensures targets { IfOk result (λ x. names.entry.targets.now ≡ spec.block_targets (task_of x.0).body x.1.targets.now) }
 {
-    let (body, rest) = block(alloc, &of.body, names)?;
-    let name = of.name;
+    let TaskDeclaration { name, body } = of;
+    let (body, rest) = block(alloc, body, names)?;
     Ok((TaskDeclaration { name, body }, rest))
 }
 
 fn tasks<'a>(
     alloc: Global,
-    all: &[TaskDeclaration<Span, Span>],
+    all: Vec<TaskDeclaration<Span, Span>>,
     names: Names<'a>,
 ) -> Result<(Vec<TaskDeclaration<VariableName, TaskName>>, Names<'a>), AllocError>
-    ensures place { IfOk result (λ x. map spec.task_back (map task_of x.0.items) ≡ map task_of all.now) }
+    ensures place { IfOk result (λ x. map spec.task_back (map task_of x.0.items) ≡ map task_of all.items) }
     ensures variables { IfOk result (λ x. names.entry.variables.now ≡ spec.task_variables (map task_of x.0.items) x.1.variables.now) }
     ensures targets { IfOk result (λ x. names.entry.targets.now ≡ spec.task_targets (map task_of x.0.items) x.1.targets.now) }
 {
     let mut found = Vec::new(alloc);
     let mut rest = names;
-    for i in 0..all.len() {
-        let (of, left) = task(alloc, &all[i], rest)?;
+    for of in all {
+        let (of, left) = task(alloc, of, rest)?;
         found.push(of)?;
         rest = left;
     }
@@ -392,11 +396,16 @@ pub fn named(alloc: Global, tree: Tree, names: Names) -> Result<CheckedSource, A
     ensures variables { IfOk result (λ s. spec.task_variables (program_of s).tasks [] ≡ names.entry.variables.now) }
     ensures targets { IfOk result (λ s. spec.task_targets (program_of s).tasks ((program_of s).entry.task ∷ []) ≡ names.entry.targets.now) }
 {
-    let (tasks, rest) = tasks(alloc, &tree.tasks, names)?;
-    let (entry, rest) = target(tree.entry, rest)?;
+    let Source {
+        shared,
+        tasks: all,
+        entry,
+    } = tree;
+    let (tasks, rest) = tasks(alloc, all, names)?;
+    let (entry, rest) = target(entry, rest)?;
     finish(rest)?;
     Ok(Source {
-        shared: tree.shared,
+        shared,
         tasks,
         entry,
     })

@@ -1,4 +1,4 @@
-use Rattle.std.proofs.Common.{rules, ◌≡◌, ◌<◌, List, [], ◌∷◌, ◌++◌, length, set, ap, ◌∙◌, arith}
+use Rattle.std.proofs.Common.{rules, ◌≡◌, [], ◌∷◌, ◌++◌, length, set, ap, ◌∙◌, arith}
 use Rattle.task_ast.specs.View.{expression_of}
 use Rattle.task_check.specs.Typed.{types_of}
 use Rattle.task_check.specs.Occurrences.{expression_names, occurrence}
