@@ -65,28 +65,31 @@ use Rattle.whole_programs.proofs.Loops.{GoodStatement, GoodChoice, GoodBlock, is
 
 -- ---- steps of expressions
 
--- a step of an expression that names no local, with the words on the stack before it and behind it; its numbers are words
+-- a step of an expression that names no local, with the words on the stack before it and behind it
 pub data Leaf : ℕ → ℕ → Step → Type 0 where
-  a_number : {d : ℕ} (w : ℕ) → IsWord w → Leaf d (suc d) (number w)
-  a_load : {d : ℕ} (a : ℕ) → IsWord a → Leaf d (suc d) (load a)
+  a_number : {d : ℕ} (w : ℕ) → Leaf d (suc d) (number w)
+  a_load : {d : ℕ} (a : ℕ) → Leaf d (suc d) (load a)
   a_reading : {d : ℕ} → Leaf d (suc d) sense
   a_unary : {d : ℕ} (op : UnaryOperation) → Leaf (suc d) (suc d) (unary op)
-  a_shift : {d : ℕ} (op : ShiftOperation) (k : ℕ) → IsWord k → Leaf (suc d) (suc d) (shift op k)
-  an_element : {d : ℕ} (base length : ℕ) → IsWord base → IsWord length → Leaf (suc d) (suc d) (element base length)
-  a_version : {d : ℕ} (place : ArrayPlace) (list : ListPlace) → ArrayOfWords place → ListOfWords list → Leaf (suc d) (suc d) (versioned_read place list)
+  a_shift : {d : ℕ} (op : ShiftOperation) (k : ℕ) → Leaf (suc d) (suc d) (shift op k)
+  an_element : {d : ℕ} (base length : ℕ) → Leaf (suc d) (suc d) (element base length)
+  a_version : {d : ℕ} (place : ArrayPlace) (list : ListPlace) → Leaf (suc d) (suc d) (versioned_read place list)
   a_binary : {d : ℕ} (op : BinaryOperation) → Leaf (suc (suc d)) (suc d) (binary op)
   a_widening : {d : ℕ} → Leaf (suc d) (suc (suc d)) (long with_longs.Widen)
   a_join : {d : ℕ} → Leaf (suc (suc d)) (suc (suc d)) (long with_longs.Join)
   a_low_word : {d : ℕ} → Leaf (suc (suc d)) (suc d) (long with_longs.LowWord)
   a_complement : {d : ℕ} → Leaf (suc (suc d)) (suc (suc d)) (long with_longs.Complement)
-  a_left_shift : {d : ℕ} (k : ℕ) → IsWord k → Leaf (suc (suc d)) (suc (suc d)) (long (with_longs.ShiftLeft k))
-  a_right_shift : {d : ℕ} (k : ℕ) → IsWord k → Leaf (suc (suc d)) (suc (suc d)) (long (with_longs.ShiftRight k))
+  a_left_shift : {d : ℕ} (k : ℕ) → Leaf (suc (suc d)) (suc (suc d)) (long (with_longs.ShiftLeft k))
+  a_right_shift : {d : ℕ} (k : ℕ) → Leaf (suc (suc d)) (suc (suc d)) (long (with_longs.ShiftRight k))
   a_calculation : {d : ℕ} (op : PlainOperation) → Leaf (suc (suc (suc (suc d)))) (suc (suc d)) (long (with_longs.Calculate op))
   is_below : {d : ℕ} → Leaf (suc (suc (suc (suc d)))) (suc d) (long with_longs.Below)
   is_above : {d : ℕ} → Leaf (suc (suc (suc (suc d)))) (suc d) (long with_longs.Above)
 
 zero_is_word : IsWord 0
 zero_is_word = omega arith
+
+list_of_words : (p : Places) → PlacesOfWords p → ListOfWords (list_place p)
+list_of_words p words = (words.words Version, words.words ListLength, words.list)
 
 -- what is asked of each local that an expression reads
 abbrev pub ReadOf : (ℕ → Type 0) → Variable → Type 0
@@ -137,7 +140,7 @@ pub record Fact {ℓ} (room : ℕ) : Type (ℓ + 1) where
   pub of_program : ℕ → ℕ → Program → Type ℓ
   pub of_test : ℕ → Test → Type ℓ
   pub of_local : ℕ → Type 0
-  pub leaf : (d e : ℕ) (s : Step) → Leaf d e s → e ≤ room → of_step d e s
+  pub leaf : (d e : ℕ) (s : Step) → Leaf d e s → StepOfWords s → e ≤ room → of_step d e s
   pub reads : (d n : ℕ) → of_local n → suc d ≤ room → of_step d (suc d) (local (n % 65536))
   pub asked : (d : ℕ) (c : Test) → suc d ≤ room → of_test d c → of_step d (suc d) (truth c)
   pub alone : (d e : ℕ) (s : Step) → of_step d e s → of_program d e (one s)
@@ -155,21 +158,21 @@ module _ {ℓ} {room : ℕ} (F : Fact {ℓ} room) where
     pub test : F.of_test d (value_test l)
     pub long : F.of_program d (suc (suc d)) (long_words l)
 
-  single : (d e : ℕ) (s : Step) → Leaf d e s → e ≤ room → F.of_program d e (one s)
-  single d e s k few = F.alone d e s (F.leaf d e s k few)
+  single : (d e : ℕ) (s : Step) → Leaf d e s → StepOfWords s → e ≤ room → F.of_program d e (one s)
+  single d e s k numbers few = F.alone d e s (F.leaf d e s k numbers few)
 
   -- a step behind a program
-  last : (d e f : ℕ) (q : Program) (s : Step) → F.of_program d e q → Leaf e f s → f ≤ room → F.of_program d f (joined q (one s))
-  last d e f q s h k few = F.chain d e f q (one s) h (single e f s k few)
+  last : (d e f : ℕ) (q : Program) (s : Step) → F.of_program d e q → Leaf e f s → StepOfWords s → f ≤ room → F.of_program d f (joined q (one s))
+  last d e f q s h k numbers few = F.chain d e f q (one s) h (single e f s k numbers few)
 
   -- a word becomes a long
   long_of_word : (d : ℕ) → suc (suc d) ≤ room → F.of_program (suc d) (suc (suc d)) (widening Long)
   long_of_word d two =
       last (suc d) (suc (suc d)) (suc (suc d)) (one (number 0)) (long with_longs.Join)
-      (single (suc d) (suc (suc d)) (number 0) (a_number 0 zero_is_word) two) a_join two
+      (single (suc d) (suc (suc d)) (number 0) (a_number 0) zero_is_word two) a_join tt two
 
   widened : (d : ℕ) (of : WordType) → suc (suc d) ≤ room → F.of_program (suc d) (suc (suc d)) (widening of)
-  widened d Int two = single (suc d) (suc (suc d)) (long with_longs.Widen) a_widening two
+  widened d Int two = single (suc d) (suc (suc d)) (long with_longs.Widen) a_widening tt two
   widened d Unsigned two = long_of_word d two
   widened d Long two = long_of_word d two
 
@@ -189,7 +192,7 @@ module _ {ℓ} {room : ℕ} (F : Fact {ℓ} room) where
   -- two words become one
   combined : (d : ℕ) (q : Program) (op : BinaryOperation) → suc (suc d) ≤ room → F.of_program d (suc (suc d)) q
       → F.of_program d (suc d) (joined q (one (binary op)))
-  combined d q op two h = last d (suc (suc d)) (suc d) q (binary op) h (a_binary op) (omega (arith, two))
+  combined d q op two h = last d (suc (suc d)) (suc d) q (binary op) h (a_binary op) tt (omega (arith, two))
 
   bits_built : (d : ℕ) (q : Program) → suc (suc d) ≤ room → F.of_program d (suc (suc d)) q → Built d (as_bits q)
   bits_built d q two h = record {
@@ -201,7 +204,7 @@ module _ {ℓ} {room : ℕ} (F : Fact {ℓ} room) where
 
   long_built : (d : ℕ) (q : Program) → suc (suc d) ≤ room → F.of_program d (suc (suc d)) q → Built d (as_long q)
   long_built d q two h = record {
-    word = last d (suc (suc d)) (suc d) q (long with_longs.LowWord) h a_low_word (omega (arith, two));
+    word = last d (suc (suc d)) (suc d) q (long with_longs.LowWord) h a_low_word tt (omega (arith, two));
     test = F.not_zero d (joined q (one (binary (Plain Or)))) (omega (arith, two)) (combined d q (Plain Or) two h);
     long = h;
   }
@@ -216,20 +219,20 @@ module _ {ℓ} {room : ℕ} (F : Fact {ℓ} room) where
 
   unary_has : (d : ℕ) (op : UnaryOperator) (l : Lowering) → suc (suc d) ≤ room → Built d l → Built d (unary_lowering op l)
   unary_has d unary_operator.Negate l two h =
-      word_built d _ two (last d (suc d) (suc d) (word_program l) (unary Negate) h.word (a_unary Negate) (omega (arith, two)))
+      word_built d _ two (last d (suc d) (suc d) (word_program l) (unary Negate) h.word (a_unary Negate) tt (omega (arith, two)))
   unary_has d unary_operator.Complement l two h =
-      word_built d _ two (last d (suc d) (suc d) (word_program l) (unary Complement) h.word (a_unary Complement) (omega (arith, two)))
+      word_built d _ two (last d (suc d) (suc d) (word_program l) (unary Complement) h.word (a_unary Complement) tt (omega (arith, two)))
   unary_has d unary_operator.Not l two h = test_built d _ two (F.turned d (value_test l) h.test)
 
   -- two longs become one
   calculated : (d : ℕ) (q : Program) (op : PlainOperation) → suc (suc d) ≤ room → F.of_program d (suc (suc (suc (suc d)))) q
       → F.of_program d (suc (suc d)) (joined q (one (long (with_longs.Calculate op))))
-  calculated d q op two h = last d (suc (suc (suc (suc d)))) (suc (suc d)) q (long (with_longs.Calculate op)) h (a_calculation op) two
+  calculated d q op two h = last d (suc (suc (suc (suc d)))) (suc (suc d)) q (long (with_longs.Calculate op)) h (a_calculation op) tt two
 
   zero_has : (d : ℕ) → suc (suc d) ≤ room → F.of_program d (suc (suc d)) long_zero
   zero_has d two =
-      last d (suc d) (suc (suc d)) (one (number 0)) (number 0) (single d (suc d) (number 0) (a_number 0 zero_is_word) (omega (arith, two)))
-      (a_number 0 zero_is_word) two
+      last d (suc d) (suc (suc d)) (one (number 0)) (number 0) (single d (suc d) (number 0) (a_number 0) zero_is_word (omega (arith, two)))
+      (a_number 0) zero_is_word two
 
   -- a long that waits has 0 beneath it
   operand_has : (d : ℕ) (of : WordType) (op : UnaryOperator) (l : Lowering) → suc (suc d) ≤ room → Built d l → Built (suc (suc d)) l
@@ -241,7 +244,7 @@ module _ {ℓ} {room : ℕ} (F : Fact {ℓ} room) where
       (calculated d (joined long_zero (long_words l)) Subtract two
       (F.chain d (suc (suc d)) (suc (suc (suc (suc d)))) long_zero (long_words l) (zero_has d two) above.long))
   operand_has d Long unary_operator.Complement l two h above =
-      long_built d _ two (last d (suc (suc d)) (suc (suc d)) (long_words l) (long with_longs.Complement) h.long a_complement two)
+      long_built d _ two (last d (suc (suc d)) (suc (suc d)) (long_words l) (long with_longs.Complement) h.long a_complement tt two)
   operand_has d Long unary_operator.Not l two h above = test_built d _ two (F.turned d (value_test l) h.test)
 
   -- ---- operators between two sides
@@ -255,8 +258,8 @@ module _ {ℓ} {room : ℕ} (F : Fact {ℓ} room) where
 
   answer_has : (d : ℕ) (asks : LongQuestion) (q : Program) → suc (suc d) ≤ room → F.of_program d (suc (suc (suc (suc d)))) q
       → F.of_program d (suc d) (answer asks q)
-  answer_has d question.Below q two h = last d (suc (suc (suc (suc d)))) (suc d) q (long with_longs.Below) h is_below (omega (arith, two))
-  answer_has d question.Above q two h = last d (suc (suc (suc (suc d)))) (suc d) q (long with_longs.Above) h is_above (omega (arith, two))
+  answer_has d question.Below q two h = last d (suc (suc (suc (suc d)))) (suc d) q (long with_longs.Below) h is_below tt (omega (arith, two))
+  answer_has d question.Above q two h = last d (suc (suc (suc (suc d)))) (suc d) q (long with_longs.Above) h is_above tt (omega (arith, two))
   answer_has d question.Differ q two h = combined d (joined q (one (long (with_longs.Calculate Xor)))) (Plain Or) two (calculated d q Xor two h)
 
   answered : (d : ℕ) (asks : LongQuestion) (q : Program) → suc (suc d) ≤ room → F.of_program d (suc (suc (suc (suc d)))) q
@@ -288,15 +291,17 @@ module _ {ℓ} {room : ℕ} (F : Fact {ℓ} room) where
   shift_has : (d : ℕ) (of : WordType) (op : ShiftOperator) (l : Lowering) (k : ℕ) → IsWord k → suc (suc d) ≤ room → Built d l
       → Built d (shift_lowering of op l k)
   shift_has d Int op l k is two h =
-      word_built d _ two (last d (suc d) (suc d) (word_program l) (shift (shift_operation op Int) k) h.word (a_shift _ k is) (omega (arith, two)))
+      word_built d _ two (last d (suc d) (suc d) (word_program l) (shift (shift_operation op Int) k) h.word (a_shift _ k) is (omega (arith, two)))
   shift_has d Unsigned op l k is two h =
-      word_built d _ two (last d (suc d) (suc d) (word_program l) (shift (shift_operation op Unsigned) k) h.word (a_shift _ k is) (omega (arith, two)))
+      word_built d _ two (last d (suc d) (suc d) (word_program l) (shift (shift_operation op Unsigned) k) h.word (a_shift _ k) is (omega (arith, two)))
   shift_has d Long op l k is two h =
-      long_built d _ two (last d (suc (suc d)) (suc (suc d)) (long_words l) (long (long_shift op k)) h.long (by_operator op) two)
+      long_built d _ two (by_operator op)
     where
-      by_operator : (op : ShiftOperator) → Leaf (suc (suc d)) (suc (suc d)) (long (long_shift op k))
-      by_operator shift_operator.Left = a_left_shift k is
-      by_operator shift_operator.Right = a_right_shift k is
+      by_operator : (op : ShiftOperator) → F.of_program d (suc (suc d)) (joined (long_words l) (one (long (long_shift op k))))
+      by_operator shift_operator.Left =
+          last d (suc (suc d)) (suc (suc d)) (long_words l) (long (with_longs.ShiftLeft k)) h.long (a_left_shift k) is two
+      by_operator shift_operator.Right =
+          last d (suc (suc d)) (suc (suc d)) (long_words l) (long (with_longs.ShiftRight k)) h.long (a_right_shift k) is two
 
   both_have : (d : ℕ) (op : ShortCircuitOperator) (b c : Test) → F.of_test d b → F.of_test d c → F.of_test d (sides_test op b c)
   both_have d BothHold b c h k = F.both_hold d b c h k
@@ -306,7 +311,7 @@ module _ {ℓ} {room : ℕ} (F : Fact {ℓ} room) where
 
   module _ (p : Places) (words : PlacesOfWords p) where
     read_has : (d : ℕ) (x : Variable) → suc d ≤ room → ReadOf F.of_local x → F.of_program d (suc d) (one (read_step p x))
-    read_has d (Shared v) few r = single d (suc d) (load (address_of p v)) (a_load (address_of p v) (words.addresses v)) few
+    read_has d (Shared v) few r = single d (suc d) (load (address_of p v)) (a_load (address_of p v)) (words.addresses v) few
     read_has d (Local n) few r = F.alone d (suc d) (local (n % 65536)) (F.reads d n r few)
 
     read_long_has : (d : ℕ) (x : Variable) → suc (suc d) ≤ room → ReadOf F.of_local x → F.of_program d (suc (suc d)) (read_long p x)
@@ -315,7 +320,7 @@ module _ {ℓ} {room : ℕ} (F : Fact {ℓ} room) where
         let few : suc d ≤ room = omega (arith, two) in
         F.chain d (suc d) (suc (suc d)) (one (load (address_of p v))) (step high (one (long with_longs.Join))) (read_has d (Shared v) few r)
         (last (suc d) (suc (suc d)) (suc (suc d)) (one high) (long with_longs.Join)
-        (single (suc d) (suc (suc d)) high (a_load (high_address (address_of p v)) (omega arith)) two) a_join two)
+        (single (suc d) (suc (suc d)) high (a_load (high_address (address_of p v))) (omega arith) two) a_join tt two)
     read_long_has d (Local n) two r =
         let few : suc d ≤ room = omega (arith, two) in
         F.chain d (suc d) (suc (suc d)) (one (local (n % 65536))) (widening Long) (read_has d (Local n) few r) (long_of_word d two)
@@ -325,35 +330,37 @@ module _ {ℓ} {room : ℕ} (F : Fact {ℓ} room) where
     name_has d Int x two r = let few : suc d ≤ room = omega (arith, two) in word_built d _ two (read_has d x few r)
     name_has d Unsigned x two r = let few : suc d ≤ room = omega (arith, two) in word_built d _ two (read_has d x few r)
 
-    element_leaf : (d : ℕ) (x : Variable) → Leaf (suc d) (suc d) (element_step p x)
-    element_leaf d (Local n) = an_element 0 0 zero_is_word zero_is_word
-    element_leaf d (Shared v) = by_place (slice_get p.map.variables v) (words.places v)
+    element_has : (d : ℕ) (x : Variable) → suc d ≤ room → F.of_program (suc d) (suc d) (one (element_step p x))
+    element_has d (Local n) few = single (suc d) (suc d) (element 0 0) (an_element 0 0) (zero_is_word, zero_is_word) few
+    element_has d (Shared v) few = by_place (slice_get p.map.variables v) (words.places v)
       where
-        by_place : (o : Option VariablePlace) → PlaceOfWords o → Leaf (suc d) (suc d) (element_read p o)
-        by_place None h = an_element 0 0 zero_is_word zero_is_word
-        by_place (Some (Scalar home copy width)) h = an_element 0 0 zero_is_word zero_is_word
-        by_place (Some (Array elements length None)) h = an_element elements length h.0 h.1
+        by_place : (o : Option VariablePlace) → PlaceOfWords o → F.of_program (suc d) (suc d) (one (element_read p o))
+        by_place None h = single (suc d) (suc d) (element 0 0) (an_element 0 0) (zero_is_word, zero_is_word) few
+        by_place (Some (Scalar home copy width)) h = single (suc d) (suc d) (element 0 0) (an_element 0 0) (zero_is_word, zero_is_word) few
+        by_place (Some (Array elements length None)) h =
+            single (suc d) (suc d) (element elements length) (an_element elements length) (h.0, h.1) few
         by_place (Some (Array elements length (Some c))) h =
-            a_version (array_place elements length c) (list_place p) (h.0, h.2.0, h.2.1, h.1) (words.words Version, words.words ListLength, words.list)
+            single (suc d) (suc d) (versioned_read (array_place elements length c) (list_place p))
+            (a_version (array_place elements length c) (list_place p)) ((h.0, h.2.0, h.2.1, h.1), list_of_words p words) few
 
     -- the fact holds of each expression that fits, on the locals that it reads
     pub lowering_has : (d : ℕ) (e : CheckedExpression) → ExpressionFits room d e → Reads F.of_local e → Built d (lowering p e)
     lowering_has d (t.number w) f r =
-        let two = two_fit room d (t.number w) f in word_built d _ two (single d (suc d) (number w) (a_number w f.1) (omega (arith, two)))
+        let two = two_fit room d (t.number w) f in word_built d _ two (single d (suc d) (number w) (a_number w) f.1 (omega (arith, two)))
     lowering_has d (t.long_number w) f r =
         let two = two_fit room d (t.long_number w) f in
         let below = f.1 in
         let high : IsWord (w / 65536) = omega (arith, below) in
         long_built d _ two
         (last d (suc d) (suc (suc d)) (one (number (w % 65536))) (number (w / 65536))
-        (single d (suc d) (number (w % 65536)) (a_number (w % 65536) (omega arith)) (omega (arith, two))) (a_number (w / 65536) high) two)
+        (single d (suc d) (number (w % 65536)) (a_number (w % 65536)) (omega arith) (omega (arith, two))) (a_number (w / 65536)) high two)
     lowering_has d (t.name x) f r = name_has d x.word_type x.variable (two_fit room d (t.name x) f) r
     lowering_has d (t.element x index) f r =
         let two = two_fit room d index f in
         word_built d _ two
-        (last d (suc d) (suc d) (lowered_expression p index) (element_step p x.variable) (lowering_has d index f r).word (element_leaf d x.variable)
-        (omega (arith, two)))
-    lowering_has d t.sense f r = let two = two_fit room d t.sense f in word_built d _ two (single d (suc d) sense a_reading (omega (arith, two)))
+        (F.chain d (suc d) (suc d) (lowered_expression p index) (one (element_step p x.variable)) (lowering_has d index f r).word
+        (element_has d x.variable (omega (arith, two))))
+    lowering_has d t.sense f r = let two = two_fit room d t.sense f in word_built d _ two (single d (suc d) sense a_reading tt (omega (arith, two)))
     lowering_has d (t.unary op e) f r =
         let inner = fits_above room d (suc (suc d)) e (omega arith) f in
         operand_has d (type_of e) op (lowering p e) (two_fit room d e inner) (lowering_has d e inner r) (lowering_has (suc (suc d)) e f r)
@@ -370,25 +377,19 @@ module _ {ℓ} {room : ℕ} (F : Fact {ℓ} room) where
 
 -- ---- a fact of each step alone
 
--- a step that names no local, and holds neither a test nor a program
-abbrev pub IsSimple : Step → Type 0
-IsSimple (local n) = ⊥
-IsSimple (set_local n) = ⊥
-IsSimple (update_local op n) = ⊥
-IsSimple (truth c) = ⊥
-IsSimple (choose c a b) = ⊥
-IsSimple (repeat n from below body) = ⊥
-IsSimple s = Unit {0}
-
-leaf_is_simple : (d e : ℕ) (s : Step) → Leaf d e s → IsSimple s × StepOfWords s
-leaf_is_simple d e s (a_number w h) = (tt, h)
-leaf_is_simple d e s (a_load a h) = (tt, h)
-leaf_is_simple d e s (a_shift op k h) = (tt, h)
-leaf_is_simple d e s (an_element base length h k) = (tt, (h, k))
-leaf_is_simple d e s (a_version place list h k) = (tt, (h, k))
-leaf_is_simple d e s (a_left_shift k h) = (tt, h)
-leaf_is_simple d e s (a_right_shift k h) = (tt, h)
-leaf_is_simple d e s _ = (tt, tt)
+-- a step of a statement that names no local, and holds neither a test nor a program, in a task with these places
+pub data Stores (p : Places) : Step → Type 0 where
+  a_store : (v : ℕ) → Stores p (keep (address_of p v))
+  a_high_store : (v : ℕ) → Stores p (keep (high_address (address_of p v)))
+  an_update : (op : PlainOperation) (v : ℕ) → Stores p (update op (address_of p v))
+  an_element_store : (x : Variable) → Stores p (store_step p x)
+  an_element_update : (op : PlainOperation) (x : Variable) → Stores p (update_element_step p op x)
+  an_emission : Stores p (emit_word (word_place p.map EmitCount) p.map.emits.address)
+  an_entry : (r : Run) → Stores p (list_entry (word_place p.map ListLength) p.map.list.address r.home r.copy r.words)
+  the_task : (task : ℕ) → Stores p (store_number (word_place p.map NextTask) (task % 65536))
+  the_sent_base : Stores p (move_word (word_place p.map Base) (word_place p.map SentBase))
+  the_gate : Stores p (store_number (word_place p.map Gate) 1)
+  to_the_commit : Stores p (jump p.map.commit.address)
 
 -- a variable that is none of these locals
 abbrev pub IsApart : (ℕ → Type 0) → Variable → Type 0
@@ -396,13 +397,14 @@ IsApart F x = (y : ℕ) → F y → is_same_local x (Local y) ≡ false
 
 -- a fact of each step whatever the stack: the locals of which it wants that no step assigns them, what it asks of a loop's body beside
 -- itself, by the loop's local, and that it holds of single steps and of what is put together of what has it
-pub record EachStep : Type 1 where
+pub record EachStep (p : Places) : Type 1 where
   pub of_step : Step → Type 0
   pub of_program : Program → Type 0
   pub of_test : Test → Type 0
   pub spared : ℕ → Type 0
   pub of_body : ℕ → Program → Type 0
-  pub simple : (s : Step) → IsSimple s → StepOfWords s → of_step s
+  pub leaf : (d e : ℕ) (s : Step) → Leaf d e s → StepOfWords s → of_step s
+  pub stores : (s : Step) → Stores p s → StepOfWords s → of_step s
   pub reads : (n : ℕ) → n < 256 → of_step (local (n % 65536))
   pub writes : (n : ℕ) → n < 256 → IsApart spared (Local n) → of_step (set_local (n % 65536))
   pub updates : (op : PlainOperation) (n : ℕ) → n < 256 → IsApart spared (Local n) → of_step (update_local op (n % 65536))
@@ -420,13 +422,13 @@ pub record EachStep : Type 1 where
   pub turned : (c : Test) → of_test c → of_test (fails c)
 
 -- such a fact of expressions
-abbrev whatever_the_stack : EachStep → (room : ℕ) → Fact {0} room
-whatever_the_stack G room = record {
+abbrev whatever_the_stack : (p : Places) → EachStep p → (room : ℕ) → Fact {0} room
+whatever_the_stack p G room = record {
   of_step = λ d e s. G.of_step s;
   of_program = λ d e q. G.of_program q;
   of_test = λ d c. G.of_test c;
   of_local = λ n. n < 256;
-  leaf = λ d e s k few. let is = leaf_is_simple d e s k in G.simple s is.0 is.1;
+  leaf = λ d e s k numbers few. G.leaf d e s k numbers;
   reads = λ d n low few. G.reads n low;
   asked = λ d c few h. G.asked c h;
   alone = λ d e s h. G.alone s h;
@@ -459,19 +461,16 @@ local_word : (shared : List SharedDeclaration) (x : Variable) → IsLocal x → 
 local_word shared (Shared v) h = absurd h
 local_word shared (Local n) h = h
 
-module _ (G : EachStep) (p : Places) (words : PlacesOfWords p) (room : ℕ) (shared : List SharedDeclaration) where
+module _ (p : Places) (G : EachStep p) (words : PlacesOfWords p) (room : ℕ) (shared : List SharedDeclaration) where
   -- a step behind a program
   then_step : (q : Program) (s : Step) → G.of_program q → G.of_step s → G.of_program (joined q (one s))
   then_step q s h k = G.chain q (one s) h (G.alone s k)
 
-  expression_built : (d : ℕ) (e : CheckedExpression) → ExpressionFits room d e → ExpressionUses shared e → Built (whatever_the_stack G room) d (lowering p e)
-  expression_built d e f u = lowering_has (whatever_the_stack G room) p words d e f (reads_low shared e u)
+  expression_built : (d : ℕ) (e : CheckedExpression) → ExpressionFits room d e → ExpressionUses shared e → Built (whatever_the_stack p G room) d (lowering p e)
+  expression_built d e f u = lowering_has (whatever_the_stack p G room) p words d e f (reads_low shared e u)
 
   word_has : (d : ℕ) (e : CheckedExpression) → ExpressionFits room d e → ExpressionUses shared e → G.of_program (lowered_expression p e)
   word_has d e f u = (expression_built d e f u).word
-
-  list_of_words : ListOfWords (list_place p)
-  list_of_words = (words.words Version, words.words ListLength, words.list)
 
   stored_of_words : (x : Variable) → ArrayOfWords (stored_array p x)
   stored_of_words (Local n) = (zero_is_word, zero_is_word, zero_is_word, zero_is_word)
@@ -486,19 +485,19 @@ module _ (G : EachStep) (p : Places) (words : PlacesOfWords p) (room : ℕ) (sha
   -- ---- assignments
 
   write_has : (x : Variable) → IsWordName shared x → IsApart G.spared x → G.of_step (write_step p x)
-  write_has (Shared v) n a = G.simple (keep (address_of p v)) tt (words.addresses v)
+  write_has (Shared v) n a = G.stores (keep (address_of p v)) (a_store v) (words.addresses v)
   write_has (Local n) l a = G.writes n l a
 
   update_has : (o : PlainOperation) (x : Variable) → IsWordName shared x → IsApart G.spared x → G.of_step (update_step p o x)
-  update_has o (Shared v) n a = G.simple (update o (address_of p v)) tt (words.addresses v)
+  update_has o (Shared v) n a = G.stores (update o (address_of p v)) (an_update o v) (words.addresses v)
   update_has o (Local n) l a = G.updates o n l a
 
   write_long_has : (x : Variable) → IsWordName shared x → IsApart G.spared x → G.of_program (write_long p x)
   write_long_has (Shared v) n a =
       let high = keep (high_address (address_of p v)) in
-      then_step (one high) (keep (address_of p v)) (G.alone high (G.simple high tt (omega arith))) (write_has (Shared v) n a)
+      then_step (one high) (keep (address_of p v)) (G.alone high (G.stores high (a_high_store v) (omega arith))) (write_has (Shared v) n a)
   write_long_has (Local n) l a =
-      let low = long with_longs.LowWord in then_step (one low) (set_local (n % 65536)) (G.alone low (G.simple low tt tt)) (G.writes n l a)
+      let low = long with_longs.LowWord in then_step (one low) (set_local (n % 65536)) (G.alone low (G.leaf 2 1 low a_low_word tt)) (G.writes n l a)
 
   setting_has : (x : Variable) (e : CheckedExpression) → IsWordName shared x → IsApart G.spared x → ExpressionFits room 0 e → ExpressionUses shared e
       → G.of_program (setting p x e)
@@ -520,7 +519,7 @@ module _ (G : EachStep) (p : Places) (words : PlacesOfWords p) (room : ℕ) (sha
   typed_assignment_has Int x e n a f u = assignment_has x e n a f u
   typed_assignment_has Unsigned x e n a f u = assignment_has x e n a f u
   typed_assignment_has Long x e n a f u =
-      let long = long_has (whatever_the_stack G room) 0 (widened_type e) (lowering p e) (two_fit room 0 e f) (expression_built 0 e f u) in
+      let long = long_has (whatever_the_stack p G room) 0 (widened_type e) (lowering p e) (two_fit room 0 e f) (expression_built 0 e f u) in
       G.chain (lowered_long p e) (write_long p x) long (write_long_has x n a)
 
   -- a step behind an index and a value
@@ -531,7 +530,8 @@ module _ (G : EachStep) (p : Places) (words : PlacesOfWords p) (room : ℕ) (sha
 
   store_has : (x : Variable) (index e : CheckedExpression) → G.of_program (lowered_expression p index) → G.of_program (lowered_expression p e)
       → G.of_program (joined (index_and_value p index e) (one (store_step p x)))
-  store_has x index e h k = index_and_value_have index e (store_step p x) h k (G.simple (store_step p x) tt (stored_of_words x, list_of_words))
+  store_has x index e h k =
+      index_and_value_have index e (store_step p x) h k (G.stores (store_step p x) (an_element_store x) (stored_of_words x, list_of_words p words))
 
   element_sides_have : (x : Variable) (index : CheckedExpression) (op : PlacedOperator) (b c : CheckedExpression) (o : Option PlainOperation)
       → G.of_program (lowered_expression p index) → ExpressionFits room 1 (t.binary op b c) → ExpressionUses shared (t.binary op b c)
@@ -539,7 +539,7 @@ module _ (G : EachStep) (p : Places) (words : PlacesOfWords p) (room : ℕ) (sha
   element_sides_have x index op b c None h f u = store_has x index (t.binary op b c) h (word_has 1 (t.binary op b c) f u)
   element_sides_have x index op b c (Some o) h f u =
       index_and_value_have index c (update_element_step p o x) h (word_has 3 c f.1 u.1)
-      (G.simple (update_element_step p o x) tt (stored_of_words x, list_of_words))
+      (G.stores (update_element_step p o x) (an_element_update o x) (stored_of_words x, list_of_words p words))
 
   -- the first clause makes it a proof by cases
   element_assignment_has : (x : Variable) (index e : CheckedExpression) → G.of_program (lowered_expression p index) → ExpressionFits room 1 e
@@ -555,7 +555,7 @@ module _ (G : EachStep) (p : Places) (words : PlacesOfWords p) (room : ℕ) (sha
   entries_have (r ∷ more) h =
       let entry = list_entry (word_place p.map ListLength) p.map.list.address r.home r.copy r.words in
       G.chain (one entry) (entries (word_place p.map ListLength) p.map.list.address more)
-      (G.alone entry (G.simple entry tt (words.words ListLength, words.list, h.0.home, h.0.copy, h.0.words))) (entries_have more h.1)
+      (G.alone entry (G.stores entry (an_entry r) (words.words ListLength, words.list, h.0.home, h.0.copy, h.0.words))) (entries_have more h.1)
 
   transition_has : (task : ℕ) → G.of_program (lowered_transition p task)
   transition_has task =
@@ -565,10 +565,10 @@ module _ (G : EachStep) (p : Places) (words : PlacesOfWords p) (room : ℕ) (sha
       let leaves = jump p.map.commit.address in
       let runs = entries (word_place p.map ListLength) p.map.list.address (runs_of p.privates) in
       let closes = step sent (step gate (one leaves)) in
-      G.chain (one next) (joined runs closes) (G.alone next (G.simple next tt (words.words NextTask, omega arith)))
+      G.chain (one next) (joined runs closes) (G.alone next (G.stores next (the_task task) (words.words NextTask, omega arith)))
       (G.chain runs closes (entries_have (runs_of p.privates) (runs_of_words p.privates words.privates))
-      (G.chain (one sent) (step gate (one leaves)) (G.alone sent (G.simple sent tt (words.words Base, words.words SentBase)))
-      (then_step (one gate) leaves (G.alone gate (G.simple gate tt (words.words Gate, omega arith))) (G.simple leaves tt words.commit))))
+      (G.chain (one sent) (step gate (one leaves)) (G.alone sent (G.stores sent the_sent_base (words.words Base, words.words SentBase)))
+      (then_step (one gate) leaves (G.alone gate (G.stores gate the_gate (words.words Gate, omega arith))) (G.stores leaves to_the_commit words.commit))))
 
   -- no local that the fact wants spared is assigned
   abbrev LeavesAlone : (Variable → Bool) → Type 0
@@ -608,7 +608,7 @@ module _ (G : EachStep) (p : Places) (words : PlacesOfWords p) (room : ℕ) (sha
           (loop_has x.variable from below body u.0 own f.0 f.1 (is_good x y z from below body g) f.2 u.1 inner h)
       statement_has (t.emit e) a f u g =
           let emits = emit_word (word_place p.map EmitCount) p.map.emits.address in
-          then_step (lowered_expression p e) emits (word_has 0 e f u) (G.simple emits tt (words.words EmitCount, words.emits))
+          then_step (lowered_expression p e) emits (word_has 0 e f u) (G.stores emits an_emission (words.words EmitCount, words.emits))
       statement_has (t.transition task) a f u g = transition_has task.task
 
       choice_has : (c : CheckedChoice) → LeavesAlone (λ v. choice_assigns v c) → ChoiceFits room c → ChoiceUses shared c → GoodChoice c

@@ -6,7 +6,7 @@ use Rattle.lower.specs.task_ast.Paths.{CheckedBlock}
 use Rattle.lower.specs.task_ast.declared.SharedDeclaration.{SharedDeclaration}
 use Rattle.lower.specs.task_ast.declared.names.Variable.TheVariants.{Local}
 use Rattle.lower.specs.path_checks.Loops.{block_assigns}
-use Rattle.lower.specs.array_versions.Program.{Step, Program, local, set_local, update_local, truth, choose, repeat, nothing, step, joined}
+use Rattle.lower.specs.array_versions.Program.{Step, Program, nothing, step, joined}
 use Rattle.lower.specs.array_versions.Form.{StepSpares, TestSpares, Spares}
 use Rattle.lower.specs.memory_map.Spots.{Places}
 use Rattle.lower.specs.Lowered.{lowered_block}
@@ -14,17 +14,16 @@ use Rattle.whole_programs.specs.Needs.{BlockFits}
 use Rattle.whole_programs.specs.Uses.{BlockUses}
 use Rattle.whole_programs.proofs.Placed.{PlacesOfWords}
 use Rattle.whole_programs.proofs.Loops.{GoodBlock}
-use Rattle.whole_programs.proofs.Built.{IsSimple, IsApart, EachStep, block_has}
+use Rattle.whole_programs.proofs.Built.{Leaf, a_number, Stores, a_store, IsApart, EachStep, block_has}
 
--- a step without a local spares each
-simple_spares : (n : ℕ) (s : Step) → IsSimple s → StepSpares n s
-simple_spares n (local m) is = tt
-simple_spares n (set_local m) is = absurd is
-simple_spares n (update_local op m) is = absurd is
-simple_spares n (truth c) is = absurd is
-simple_spares n (choose c a b) is = absurd is
-simple_spares n (repeat m from below body) is = absurd is
-simple_spares n s is = tt
+-- a step without a local spares each; the first clauses make them proofs by cases
+leaf_spares : (n d e : ℕ) (s : Step) → Leaf d e s → StepSpares n s
+leaf_spares n d e s (a_number w) = tt
+leaf_spares n d e s k = tt
+
+store_spares : (n : ℕ) (p : Places) (s : Step) → Stores p s → StepSpares n s
+store_spares n p s (a_store v) = tt
+store_spares n p s k = tt
 
 spares_joined : (n : ℕ) (p q : Program) → Spares n p → Spares n q → Spares n (joined p q)
 spares_joined n nothing q h k = k
@@ -34,19 +33,20 @@ spares_joined n (step first more) q h k = (h.0, spares_joined n more q h.1 k)
 apart : (m y : ℕ) → m < 256 → y < 256 → (y == m) ≡ false → m % 65536 ≢ y % 65536
 apart m y l k h e = absurd (let other : y ≢ m = grind (arith, nat_tests) in other (omega arith))
 
-module _ (y : ℕ) (low : y < 256) where
+module _ (p : Places) (y : ℕ) (low : y < 256) where
   other : (m : ℕ) → m < 256 → IsApart (λ z. z ≡ y) (Local m) → m % 65536 ≢ y % 65536
   other m l a = apart m y l low (a y refl)
 
   -- no step assigns the local
-  abbrev each_spares : EachStep
+  abbrev each_spares : EachStep p
   each_spares = record {
     of_step = StepSpares (y % 65536);
     of_program = Spares (y % 65536);
     of_test = TestSpares (y % 65536);
     spared = λ z. z ≡ y;
     of_body = λ n q. Unit {0};
-    simple = λ s is numbers. simple_spares (y % 65536) s is;
+    leaf = λ d e s k numbers. leaf_spares (y % 65536) d e s k;
+    stores = λ s k numbers. store_spares (y % 65536) p s k;
     reads = λ n l. tt;
     writes = other;
     updates = λ op n l a. other n l a;
@@ -66,4 +66,4 @@ module _ (y : ℕ) (low : y < 256) where
 pub block_spares : (p : Places) → PlacesOfWords p → (room : ℕ) (shared : List SharedDeclaration) (y : ℕ) (b : CheckedBlock) → y < 256
     → block_assigns (Local y) b ≡ false → BlockFits room b → BlockUses shared b → GoodBlock b → Spares (y % 65536) (lowered_block p b)
 block_spares p words room shared y b low h f u g =
-    block_has (each_spares y low) p words room shared (λ n b l s f u g. tt) b (λ z is. subst (λ x. block_assigns (Local x) b ≡ false) (sym is) h) f u g
+    block_has p (each_spares p y low) words room shared (λ n b l s f u g. tt) b (λ z is. subst (λ x. block_assigns (Local x) b ≡ false) (sym is) h) f u g

@@ -3,7 +3,7 @@ use Rattle.std.proofs.Common.{ℕ, ◌%◌, ◌<◌, List, arith}
 use Rattle.lower.specs.alp_words.Words.{IsWord}
 use Rattle.lower.specs.task_ast.Paths.{CheckedBlock}
 use Rattle.lower.specs.task_ast.declared.SharedDeclaration.{SharedDeclaration}
-use Rattle.lower.specs.array_versions.Program.{Step, Test, Program, local, set_local, update_local, truth, choose, repeat, nothing, step, joined}
+use Rattle.lower.specs.array_versions.Program.{Step, Test, Program, nothing, step, joined}
 use Rattle.lower.specs.array_versions.Form.{StepLocalsBelow, TestLocalsBelow, LocalsBelow, StepLoopsCount, TestLoopsCount, LoopsCount, StepOfWords}
 use Rattle.lower.specs.array_versions.Form.{TestOfWords, OfWords, Spares}
 use Rattle.lower.specs.memory_map.Spots.{Places}
@@ -12,7 +12,7 @@ use Rattle.whole_programs.specs.Needs.{BlockFits}
 use Rattle.whole_programs.specs.Uses.{BlockUses}
 use Rattle.whole_programs.proofs.Placed.{PlacesOfWords}
 use Rattle.whole_programs.proofs.Loops.{GoodBlock}
-use Rattle.whole_programs.proofs.Built.{IsSimple, EachStep, block_has}
+use Rattle.whole_programs.proofs.Built.{Leaf, a_number, Stores, a_store, EachStep, block_has}
 use Rattle.whole_programs.proofs.Spared.{block_spares}
 
 abbrev pub Sound : Program → Type 0
@@ -24,15 +24,14 @@ StepSound s = StepLocalsBelow 256 s × StepLoopsCount s × StepOfWords s
 abbrev TestSound : Test → Type 0
 TestSound c = TestLocalsBelow 256 c × TestLoopsCount c × TestOfWords c
 
--- a step without a local has its numbers alone
-simple_sound : (s : Step) → IsSimple s → StepOfWords s → StepSound s
-simple_sound (local n) is h = absurd is
-simple_sound (set_local n) is h = absurd is
-simple_sound (update_local op n) is h = absurd is
-simple_sound (truth c) is h = absurd is
-simple_sound (choose c a b) is h = absurd is
-simple_sound (repeat n from below body) is h = absurd is
-simple_sound s is h = (tt, tt, h)
+-- a step without a local has its numbers alone; the first clauses make them proofs by cases
+leaf_sound : (d e : ℕ) (s : Step) → Leaf d e s → StepOfWords s → StepSound s
+leaf_sound d e s (a_number w) h = (tt, tt, h)
+leaf_sound d e s k h = (tt, tt, h)
+
+store_sound : (p : Places) (s : Step) → Stores p s → StepOfWords s → StepSound s
+store_sound p s (a_store v) h = (tt, tt, h)
+store_sound p s k h = (tt, tt, h)
 
 sound_joined : (p q : Program) → Sound p → Sound q → Sound (joined p q)
 sound_joined nothing q h k = k
@@ -46,14 +45,15 @@ low_local n l = omega arith
 local_is_word : (n : ℕ) → n < 256 → IsWord (n % 65536)
 local_is_word n l = omega arith
 
-abbrev each_sound : EachStep
-each_sound = record {
+abbrev each_sound : (p : Places) → EachStep p
+each_sound p = record {
   of_step = StepSound;
   of_program = Sound;
   of_test = TestSound;
   spared = λ y. ⊥;
   of_body = Spares;
-  simple = simple_sound;
+  leaf = leaf_sound;
+  stores = store_sound p;
   reads = λ n l. (low_local n l, tt, local_is_word n l);
   writes = λ n l a. (low_local n l, tt, local_is_word n l);
   updates = λ op n l a. (low_local n l, tt, local_is_word n l);
@@ -73,4 +73,4 @@ each_sound = record {
 pub block_sound : (p : Places) → PlacesOfWords p → (shared : List SharedDeclaration) (room : ℕ) (b : CheckedBlock) → BlockFits room b → BlockUses shared b
     → GoodBlock b → Sound (lowered_block p b)
 block_sound p words shared room b f u g =
-    block_has each_sound p words room shared (λ n b l s f u g. block_spares p words room shared n b l s f u g) b (λ y none. absurd none) f u g
+    block_has p (each_sound p) words room shared (λ n b l s f u g. block_spares p words room shared n b l s f u g) b (λ y none. absurd none) f u g

@@ -20,7 +20,7 @@ use Rattle.lower.specs.array_versions.declared.operations.PlainOperation.{PlainO
 use Rattle.lower.specs.array_versions.Program.{Step, Test, Program, emit_word, store_number, move_word, jump, nothing}
 use Rattle.lower.specs.array_versions.Program.{step, joined, truth, holds, local, compares}
 use Rattle.lower.specs.array_versions.declared.operations.Comparison.{Comparison}
-use Rattle.lower.specs.array_versions.Form.{Place, start, assigning, Moves, EachTurn, EachStepWay, EachTestWay, EachWay}
+use Rattle.lower.specs.array_versions.Form.{Place, start, assigning, Moves, EachTurn, EachStepWay, EachTestWay, EachWay, StepOfWords}
 use Rattle.lower.specs.memory_map.MemoryMap.{word_place}
 use Rattle.lower.specs.memory_map.declared.words.RuntimeWord.TheVariants.{Gate, ListLength, EmitCount, Base, SentBase}
 use Rattle.lower.specs.declared.runs.Run.{Run}
@@ -81,24 +81,24 @@ module _ (room : ℕ) (a : ℕ → Bool) where
   abbrev Decides : ℕ → Test → Type 1
   Decides d c = (held failed : Place → Type 0) → held (at d a) → failed (at d a) → EachTestWay room c held failed (at d a)
 
-  leaf_way : (d e : ℕ) (s : Step) → Leaf d e s → e ≤ room → StepLeaves d e s
-  leaf_way d e s (a_number w is) few next h = moves room 0 1 d e a next (omega arith) (omega arith) few h
-  leaf_way d e s (a_load to is) few next h = moves room 0 1 d e a next (omega arith) (omega arith) few h
-  leaf_way d e s a_reading few next h = moves room 0 1 d e a next (omega arith) (omega arith) few h
-  leaf_way d e s (a_unary op) few next h = moves room 1 1 d e a next (omega arith) (omega arith) few h
-  leaf_way d e s (a_shift op k is) few next h = moves room 1 1 d e a next (omega arith) (omega arith) few h
-  leaf_way d e s (an_element base length is are) few next h = moves room 1 1 d e a next (omega arith) (omega arith) few h
-  leaf_way d e s (a_version place list is are) few next h = moves room 1 1 d e a next (omega arith) (omega arith) few h
-  leaf_way d e s (a_binary op) few next h = moves room 2 1 d e a next (omega arith) (omega arith) few h
-  leaf_way d e s a_widening few next h = moves room 1 2 d e a next (omega arith) (omega arith) few h
-  leaf_way d e s a_join few next h = moves room 2 2 d e a next (omega arith) (omega arith) few h
-  leaf_way d e s a_low_word few next h = moves room 2 1 d e a next (omega arith) (omega arith) few h
-  leaf_way d e s a_complement few next h = moves room 2 2 d e a next (omega arith) (omega arith) few h
-  leaf_way d e s (a_left_shift k is) few next h = moves room 2 2 d e a next (omega arith) (omega arith) few h
-  leaf_way d e s (a_right_shift k is) few next h = moves room 2 2 d e a next (omega arith) (omega arith) few h
-  leaf_way d e s (a_calculation op) few next h = moves room 4 2 d e a next (omega arith) (omega arith) few h
-  leaf_way d e s is_below few next h = moves room 4 1 d e a next (omega arith) (omega arith) few h
-  leaf_way d e s is_above few next h = moves room 4 1 d e a next (omega arith) (omega arith) few h
+  leaf_way : (d e : ℕ) (s : Step) → Leaf d e s → StepOfWords s → e ≤ room → StepLeaves d e s
+  leaf_way d e s (a_number w) numbers few next h = moves room 0 1 d e a next (omega arith) (omega arith) few h
+  leaf_way d e s (a_load to) numbers few next h = moves room 0 1 d e a next (omega arith) (omega arith) few h
+  leaf_way d e s a_reading numbers few next h = moves room 0 1 d e a next (omega arith) (omega arith) few h
+  leaf_way d e s (a_unary op) numbers few next h = moves room 1 1 d e a next (omega arith) (omega arith) few h
+  leaf_way d e s (a_shift op k) numbers few next h = moves room 1 1 d e a next (omega arith) (omega arith) few h
+  leaf_way d e s (an_element base length) numbers few next h = moves room 1 1 d e a next (omega arith) (omega arith) few h
+  leaf_way d e s (a_version place list) numbers few next h = moves room 1 1 d e a next (omega arith) (omega arith) few h
+  leaf_way d e s (a_binary op) numbers few next h = moves room 2 1 d e a next (omega arith) (omega arith) few h
+  leaf_way d e s a_widening numbers few next h = moves room 1 2 d e a next (omega arith) (omega arith) few h
+  leaf_way d e s a_join numbers few next h = moves room 2 2 d e a next (omega arith) (omega arith) few h
+  leaf_way d e s a_low_word numbers few next h = moves room 2 1 d e a next (omega arith) (omega arith) few h
+  leaf_way d e s a_complement numbers few next h = moves room 2 2 d e a next (omega arith) (omega arith) few h
+  leaf_way d e s (a_left_shift k) numbers few next h = moves room 2 2 d e a next (omega arith) (omega arith) few h
+  leaf_way d e s (a_right_shift k) numbers few next h = moves room 2 2 d e a next (omega arith) (omega arith) few h
+  leaf_way d e s (a_calculation op) numbers few next h = moves room 4 2 d e a next (omega arith) (omega arith) few h
+  leaf_way d e s is_below numbers few next h = moves room 4 1 d e a next (omega arith) (omega arith) few h
+  leaf_way d e s is_above numbers few next h = moves room 4 1 d e a next (omega arith) (omega arith) few h
 
   read_way : (d n : ℕ) → Assigned a n → suc d ≤ room → StepLeaves d (suc d) (local (n % 65536))
   read_way d n is few next h = (is, moves room 0 1 d (suc d) a next (omega arith) (omega arith) few h)
