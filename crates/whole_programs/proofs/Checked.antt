@@ -19,7 +19,7 @@ use Rattle.whole_programs.proofs.Sources.{sources_fit}
 use Rattle.whole_programs.specs.Uses.{BlockUses}
 use Rattle.whole_programs.proofs.Tasks.{names_are_used_as_declared}
 use Rattle.whole_programs.proofs.Paths.{behind_is, Safe, safe_of}
-use Rattle.whole_programs.proofs.Spared.{GoodBlock}
+use Rattle.whole_programs.proofs.Loops.{GoodBlock}
 
 -- what holds of each holds of the one with a number
 pub all_at : {A : Type 0} (P : A → Type 0) (xs : List A) (k : ℕ) (x : A) → All P xs → slice_get xs k ≡ Some x → P x

@@ -1,8 +1,10 @@
 mod Paths
 mod Ways
+mod Placed
+mod Loops
+mod Built
 mod Steps
 mod Spared
-mod Placed
 mod Checked
 mod Whole
 mod Widths

@@ -8,15 +8,39 @@ use Rattle.std.proofs.lemmas.Option.{slice_get-map}
 use Rattle.std.proofs.lemmas.List.Elements.{All-head, All-tail}
 use Rattle.lower.specs.alp_words.Words.{IsWord}
 use Rattle.lower.specs.address_space.Limits.{reset_vector}
+use Rattle.lower.specs.memory_map.declared.words.RuntimeWord.{RuntimeWord}
 use Rattle.lower.specs.memory_map.declared.place.Region.{Region}
+use Rattle.lower.specs.memory_map.declared.place.ArrayCopies.{ArrayCopies}
 use Rattle.lower.specs.memory_map.declared.place.VariablePlace.{VariablePlace}
 use Rattle.lower.specs.memory_map.declared.place.VariablePlace.TheVariants.{Scalar, Array}
 use Rattle.lower.specs.memory_map.declared.place.PrivateScalar.{PrivateScalar}
-use Rattle.lower.specs.memory_map.MemoryMap.{MemoryMap, TaskPlace}
+use Rattle.lower.specs.memory_map.MemoryMap.{MemoryMap, TaskPlace, word_place}
 use Rattle.lower.specs.memory_map.Places.{end_of, scalar_words, AreInOrder, home_region, copy_regions, version_regions, HasItsPlace, IsLaidOut}
 use Rattle.lower.proofs.memory_map.Interface.{parts_in_fram, words_stand, in_order_within, in_order_split, in_order_end}
-use Rattle.lower.specs.memory_map.Spots.{places_of, copy_among, home_in, home_of, copy_else}
-use Rattle.whole_programs.proofs.Steps.{PlaceOfWords, PrivateOfWords, PlacesOfWords}
+use Rattle.lower.specs.memory_map.Spots.{Places, places_of, address_of, copy_among, home_in, home_of, copy_else}
+
+abbrev pub CopiesOfWords : Option ArrayCopies → Type 0
+CopiesOfWords None = Unit {0}
+CopiesOfWords (Some c) = IsWord c.copies × IsWord c.versions
+
+-- the addresses and the length of the variable at a place are words
+abbrev pub PlaceOfWords : Option VariablePlace → Type 0
+PlaceOfWords None = Unit {0}
+PlaceOfWords (Some (Scalar home copy width)) = IsWord home × IsWord copy
+PlaceOfWords (Some (Array elements length copies)) = IsWord elements × IsWord length × CopiesOfWords copies
+
+abbrev pub PrivateOfWords : PrivateScalar → Type 0
+PrivateOfWords s = IsWord s.home × IsWord s.copy
+
+-- all addresses that a task's program needs are words
+pub record PlacesOfWords (p : Places) : Type 0 where
+  pub words : (w : RuntimeWord) → IsWord (word_place p.map w)
+  pub list : IsWord p.map.list.address
+  pub emits : IsWord p.map.emits.address
+  pub commit : IsWord p.map.commit.address
+  pub addresses : (v : ℕ) → IsWord (address_of p v)
+  pub places : (v : ℕ) → PlaceOfWords (slice_get p.map.variables v)
+  pub privates : AllByRecursion PrivateOfWords p.privates
 
 -- the regions of one variable among those of all end by the end
 regions_end : (f : VariablePlace → List Region) (from : ℕ) (vs : List VariablePlace) (end i : ℕ) (v : VariablePlace) → AreInOrder from (flat_map f vs) end

@@ -1,7 +1,7 @@
 -- Along each way through a task's program: the stack has room, each local that is read is assigned, and the way ends in a jump where the
 -- paths of the task do.
 use Rattle.std.proofs.Common.{◌≡◌, ℕ, zero, suc, ◌+◌, ◌-◌, ◌%◌, ◌==◌, ◌<◌, ◌≤◌, ◌||◌, Bool, true, false, nat_eq, List, [], ◌∷◌, ◌++◌, Option, Some}
-use Rattle.std.proofs.Common.{None, refl, sym, ap, subst, ◌∙◌, arith, if◌then◌else◌, slice_get}
+use Rattle.std.proofs.Common.{None, refl, sym, ap, subst, ◌∙◌, arith, if◌then◌else◌}
 use Rattle.std.proofs.lemmas.Bool.Decides.{nat_tests}
 use Rattle.lower.specs.task_ast.Tree as t
 use Rattle.lower.specs.task_ast.Paths.{CheckedExpression, CheckedStatement, CheckedChoice, CheckedBlock, Access, read, write, unset, End, goes_on}
@@ -10,46 +10,24 @@ use Rattle.lower.specs.task_ast.Paths as path
 use Rattle.lower.specs.task_ast.declared.SharedDeclaration.{SharedDeclaration}
 use Rattle.lower.specs.task_ast.declared.WordType.{WordType}
 use Rattle.lower.specs.task_ast.declared.WordType.TheVariants.{Unsigned, Int, Long}
-use Rattle.lower.specs.task_ast.declared.BinaryOperator.{BinaryOperator}
-use Rattle.lower.specs.task_ast.declared.ShiftOperator.{ShiftOperator}
-use Rattle.lower.specs.task_ast.declared.ShiftOperator.TheVariants as shift_operator
-use Rattle.lower.specs.task_ast.declared.UnaryOperator.{UnaryOperator}
-use Rattle.lower.specs.task_ast.declared.UnaryOperator.TheVariants as unary_operator
 use Rattle.lower.specs.task_ast.declared.PlacedOperator.{PlacedOperator}
-use Rattle.lower.specs.task_ast.declared.ShortCircuitOperator.{ShortCircuitOperator}
-use Rattle.lower.specs.task_ast.declared.ShortCircuitOperator.TheVariants.{And as BothHold, Or as OneHolds}
 use Rattle.lower.specs.task_ast.declared.names.Variable.{Variable}
 use Rattle.lower.specs.task_ast.declared.names.Variable.TheVariants.{Shared, Local}
 use Rattle.lower.specs.task_ast.declared.names.VariableName.{VariableName}
 use Rattle.lower.specs.path_checks.Loops.{is_local}
 use Rattle.lower.specs.source_values.Values.{joined_type, type_of}
-use Rattle.lower.specs.array_versions.declared.operations.UnaryOperation.TheVariants.{Negate, Complement}
-use Rattle.lower.specs.array_versions.declared.operations.BinaryOperation.{BinaryOperation}
-use Rattle.lower.specs.array_versions.declared.operations.BinaryOperation.TheVariants.{Plain}
 use Rattle.lower.specs.array_versions.declared.operations.PlainOperation.{PlainOperation}
-use Rattle.lower.specs.array_versions.declared.operations.PlainOperation.TheVariants.{Subtract, And, Xor, Or}
-use Rattle.lower.specs.array_versions.declared.operations.LongOperation.TheVariants as with_longs
-use Rattle.lower.specs.array_versions.Program.{Step, Test, Program, unary, binary, shift, long, emit_word, store_number, move_word, jump, nothing}
-use Rattle.lower.specs.array_versions.Program.{step, joined, truth, holds}
-use Rattle.lower.specs.array_versions.Form.{Place, start, assigning, Moves, EachTurn, EachStepWay, EachTestWay, EachWay}
+use Rattle.lower.specs.array_versions.Program.{Step, Test, Program, emit_word, store_number, move_word, jump, nothing}
+use Rattle.lower.specs.array_versions.Program.{step, joined, truth, holds, local, compares}
+use Rattle.lower.specs.array_versions.declared.operations.Comparison.{Comparison}
+use Rattle.lower.specs.array_versions.Form.{Place, start, assigning, Moves, EachTurn, EachStepWay, EachTestWay, EachWay, StepOfWords}
 use Rattle.lower.specs.memory_map.MemoryMap.{word_place}
 use Rattle.lower.specs.memory_map.declared.words.RuntimeWord.TheVariants.{Gate, ListLength, EmitCount, Base, SentBase}
-use Rattle.lower.specs.memory_map.declared.place.VariablePlace.{VariablePlace}
-use Rattle.lower.specs.memory_map.declared.place.VariablePlace.TheVariants.{Scalar, Array}
 use Rattle.lower.specs.declared.runs.Run.{Run}
 use Rattle.lower.specs.Runs.{runs_of}
 use Rattle.lower.specs.memory_map.Spots.{Places}
-use Rattle.lower.specs.declared.operations.BinaryMeaning.{BinaryMeaning}
-use Rattle.lower.specs.declared.operations.BinaryMeaning.TheVariants.{Calculates, CommonBits, Holds, Fails}
-use Rattle.lower.specs.declared.operations.LongMeaning.{LongMeaning}
-use Rattle.lower.specs.declared.operations.LongMeaning.TheVariants as of_longs
-use Rattle.lower.specs.declared.operations.LongQuestion.{LongQuestion}
-use Rattle.lower.specs.declared.operations.LongQuestion.TheVariants as question
-use Rattle.lower.specs.Operations.{binary_meaning, shift_operation, operand_type, long_meaning, long_shift}
-use Rattle.lower.specs.Lowered.{one, read_step, write_step, read_long, write_long, element_read, element_step, store_step, Lowering, as_word, as_test, as_long}
-use Rattle.lower.specs.Lowered.{word_program, value_test, widening, long_words, long_program, name_lowering, unary_lowering, long_zero}
-use Rattle.lower.specs.Lowered.{long_unary_lowering, operand_lowering, binary_lowering, answer, long_binary_lowering, sides_lowering, shift_lowering}
-use Rattle.lower.specs.Lowered.{sides_test, lowering, lowered_expression, widened_type, lowered_long, lowered_test, assignment}
+use Rattle.lower.specs.Lowered.{one, write_step, write_long, store_step}
+use Rattle.lower.specs.Lowered.{lowering, lowered_expression, widened_type, lowered_long, assignment}
 use Rattle.lower.specs.Lowered.{scalar_assignment}
 use Rattle.lower.specs.Lowered.{update_step, setting, long_setting, updating, of_words, sides_set}
 use Rattle.lower.specs.Lowered.{update_element_step, index_and_value, element_updating, element_sides_set, element_assignment}
@@ -57,6 +35,10 @@ use Rattle.lower.specs.Lowered.{loop_local, entries, lowered_transition, lowered
 use Rattle.whole_programs.specs.Needs.{ExpressionFits, StatementFits, ChoiceFits, BlockFits}
 use Rattle.whole_programs.specs.Uses.{IsWordName, IsArrayName, ExpressionUses, StatementUses, ChoiceUses, BlockUses}
 use Rattle.lower.proofs.Interface.{small_modulo, is_update}
+use Rattle.whole_programs.proofs.Placed.{PlacesOfWords}
+use Rattle.whole_programs.proofs.Built.{Leaf, a_number, a_load, a_reading, a_unary, a_shift, an_element, a_version, a_binary, a_widening, a_join, a_low_word}
+use Rattle.whole_programs.proofs.Built.{a_complement, a_left_shift, a_right_shift, a_calculation, is_below, is_above, ReadOf, Reads, two_fit, fits_above, Fact}
+use Rattle.whole_programs.proofs.Built.{lowering_has, long_has}
 use Rattle.whole_programs.proofs.Paths.{names_read, is_path, some_turns, some_block, written, forgotten, behind, behind_both, behind_names}
 use Rattle.whole_programs.proofs.Paths.{behind_expression, IsAssigned, Safe, safe_both, safe_expression}
 
@@ -83,302 +65,80 @@ moves room pops pushes d e a next l same few h =
 
 -- ---- expressions
 
--- each local that an expression reads is assigned
-abbrev ReadOf : (ℕ → Bool) → Variable → Type 0
-ReadOf a (Shared v) = Unit {0}
-ReadOf a (Local n) = a (n % 65536) ≡ true
+-- a local is assigned
+abbrev Assigned : (ℕ → Bool) → ℕ → Type 0
+Assigned a n = a (n % 65536) ≡ true
 
-abbrev ReadsAssigned : (ℕ → Bool) → CheckedExpression → Type 0
-ReadsAssigned a (t.number w) = Unit {0}
-ReadsAssigned a (t.long_number w) = Unit {0}
-ReadsAssigned a (t.name x) = ReadOf a x.variable
-ReadsAssigned a (t.element x index) = ReadsAssigned a index
-ReadsAssigned a t.sense = Unit {0}
-ReadsAssigned a (t.unary op e) = ReadsAssigned a e
-ReadsAssigned a (t.binary op b c) = ReadsAssigned a b × ReadsAssigned a c
-ReadsAssigned a (t.shift op e count) = ReadsAssigned a e
-ReadsAssigned a (t.short_circuit op b c) = ReadsAssigned a b × ReadsAssigned a c
+module _ (room : ℕ) (a : ℕ → Bool) where
+  -- ways through a step, and through a program, that leaves the stack so deep
+  abbrev StepLeaves : ℕ → ℕ → Step → Type 1
+  StepLeaves d e s = (next : Place → Type 0) → next (at e a) → EachStepWay room s next (at d a)
 
--- an expression leaves a word, or two
-two_fit : (room d : ℕ) (e : CheckedExpression) → ExpressionFits room d e → suc (suc d) ≤ room
-two_fit room d (t.number w) h = let l = h.0 in omega (arith, l)
-two_fit room d (t.long_number w) h = let l = h.0 in omega (arith, l)
-two_fit room d (t.name x) h = omega (arith, h)
-two_fit room d (t.element x index) h = two_fit room d index h
-two_fit room d t.sense h = omega (arith, h)
-two_fit room d (t.unary op e) h = let more = two_fit room (suc (suc d)) e h in omega (arith, more)
-two_fit room d (t.binary op a b) h = two_fit room d a h.0
-two_fit room d (t.shift op e count) h = two_fit room d e h.0
-two_fit room d (t.short_circuit op a b) h = two_fit room d a h.0
-
--- with fewer words beneath
-fits_above : (room d c : ℕ) (e : CheckedExpression) → d ≤ c → ExpressionFits room c e → ExpressionFits room d e
-fits_above room d c (t.number w) l h = let within = h.0 in (omega (arith, within, l), h.1)
-fits_above room d c (t.long_number w) l h = let within = h.0 in (omega (arith, within, l), h.1)
-fits_above room d c (t.name x) l h = omega (arith, h, l)
-fits_above room d c (t.element x index) l h = fits_above room d c index l h
-fits_above room d c t.sense l h = omega (arith, h, l)
-fits_above room d c (t.unary op e) l h = fits_above room (suc (suc d)) (suc (suc c)) e (omega (arith, l)) h
-fits_above room d c (t.binary op a b) l h = (fits_above room d c a l h.0, fits_above room (suc (suc d)) (suc (suc c)) b (omega (arith, l)) h.1)
-fits_above room d c (t.shift op e count) l h = (fits_above room d c e l h.0, h.1)
-fits_above room d c (t.short_circuit op a b) l h = (fits_above room d c a l h.0, fits_above room d c b l h.1)
-
-module _ (room : ℕ) (p : Places) where
-  read_way : (d : ℕ) (a : ℕ → Bool) (x : Variable) (next : Place → Type 0) → d < room → ReadOf a x → next (at (suc d) a)
-      → EachStepWay room (read_step p x) next (at d a)
-  read_way d a (Shared v) next l r h = moves room 0 1 d (suc d) a next (omega arith) (omega arith) (omega arith) h
-  read_way d a (Local n) next l r h = (r, moves room 0 1 d (suc d) a next (omega arith) (omega arith) (omega arith) h)
-
-  -- a word comes on top of the stack
-  pushed : (d : ℕ) (a : ℕ → Bool) (next : Place → Type 0) → d < room → next (at (suc d) a) → Moves room 0 1 next (at d a)
-  pushed d a next l h = moves room 0 1 d (suc d) a next (omega arith) (omega arith) (omega arith) h
-
-  -- a word on top of the stack changes
-  turned : (d : ℕ) (a : ℕ → Bool) (next : Place → Type 0) → d < room → next (at (suc d) a) → Moves room 1 1 next (at (suc d) a)
-  turned d a next l h = moves room 1 1 (suc d) (suc d) a next (omega arith) (omega arith) (omega arith) h
-
-  element_way : (d : ℕ) (a : ℕ → Bool) (x : Variable) (next : Place → Type 0) → d < room → next (at (suc d) a)
-      → EachStepWay room (element_step p x) next (at (suc d) a)
-  element_way d a (Shared v) next l h = by_place (slice_get p.map.variables v)
-    where
-      by_place : (o : Option VariablePlace) → EachStepWay room (element_read p o) next (at (suc d) a)
-      by_place None = turned d a next l h
-      by_place (Some (Scalar home copy width)) = turned d a next l h
-      by_place (Some (Array elements length None)) = turned d a next l h
-      by_place (Some (Array elements length (Some c))) = turned d a next l h
-  element_way d a (Local n) next l h = turned d a next l h
-
-  -- ways through a program that leaves the stack so deep
-  abbrev LeavesDepth : ℕ → (ℕ → Bool) → ℕ → Program → Type 1
-  LeavesDepth d a e q = (next : Place → Type 0) → next (at e a) → EachWay room q next (at d a)
+  abbrev Leaves : ℕ → ℕ → Program → Type 1
+  Leaves d e q = (next : Place → Type 0) → next (at e a) → EachWay room q next (at d a)
 
   -- ways through a test
-  abbrev Decides : ℕ → (ℕ → Bool) → Test → Type 1
-  Decides d a c = (held failed : Place → Type 0) → held (at d a) → failed (at d a) → EachTestWay room c held failed (at d a)
+  abbrev Decides : ℕ → Test → Type 1
+  Decides d c = (held failed : Place → Type 0) → held (at d a) → failed (at d a) → EachTestWay room c held failed (at d a)
 
-  -- one program behind another
-  then_way : (d : ℕ) (a : ℕ → Bool) (e f : ℕ) (q r : Program) → LeavesDepth d a e q → LeavesDepth e a f r → LeavesDepth d a f (joined q r)
-  then_way d a e f q r h k next x = joined_way room q r next (at d a) (h (EachWay room r next) (k next x))
+  leaf_way : (d e : ℕ) (s : Step) → Leaf d e s → StepOfWords s → e ≤ room → StepLeaves d e s
+  leaf_way d e s (a_number w) numbers few next h = moves room 0 1 d e a next (omega arith) (omega arith) few h
+  leaf_way d e s (a_load to) numbers few next h = moves room 0 1 d e a next (omega arith) (omega arith) few h
+  leaf_way d e s a_reading numbers few next h = moves room 0 1 d e a next (omega arith) (omega arith) few h
+  leaf_way d e s (a_unary op) numbers few next h = moves room 1 1 d e a next (omega arith) (omega arith) few h
+  leaf_way d e s (a_shift op k) numbers few next h = moves room 1 1 d e a next (omega arith) (omega arith) few h
+  leaf_way d e s (an_element base length) numbers few next h = moves room 1 1 d e a next (omega arith) (omega arith) few h
+  leaf_way d e s (a_version place list) numbers few next h = moves room 1 1 d e a next (omega arith) (omega arith) few h
+  leaf_way d e s (a_binary op) numbers few next h = moves room 2 1 d e a next (omega arith) (omega arith) few h
+  leaf_way d e s a_widening numbers few next h = moves room 1 2 d e a next (omega arith) (omega arith) few h
+  leaf_way d e s a_join numbers few next h = moves room 2 2 d e a next (omega arith) (omega arith) few h
+  leaf_way d e s a_low_word numbers few next h = moves room 2 1 d e a next (omega arith) (omega arith) few h
+  leaf_way d e s a_complement numbers few next h = moves room 2 2 d e a next (omega arith) (omega arith) few h
+  leaf_way d e s (a_left_shift k) numbers few next h = moves room 2 2 d e a next (omega arith) (omega arith) few h
+  leaf_way d e s (a_right_shift k) numbers few next h = moves room 2 2 d e a next (omega arith) (omega arith) few h
+  leaf_way d e s (a_calculation op) numbers few next h = moves room 4 2 d e a next (omega arith) (omega arith) few h
+  leaf_way d e s is_below numbers few next h = moves room 4 1 d e a next (omega arith) (omega arith) few h
+  leaf_way d e s is_above numbers few next h = moves room 4 1 d e a next (omega arith) (omega arith) few h
 
-  -- a step behind a program
-  behind_way : (d : ℕ) (a : ℕ → Bool) (e f : ℕ) (q : Program) (s : Step) → LeavesDepth d a e q
-      → ((next : Place → Type 0) → next (at f a) → EachStepWay room s next (at e a)) → LeavesDepth d a f (joined q (one s))
-  behind_way d a e f q s h k = then_way d a e f q (one s) h k
+  read_way : (d n : ℕ) → Assigned a n → suc d ≤ room → StepLeaves d (suc d) (local (n % 65536))
+  read_way d n is few next h = (is, moves room 0 1 d (suc d) a next (omega arith) (omega arith) few h)
 
-  -- ways through what an expression comes to: a word, a test, or a long
-  record HasWays (d : ℕ) (a : ℕ → Bool) (l : Lowering) : Type 1 where
-    word : LeavesDepth d a (suc d) (word_program l)
-    test : Decides d a (value_test l)
-    long : LeavesDepth d a (suc (suc d)) (long_words l)
+  truth_way : (d : ℕ) (c : Test) → suc d ≤ room → Decides d c → StepLeaves d (suc d) (truth c)
+  truth_way d c few h next x =
+      let pushed : Moves room 0 1 next (at d a) = moves room 0 1 d (suc d) a next (omega arith) (omega arith) few x in
+      h (Moves room 0 1 next) (Moves room 0 1 next) pushed pushed
 
-  -- two words on top of the stack become a long
-  paired : (d : ℕ) (a : ℕ → Bool) (next : Place → Type 0) → suc (suc d) ≤ room → next (at (suc (suc d)) a) → Moves room 2 2 next (at (suc (suc d)) a)
-  paired d a next l h = moves room 2 2 (suc (suc d)) (suc (suc d)) a next (omega arith) (omega arith) l h
+  -- the test of a word, and of two
+  holds_way : (d : ℕ) (q : Program) → suc d ≤ room → Leaves d (suc d) q → Decides d (holds q)
+  holds_way d q few h held failed x y =
+      h (Moves room 1 0 (λ r. held r × failed r)) (moves room 1 0 (suc d) d a (λ r. held r × failed r) (omega arith) (omega arith) (omega (arith, few)) (x, y))
 
-  -- a word becomes a long
-  widened : (d : ℕ) (a : ℕ → Bool) (of : WordType) → suc (suc d) ≤ room → LeavesDepth (suc d) a (suc (suc d)) (widening of)
-  widened d a Int l next h = moves room 1 2 (suc d) (suc (suc d)) a next (omega arith) (omega arith) l h
-  widened d a Unsigned l next h = pushed (suc d) a (Moves room 2 2 next) l (paired d a next l h)
-  widened d a Long l next h = pushed (suc d) a (Moves room 2 2 next) l (paired d a next l h)
-
-  -- the test of a word
-  holds_way : (d : ℕ) (a : ℕ → Bool) (q : Program) → suc (suc d) ≤ room → LeavesDepth d a (suc d) q → Decides d a (holds q)
-  holds_way d a q l h held failed x y =
-      h (Moves room 1 0 (λ r. held r × failed r)) (moves room 1 0 (suc d) d a (λ r. held r × failed r) (omega arith) (omega arith) (omega (arith, l)) (x, y))
-
-  by_word : (d : ℕ) (a : ℕ → Bool) (q : Program) → suc (suc d) ≤ room → LeavesDepth d a (suc d) q → HasWays d a (as_word q)
-  by_word d a q l h = record {
-    word = h;
-    test = holds_way d a q l h;
-    long = then_way d a (suc d) (suc (suc d)) q (widening Long) h (widened d a Long l);
-  }
-
-  by_test : (d : ℕ) (a : ℕ → Bool) (c : Test) → suc (suc d) ≤ room → Decides d a c → HasWays d a (as_test c)
-  by_test d a c l h = record {
-    word = word;
-    test = h;
-    long = then_way d a (suc d) (suc (suc d)) (one (truth c)) (widening Long) word (widened d a Long l);
-  }
-    where
-      word : LeavesDepth d a (suc d) (one (truth c))
-      word next x =
-          let few : d < room = omega (arith, l) in
-          h (Moves room 0 1 next) (Moves room 0 1 next) (pushed d a next few x) (pushed d a next few x)
-
-  -- two words become one
-  joins : (d : ℕ) (a : ℕ → Bool) (q : Program) (op : BinaryOperation) → suc (suc d) ≤ room → LeavesDepth d a (suc (suc d)) q
-      → LeavesDepth d a (suc d) (joined q (one (binary op)))
-  joins d a q op l h =
-      behind_way d a (suc (suc d)) (suc d) q (binary op) h
-      (λ next x. moves room 2 1 (suc (suc d)) (suc d) a next (omega arith) (omega arith) (omega (arith, l)) x)
-
-  by_long : (d : ℕ) (a : ℕ → Bool) (q : Program) → suc (suc d) ≤ room → LeavesDepth d a (suc (suc d)) q → HasWays d a (as_long q)
-  by_long d a q l h = record {
-    word =
-        behind_way d a (suc (suc d)) (suc d) q (long with_longs.LowWord) h
-        (λ next x. moves room 2 1 (suc (suc d)) (suc d) a next (omega arith) (omega arith) (omega (arith, l)) x);
-    test = holds_way d a (joined q (one (binary (Plain Or)))) l (joins d a q (Plain Or) l h);
-    long = h;
-  }
-
-  -- a long by the type of what it is made of
-  long_way : (d : ℕ) (a : ℕ → Bool) (of : WordType) (l : Lowering) → suc (suc d) ≤ room → HasWays d a l
-      → LeavesDepth d a (suc (suc d)) (long_program of l)
-  long_way d a Int l two h = then_way d a (suc d) (suc (suc d)) (word_program l) (widening Int) h.word (widened d a Int two)
-  long_way d a Unsigned l two h = then_way d a (suc d) (suc (suc d)) (word_program l) (widening Unsigned) h.word (widened d a Unsigned two)
-  long_way d a Long l two h = h.long
-
-  -- ---- operators in front
-
-  unary_way : (d : ℕ) (a : ℕ → Bool) (op : UnaryOperator) (l : Lowering) → suc (suc d) ≤ room → HasWays d a l → HasWays d a (unary_lowering op l)
-  unary_way d a unary_operator.Negate l two h =
-      by_word d a _ two (behind_way d a (suc d) (suc d) (word_program l) (unary Negate) h.word (λ next x. turned d a next (omega (arith, two)) x))
-  unary_way d a unary_operator.Complement l two h =
-      by_word d a _ two (behind_way d a (suc d) (suc d) (word_program l) (unary Complement) h.word (λ next x. turned d a next (omega (arith, two)) x))
-  unary_way d a unary_operator.Not l two h = by_test d a _ two (λ held failed x y. h.test failed held y x)
-
-  -- two longs become one
-  calculated : (d : ℕ) (a : ℕ → Bool) (q : Program) (op : PlainOperation) → suc (suc d) ≤ room → LeavesDepth d a (suc (suc (suc (suc d)))) q
-      → LeavesDepth d a (suc (suc d)) (joined q (one (long (with_longs.Calculate op))))
-  calculated d a q op l h =
-      behind_way d a (suc (suc (suc (suc d)))) (suc (suc d)) q (long (with_longs.Calculate op)) h
-      (λ next x. moves room 4 2 (suc (suc (suc (suc d)))) (suc (suc d)) a next (omega arith) (omega arith) l x)
-
-  -- two longs become a word
-  asked : (d : ℕ) (a : ℕ → Bool) (next : Place → Type 0) → suc (suc d) ≤ room → next (at (suc d) a) → Moves room 4 1 next (at (suc (suc (suc (suc d)))) a)
-  asked d a next l h = moves room 4 1 (suc (suc (suc (suc d)))) (suc d) a next (omega arith) (omega arith) (omega (arith, l)) h
-
-  zero_way : (d : ℕ) (a : ℕ → Bool) → suc (suc d) ≤ room → LeavesDepth d a (suc (suc d)) long_zero
-  zero_way d a l next h = pushed d a (Moves room 0 1 next) (omega (arith, l)) (pushed (suc d) a next l h)
-
-  -- a long that waits has 0 beneath it
-  long_unary_way : (d : ℕ) (a : ℕ → Bool) (op : UnaryOperator) (l : Lowering) → suc (suc d) ≤ room → HasWays d a l → HasWays (suc (suc d)) a l
-      → HasWays d a (long_unary_lowering op l)
-  long_unary_way d a unary_operator.Negate l two h above =
-      by_long d a _ two
-      (calculated d a (joined long_zero (long_words l)) Subtract two
-      (then_way d a (suc (suc d)) (suc (suc (suc (suc d)))) long_zero (long_words l) (zero_way d a two) above.long))
-  long_unary_way d a unary_operator.Complement l two h above =
-      by_long d a _ two
-      (behind_way d a (suc (suc d)) (suc (suc d)) (long_words l) (long with_longs.Complement) h.long (λ next x. paired d a next two x))
-  long_unary_way d a unary_operator.Not l two h above = by_test d a _ two (λ held failed x y. h.test failed held y x)
-
-  operand_way : (d : ℕ) (a : ℕ → Bool) (of : WordType) (op : UnaryOperator) (l : Lowering) → suc (suc d) ≤ room → HasWays d a l
-      → HasWays (suc (suc d)) a l → HasWays d a (operand_lowering of op l)
-  operand_way d a Int op l two h above = unary_way d a op l two h
-  operand_way d a Unsigned op l two h above = unary_way d a op l two h
-  operand_way d a Long op l two h above = long_unary_way d a op l two h above
-
-  -- ---- operators between two sides
-
-  -- two words are popped
-  pops_two : (d : ℕ) (a : ℕ → Bool) (q : Program) → suc (suc d) ≤ room → LeavesDepth d a (suc (suc d)) q → (held failed : Place → Type 0)
-      → held (at d a) → failed (at d a) → EachWay room q (Moves room 2 0 (λ r. held r × failed r)) (at d a)
-  pops_two d a q l h held failed x y =
+  compares_way : (d : ℕ) (c : Comparison) (q : Program) → suc (suc d) ≤ room → Leaves d (suc (suc d)) q → Decides d (compares c q)
+  compares_way d c q two h held failed x y =
       h (Moves room 2 0 (λ r. held r × failed r))
-      (moves room 2 0 (suc (suc d)) d a (λ r. held r × failed r) (omega arith) (omega arith) (omega (arith, l)) (x, y))
+      (moves room 2 0 (suc (suc d)) d a (λ r. held r × failed r) (omega arith) (omega arith) (omega (arith, two)) (x, y))
 
-  binary_way : (d : ℕ) (a : ℕ → Bool) (meaning : BinaryMeaning) (q : Program) → suc (suc d) ≤ room → LeavesDepth d a (suc (suc d)) q
-      → HasWays d a (binary_lowering meaning q)
-  binary_way d a (Calculates op) q l h = by_word d a _ l (joins d a q op l h)
-  binary_way d a CommonBits q l h = record {
-    word = joins d a q (Plain And) l h;
-    test = pops_two d a q l h;
-    long = then_way d a (suc d) (suc (suc d)) (joined q (one (binary (Plain And)))) (widening Long) (joins d a q (Plain And) l h) (widened d a Long l);
+  abbrev ways : Fact {1} room
+  ways = record {
+    of_step = StepLeaves;
+    of_program = Leaves;
+    of_test = Decides;
+    of_local = Assigned a;
+    leaf = leaf_way;
+    reads = read_way;
+    asked = truth_way;
+    alone = λ d e s h. h;
+    chain = λ d e f q r h k next x. joined_way room q r next (at d a) (h (EachWay room r next) (k next x));
+    not_zero = holds_way;
+    compared = compares_way;
+    both_hold = λ d b c h k held failed x y. h (EachTestWay room c held failed) failed (k held failed x y) y;
+    one_holds = λ d b c h k held failed x y. h held (EachTestWay room c held failed) x (k held failed x y);
+    turned = λ d c h held failed x y. h failed held y x;
   }
-  binary_way d a (Holds c) q l h = by_test d a _ l (pops_two d a q l h)
-  binary_way d a (Fails c) q l h = by_test d a _ l (λ held failed x y. pops_two d a q l h failed held y x)
 
-  answer_way : (d : ℕ) (a : ℕ → Bool) (asks : LongQuestion) (q : Program) → suc (suc d) ≤ room → LeavesDepth d a (suc (suc (suc (suc d)))) q
-      → LeavesDepth d a (suc d) (answer asks q)
-  answer_way d a question.Below q l h = behind_way d a (suc (suc (suc (suc d)))) (suc d) q (long with_longs.Below) h (λ next x. asked d a next l x)
-  answer_way d a question.Above q l h = behind_way d a (suc (suc (suc (suc d)))) (suc d) q (long with_longs.Above) h (λ next x. asked d a next l x)
-  answer_way d a question.Differ q l h =
-      joins d a (joined q (one (long (with_longs.Calculate Xor)))) (Plain Or) l (calculated d a q Xor l h)
-
-  long_binary_way : (d : ℕ) (a : ℕ → Bool) (meaning : LongMeaning) (q : Program) → suc (suc d) ≤ room → LeavesDepth d a (suc (suc (suc (suc d)))) q
-      → HasWays d a (long_binary_lowering meaning q)
-  long_binary_way d a (of_longs.Calculates op) q l h = by_long d a _ l (calculated d a q op l h)
-  long_binary_way d a (of_longs.Holds asks) q l h = by_test d a _ l (holds_way d a (answer asks q) l (answer_way d a asks q l h))
-  long_binary_way d a (of_longs.Fails asks) q l h =
-      by_test d a _ l (λ held failed x y. holds_way d a (answer asks q) l (answer_way d a asks q l h) failed held y x)
-
-  -- the right side has one word beneath it where both are words, and two where they are longs
-  sides_way : (d : ℕ) (a : ℕ → Bool) (of : WordType) (op : BinaryOperator) (s t : WordType) (left right : Lowering) → suc (suc d) ≤ room
-      → suc (suc (suc (suc d))) ≤ room → HasWays d a left → HasWays (suc d) a right → HasWays (suc (suc d)) a right
-      → HasWays d a (sides_lowering of op s t left right)
-  sides_way d a Long op s t left right two four h one above =
-      long_binary_way d a (long_meaning op) _ two
-      (then_way d a (suc (suc d)) (suc (suc (suc (suc d)))) (long_program s left) (long_program t right) (long_way d a s left two h)
-      (long_way (suc (suc d)) a t right four above))
-  sides_way d a Int op s t left right two four h one above =
-      binary_way d a (binary_meaning op Int) _ two (then_way d a (suc d) (suc (suc d)) (word_program left) (word_program right) h.word one.word)
-  sides_way d a Unsigned op s t left right two four h one above =
-      binary_way d a (binary_meaning op Unsigned) _ two (then_way d a (suc d) (suc (suc d)) (word_program left) (word_program right) h.word one.word)
-
-  shifts_long : (d : ℕ) (a : ℕ → Bool) (op : ShiftOperator) (k : ℕ) (next : Place → Type 0) → suc (suc d) ≤ room → next (at (suc (suc d)) a)
-      → EachStepWay room (long (long_shift op k)) next (at (suc (suc d)) a)
-  shifts_long d a shift_operator.Left k next l h = paired d a next l h
-  shifts_long d a shift_operator.Right k next l h = paired d a next l h
-
-  shift_way : (d : ℕ) (a : ℕ → Bool) (of : WordType) (op : ShiftOperator) (l : Lowering) (k : ℕ) → suc (suc d) ≤ room → HasWays d a l
-      → HasWays d a (shift_lowering of op l k)
-  shift_way d a Long op l k two h =
-      by_long d a _ two
-      (behind_way d a (suc (suc d)) (suc (suc d)) (long_words l) (long (long_shift op k)) h.long (λ next x. shifts_long d a op k next two x))
-  shift_way d a Int op l k two h =
-      by_word d a _ two
-      (behind_way d a (suc d) (suc d) (word_program l) (shift (shift_operation op Int) k) h.word (λ next x. turned d a next (omega (arith, two)) x))
-  shift_way d a Unsigned op l k two h =
-      by_word d a _ two
-      (behind_way d a (suc d) (suc d) (word_program l) (shift (shift_operation op Unsigned) k) h.word (λ next x. turned d a next (omega (arith, two)) x))
-
-  test_sides_way : (d : ℕ) (a : ℕ → Bool) (op : ShortCircuitOperator) (b c : Test) → Decides d a b → Decides d a c → Decides d a (sides_test op b c)
-  test_sides_way d a BothHold b c h k held failed x y = h (EachTestWay room c held failed) failed (k held failed x y) y
-  test_sides_way d a OneHolds b c h k held failed x y = h held (EachTestWay room c held failed) x (k held failed x y)
-
-  -- ---- expressions
-
-  read_long_way : (d : ℕ) (a : ℕ → Bool) (x : Variable) → suc (suc d) ≤ room → ReadOf a x → LeavesDepth d a (suc (suc d)) (read_long p x)
-  read_long_way d a (Shared v) l r next h =
-      pushed d a (Moves room 0 1 (Moves room 2 2 next)) (omega (arith, l)) (pushed (suc d) a (Moves room 2 2 next) l (paired d a next l h))
-  read_long_way d a (Local n) l r next h =
-      (r, pushed d a (Moves room 0 1 (Moves room 2 2 next)) (omega (arith, l)) (pushed (suc d) a (Moves room 2 2 next) l (paired d a next l h)))
-
-  name_way : (d : ℕ) (a : ℕ → Bool) (of : WordType) (x : Variable) → suc (suc d) ≤ room → ReadOf a x → HasWays d a (name_lowering p of x)
-  name_way d a Long x l r = by_long d a _ l (read_long_way d a x l r)
-  name_way d a Int x l r = by_word d a _ l (λ next y. read_way d a x next (omega (arith, l)) r y)
-  name_way d a Unsigned x l r = by_word d a _ l (λ next y. read_way d a x next (omega (arith, l)) r y)
-
-  lowering_way : (d : ℕ) (a : ℕ → Bool) (e : CheckedExpression) → ExpressionFits room d e → ReadsAssigned a e → HasWays d a (lowering p e)
-  lowering_way d a (t.number w) f r = let two = two_fit room d (t.number w) f in by_word d a _ two (λ next x. pushed d a next (omega (arith, two)) x)
-  lowering_way d a (t.long_number w) f r =
-      let two = two_fit room d (t.long_number w) f in
-      by_long d a _ two (λ next x. pushed d a (Moves room 0 1 next) (omega (arith, two)) (pushed (suc d) a next two x))
-  lowering_way d a (t.name x) f r = name_way d a x.word_type x.variable (two_fit room d (t.name x) f) r
-  lowering_way d a (t.element x index) f r =
-      let two = two_fit room d index f in
-      by_word d a _ two
-      (behind_way d a (suc d) (suc d) (lowered_expression p index) (element_step p x.variable) (lowering_way d a index f r).word
-      (λ next y. element_way d a x.variable next (omega (arith, two)) y))
-  lowering_way d a t.sense f r = let two = two_fit room d t.sense f in by_word d a _ two (λ next x. pushed d a next (omega (arith, two)) x)
-  lowering_way d a (t.unary op e) f r =
-      let inner = fits_above room d (suc (suc d)) e (omega arith) f in
-      operand_way d a (type_of e) op (lowering p e) (two_fit room d e inner) (lowering_way d a e inner r) (lowering_way (suc (suc d)) a e f r)
-  lowering_way d a (t.binary op b c) f r =
-      let one = fits_above room (suc d) (suc (suc d)) c (omega arith) f.1 in
-      sides_way d a (operand_type op.operator (joined_type (type_of b) (type_of c))) op.operator (widened_type b) (widened_type c) (lowering p b) (lowering p c)
-      (two_fit room d b f.0) (two_fit room (suc (suc d)) c f.1)
-      (lowering_way d a b f.0 r.0) (lowering_way (suc d) a c one r.1) (lowering_way (suc (suc d)) a c f.1 r.1)
-  lowering_way d a (t.shift op e count) f r =
-      shift_way d a (type_of e) op (lowering p e) count.value (two_fit room d e f.0) (lowering_way d a e f.0 r)
-  lowering_way d a (t.short_circuit op b c) f r =
-      by_test d a _ (two_fit room d b f.0)
-      (test_sides_way d a op (lowered_test p b) (lowered_test p c) (lowering_way d a b f.0 r.0).test (lowering_way d a c f.1 r.1).test)
-
-  expression_way : (d : ℕ) (a : ℕ → Bool) (e : CheckedExpression) (next : Place → Type 0) → ExpressionFits room d e → ReadsAssigned a e → next (at (suc d) a)
-      → EachWay room (lowered_expression p e) next (at d a)
-  expression_way d a e next f r h = (lowering_way d a e f r).word next h
+expression_way : (room : ℕ) (p : Places) → PlacesOfWords p → (d : ℕ) (a : ℕ → Bool) (e : CheckedExpression) (next : Place → Type 0)
+    → ExpressionFits room d e → Reads (Assigned a) e → next (at (suc d) a) → EachWay room (lowered_expression p e) next (at d a)
+expression_way room p words d a e next f r h = (lowering_has (ways room a) p words d e f r).word next h
 
 -- ---- locals
 
@@ -421,12 +181,12 @@ covers_forgotten u a x c y l h = c y l (by_test (is_local y x.variable) h)
 
 -- what an expression reads is assigned
 reads_assigned : (shared : List SharedDeclaration) (u a : ℕ → Bool) (e : CheckedExpression) → Covers u a → ExpressionUses shared e → Safe u (names_read e)
-    → ReadsAssigned a e
+    → Reads (Assigned a) e
 reads_assigned shared u a (t.number w) c n s = tt
 reads_assigned shared u a (t.long_number w) c n s = tt
 reads_assigned shared u a (t.name x) c n s = by_variable x.variable n.0 s.0
   where
-    by_variable : (v : Variable) → IsWordName shared v → IsAssigned u v → ReadOf a v
+    by_variable : (v : Variable) → IsWordName shared v → IsAssigned u v → ReadOf (Assigned a) v
     by_variable (Shared v) n s = tt
     by_variable (Local k) n s = subst (λ m. a m ≡ true) (sym (small_modulo k n)) (c k n s)
 reads_assigned shared u a (t.element x index) c n s = reads_assigned shared u a index c n.1 (safe_both u (names_read index) (read x ∷ []) s).0
@@ -477,7 +237,7 @@ module _ (room : ℕ) (x : VariableName) (code : Program) (body : CheckedBlock) 
       way (written u x) _ _ (covers_written u a x c)
       (turn_follows m (written u x) next _ h (λ xs q b d. turns_way m (behind (written u x) xs) b next d (turns_follow m (written u x) next xs h q)))
 
-module _ (room : ℕ) (p : Places) (shared : List SharedDeclaration) (even : p.map.commit.address % 2 ≡ 0) where
+module _ (room : ℕ) (p : Places) (words : PlacesOfWords p) (shared : List SharedDeclaration) (even : p.map.commit.address % 2 ≡ 0) where
   write_way : (u a : ℕ → Bool) (x : VariableName) (next : Place → Type 0) → Covers u a → ((b : ℕ → Bool) → Covers (written u x) b → next (at 0 b))
       → EachStepWay room (write_step p x.variable) next (at 1 a)
   write_way u a x next c h = by_variable x.variable refl
@@ -503,7 +263,8 @@ module _ (room : ℕ) (p : Places) (shared : List SharedDeclaration) (even : p.m
           (subst (λ v. EachStepWay room (write_step p v) next (at 1 a)) is (write_way u a x next c h))
 
   -- where the variable is assigned it may be updated
-  update_way : (a : ℕ → Bool) (o : PlainOperation) (v : Variable) (next : Place → Type 0) → ReadOf a v → EachStepWay room (write_step p v) next (at 1 a)
+  update_way : (a : ℕ → Bool) (o : PlainOperation) (v : Variable) (next : Place → Type 0) → ReadOf (Assigned a) v
+      → EachStepWay room (write_step p v) next (at 1 a)
       → EachStepWay room (update_step p o v) next (at 1 a)
   update_way a o (Shared v) next r h = h
   update_way a o (Local n) next r h = (r, h)
@@ -518,33 +279,34 @@ module _ (room : ℕ) (p : Places) (shared : List SharedDeclaration) (even : p.m
 
   -- an expression's value is set
   setting_way : (u a : ℕ → Bool) (x : VariableName) (e : CheckedExpression) (next : Place → Type 0) → ExpressionFits room 0 e → Covers u a
-      → ReadsAssigned a e → Written u x e next → EachWay room (setting p x.variable e) next (at 0 a)
+      → Reads (Assigned a) e → Written u x e next → EachWay room (setting p x.variable e) next (at 0 a)
   setting_way u a x e next f c r h =
       joined_way room (lowered_expression p e) (one (write_step p x.variable)) next (at 0 a)
-      (expression_way room p 0 a e _ f r (write_behind u a x e next c h))
+      (expression_way room p words 0 a e _ f r (write_behind u a x e next c h))
 
   -- so is one of two words
   long_setting_way : (u a : ℕ → Bool) (x : VariableName) (e : CheckedExpression) (next : Place → Type 0) → ExpressionFits room 0 e → Covers u a
-      → ReadsAssigned a e → Written u x e next → EachWay room (long_setting p x.variable e) next (at 0 a)
+      → Reads (Assigned a) e → Written u x e next → EachWay room (long_setting p x.variable e) next (at 0 a)
   long_setting_way u a x e next f c r h =
       joined_way room (lowered_long p e) (write_long p x.variable) next (at 0 a)
-      (long_way room p 0 a (widened_type e) (lowering p e) (two_fit room 0 e f) (lowering_way room p 0 a e f r) (EachWay room (write_long p x.variable) next)
+      (long_has (ways room a) 0 (widened_type e) (lowering p e) (two_fit room 0 e f) (lowering_has (ways room a) p words 0 e f r)
+      (EachWay room (write_long p x.variable) next)
       (long_write_way u a x next (two_fit room 0 e f) c (λ b d. h b (subst (λ v. Covers v b) (sym (behind_expression u e (write x ∷ []))) d))))
 
   sides_set_way : (u a : ℕ → Bool) (x : VariableName) (op : PlacedOperator) (b e : CheckedExpression) (o : Option PlainOperation) (next : Place → Type 0)
-      → updating x.variable op.operator b ≡ o → ExpressionFits room 0 (t.binary op b e) → Covers u a → ReadsAssigned a (t.binary op b e)
+      → updating x.variable op.operator b ≡ o → ExpressionFits room 0 (t.binary op b e) → Covers u a → Reads (Assigned a) (t.binary op b e)
       → Written u x (t.binary op b e) next → EachWay room (sides_set p x.variable op b e o) next (at 0 a)
   sides_set_way u a x op b e None next is f c r h = setting_way u a x (t.binary op b e) next f c r h
   sides_set_way u a x op b e (Some o) next is f c r h =
       let update = is_update x.variable op.operator b o is in
-      let own : ReadOf a x.variable = subst (ReadOf a) update.same (subst (ReadsAssigned a) update.is r.0) in
+      let own : ReadOf (Assigned a) x.variable = subst (ReadOf (Assigned a)) update.same (subst (Reads (Assigned a)) update.is r.0) in
       joined_way room (lowered_expression p e) (one (update_step p o x.variable)) next (at 0 a)
-      (expression_way room p 0 a e _ (fits_above room 0 (suc (suc 0)) e (omega arith) f.1) r.1
+      (expression_way room p words 0 a e _ (fits_above room 0 (suc (suc 0)) e (omega arith) f.1) r.1
       (update_way a o x.variable next own (write_behind u a x (t.binary op b e) next c h)))
 
   -- the first clause makes it a proof by cases
   assignment_way : (u a : ℕ → Bool) (x : VariableName) (e : CheckedExpression) (next : Place → Type 0) → ExpressionFits room 0 e → Covers u a
-      → ReadsAssigned a e → Written u x e next → EachWay room (assignment p x.variable e) next (at 0 a)
+      → Reads (Assigned a) e → Written u x e next → EachWay room (assignment p x.variable e) next (at 0 a)
   assignment_way u a x (t.binary op b e) next f c r h = by_type (joined_type (type_of b) (type_of e))
     where
       by_type : (of : WordType) → EachWay room (sides_set p x.variable op b e (of_words of (updating x.variable op.operator b))) next (at 0 a)
@@ -554,7 +316,7 @@ module _ (room : ℕ) (p : Places) (shared : List SharedDeclaration) (even : p.m
   assignment_way u a x e next f c r h = setting_way u a x e next f c r h
 
   typed_assignment_way : (u a : ℕ → Bool) (of : WordType) (x : VariableName) (e : CheckedExpression) (next : Place → Type 0) → ExpressionFits room 0 e
-      → Covers u a → ReadsAssigned a e → Written u x e next → EachWay room (scalar_assignment p of x.variable e) next (at 0 a)
+      → Covers u a → Reads (Assigned a) e → Written u x e next → EachWay room (scalar_assignment p of x.variable e) next (at 0 a)
   typed_assignment_way u a Long x e next f c r h = long_setting_way u a x e next f c r h
   typed_assignment_way u a Int x e next f c r h = assignment_way u a x e next f c r h
   typed_assignment_way u a Unsigned x e next f c r h = assignment_way u a x e next f c r h
@@ -579,16 +341,16 @@ module _ (room : ℕ) (p : Places) (shared : List SharedDeclaration) (even : p.m
 
   -- an index and a value, and a step behind both
   index_and_value_way : (a : ℕ → Bool) (index e : CheckedExpression) (s : Step) (next : Place → Type 0) → ExpressionFits room 0 index
-      → ExpressionFits room 1 e → ReadsAssigned a index → ReadsAssigned a e → EachStepWay room s next (at 2 a)
+      → ExpressionFits room 1 e → Reads (Assigned a) index → Reads (Assigned a) e → EachStepWay room s next (at 2 a)
       → EachWay room (joined (index_and_value p index e) (one s)) next (at 0 a)
   index_and_value_way a index e s next f g q r h =
       joined_way room (index_and_value p index e) (one s) next (at 0 a)
       (joined_way room (lowered_expression p index) (lowered_expression p e) (EachWay room (one s) next) (at 0 a)
-      (expression_way room p 0 a index _ f q (expression_way room p 1 a e _ g r h)))
+      (expression_way room p words 0 a index _ f q (expression_way room p words 1 a e _ g r h)))
 
   element_sides_way : (a : ℕ → Bool) (x : Variable) (index : CheckedExpression) (op : PlacedOperator) (b e : CheckedExpression) (o : Option PlainOperation)
       (next : Place → Type 0) → ExpressionFits room 0 index → ExpressionFits room 1 (t.binary op b e)
-      → ReadsAssigned a index → ReadsAssigned a (t.binary op b e) → Moves room 2 0 next (at 2 a)
+      → Reads (Assigned a) index → Reads (Assigned a) (t.binary op b e) → Moves room 2 0 next (at 2 a)
       → EachWay room (element_sides_set p x index op b e o) next (at 0 a)
   element_sides_way a x index op b e None next f g q r h = index_and_value_way a index (t.binary op b e) (store_step p x) next f g q r h
   element_sides_way a x index op b e (Some o) next f g q r h =
@@ -596,7 +358,7 @@ module _ (room : ℕ) (p : Places) (shared : List SharedDeclaration) (even : p.m
 
   -- the first clause makes it a proof by cases
   element_assignment_way : (a : ℕ → Bool) (x : Variable) (index e : CheckedExpression) (next : Place → Type 0) → ExpressionFits room 0 index
-      → ExpressionFits room 1 e → ReadsAssigned a index → ReadsAssigned a e → Moves room 2 0 next (at 2 a)
+      → ExpressionFits room 1 e → Reads (Assigned a) index → Reads (Assigned a) e → Moves room 2 0 next (at 2 a)
       → EachWay room (element_assignment p x index e) next (at 0 a)
   element_assignment_way a x index (t.binary op b e) next f g q r h =
       element_sides_way a x index op b e (of_words (joined_type (type_of b) (type_of e)) (element_updating x index op.operator b)) next f g q r h
@@ -689,7 +451,7 @@ module _ (room : ℕ) (p : Places) (shared : List SharedDeclaration) (even : p.m
     statement_way (t.emit e) u a next f n c h =
         let q = path.emit e (names_read e) (is_path e) in
         joined_way room (lowered_expression p e) (one (emit_word (word_place p.map EmitCount) p.map.emits.address)) next (at 0 a)
-        (expression_way room p 0 a e _ f (reads_assigned shared u a e c n (h.safe (names_read e) goes_on q))
+        (expression_way room p words 0 a e _ f (reads_assigned shared u a e c n (h.safe (names_read e) goes_on q))
         (moves room 1 0 1 0 a next (omega arith) (omega arith) (omega arith) (h.on (names_read e) q a (subst (λ v. Covers v a) (sym (behind_names u e)) c))))
     statement_way (t.transition task) u a next f n c h = transition_way task.task next (at 0 a)
 
@@ -703,7 +465,7 @@ module _ (room : ℕ) (p : Places) (shared : List SharedDeclaration) (even : p.m
         let some = some_block b in
         let s = h.safe (names_read e ++ some.accesses) some.end (path.taken e b more (names_read e) some.accesses some.end (is_path e) some.is) in
         let reads = reads_assigned shared u a e c n.0 (safe_expression u e some.accesses s).0 in
-        (lowering_way room p 0 a e f.0 reads).test (EachWay room (lowered_block p b) next) (EachWay room (lowered_choice p more) next)
+        (lowering_has (ways room a) p words 0 e f.0 reads).test (EachWay room (lowered_block p b) next) (EachWay room (lowered_choice p more) next)
         (block_way b u a next f.1 n.1 c (taken_follows e b more u next h)) (choice_way more u a next f.2 n.2 c (passed_follows e b more u next h))
 
     block_way : (b : CheckedBlock) (u a : ℕ → Bool) (next : Place → Type 0) → BlockFits room b → BlockUses shared b → Covers u a

@@ -19,8 +19,8 @@ use Rattle.lower.proofs.Interface.{privates_seen, seen_laid_out}
 use Rattle.whole_programs.specs.StackLaws.{enough}
 use Rattle.whole_programs.specs.Laws.{TasksAreWhole, ProgramsAreWhole}
 use Rattle.whole_programs.proofs.Ways.{task_way}
-use Rattle.whole_programs.proofs.Steps.{PlacesOfWords, Sound, block_sound}
-use Rattle.whole_programs.proofs.Placed.{task_places}
+use Rattle.whole_programs.proofs.Steps.{Sound, block_sound}
+use Rattle.whole_programs.proofs.Placed.{PlacesOfWords, task_places}
 use Rattle.whole_programs.proofs.Checked.{all_at, IsChecked, task_checked}
 
 -- a checked task's program, where its places are words and the commit stands at an even address
@@ -34,7 +34,7 @@ block_whole p shared b words even checked =
         fits = omega arith;
         low_locals = sound.0;
         loops_count = sound.1;
-        ways = task_way enough p shared even b checked.fits checked.uses checked.safe checked.ends;
+        ways = task_way enough p words shared even b checked.fits checked.uses checked.safe checked.ends;
       },
       sound.2,
     )

@@ -1,0 +1,631 @@
+-- The fold over lowered programs: a fact that holds of steps, and of what is put together of what has it, holds of expressions and statements.
+use Rattle.std.proofs.Common.{◌≡◌, ℕ, suc, ◌/◌, ◌%◌, ◌<◌, ◌≤◌, ◌||◌, Bool, false, List, [], ◌∷◌, Option, Some, None, arith, inl, inr, slice_get}
+use Rattle.std.proofs.lemmas.Bool.{or_parts}
+use Rattle.std.specs.List.{AllByRecursion}
+use Rattle.lower.specs.alp_words.Words.{IsWord}
+use Rattle.lower.specs.task_ast.Tree as t
+use Rattle.lower.specs.task_ast.Paths.{CheckedExpression, CheckedStatement, CheckedChoice, CheckedBlock}
+use Rattle.lower.specs.task_ast.declared.SharedDeclaration.{SharedDeclaration}
+use Rattle.lower.specs.task_ast.declared.WordType.{WordType}
+use Rattle.lower.specs.task_ast.declared.WordType.TheVariants.{Unsigned, Int, Long}
+use Rattle.lower.specs.task_ast.declared.BinaryOperator.{BinaryOperator}
+use Rattle.lower.specs.task_ast.declared.ShiftOperator.{ShiftOperator}
+use Rattle.lower.specs.task_ast.declared.ShiftOperator.TheVariants as shift_operator
+use Rattle.lower.specs.task_ast.declared.UnaryOperator.{UnaryOperator}
+use Rattle.lower.specs.task_ast.declared.UnaryOperator.TheVariants as unary_operator
+use Rattle.lower.specs.task_ast.declared.PlacedOperator.{PlacedOperator}
+use Rattle.lower.specs.task_ast.declared.ShortCircuitOperator.{ShortCircuitOperator}
+use Rattle.lower.specs.task_ast.declared.ShortCircuitOperator.TheVariants.{And as BothHold, Or as OneHolds}
+use Rattle.lower.specs.task_ast.declared.names.Variable.{Variable}
+use Rattle.lower.specs.task_ast.declared.names.Variable.TheVariants.{Shared, Local}
+use Rattle.lower.specs.path_checks.Loops.{is_same_local, statement_assigns, choice_assigns, block_assigns}
+use Rattle.lower.specs.source_values.Values.{joined_type, type_of}
+use Rattle.lower.specs.array_versions.declared.operations.UnaryOperation.{UnaryOperation}
+use Rattle.lower.specs.array_versions.declared.operations.UnaryOperation.TheVariants.{Negate, Complement}
+use Rattle.lower.specs.array_versions.declared.operations.BinaryOperation.{BinaryOperation}
+use Rattle.lower.specs.array_versions.declared.operations.BinaryOperation.TheVariants.{Plain}
+use Rattle.lower.specs.array_versions.declared.operations.PlainOperation.{PlainOperation}
+use Rattle.lower.specs.array_versions.declared.operations.PlainOperation.TheVariants.{Subtract, And, Xor, Or}
+use Rattle.lower.specs.array_versions.declared.operations.Comparison.{Comparison}
+use Rattle.lower.specs.array_versions.declared.operations.Comparison.TheVariants.{CommonBit}
+use Rattle.lower.specs.array_versions.declared.operations.ShiftOperation.{ShiftOperation}
+use Rattle.lower.specs.array_versions.declared.operations.LongOperation.TheVariants as with_longs
+use Rattle.lower.specs.array_versions.declared.program.ArrayPlace.{ArrayPlace}
+use Rattle.lower.specs.array_versions.declared.program.ListPlace.{ListPlace}
+use Rattle.lower.specs.array_versions.Program.{Step, Test, Program, number, load, keep, local, set_local, update_local, unary, binary, shift, long, element}
+use Rattle.lower.specs.array_versions.Program.{update, emit_word, list_entry, versioned_read, sense, truth, choose, repeat, store_number, move_word, jump}
+use Rattle.lower.specs.array_versions.Program.{holds, compares, both, either, fails, nothing, step, joined}
+use Rattle.lower.specs.array_versions.Form.{ArrayOfWords, ListOfWords, StepOfWords}
+use Rattle.lower.specs.memory_map.MemoryMap.{word_place}
+use Rattle.lower.specs.memory_map.declared.words.RuntimeWord.TheVariants.{NextTask, Gate, ListLength, EmitCount, Base, SentBase, Version}
+use Rattle.lower.specs.memory_map.declared.place.VariablePlace.{VariablePlace}
+use Rattle.lower.specs.memory_map.declared.place.VariablePlace.TheVariants.{Scalar, Array}
+use Rattle.lower.specs.memory_map.Spots.{Places, address_of}
+use Rattle.lower.specs.declared.runs.Run.{Run}
+use Rattle.lower.specs.Runs.{runs_of}
+use Rattle.lower.specs.declared.operations.BinaryMeaning.{BinaryMeaning}
+use Rattle.lower.specs.declared.operations.BinaryMeaning.TheVariants.{Calculates, CommonBits, Holds, Fails}
+use Rattle.lower.specs.declared.operations.LongMeaning.{LongMeaning}
+use Rattle.lower.specs.declared.operations.LongMeaning.TheVariants as of_longs
+use Rattle.lower.specs.declared.operations.LongQuestion.{LongQuestion}
+use Rattle.lower.specs.declared.operations.LongQuestion.TheVariants as question
+use Rattle.lower.specs.Operations.{binary_meaning, shift_operation, operand_type, long_meaning, long_shift}
+use Rattle.lower.specs.Lowered.{one, read_step, write_step, update_step, read_long, write_long, high_address, array_place, list_place, written_array}
+use Rattle.lower.specs.Lowered.{stored_array, element_read, element_step, store_step, update_element_step, Lowering, as_word, as_test, as_bits, as_long}
+use Rattle.lower.specs.Lowered.{word_program, value_test, widening, long_words, long_program, name_lowering, unary_lowering, long_zero, operand_lowering}
+use Rattle.lower.specs.Lowered.{binary_lowering, answer, long_binary_lowering, sides_lowering, shift_lowering, sides_test, widened_type, lowering}
+use Rattle.lower.specs.Lowered.{lowered_expression, lowered_long, lowered_test, setting, updating, of_words, sides_set, assignment, scalar_assignment}
+use Rattle.lower.specs.Lowered.{index_and_value, element_updating, element_sides_set, element_assignment, loop_local, entries, lowered_transition}
+use Rattle.lower.specs.Lowered.{lowered_statement, lowered_choice, lowered_block}
+use Rattle.lower.proofs.Interface.{RunOfWords, runs_of_words}
+use Rattle.whole_programs.specs.Needs.{ExpressionFits, StatementFits, ChoiceFits, BlockFits}
+use Rattle.whole_programs.specs.Uses.{IsWordName, IsLocal, ExpressionUses, StatementUses, ChoiceUses, BlockUses}
+use Rattle.whole_programs.proofs.Placed.{PlaceOfWords, PlacesOfWords}
+use Rattle.whole_programs.proofs.Loops.{GoodStatement, GoodChoice, GoodBlock, is_good}
+
+-- ---- steps of expressions
+
+-- a step of an expression that names no local, with the words on the stack before it and behind it
+pub data Leaf : ℕ → ℕ → Step → Type 0 where
+  a_number : {d : ℕ} (w : ℕ) → Leaf d (suc d) (number w)
+  a_load : {d : ℕ} (a : ℕ) → Leaf d (suc d) (load a)
+  a_reading : {d : ℕ} → Leaf d (suc d) sense
+  a_unary : {d : ℕ} (op : UnaryOperation) → Leaf (suc d) (suc d) (unary op)
+  a_shift : {d : ℕ} (op : ShiftOperation) (k : ℕ) → Leaf (suc d) (suc d) (shift op k)
+  an_element : {d : ℕ} (base length : ℕ) → Leaf (suc d) (suc d) (element base length)
+  a_version : {d : ℕ} (place : ArrayPlace) (list : ListPlace) → Leaf (suc d) (suc d) (versioned_read place list)
+  a_binary : {d : ℕ} (op : BinaryOperation) → Leaf (suc (suc d)) (suc d) (binary op)
+  a_widening : {d : ℕ} → Leaf (suc d) (suc (suc d)) (long with_longs.Widen)
+  a_join : {d : ℕ} → Leaf (suc (suc d)) (suc (suc d)) (long with_longs.Join)
+  a_low_word : {d : ℕ} → Leaf (suc (suc d)) (suc d) (long with_longs.LowWord)
+  a_complement : {d : ℕ} → Leaf (suc (suc d)) (suc (suc d)) (long with_longs.Complement)
+  a_left_shift : {d : ℕ} (k : ℕ) → Leaf (suc (suc d)) (suc (suc d)) (long (with_longs.ShiftLeft k))
+  a_right_shift : {d : ℕ} (k : ℕ) → Leaf (suc (suc d)) (suc (suc d)) (long (with_longs.ShiftRight k))
+  a_calculation : {d : ℕ} (op : PlainOperation) → Leaf (suc (suc (suc (suc d)))) (suc (suc d)) (long (with_longs.Calculate op))
+  is_below : {d : ℕ} → Leaf (suc (suc (suc (suc d)))) (suc d) (long with_longs.Below)
+  is_above : {d : ℕ} → Leaf (suc (suc (suc (suc d)))) (suc d) (long with_longs.Above)
+
+zero_is_word : IsWord 0
+zero_is_word = omega arith
+
+list_of_words : (p : Places) → PlacesOfWords p → ListOfWords (list_place p)
+list_of_words p words = (words.words Version, words.words ListLength, words.list)
+
+-- what is asked of each local that an expression reads
+abbrev pub ReadOf : (ℕ → Type 0) → Variable → Type 0
+ReadOf F (Shared v) = Unit {0}
+ReadOf F (Local n) = F n
+
+abbrev pub Reads : (ℕ → Type 0) → CheckedExpression → Type 0
+Reads F (t.number w) = Unit {0}
+Reads F (t.long_number w) = Unit {0}
+Reads F (t.name x) = ReadOf F x.variable
+Reads F (t.element x index) = Reads F index
+Reads F t.sense = Unit {0}
+Reads F (t.unary op e) = Reads F e
+Reads F (t.binary op a b) = Reads F a × Reads F b
+Reads F (t.shift op e count) = Reads F e
+Reads F (t.short_circuit op a b) = Reads F a × Reads F b
+
+-- an expression leaves a word, or two
+pub two_fit : (room d : ℕ) (e : CheckedExpression) → ExpressionFits room d e → suc (suc d) ≤ room
+two_fit room d (t.number w) h = let l = h.0 in omega (arith, l)
+two_fit room d (t.long_number w) h = let l = h.0 in omega (arith, l)
+two_fit room d (t.name x) h = omega (arith, h)
+two_fit room d (t.element x index) h = two_fit room d index h
+two_fit room d t.sense h = omega (arith, h)
+two_fit room d (t.unary op e) h = let more = two_fit room (suc (suc d)) e h in omega (arith, more)
+two_fit room d (t.binary op a b) h = two_fit room d a h.0
+two_fit room d (t.shift op e count) h = two_fit room d e h.0
+two_fit room d (t.short_circuit op a b) h = two_fit room d a h.0
+
+-- with fewer words beneath
+pub fits_above : (room d c : ℕ) (e : CheckedExpression) → d ≤ c → ExpressionFits room c e → ExpressionFits room d e
+fits_above room d c (t.number w) l h = let within = h.0 in (omega (arith, within, l), h.1)
+fits_above room d c (t.long_number w) l h = let within = h.0 in (omega (arith, within, l), h.1)
+fits_above room d c (t.name x) l h = omega (arith, h, l)
+fits_above room d c (t.element x index) l h = fits_above room d c index l h
+fits_above room d c t.sense l h = omega (arith, h, l)
+fits_above room d c (t.unary op e) l h = fits_above room (suc (suc d)) (suc (suc c)) e (omega (arith, l)) h
+fits_above room d c (t.binary op a b) l h = (fits_above room d c a l h.0, fits_above room (suc (suc d)) (suc (suc c)) b (omega (arith, l)) h.1)
+fits_above room d c (t.shift op e count) l h = (fits_above room d c e l h.0, h.1)
+fits_above room d c (t.short_circuit op a b) l h = (fits_above room d c a l h.0, fits_above room d c b l h.1)
+
+-- ---- a fact
+
+-- a fact of steps and of programs, with the words on the stack before and behind, and of tests, which leave as many; what it asks of the
+-- locals that are read; and that it holds of single steps and of what is put together of what has it
+pub record Fact {ℓ} (room : ℕ) : Type (ℓ + 1) where
+  pub of_step : ℕ → ℕ → Step → Type ℓ
+  pub of_program : ℕ → ℕ → Program → Type ℓ
+  pub of_test : ℕ → Test → Type ℓ
+  pub of_local : ℕ → Type 0
+  pub leaf : (d e : ℕ) (s : Step) → Leaf d e s → StepOfWords s → e ≤ room → of_step d e s
+  pub reads : (d n : ℕ) → of_local n → suc d ≤ room → of_step d (suc d) (local (n % 65536))
+  pub asked : (d : ℕ) (c : Test) → suc d ≤ room → of_test d c → of_step d (suc d) (truth c)
+  pub alone : (d e : ℕ) (s : Step) → of_step d e s → of_program d e (one s)
+  pub chain : (d e f : ℕ) (q r : Program) → of_program d e q → of_program e f r → of_program d f (joined q r)
+  pub not_zero : (d : ℕ) (q : Program) → suc d ≤ room → of_program d (suc d) q → of_test d (holds q)
+  pub compared : (d : ℕ) (c : Comparison) (q : Program) → suc (suc d) ≤ room → of_program d (suc (suc d)) q → of_test d (compares c q)
+  pub both_hold : (d : ℕ) (b c : Test) → of_test d b → of_test d c → of_test d (both b c)
+  pub one_holds : (d : ℕ) (b c : Test) → of_test d b → of_test d c → of_test d (either b c)
+  pub turned : (d : ℕ) (c : Test) → of_test d c → of_test d (fails c)
+
+module _ {ℓ} {room : ℕ} (F : Fact {ℓ} room) where
+  -- the fact holds of what an expression comes to, as a word, as a test and as a long
+  pub record Built (d : ℕ) (l : Lowering) : Type ℓ where
+    pub word : F.of_program d (suc d) (word_program l)
+    pub test : F.of_test d (value_test l)
+    pub long : F.of_program d (suc (suc d)) (long_words l)
+
+  single : (d e : ℕ) (s : Step) → Leaf d e s → StepOfWords s → e ≤ room → F.of_program d e (one s)
+  single d e s k numbers few = F.alone d e s (F.leaf d e s k numbers few)
+
+  -- a step behind a program
+  last : (d e f : ℕ) (q : Program) (s : Step) → F.of_program d e q → Leaf e f s → StepOfWords s → f ≤ room → F.of_program d f (joined q (one s))
+  last d e f q s h k numbers few = F.chain d e f q (one s) h (single e f s k numbers few)
+
+  -- a word becomes a long
+  long_of_word : (d : ℕ) → suc (suc d) ≤ room → F.of_program (suc d) (suc (suc d)) (widening Long)
+  long_of_word d two =
+      last (suc d) (suc (suc d)) (suc (suc d)) (one (number 0)) (long with_longs.Join)
+      (single (suc d) (suc (suc d)) (number 0) (a_number 0) zero_is_word two) a_join tt two
+
+  widened : (d : ℕ) (of : WordType) → suc (suc d) ≤ room → F.of_program (suc d) (suc (suc d)) (widening of)
+  widened d Int two = single (suc d) (suc (suc d)) (long with_longs.Widen) a_widening tt two
+  widened d Unsigned two = long_of_word d two
+  widened d Long two = long_of_word d two
+
+  word_built : (d : ℕ) (q : Program) → suc (suc d) ≤ room → F.of_program d (suc d) q → Built d (as_word q)
+  word_built d q two h = record {
+    word = h;
+    test = F.not_zero d q (omega (arith, two)) h;
+    long = F.chain d (suc d) (suc (suc d)) q (widening Long) h (long_of_word d two);
+  }
+
+  test_built : (d : ℕ) (c : Test) → suc (suc d) ≤ room → F.of_test d c → Built d (as_test c)
+  test_built d c two h = record { word = word; test = h; long = F.chain d (suc d) (suc (suc d)) (one (truth c)) (widening Long) word (long_of_word d two) }
+    where
+      word : F.of_program d (suc d) (one (truth c))
+      word = let few : suc d ≤ room = omega (arith, two) in F.alone d (suc d) (truth c) (F.asked d c few h)
+
+  -- two words become one
+  combined : (d : ℕ) (q : Program) (op : BinaryOperation) → suc (suc d) ≤ room → F.of_program d (suc (suc d)) q
+      → F.of_program d (suc d) (joined q (one (binary op)))
+  combined d q op two h = last d (suc (suc d)) (suc d) q (binary op) h (a_binary op) tt (omega (arith, two))
+
+  bits_built : (d : ℕ) (q : Program) → suc (suc d) ≤ room → F.of_program d (suc (suc d)) q → Built d (as_bits q)
+  bits_built d q two h = record {
+    word = combined d q (Plain And) two h;
+    test = F.compared d CommonBit q two h;
+    long =
+        F.chain d (suc d) (suc (suc d)) (joined q (one (binary (Plain And)))) (widening Long) (combined d q (Plain And) two h) (long_of_word d two);
+  }
+
+  long_built : (d : ℕ) (q : Program) → suc (suc d) ≤ room → F.of_program d (suc (suc d)) q → Built d (as_long q)
+  long_built d q two h = record {
+    word = last d (suc (suc d)) (suc d) q (long with_longs.LowWord) h a_low_word tt (omega (arith, two));
+    test = F.not_zero d (joined q (one (binary (Plain Or)))) (omega (arith, two)) (combined d q (Plain Or) two h);
+    long = h;
+  }
+
+  -- a long by the type of what it is made of
+  pub long_has : (d : ℕ) (of : WordType) (l : Lowering) → suc (suc d) ≤ room → Built d l → F.of_program d (suc (suc d)) (long_program of l)
+  long_has d Int l two h = F.chain d (suc d) (suc (suc d)) (word_program l) (widening Int) h.word (widened d Int two)
+  long_has d Unsigned l two h = F.chain d (suc d) (suc (suc d)) (word_program l) (widening Unsigned) h.word (widened d Unsigned two)
+  long_has d Long l two h = h.long
+
+  -- ---- operators in front
+
+  unary_has : (d : ℕ) (op : UnaryOperator) (l : Lowering) → suc (suc d) ≤ room → Built d l → Built d (unary_lowering op l)
+  unary_has d unary_operator.Negate l two h =
+      word_built d _ two (last d (suc d) (suc d) (word_program l) (unary Negate) h.word (a_unary Negate) tt (omega (arith, two)))
+  unary_has d unary_operator.Complement l two h =
+      word_built d _ two (last d (suc d) (suc d) (word_program l) (unary Complement) h.word (a_unary Complement) tt (omega (arith, two)))
+  unary_has d unary_operator.Not l two h = test_built d _ two (F.turned d (value_test l) h.test)
+
+  -- two longs become one
+  calculated : (d : ℕ) (q : Program) (op : PlainOperation) → suc (suc d) ≤ room → F.of_program d (suc (suc (suc (suc d)))) q
+      → F.of_program d (suc (suc d)) (joined q (one (long (with_longs.Calculate op))))
+  calculated d q op two h = last d (suc (suc (suc (suc d)))) (suc (suc d)) q (long (with_longs.Calculate op)) h (a_calculation op) tt two
+
+  zero_has : (d : ℕ) → suc (suc d) ≤ room → F.of_program d (suc (suc d)) long_zero
+  zero_has d two =
+      last d (suc d) (suc (suc d)) (one (number 0)) (number 0) (single d (suc d) (number 0) (a_number 0) zero_is_word (omega (arith, two)))
+      (a_number 0) zero_is_word two
+
+  -- a long that waits has 0 beneath it
+  operand_has : (d : ℕ) (of : WordType) (op : UnaryOperator) (l : Lowering) → suc (suc d) ≤ room → Built d l → Built (suc (suc d)) l
+      → Built d (operand_lowering of op l)
+  operand_has d Int op l two h above = unary_has d op l two h
+  operand_has d Unsigned op l two h above = unary_has d op l two h
+  operand_has d Long unary_operator.Negate l two h above =
+      long_built d _ two
+      (calculated d (joined long_zero (long_words l)) Subtract two
+      (F.chain d (suc (suc d)) (suc (suc (suc (suc d)))) long_zero (long_words l) (zero_has d two) above.long))
+  operand_has d Long unary_operator.Complement l two h above =
+      long_built d _ two (last d (suc (suc d)) (suc (suc d)) (long_words l) (long with_longs.Complement) h.long a_complement tt two)
+  operand_has d Long unary_operator.Not l two h above = test_built d _ two (F.turned d (value_test l) h.test)
+
+  -- ---- operators between two sides
+
+  binary_has : (d : ℕ) (meaning : BinaryMeaning) (q : Program) → suc (suc d) ≤ room → F.of_program d (suc (suc d)) q
+      → Built d (binary_lowering meaning q)
+  binary_has d (Calculates op) q two h = word_built d _ two (combined d q op two h)
+  binary_has d CommonBits q two h = bits_built d q two h
+  binary_has d (Holds c) q two h = test_built d _ two (F.compared d c q two h)
+  binary_has d (Fails c) q two h = test_built d _ two (F.turned d (compares c q) (F.compared d c q two h))
+
+  answer_has : (d : ℕ) (asks : LongQuestion) (q : Program) → suc (suc d) ≤ room → F.of_program d (suc (suc (suc (suc d)))) q
+      → F.of_program d (suc d) (answer asks q)
+  answer_has d question.Below q two h = last d (suc (suc (suc (suc d)))) (suc d) q (long with_longs.Below) h is_below tt (omega (arith, two))
+  answer_has d question.Above q two h = last d (suc (suc (suc (suc d)))) (suc d) q (long with_longs.Above) h is_above tt (omega (arith, two))
+  answer_has d question.Differ q two h = combined d (joined q (one (long (with_longs.Calculate Xor)))) (Plain Or) two (calculated d q Xor two h)
+
+  answered : (d : ℕ) (asks : LongQuestion) (q : Program) → suc (suc d) ≤ room → F.of_program d (suc (suc (suc (suc d)))) q
+      → F.of_test d (holds (answer asks q))
+  answered d asks q two h = F.not_zero d (answer asks q) (omega (arith, two)) (answer_has d asks q two h)
+
+  long_binary_has : (d : ℕ) (meaning : LongMeaning) (q : Program) → suc (suc d) ≤ room → F.of_program d (suc (suc (suc (suc d)))) q
+      → Built d (long_binary_lowering meaning q)
+  long_binary_has d (of_longs.Calculates op) q two h = long_built d _ two (calculated d q op two h)
+  long_binary_has d (of_longs.Holds asks) q two h = test_built d _ two (answered d asks q two h)
+  long_binary_has d (of_longs.Fails asks) q two h = test_built d _ two (F.turned d (holds (answer asks q)) (answered d asks q two h))
+
+  word_sides_have : (d : ℕ) (of : WordType) (op : BinaryOperator) (left right : Lowering) → suc (suc d) ≤ room → Built d left → Built (suc d) right
+      → Built d (binary_lowering (binary_meaning op of) (joined (word_program left) (word_program right)))
+  word_sides_have d of op left right two h k =
+      binary_has d (binary_meaning op of) _ two (F.chain d (suc d) (suc (suc d)) (word_program left) (word_program right) h.word k.word)
+
+  -- the right side has one word beneath it where both are words, and two where they are longs
+  sides_have : (d : ℕ) (of : WordType) (op : BinaryOperator) (s t : WordType) (left right : Lowering) → suc (suc (suc (suc d))) ≤ room
+      → Built d left → Built (suc d) right → Built (suc (suc d)) right → Built d (sides_lowering of op s t left right)
+  sides_have d Int op s t left right four h k above = word_sides_have d Int op left right (omega (arith, four)) h k
+  sides_have d Unsigned op s t left right four h k above = word_sides_have d Unsigned op left right (omega (arith, four)) h k
+  sides_have d Long op s t left right four h k above =
+      let two : suc (suc d) ≤ room = omega (arith, four) in
+      long_binary_has d (long_meaning op) _ two
+      (F.chain d (suc (suc d)) (suc (suc (suc (suc d)))) (long_program s left) (long_program t right) (long_has d s left two h)
+      (long_has (suc (suc d)) t right four above))
+
+  shift_has : (d : ℕ) (of : WordType) (op : ShiftOperator) (l : Lowering) (k : ℕ) → IsWord k → suc (suc d) ≤ room → Built d l
+      → Built d (shift_lowering of op l k)
+  shift_has d Int op l k is two h =
+      word_built d _ two (last d (suc d) (suc d) (word_program l) (shift (shift_operation op Int) k) h.word (a_shift _ k) is (omega (arith, two)))
+  shift_has d Unsigned op l k is two h =
+      word_built d _ two (last d (suc d) (suc d) (word_program l) (shift (shift_operation op Unsigned) k) h.word (a_shift _ k) is (omega (arith, two)))
+  shift_has d Long op l k is two h =
+      long_built d _ two (by_operator op)
+    where
+      by_operator : (op : ShiftOperator) → F.of_program d (suc (suc d)) (joined (long_words l) (one (long (long_shift op k))))
+      by_operator shift_operator.Left =
+          last d (suc (suc d)) (suc (suc d)) (long_words l) (long (with_longs.ShiftLeft k)) h.long (a_left_shift k) is two
+      by_operator shift_operator.Right =
+          last d (suc (suc d)) (suc (suc d)) (long_words l) (long (with_longs.ShiftRight k)) h.long (a_right_shift k) is two
+
+  both_have : (d : ℕ) (op : ShortCircuitOperator) (b c : Test) → F.of_test d b → F.of_test d c → F.of_test d (sides_test op b c)
+  both_have d BothHold b c h k = F.both_hold d b c h k
+  both_have d OneHolds b c h k = F.one_holds d b c h k
+
+  -- ---- expressions
+
+  module _ (p : Places) (words : PlacesOfWords p) where
+    read_has : (d : ℕ) (x : Variable) → suc d ≤ room → ReadOf F.of_local x → F.of_program d (suc d) (one (read_step p x))
+    read_has d (Shared v) few r = single d (suc d) (load (address_of p v)) (a_load (address_of p v)) (words.addresses v) few
+    read_has d (Local n) few r = F.alone d (suc d) (local (n % 65536)) (F.reads d n r few)
+
+    read_long_has : (d : ℕ) (x : Variable) → suc (suc d) ≤ room → ReadOf F.of_local x → F.of_program d (suc (suc d)) (read_long p x)
+    read_long_has d (Shared v) two r =
+        let high = load (high_address (address_of p v)) in
+        let few : suc d ≤ room = omega (arith, two) in
+        F.chain d (suc d) (suc (suc d)) (one (load (address_of p v))) (step high (one (long with_longs.Join))) (read_has d (Shared v) few r)
+        (last (suc d) (suc (suc d)) (suc (suc d)) (one high) (long with_longs.Join)
+        (single (suc d) (suc (suc d)) high (a_load (high_address (address_of p v))) (omega arith) two) a_join tt two)
+    read_long_has d (Local n) two r =
+        let few : suc d ≤ room = omega (arith, two) in
+        F.chain d (suc d) (suc (suc d)) (one (local (n % 65536))) (widening Long) (read_has d (Local n) few r) (long_of_word d two)
+
+    name_has : (d : ℕ) (of : WordType) (x : Variable) → suc (suc d) ≤ room → ReadOf F.of_local x → Built d (name_lowering p of x)
+    name_has d Long x two r = long_built d _ two (read_long_has d x two r)
+    name_has d Int x two r = let few : suc d ≤ room = omega (arith, two) in word_built d _ two (read_has d x few r)
+    name_has d Unsigned x two r = let few : suc d ≤ room = omega (arith, two) in word_built d _ two (read_has d x few r)
+
+    element_has : (d : ℕ) (x : Variable) → suc d ≤ room → F.of_program (suc d) (suc d) (one (element_step p x))
+    element_has d (Local n) few = single (suc d) (suc d) (element 0 0) (an_element 0 0) (zero_is_word, zero_is_word) few
+    element_has d (Shared v) few = by_place (slice_get p.map.variables v) (words.places v)
+      where
+        by_place : (o : Option VariablePlace) → PlaceOfWords o → F.of_program (suc d) (suc d) (one (element_read p o))
+        by_place None h = single (suc d) (suc d) (element 0 0) (an_element 0 0) (zero_is_word, zero_is_word) few
+        by_place (Some (Scalar home copy width)) h = single (suc d) (suc d) (element 0 0) (an_element 0 0) (zero_is_word, zero_is_word) few
+        by_place (Some (Array elements length None)) h =
+            single (suc d) (suc d) (element elements length) (an_element elements length) (h.0, h.1) few
+        by_place (Some (Array elements length (Some c))) h =
+            single (suc d) (suc d) (versioned_read (array_place elements length c) (list_place p))
+            (a_version (array_place elements length c) (list_place p)) ((h.0, h.2.0, h.2.1, h.1), list_of_words p words) few
+
+    -- the fact holds of each expression that fits, on the locals that it reads
+    pub lowering_has : (d : ℕ) (e : CheckedExpression) → ExpressionFits room d e → Reads F.of_local e → Built d (lowering p e)
+    lowering_has d (t.number w) f r =
+        let two = two_fit room d (t.number w) f in word_built d _ two (single d (suc d) (number w) (a_number w) f.1 (omega (arith, two)))
+    lowering_has d (t.long_number w) f r =
+        let two = two_fit room d (t.long_number w) f in
+        let below = f.1 in
+        let high : IsWord (w / 65536) = omega (arith, below) in
+        long_built d _ two
+        (last d (suc d) (suc (suc d)) (one (number (w % 65536))) (number (w / 65536))
+        (single d (suc d) (number (w % 65536)) (a_number (w % 65536)) (omega arith) (omega (arith, two))) (a_number (w / 65536)) high two)
+    lowering_has d (t.name x) f r = name_has d x.word_type x.variable (two_fit room d (t.name x) f) r
+    lowering_has d (t.element x index) f r =
+        let two = two_fit room d index f in
+        word_built d _ two
+        (F.chain d (suc d) (suc d) (lowered_expression p index) (one (element_step p x.variable)) (lowering_has d index f r).word
+        (element_has d x.variable (omega (arith, two))))
+    lowering_has d t.sense f r = let two = two_fit room d t.sense f in word_built d _ two (single d (suc d) sense a_reading tt (omega (arith, two)))
+    lowering_has d (t.unary op e) f r =
+        let inner = fits_above room d (suc (suc d)) e (omega arith) f in
+        operand_has d (type_of e) op (lowering p e) (two_fit room d e inner) (lowering_has d e inner r) (lowering_has (suc (suc d)) e f r)
+    lowering_has d (t.binary op a b) f r =
+        let beneath = fits_above room (suc d) (suc (suc d)) b (omega arith) f.1 in
+        sides_have d (operand_type op.operator (joined_type (type_of a) (type_of b))) op.operator (widened_type a) (widened_type b)
+        (lowering p a) (lowering p b) (two_fit room (suc (suc d)) b f.1)
+        (lowering_has d a f.0 r.0) (lowering_has (suc d) b beneath r.1) (lowering_has (suc (suc d)) b f.1 r.1)
+    lowering_has d (t.shift op e count) f r =
+        shift_has d (type_of e) op (lowering p e) count.value f.1 (two_fit room d e f.0) (lowering_has d e f.0 r)
+    lowering_has d (t.short_circuit op a b) f r =
+        test_built d _ (two_fit room d a f.0)
+        (both_have d op (lowered_test p a) (lowered_test p b) (lowering_has d a f.0 r.0).test (lowering_has d b f.1 r.1).test)
+
+-- ---- a fact of each step alone
+
+-- a step of a statement that names no local, and holds neither a test nor a program, in a task with these places
+pub data Stores (p : Places) : Step → Type 0 where
+  a_store : (v : ℕ) → Stores p (keep (address_of p v))
+  a_high_store : (v : ℕ) → Stores p (keep (high_address (address_of p v)))
+  an_update : (op : PlainOperation) (v : ℕ) → Stores p (update op (address_of p v))
+  an_element_store : (x : Variable) → Stores p (store_step p x)
+  an_element_update : (op : PlainOperation) (x : Variable) → Stores p (update_element_step p op x)
+  an_emission : Stores p (emit_word (word_place p.map EmitCount) p.map.emits.address)
+  an_entry : (r : Run) → Stores p (list_entry (word_place p.map ListLength) p.map.list.address r.home r.copy r.words)
+  the_task : (task : ℕ) → Stores p (store_number (word_place p.map NextTask) (task % 65536))
+  the_sent_base : Stores p (move_word (word_place p.map Base) (word_place p.map SentBase))
+  the_gate : Stores p (store_number (word_place p.map Gate) 1)
+  to_the_commit : Stores p (jump p.map.commit.address)
+
+-- a variable that is none of these locals
+abbrev pub IsApart : (ℕ → Type 0) → Variable → Type 0
+IsApart F x = (y : ℕ) → F y → is_same_local x (Local y) ≡ false
+
+-- a fact of each step whatever the stack: the locals of which it wants that no step assigns them, what it asks of a loop's body beside
+-- itself, by the loop's local, and that it holds of single steps and of what is put together of what has it
+pub record EachStep (p : Places) : Type 1 where
+  pub of_step : Step → Type 0
+  pub of_program : Program → Type 0
+  pub of_test : Test → Type 0
+  pub spared : ℕ → Type 0
+  pub of_body : ℕ → Program → Type 0
+  pub leaf : (d e : ℕ) (s : Step) → Leaf d e s → StepOfWords s → of_step s
+  pub stores : (s : Step) → Stores p s → StepOfWords s → of_step s
+  pub reads : (n : ℕ) → n < 256 → of_step (local (n % 65536))
+  pub writes : (n : ℕ) → n < 256 → IsApart spared (Local n) → of_step (set_local (n % 65536))
+  pub updates : (op : PlainOperation) (n : ℕ) → n < 256 → IsApart spared (Local n) → of_step (update_local op (n % 65536))
+  pub asked : (c : Test) → of_test c → of_step (truth c)
+  pub chosen : (c : Test) (a b : Program) → of_test c → of_program a → of_program b → of_step (choose c a b)
+  pub counted : (n from below : ℕ) (body : Program) → n < 256 → IsApart spared (Local n) → IsWord from → IsWord below → of_body (n % 65536) body
+      → of_program body → of_step (repeat (n % 65536) from below body)
+  pub empty : of_program nothing
+  pub alone : (s : Step) → of_step s → of_program (one s)
+  pub chain : (q r : Program) → of_program q → of_program r → of_program (joined q r)
+  pub not_zero : (q : Program) → of_program q → of_test (holds q)
+  pub compared : (c : Comparison) (q : Program) → of_program q → of_test (compares c q)
+  pub both_hold : (b c : Test) → of_test b → of_test c → of_test (both b c)
+  pub one_holds : (b c : Test) → of_test b → of_test c → of_test (either b c)
+  pub turned : (c : Test) → of_test c → of_test (fails c)
+
+-- such a fact of expressions
+abbrev whatever_the_stack : (p : Places) → EachStep p → (room : ℕ) → Fact {0} room
+whatever_the_stack p G room = record {
+  of_step = λ d e s. G.of_step s;
+  of_program = λ d e q. G.of_program q;
+  of_test = λ d c. G.of_test c;
+  of_local = λ n. n < 256;
+  leaf = λ d e s k numbers few. G.leaf d e s k numbers;
+  reads = λ d n low few. G.reads n low;
+  asked = λ d c few h. G.asked c h;
+  alone = λ d e s h. G.alone s h;
+  chain = λ d e f q r h k. G.chain q r h k;
+  not_zero = λ d q few h. G.not_zero q h;
+  compared = λ d c q two h. G.compared c q h;
+  both_hold = λ d b c h k. G.both_hold b c h k;
+  one_holds = λ d b c h k. G.one_holds b c h k;
+  turned = λ d c h. G.turned c h;
+}
+
+-- the locals of an expression are below 256
+reads_low : (shared : List SharedDeclaration) (e : CheckedExpression) → ExpressionUses shared e → Reads (λ n. n < 256) e
+reads_low shared (t.number w) u = tt
+reads_low shared (t.long_number w) u = tt
+reads_low shared (t.name x) u = by_variable x.variable u.0
+  where
+    by_variable : (v : Variable) → IsWordName shared v → ReadOf (λ n. n < 256) v
+    by_variable (Shared v) h = tt
+    by_variable (Local n) h = h
+reads_low shared (t.element x index) u = reads_low shared index u.1
+reads_low shared t.sense u = tt
+reads_low shared (t.unary op e) u = reads_low shared e u
+reads_low shared (t.binary op a b) u = (reads_low shared a u.0, reads_low shared b u.1)
+reads_low shared (t.shift op e count) u = reads_low shared e u
+reads_low shared (t.short_circuit op a b) u = (reads_low shared a u.0, reads_low shared b u.1)
+
+-- a local may stand for a word
+local_word : (shared : List SharedDeclaration) (x : Variable) → IsLocal x → IsWordName shared x
+local_word shared (Shared v) h = absurd h
+local_word shared (Local n) h = h
+
+module _ (p : Places) (G : EachStep p) (words : PlacesOfWords p) (room : ℕ) (shared : List SharedDeclaration) where
+  -- a step behind a program
+  then_step : (q : Program) (s : Step) → G.of_program q → G.of_step s → G.of_program (joined q (one s))
+  then_step q s h k = G.chain q (one s) h (G.alone s k)
+
+  expression_built : (d : ℕ) (e : CheckedExpression) → ExpressionFits room d e → ExpressionUses shared e → Built (whatever_the_stack p G room) d (lowering p e)
+  expression_built d e f u = lowering_has (whatever_the_stack p G room) p words d e f (reads_low shared e u)
+
+  word_has : (d : ℕ) (e : CheckedExpression) → ExpressionFits room d e → ExpressionUses shared e → G.of_program (lowered_expression p e)
+  word_has d e f u = (expression_built d e f u).word
+
+  stored_of_words : (x : Variable) → ArrayOfWords (stored_array p x)
+  stored_of_words (Local n) = (zero_is_word, zero_is_word, zero_is_word, zero_is_word)
+  stored_of_words (Shared v) = by_place (slice_get p.map.variables v) (words.places v)
+    where
+      by_place : (o : Option VariablePlace) → PlaceOfWords o → ArrayOfWords (written_array o)
+      by_place None h = (zero_is_word, zero_is_word, zero_is_word, zero_is_word)
+      by_place (Some (Scalar home copy width)) h = (zero_is_word, zero_is_word, zero_is_word, zero_is_word)
+      by_place (Some (Array elements length None)) h = (zero_is_word, zero_is_word, zero_is_word, zero_is_word)
+      by_place (Some (Array elements length (Some c))) h = (h.0, h.2.0, h.2.1, h.1)
+
+  -- ---- assignments
+
+  write_has : (x : Variable) → IsWordName shared x → IsApart G.spared x → G.of_step (write_step p x)
+  write_has (Shared v) n a = G.stores (keep (address_of p v)) (a_store v) (words.addresses v)
+  write_has (Local n) l a = G.writes n l a
+
+  update_has : (o : PlainOperation) (x : Variable) → IsWordName shared x → IsApart G.spared x → G.of_step (update_step p o x)
+  update_has o (Shared v) n a = G.stores (update o (address_of p v)) (an_update o v) (words.addresses v)
+  update_has o (Local n) l a = G.updates o n l a
+
+  write_long_has : (x : Variable) → IsWordName shared x → IsApart G.spared x → G.of_program (write_long p x)
+  write_long_has (Shared v) n a =
+      let high = keep (high_address (address_of p v)) in
+      then_step (one high) (keep (address_of p v)) (G.alone high (G.stores high (a_high_store v) (omega arith))) (write_has (Shared v) n a)
+  write_long_has (Local n) l a =
+      let low = long with_longs.LowWord in then_step (one low) (set_local (n % 65536)) (G.alone low (G.leaf 2 1 low a_low_word tt)) (G.writes n l a)
+
+  setting_has : (x : Variable) (e : CheckedExpression) → IsWordName shared x → IsApart G.spared x → ExpressionFits room 0 e → ExpressionUses shared e
+      → G.of_program (setting p x e)
+  setting_has x e n a f u = then_step (lowered_expression p e) (write_step p x) (word_has 0 e f u) (write_has x n a)
+
+  sides_set_has : (x : Variable) (op : PlacedOperator) (b c : CheckedExpression) (o : Option PlainOperation) → IsWordName shared x → IsApart G.spared x
+      → ExpressionFits room 0 (t.binary op b c) → ExpressionUses shared (t.binary op b c) → G.of_program (sides_set p x op b c o)
+  sides_set_has x op b c None n a f u = setting_has x (t.binary op b c) n a f u
+  sides_set_has x op b c (Some o) n a f u = then_step (lowered_expression p c) (update_step p o x) (word_has 2 c f.1 u.1) (update_has o x n a)
+
+  -- the first clause makes it a proof by cases
+  assignment_has : (x : Variable) (e : CheckedExpression) → IsWordName shared x → IsApart G.spared x → ExpressionFits room 0 e → ExpressionUses shared e
+      → G.of_program (assignment p x e)
+  assignment_has x (t.binary op b c) n a f u = sides_set_has x op b c (of_words (joined_type (type_of b) (type_of c)) (updating x op.operator b)) n a f u
+  assignment_has x e n a f u = setting_has x e n a f u
+
+  typed_assignment_has : (of : WordType) (x : Variable) (e : CheckedExpression) → IsWordName shared x → IsApart G.spared x → ExpressionFits room 0 e
+      → ExpressionUses shared e → G.of_program (scalar_assignment p of x e)
+  typed_assignment_has Int x e n a f u = assignment_has x e n a f u
+  typed_assignment_has Unsigned x e n a f u = assignment_has x e n a f u
+  typed_assignment_has Long x e n a f u =
+      let long = long_has (whatever_the_stack p G room) 0 (widened_type e) (lowering p e) (two_fit room 0 e f) (expression_built 0 e f u) in
+      G.chain (lowered_long p e) (write_long p x) long (write_long_has x n a)
+
+  -- a step behind an index and a value
+  index_and_value_have : (index e : CheckedExpression) (s : Step) → G.of_program (lowered_expression p index) → G.of_program (lowered_expression p e)
+      → G.of_step s → G.of_program (joined (index_and_value p index e) (one s))
+  index_and_value_have index e s h k l =
+      then_step (index_and_value p index e) s (G.chain (lowered_expression p index) (lowered_expression p e) h k) l
+
+  store_has : (x : Variable) (index e : CheckedExpression) → G.of_program (lowered_expression p index) → G.of_program (lowered_expression p e)
+      → G.of_program (joined (index_and_value p index e) (one (store_step p x)))
+  store_has x index e h k =
+      index_and_value_have index e (store_step p x) h k (G.stores (store_step p x) (an_element_store x) (stored_of_words x, list_of_words p words))
+
+  element_sides_have : (x : Variable) (index : CheckedExpression) (op : PlacedOperator) (b c : CheckedExpression) (o : Option PlainOperation)
+      → G.of_program (lowered_expression p index) → ExpressionFits room 1 (t.binary op b c) → ExpressionUses shared (t.binary op b c)
+      → G.of_program (element_sides_set p x index op b c o)
+  element_sides_have x index op b c None h f u = store_has x index (t.binary op b c) h (word_has 1 (t.binary op b c) f u)
+  element_sides_have x index op b c (Some o) h f u =
+      index_and_value_have index c (update_element_step p o x) h (word_has 3 c f.1 u.1)
+      (G.stores (update_element_step p o x) (an_element_update o x) (stored_of_words x, list_of_words p words))
+
+  -- the first clause makes it a proof by cases
+  element_assignment_has : (x : Variable) (index e : CheckedExpression) → G.of_program (lowered_expression p index) → ExpressionFits room 1 e
+      → ExpressionUses shared e → G.of_program (element_assignment p x index e)
+  element_assignment_has x index (t.binary op b c) h f u =
+      element_sides_have x index op b c (of_words (joined_type (type_of b) (type_of c)) (element_updating x index op.operator b)) h f u
+  element_assignment_has x index e h f u = store_has x index e h (word_has 1 e f u)
+
+  -- ---- statements
+
+  entries_have : (runs : List Run) → AllByRecursion RunOfWords runs → G.of_program (entries (word_place p.map ListLength) p.map.list.address runs)
+  entries_have [] h = G.empty
+  entries_have (r ∷ more) h =
+      let entry = list_entry (word_place p.map ListLength) p.map.list.address r.home r.copy r.words in
+      G.chain (one entry) (entries (word_place p.map ListLength) p.map.list.address more)
+      (G.alone entry (G.stores entry (an_entry r) (words.words ListLength, words.list, h.0.home, h.0.copy, h.0.words))) (entries_have more h.1)
+
+  transition_has : (task : ℕ) → G.of_program (lowered_transition p task)
+  transition_has task =
+      let next = store_number (word_place p.map NextTask) (task % 65536) in
+      let sent = move_word (word_place p.map Base) (word_place p.map SentBase) in
+      let gate = store_number (word_place p.map Gate) 1 in
+      let leaves = jump p.map.commit.address in
+      let runs = entries (word_place p.map ListLength) p.map.list.address (runs_of p.privates) in
+      let closes = step sent (step gate (one leaves)) in
+      G.chain (one next) (joined runs closes) (G.alone next (G.stores next (the_task task) (words.words NextTask, omega arith)))
+      (G.chain runs closes (entries_have (runs_of p.privates) (runs_of_words p.privates words.privates))
+      (G.chain (one sent) (step gate (one leaves)) (G.alone sent (G.stores sent the_sent_base (words.words Base, words.words SentBase)))
+      (then_step (one gate) leaves (G.alone gate (G.stores gate the_gate (words.words Gate, omega arith))) (G.stores leaves to_the_commit words.commit))))
+
+  -- no local that the fact wants spared is assigned
+  abbrev LeavesAlone : (Variable → Bool) → Type 0
+  LeavesAlone assigns = (y : ℕ) → G.spared y → assigns (Local y) ≡ false
+
+  first_leaves : (f g : Variable → Bool) → LeavesAlone (λ v. f v || g v) → LeavesAlone f
+  first_leaves f g h y s = (or_parts (f (Local y)) (g (Local y)) (h y s)).0
+
+  second_leaves : (f g : Variable → Bool) → LeavesAlone (λ v. f v || g v) → LeavesAlone g
+  second_leaves f g h y s = (or_parts (f (Local y)) (g (Local y)) (h y s)).1
+
+  -- what the fact asks of the bodies of loops beside itself holds of each that doesn't assign the loop's local
+  module _ (body_has : (n : ℕ) (b : CheckedBlock) → n < 256 → block_assigns (Local n) b ≡ false → BlockFits room b → BlockUses shared b → GoodBlock b
+      → G.of_body (n % 65536) (lowered_block p b)) where
+    -- a loop by its local
+    loop_has : (v : Variable) (from below : ℕ) (b : CheckedBlock) → IsLocal v → IsApart G.spared v → IsWord from → IsWord below
+        → block_assigns v b ≡ false → BlockFits room b → BlockUses shared b → GoodBlock b → G.of_program (lowered_block p b)
+        → G.of_step (repeat (loop_local v) from below (lowered_block p b))
+    loop_has (Shared v) from below b is a i j s f u g h = absurd is
+    loop_has (Local n) from below b low a i j s f u g h = G.counted n from below (lowered_block p b) low a i j (body_has n b low s f u g) h
+
+    mutual
+      statement_has : (s : CheckedStatement) → LeavesAlone (λ v. statement_assigns v s) → StatementFits room s → StatementUses shared s → GoodStatement s
+          → G.of_program (lowered_statement p s)
+      statement_has (t.declare of x None) a f u g = G.empty
+      statement_has (t.declare of x (Some e)) a f u g = assignment_has x.variable e (local_word shared x.variable u.0) a f.1 u.1
+      statement_has (t.assign x e) a f u g = typed_assignment_has x.word_type x.variable e u.0 a f u.1
+      statement_has (t.store x index e) a f u g = element_assignment_has x.variable index e (word_has 0 index f.0 u.1) f.1 u.2
+      statement_has (t.choose choice) a f u g = choice_has choice a f u g
+      statement_has (t.loop x from y below z body) a f u g =
+          let others : Variable → Bool = λ v. is_same_local y.variable v || is_same_local z.variable v in
+          let names : Variable → Bool = λ v. is_same_local x.variable v || others v in
+          let own = first_leaves (λ v. is_same_local x.variable v) others (first_leaves names (λ v. block_assigns v body) a) in
+          let inner : GoodBlock body = λ at bad. g at (inr bad) in
+          let h = block_has body (second_leaves names (λ v. block_assigns v body) a) f.2 u.1 inner in
+          G.alone (repeat (loop_local x.variable) from below (lowered_block p body))
+          (loop_has x.variable from below body u.0 own f.0 f.1 (is_good x y z from below body g) f.2 u.1 inner h)
+      statement_has (t.emit e) a f u g =
+          let emits = emit_word (word_place p.map EmitCount) p.map.emits.address in
+          then_step (lowered_expression p e) emits (word_has 0 e f u) (G.stores emits an_emission (words.words EmitCount, words.emits))
+      statement_has (t.transition task) a f u g = transition_has task.task
+
+      choice_has : (c : CheckedChoice) → LeavesAlone (λ v. choice_assigns v c) → ChoiceFits room c → ChoiceUses shared c → GoodChoice c
+          → G.of_program (lowered_choice p c)
+      choice_has t.nothing a f u g = G.empty
+      choice_has (t.otherwise b) a f u g = block_has b a f u g
+      choice_has (t.test e b more) a f u g =
+          let taken = block_has b (first_leaves (λ v. block_assigns v b) (λ v. choice_assigns v more) a) f.1 u.1 (λ at bad. g at (inl bad)) in
+          let passed = choice_has more (second_leaves (λ v. block_assigns v b) (λ v. choice_assigns v more) a) f.2 u.2 (λ at bad. g at (inr bad)) in
+          G.alone (choose (lowered_test p e) (lowered_block p b) (lowered_choice p more))
+          (G.chosen (lowered_test p e) (lowered_block p b) (lowered_choice p more) (expression_built 0 e f.0 u.0).test taken passed)
+
+      -- the fact holds of the program of each block that is used as declared, fits, and has no bad loop
+      pub block_has : (b : CheckedBlock) → LeavesAlone (λ v. block_assigns v b) → BlockFits room b → BlockUses shared b → GoodBlock b
+          → G.of_program (lowered_block p b)
+      block_has t.end a f u g = G.empty
+      block_has (t.step s more) a f u g =
+          G.chain (lowered_statement p s) (lowered_block p more)
+          (statement_has s (first_leaves (λ v. statement_assigns v s) (λ v. block_assigns v more) a) f.0 u.0 (λ at bad. g at (inl bad)))
+          (block_has more (second_leaves (λ v. statement_assigns v s) (λ v. block_assigns v more) a) f.1 u.1 (λ at bad. g at (inr bad)))
