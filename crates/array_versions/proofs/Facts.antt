@@ -51,9 +51,7 @@ module _ (W : Type 0) (spared : ℕ → Type 0) where
   ends_words : (s : WordState) (es : List Effect) (e : End) → Reaches W spared s es e → W → IsStateOfWords s → EndsInWords e
   ends_words s es (GoesOn t) q x i = run_words q x i
   ends_words s es (Jumps to t) q x i = run_words q x i
-  ends_words s es Short q x i = tt
-  ends_words s es Strays q x i = tt
-  ends_words s es Broken q x i = tt
+  ends_words s es _ q x i = tt
 
   ends_stores : (s : WordState) (es : List Effect) (e : End) → Reaches W spared s es e → W → StoresWords es
   ends_stores s es (GoesOn t) q = run_stores q
@@ -64,18 +62,14 @@ module _ (W : Type 0) (spared : ℕ → Type 0) where
 
   ends_leaving : (s : WordState) (es : List Effect) (e : End) → Reaches W spared s es e → (n : ℕ) → spared n → Leaves n (s.locals n) e
   ends_leaving s es (GoesOn t) q n y = run_leaves q n y
-  ends_leaving s es (Jumps to t) q n y = tt
-  ends_leaving s es Short q n y = tt
-  ends_leaving s es Strays q n y = tt
-  ends_leaving s es Broken q n y = tt
+  ends_leaving s es _ q n y = tt
 
   ends_by_effects : (s : WordState) (es : List Effect) (e : End) → Reaches W spared s es e → EndsByEffects s es e
   ends_by_effects s es (GoesOn t) q = run_effects q
   ends_by_effects s es (Jumps to t) q = run_effects q
   ends_by_effects s es Short q =
       let k = run_effects q.1 in sym (append-nil (readings_taken es)) ∙ ap (λ l. readings_taken es ++ l) (sym q.2) ∙ k.1
-  ends_by_effects s es Strays q = tt
-  ends_by_effects s es Broken q = tt
+  ends_by_effects s es _ q = tt
 
 -- ---- of programs
 

@@ -20,7 +20,7 @@ pub data Writes (W : Type 0) : WordState → List Effect → End → Type 0 wher
 -- From a state a word is pushed, or it comes to an address that isn't in FRAM. Where `W` is given, it is a word
 pub data Pushes (W : Type 0) (s : WordState) : List Effect → End → Type 0 where
   off : Pushes W s [] Strays
-  pushes : (v : ℕ) → (W → v < 0x10000) → Pushes W s [] (GoesOn (pushed v s))
+  on_top : (v : ℕ) → (W → v < 0x10000) → Pushes W s [] (GoesOn (pushed v s))
 
 module _ (W : Type 0) where
   -- all in a state are words, where `W` is given
@@ -46,14 +46,14 @@ module _ (W : Type 0) where
 
   -- the word at a place
   pub loads : (a : ℕ) (s : WordState) → Known s → PushesBy s (at_place a (goes_on [] (pushed (s.fram a) s)))
-  loads a s i = pushes_at (is_place a) s _ (pushes (s.fram a) (λ x. (i x).fram a))
+  loads a s i = pushes_at (is_place a) s _ (on_top (s.fram a) (λ x. (i x).fram a))
 
   pub element_pushes : (base length i : ℕ) (s : WordState) → Known s → PushesBy s (element_pushed base length i s)
   element_pushes base length i s k = by (nat_lt i length)
     where
       by : (c : Bool) → PushesBy s (if c then at_place (2 * i + base) (goes_on [] (pushed (s.fram (2 * i + base)) s)) else goes_on [] (pushed 0 s))
       by true = loads (2 * i + base) s k
-      by false = pushes 0 (λ x. omega arith)
+      by false = on_top 0 (λ x. omega arith)
 
   -- an element as this attempt has it
   own_pushes : (b : Bool) (c e : ℕ) (s : WordState) → Known s
@@ -69,7 +69,7 @@ module _ (W : Type 0) where
           let m = 2 * i + place.versions in
           pushes_at (is_place list.ver) s _ (pushes_at (is_place m) s _
           (own_pushes (s.fram list.ver == s.fram m) (2 * i + place.copies) (2 * i + place.elements) s k))
-      by false = pushes 0 (λ x. omega arith)
+      by false = on_top 0 (λ x. omega arith)
 
   -- ---- what is written
 

@@ -1,6 +1,6 @@
 -- What each program does, as a chain of what its steps do to a state: said once by the cases of steps. A fact of all programs is an induction over chains.
-use Rattle.std.proofs.Common.{◌≡◌, ℕ, zero, suc, ◌+◌, ◌-◌, ◌%◌, ◌==◌, ◌<◌, List, [], ◌∷◌, ◌++◌, Option, Some, None, Bool, true, false, refl, arith, if◌then◌else◌}
-use Rattle.std.proofs.Common.{◌≢◌}
+use Rattle.std.proofs.Common.{◌≡◌, ℕ, zero, suc, ◌+◌, ◌-◌, ◌%◌, ◌==◌, ◌<◌, List, [], ◌∷◌, ◌++◌, Option, Some, None, Bool, true, false, refl, arith}
+use Rattle.std.proofs.Common.{◌≢◌, if◌then◌else◌}
 use Rattle.machine_effects.specs.alp_words.Words.{AreWords}
 use Rattle.machine_effects.specs.fram_board.Effects.{Effect, Store, Take}
 use Rattle.array_versions.specs.declared.operations.PlainOperation.{PlainOperation}
@@ -16,7 +16,7 @@ use Rattle.array_versions.specs.Form.{StepSpares, TestSpares, Spares, StepOfWord
 use Rattle.array_versions.specs.Laws.{IsStateOfWords}
 use Rattle.array_versions.proofs.Words.{unary_small, plain_small, binary_small, shift_small, long_words, on_words, stack_words, stored_words, local_words}
 use Rattle.array_versions.proofs.Words.{reading_words, reading_word}
-use Rattle.array_versions.proofs.Parts.{Writes, astray, done, writes, Pushes, off, pushes, Known, loads, element_pushes, versioned_pushes, word_writes}
+use Rattle.array_versions.proofs.Parts.{Writes, astray, done, writes, Pushes, off, on_top, Known, loads, element_pushes, versioned_pushes, word_writes}
 use Rattle.array_versions.proofs.Parts.{emitted_writes, entry_writes, versioned_writes, updated_writes}
 
 -- A chain from a state to another by effects: other words on the stack, a local set, a word stored in FRAM, a reading taken. Where `W` is given, each
@@ -89,7 +89,7 @@ module _ (W : Type 0) (spared : ℕ → Type 0) where
 
   part_pushes : {s : WordState} {es : List Effect} {e : End} → Known W s → Pushes W s es e → Reaches s es e
   part_pushes {s = s} i off = (s, stays)
-  part_pushes {s = s} i (pushes v l) = push s v i l
+  part_pushes {s = s} i (on_top v l) = push s v i l
 
   -- words popped
   top_does : (s : WordState) (vs : List ℕ) (next : ℕ → List ℕ → Behaviour) → (W → AreWords vs)
