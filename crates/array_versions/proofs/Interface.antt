@@ -4,14 +4,13 @@
 pub use Rattle.array_versions.proofs.Joined.{joined_go_on, joined_cycles, joined_words, joined_nothing, joined_assoc, then_on_assoc}
 -- A test decides as the word that it is the truth of.
 pub use Rattle.array_versions.proofs.Joined.{decided_by_truth}
--- A program changes FRAM and the readings by its effects.
-pub use Rattle.array_versions.proofs.ByEffects.{behaves_by_effects}
 -- A whole program is never broken: along each way the stack is as deep as is said, and the locals that are said to be assigned are.
-pub use Rattle.array_versions.proofs.Ways.{Matches, GoesWell, matches_local, step_well, test_well, well, start_matches, whole_ends_soundly}
--- From words a program makes words.
-pub use Rattle.array_versions.proofs.Words.{zero_unless, plain_small, put_words, stack_words, local_words, place_high, step_words, test_words, words}
--- A program that spares a local leaves its word.
-pub use Rattle.array_versions.proofs.Spared.{Leaves, leaves}
+pub use Rattle.array_versions.proofs.Ways.{Matches, GoesWell, matches_local, step_well, well, start_matches, whole_ends_soundly}
+-- Words, and operations on them.
+pub use Rattle.array_versions.proofs.Words.{zero_unless, plain_small, put_words, stack_words, local_words, place_high}
+-- What each program does: it changes FRAM and the readings by its effects; from words it makes words, and stores words; a local that it spares keeps its
+-- word.
+pub use Rattle.array_versions.proofs.Facts.{behaves_by_effects, step_words, words, StoresWords, stores_words, Leaves, leaves}
 -- Each step keeps to the allowance.
 pub use Rattle.array_versions.proofs.Kept.{steps_keep_to_words}
 -- A shift to the right by k has at most k + 1 words.

@@ -9,11 +9,9 @@ use Rattle.array_versions.specs.declared.operations.ShiftOperation.{ShiftOperati
 use Rattle.array_versions.specs.declared.operations.ShiftOperation.TheVariants.{Left, Right, SignedRight}
 use Rattle.array_versions.specs.declared.operations.LongOperation.{LongOperation}
 use Rattle.array_versions.specs.declared.operations.LongOperation.TheVariants.{ShiftLeft}
-use Rattle.array_versions.specs.Program.{number, load, keep, update, local, set_local, update_local, unary, binary, shift, long, element}
-use Rattle.array_versions.specs.Program.{emit_word, list_entry, versioned_read}
-use Rattle.array_versions.specs.Program.{versioned_write, versioned_update, sense, truth, choose, repeat, store_number, move_word, jump, holds}
-use Rattle.array_versions.specs.Program.{compares, both, either}
-use Rattle.array_versions.specs.Program.{fails}
+use Rattle.array_versions.specs.Program.{unary, binary, shift, long}
+use Rattle.array_versions.specs.Program.{list_entry}
+use Rattle.array_versions.specs.Program.{repeat, holds}
 use Rattle.array_versions.specs.Cost.{unary_cycles, unary_words, binary_cycles, binary_words, right_words, shift_words, long_cycles, long_words, cycles_of}
 use Rattle.array_versions.specs.Allowance.{binary_allowance, long_allowance, StepsKeepToCycles, StepsKeepToWords, TestsKeepToCycles, TestsKeepToWords}
 
@@ -60,30 +58,11 @@ long_words_kept (ShiftLeft k) = omega arith
 long_words_kept _ = omega arith
 
 pub steps_keep_to_cycles : StepsKeepToCycles
-steps_keep_to_cycles (number w) = omega arith
-steps_keep_to_cycles (load a) = omega arith
-steps_keep_to_cycles (keep a) = omega arith
-steps_keep_to_cycles (update op a) = omega arith
-steps_keep_to_cycles (local n) = omega arith
-steps_keep_to_cycles (set_local n) = omega arith
-steps_keep_to_cycles (update_local op n) = omega arith
 steps_keep_to_cycles (unary o) = unary_cycles_kept o
 steps_keep_to_cycles (binary o) = binary_cycles_kept o
-steps_keep_to_cycles (shift o k) = omega arith
 steps_keep_to_cycles (long o) = long_cycles_kept o
-steps_keep_to_cycles (element base length) = omega arith
-steps_keep_to_cycles (emit_word count buffer) = omega arith
-steps_keep_to_cycles (list_entry count list home copy words) = omega arith
-steps_keep_to_cycles (versioned_read place list) = omega arith
-steps_keep_to_cycles (versioned_write place list) = omega arith
-steps_keep_to_cycles (versioned_update op place list) = omega arith
-steps_keep_to_cycles sense = omega arith
-steps_keep_to_cycles (truth t) = omega arith
-steps_keep_to_cycles (choose t taken otherwise) = omega arith
 steps_keep_to_cycles (repeat n from below body) = let turns = below - from in let c = cycles_of body in omega arith
-steps_keep_to_cycles (store_number a w) = omega arith
-steps_keep_to_cycles (move_word from to) = omega arith
-steps_keep_to_cycles (jump to) = omega arith
+steps_keep_to_cycles _ = omega arith
 
 -- an entry's words
 entry_kept : (b : Bool) → (if b then 16 else 17) ≤ (if b then 16 else 32)
@@ -92,43 +71,19 @@ entry_kept false = omega arith
 
 -- each step keeps to its words
 pub steps_keep_to_words : StepsKeepToWords
-steps_keep_to_words (number w) = omega arith
-steps_keep_to_words (load a) = omega arith
-steps_keep_to_words (keep a) = omega arith
-steps_keep_to_words (update op a) = omega arith
-steps_keep_to_words (local n) = omega arith
-steps_keep_to_words (set_local n) = omega arith
-steps_keep_to_words (update_local op n) = omega arith
 steps_keep_to_words (unary o) = unary_words_kept o
 steps_keep_to_words (binary o) = binary_words_kept o
 steps_keep_to_words (shift o k) = shift_kept (nat_le k 15) o k refl
 steps_keep_to_words (long o) = long_words_kept o
-steps_keep_to_words (element base length) = omega arith
-steps_keep_to_words (emit_word count buffer) = omega arith
 steps_keep_to_words (list_entry count list home copy words) = entry_kept (words == 1)
-steps_keep_to_words (versioned_read place list) = omega arith
-steps_keep_to_words (versioned_write place list) = omega arith
-steps_keep_to_words (versioned_update op place list) = omega arith
-steps_keep_to_words sense = omega arith
-steps_keep_to_words (truth t) = omega arith
-steps_keep_to_words (choose t taken otherwise) = omega arith
-steps_keep_to_words (repeat n from below body) = omega arith
-steps_keep_to_words (store_number a w) = omega arith
-steps_keep_to_words (move_word from to) = omega arith
-steps_keep_to_words (jump to) = omega arith
+steps_keep_to_words _ = omega arith
 
 -- each test keeps to its cycles
 pub tests_keep_to_cycles : TestsKeepToCycles
 tests_keep_to_cycles (holds p) = omega arith
-tests_keep_to_cycles (compares op p) = omega arith
-tests_keep_to_cycles (both t u) = omega arith
-tests_keep_to_cycles (either t u) = omega arith
-tests_keep_to_cycles (fails t) = omega arith
+tests_keep_to_cycles _ = omega arith
 
 -- and to its words
 pub tests_keep_to_words : TestsKeepToWords
 tests_keep_to_words (holds p) = omega arith
-tests_keep_to_words (compares op p) = omega arith
-tests_keep_to_words (both t u) = omega arith
-tests_keep_to_words (either t u) = omega arith
-tests_keep_to_words (fails t) = omega arith
+tests_keep_to_words _ = omega arith

@@ -1,8 +1,9 @@
 mod Joined
-mod ByEffects
-mod Ways
 mod Words
-mod Spared
+mod Parts
+mod Runs
+mod Facts
+mod Ways
 mod Views
 mod Kept
 mod Spent

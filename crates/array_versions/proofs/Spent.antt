@@ -2,9 +2,8 @@
 use Rattle.std.proofs.Common.{◌≡◌, ℕ, zero, suc, ◌+◌, ◌-◌, ◌*◌, ◌≤◌, max, Bool, true, false, if◌then◌else◌, List, [], ◌∷◌, refl, arith}
 use Rattle.array_versions.specs.declared.operations.Comparison.{Comparison}
 use Rattle.array_versions.specs.Operations.{is_true, compare_words}
-use Rattle.array_versions.specs.Program.{Step, Test, number, load, keep, update, local, set_local, update_local, unary, binary, shift, long, element}
-use Rattle.array_versions.specs.Program.{emit_word, list_entry}
-use Rattle.array_versions.specs.Program.{versioned_read, versioned_write, versioned_update, sense, truth, choose, repeat, store_number, move_word, jump, holds}
+use Rattle.array_versions.specs.Program.{Step, Test, number}
+use Rattle.array_versions.specs.Program.{truth, choose, repeat, holds}
 use Rattle.array_versions.specs.Program.{compares}
 use Rattle.array_versions.specs.Program.{both, either, fails, nothing, step, joined}
 use Rattle.array_versions.specs.Behaviour.{WordState, End, GoesOn, Jumps, Short, Strays, Broken, Behaviour, on_end, with_stack, with_local}
@@ -63,27 +62,9 @@ mutual
       (λ v. omega (arith, ways_keep_to_cycles taken v)) (ways_keep_to_cycles otherwise)
   step_most (repeat n from below body) s =
       omega (arith, turns_most (below - from) n from (cycles_of body) (behaviour body) (spent body) s (λ t. ways_keep_to_cycles body t))
+  -- of each other step alike: the first clause makes it a proof by cases
   step_most (number w) s = omega arith
-  step_most (load a) s = omega arith
-  step_most (keep a) s = omega arith
-  step_most (update op a) s = omega arith
-  step_most (local n) s = omega arith
-  step_most (set_local n) s = omega arith
-  step_most (update_local op n) s = omega arith
-  step_most (unary op) s = omega arith
-  step_most (binary op) s = omega arith
-  step_most (shift op k) s = omega arith
-  step_most (long op) s = omega arith
-  step_most (element base length) s = omega arith
-  step_most (emit_word count buffer) s = omega arith
-  step_most (list_entry count list home copy words) s = omega arith
-  step_most (versioned_read place list) s = omega arith
-  step_most (versioned_write place list) s = omega arith
-  step_most (versioned_update op place list) s = omega arith
-  step_most sense s = omega arith
-  step_most (store_number a w) s = omega arith
-  step_most (move_word from to) s = omega arith
-  step_most (jump to) s = omega arith
+  step_most _ s = omega arith
 
   test_most : (t : Test) (held failed : WordState → ℕ) (a b : ℕ) (s : WordState) → SpendsAtMost held a → SpendsAtMost failed b
       → test_spent t held failed s ≤ test_cycles t + max a b

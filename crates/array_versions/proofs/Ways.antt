@@ -1,10 +1,8 @@
 -- A whole program is never broken: along each way the stack is as deep as is said, and the locals that are said to be assigned are.
-use Rattle.std.proofs.Common.{◌≡◌, ℕ, zero, suc, ◌+◌, ◌-◌, ◌*◌, ◌%◌, ◌==◌, ◌≤◌, ◌||◌, List, [], ◌∷◌, length, Option, Some, None, Bool, true, false}
-use Rattle.std.proofs.Common.{nat_eq, nat_lt, refl, sym, ap, ◌∙◌, subst, arith, eq-eqb, if◌then◌else◌}
+use Rattle.std.proofs.Common.{◌≡◌, ℕ, zero, suc, ◌+◌, ◌-◌, ◌%◌, ◌==◌, ◌≤◌, ◌||◌, List, [], ◌∷◌, length, Option, Some, None, Bool, true, false}
+use Rattle.std.proofs.Common.{nat_eq, refl, sym, ap, ◌∙◌, subst, arith, eq-eqb, if◌then◌else◌}
 use Rattle.std.proofs.lemmas.List.{length-append}
-use Rattle.machine_effects.specs.fram_board.Effects.{Store}
-use Rattle.array_versions.specs.declared.program.ArrayPlace.{ArrayPlace}
-use Rattle.array_versions.specs.declared.program.ListPlace.{ListPlace}
+use Rattle.machine_effects.specs.fram_board.Effects.{Effect}
 use Rattle.array_versions.specs.declared.operations.PlainOperation.{PlainOperation}
 use Rattle.array_versions.specs.declared.operations.LongOperation.{LongOperation}
 use Rattle.array_versions.specs.declared.operations.LongOperation.TheVariants.{ShiftLeft}
@@ -15,15 +13,15 @@ use Rattle.array_versions.specs.Program.{list_entry}
 use Rattle.array_versions.specs.Program.{versioned_read, versioned_write, versioned_update, sense, truth, choose, repeat, store_number, move_word, jump, holds}
 use Rattle.array_versions.specs.Program.{compares}
 use Rattle.array_versions.specs.Program.{both, either, fails, nothing, step}
-use Rattle.array_versions.specs.Behaviour.{stored, behind_effects, WordState, started, End, GoesOn, Jumps, Short, Strays, Broken, Behaviour, behaves}
-use Rattle.array_versions.specs.Behaviour.{goes_on}
-use Rattle.array_versions.specs.Behaviour.{strays, broken, on_end, then_on, is_place, at_place, with_top, with_two, with_words, with_stack, pushed}
+use Rattle.array_versions.specs.Behaviour.{WordState, started, End, GoesOn, Jumps, Short, Strays, Broken, Behaviour, behaves}
+use Rattle.array_versions.specs.Behaviour.{strays, broken, on_end, then_on, is_place, with_top, with_two, with_words, with_stack, pushed}
 use Rattle.array_versions.specs.Behaviour.{with_local}
-use Rattle.array_versions.specs.Behaviour.{local_pushed, local_updated, reading_pushed, entry_stored, raised, ends_before, listed_behind, own_element}
-use Rattle.array_versions.specs.Behaviour.{first_stored, own_place, own_kept, own_updated}
-use Rattle.array_versions.specs.Behaviour.{own_stored, number_pushed, way_by_top, way_by_two, turns, step_behaviour, tested, behaviour}
+use Rattle.array_versions.specs.Behaviour.{local_pushed, local_updated, reading_pushed}
+use Rattle.array_versions.specs.Behaviour.{number_pushed, way_by_top, way_by_two, turns, step_behaviour, tested, behaviour}
 use Rattle.array_versions.specs.Form.{Place, start, assigning, Moves, EachTurn, EachStepWay, EachTestWay, EachWay}
 use Rattle.array_versions.specs.Laws.{IsSound, WholeEndsSoundly}
+use Rattle.array_versions.proofs.Parts.{Writes, astray, done, writes, Pushes, off, on_top, Known, loads, element_pushes, versioned_pushes, word_writes}
+use Rattle.array_versions.proofs.Parts.{emitted_writes, entry_writes, versioned_writes, updated_writes}
 
 -- a local that is assigned has a word
 pub record HasWord (o : Option ℕ) : Type 0 where
@@ -89,27 +87,9 @@ assigned_by false o known v h e = h e
 pub matches_local : (q : Place) (s : WordState) (n v : ℕ) → Matches q s → Matches (assigning n q) (with_local n v s)
 matches_local q s n v m = record { depth = m.depth; assigned = λ k e. assigned_by (nat_eq k n) (s.locals k) (q.assigned k) v (m.assigned k) e }
 
--- a word more, and no other change of the stack or the locals
-push_well : (room v : ℕ) (next : Place → Type 0) (q : Place) (s t : WordState) → Moves room 0 1 next q → Matches q s → t.stack ≡ v ∷ s.stack
-    → t.locals ≡ s.locals → GoesWell next (GoesOn t)
-push_well room v next q s t h m e f = (
-  at_depth (q.depth - 0 + 1) q,
-  h.2,
-  record { depth = omega (arith, ap (length {A = ℕ}) e, m.depth); assigned = λ n k. subst (λ l. HasWord (l n)) (sym f) (m.assigned n k) },
-)
-
 same_well : (next : Place → Type 0) (q : Place) (s t : WordState) → next q → Matches q s → t.stack ≡ s.stack → t.locals ≡ s.locals → GoesWell next (GoesOn t)
 same_well next q s t h m e f =
     (q, h, record { depth = ap (length {A = ℕ}) e ∙ m.depth; assigned = λ n k. subst (λ l. HasWord (l n)) (sym f) (m.assigned n k) })
-
--- a word less
-pop_well : (room : ℕ) (next : Place → Type 0) (q : Place) (s t : WordState) → Moves room 1 0 next q → Matches q s → length t.stack + 1 ≡ length s.stack
-    → t.locals ≡ s.locals → GoesWell next (GoesOn t)
-pop_well room next q s t h m e f = (
-  at_depth (q.depth - 1 + 0) q,
-  h.2,
-  record { depth = omega (arith, m.depth); assigned = λ n k. subst (λ l. HasWord (l n)) (sym f) (m.assigned n k) },
-)
 
 -- words popped, and others pushed
 moved_well : (room pops pushes : ℕ) (next : Place → Type 0) (q : Place) (s t : WordState) → Moves room pops pushes next q → Matches q s
@@ -119,11 +99,6 @@ moved_well room pops pushes next q s t h m e f = (
   h.2,
   record { depth = let l = h.0 in omega (arith, m.depth); assigned = λ n k. subst (λ l. HasWord (l n)) (sym f) (m.assigned n k) },
 )
-
--- words popped, and one pushed
-turn_well : (room pops : ℕ) (next : Place → Type 0) (q : Place) (s t : WordState) → Moves room pops 1 next q → Matches q s
-    → length t.stack + pops ≡ length s.stack + 1 → t.locals ≡ s.locals → GoesWell next (GoesOn t)
-turn_well room pops next q s t h m e f = moved_well room pops 1 next q s t h m e f
 
 -- an operation with longs gives as many words as is said
 long_pushes_so : (op : LongOperation) (words : List ℕ) → length (long_result op words) ≡ long_pushes op
@@ -140,7 +115,7 @@ long_well room op next q s h m =
 local_well : (room : ℕ) (o : Option ℕ) (next : Place → Type 0) (q : Place) (s : WordState) → HasWord o → Moves room 0 1 next q → Matches q s
     → GoesWell next (local_pushed o s).end
 local_well room None next q s w h m = absurd (let e = w.is in (cc))
-local_well room (Some v) next q s w h m = push_well room v next q s (pushed v s) h m refl refl
+local_well room (Some v) next q s w h m = moved_well room 0 1 next q s _ h m (omega arith) refl
 
 -- a local that has a word has another
 updated_well : (op : PlainOperation) (n v : ℕ) (o : Option ℕ) (next : Place → Type 0) (q : Place) (s : WordState) → HasWord o → next (assigning n q)
@@ -151,95 +126,24 @@ updated_well op n v (Some u) next q s w h m = (assigning n q, h, matches_local q
 reading_well : (room : ℕ) (rs : List ℕ) (next : Place → Type 0) (q : Place) (s : WordState) → Moves room 0 1 next q → Matches q s
     → GoesWell next (reading_pushed rs s).end
 reading_well room [] next q s h m = tt
-reading_well room (r ∷ rs) next q s h m = push_well room r next q s (pushed r (record s { readings = rs })) h m refl refl
+reading_well room (r ∷ rs) next q s h m = moved_well room 0 1 next q s _ h m (omega arith) refl
 
-element_well : (c : Bool) (base i : ℕ) (next : Place → Type 0) (t : WordState) → ((v : ℕ) → GoesWell next (GoesOn (pushed v t)))
-    → GoesWell next (if c then at_place (2 * i + base) (goes_on [] (pushed (t.fram (2 * i + base)) t)) else goes_on [] (pushed 0 t)).end
-element_well true base i next t h = guarded next (is_place (2 * i + base)) (goes_on [] (pushed (t.fram (2 * i + base)) t)) (h (t.fram (2 * i + base)))
-element_well false base i next t h = h 0
+-- words that are written leave the stack and the locals
+written_well : (next : Place → Type 0) {s : WordState} {es : List Effect} {e : End} → Writes ⊥ s es e
+    → ((f : ℕ → ℕ) → GoesWell next (GoesOn (record s { fram = f }))) → GoesWell next e
+written_well next astray h = tt
+written_well next (done {s = s}) h = h s.fram
+written_well next (writes a v l w) h = written_well next w h
 
-own_element_well : (b : Bool) (place : ArrayPlace) (i : ℕ) (next : Place → Type 0) (t : WordState) → ((v : ℕ) → GoesWell next (GoesOn (pushed v t)))
-    → GoesWell next (if b then at_place (2 * i + place.copies) (goes_on [] (pushed (t.fram (2 * i + place.copies)) t))
-    else at_place (2 * i + place.elements) (goes_on [] (pushed (t.fram (2 * i + place.elements)) t))).end
-own_element_well true place i next t h = guarded next (is_place (2 * i + place.copies)) (goes_on [] (pushed (t.fram (2 * i + place.copies)) t))
-    (h (t.fram (2 * i + place.copies)))
-own_element_well false place i next t h = guarded next (is_place (2 * i + place.elements)) (goes_on [] (pushed (t.fram (2 * i + place.elements)) t))
-    (h (t.fram (2 * i + place.elements)))
+-- a word that is pushed
+pushed_well : (next : Place → Type 0) {s : WordState} {es : List Effect} {e : End} → Pushes ⊥ s es e → ((v : ℕ) → GoesWell next (GoesOn (pushed v s)))
+    → GoesWell next e
+pushed_well next off h = tt
+pushed_well next (on_top v l) h = h v
 
-versioned_pushed_well : (b : Bool) (place : ArrayPlace) (list : ListPlace) (i : ℕ) (next : Place → Type 0) (t : WordState)
-    → ((v : ℕ) → GoesWell next (GoesOn (pushed v t)))
-    → GoesWell next (if b then own_element place list i t else goes_on [] (pushed 0 t)).end
-versioned_pushed_well true place list i next t h =
-    guarded next (is_place list.ver) _ (guarded next (is_place (2 * i + place.versions)) _
-    (own_element_well (t.fram list.ver == t.fram (2 * i + place.versions)) place i next t h))
-versioned_pushed_well false place list i next t h = h 0
-
--- an entry leaves the stack and the locals
-entry_well : (count list home copy words : ℕ) (next : Place → Type 0) (t : WordState) → ((f : ℕ → ℕ) → GoesWell next (GoesOn (record t { fram = f })))
-    → GoesWell next (entry_stored count list home copy words t).end
-entry_well count list home copy words next t h =
-    let a = 6 * t.fram count + list in
-    guarded next (is_place count) _ (guarded next (is_place a) _ (guarded next (is_place (a + 2)) _ (guarded next (is_place (a + 4)) _ (h _))))
-
-longer_well : (b : Bool) (list : ListPlace) (a home copy : ℕ) (next : Place → Type 0) (t : WordState)
-    → ((f : ℕ → ℕ) → GoesWell next (GoesOn (record t { fram = f })))
-    → GoesWell next (if b then raised (a + 4) t else entry_stored list.cln list.list home copy 1 t).end
-longer_well true list a home copy next t h = h _
-longer_well false list a home copy next t h = entry_well list.cln list.list home copy 1 next t h
-
--- so does a word that is listed
-listed_well : (n : ℕ) (list : ListPlace) (home copy : ℕ) (next : Place → Type 0) (t : WordState)
-    → ((f : ℕ → ℕ) → GoesWell next (GoesOn (record t { fram = f })))
-    → GoesWell next (listed_behind n list home copy t).end
-listed_well zero list home copy next t h = entry_well list.cln list.list home copy 1 next t h
-listed_well (suc n) list home copy next t h =
-    let a = 6 * n + list.list in
-    guarded next (is_place a) _ (guarded next (is_place (a + 2)) _ (guarded next (is_place (a + 4)) _
-    (longer_well (ends_before t.fram a home copy) list a home copy next t h)))
-
-own_stored_well : (b : Bool) (place : ArrayPlace) (list : ListPlace) (i c v : ℕ) (next : Place → Type 0) (t : WordState)
-    → ((f : ℕ → ℕ) → GoesWell next (GoesOn (record t { fram = f })))
-    → GoesWell next (if b then goes_on (Store c v ∷ []) (stored c v t) else behind_effects (Store c v ∷ []) (first_stored place list i (stored c v t))).end
-own_stored_well true place list i c v next t h = h _
-own_stored_well false place list i c v next t h =
-    let u = stored (2 * i + place.versions) ((stored c v t).fram list.ver) (stored c v t) in
-    guarded next (is_place (2 * i + place.elements)) _ (guarded next (is_place list.cln) _
-    (listed_well (u.fram list.cln) list (2 * i + place.elements) (2 * i + place.copies) next u h))
-
-versioned_stored_well : (b : Bool) (place : ArrayPlace) (list : ListPlace) (i v : ℕ) (next : Place → Type 0) (t : WordState)
-    → ((f : ℕ → ℕ) → GoesWell next (GoesOn (record t { fram = f })))
-    → GoesWell next (if b then own_stored place list i v t else goes_on [] t).end
-versioned_stored_well true place list i v next t h =
-    let c = 2 * i + place.copies in
-    let u = stored c v t in
-    guarded next (is_place c) _ (guarded next (is_place list.ver) _
-    (guarded next (is_place (2 * i + place.versions)) _ (own_stored_well (u.fram list.ver == u.fram (2 * i + place.versions)) place list i c v next t h)))
-versioned_stored_well false place list i v next t h = h t.fram
-
-own_kept_well : (b : Bool) (place : ArrayPlace) (list : ListPlace) (i v : ℕ) (next : Place → Type 0) (t : WordState)
-    → ((f : ℕ → ℕ) → GoesWell next (GoesOn (record t { fram = f }))) → GoesWell next (own_kept b place list i v t).end
-own_kept_well b place list i v next t h =
-    let c = 2 * i + place.copies in guarded next (is_place c) _ (own_stored_well b place list i c v next t h)
-
-versioned_updated_well : (b : Bool) (op : PlainOperation) (place : ArrayPlace) (list : ListPlace) (i v : ℕ) (next : Place → Type 0) (t : WordState)
-    → ((f : ℕ → ℕ) → GoesWell next (GoesOn (record t { fram = f })))
-    → GoesWell next (if b then own_updated op place list i v t else goes_on [] t).end
-versioned_updated_well true op place list i v next t h =
-    let m = 2 * i + place.versions in
-    let b = t.fram list.ver == t.fram m in
-    let a = own_place b place i in
-    guarded next (is_place list.ver) _ (guarded next (is_place m) _ (guarded next (is_place a) _
-    (own_kept_well b place list i (plain_word op (t.fram a) v) next t h)))
-versioned_updated_well false op place list i v next t h = h t.fram
-
--- two words less
-pop_two_well : (room : ℕ) (next : Place → Type 0) (q : Place) (s t : WordState) → Moves room 2 0 next q → Matches q s → length t.stack + 2 ≡ length s.stack
-    → t.locals ≡ s.locals → GoesWell next (GoesOn t)
-pop_two_well room next q s t h m e f = (
-  at_depth (q.depth - 2 + 0) q,
-  h.2,
-  record { depth = omega (arith, m.depth); assigned = λ n k. subst (λ l. HasWord (l n)) (sym f) (m.assigned n k) },
-)
+-- what is known of words here: nothing
+unknown : (s : WordState) → Known ⊥ s
+unknown s x = absurd x
 
 -- one of two ways
 either_well : (c : Bool) (next : Place → Type 0) (a b : Behaviour) → GoesWell next a.end → GoesWell next b.end → GoesWell next (if c then a else b).end
@@ -252,7 +156,7 @@ Leads mid next go = (q : Place) (s : WordState) → mid q → Matches q s → Go
 
 -- a number on top
 number_leads : (room n : ℕ) (next : Place → Type 0) → Leads (Moves room 0 1 next) next (number_pushed n)
-number_leads room n next q s h m = push_well room n next q s (pushed n s) h m refl refl
+number_leads room n next q s h m = moved_well room 0 1 next q s _ h m (omega arith) refl
 
 -- one of two ways, behind words that are popped
 popped_well : (c : Bool) (d : ℕ) (vs : List ℕ) (held failed next : Place → Type 0) (go other : WordState → Behaviour) (q : Place) (s : WordState)
@@ -280,13 +184,16 @@ mutual
   -- a step along each way
   pub step_well : (room : ℕ) (first : Step) (next : Place → Type 0) (q : Place) (s : WordState) → EachStepWay room first next q → Matches q s
       → GoesWell next (step_behaviour first s).end
-  step_well room (number w) next q s h m = push_well room w next q s (pushed w s) h m refl refl
-  step_well room (load a) next q s h m = guarded next (is_place a) (goes_on [] (pushed (s.fram a) s))
-      (push_well room (s.fram a) next q s (pushed (s.fram a) s) h m refl refl)
+  step_well room (number w) next q s h m = moved_well room 0 1 next q s _ h m (omega arith) refl
+  step_well room (load a) next q s h m = pushed_well next (loads ⊥ a s (unknown s)) (λ v. moved_well room 0 1 next q s _ h m (omega arith) refl)
   step_well room (keep a) next q s h m =
-      top_well next s.stack _ (omega (arith, h.0, m.depth)) (λ v vs e. guarded next (is_place a) _ (pop_well room next q s _ h m e refl))
+      top_well next s.stack _ (omega (arith, h.0, m.depth))
+      (λ v vs e. written_well next (word_writes ⊥ a v (with_stack vs s) (λ x. absurd x))
+      (λ f. moved_well room 1 0 next q s _ h m (omega arith) refl))
   step_well room (update op a) next q s h m =
-      top_well next s.stack _ (omega (arith, h.0, m.depth)) (λ v vs e. guarded next (is_place a) _ (pop_well room next q s _ h m e refl))
+      top_well next s.stack _ (omega (arith, h.0, m.depth))
+      (λ v vs e. written_well next (word_writes ⊥ a (plain_word op (s.fram a) v) (with_stack vs s) (λ x. absurd x))
+      (λ f. moved_well room 1 0 next q s _ h m (omega arith) refl))
   step_well room (local n) next q s h m = local_well room (s.locals n) next q s (m.assigned n h.0) h.1 m
   step_well room (set_local n) next q s h m =
       top_well next s.stack _ (omega (arith, h.0, m.depth))
@@ -301,29 +208,35 @@ mutual
       let p = at_depth (q.depth - 1 + 0) q in
       updated_well op n v (s.locals n) next p (with_stack vs s) (m.assigned n h.0) f.2
       (matches_depth q s vs (q.depth - 1 + 0) m (omega (arith, m.depth))))
-  step_well room (unary op) next q s h m = top_well next s.stack _ (omega (arith, h.0, m.depth)) (λ v vs e. turn_well room 1 next q s _ h m (omega arith) refl)
+  step_well room (unary op) next q s h m = top_well next s.stack _ (omega (arith, h.0, m.depth))
+      (λ v vs e. moved_well room 1 1 next q s _ h m (omega arith) refl)
   step_well room (binary op) next q s h m = two_well next s.stack _ (omega (arith, h.0, m.depth))
-      (λ u v vs e. turn_well room 2 next q s _ h m (omega arith) refl)
+      (λ u v vs e. moved_well room 2 1 next q s _ h m (omega arith) refl)
   step_well room (shift op k) next q s h m = top_well next s.stack _ (omega (arith, h.0, m.depth))
-      (λ v vs e. turn_well room 1 next q s _ h m (omega arith) refl)
+      (λ v vs e. moved_well room 1 1 next q s _ h m (omega arith) refl)
   step_well room (long op) next q s h m = long_well room op next q s h m
   step_well room (element base size) next q s h m =
-      top_well next s.stack _ (omega (arith, h.0, m.depth))
-      (λ i vs e. element_well (nat_lt i size) base i next (with_stack vs s) (λ v. turn_well room 1 next q s _ h m (omega arith) refl))
+      top_well next s.stack _ (omega (arith, h.0, m.depth)) (λ i vs e.
+      let t = with_stack vs s in
+      pushed_well next (element_pushes ⊥ base size i t (unknown t)) (λ v. moved_well room 1 1 next q s _ h m (omega arith) refl))
   step_well room (emit_word count buffer) next q s h m =
       top_well next s.stack _ (omega (arith, h.0, m.depth))
-      (λ v vs e. guarded next (is_place count) _ (guarded next (is_place (2 * s.fram count + buffer)) _ (pop_well room next q s _ h m e refl)))
+      (λ v vs e. written_well next (emitted_writes ⊥ count buffer v (with_stack vs s) (λ x. absurd x))
+      (λ f. moved_well room 1 0 next q s _ h m (omega arith) refl))
   step_well room (list_entry count list home copy words) next q s h m =
-      entry_well count list home copy words next s (λ f. same_well next q s _ h m refl refl)
+      written_well next (entry_writes ⊥ count list home copy words s (λ x. absurd x) (λ x. absurd x) (λ x. absurd x)) (λ f. same_well next q s _ h m refl refl)
   step_well room (versioned_read place list) next q s h m =
-      top_well next s.stack _ (omega (arith, h.0, m.depth))
-      (λ i vs e. versioned_pushed_well (nat_lt i place.length) place list i next (with_stack vs s) (λ v. turn_well room 1 next q s _ h m (omega arith) refl))
+      top_well next s.stack _ (omega (arith, h.0, m.depth)) (λ i vs e.
+      let t = with_stack vs s in
+      pushed_well next (versioned_pushes ⊥ place list i t (unknown t)) (λ v. moved_well room 1 1 next q s _ h m (omega arith) refl))
   step_well room (versioned_write place list) next q s h m =
-      two_well next s.stack _ (omega (arith, h.0, m.depth))
-      (λ i v vs e. versioned_stored_well (nat_lt i place.length) place list i v next (with_stack vs s) (λ f. pop_two_well room next q s _ h m e refl))
+      two_well next s.stack _ (omega (arith, h.0, m.depth)) (λ i v vs e.
+      let t = with_stack vs s in
+      written_well next (versioned_writes ⊥ place list i v t (λ x. absurd x) (unknown t)) (λ f. moved_well room 2 0 next q s _ h m (omega arith) refl))
   step_well room (versioned_update op place list) next q s h m =
-      two_well next s.stack _ (omega (arith, h.0, m.depth))
-      (λ i v vs e. versioned_updated_well (nat_lt i place.length) op place list i v next (with_stack vs s) (λ f. pop_two_well room next q s _ h m e refl))
+      two_well next s.stack _ (omega (arith, h.0, m.depth)) (λ i v vs e.
+      let t = with_stack vs s in
+      written_well next (updated_writes ⊥ op place list i v t (λ x. absurd x) (unknown t)) (λ f. moved_well room 2 0 next q s _ h m (omega arith) refl))
   step_well room sense next q s h m = reading_well room s.readings next q s h m
   step_well room (truth t) next q s h m =
       test_well room t (Moves room 0 1 next) (Moves room 0 1 next) next (number_pushed 1) (number_pushed 0) q s h m
@@ -333,8 +246,10 @@ mutual
       (well room taken next) (well room otherwise next)
   step_well room (repeat n from below body) next q s h m =
       turns_well (EachWay room body) (behaviour body) (well room body) (below - from) n from next q s h m
-  step_well room (store_number a w) next q s h m = guarded next (is_place a) _ (same_well next q s _ h m refl refl)
-  step_well room (move_word from to) next q s h m = guarded next (is_place from) _ (guarded next (is_place to) _ (same_well next q s _ h m refl refl))
+  step_well room (store_number a w) next q s h m =
+      written_well next (word_writes ⊥ a w s (λ x. absurd x)) (λ f. same_well next q s _ h m refl refl)
+  step_well room (move_word from to) next q s h m =
+      guarded next (is_place from) _ (written_well next (word_writes ⊥ to (s.fram from) s (λ x. absurd x)) (λ f. same_well next q s _ h m refl refl))
   step_well room (jump to) next q s h m = jump_well (to % 2 == 0) to next s (eq-eqb (to % 2) 0 h)
 
   -- a test along each way

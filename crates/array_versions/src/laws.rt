@@ -26,7 +26,7 @@ pub fn programs_spend_by_their_ways()
 {}
 
 /// A program changes FRAM and the readings by its effects alone.
-#[tactic(auto, using(crate::proofs::ByEffects::behaves_by_effects))]
+#[tactic(auto, using(crate::proofs::Facts::behaves_by_effects))]
 pub fn programs_behave_by_effects()
     ensures { BehavesByEffects }
 {}
@@ -38,7 +38,7 @@ pub fn whole_programs_end_soundly()
 {}
 
 /// From words a program makes words.
-#[tactic(auto, using(crate::proofs::Words::words_stay_words))]
+#[tactic(auto, using(crate::proofs::Facts::words_stay_words))]
 pub fn words_stay_words()
     ensures { WordsStayWords }
 {}

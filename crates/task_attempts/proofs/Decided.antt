@@ -13,38 +13,35 @@ use Rattle.layout_facts.proofs.machine_effects.Interface.{fram_after-append, wor
 use Rattle.layout_facts.proofs.crash_rules.Interface.{world_fram}
 use Rattle.layout_facts.specs.task_ast.declared.SharedDeclaration.{SharedDeclaration}
 use Rattle.layout_facts.specs.task_ast.declared.names.Variable.TheVariants.{Shared}
-use Rattle.layout_facts.specs.cost_bound.Counts.{emits_of, CheckedBlock}
+use Rattle.layout_facts.specs.cost_bound.Counts.{emits_of}
 use Rattle.layout_facts.specs.cost_bound.Allowance.{is_written, list_of}
 use Rattle.layout_facts.proofs.war_analysis.Interface.{element as item_at}
 use Rattle.layout_facts.specs.source_values.Values.{word_at}
 use Rattle.layout_facts.specs.source_values.Statements.{Attempt}
-use Rattle.layout_facts.specs.source_values.Runs.{CheckedProgram, State, initial_words, task_body}
+use Rattle.layout_facts.specs.source_values.Runs.{State, initial_words, task_body}
 use Rattle.layout_facts.specs.array_versions.Behaviour.{WordState, started}
 use Rattle.layout_facts.specs.runtime_effects.Places.{CopyPair, scalar_pairs, entries_from, listed}
 use Rattle.layout_facts.proofs.runtime_effects.Interface.{scalar_pairs_count}
 use Rattle.layout_facts.specs.lower.Seen.{some_path_writes}
 use Rattle.layout_facts.proofs.lower.Interface.{takes_append, few_entries, runs_are_few, scalar_seen, array_seen, array_read}
 use Rattle.layout_facts.specs.lower.Runs.{runs_of}
-use Rattle.layout_facts.specs.boot_runtime.Entries.{task_entries}
-use Rattle.layout_facts.specs.boot_runtime.Listing.{privates_in}
-use Rattle.layout_facts.specs.stands_for.Layout.{IsAmong, IsSharedWord, IsCopyWord, ProgramPlaces, StateView}
-use Rattle.layout_facts.specs.stands_for.StandsFor.{EntriesHaveWords, StartedAt, DecidedWith, DecidedFrom}
+use Rattle.layout_facts.specs.stands_for.Layout.{IsAmong, IsSharedWord, IsCopyWord}
+use Rattle.layout_facts.specs.stands_for.StandsFor.{EntriesHaveWords, DecidedWith, DecidedFrom}
 use Rattle.layout_facts.proofs.stands_for.Interface.{put_words}
-use Rattle.layout_facts.specs.lower.Spots.{Room}
 use Rattle.layout_facts.specs.lower.Agreement.{TakesAndStores, transition_effects, element_pair, Bounds, bounds_of, Left, place_length}
-use Rattle.layout_facts.specs.compiled_model.Places.{stays_in_place, program_places}
-use Rattle.layout_facts.specs.compiled_model.View.{state_view, are_rows}
+use Rattle.layout_facts.specs.compiled_model.Places.{stays_in_place}
+use Rattle.layout_facts.specs.compiled_model.View.{are_rows}
 use Rattle.layout_facts.proofs.memory_map.Interface.{scalar_home, privates_few}
 use Rattle.layout_facts.proofs.Interface.{contains_at, scalar_found, found_word, among_either, among_front, among_back, word_pair, among_scalars}
 use Rattle.layout_facts.proofs.Interface.{scalars_among}
-use Rattle.task_attempts.proofs.Given.{IsGiven, IsTaskGiven}
 use Rattle.task_attempts.proofs.Rows.{rows_are, rows_count, declared_length}
 use Rattle.task_attempts.proofs.StoredWords.{StoresWords}
 use Rattle.task_attempts.proofs.Quiet.{IsQuiet, IsQuietAt, quiet_behind, stores_as, stays_within}
 use Rattle.task_attempts.proofs.Entries.{IsTransitionStore, transition_stores, closing, closed, closed_sent, closed_next, closed_count, closed_pairs}
 use Rattle.task_attempts.proofs.Entries.{closed_entries, IsLeft, closed_left}
 use Rattle.task_attempts.proofs.Listed.{among_map, map_among}
-use Rattle.task_attempts.proofs.Tasks.{IsAt, places, body, room, task_given, body_is, private_copy, private_not_in_place}
+use Rattle.task_attempts.proofs.Tasks.{body_is, private_copy, private_not_in_place}
+use Rattle.task_attempts.proofs.Started.{Started, scene}
 use Rattle.task_attempts.proofs.Stores.{Safe, StoresOf, task_safe, transition_safe}
 use Rattle.task_attempts.proofs.Words.{OwnWord, marked, unmarked, own_word_of, IsTaskWord, left_there, private, element as an_element, task_word}
 use Rattle.task_attempts.proofs.Words.{scalar_there, element_there, element_word}
@@ -52,58 +49,40 @@ use Rattle.layout_facts.specs.memory_map.declared.words.RuntimeWord.TheVariants.
 use Rattle.layout_facts.specs.memory_map.declared.place.VariablePlace.{VariablePlace}
 use Rattle.layout_facts.specs.memory_map.declared.place.VariablePlace.TheVariants.{Scalar, Array}
 use Rattle.layout_facts.specs.memory_map.declared.place.PrivateScalar.{PrivateScalar}
-use Rattle.layout_facts.specs.memory_map.MemoryMap.{MemoryMap, word_place}
+use Rattle.layout_facts.specs.memory_map.MemoryMap.{word_place}
 use Rattle.layout_facts.specs.memory_map.Places.{scalar_words}
-use Rattle.layout_facts.specs.memory_map.Spots.{scalar_address, private_words, Places, IsScalarWord, Element, IsElement, IsCopied, Spot, IsSpot, scalar}
+use Rattle.layout_facts.specs.memory_map.Spots.{scalar_address, private_words, IsScalarWord, Element, IsElement, IsCopied, Spot, IsSpot, scalar}
 use Rattle.layout_facts.specs.memory_map.Spots.{element, copy, spot_address, element_address, copy_address, IsWordOf}
 
-module _ (p : CheckedProgram) (l : MemoryMap) (given : IsGiven p l) (s : State) (is_task : s.task < length p.tasks) (i : IsAt p l s.task) (x : World)
-    (readings : List ℕ)
-    (st : StartedAt (program_places p l) (state_view p l) s (privates_in (task_entries l) s.task) x) where
-  -- the places that the task works on
-  abbrev here : Places
-  here = places p l given s.task i
-
-  -- its statements
-  abbrev code : CheckedBlock
-  code = body p l given s.task i
-
-  -- its room
-  abbrev space : Room
-  space = room p l given s.task i
-
-  -- what is known of it
-  abbrev facts : IsTaskGiven p l i.task i.layout
-  facts = task_given p l given s.task i
-
-  -- the places of the source
-  abbrev sites : ProgramPlaces
-  sites = program_places p l
-
-  -- its states by addresses
-  abbrev view : StateView State
-  view = state_view p l
-
-  abbrev pub ver : ℕ
-  ver = x.fram (word_place l Version)
+module _ (run : Started) where
+  open run use {program as p, map as l, given, state as s, is_task, task as i, world as x, readings, start as st}
+  open (scene run) use {here, code, space, facts, sites, view, ver}
 
   -- the bounds of the task's statements
   abbrev pub bounds : Bounds
   bounds = bounds_of here (some_path_writes code) space code [] (started x.fram readings)
 
-  abbrev SafeStore : ℕ → ℕ → Type 0
-  SafeStore = Safe p l given s.task is_task i ver
-
   pub quiet_start : IsQuietAt sites view s ver x
   quiet_start = record { undecided = st.undecided; version = refl }
 
-  pub quiet_of : (es : List Effect) → TakesAndStores SafeStore es → StoresWords es → TakesAndStores (IsQuiet sites s.task ver) es
-  quiet_of es h k = stores_as SafeStore (IsQuiet sites s.task ver) (λ a w q small. q.quiet) es h k
+  pub quiet_of : (es : List Effect) → TakesAndStores (Safe run) es → StoresWords es → TakesAndStores (IsQuiet sites s.task ver) es
+  quiet_of es h k = stores_as (Safe run) (IsQuiet sites s.task ver) (λ a w q small. q.quiet) es h k
 
-  -- statements came to a transition
-  module _ (es : List Effect) (to : ℕ) (end : WordState) (task : ℕ) (m : Attempt)
-      (left : Left here bounds es to end task m) (stored : StoresWords es)
-      (next_task : task < length p.tasks) (rows : length m.variables.shared ≡ length s.shared) where
+  -- statements that came to a transition: their effects, where they jump and with which state, the task that they name, and the attempt behind them
+  pub record Transition : Type 0 where
+    pub es : List Effect
+    pub to : ℕ
+    pub end : WordState
+    pub task : ℕ
+    pub m : Attempt
+    pub left : Left here bounds es to end task m
+    pub stored : StoresWords es
+    pub next_task : task < length p.tasks
+    pub rows : length m.variables.shared ≡ length s.shared
+
+  module _ (t : Transition) where
+    open t use {es, task, m, left, stored, next_task, rows}
+
     -- the entries in front of the transition's
     abbrev count : ℕ
     count = left.there.fram (word_place l ListLength)
@@ -135,12 +114,12 @@ module _ (p : CheckedProgram) (l : MemoryMap) (given : IsGiven p l) (s : State) 
     words_before : StoresWords before
     words_before = each_store-front (λ a w. w < 0x10000) before (Store (word_place l Gate) 1 ∷ []) (subst StoresWords effects_are stored)
 
-    pub safe_before : TakesAndStores SafeStore before
+    pub safe_before : TakesAndStores (Safe run) before
     safe_before =
-        takes_append SafeStore left.body transition
-        (stores_as (StoresOf p l given s.task is_task i ver) SafeStore (task_safe p l given s.task is_task i ver) left.body left.stores
+        takes_append (Safe run) left.body transition
+        (stores_as (StoresOf run) (Safe run) (task_safe run) left.body left.stores
         (each_store-front (λ a w. w < 0x10000) left.body transition words_before))
-        (stores_as (IsTransitionStore here space) SafeStore (transition_safe p l given s.task is_task i ver) transition
+        (stores_as (IsTransitionStore here space) (Safe run) (transition_safe run) transition
         (transition_stores here space task count base few) (each_store-back (λ a w. w < 0x10000) left.body transition words_before))
 
     pub quiet_before : TakesAndStores (IsQuiet sites s.task ver) before
@@ -479,7 +458,8 @@ module _ (p : CheckedProgram) (l : MemoryMap) (given : IsGiven p l) (s : State) 
     few_emits =
         let apart = given.apart in
         let none = st.emit_count in
-        let most = stays_within SafeStore (word_place l EmitCount) (emits_of code) (λ w q. q.emit_count refl) before x.fram safe_before (omega (arith, none)) in
+        let most =
+        stays_within (Safe run) (word_place l EmitCount) (emits_of code) (λ w q. q.emit_count refl) before x.fram safe_before (omega (arith, none)) in
         let there = ap (λ f. f (word_place l EmitCount)) (world_fram before x) in
         let here = z_before (word_place l EmitCount) (λ e. omega (arith, apart, e)) in
         let counted = emit_count_is in

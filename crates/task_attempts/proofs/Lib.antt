@@ -6,6 +6,7 @@ mod Quiet
 mod Entries
 mod Listed
 mod Tasks
+mod Started
 mod Stores
 mod Words
 mod Starts

@@ -1,21 +1,16 @@
 -- A started attempt stands for the source's attempt of the task.
-use Rattle.std.proofs.Common.{◌≡◌, ℕ, ◌+◌, ◌*◌, ◌<◌, List, [], length, Option, Some, None, Bool, true, false, ◌&&◌, not, refl, sym, ap, ◌∙◌}
+use Rattle.std.proofs.Common.{◌≡◌, ℕ, ◌+◌, ◌*◌, ◌<◌, [], length, Option, Some, None, Bool, true, false, ◌&&◌, not, refl, sym, ap, ◌∙◌}
 use Rattle.std.proofs.Common.{subst, ⊎_elim, arith}
 use Rattle.std.proofs.lemmas.Bool.{cases_Bool, and_parts, and_from}
 use Rattle.std.proofs.lemmas.Option.{slice_get_within}
 use Rattle.std.specs.Prelude.{Contains, slice_get, slice_index_or}
-use Rattle.layout_facts.specs.machine_effects.World.{World}
 use Rattle.layout_facts.specs.runtime_effects.Places.{entries_from}
 use Rattle.layout_facts.proofs.path_sums.Interface.{is_private_of}
-use Rattle.layout_facts.specs.cost_bound.Counts.{CheckedBlock}
 use Rattle.layout_facts.specs.source_values.Values.{Variables, word_at}
 use Rattle.layout_facts.specs.source_values.Statements.{Attempt, run_block}
-use Rattle.layout_facts.specs.source_values.Runs.{CheckedProgram, State, fresh_attempt, task_body}
+use Rattle.layout_facts.specs.source_values.Runs.{fresh_attempt, task_body}
 use Rattle.layout_facts.specs.task_ast.declared.names.Variable.TheVariants.{Shared}
 use Rattle.layout_facts.specs.array_versions.Behaviour.{started}
-use Rattle.layout_facts.specs.boot_runtime.Entries.{task_entries}
-use Rattle.layout_facts.specs.boot_runtime.Listing.{privates_in}
-use Rattle.layout_facts.specs.stands_for.StandsFor.{StartedAt}
 use Rattle.layout_facts.specs.lower.Agreement.{own_word, place_length, StandsFor}
 use Rattle.layout_facts.specs.lower.Seen.{some_path_writes, map_seen}
 use Rattle.layout_facts.proofs.lower.Interface.{SeenFrom, seen_from}
@@ -23,10 +18,9 @@ use Rattle.layout_facts.proofs.lower.Interface.{scalar as seen_scalar, array as 
 use Rattle.layout_facts.specs.path_runs.Laws.{IsScalarIn}
 use Rattle.layout_facts.proofs.Interface.{word_pair, scalar_of_seen, scalar_found, found_word, in_place_written, in_place_not_private}
 use Rattle.layout_facts.specs.compiled_model.Places.{is_private_in, stays_in_place, program_places}
-use Rattle.layout_facts.specs.compiled_model.View.{state_view}
 use Rattle.layout_facts.proofs.memory_map.Interface.{scalar_home, IsPlaceOfScalar, scalar_place, words_scalar}
-use Rattle.task_attempts.proofs.Given.{IsGiven, IsTaskGiven}
-use Rattle.task_attempts.proofs.Tasks.{IsAt, places, body, task_given, body_is, among_privates}
+use Rattle.task_attempts.proofs.Tasks.{body_is, among_privates}
+use Rattle.task_attempts.proofs.Started.{Started, scene}
 use Rattle.task_attempts.proofs.Held.{refreshed, refreshed_count, refreshed_locals, refreshed_rows, refreshed_other, refreshed_held, refreshed_runs}
 use Rattle.task_attempts.proofs.Rows.{rows_count}
 use Rattle.task_attempts.proofs.Words.{OwnWord, marked, unmarked, own_word_of, element_word}
@@ -36,8 +30,8 @@ use Rattle.layout_facts.specs.memory_map.declared.place.PrivateScalar.{PrivateSc
 use Rattle.layout_facts.specs.memory_map.declared.place.VariablePlace.{VariablePlace}
 use Rattle.layout_facts.specs.memory_map.declared.place.VariablePlace.TheVariants.{Scalar, Array}
 use Rattle.layout_facts.specs.memory_map.Places.{scalar_words, home_region}
-use Rattle.layout_facts.specs.memory_map.MemoryMap.{MemoryMap, word_place}
-use Rattle.layout_facts.specs.memory_map.Spots.{scalar_address, words_at, home_in, IsScalarWord, Places, Element, IsElement, IsCopied, version_address}
+use Rattle.layout_facts.specs.memory_map.MemoryMap.{word_place}
+use Rattle.layout_facts.specs.memory_map.Spots.{scalar_address, words_at, home_in, IsScalarWord, Element, IsElement, IsCopied, version_address}
 use Rattle.layout_facts.specs.memory_map.Spots.{element_address}
 use Rattle.layout_facts.specs.memory_map.Spots.{IsWordOf}
 
@@ -58,19 +52,9 @@ unheld_of true true false h = absurd (let none : false ≡ true = h in cc)
 unheld_of true false c h = refl
 unheld_of false b c h = refl
 
-module _ (p : CheckedProgram) (l : MemoryMap) (given : IsGiven p l) (s : State) (i : IsAt p l s.task) (x : World) (readings : List ℕ)
-    (st : StartedAt (program_places p l) (state_view p l) s (privates_in (task_entries l) s.task) x) where
-  -- the places that the task works on
-  abbrev here : Places
-  here = places p l given s.task i
-
-  -- its statements
-  abbrev code : CheckedBlock
-  code = body p l given s.task i
-
-  -- what is known of it
-  abbrev facts : IsTaskGiven p l i.task i.layout
-  facts = task_given p l given s.task i
+module _ (run : Started) where
+  open run use {program as p, map as l, given, state as s, task as i, world as x, readings, start as st}
+  open (scene run) use {here, code, facts}
 
   -- the scalars that the task writes in place, and their words in FRAM
   abbrev is_held : ℕ → Bool

@@ -1,28 +1,28 @@
 -- Where a task's program stores: at words that an undecided world doesn't speak of, before the code.
-use Rattle.std.proofs.Common.{◌≡◌, ℕ, ◌+◌, ◌*◌, ◌<◌, ◌≤◌, ◌∙◌, length, Some, false, not, sym, ap, subst, ⊎_elim, arith}
+use Rattle.std.proofs.Common.{◌≡◌, ℕ, ◌+◌, ◌*◌, ◌<◌, ◌≤◌, ◌∙◌, Some, false, not, sym, ap, subst, ⊎_elim, arith}
 use Rattle.std.proofs.lemmas.Bool.{cases_Bool, and_from}
 use Rattle.std.specs.Prelude.{true, slice_get}
-use Rattle.layout_facts.specs.cost_bound.Counts.{emits_of, CheckedBlock}
+use Rattle.layout_facts.specs.cost_bound.Counts.{emits_of}
 use Rattle.layout_facts.specs.cost_bound.Allowance.{list_of}
 use Rattle.layout_facts.specs.source_values.Runs.{CheckedProgram, task_body}
 use Rattle.layout_facts.specs.memory_map.declared.words.RuntimeWord.TheVariants.{CurrentTask, Gate, ListLength, EmitCount, Base, Version}
 use Rattle.layout_facts.specs.memory_map.declared.place.VariablePlace.TheVariants.{Scalar}
 use Rattle.layout_facts.specs.memory_map.MemoryMap.{MemoryMap, word_place}
-use Rattle.layout_facts.specs.stands_for.Layout.{IsSharedWord, IsCopyWord, ProgramPlaces}
+use Rattle.layout_facts.specs.stands_for.Layout.{IsSharedWord, IsCopyWord}
 use Rattle.layout_facts.proofs.memory_map.Interface.{scalar_home, IsPlaceOfScalar, scalar_place, words_scalar}
 use Rattle.layout_facts.specs.lower.Seen.{some_path_writes, map_seen}
 use Rattle.layout_facts.proofs.Interface.{scalar_of_seen, scalar_is}
-use Rattle.layout_facts.specs.memory_map.Spots.{scalar_address, words_at, Places, IsScalarWord}
+use Rattle.layout_facts.specs.memory_map.Spots.{scalar_address, words_at, IsScalarWord}
 use Rattle.layout_facts.specs.memory_map.declared.place.PrivateScalar.{PrivateScalar}
 use Rattle.layout_facts.specs.memory_map.Places.{end_of, scalar_words}
-use Rattle.layout_facts.specs.lower.Spots.{Room}
 use Rattle.layout_facts.specs.lower.Agreement.{IsTaskStore, at_variable, at_copy, at_version, in_list, at_list_length, at_emit_count, in_buffer}
 use Rattle.layout_facts.specs.compiled_model.Places.{is_private_in, stays_in_place, program_places}
-use Rattle.task_attempts.proofs.Given.{IsGiven, IsVersionWord, IsTaskGiven}
+use Rattle.task_attempts.proofs.Given.{IsGiven, IsVersionWord}
 use Rattle.task_attempts.proofs.Quiet.{IsQuiet}
 use Rattle.task_attempts.proofs.Entries as transition
 use Rattle.task_attempts.proofs.Entries.{IsTransitionStore, at_next_task, at_sent_base, in_entries}
-use Rattle.task_attempts.proofs.Tasks.{IsAt, places, body, room, task_given, body_is, private_copy}
+use Rattle.task_attempts.proofs.Tasks.{body_is, private_copy}
+use Rattle.task_attempts.proofs.Started.{Started, scene}
 
 module _ (p : CheckedProgram) (l : MemoryMap) (given : IsGiven p l) (k ver most : ℕ) where
   -- a store that an undecided world bears, of no more than so many emitted words, to data
@@ -113,26 +113,12 @@ module _ (p : CheckedProgram) (l : MemoryMap) (given : IsGiven p l) (k ver most 
         below = omega (arith, apart, c);
       }
 
-module _ (p : CheckedProgram) (l : MemoryMap) (given : IsGiven p l) (k : ℕ) (is_task : k < length p.tasks) (i : IsAt p l k) where
-  -- the places that the task works on
-  abbrev here : Places
-  here = places p l given k i
+module _ (run : Started) where
+  open run use {program as p, map as l, given, state as s, is_task, task as i}
+  open (scene run) use {here, code, space, facts, sites, ver}
 
-  -- its statements
-  abbrev code : CheckedBlock
-  code = body p l given k i
-
-  -- its room
-  abbrev space : Room
-  space = room p l given k i
-
-  -- what is known of it
-  abbrev facts : IsTaskGiven p l i.task i.layout
-  facts = task_given p l given k i
-
-  -- the places of the source
-  abbrev sites : ProgramPlaces
-  sites = program_places p l
+  abbrev k : ℕ
+  k = s.task
 
   list_fits : list_of p.shared code ≤ l.entries
   list_fits = subst (λ b. list_of p.shared b ≤ l.entries) (body_is p l given k i) (given.room.list k is_task)
@@ -140,93 +126,92 @@ module _ (p : CheckedProgram) (l : MemoryMap) (given : IsGiven p l) (k : ℕ) (i
   pub emits_fit : emits_of code ≤ l.emits.words
   emits_fit = subst (λ b. emits_of b ≤ l.emits.words) (body_is p l given k i) (given.room.emits k is_task)
 
-  module _ (ver : ℕ) where
-    abbrev pub Safe : ℕ → ℕ → Type 0
-    Safe = IsSafe p l given k ver (emits_of code)
+  abbrev pub Safe : ℕ → ℕ → Type 0
+  Safe = IsSafe p l given k ver (emits_of code)
 
-    abbrev pub StoresOf : ℕ → ℕ → Type 0
-    StoresOf = IsTaskStore here (some_path_writes code) space ver
+  abbrev pub StoresOf : ℕ → ℕ → Type 0
+  StoresOf = IsTaskStore here (some_path_writes code) space ver
 
-    -- a scalar that the task writes is private, and then the task has its copy, or is written in place
-    written_safe : (v n w : ℕ) → IsScalarWord here v n → some_path_writes code v ≡ true → w < 0x10000 → Safe (scalar_address here v n) w
-    written_safe v n w h e small = ⊎_elim copied in_place (cases_Bool (is_private_in code v))
-      where
-        its : IsPlaceOfScalar (slice_get (map_seen code l).variables v)
-        its = scalar_place (slice_get (map_seen code l).variables v) (words_scalar (slice_get (map_seen code l).variables v) n h)
+  -- a scalar that the task writes is private, and then the task has its copy, or is written in place
+  written_safe : (v n w : ℕ) → IsScalarWord here v n → some_path_writes code v ≡ true → w < 0x10000 → Safe (scalar_address here v n) w
+  written_safe v n w h e small = ⊎_elim copied in_place (cases_Bool (is_private_in code v))
+    where
+      its : IsPlaceOfScalar (slice_get (map_seen code l).variables v)
+      its = scalar_place (slice_get (map_seen code l).variables v) (words_scalar (slice_get (map_seen code l).variables v) n h)
 
-        below : n < scalar_words its.width
-        below = subst (λ k. n < k) (ap words_at its.place) h
+      below : n < scalar_words its.width
+      below = subst (λ k. n < k) (ap words_at its.place) h
 
-        at : slice_get l.variables v ≡ Some (Scalar its.home its.copy its.width)
-        at = scalar_of_seen code l v its.home its.copy its.width its.place
+      at : slice_get l.variables v ≡ Some (Scalar its.home its.copy its.width)
+      at = scalar_of_seen code l v its.home its.copy its.width its.place
 
-        copied : is_private_in code v ≡ true → Safe (scalar_address here v n) w
-        copied is =
-            let r = facts.privates in
-            let entry : PrivateScalar = record { number = v; home = its.home; copy = its.copy; width = its.width } in
-            safe_copy p l given k ver (emits_of code) (scalar_address here v n) w small
-            (subst (IsCopyWord sites) (sym (ap (λ z. 2 * n + z) (r.private v its.home its.copy its.width at is)))
-            (private_copy p l given k i entry n (r.each v its.home its.copy its.width at is) below))
+      copied : is_private_in code v ≡ true → Safe (scalar_address here v n) w
+      copied is =
+          let r = facts.privates in
+          let entry : PrivateScalar = record { number = v; home = its.home; copy = its.copy; width = its.width } in
+          safe_copy p l given k ver (emits_of code) (scalar_address here v n) w small
+          (subst (IsCopyWord sites) (sym (ap (λ z. 2 * n + z) (r.private v its.home its.copy its.width at is)))
+          (private_copy p l given k i entry n (r.each v its.home its.copy its.width at is) below))
 
-        in_place : is_private_in code v ≡ false → Safe (scalar_address here v n) w
-        in_place not_private =
-            let stays : stays_in_place code v ≡ true = and_from (some_path_writes code v) (not (is_private_in code v)) e (ap not not_private) in
-            let number : v ≡ 0 + v = omega arith in
-            let is : sites.written_in_place k (2 * n + its.home) ≡ true =
-            scalar_is (stays_in_place (task_body p k)) 0 l.variables v its.home its.copy its.width n at below
-            (sym (ap (stays_in_place (task_body p k)) number) ∙ ap (λ b. stays_in_place b v) (body_is p l given k i) ∙ stays) in
-            let word = scalar_home l v its.home its.copy its.width n at below in
-            subst (λ z. Safe z w) (sym (ap (λ z. 2 * n + z) (facts.privates.left v its.home its.copy its.width at not_private)))
-            (safe_home p l given k ver (emits_of code) (2 * n + its.home) w small (given.words.is_shared v n (2 * n + its.home) word) is)
+      in_place : is_private_in code v ≡ false → Safe (scalar_address here v n) w
+      in_place not_private =
+          let stays : stays_in_place code v ≡ true = and_from (some_path_writes code v) (not (is_private_in code v)) e (ap not not_private) in
+          let number : v ≡ 0 + v = omega arith in
+          let is : sites.written_in_place k (2 * n + its.home) ≡ true =
+          scalar_is (stays_in_place (task_body p k)) 0 l.variables v its.home its.copy its.width n at below
+          (sym (ap (stays_in_place (task_body p k)) number) ∙ ap (λ b. stays_in_place b v) (body_is p l given k i) ∙ stays) in
+          let word = scalar_home l v its.home its.copy its.width n at below in
+          subst (λ z. Safe z w) (sym (ap (λ z. 2 * n + z) (facts.privates.left v its.home its.copy its.width at not_private)))
+          (safe_home p l given k ver (emits_of code) (2 * n + its.home) w small (given.words.is_shared v n (2 * n + its.home) word) is)
 
-    pub task_safe : (a w : ℕ) → StoresOf a w → w < 0x10000 → Safe a w
-    task_safe a w (at_variable v n h e is) small = subst (λ z. Safe z w) (sym is) (written_safe v n w h e small)
-    task_safe a w (at_copy x h is) small = subst (λ z. Safe z w) (sym is) (safe_copy p l given k ver _ _ w small (facts.copies x h))
-    task_safe a w (at_version x h is e) small = subst (λ z. Safe z w) (sym is) (safe_version p l given k ver _ _ w small e (facts.versions x h))
-    task_safe a w (in_list lo hi) small =
-        let apart = given.apart in
-        let fits = list_fits in
-        safe_low p l given k ver _ a w small (omega (arith, apart, lo)) (omega (arith, apart, hi, fits)) (λ q. omega (arith, apart, lo, q))
-        (λ q. omega (arith, apart, lo, q))
-        (λ q. omega (arith, apart, lo, q)) (λ q. absurd (omega (arith, apart, lo, q))) (λ q. absurd (omega (arith, apart, lo, q)))
-    task_safe a w (at_list_length is h) small =
-        let apart = given.apart in
-        let fits = list_fits in
-        safe_low p l given k ver _ a w small (omega (arith, apart, is)) (omega (arith, apart, is)) (λ q. omega (arith, apart, is, q))
-        (λ q. omega (arith, apart, is, q))
-        (λ q. omega (arith, apart, is, q)) (λ q. omega (arith, h, fits)) (λ q. absurd (omega (arith, apart, is, q)))
-    task_safe a w (at_emit_count is h) small =
-        let apart = given.apart in
-        safe_low p l given k ver _ a w small (omega (arith, apart, is)) (omega (arith, apart, is)) (λ q. omega (arith, apart, is, q))
-        (λ q. omega (arith, apart, is, q))
-        (λ q. omega (arith, apart, is, q)) (λ q. absurd (omega (arith, apart, is, q))) (λ q. h)
-    task_safe a w (in_buffer j h is) small =
-        let apart = given.apart in
-        let fits = emits_fit in
-        safe_low p l given k ver _ a w small (omega (arith, apart, is)) (omega (arith, apart, is, h, fits)) (λ q. omega (arith, apart, is, q))
-        (λ q. omega (arith, apart, is, q))
-        (λ q. omega (arith, apart, is, q)) (λ q. absurd (omega (arith, apart, is, q))) (λ q. absurd (omega (arith, apart, is, q)))
+  pub task_safe : (a w : ℕ) → StoresOf a w → w < 0x10000 → Safe a w
+  task_safe a w (at_variable v n h e is) small = subst (λ z. Safe z w) (sym is) (written_safe v n w h e small)
+  task_safe a w (at_copy x h is) small = subst (λ z. Safe z w) (sym is) (safe_copy p l given k ver _ _ w small (facts.copies x h))
+  task_safe a w (at_version x h is e) small = subst (λ z. Safe z w) (sym is) (safe_version p l given k ver _ _ w small e (facts.versions x h))
+  task_safe a w (in_list lo hi) small =
+      let apart = given.apart in
+      let fits = list_fits in
+      safe_low p l given k ver _ a w small (omega (arith, apart, lo)) (omega (arith, apart, hi, fits)) (λ q. omega (arith, apart, lo, q))
+      (λ q. omega (arith, apart, lo, q))
+      (λ q. omega (arith, apart, lo, q)) (λ q. absurd (omega (arith, apart, lo, q))) (λ q. absurd (omega (arith, apart, lo, q)))
+  task_safe a w (at_list_length is h) small =
+      let apart = given.apart in
+      let fits = list_fits in
+      safe_low p l given k ver _ a w small (omega (arith, apart, is)) (omega (arith, apart, is)) (λ q. omega (arith, apart, is, q))
+      (λ q. omega (arith, apart, is, q))
+      (λ q. omega (arith, apart, is, q)) (λ q. omega (arith, h, fits)) (λ q. absurd (omega (arith, apart, is, q)))
+  task_safe a w (at_emit_count is h) small =
+      let apart = given.apart in
+      safe_low p l given k ver _ a w small (omega (arith, apart, is)) (omega (arith, apart, is)) (λ q. omega (arith, apart, is, q))
+      (λ q. omega (arith, apart, is, q))
+      (λ q. omega (arith, apart, is, q)) (λ q. absurd (omega (arith, apart, is, q))) (λ q. h)
+  task_safe a w (in_buffer j h is) small =
+      let apart = given.apart in
+      let fits = emits_fit in
+      safe_low p l given k ver _ a w small (omega (arith, apart, is)) (omega (arith, apart, is, h, fits)) (λ q. omega (arith, apart, is, q))
+      (λ q. omega (arith, apart, is, q))
+      (λ q. omega (arith, apart, is, q)) (λ q. absurd (omega (arith, apart, is, q))) (λ q. absurd (omega (arith, apart, is, q)))
 
-    pub transition_safe : (a w : ℕ) → IsTransitionStore here space a w → w < 0x10000 → Safe a w
-    transition_safe a w (at_next_task is) small =
-        let apart = given.apart in
-        safe_low p l given k ver _ a w small (omega (arith, apart, is)) (omega (arith, apart, is)) (λ q. omega (arith, apart, is, q))
-        (λ q. omega (arith, apart, is, q))
-        (λ q. omega (arith, apart, is, q)) (λ q. absurd (omega (arith, apart, is, q))) (λ q. absurd (omega (arith, apart, is, q)))
-    transition_safe a w (transition.at_list_length is h) small =
-        let apart = given.apart in
-        let fits = list_fits in
-        safe_low p l given k ver _ a w small (omega (arith, apart, is)) (omega (arith, apart, is)) (λ q. omega (arith, apart, is, q))
-        (λ q. omega (arith, apart, is, q))
-        (λ q. omega (arith, apart, is, q)) (λ q. omega (arith, h, fits)) (λ q. absurd (omega (arith, apart, is, q)))
-    transition_safe a w (at_sent_base is) small =
-        let apart = given.apart in
-        safe_low p l given k ver _ a w small (omega (arith, apart, is)) (omega (arith, apart, is)) (λ q. omega (arith, apart, is, q))
-        (λ q. omega (arith, apart, is, q))
-        (λ q. omega (arith, apart, is, q)) (λ q. absurd (omega (arith, apart, is, q))) (λ q. absurd (omega (arith, apart, is, q)))
-    transition_safe a w (in_entries lo hi) small =
-        let apart = given.apart in
-        let fits = list_fits in
-        safe_low p l given k ver _ a w small (omega (arith, apart, lo)) (omega (arith, apart, hi, fits)) (λ q. omega (arith, apart, lo, q))
-        (λ q. omega (arith, apart, lo, q))
-        (λ q. omega (arith, apart, lo, q)) (λ q. absurd (omega (arith, apart, lo, q))) (λ q. absurd (omega (arith, apart, lo, q)))
+  pub transition_safe : (a w : ℕ) → IsTransitionStore here space a w → w < 0x10000 → Safe a w
+  transition_safe a w (at_next_task is) small =
+      let apart = given.apart in
+      safe_low p l given k ver _ a w small (omega (arith, apart, is)) (omega (arith, apart, is)) (λ q. omega (arith, apart, is, q))
+      (λ q. omega (arith, apart, is, q))
+      (λ q. omega (arith, apart, is, q)) (λ q. absurd (omega (arith, apart, is, q))) (λ q. absurd (omega (arith, apart, is, q)))
+  transition_safe a w (transition.at_list_length is h) small =
+      let apart = given.apart in
+      let fits = list_fits in
+      safe_low p l given k ver _ a w small (omega (arith, apart, is)) (omega (arith, apart, is)) (λ q. omega (arith, apart, is, q))
+      (λ q. omega (arith, apart, is, q))
+      (λ q. omega (arith, apart, is, q)) (λ q. omega (arith, h, fits)) (λ q. absurd (omega (arith, apart, is, q)))
+  transition_safe a w (at_sent_base is) small =
+      let apart = given.apart in
+      safe_low p l given k ver _ a w small (omega (arith, apart, is)) (omega (arith, apart, is)) (λ q. omega (arith, apart, is, q))
+      (λ q. omega (arith, apart, is, q))
+      (λ q. omega (arith, apart, is, q)) (λ q. absurd (omega (arith, apart, is, q))) (λ q. absurd (omega (arith, apart, is, q)))
+  transition_safe a w (in_entries lo hi) small =
+      let apart = given.apart in
+      let fits = list_fits in
+      safe_low p l given k ver _ a w small (omega (arith, apart, lo)) (omega (arith, apart, hi, fits)) (λ q. omega (arith, apart, lo, q))
+      (λ q. omega (arith, apart, lo, q))
+      (λ q. omega (arith, apart, lo, q)) (λ q. absurd (omega (arith, apart, lo, q))) (λ q. absurd (omega (arith, apart, lo, q)))

@@ -14,16 +14,14 @@ use Rattle.layout_facts.specs.compiled_model.View.{state_view}
 use Rattle.layout_facts.specs.compiled_model.Parts.{program_parts}
 use Rattle.task_attempts.specs.Laws.{TasksKeepTheirContract, CompiledSourcesKeepTheLaws, IsBelowCode, AttemptsStoreBelowCode, TasksLeaveForTheCommit}
 use Rattle.task_attempts.proofs.Given.{given}
-use Rattle.task_attempts.proofs.Tasks.{task_at}
+use Rattle.task_attempts.proofs.Started.{attempt_at}
 use Rattle.task_attempts.proofs.Contracts.{program_keeps, program_stores, program_leaves}
 use Rattle.layout_facts.specs.memory_map.MemoryMap.{word_place}
 use Rattle.layout_facts.specs.memory_map.declared.words.RuntimeWord.TheVariants.{CurrentTask}
 
 pub tasks_contract : TasksKeepTheirContract
 tasks_contract text p allow plans l laid runnable s x readings small st =
-    let g = given text p allow plans l laid runnable in
-    let is_task = st.undecided.is_open.is_task in
-    program_keeps p l g s is_task (task_at p l g.count s.task is_task) x readings st blocks_agree small
+    program_keeps (attempt_at p l (given text p allow plans l laid runnable) s x readings st) blocks_agree small
 
 pub compiled_laws : CompiledSourcesKeepTheLaws
 compiled_laws text p allow plans l laid runnable =
@@ -38,10 +36,9 @@ stores_below_code text p allow plans l laid runnable s x readings small u =
     let start = numbered_starts State (program_places p l) (state_view p l) (privates_in (task_entries l)) g.apart g.privates in
     let es = (program_parts p l).start x.fram in
     let y = world_after es x in
-    let is_task = u.is_open.is_task in
     let apart = g.apart in
     let code = g.code in
-    let task = program_stores p l g s is_task (task_at p l g.count s.task is_task) y readings (start.started s x u) blocks_agree small in
+    let task = program_stores (attempt_at p l g s y readings (start.started s x u)) blocks_agree small in
     each_store-append (IsBelowCode l) es ((program_parts p l).body (x.fram (word_place l CurrentTask)) (fram_after es x.fram) readings).effects
     (each_weaker (IsStartStore (program_places p l)) (IsBelowCode l) (λ a w k. record {
       from = omega (arith, apart, k);
@@ -54,6 +51,4 @@ stores_below_code text p allow plans l laid runnable s x readings small u =
 
 pub tasks_leave : TasksLeaveForTheCommit
 tasks_leave text p allow plans l laid runnable s x readings small st =
-    let g = given text p allow plans l laid runnable in
-    let is_task = st.undecided.is_open.is_task in
-    program_leaves p l g s is_task (task_at p l g.count s.task is_task) x readings st blocks_agree small
+    program_leaves (attempt_at p l (given text p allow plans l laid runnable) s x readings st) blocks_agree small

@@ -1,0 +1,227 @@
+-- What each program does, as a chain of what its steps do to a state: said once by the cases of steps. A fact of all programs is an induction over chains.
+use Rattle.std.proofs.Common.{◌≡◌, ℕ, zero, suc, ◌+◌, ◌-◌, ◌%◌, ◌==◌, ◌<◌, List, [], ◌∷◌, ◌++◌, Option, Some, None, Bool, true, false, refl, arith}
+use Rattle.std.proofs.Common.{◌≢◌, if◌then◌else◌}
+use Rattle.machine_effects.specs.alp_words.Words.{AreWords}
+use Rattle.machine_effects.specs.fram_board.Effects.{Effect, Store, Take}
+use Rattle.array_versions.specs.declared.operations.PlainOperation.{PlainOperation}
+use Rattle.array_versions.specs.Operations.{unary_word, plain_word, binary_word, shift_word, is_true, compare_words, long_pops, long_result}
+use Rattle.array_versions.specs.Program.{Step, Test, Program, number, load, keep, update, local, set_local, update_local, unary, binary, shift, long, element}
+use Rattle.array_versions.specs.Program.{emit_word, list_entry, versioned_read, versioned_write, versioned_update, sense, truth, choose, repeat, store_number}
+use Rattle.array_versions.specs.Program.{move_word, jump, holds, compares, both, either, fails, nothing, step}
+use Rattle.array_versions.specs.Behaviour.{WordState, End, GoesOn, Jumps, Short, Strays, Broken, Behaviour, behaves, goes_on, strays, broken, then_on, is_place}
+use Rattle.array_versions.specs.Behaviour.{with_top, with_two, with_words, with_stack, pushed, stored, with_local, local_pushed, local_updated, reading_pushed}
+use Rattle.array_versions.specs.Behaviour.{word_stored, element_pushed, word_emitted, versioned_pushed, versioned_stored, versioned_updated, number_pushed}
+use Rattle.array_versions.specs.Behaviour.{way_by_top, way_by_two, turns, step_behaviour, tested, behaviour}
+use Rattle.array_versions.specs.Form.{StepSpares, TestSpares, Spares, StepOfWords, TestOfWords, OfWords}
+use Rattle.array_versions.specs.Laws.{IsStateOfWords}
+use Rattle.array_versions.proofs.Words.{unary_small, plain_small, binary_small, shift_small, long_words, on_words, stack_words, stored_words, local_words}
+use Rattle.array_versions.proofs.Words.{reading_words, reading_word}
+use Rattle.array_versions.proofs.Parts.{Writes, astray, done, writes, Pushes, off, on_top, Known, loads, element_pushes, versioned_pushes, word_writes}
+use Rattle.array_versions.proofs.Parts.{emitted_writes, entry_writes, versioned_writes, updated_writes}
+
+-- A chain from a state to another by effects: other words on the stack, a local set, a word stored in FRAM, a reading taken. Where `W` is given, each
+-- word in it is one; a local that is set is none that is spared
+pub data Run (W : Type 0) (spared : ℕ → Type 0) : WordState → List Effect → WordState → Type 0 where
+  stays : {s : WordState} → Run W spared s [] s
+  stacks : {s t : WordState} {es : List Effect} (vs : List ℕ) → (W → AreWords vs) → Run W spared (with_stack vs s) es t → Run W spared s es t
+  assigns : {s t : WordState} {es : List Effect} (n v : ℕ) → ((m : ℕ) → spared m → n ≢ m) → (W → v < 0x10000) → Run W spared (with_local n v s) es t
+      → Run W spared s es t
+  stores : {s t : WordState} {es : List Effect} (a v : ℕ) → (W → v < 0x10000) → Run W spared (stored a v s) es t → Run W spared s (Store a v ∷ es) t
+  takes : {s t : WordState} {es : List Effect} (r : ℕ) (rs : List ℕ) → s.readings ≡ r ∷ rs → Run W spared (record s { readings = rs }) es t
+      → Run W spared s (Take r ∷ es) t
+
+-- one chain behind another
+run_behind : {W : Type 0} {spared : ℕ → Type 0} {s t u : WordState} {es fs : List Effect} → Run W spared s es t → Run W spared t fs u
+    → Run W spared s (es ++ fs) u
+run_behind stays r = r
+run_behind (stacks vs l q) r = stacks vs l (run_behind q r)
+run_behind (assigns n v d l q) r = assigns n v d l (run_behind q r)
+run_behind (stores a v l q) r = stores a v l (run_behind q r)
+run_behind (takes x xs e q) r = takes x xs e (run_behind q r)
+
+-- from words it leads to words
+pub run_words : {W : Type 0} {spared : ℕ → Type 0} {s t : WordState} {es : List Effect} → Run W spared s es t → W → IsStateOfWords s → IsStateOfWords t
+run_words stays x i = i
+run_words (stacks {s = s} vs l q) x i = run_words q x (stack_words s vs i (l x))
+run_words (assigns {s = s} n v d l q) x i = run_words q x (local_words s n v i (l x))
+run_words (stores {s = s} a v l q) x i = run_words q x (stored_words s a v i (l x))
+run_words (takes {s = s} r rs e q) x i = run_words q x (reading_words s r rs e i)
+
+module _ (W : Type 0) (spared : ℕ → Type 0) where
+  -- how far a chain leads that ends so: where a reading is wanted, to a state with none left
+  abbrev pub Reaches : WordState → List Effect → End → Type 0
+  Reaches s es (GoesOn t) = Run W spared s es t
+  Reaches s es (Jumps to t) = Run W spared s es t
+  Reaches s es Short = (t : WordState) × Run W spared s es t × (t.readings ≡ [])
+  Reaches s es Strays = (t : WordState) × Run W spared s es t
+  Reaches s es Broken = (t : WordState) × Run W spared s es t
+
+  abbrev Does : WordState → Behaviour → Type 0
+  Does s b = Reaches s b.effects b.end
+
+  -- a way that each state of words may go on
+  abbrev Leads : (WordState → Behaviour) → Type 0
+  Leads go = (s : WordState) → Known W s → Does s (go s)
+
+  does_behind : (fs : List Effect) (e : End) {s t : WordState} {es : List Effect} → Run W spared s es t → Reaches t fs e → Reaches s (es ++ fs) e
+  does_behind fs (GoesOn u) q r = run_behind q r
+  does_behind fs (Jumps to u) q r = run_behind q r
+  does_behind fs Short q r = (r.0, run_behind q r.1, r.2)
+  does_behind fs Strays q r = (r.0, run_behind q r.1)
+  does_behind fs Broken q r = (r.0, run_behind q r.1)
+
+  then_does : (s : WordState) (es : List Effect) (e : End) (next : WordState → Behaviour) → Known W s → Reaches s es e → Leads next
+      → Does s (then_on (behaves es e) next)
+  then_does s es (GoesOn t) next i h k = does_behind (next t).effects (next t).end h (k t (λ x. run_words h x (i x)))
+  then_does s es (Jumps to t) next i h k = run_behind h stays
+  then_does s es Short next i h k = (h.0, run_behind h.1 stays, h.2)
+  then_does s es Strays next i h k = (h.0, run_behind h.1 stays)
+  then_does s es Broken next i h k = (h.0, run_behind h.1 stays)
+
+  -- a part of a step
+  part_writes : {s : WordState} {es : List Effect} {e : End} → Writes W s es e → Reaches s es e
+  part_writes (astray {s = s}) = (s, stays)
+  part_writes done = stays
+  part_writes (writes {es = es} {e = e} a v l w) = does_behind es e (stores a v l stays) (part_writes w)
+
+  push : (s : WordState) (v : ℕ) → Known W s → (W → v < 0x10000) → Does s (goes_on [] (pushed v s))
+  push s v i l = stacks (v ∷ s.stack) (λ x. (l x, (i x).stack)) stays
+
+  part_pushes : {s : WordState} {es : List Effect} {e : End} → Known W s → Pushes W s es e → Reaches s es e
+  part_pushes {s = s} i off = (s, stays)
+  part_pushes {s = s} i (on_top v l) = push s v i l
+
+  -- words popped
+  top_does : (s : WordState) (vs : List ℕ) (next : ℕ → List ℕ → Behaviour) → (W → AreWords vs)
+      → ((v : ℕ) (us : List ℕ) → (W → v < 0x10000) → (W → AreWords us) → Does s (next v us)) → Does s (with_top vs next)
+  top_does s [] next w h = (s, stays)
+  top_does s (v ∷ vs) next w h = h v vs (λ x. (w x).0) (λ x. (w x).1)
+
+  words_do : (n : ℕ) (s : WordState) (vs : List ℕ) (next : List ℕ → List ℕ → Behaviour) → (W → AreWords vs)
+      → ((ws us : List ℕ) → (W → AreWords ws) → (W → AreWords us) → Does s (next ws us)) → Does s (with_words n vs next)
+  words_do zero s vs next w h = h [] vs (λ x. tt) w
+  words_do (suc n) s vs next w h =
+      top_does s vs _ w (λ v us l m. words_do n s us _ m (λ ws rest k j. h (v ∷ ws) rest (λ x. (l x, k x)) j))
+
+  popped : (s : WordState) (next : ℕ → WordState → Behaviour) → Known W s → ((v : ℕ) → (W → v < 0x10000) → Leads (next v))
+      → Does s (with_top s.stack (λ v vs. next v (with_stack vs s)))
+  popped s next i h = top_does s s.stack _ (λ x. (i x).stack) (λ v vs l m.
+      let t = with_stack vs s in
+      let b = next v t in
+      does_behind b.effects b.end (stacks vs m stays) (h v l t (λ x. stack_words s vs (i x) (m x))))
+
+  two_popped : (s : WordState) (next : ℕ → ℕ → WordState → Behaviour) → Known W s
+      → ((u v : ℕ) → (W → u < 0x10000) → (W → v < 0x10000) → Leads (next u v)) → Does s (with_two s.stack (λ u v vs. next u v (with_stack vs s)))
+  two_popped s next i h =
+      popped s (λ v t. with_top t.stack (λ u vs. next u v (with_stack vs t))) i (λ v l t j. popped t (λ u. next u v) j (λ u m. h u v m l))
+
+  -- one of two ways
+  one_does : (c : Bool) (s : WordState) (a b : Behaviour) → Does s a → Does s b → Does s (if c then a else b)
+  one_does true s a b h k = h
+  one_does false s a b h k = k
+
+  local_does : (o : Option ℕ) (s : WordState) → Known W s → ((v : ℕ) → o ≡ Some v → W → v < 0x10000) → Does s (local_pushed o s)
+  local_does None s i h = (s, stays)
+  local_does (Some v) s i h = push s v i (h v refl)
+
+  updated_does : (op : PlainOperation) (n v : ℕ) (o : Option ℕ) (s : WordState) → ((m : ℕ) → spared m → n ≢ m) → (W → v < 0x10000)
+      → ((u : ℕ) → o ≡ Some u → W → u < 0x10000) → Does s (local_updated op n v o s)
+  updated_does op n v None s d l h = (s, stays)
+  updated_does op n v (Some u) s d l h = assigns n (plain_word op u v) d (λ x. plain_small op u v (h u refl x) (l x)) stays
+
+  reading_does : (rs : List ℕ) (s : WordState) → s.readings ≡ rs → Known W s → Does s (reading_pushed rs s)
+  reading_does [] s e i = (s, stays, e)
+  reading_does (r ∷ rs) s e i =
+      takes r rs e (stacks (r ∷ s.stack) (λ x. (reading_word s r rs e (i x), (i x).stack)) stays)
+
+  turns_do : (m n k : ℕ) (body : WordState → Behaviour) (s : WordState) → ((x : ℕ) → spared x → n ≢ x) → (W → k + m < 0x10000) → Leads body → Known W s
+      → Does s (turns m n k body s)
+  turns_do zero n k body s d l f i = assigns n k d (λ x. omega (arith, l x)) stays
+  turns_do (suc m) n k body s d l f i =
+      let t = with_local n k s in
+      let small : W → k < 0x10000 = λ x. omega (arith, l x) in
+      let j : Known W t = λ x. local_words s n k (i x) (small x) in
+      let b = body t in
+      let rest = turns m n (k + 1) body in
+      let all = then_on b rest in
+      does_behind all.effects all.end (assigns n k d small stays)
+      (then_does t b.effects b.end rest j (f t j) (λ u p. turns_do m n (k + 1) body u d (λ x. omega (arith, l x)) f p))
+
+  jump_does : (c : Bool) (to : ℕ) (s : WordState) → Does s (if c then behaves [] (Jumps to s) else broken)
+  jump_does true to s = stays
+  jump_does false to s = (s, stays)
+
+  mutual
+    -- each step, by what is known of its numbers and of the locals that it sets
+    pub step_does : (first : Step) (s : WordState) → (W → StepOfWords first) → ((m : ℕ) → spared m → StepSpares m first) → Known W s
+        → Does s (step_behaviour first s)
+    step_does (number v) s h d i = push s v i h
+    step_does (load a) s h d i = part_pushes i (loads W a s i)
+    step_does (keep a) s h d i = popped s (word_stored a) i (λ v l t j. part_writes (word_writes W a v t l))
+    step_does (update op a) s h d i = popped s (λ v t. word_stored a (plain_word op (s.fram a) v) t) i (λ v l t j.
+        part_writes (word_writes W a (plain_word op (s.fram a) v) t (λ x. plain_small op (s.fram a) v ((i x).fram a) (l x))))
+    step_does (local n) s h d i = local_does (s.locals n) s i (λ v e x. (i x).locals n v e)
+    step_does (set_local n) s h d i = popped s (λ v t. goes_on [] (with_local n v t)) i (λ v l t j. assigns n v d l stays)
+    step_does (update_local op n) s h d i =
+        popped s (λ v t. local_updated op n v (s.locals n) t) i (λ v l t j. updated_does op n v (s.locals n) t d l (λ u e x. (i x).locals n u e))
+    step_does (unary op) s h d i =
+        popped s (λ v t. goes_on [] (pushed (unary_word op v) t)) i (λ v l t j. push t (unary_word op v) j (λ x. unary_small op v (l x)))
+    step_does (binary op) s h d i = two_popped s (λ u v t. goes_on [] (pushed (binary_word op u v) t)) i (λ u v k l t j.
+        push t (binary_word op u v) j (λ x. binary_small op u v (k x) (l x)))
+    step_does (shift op n) s h d i =
+        popped s (λ v t. goes_on [] (pushed (shift_word op v n) t)) i (λ v l t j. push t (shift_word op v n) j (λ x. shift_small op v n (l x)))
+    step_does (long op) s h d i = words_do (long_pops op) s s.stack _ (λ x. (i x).stack) (λ ws vs k m.
+        stacks (long_result op ws ++ vs) (λ x. on_words (long_result op ws) vs (long_words op ws (k x)) (m x)) stays)
+    step_does (element base length) s h d i = popped s (element_pushed base length) i (λ v l t j. part_pushes j (element_pushes W base length v t j))
+    step_does (emit_word count buffer) s h d i =
+        popped s (word_emitted count buffer) i (λ v l t j. part_writes (emitted_writes W count buffer v t l))
+    step_does (list_entry count list home copy words) s h d i =
+        part_writes (entry_writes W count list home copy words s (λ x. (h x).2) (λ x. (h x).3) (λ x. (h x).4))
+    step_does (versioned_read place list) s h d i = popped s (versioned_pushed place list) i (λ v l t j. part_pushes j (versioned_pushes W place list v t j))
+    step_does (versioned_write place list) s h d i =
+        two_popped s (versioned_stored place list) i (λ u v k l t j. part_writes (versioned_writes W place list u v t l j))
+    step_does (versioned_update op place list) s h d i =
+        two_popped s (versioned_updated op place list) i (λ u v k l t j. part_writes (updated_writes W op place list u v t l j))
+    step_does sense s h d i = reading_does s.readings s refl i
+    step_does (truth t) s h d i = test_does t s (number_pushed 1) (number_pushed 0) h d i (λ u j. push u 1 j (λ x. omega arith))
+        (λ u j. push u 0 j (λ x. omega arith))
+    step_does (choose t taken otherwise) s h d i =
+        test_does t s (behaviour taken) (behaviour otherwise) (λ x. (h x).0) (λ m y. (d m y).0) i
+        (λ u j. program_does taken u (λ x. (h x).1) (λ m y. (d m y).1) j) (λ u j. program_does otherwise u (λ x. (h x).2) (λ m y. (d m y).2) j)
+    step_does (repeat n from below body) s h d i =
+        turns_do (below - from) n from (behaviour body) s (λ m y. (d m y).0) (λ x. let a = (h x).1 in let b = (h x).2 in omega arith)
+        (λ u j. program_does body u (λ x. (h x).3) (λ m y. (d m y).1) j) i
+    step_does (store_number a v) s h d i = part_writes (word_writes W a v s (λ x. (h x).1))
+    step_does (move_word from to) s h d i = one_does (is_place from) s (word_stored to (s.fram from) s) strays
+        (part_writes (word_writes W to (s.fram from) s (λ x. (i x).fram from))) (s, stays)
+    step_does (jump to) s h d i = jump_does (to % 2 == 0) to s
+
+    test_does : (t : Test) (s : WordState) (held failed : WordState → Behaviour) → (W → TestOfWords t) → ((m : ℕ) → spared m → TestSpares m t) → Known W s
+        → Leads held → Leads failed → Does s (tested t held failed s)
+    test_does (holds p) s held failed h d i f g =
+        let b = behaviour p s in
+        then_does s b.effects b.end (way_by_top held failed) i (program_does p s h d i) (λ u j.
+        popped u (λ v t. if is_true v then held t else failed t) j (λ v l t k. one_does (is_true v) t (held t) (failed t) (f t k) (g t k)))
+    test_does (compares op p) s held failed h d i f g =
+        let b = behaviour p s in
+        then_does s b.effects b.end (way_by_two op held failed) i (program_does p s h d i) (λ u j.
+        two_popped u (λ y z t. if compare_words op y z then held t else failed t) j (λ y z l m t k.
+        one_does (compare_words op y z) t (held t) (failed t) (f t k) (g t k)))
+    test_does (both t u) s held failed h d i f g =
+        test_does t s (tested u held failed) failed (λ x. (h x).0) (λ m y. (d m y).0) i
+        (λ v j. test_does u v held failed (λ x. (h x).1) (λ m y. (d m y).1) j f g) g
+    test_does (either t u) s held failed h d i f g =
+        test_does t s held (tested u held failed) (λ x. (h x).0) (λ m y. (d m y).0) i f
+        (λ v j. test_does u v held failed (λ x. (h x).1) (λ m y. (d m y).1) j f g)
+    test_does (fails t) s held failed h d i f g = test_does t s failed held h d i g f
+
+    program_does : (p : Program) (s : WordState) → (W → OfWords p) → ((m : ℕ) → spared m → Spares m p) → Known W s → Does s (behaviour p s)
+    program_does nothing s h d i = stays
+    program_does (step first more) s h d i =
+        let b = step_behaviour first s in
+        then_does s b.effects b.end (behaviour more) i (step_does first s (λ x. (h x).0) (λ m y. (d m y).0) i)
+        (λ u j. program_does more u (λ x. (h x).1) (λ m y. (d m y).1) j)
+
+-- what each program does: it goes through words where it and the state in front are of words, and sets no local that it spares
+pub runs : (p : Program) (s : WordState) → Reaches (OfWords p × IsStateOfWords s) (λ m. Spares m p) s (behaviour p s).effects (behaviour p s).end
+runs p s = program_does (OfWords p × IsStateOfWords s) (λ m. Spares m p) p s (λ x. x.0) (λ m y. y) (λ x. x.1)

@@ -1,0 +1,67 @@
+-- A started attempt of a task, and what the laws on it speak of.
+use Rattle.std.proofs.Common.{ℕ, ◌<◌, List, length}
+use Rattle.layout_facts.specs.machine_effects.World.{World}
+use Rattle.layout_facts.specs.cost_bound.Counts.{CheckedBlock}
+use Rattle.layout_facts.specs.source_values.Runs.{CheckedProgram, State}
+use Rattle.layout_facts.specs.boot_runtime.Entries.{task_entries}
+use Rattle.layout_facts.specs.boot_runtime.Listing.{privates_in}
+use Rattle.layout_facts.specs.stands_for.Layout.{ProgramPlaces, StateView}
+use Rattle.layout_facts.specs.stands_for.StandsFor.{StartedAt}
+use Rattle.layout_facts.specs.lower.Spots.{Room}
+use Rattle.layout_facts.specs.compiled_model.Places.{program_places}
+use Rattle.layout_facts.specs.compiled_model.View.{state_view}
+use Rattle.layout_facts.specs.memory_map.declared.words.RuntimeWord.TheVariants.{Version}
+use Rattle.layout_facts.specs.memory_map.MemoryMap.{MemoryMap, word_place}
+use Rattle.layout_facts.specs.memory_map.Spots.{Places}
+use Rattle.task_attempts.proofs.Given.{IsGiven, IsTaskGiven}
+use Rattle.task_attempts.proofs.Tasks.{IsAt, task_at, places, body, room, task_given}
+
+-- a source with its layout, a state of it, the state's task with its layout, the world behind the start of an attempt, and the readings that are left
+pub record Started : Type 0 where
+  pub program : CheckedProgram
+  pub map : MemoryMap
+  pub given : IsGiven program map
+  pub state : State
+  pub is_task : state.task < length program.tasks
+  pub task : IsAt program map state.task
+  pub world : World
+  pub readings : List ℕ
+  pub start : StartedAt (program_places program map) (state_view program map) state (privates_in (task_entries map) state.task) world
+
+-- what an attempt's start leaves
+abbrev pub attempt_at : (p : CheckedProgram) (l : MemoryMap) (given : IsGiven p l) (s : State) (x : World) → List ℕ
+    → StartedAt (program_places p l) (state_view p l) s (privates_in (task_entries l) s.task) x → Started
+attempt_at p l given s x readings st =
+    let is_task = st.undecided.is_open.is_task in
+    record {
+      program = p;
+      map = l;
+      given = given;
+      state = s;
+      is_task = is_task;
+      task = task_at p l given.count s.task is_task;
+      world = x;
+      readings = readings;
+      start = st;
+    }
+
+-- the places that the task works on, its statements, its room, what is known of it; the places of the source, its states by addresses; the attempt's number
+pub record Scene (run : Started) : Type 0 where
+  pub here : Places
+  pub code : CheckedBlock
+  pub space : Room
+  pub facts : IsTaskGiven run.program run.map run.task.task run.task.layout
+  pub sites : ProgramPlaces
+  pub view : StateView State
+  pub ver : ℕ
+
+abbrev pub scene : (run : Started) → Scene run
+scene run = record {
+  here = places run.program run.map run.given run.state.task run.task;
+  code = body run.program run.map run.given run.state.task run.task;
+  space = room run.program run.map run.given run.state.task run.task;
+  facts = task_given run.program run.map run.given run.state.task run.task;
+  sites = program_places run.program run.map;
+  view = state_view run.program run.map;
+  ver = run.world.fram (word_place run.map Version);
+}
