@@ -313,14 +313,13 @@ fn arms<'a>(
     ensures variables { IfOk result (λ x. names.entry.variables.now ≡ parts.arms_variables (map tested_of x.0.items) x.1.variables.now) }
     ensures targets { IfOk result (λ x. names.entry.targets.now ≡ parts.arms_targets (map tested_of x.0.items) x.1.targets.now) }
 {
-    let mut found = Vec::new(alloc);
+    let mut found = Vec::with_capacity(alloc, tests.len())?;
     let mut rest = names;
     for test in tests {
         let (test, left) = arm(alloc, test, rest)?;
         found.push(test)?;
         rest = left;
     }
-    found.shrink_to_fit();
     Ok((found, rest))
 }
 
@@ -334,14 +333,13 @@ fn block<'a>(
     ensures variables { IfOk result (λ x. names.entry.variables.now ≡ spec.block_variables (block_view x.0.items) x.1.variables.now) }
     ensures targets { IfOk result (λ x. names.entry.targets.now ≡ spec.block_targets (block_view x.0.items) x.1.targets.now) }
 {
-    let mut found = Vec::new(alloc);
+    let mut found = Vec::with_capacity(alloc, body.len())?;
     let mut rest = names;
     for s in body {
         let (s, left) = statement(alloc, s, rest)?;
         found.push(s)?;
         rest = left;
     }
-    found.shrink_to_fit();
     Ok((found, rest))
 }
 
@@ -368,7 +366,7 @@ fn tasks<'a>(
     ensures variables { IfOk result (λ x. names.entry.variables.now ≡ spec.task_variables (map task_of x.0.items) x.1.variables.now) }
     ensures targets { IfOk result (λ x. names.entry.targets.now ≡ spec.task_targets (map task_of x.0.items) x.1.targets.now) }
 {
-    let mut found = Vec::new(alloc);
+    let mut found = Vec::with_capacity(alloc, all.len())?;
     let mut rest = names;
     for of in all {
         let (of, left) = task(alloc, of, rest)?;

@@ -2,7 +2,7 @@ use Rattle.std.proofs.Common.{◌∙◌, ap, sym, map}
 use Rattle.std.proofs.lemmas.Iterator.Adapters.{YieldsList-from_vec}
 use Rattle.std.proofs.lemmas.Iterator.Consumers.{YieldsList-end}
 use Rattle.task_ast.specs.Tree as node
-use Rattle.task_ast.specs.View.{statement_of, tested_of, block_view}
+use Rattle.task_ast.specs.View.{statement_of, tested_of}
 use Rattle.task_check.specs.LookedUp as spec
 use Rattle.task_check.specs.Parts as parts
 use Rattle.task_check.proofs.Parts.{read_on, block_back_list, block_variables_list, block_targets_list, push_variables, push_targets}
@@ -13,8 +13,7 @@ pub block-returns-clause-place : goal.block-returns-clause-place
 block-returns-clause-place t c =
     let seen = YieldsList-end (YieldsList-from_vec c.args.body.items (cc) (cc))
     c.loop-s.yielded _ c.loop-s.yielded_by _ c.next.new.self c.in-None.is c.next.ensures.steps in
-    ap (λ xs. spec.block_back (block_view xs)) c.shrink_to_fit.ensures.items ∙ block_back_list _
-    ∙ ap node.block_of (all_read statement_of _ c.loop-s.yielded c.args.body.items seen.0 c.loop-s.invariant.0)
+    block_back_list _ ∙ ap node.block_of (all_read statement_of _ c.loop-s.yielded c.args.body.items seen.0 c.loop-s.invariant.0)
 
 pub block-loop-s-preserved : goal.block-loop-s-preserved
 block-loop-s-preserved t c = (
@@ -36,15 +35,12 @@ pub arms-returns-clause-place : goal.arms-returns-clause-place
 arms-returns-clause-place t c =
     let seen = YieldsList-end (YieldsList-from_vec c.args.tests.items (cc) (cc))
     c.loop-test.yielded _ c.loop-test.yielded_by _ c.next.new.self c.in-None.is c.next.ensures.steps in
-    ap (λ xs. map parts.tested_back (map tested_of xs)) c.shrink_to_fit.ensures.items
-    ∙ all_read tested_of _ c.loop-test.yielded c.args.tests.items seen.0 c.loop-test.invariant.0
+    all_read tested_of _ c.loop-test.yielded c.args.tests.items seen.0 c.loop-test.invariant.0
 
 pub block-returns-clause-variables : goal.block-returns-clause-variables
 block-returns-clause-variables t c =
     c.loop-s.invariant.1 ∙ sym (block_variables_list (map statement_of c.loop-s.found.items) c.loop-s.rest.variables.now)
-    ∙ ap (λ xs. spec.block_variables (block_view xs) c.loop-s.rest.variables.now) (sym c.shrink_to_fit.ensures.items)
 
 pub block-returns-clause-targets : goal.block-returns-clause-targets
 block-returns-clause-targets t c =
     c.loop-s.invariant.2 ∙ sym (block_targets_list (map statement_of c.loop-s.found.items) c.loop-s.rest.targets.now)
-    ∙ ap (λ xs. spec.block_targets (block_view xs) c.loop-s.rest.targets.now) (sym c.shrink_to_fit.ensures.items)
