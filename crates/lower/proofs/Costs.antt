@@ -19,10 +19,8 @@ use Rattle.array_versions.specs.Cost.{test_cycles, cycles_of, spent_on, top_spen
 use Rattle.array_versions.specs.Cost.{spent}
 use Rattle.array_versions.proofs.Interface.{joined_go_on, joined_cycles, joined_spend, ways_keep_to_cycles}
 use Rattle.memory_map.specs.Spots.{Places}
-use Rattle.lower.specs.Lowered.{emission, scalar_assignment}
-use Rattle.lower.specs.Lowered.{one}
-use Rattle.lower.specs.Lowered.{assignment, element_assignment, entries, lowered_transition, loop_local, lowered_test, lowered_statement}
-use Rattle.lower.specs.Lowered.{lowered_choice, lowered_block}
+use Rattle.lower.specs.Lowered.{emission, scalar_assignment, one, assignment, element_assignment, entries, lowered_transition, loop_local, lowered_test}
+use Rattle.lower.specs.Lowered.{lowered_statement, lowered_choice, lowered_block}
 use Rattle.lower.specs.Sizes.{entry_cycles, BlocksKeepToCycles}
 use Rattle.lower.proofs.Sizes.{assignment_keeps, scalar_keeps, element_keeps, emission_keeps, test_cycles_kept}
 

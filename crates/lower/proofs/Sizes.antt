@@ -290,14 +290,6 @@ operator_and_sides s op of x y = record {
   cycles = operator_price cycles_column op of + x.cycles + y.cycles;
 }
 
-word_sides_have : (s : ℕ) (is joined_as u v of : WordType) (op : BinaryOperator) (l r : Lowering) (x y : Price) → HasPrice u l x → HasPrice v r y
-    → HasPrice of (binary_lowering (binary_meaning op is) (joined (word_program l) (word_program r))) (operator_and_sides s op joined_as x y)
-word_sides_have s is joined_as u v of op l r x y h k =
-    let sides = added (word_program l) (word_program r) in
-    let most = row s op is joined_as in
-    has_more of _ (beside 16 (operation_cycles (binary_meaning op is) + 32) (together x y)) _ (omega (arith, most)) (omega (arith, most))
-    (binary_has of (binary_meaning op is) _ (together x y) (omega (arith, sides, h.word, k.word)) (omega (arith, sides, h.word, k.word)))
-
 -- two operands of these types, which become long by others
 record BothHave (first second u v : WordType) (l r : Lowering) (x y : Price) : Type 0 where
   left : HasPrice u l x
@@ -305,18 +297,27 @@ record BothHave (first second u v : WordType) (l r : Lowering) (x y : Price) : T
   left_wider : wider u ≡ wider first
   right_wider : wider v ≡ wider second
 
-sides_have : (s : ℕ) (is first second u v : WordType) (op : BinaryOperator) (l r : Lowering) (x y : Price) → operand_type op (joined_type first second) ≡ is
-    → BothHave first second u v l r x y
-    → HasPrice (binary_type op first second) (sides_lowering is op u v l r) (operator_and_sides s op (joined_type first second) x y)
-sides_have s Int first second u v op l r x y e h = word_sides_have s Int (joined_type first second) u v _ op l r x y h.left h.right
-sides_have s Unsigned first second u v op l r x y e h = word_sides_have s Unsigned (joined_type first second) u v _ op l r x y h.left h.right
-sides_have s Long first second u v op l r x y e h =
-    let takes = takes_longs s op (joined_type first second) e in
-    let sides = added (long_program u l) (long_program v r) in
-    let few = wider_together first second takes.is_long in
-    has_more (binary_type op first second) _ (beside 32 80 (together x y)) _ (omega (arith, takes.words)) (omega (arith, takes.cycles))
-    (long_binary_has (binary_type op first second) (long_meaning op) _ (together x y)
-    (omega (arith, sides, few, h.left.long, h.right.long, h.left_wider, h.right_wider)) (omega (arith, sides, h.left.long, h.right.long)))
+module _ (s : ℕ) where
+  word_sides_have : (is joined_as of : WordType) (op : BinaryOperator) (l r : Lowering) (x y : Price) → Costs (word_program l) x → Costs (word_program r) y
+      → HasPrice of (binary_lowering (binary_meaning op is) (joined (word_program l) (word_program r))) (operator_and_sides s op joined_as x y)
+  word_sides_have is joined_as of op l r x y h k =
+      let sides = added (word_program l) (word_program r) in
+      let most = row s op is joined_as in
+      has_more of _ (beside 16 (operation_cycles (binary_meaning op is) + 32) (together x y)) _ (omega (arith, most)) (omega (arith, most))
+      (binary_has of (binary_meaning op is) _ (together x y) (omega (arith, sides, h, k)) (omega (arith, sides, h, k)))
+
+  sides_have : (is first second u v : WordType) (op : BinaryOperator) (l r : Lowering) (x y : Price) → operand_type op (joined_type first second) ≡ is
+      → BothHave first second u v l r x y
+      → HasPrice (binary_type op first second) (sides_lowering is op u v l r) (operator_and_sides s op (joined_type first second) x y)
+  sides_have Int first second u v op l r x y e h = word_sides_have Int (joined_type first second) _ op l r x y h.left.word h.right.word
+  sides_have Unsigned first second u v op l r x y e h = word_sides_have Unsigned (joined_type first second) _ op l r x y h.left.word h.right.word
+  sides_have Long first second u v op l r x y e h =
+      let takes = takes_longs s op (joined_type first second) e in
+      let sides = added (long_program u l) (long_program v r) in
+      let few = wider_together first second takes.is_long in
+      has_more (binary_type op first second) _ (beside 32 80 (together x y)) _ (omega (arith, takes.words)) (omega (arith, takes.cycles))
+      (long_binary_has (binary_type op first second) (long_meaning op) _ (together x y)
+      (omega (arith, sides, few, h.left.long, h.right.long, h.left_wider, h.right_wider)) (omega (arith, sides, h.left.long, h.right.long)))
 
 word_shift_has : (of : WordType) (op : ShiftOperator) (l : Lowering) (x : Price) (k : ℕ) → HasPrice of l x
     → HasPrice of (as_word (joined (word_program l) (one (shift (shift_operation op of) k)))) (beside 16 100 x)
