@@ -1,37 +1,28 @@
 -- What tasks spend along the way that they take, against the allowance of a source: the entries of the private scalars are paid for once, at
 -- the transition.
-use Rattle.std.proofs.Common.{◌≡◌, ℕ, zero, suc, ◌+◌, ◌-◌, ◌*◌, ◌%◌, ◌==◌, ◌≤◌, max, Bool, true, false, if◌then◌else◌, List, [], ◌∷◌, length, Some, Option}
+use Rattle.std.proofs.Common.{◌≡◌, ℕ, zero, suc, ◌+◌, ◌-◌, ◌*◌, ◌%◌, ◌==◌, ◌≤◌, max, Bool, true, false, if◌then◌else◌, List, [], ◌∷◌, length, Some}
 use Rattle.std.proofs.Common.{None, refl, sym, subst, arith}
 use Rattle.task_ast.specs.Tree as t
-use Rattle.task_ast.specs.Paths.{CheckedExpression, CheckedStatement, CheckedChoice, CheckedBlock}
-use Rattle.task_ast.specs.declared.PlacedOperator.{PlacedOperator}
-use Rattle.task_ast.specs.declared.names.Variable.{Variable}
-use Rattle.task_ast.specs.declared.names.Variable.TheVariants.{Shared, Local}
-use Rattle.task_ast.specs.declared.WordType.{WordType}
-use Rattle.task_ast.specs.declared.WordType.TheVariants.{Unsigned, Int, Long}
-use Rattle.task_ast.specs.Types.{by_width, joined_type, type_of}
-use Rattle.cost_bound.specs.Table.{cycles_column, expression_price, statement_price, conditions_price, blocks_price, block_price}
+use Rattle.task_ast.specs.Paths.{CheckedStatement, CheckedChoice, CheckedBlock}
+use Rattle.cost_bound.specs.Table.{cycles_column, statement_price, conditions_price, blocks_price, block_price}
 use Rattle.memory_map.specs.MemoryMap.{word_place}
-use Rattle.memory_map.specs.declared.words.RuntimeWord.TheVariants.{NextTask, Gate, ListLength, EmitCount, Base, SentBase}
+use Rattle.memory_map.specs.declared.words.RuntimeWord.TheVariants.{NextTask, Gate, ListLength, Base, SentBase}
 use Rattle.lower.specs.declared.runs.Run.{Run}
 use Rattle.lower.specs.Runs.{runs_of}
 use Rattle.lower.proofs.Neighbours.{runs_are_few}
-use Rattle.array_versions.specs.declared.operations.PlainOperation.{PlainOperation}
 use Rattle.array_versions.specs.Operations.{is_true, compare_words}
 use Rattle.array_versions.specs.Program as word
-use Rattle.array_versions.specs.Program.{Step, Test, Program, choose, repeat, emit_word, store_number, move_word, jump, nothing, step, joined}
+use Rattle.array_versions.specs.Program.{Step, Test, Program, choose, repeat, store_number, move_word, jump, nothing, step, joined}
 use Rattle.array_versions.specs.Behaviour.{WordState, End, GoesOn, Jumps, Short, Strays, Broken, Behaviour, behaves, broken, on_end, then_on, is_place, goes_on}
 use Rattle.array_versions.specs.Behaviour.{strays, with_stack, with_top, way_by_top, way_by_two, with_local, turns, step_behaviour, tested, behaviour}
-use Rattle.array_versions.specs.Cost.{step_cycles, test_cycles, cycles_of, spent_on, top_spent, spent_by_top, spent_by_two, turns_spent, step_spent, test_spent}
+use Rattle.array_versions.specs.Cost.{test_cycles, cycles_of, spent_on, top_spent, spent_by_top, spent_by_two, turns_spent, step_spent, test_spent}
 use Rattle.array_versions.specs.Cost.{spent}
 use Rattle.array_versions.proofs.Interface.{joined_go_on, joined_cycles, joined_spend, ways_keep_to_cycles}
 use Rattle.memory_map.specs.Spots.{Places}
-use Rattle.lower.specs.Lowered.{write_long, update_step, setting, long_setting, updating, of_words, sides_set, scalar_assignment, lowered_long}
-use Rattle.lower.specs.Lowered.{update_element_step, index_and_value, element_setting, element_updating, element_sides_set, one, write_step, store_step}
-use Rattle.lower.specs.Lowered.{assignment, element_assignment, entries, lowered_transition, loop_local, lowered_expression, lowered_test, lowered_statement}
-use Rattle.lower.specs.Lowered.{lowered_choice, lowered_block}
+use Rattle.lower.specs.Lowered.{emission, scalar_assignment, one, assignment, element_assignment, entries, lowered_transition, loop_local, lowered_test}
+use Rattle.lower.specs.Lowered.{lowered_statement, lowered_choice, lowered_block}
 use Rattle.lower.specs.Sizes.{entry_cycles, BlocksKeepToCycles}
-use Rattle.lower.proofs.Sizes.{expression_cycles, long_cycles_kept, test_cycles_kept}
+use Rattle.lower.proofs.Sizes.{assignment_keeps, scalar_keeps, element_keeps, emission_keeps, test_cycles_kept}
 
 -- an end within an allowance and, where it leaves, the entries
 abbrev Within : Places → ℕ → End → ℕ → Type 0
@@ -205,88 +196,21 @@ test_spends p (word.fails c) ra rb ca cb a b f g s = let k = test_spends p c rb 
 
 -- ---- statements
 
-setting_cycles : (p : Places) (x : Variable) (e : CheckedExpression) → cycles_of (setting p x e) ≤ 40 + expression_price cycles_column e
-setting_cycles p x e =
-    let l = joined_cycles (lowered_expression p e) (one (write_step p x)) in
-    omega (arith, l, write_cycles x, expression_cycles p e)
-  where
-    write_cycles : (x : Variable) → step_cycles (write_step p x) ≤ 5
-    write_cycles (Shared v) = omega arith
-    write_cycles (Local n) = omega arith
-
-sides_set_cycles : (p : Places) (x : Variable) (op : PlacedOperator) (a b : CheckedExpression) (o : Option PlainOperation)
-    → cycles_of (sides_set p x op a b o) ≤ 40 + expression_price cycles_column (t.binary op a b)
-sides_set_cycles p x op a b None = setting_cycles p x (t.binary op a b)
-sides_set_cycles p x op a b (Some o) =
-    let l = joined_cycles (lowered_expression p b) (one (update_step p o x)) in
-    omega (arith, l, update_cycles x, expression_cycles p b)
-  where
-    update_cycles : (x : Variable) → step_cycles (update_step p o x) ≤ 10
-    update_cycles (Shared v) = omega arith
-    update_cycles (Local n) = omega arith
-
--- the first clause makes it a proof by cases
-assignment_cycles : (p : Places) (x : Variable) (e : CheckedExpression) → cycles_of (assignment p x e) ≤ 40 + expression_price cycles_column e
-assignment_cycles p x (t.binary op a b) =
-    sides_set_cycles p x op a b (of_words (joined_type (type_of a) (type_of b)) (updating x op.operator a))
-assignment_cycles p x e = setting_cycles p x e
-
-long_setting_cycles : (p : Places) (x : Variable) (e : CheckedExpression) → cycles_of (long_setting p x e) ≤ 80 + expression_price cycles_column e
-long_setting_cycles p x e =
-    let l = joined_cycles (lowered_long p e) (write_long p x) in
-    omega (arith, l, write_cycles x, long_cycles_kept p e)
-  where
-    write_cycles : (x : Variable) → cycles_of (write_long p x) ≤ 10
-    write_cycles (Shared v) = omega arith
-    write_cycles (Local n) = omega arith
-
-scalar_cycles : (p : Places) (of : WordType) (x : Variable) (e : CheckedExpression)
-    → cycles_of (scalar_assignment p of x e) ≤ by_width of 40 80 + expression_price cycles_column e
-scalar_cycles p Long x e = long_setting_cycles p x e
-scalar_cycles p Int x e = assignment_cycles p x e
-scalar_cycles p Unsigned x e = assignment_cycles p x e
-
--- the cycles of an assignment to an element are within its row and those of its parts
-abbrev ElementCycles : CheckedExpression → CheckedExpression → Program → Type 0
-ElementCycles index e q = cycles_of q ≤ 120 + expression_price cycles_column index + expression_price cycles_column e
-
-element_setting_cycles : (p : Places) (x : Variable) (index e : CheckedExpression) → ElementCycles index e (element_setting p x index e)
-element_setting_cycles p x index e =
-    let l = joined_cycles (lowered_expression p index) (lowered_expression p e) in
-    let m = joined_cycles (index_and_value p index e) (one (store_step p x)) in
-    omega (arith, l, m, expression_cycles p index, expression_cycles p e)
-
-element_sides_cycles : (p : Places) (x : Variable) (index : CheckedExpression) (op : PlacedOperator) (a b : CheckedExpression) (o : Option PlainOperation)
-    → ElementCycles index (t.binary op a b) (element_sides_set p x index op a b o)
-element_sides_cycles p x index op a b None = element_setting_cycles p x index (t.binary op a b)
-element_sides_cycles p x index op a b (Some o) =
-    let l = joined_cycles (lowered_expression p index) (lowered_expression p b) in
-    let m = joined_cycles (index_and_value p index b) (one (update_element_step p o x)) in
-    omega (arith, l, m, expression_cycles p index, expression_cycles p b)
-
--- the first clause makes it a proof by cases
-element_cycles : (p : Places) (x : Variable) (index e : CheckedExpression) → ElementCycles index e (element_assignment p x index e)
-element_cycles p x index (t.binary op a b) =
-    element_sides_cycles p x index op a b (of_words (joined_type (type_of a) (type_of b)) (element_updating x index op.operator a))
-element_cycles p x index e = element_setting_cycles p x index e
-
 mutual
   statement_spends : (p : Places) (x : CheckedStatement) (w : WordState)
       → Within p (statement_price cycles_column x) (behaviour (lowered_statement p x) w).end (spent (lowered_statement p x) w)
   statement_spends p (t.declare of x None) w = omega arith
-  statement_spends p (t.declare of x (Some e)) w = plain p (assignment p x.variable e) _ w (assignment_cycles p x.variable e)
+  statement_spends p (t.declare of x (Some e)) w = plain p (assignment p x.variable e) _ w (assignment_keeps p 0 x.variable e).1
   statement_spends p (t.assign x e) w =
-      plain p (scalar_assignment p x.word_type x.variable e) _ w (scalar_cycles p x.word_type x.variable e)
-  statement_spends p (t.store x index e) w = plain p (element_assignment p x.variable index e) _ w (element_cycles p x.variable index e)
+      plain p (scalar_assignment p x.word_type x.variable e) _ w (scalar_keeps p 0 x.word_type x.variable e).1
+  statement_spends p (t.store x index e) w = plain p (element_assignment p x.variable index e) _ w (element_keeps p 0 x.variable index e).1
   statement_spends p (t.choose choice) w = let a = choice_spends p choice w in omega (arith, a)
   statement_spends p (t.loop x from tested below stepped body) w =
       let n = loop_local x.variable in
       let turn = lowered_block p body in
       let a = turns_spend p (block_price cycles_column body) (below - from) n from (behaviour turn) (spent turn) w (λ v. block_spends p body v) in
       alone p (repeat n from below turn) _ w (omega (arith, a))
-  statement_spends p (t.emit e) w =
-      let l = joined_cycles (lowered_expression p e) (one (emit_word (word_place p.map EmitCount) p.map.emits.address)) in
-      plain p (lowered_statement p (t.emit e)) _ w (omega (arith, l, expression_cycles p e))
+  statement_spends p (t.emit e) w = plain p (emission p e) _ w (emission_keeps p 0 e).1
   statement_spends p (t.transition task) w = transition_spends p task.task w
 
   -- with a branch past what isn't taken
