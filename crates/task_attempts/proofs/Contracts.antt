@@ -14,8 +14,7 @@ use Rattle.layout_facts.proofs.source_values.Interface.{readings_left_over_lem}
 use Rattle.layout_facts.specs.array_versions.Program.{Program}
 use Rattle.layout_facts.specs.array_versions.Behaviour.{WordState, End, GoesOn, Jumps, Short as Starves, Strays, Broken, behaviour, started}
 use Rattle.layout_facts.specs.array_versions.Laws.{EndsByEffects, IsSound}
-use Rattle.layout_facts.proofs.array_versions.Interface.{behaves_by_effects, whole_ends_soundly}
-use Rattle.task_attempts.proofs.StoredWords.{StoresWords, stores as stores_words}
+use Rattle.layout_facts.proofs.array_versions.Interface.{behaves_by_effects, whole_ends_soundly, StoresWords, stores_words}
 use Rattle.layout_facts.specs.crash_rules.Model.{Ends, program_effects, IsWord, IsElsewhere, Model, AttemptContract, Decides, RunsShort}
 use Rattle.layout_facts.specs.lower.Agreement.{TakesAndStores, EndsAs, BlocksAgree}
 use Rattle.layout_facts.specs.lower.Lowered.{lowered_block}
