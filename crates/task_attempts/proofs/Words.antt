@@ -95,7 +95,6 @@ module _ (l : MemoryMap) (body : CheckedBlock) (t : TaskPlace) (privates : ArePr
       by : (b : Bool) → is_private_in body v ≡ b → IsTaskWord v i a
       by true is = private (record { number = v; home = home; copy = copy; width = width }) (privates.each v home copy width e is) h at
       by false left = left_there (scalar_there v home copy width i e h) (ap (λ z. 2 * i + z) (privates.left v home copy width e left) ∙ sym at)
-
   word_by v i a (Array elements length copies) e h at =
       let x = element_there v i elements length copies e h in
       element (record { array = v; index = i }) x.0 refl refl (at ∙ sym x.1)
