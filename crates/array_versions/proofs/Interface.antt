@@ -7,7 +7,7 @@ pub use Rattle.array_versions.proofs.Joined.{decided_by_truth}
 -- A whole program is never broken: along each way the stack is as deep as is said, and the locals that are said to be assigned are.
 pub use Rattle.array_versions.proofs.Ways.{Matches, GoesWell, matches_local, step_well, well, start_matches, whole_ends_soundly}
 -- Words, and operations on them.
-pub use Rattle.array_versions.proofs.Words.{zero_unless, plain_small, put_words, stack_words, local_words, place_high}
+pub use Rattle.array_versions.proofs.Words.{zero_unless, plain_small, put_words, local_words}
 -- What each program does: it changes FRAM and the readings by its effects; from words it makes words, and stores words; a local that it spares keeps its
 -- word.
 pub use Rattle.array_versions.proofs.Facts.{behaves_by_effects, step_words, words, StoresWords, stores_words, Leaves, leaves}

@@ -8,14 +8,13 @@ use Rattle.layout_facts.specs.machine_effects.World.{readings_taken, EachStore}
 use Rattle.layout_facts.proofs.machine_effects.Interface.{readings_taken-append, each_store-append}
 use Rattle.layout_facts.specs.cost_bound.Counts.{emits_of, stores_of}
 use Rattle.layout_facts.specs.lower.Seen.{some_path_writes}
-use Rattle.layout_facts.specs.source_values.Statements.{Attempt, Outcome, goes_on, to_task, short, run_block, block_emits}
+use Rattle.layout_facts.specs.source_values.Statements.{Attempt, Outcome, to_task, short, run_block, block_emits}
 use Rattle.layout_facts.specs.source_values.Runs.{State, Completion, completion_of, attempt_of, fresh_attempt, EndsWell, TransitionComes}
 use Rattle.layout_facts.proofs.source_values.Interface.{readings_left_over_lem}
 use Rattle.layout_facts.specs.array_versions.Program.{Program}
-use Rattle.layout_facts.specs.array_versions.Behaviour.{WordState, End, GoesOn, Jumps, Short as Starves, Strays, Broken, behaviour, started}
+use Rattle.layout_facts.specs.array_versions.Behaviour.{WordState, End, GoesOn, Jumps, Short as Starves, Broken, behaviour, started}
 use Rattle.layout_facts.specs.array_versions.Laws.{EndsByEffects, IsSound}
-use Rattle.layout_facts.proofs.array_versions.Interface.{behaves_by_effects, whole_ends_soundly}
-use Rattle.task_attempts.proofs.StoredWords.{StoresWords, stores as stores_words}
+use Rattle.layout_facts.proofs.array_versions.Interface.{behaves_by_effects, whole_ends_soundly, StoresWords, stores_words}
 use Rattle.layout_facts.specs.crash_rules.Model.{Ends, program_effects, IsWord, IsElsewhere, Model, AttemptContract, Decides, RunsShort}
 use Rattle.layout_facts.specs.lower.Agreement.{TakesAndStores, EndsAs, BlocksAgree}
 use Rattle.layout_facts.specs.lower.Lowered.{lowered_block}
@@ -140,34 +139,24 @@ module _ (run : Started) where
   keeps : (es : List Effect) (e : End) (o : Outcome) → Meets es e o → AttemptContract model s readings x (outcome_of s (completion_of o))
       (program_effects es (has_jumped e))
   keeps es (GoesOn t) o h = absurd h.sound
-  keeps es (Jumps to t) (goes_on m) h = absurd h.agrees
-  keeps es (Jumps to t) (to_task task m) h = decides es to t task m h
-  keeps es (Jumps to t) short h = absurd h.agrees
-  keeps es Starves (goes_on m) h = absurd h.agrees
-  keeps es Starves (to_task task m) h = absurd h.agrees
-  keeps es Starves short h = runs_short es h
-  keeps es Strays o h = absurd h.agrees
   keeps es Broken o h = absurd h.sound
+  keeps es (Jumps to t) (to_task task m) h = decides es to t task m h
+  keeps es Starves short h = runs_short es h
+  keeps es _ _ h = absurd h.agrees
 
   stores_before_code : (es : List Effect) (e : End) (o : Outcome) → Meets es e o → EachStore (IsBelowCode l) es
   stores_before_code es (GoesOn t) o h = absurd h.sound
-  stores_before_code es (Jumps to t) (goes_on m) h = absurd h.agrees
-  stores_before_code es (Jumps to t) (to_task task m) h = stores_low es to t task m h
-  stores_before_code es (Jumps to t) short h = absurd h.agrees
-  stores_before_code es Starves (goes_on m) h = absurd h.agrees
-  stores_before_code es Starves (to_task task m) h = absurd h.agrees
-  stores_before_code es Starves short h = below_code es (safe_short es h)
-  stores_before_code es Strays o h = absurd h.agrees
   stores_before_code es Broken o h = absurd h.sound
+  stores_before_code es (Jumps to t) (to_task task m) h = stores_low es to t task m h
+  stores_before_code es Starves short h = below_code es (safe_short es h)
+  stores_before_code es _ _ h = absurd h.agrees
 
   leaves : (es : List Effect) (e : End) (o : Outcome) → Meets es e o → LeavesFor l.commit.address e
   leaves es (GoesOn t) o h = absurd h.sound
-  leaves es (Jumps to t) (goes_on m) h = absurd h.agrees
-  leaves es (Jumps to t) (to_task task m) h = h.agrees.commits
-  leaves es (Jumps to t) short h = absurd h.agrees
-  leaves es Starves o h = tt
-  leaves es Strays o h = absurd h.agrees
   leaves es Broken o h = absurd h.sound
+  leaves es (Jumps to t) (to_task task m) h = h.agrees.commits
+  leaves es Starves o h = tt
+  leaves es _ _ h = absurd h.agrees
 
   -- ---- the program
 

@@ -35,7 +35,7 @@ use Rattle.layout_facts.proofs.memory_map.Interface.{scalar_home, privates_few}
 use Rattle.layout_facts.proofs.Interface.{contains_at, scalar_found, found_word, among_either, among_front, among_back, word_pair, among_scalars}
 use Rattle.layout_facts.proofs.Interface.{scalars_among}
 use Rattle.task_attempts.proofs.Rows.{rows_are, rows_count, declared_length}
-use Rattle.task_attempts.proofs.StoredWords.{StoresWords}
+use Rattle.layout_facts.proofs.array_versions.Interface.{StoresWords}
 use Rattle.task_attempts.proofs.Quiet.{IsQuiet, IsQuietAt, quiet_behind, stores_as, stays_within}
 use Rattle.task_attempts.proofs.Entries.{IsTransitionStore, transition_stores, closing, closed, closed_sent, closed_next, closed_count, closed_pairs}
 use Rattle.task_attempts.proofs.Entries.{closed_entries, IsLeft, closed_left}

@@ -1,7 +1,6 @@
 mod Held
 mod Given
 mod Rows
-mod StoredWords
 mod Quiet
 mod Entries
 mod Listed

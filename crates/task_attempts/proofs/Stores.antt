@@ -4,10 +4,10 @@ use Rattle.std.proofs.lemmas.Bool.{cases_Bool, and_from}
 use Rattle.std.specs.Prelude.{true, slice_get}
 use Rattle.layout_facts.specs.cost_bound.Counts.{emits_of}
 use Rattle.layout_facts.specs.cost_bound.Allowance.{list_of}
-use Rattle.layout_facts.specs.source_values.Runs.{CheckedProgram, task_body}
+use Rattle.layout_facts.specs.source_values.Runs.{task_body}
 use Rattle.layout_facts.specs.memory_map.declared.words.RuntimeWord.TheVariants.{CurrentTask, Gate, ListLength, EmitCount, Base, Version}
 use Rattle.layout_facts.specs.memory_map.declared.place.VariablePlace.TheVariants.{Scalar}
-use Rattle.layout_facts.specs.memory_map.MemoryMap.{MemoryMap, word_place}
+use Rattle.layout_facts.specs.memory_map.MemoryMap.{word_place}
 use Rattle.layout_facts.specs.stands_for.Layout.{IsSharedWord, IsCopyWord}
 use Rattle.layout_facts.proofs.memory_map.Interface.{scalar_home, IsPlaceOfScalar, scalar_place, words_scalar}
 use Rattle.layout_facts.specs.lower.Seen.{some_path_writes, map_seen}
@@ -16,27 +16,30 @@ use Rattle.layout_facts.specs.memory_map.Spots.{scalar_address, words_at, IsScal
 use Rattle.layout_facts.specs.memory_map.declared.place.PrivateScalar.{PrivateScalar}
 use Rattle.layout_facts.specs.memory_map.Places.{end_of, scalar_words}
 use Rattle.layout_facts.specs.lower.Agreement.{IsTaskStore, at_variable, at_copy, at_version, in_list, at_list_length, at_emit_count, in_buffer}
-use Rattle.layout_facts.specs.compiled_model.Places.{is_private_in, stays_in_place, program_places}
-use Rattle.task_attempts.proofs.Given.{IsGiven, IsVersionWord}
+use Rattle.layout_facts.specs.compiled_model.Places.{is_private_in, stays_in_place}
+use Rattle.task_attempts.proofs.Given.{IsVersionWord}
 use Rattle.task_attempts.proofs.Quiet.{IsQuiet}
 use Rattle.task_attempts.proofs.Entries as transition
 use Rattle.task_attempts.proofs.Entries.{IsTransitionStore, at_next_task, at_sent_base, in_entries}
 use Rattle.task_attempts.proofs.Tasks.{body_is, private_copy}
 use Rattle.task_attempts.proofs.Started.{Started, scene}
 
-module _ (p : CheckedProgram) (l : MemoryMap) (given : IsGiven p l) (k ver most : ℕ) where
+module _ (run : Started) where
+  open run use {program as p, map as l, given, state as s, is_task, task as i}
+  open (scene run) use {here, code, space, facts, sites, ver}
+
   -- a store that an undecided world bears, of no more than so many emitted words, to data
-  pub record IsSafe (a w : ℕ) : Type 0 where
-    pub quiet : IsQuiet (program_places p l) k ver a w
+  pub record Safe (a w : ℕ) : Type 0 where
+    pub quiet : IsQuiet sites s.task ver a w
     pub list_length : a ≡ word_place l ListLength → w ≤ l.entries
-    pub emit_count : a ≡ word_place l EmitCount → w ≤ most
+    pub emit_count : a ≡ word_place l EmitCount → w ≤ emits_of code
     pub from : 0x4400 ≤ a
     pub below : a < end_of l.copies
 
   -- behind CUR and before the version words
   safe_low : (a w : ℕ) → w < 0x10000 → word_place l CurrentTask < a → a < l.versions.address → (a ≡ word_place l Gate → ⊥) → (a ≡ word_place l Base → ⊥) →
       (a ≡ word_place l Version → ⊥)
-      → (a ≡ word_place l ListLength → w ≤ l.entries) → (a ≡ word_place l EmitCount → w ≤ most) → IsSafe a w
+      → (a ≡ word_place l ListLength → w ≤ l.entries) → (a ≡ word_place l EmitCount → w ≤ emits_of code) → Safe a w
   safe_low a w small lo hi gate base ver list few =
       let apart = given.apart in
       record {
@@ -55,7 +58,7 @@ module _ (p : CheckedProgram) (l : MemoryMap) (given : IsGiven p l) (k ver most 
         below = omega (arith, apart, hi);
       }
 
-  safe_copy : (a w : ℕ) → w < 0x10000 → IsCopyWord (program_places p l) a → IsSafe a w
+  safe_copy : (a w : ℕ) → w < 0x10000 → IsCopyWord sites a → Safe a w
   safe_copy a w small c =
       let apart = given.apart in
       record {
@@ -74,7 +77,7 @@ module _ (p : CheckedProgram) (l : MemoryMap) (given : IsGiven p l) (k ver most 
         below = omega (arith, c);
       }
 
-  safe_version : (a w : ℕ) → w < 0x10000 → w ≡ ver → IsVersionWord l a → IsSafe a w
+  safe_version : (a w : ℕ) → w < 0x10000 → w ≡ ver → IsVersionWord l a → Safe a w
   safe_version a w small is c =
       let apart = given.apart in
       record {
@@ -94,7 +97,7 @@ module _ (p : CheckedProgram) (l : MemoryMap) (given : IsGiven p l) (k ver most 
       }
 
   -- a word of a scalar that the task writes in place
-  safe_home : (a w : ℕ) → w < 0x10000 → IsSharedWord (program_places p l) a → (program_places p l).written_in_place k a ≡ true → IsSafe a w
+  safe_home : (a w : ℕ) → w < 0x10000 → IsSharedWord sites a → sites.written_in_place s.task a ≡ true → Safe a w
   safe_home a w small c is =
       let apart = given.apart in
       record {
@@ -113,21 +116,11 @@ module _ (p : CheckedProgram) (l : MemoryMap) (given : IsGiven p l) (k ver most 
         below = omega (arith, apart, c);
       }
 
-module _ (run : Started) where
-  open run use {program as p, map as l, given, state as s, is_task, task as i}
-  open (scene run) use {here, code, space, facts, sites, ver}
-
-  abbrev k : ℕ
-  k = s.task
-
   list_fits : list_of p.shared code ≤ l.entries
-  list_fits = subst (λ b. list_of p.shared b ≤ l.entries) (body_is p l given k i) (given.room.list k is_task)
+  list_fits = subst (λ b. list_of p.shared b ≤ l.entries) (body_is p l given s.task i) (given.room.list s.task is_task)
 
   pub emits_fit : emits_of code ≤ l.emits.words
-  emits_fit = subst (λ b. emits_of b ≤ l.emits.words) (body_is p l given k i) (given.room.emits k is_task)
-
-  abbrev pub Safe : ℕ → ℕ → Type 0
-  Safe = IsSafe p l given k ver (emits_of code)
+  emits_fit = subst (λ b. emits_of b ≤ l.emits.words) (body_is p l given s.task i) (given.room.emits s.task is_task)
 
   abbrev pub StoresOf : ℕ → ℕ → Type 0
   StoresOf = IsTaskStore here (some_path_writes code) space ver
@@ -149,69 +142,69 @@ module _ (run : Started) where
       copied is =
           let r = facts.privates in
           let entry : PrivateScalar = record { number = v; home = its.home; copy = its.copy; width = its.width } in
-          safe_copy p l given k ver (emits_of code) (scalar_address here v n) w small
+          safe_copy (scalar_address here v n) w small
           (subst (IsCopyWord sites) (sym (ap (λ z. 2 * n + z) (r.private v its.home its.copy its.width at is)))
-          (private_copy p l given k i entry n (r.each v its.home its.copy its.width at is) below))
+          (private_copy p l given s.task i entry n (r.each v its.home its.copy its.width at is) below))
 
       in_place : is_private_in code v ≡ false → Safe (scalar_address here v n) w
       in_place not_private =
           let stays : stays_in_place code v ≡ true = and_from (some_path_writes code v) (not (is_private_in code v)) e (ap not not_private) in
           let number : v ≡ 0 + v = omega arith in
-          let is : sites.written_in_place k (2 * n + its.home) ≡ true =
-          scalar_is (stays_in_place (task_body p k)) 0 l.variables v its.home its.copy its.width n at below
-          (sym (ap (stays_in_place (task_body p k)) number) ∙ ap (λ b. stays_in_place b v) (body_is p l given k i) ∙ stays) in
+          let is : sites.written_in_place s.task (2 * n + its.home) ≡ true =
+          scalar_is (stays_in_place (task_body p s.task)) 0 l.variables v its.home its.copy its.width n at below
+          (sym (ap (stays_in_place (task_body p s.task)) number) ∙ ap (λ b. stays_in_place b v) (body_is p l given s.task i) ∙ stays) in
           let word = scalar_home l v its.home its.copy its.width n at below in
           subst (λ z. Safe z w) (sym (ap (λ z. 2 * n + z) (facts.privates.left v its.home its.copy its.width at not_private)))
-          (safe_home p l given k ver (emits_of code) (2 * n + its.home) w small (given.words.is_shared v n (2 * n + its.home) word) is)
+          (safe_home (2 * n + its.home) w small (given.words.is_shared v n (2 * n + its.home) word) is)
 
   pub task_safe : (a w : ℕ) → StoresOf a w → w < 0x10000 → Safe a w
   task_safe a w (at_variable v n h e is) small = subst (λ z. Safe z w) (sym is) (written_safe v n w h e small)
-  task_safe a w (at_copy x h is) small = subst (λ z. Safe z w) (sym is) (safe_copy p l given k ver _ _ w small (facts.copies x h))
-  task_safe a w (at_version x h is e) small = subst (λ z. Safe z w) (sym is) (safe_version p l given k ver _ _ w small e (facts.versions x h))
+  task_safe a w (at_copy x h is) small = subst (λ z. Safe z w) (sym is) (safe_copy _ w small (facts.copies x h))
+  task_safe a w (at_version x h is e) small = subst (λ z. Safe z w) (sym is) (safe_version _ w small e (facts.versions x h))
   task_safe a w (in_list lo hi) small =
       let apart = given.apart in
       let fits = list_fits in
-      safe_low p l given k ver _ a w small (omega (arith, apart, lo)) (omega (arith, apart, hi, fits)) (λ q. omega (arith, apart, lo, q))
+      safe_low a w small (omega (arith, apart, lo)) (omega (arith, apart, hi, fits)) (λ q. omega (arith, apart, lo, q))
       (λ q. omega (arith, apart, lo, q))
       (λ q. omega (arith, apart, lo, q)) (λ q. absurd (omega (arith, apart, lo, q))) (λ q. absurd (omega (arith, apart, lo, q)))
   task_safe a w (at_list_length is h) small =
       let apart = given.apart in
       let fits = list_fits in
-      safe_low p l given k ver _ a w small (omega (arith, apart, is)) (omega (arith, apart, is)) (λ q. omega (arith, apart, is, q))
+      safe_low a w small (omega (arith, apart, is)) (omega (arith, apart, is)) (λ q. omega (arith, apart, is, q))
       (λ q. omega (arith, apart, is, q))
       (λ q. omega (arith, apart, is, q)) (λ q. omega (arith, h, fits)) (λ q. absurd (omega (arith, apart, is, q)))
   task_safe a w (at_emit_count is h) small =
       let apart = given.apart in
-      safe_low p l given k ver _ a w small (omega (arith, apart, is)) (omega (arith, apart, is)) (λ q. omega (arith, apart, is, q))
+      safe_low a w small (omega (arith, apart, is)) (omega (arith, apart, is)) (λ q. omega (arith, apart, is, q))
       (λ q. omega (arith, apart, is, q))
       (λ q. omega (arith, apart, is, q)) (λ q. absurd (omega (arith, apart, is, q))) (λ q. h)
   task_safe a w (in_buffer j h is) small =
       let apart = given.apart in
       let fits = emits_fit in
-      safe_low p l given k ver _ a w small (omega (arith, apart, is)) (omega (arith, apart, is, h, fits)) (λ q. omega (arith, apart, is, q))
+      safe_low a w small (omega (arith, apart, is)) (omega (arith, apart, is, h, fits)) (λ q. omega (arith, apart, is, q))
       (λ q. omega (arith, apart, is, q))
       (λ q. omega (arith, apart, is, q)) (λ q. absurd (omega (arith, apart, is, q))) (λ q. absurd (omega (arith, apart, is, q)))
 
   pub transition_safe : (a w : ℕ) → IsTransitionStore here space a w → w < 0x10000 → Safe a w
   transition_safe a w (at_next_task is) small =
       let apart = given.apart in
-      safe_low p l given k ver _ a w small (omega (arith, apart, is)) (omega (arith, apart, is)) (λ q. omega (arith, apart, is, q))
+      safe_low a w small (omega (arith, apart, is)) (omega (arith, apart, is)) (λ q. omega (arith, apart, is, q))
       (λ q. omega (arith, apart, is, q))
       (λ q. omega (arith, apart, is, q)) (λ q. absurd (omega (arith, apart, is, q))) (λ q. absurd (omega (arith, apart, is, q)))
   transition_safe a w (transition.at_list_length is h) small =
       let apart = given.apart in
       let fits = list_fits in
-      safe_low p l given k ver _ a w small (omega (arith, apart, is)) (omega (arith, apart, is)) (λ q. omega (arith, apart, is, q))
+      safe_low a w small (omega (arith, apart, is)) (omega (arith, apart, is)) (λ q. omega (arith, apart, is, q))
       (λ q. omega (arith, apart, is, q))
       (λ q. omega (arith, apart, is, q)) (λ q. omega (arith, h, fits)) (λ q. absurd (omega (arith, apart, is, q)))
   transition_safe a w (at_sent_base is) small =
       let apart = given.apart in
-      safe_low p l given k ver _ a w small (omega (arith, apart, is)) (omega (arith, apart, is)) (λ q. omega (arith, apart, is, q))
+      safe_low a w small (omega (arith, apart, is)) (omega (arith, apart, is)) (λ q. omega (arith, apart, is, q))
       (λ q. omega (arith, apart, is, q))
       (λ q. omega (arith, apart, is, q)) (λ q. absurd (omega (arith, apart, is, q))) (λ q. absurd (omega (arith, apart, is, q)))
   transition_safe a w (in_entries lo hi) small =
       let apart = given.apart in
       let fits = list_fits in
-      safe_low p l given k ver _ a w small (omega (arith, apart, lo)) (omega (arith, apart, hi, fits)) (λ q. omega (arith, apart, lo, q))
+      safe_low a w small (omega (arith, apart, lo)) (omega (arith, apart, hi, fits)) (λ q. omega (arith, apart, lo, q))
       (λ q. omega (arith, apart, lo, q))
       (λ q. omega (arith, apart, lo, q)) (λ q. absurd (omega (arith, apart, lo, q))) (λ q. absurd (omega (arith, apart, lo, q)))

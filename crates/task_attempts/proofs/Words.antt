@@ -88,17 +88,13 @@ module _ (l : MemoryMap) (body : CheckedBlock) (t : TaskPlace) (privates : ArePr
           let at = array_read (some_path_writes body) l.variables v elements n copies e w in
           (record { elements = elements; length = n; copies = None; is_array = record { place = at }; below = h }, ap (λ o. element_in o i) at)
 
-  scalar_word : (v i a home copy : ℕ) (width : ScalarWidth) (b : Bool) → slice_get l.variables v ≡ Some (Scalar home copy width)
-      → i < scalar_words width → a ≡ 2 * i + home → is_private_in body v ≡ b
-      → IsTaskWord v i a
-  scalar_word v i a home copy width true e h at is =
-      private (record { number = v; home = home; copy = copy; width = width }) (privates.each v home copy width e is) h at
-  scalar_word v i a home copy width false e h at left =
-      left_there (scalar_there v home copy width i e h) (ap (λ z. 2 * i + z) (privates.left v home copy width e left) ∙ sym at)
-
   word_by : (v i a : ℕ) (place : VariablePlace) → slice_get l.variables v ≡ Some place → i < (home_region place).words → a ≡ 2 * i +
       (home_region place).address → IsTaskWord v i a
-  word_by v i a (Scalar home copy width) e h at = scalar_word v i a home copy width (is_private_in body v) e h at refl
+  word_by v i a (Scalar home copy width) e h at = by (is_private_in body v) refl
+    where
+      by : (b : Bool) → is_private_in body v ≡ b → IsTaskWord v i a
+      by true is = private (record { number = v; home = home; copy = copy; width = width }) (privates.each v home copy width e is) h at
+      by false left = left_there (scalar_there v home copy width i e h) (ap (λ z. 2 * i + z) (privates.left v home copy width e left) ∙ sym at)
   word_by v i a (Array elements length copies) e h at =
       let x = element_there v i elements length copies e h in
       element (record { array = v; index = i }) x.0 refl refl (at ∙ sym x.1)
