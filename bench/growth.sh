@@ -101,6 +101,20 @@ tested() {
     echo mean tested.alp none
 }
 
+# a nest of fifty choices, in each of which one way leaves, round so many locals that are declared and assigned, with as many in front of it
+nests() {
+    {
+        printf 'task a { int l=sense(); '
+        seq "$1" | awk '{ printf "int o%d;", $1 }'
+        repeated 25 'if(l){transition_to(a);}else{if(l){'
+        seq "$1" | awk '{ printf "int x%d;x%d=1;o%d=x%d;", $1, $1, $1, $1 }'
+        repeated 25 '}else{transition_to(a);}}'
+        seq "$1" | awk '{ printf "l=o%d;", $1 }'
+        printf ' transition_to(a); } entry a;'
+    } >nests.alp
+    echo mean nests.alp none
+}
+
 # a text of one length whose expressions are rows of so many signs
 signs() {
     { printf 'shared int a; task t { a=sense(); '; repeated $((400000 / ($1 + 4))) "a=$(repeated "$1" -)1;"; printf ' transition_to(t); } entry t;'; } >signs.alp
@@ -118,6 +132,7 @@ family "audit: an array of so many words" 0.2 audited 5000 10000 20000
 family "mean: ifs" 1.2 ifs 35000 70000 140000
 family "mean: locals that are set to one another" 1.2 locals 10000 20000 40000
 family "mean: locals that are tested" 1.2 tested 10000 20000 40000
+family "mean: locals in a nest of choices" 1.2 nests 5000 10000 20000
 family "mean: signs in front of a number" 0.2 signs 50 100 200
 family "mean: sums" 1.2 sums 30000 60000 120000
 exit $failed

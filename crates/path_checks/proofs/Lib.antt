@@ -1,9 +1,10 @@
 pub mod FirstPlaces
 mod BadLoops
-mod WalkLaws
 mod Assignments
-mod MaskBits
-mod Tells
 mod TwoTurns
-mod WalkTells
 mod UnassignedMeaning
+mod Walks
+mod Ended
+mod Turns
+mod Choices
+mod Parts

@@ -6,8 +6,8 @@ use Rattle.task_ast.specs.Paths.{CheckedBlock, Access, read, write, unset}
 use Rattle.path_sums.specs.Sums.{block_sum}
 use Rattle.path_sums.proofs.Interface.{agree, Kept, every_block}
 use Rattle.path_checks.specs.Loops.{is_local}
-use Rattle.path_checks.proofs.Assignments.{Assignment, assignment, assignment_eq, assignment_unit, assignment_write, assignment_unset, assignment_one}
-use Rattle.path_checks.proofs.Assignments.{assignment_seq}
+use Rattle.path_checks.specs.Assignments.{Assignment, assignment, assignment_unit, assignment_write, assignment_unset, assignment_one, assignment_seq}
+use Rattle.path_checks.proofs.Assignments.{assignment_eq}
 
 -- a path on which the local is untouched or unassigned at the end goes on there
 pub record IsWell (s : Assignment) : Type 0 where
@@ -96,26 +96,3 @@ second_turn s t well settled = sym (assignment_eq _ _
     (agree 4 (λ e k j d. (e || (k && d)) || ((k && j) && d)) (λ e k j d. e || (k && d)) refl s.exposed s.untouched t.untouched t.exposed)
     (absorbed (assignment_seq s t).fault _ _ (from_falls s.fault s.falls_through t.falls_through t.fault (s.unassigned && t.exposed))
     (λ w. from_unassigned s.fault (s.falls_through && t.fault) s.unassigned t.exposed (settled w) (and_parts (assignment_seq s t).unassigned t.exposed w).1)))
-
-pub second_falls : (s t : Assignment) → (assignment_seq s t).falls_through ≡ (assignment_seq (assignment_seq s t) t).falls_through
-second_falls s t = agree 2 (λ a b. a && b) (λ a b. (a && b) && b) refl s.falls_through t.falls_through
-
-pub second_exposed : (s t : Assignment) → s.exposed ≡ false → t.exposed ≡ false → (assignment_seq (assignment_seq s t) t).exposed ≡ false
-second_exposed s t h k = ap₂ (λ e d. (e || (s.untouched && d)) || ((s.untouched && t.untouched) && d)) h k
-    ∙ agree 2 (λ k j. (false || (k && false)) || ((k && j) && false)) (λ k j. false) refl s.untouched t.untouched
-
-no_second : (f a b g u v : Bool) → (f || ((a && g) || (u && false))) ≡ false → ((f || ((a && g) || (u && false))) || (((a && b) && g) || (v && false))) ≡ false
-no_second true a b g u v h = cc
-no_second false true b true u v h = cc
-no_second false true b false true true h = agree 1 (λ b. (b && false) || false) (λ b. false) refl b
-no_second false true b false true false h = agree 1 (λ b. (b && false) || false) (λ b. false) refl b
-no_second false true b false false true h = agree 1 (λ b. (b && false) || false) (λ b. false) refl b
-no_second false true b false false false h = agree 1 (λ b. (b && false) || false) (λ b. false) refl b
-no_second false false b g u v h = agree 2 (λ u v. (u && false) || (false || (v && false))) (λ u v. false) refl u v
-
-pub second_fault : (s t : Assignment) → t.exposed ≡ false → (assignment_seq s t).fault ≡ false → (assignment_seq (assignment_seq s t) t).fault ≡ false
-second_fault s t k h =
-    ap (λ e. (s.fault || ((s.falls_through && t.fault) || (s.unassigned && e))) ||
-    (((s.falls_through && t.falls_through) && t.fault) || ((assignment_seq s t).unassigned && e))) k
-    ∙ no_second s.fault s.falls_through t.falls_through t.fault s.unassigned (assignment_seq s t).unassigned
-    (ap (λ e. s.fault || ((s.falls_through && t.fault) || (s.unassigned && e))) (sym k) ∙ h)

@@ -1,6 +1,5 @@
--- The first fault of the walks is the first place at which some path reads an unassigned local.
-use Rattle.std.proofs.Common.{◌≡◌, ◌==◌, ◌≤◌, ◌<◌, ◌+◌, ◌-◌, ◌^◌, ℕ, Bool, true, false, ◌&&◌, ◌||◌, List, [], ◌∷◌, ◌++◌, refl, ap, sym, ◌∙◌, subst}
-use Rattle.std.proofs.Common.{if◌then◌else◌, Option, Some, None, nat_lt, arith, ◌⊎◌, inl, inr}
+-- The fault of a walk is the first place at which some path reads an unassigned local.
+use Rattle.std.proofs.Common.{◌≡◌, ◌==◌, ℕ, Bool, true, false, ◌&&◌, ◌||◌, List, [], ◌∷◌, ◌++◌, refl, ap, sym, ◌∙◌, subst, if◌then◌else◌, arith, inl, inr}
 use Rattle.std.proofs.lemmas.Bool.Decides.{nat_tests}
 use Rattle.std.proofs.lemmas.Bool.{and_parts, and_from, or_cases, or_right}
 use Rattle.alp_text.specs.declared.lines.Span.{Span}
@@ -10,17 +9,14 @@ use Rattle.task_ast.specs.declared.names.VariableName.{VariableName}
 use Rattle.task_ast.specs.Paths.{CheckedBlock, Access, read, write, unset, End, BlockPath}
 use Rattle.path_sums.specs.Sums.{block_sum}
 use Rattle.path_sums.proofs.Interface.{agree, joins_block, found, holds}
-use Rattle.path_checks.specs.Firsts.{IsFirst, first_of}
+use Rattle.path_checks.specs.Firsts.{IsFirst}
 use Rattle.path_checks.specs.Loops.{is_local}
 use Rattle.path_checks.specs.Unassigned.{is_unassigned, ReadsUnassigned}
-use Rattle.path_checks.specs.declared.unassigned.Reached.{Reached}
-use Rattle.path_checks.specs.Walk.{start, walk_block}
-use Rattle.path_checks.proofs.FirstPlaces.{first_same, first_either}
-use Rattle.path_checks.proofs.MaskBits.{bit_of_all, InGroup}
-use Rattle.path_checks.proofs.Assignments.{is_at, reads_unassigned, reads_is, from_state, Assignment, assignment, assignment_law, assignment_join}
-use Rattle.path_checks.proofs.Assignments.{assignment_seq}
-use Rattle.path_checks.proofs.Tells.{Tells, IsBelow, IsAhead, FaultOf, small_of}
-use Rattle.path_checks.proofs.WalkTells.{block_tells}
+use Rattle.path_checks.specs.Assignments.{is_at, Assignment, assignment, assignment_join, assignment_seq, begun}
+use Rattle.path_checks.specs.Walks.{SomeLocal, Tells}
+use Rattle.path_checks.specs.declared.walk.Walk.{Walk}
+use Rattle.path_checks.proofs.FirstPlaces.{first_same}
+use Rattle.path_checks.proofs.Assignments.{reads_unassigned, reads_is, from_state, assignment_law}
 
 -- ---- a read of an unassigned local, by a test and by its place on the path
 
@@ -139,109 +135,9 @@ reads_sum b x p h =
     holds (assignment x p) (from_state true) state_join (BlockPath b) _ (joins_block (assignment x p) (assignment_law x p) b) h.0 h.1 h.2
     (sym (reads_is x p h.0 h.1 true) ∙ h.3)
 
--- ---- the walks
+-- ---- the walk
 
--- before any access
-abbrev begun : Assignment
-begun = record { falls_through = true; untouched = true; unassigned = true; exposed = false; fault = false }
-
-tells_start : (base : ℕ) → Tells base start (λ x p. begun)
-unfolding start
-tells_start base = record {
-  falls_through = λ x p. refl;
-  untouched = λ x p g. bit_of_all (x - base) (small_of base x g);
-  unassigned = λ x p g. bit_of_all (x - base) (small_of base x g);
-  exposed = λ x p g e. let no : false ≡ true = e in cc;
-  fault = λ p y. let no : false ≡ true = y.2 in cc;
-  beyond = λ x p l b. (refl, refl);
-  ahead = tt;
-}
-
--- some path reads a local below the base at the place while it is unassigned
-pub ReadsBelow : CheckedBlock → ℕ → Span → Type 0
-ReadsBelow b base p = (x : ℕ) × (x < base) × ReadsLocal b x p
-
-pub below_zero : (b : CheckedBlock) → IsFirst None (ReadsBelow b 0)
-unfolding ReadsBelow
-below_zero b = λ p h. let l = h.1 in absurd (omega arith)
-
-three : (base x : ℕ) → (x < base) ⊎ (InGroup base x ⊎ (base + 128 ≤ x))
-three base x = by_test (nat_lt x base) (nat_lt x (base + 128)) refl refl
-  where
-    below : (a b : ℕ) → nat_lt a b ≡ true → a < b
-    below a b h = grind (arith, nat_tests)
-
-    above : (a b : ℕ) → nat_lt a b ≡ false → b ≤ a
-    above a b h = grind (arith, nat_tests)
-
-    by_test : (s t : Bool) → nat_lt x base ≡ s → nat_lt x (base + 128) ≡ t → (x < base) ⊎ (InGroup base x ⊎ (base + 128 ≤ x))
-    by_test true t h k = inl (below _ _ h)
-    by_test false true h k = inr (inl (record { from = above _ _ h; below = below _ _ k }))
-    by_test false false h k = inr (inr (above _ _ k))
-
-module _ (b : CheckedBlock) (base : ℕ) where
-  pub told : Tells base (walk_block base start b) (λ x p. assignment_seq begun (block_sum (assignment x p) b))
-  told = block_tells base b start (λ x p. begun) (tells_start base)
-
-  InThese : Span → Type 0
-  InThese p = (x : ℕ) × InGroup base x × ReadsLocal b x p
-
-  these : IsFirst (walk_block base start b).fault InThese
-  unfolding InThese
-  these = first_same (walk_block base start b).fault (FaultOf base (λ x p. (assignment_seq begun (block_sum (assignment x p) b)).fault)) _
-      (λ p y. (y.0, y.1, sum_reads b y.0 p y.2)) (λ p y. (y.0, y.1, reads_sum b y.0 p y.2)) told.fault
-
-  none_behind : (x : ℕ) (p : Span) → base + 128 ≤ x → IsBelow x (walk_block base start b).next → ReadsLocal b x p → ⊥
-  none_behind x p l k r = let a : from_state true (block_sum (assignment x p) b) ≡ false = (told.beyond x p l k).1 in let c = reads_sum b x p r in cc
-
-  together : (first : Option Span) → IsFirst first (ReadsBelow b base)
-      → IsFirst (first_of first (walk_block base start b).fault) (λ p. ReadsBelow b base p ⊎ InThese p)
-  together first h = first_either first _ _ _ h these
-
-  sort_out : (x : ℕ) (p : Span) → IsBelow x (walk_block base start b).next → ReadsLocal b x p → ReadsBelow b base p ⊎ InThese p
-  unfolding ReadsBelow InThese
-  sort_out x p k r = elim (three base x) [
-    | inl l ↦ inl (x, l, r)
-    | inr m ↦ elim m [ inl g ↦ inr (x, g, r) | inr l ↦ absurd (none_behind x p l k r) ]
-  ]
-
-  any_of : (p : Span) → ReadsBelow b base p ⊎ InThese p → (x : ℕ) × ReadsLocal b x p
-  unfolding ReadsBelow InThese
-  any_of p (inl y) = (y.0, y.2)
-  any_of p (inr y) = (y.0, y.2)
-
-  -- the last walk
-  last_is : (first : Option Span) → IsFirst first (ReadsBelow b base) → (walk_block base start b).next ≡ None
-      → IsFirst (first_of first (walk_block base start b).fault) (ReadsUnassigned b)
-  last_is first h e =
-      first_same _ _ _ (λ p z. let y = any_of p z in local_read b y.0 p y.1) (λ p r. sort_out r.x p (subst (IsBelow r.x) (sym e) tt) (read_local b p r))
-      (together first h)
-
-  -- one more walk
-  more_is : (first : Option Span) (m : ℕ) → IsFirst first (ReadsBelow b base) → (walk_block base start b).next ≡ Some m
-      → IsFirst (first_of first (walk_block base start b).fault) (ReadsBelow b m)
-  unfolding ReadsBelow InThese
-  more_is first m h e = first_same _ _ _ to (λ p r. sort_out r.0 p (subst (IsBelow r.0) (sym e) r.1) r.2) (together first h)
-    where
-      ahead : base + 128 ≤ m
-      ahead = subst (IsAhead base) e told.ahead
-
-      to : (p : Span) → ReadsBelow b base p ⊎ InThese p → ReadsBelow b m p
-      to p (inl y) = let a = ahead in let l = y.1 in (y.0, omega arith, y.2)
-      to p (inr y) = let a = ahead in let l = y.1.below in (y.0, omega arith, y.2)
-
-pub last_walk : (b : CheckedBlock) (base : ℕ) (first result : Option Span) (reached : Reached) → reached ≡ walk_block base start b
-    → result ≡ first_of first reached.fault → reached.next ≡ None
-    → IsFirst first (ReadsBelow b base) → IsFirst result (ReadsUnassigned b)
-last_walk b base first result reached e r n h =
-    subst (λ o. IsFirst o (ReadsUnassigned b)) (sym (r ∙ ap (λ s. first_of first s.fault) e)) (last_is b base first h (sym (ap (λ s. s.next) e) ∙ n))
-
-pub more_walks : (b : CheckedBlock) (base m : ℕ) (first result : Option Span) (reached : Reached) → reached ≡ walk_block base start b
-    → result ≡ first_of first reached.fault → reached.next ≡ Some m
-    → IsFirst first (ReadsBelow b base) → IsFirst result (ReadsBelow b m)
-more_walks b base m first result reached e r n h =
-    subst (λ o. IsFirst o (ReadsBelow b m)) (sym (r ∙ ap (λ s. first_of first s.fault) e)) (more_is b base first m h (sym (ap (λ s. s.next) e) ∙ n))
-
-pub nearer : (b : CheckedBlock) (base m : ℕ) (reached : Reached) → reached ≡ walk_block base start b → reached.next ≡ Some m → base < 2 ^ 32
-    → 2 ^ 32 - m < 2 ^ 32 - base
-nearer b base m reached e n l = let a : base + 128 ≤ m = subst (IsAhead base) (sym (ap (λ s. s.next) e) ∙ n) (told b base).ahead in omega arith
+-- what a walk of the whole body has found
+pub walk_reads : (b : CheckedBlock) (w : Walk) → Tells w (λ x p. assignment_seq begun (block_sum (assignment x p) b)) → IsFirst w.fault (ReadsUnassigned b)
+walk_reads b w told = first_same w.fault (SomeLocal (λ x p. (assignment_seq begun (block_sum (assignment x p) b)).fault)) (ReadsUnassigned b)
+    (λ p y. local_read b y.0 p (sum_reads b y.0 p y.1)) (λ p r. (r.x, reads_sum b r.x p (read_local b p r))) told.fault

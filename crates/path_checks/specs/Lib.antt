@@ -3,5 +3,7 @@ pub mod Loops
 pub mod Unassigned
 pub mod Transitions
 pub mod FirstLoops
-pub mod Walk
+pub mod Assignments
+pub mod Walks
+pub mod Ways
 pub use Rattle.path_sums.specs as path_sums

@@ -1,10 +1,12 @@
-//! the first place in the text that it refuses. Nothing here takes memory.
+//! the first place in the text that it refuses. Only the look for unassigned locals takes memory.
 #![tactic(auto)]
 
 mod firsts;
 mod loops;
 mod transitions;
 mod unassigned;
+mod walk;
+mod ways;
 
 pub use loops::first_bad_loop;
 pub use transitions::first_open_task;
