@@ -1,8 +1,5 @@
 -- The lines of a transition, part by part.
-use Rattle.std.proofs.Common.{◌≡◌, ℕ, List, [], ◌++◌, ap, sym, subst, ◌∙◌, Option, Result, Ok, IsErr, flat_map, Bool, true, false, if◌then◌else◌, append-nil}
-use Rattle.std.proofs.Common.{refl, arith, not, ◌&&◌, ◌==◌}
-use Rattle.std.proofs.lemmas.Bool.{and_left, and_right}
-use Rattle.std.proofs.lemmas.Bool.Decides.{nat_tests}
+use Rattle.std.proofs.Common.{◌≡◌, ℕ, List, [], ◌++◌, ap, sym, subst, ◌∙◌, Option, Result, IsErr, flat_map, true, false, if◌then◌else◌, append-nil}
 use Rattle.std.specs.Io.KnownBytes.{Appends}
 use Rattle.alp_io.specs.Count.{risen}
 use Rattle.alp_io.specs.Sink.{AppendsProperPrefix, Writes}
@@ -12,7 +9,6 @@ use Rattle.image_text.specs.image_map.MapValue.{MapValue}
 use Rattle.fram_board.specs.Board.{BoardValue}
 use Rattle.board_run.specs.History.{History, task_name, word_in, more_lines, changed_lines, shared_numbers, transition_lines, is_done, is_decide, decided}
 use Rattle.board_run.specs.History.{completed, gated}
-use Rattle.board_run.proofs.Changes.{lines_end}
 
 -- the parts as they are written
 pub record AreParts (m : MapValue) (h : History) (b : BoardValue) (k : ℕ) (t n : Option (List ℕ)) (ws : List ℕ) : Type 0 where
@@ -66,31 +62,3 @@ pub decided_gate : (m : MapValue) (h : History) (b : BoardValue) (now : ℕ) →
 decided_gate m h b now e f =
     ap (λ t. record (if t then decided h b else h) { gate = now }) (sym f)
     ∙ ap (λ t. record (if t then completed m h b else (if is_decide h.gate now then decided h b else h)) { gate = now }) (sym e)
-
--- GATE is as it was
-not_both : (x : Bool) → (x && not x) ≡ false
-not_both true = refl
-not_both false = refl
-
-pub no_done : (before now : ℕ) → now ≡ before → is_done before now ≡ false
-no_done before now e = let P : ℕ → Type 0 = λ n. is_done before n ≡ false in subst P (sym e) (by_zero (before == 0) refl)
-  where
-    by_zero : (none : Bool) → (before == 0) ≡ none → is_done before before ≡ false
-    by_zero false f = and_left (before == 0) (before == 1) f
-    by_zero true f = let at : before ≡ 0 = grind (arith, nat_tests, f) in and_right (before == 0) (before == 1) (ap (λ k. k == 1) at)
-
-no_decide : (before now : ℕ) → now ≡ before → is_decide before now ≡ false
-no_decide before now e = let P : ℕ → Type 0 = λ n. is_decide before n ≡ false in subst P (sym e) (not_both (before == 1))
-
-pub gated_same : (m : MapValue) (h : History) (b : BoardValue) (now : ℕ) → now ≡ h.gate → h ≡ gated m h b now
-gated_same m h b now e =
-    ap (λ n. record h { gate = n }) (sym e)
-    ∙ ap (λ t. record (if t then decided h b else h) { gate = now }) (sym (no_decide h.gate now e))
-    ∙ ap (λ t. record (if t then completed m h b else (if is_decide h.gate now then decided h b else h)) { gate = now }) (sym (no_done h.gate now e))
-
--- then there are no lines
-pub untold_same : {T E : Type 0} (x : T) (before now : ℕ) (old : Option (List ℕ)) (lines : List ℕ) → now ≡ before
-    → Writes {T = T} {E = E} old old (Ok x) (if is_done before now then lines else [])
-untold_same {T} {E} x before now old lines e =
-    let P : Bool → Type 0 = λ t. Writes {T = T} {E = E} old old (Ok x) (if t then lines else []) in
-    subst P (sym (no_done before now e)) (lines_end x old old [] [] refl (progress_start old []))
