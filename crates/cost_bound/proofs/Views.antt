@@ -1,5 +1,5 @@
 -- One level of the tree that a Rust tree stands for, and one more node at the front of a list.
-use Rattle.std.proofs.Common.{◌≡◌, ℕ, arith, rules, Option}
+use Rattle.std.proofs.Common.{◌≡◌, ℕ, rules, Option}
 use Rattle.std.specs.declared.alloc.Global.{Global}
 use Rattle.std.specs.declared.vec.Vec.{Vec}
 use Rattle.task_ast.specs.Tree.{loop, choose}

@@ -1,5 +1,5 @@
 -- That the names of a task are used as they were declared, and that its operators have operands of their types.
-use Rattle.std.specs.Prelude.{◌≡◌, ◌<◌, true, false, List, Some, None, slice_get, IsSomeAnd}
+use Rattle.std.specs.Prelude.{◌≡◌, ◌<◌, false, List, Some, None, slice_get, IsSomeAnd}
 use Rattle.lower.specs.task_ast.declared.Extent.{Extent}
 use Rattle.lower.specs.task_ast.declared.SharedDeclaration.{SharedDeclaration}
 use Rattle.lower.specs.task_ast.declared.WordType.{WordType}
