@@ -128,11 +128,9 @@ one_alone x i h =
     let at : h.0 ≡ 0 = omega arith in
     ap (λ k. get_or (x ∷ []) k i) (sym at) ∙ h.2
 
-first_or_other : (x i : ℕ) (xs : List ℕ) → Contains (x ∷ xs) i → (x ≡ i) ⊎ Contains xs i
-first_or_other x i xs h = ⊎_elim (λ one. inl (one_alone x i one)) (λ other. inr other) (Contains-append_cases (x ∷ []) xs i h)
-
-no_place : (i : ℕ) → Contains [] i → ⊥
-no_place i h = let inside = h.1 in absurd (omega arith)
+-- what is behind the first
+other_place : (x i : ℕ) (xs : List ℕ) → (i ≡ x → ⊥) → Contains (x ∷ xs) i → Contains xs i
+other_place x i xs differ h = ⊎_elim (λ one. absurd (differ (sym (one_alone x i one)))) (λ other. other) (Contains-append_cases (x ∷ []) xs i h)
 
 -- the first of them becomes the FRAM's word, without its mark
 rest_put : (ws : List ℕ) (ms : List Bool) (fram places : List ℕ) (place word : ℕ) → length ws ≡ fram_words → place < fram_words
@@ -140,10 +138,10 @@ rest_put : (ws : List ℕ) (ms : List Bool) (fram places : List ℕ) (place word
     → AreRest (slice_set ws place word) (slice_set ms place false) fram places
 rest_put ws ms fram places place word len inside is r = record {
   same = λ i small not. ⊎_elim (λ at. word_here ws fram place word i (omega arith) is at)
-      (λ other. word_elsewhere ws place word i other ∙ r.same i small (λ c. ⊎_elim (λ e. other (sym e)) not (first_or_other place i places c)))
+      (λ other. word_elsewhere ws place word i other ∙ r.same i small (λ c. not (other_place place i places other c)))
       (cases_eq i place);
   marked = λ i m. ⊎_elim (λ at. absurd (gone i at m))
-      (λ other. ⊎_elim (λ e. absurd (other (sym e))) (λ c. c) (first_or_other place i places (r.marked i (unset_before ms place i m))))
+      (λ other. other_place place i places other (r.marked i (unset_before ms place i m)))
       (cases_eq i place);
 }
   where

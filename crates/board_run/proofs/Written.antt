@@ -44,12 +44,12 @@ sends_store_nothing : (number : ℕ) (o : Option ℕ) (i : ℕ) → NoStore (sen
 sends_store_nothing number None i = tt
 sends_store_nothing number (Some w) i = tt
 
-even_place : (a : ℕ) → 0x4400 ≤ a → place_of (a - a % 2) ≡ place_of a
-even_place a h = omega arith
-
 one_store : (a i : ℕ) (fram : List ℕ) (b : Bool) → is_fram a ≡ b → (IsWritten (Some a) i → ⊥)
     → NoStore (if b then Store (a - a % 2) (slice_index fram (place_of a)) ∷ [] else []) i
-one_store a i fram true e h = let low = (fram_low a e).0 in (λ is. h (low, is ∙ even_place a low), tt)
+one_store a i fram true e h =
+    let low = (fram_low a e).0 in
+    let even : place_of (a - a % 2) ≡ place_of a = omega arith in
+    (λ is. h (low, is ∙ even), tt)
 one_store a i fram false e h = tt
 
 store_elsewhere : (wrote : Option ℕ) (fram : List ℕ) (i : ℕ) → (IsWritten wrote i → ⊥) → NoStore (store_at wrote fram) i
