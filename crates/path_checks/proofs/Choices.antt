@@ -1,6 +1,6 @@
 -- Ways through a choice.
-use Rattle.std.proofs.Common.{◌≡◌, ℕ, ◌+◌, ◌<◌, true, false, ◌&&◌, ◌||◌, not, List, [], ◌∷◌, drop, drop-cons, map, length, get_or, refl, ap, ap₂, sym, ◌∙◌, subst}
-use Rattle.std.proofs.Common.{Option, Some, None, is_some, add-one, rules, Vec, Result, Ok, Err, IfOk, ◌≤◌}
+use Rattle.std.proofs.Common.{◌≡◌, ℕ, ◌+◌, ◌<◌, true, false, ◌&&◌, ◌||◌, not, List, [], ◌∷◌, drop, drop-cons, map, length, get_or, refl, ap, ap₂, sym, ◌∙◌}
+use Rattle.std.proofs.Common.{subst, Option, Some, None, is_some, add-one, rules, Vec, Result, Ok, Err, IfOk, ◌≤◌}
 use Rattle.std.proofs.Math.Bool.{or_assoc}
 use Rattle.std.specs.Global.{Global}
 use Rattle.std.specs.declared.alloc.AllocError.{AllocError}
@@ -49,10 +49,11 @@ does_choice before w last v ends mark whole rest s d m j = record { tells = tell
               (fault_same last.fault _ _ k.fault l.fault);
         }
 
-pub choice_ok : (r : Result (Unit {0}) AllocError) (before w last v : Walk) (ends : Ends) (mark : ℕ) {whole rest : Family} → SoFar before w ends whole rest
-    → Does w last rest → mark ≡ length before.turned.items → IfOk r (λ _. IsJoined mark ends last v) → IfOk r (λ _. Does before v whole)
-choice_ok (Ok _) before w last v ends mark s d m j = does_choice before w last v ends mark _ _ s d m j
-choice_ok (Err _) before w last v ends mark s d m j = tt
+pub choice_ok : (r : Result (Unit {0}) AllocError) (before w last v : Walk) (ends : Ends) (mark : ℕ) (whole rest : Family)
+    → SoFar before w ends whole rest × Does w last rest → mark ≡ length before.turned.items → IfOk r (λ _. IsJoined mark ends last v)
+    → IfOk r (λ _. Does before v whole)
+choice_ok (Ok _) before w last v ends mark whole rest h m j = does_choice before w last v ends mark whole rest h.0 h.1 m j
+choice_ok (Err _) before w last v ends mark whole rest h m j = tt
 
 -- the first way that falls through
 pub first_way : (ends : Ends) (v : Vec Ended Global) (w : Walk) (mark : ℕ) → ends ≡ None → w.falls_through ≡ true

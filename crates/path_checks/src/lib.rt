@@ -1,4 +1,5 @@
-//! the first place in the text that it refuses. Only the look for unassigned locals takes memory.
+//! The checks of a looked-up source on its loops and its paths: of each the first place in the text that it refuses. Only that of unassigned locals
+//! takes memory.
 #![tactic(auto)]
 
 mod firsts;

@@ -20,6 +20,7 @@ use task_ast::{Expr, Variable, VariableName};
 /// What the paths up to a place have done.
 #[derive(Drop)]
 pub struct Walk {
+    /// Gives the entries their room.
     pub alloc: Global,
     /// Some path comes here.
     pub falls_through: bool,

@@ -28,23 +28,28 @@ use std::alloc::{AllocError, Global};
 use task_ast::{CheckedSource, TaskDeclaration, TaskName, Tree, VariableName};
 
 // The first fault of the checks of loops and of paths.
-fn paths_fault(source: &[u8], checked: &CheckedSource) -> Option<CheckFault>
+fn paths_fault(
+    alloc: Global,
+    source: &[u8],
+    checked: &CheckedSource,
+) -> Result<Option<CheckFault>, AllocError>
     requires { length source.now < 2 ^ 32 - 1 }
-    ensures { MatchOption result (IsCleanOnPaths (program_of checked.now)) (λ e. IsRefusedOnPaths source.now (program_of checked.now) e) }
+    ensures { IfOk result (λ fault. MatchOption fault (IsCleanOnPaths (program_of checked.now))
+        (λ e. IsRefusedOnPaths source.now (program_of checked.now) e)) }
 {
     if let Some(name) = first_bad_loop(checked) {
         let line = line_from(source, name.from);
-        return Some(CheckFault::BadLoop { line, name });
+        return Ok(Some(CheckFault::BadLoop { line, name }));
     }
-    if let Some(name) = first_unassigned(checked) {
+    if let Some(name) = first_unassigned(alloc, checked)? {
         let line = line_from(source, name.from);
-        return Some(CheckFault::Unassigned { line, name });
+        return Ok(Some(CheckFault::Unassigned { line, name }));
     }
     if let Some(name) = first_open_task(checked) {
         let line = line_from(source, name.from);
-        return Some(CheckFault::NoTransition { line, name });
+        return Ok(Some(CheckFault::NoTransition { line, name }));
     }
-    None
+    Ok(None)
 }
 
 // The line of each task's name.
@@ -78,7 +83,7 @@ fn check_paths(
         ⊎ (IsRefusedOnPaths source.now (program_of checked) e ⊎ (IsCleanOnPaths (program_of checked) × (too_many ≡ Some e)))) }
     ensures lines { IfOk result (λ c. c.task_lines.items ≡ map (λ t. line_of source.now t.name.from) c.source.tasks.items) }
 {
-    if let Some(fault) = paths_fault(source, &checked) {
+    if let Some(fault) = paths_fault(alloc, source, &checked)? {
         return Err(fault);
     }
     if let Some(fault) = too_many {

@@ -63,7 +63,7 @@ walk_statement-returns-in_ok-ends-in-If-default-None t c =
     statement_ok c.join_ways.result c.args.walk.now c.join_ways.new.walk (statement_of c.args.statement.now)
     (tree.choose (choice_of (map tested_of arms) None)) (search (rules, the_lemmas))
     (choice_ok c.join_ways.result c.args.walk.now c.walk_arms.new.walk c.walk_arms.new.walk c.join_ways.new.walk c.in_ok-ends-in-If-default-None.ends
-    c.start_of-start.result.mark (c.in_ok-ends-in-If-default-None.ensures None) (does_nothing c.walk_arms.new.walk) c.start_of-start.ensures.mark
+    c.start_of-start.result.mark _ _ (c.in_ok-ends-in-If-default-None.ensures None, does_nothing c.walk_arms.new.walk) c.start_of-start.ensures.mark
     c.join_ways.ensures)
 
 pub walk_statement-returns-in_ok-walk_block-in-If-default-Some : goal.walk_statement-returns-in_ok-walk_block-in-If-default-Some
@@ -73,8 +73,8 @@ walk_statement-returns-in_ok-walk_block-in-If-default-Some t c =
     statement_ok c.join_ways-in-If-default-Some.result c.args.walk.now c.join_ways-in-If-default-Some.new.walk (statement_of c.args.statement.now)
     (tree.choose (choice_of (map tested_of arms) (Some last))) (search (rules, the_lemmas))
     (choice_ok c.join_ways-in-If-default-Some.result c.args.walk.now c.walk_arms-in-If-default-Some.new.walk c.walk_block.new.walk
-    c.join_ways-in-If-default-Some.new.walk c.in_ok-ends-in-If-default-Some.ends c.start_of-start-in-If-default-Some.result.mark
-    (c.in_ok-ends-in-If-default-Some.ensures (Some last)) c.in_ok-walk_block-in-If-default-Some.ensures
+    c.join_ways-in-If-default-Some.new.walk c.in_ok-ends-in-If-default-Some.ends c.start_of-start-in-If-default-Some.result.mark _ _
+    (c.in_ok-ends-in-If-default-Some.ensures (Some last), c.in_ok-walk_block-in-If-default-Some.ensures)
     c.start_of-start-in-If-default-Some.ensures.mark c.join_ways-in-If-default-Some.ensures)
 
 pub walk_statement-returns-in_ok-set-in-For : goal.walk_statement-returns-in_ok-set-in-For
@@ -116,8 +116,8 @@ walk_turns-returns-then-turns-eq1 t c = elim c.then-turns-eq1.branch [
   | walk_turns-then-turns-eq1-via-then-turns-eq1 w ↦
       one_turn c.args.walk.now c.walk_turn.new.walk c.args.turns _ w.if-turns-eq1.true c.in_ok-walk_turn.ensures
   | walk_turns-then-turns-eq1-via-else-turns-eq1+then-lost_none w ↦
-      settled_turn c.args.walk.now c.walk_turn.new.walk c.args.turns c.start_of-start.result.mark (block_view c.args.body.now) c.args.name.now w.lost_none.result
-      c.if-turns-eq0.false c.in_ok-walk_turn.ensures c.start_of-start.ensures.mark w.lost_none.ensures w.if-lost_none.true
+      settled_turn c.args.walk.now c.walk_turn.new.walk c.args.turns c.start_of-start.result.mark (block_view c.args.body.now) c.args.name.now
+      w.lost_none.result c.if-turns-eq0.false c.in_ok-walk_turn.ensures c.start_of-start.ensures.mark w.lost_none.ensures w.if-lost_none.true
 ]
 
 pub walk_turns-returns : goal.walk_turns-returns
