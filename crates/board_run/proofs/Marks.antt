@@ -1,5 +1,5 @@
 -- Marks on the words of the FRAM.
-use Rattle.std.proofs.Common.{◌≡◌, ◌<◌, ◌≤◌, ◌+◌, arith, ℕ, zero, suc, refl, sym, ◌∙◌, ap, subst, ⊎_elim, inl, inr, ◌⊎◌, Bool, true, false}
+use Rattle.std.proofs.Common.{◌≡◌, ◌<◌, ◌≤◌, ◌+◌, arith, ℕ, zero, suc, refl, sym, ◌∙◌, ap, subst, ⊎_elim, Bool, true, false}
 use Rattle.std.proofs.Common.{List, [], ◌∷◌, length, length-set, drop, drop-cons, get_or, slice_index, slice_index_or, slice_set, nat_lt, Contains}
 use Rattle.std.proofs.lemmas.Bool.{cases_eq, cases_lt}
 use Rattle.std.proofs.lemmas.Bool.Decides.{nat_tests}
