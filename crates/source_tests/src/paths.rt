@@ -74,6 +74,9 @@ fn turns_that_unset_what_they_read(rt: HostRuntime) -> Result<(), Fail> {
 fn the_last_local(rt: HostRuntime) -> Result<(), Fail> {
     let alloc = rt.alloc();
     let body = vec![in alloc; emit(local(30, 4294967295)), emit(local(40, 0))]?;
-    assert_eq!(rt; first_unassigned(alloc, &source(alloc, body)?)?, Some(place(30)));
+    assert_eq!(rt;
+        first_unassigned(alloc, &source(alloc, body)?)?,
+        Some(place(30))
+    );
     Ok(())
 }
