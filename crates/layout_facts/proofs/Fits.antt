@@ -17,12 +17,12 @@ use Rattle.compiled_model.specs.path_sums.Sums.{statement_sum, choice_sum, block
 use Rattle.compiled_model.specs.path_sums.Access.{summary}
 use Rattle.compiled_model.specs.cost_bound.Counts.{is_shared}
 use Rattle.compiled_model.specs.war_analysis.Plans.{is_scalar, IsScalarAt, IsArrayAt}
-use Rattle.compiled_model.specs.lower.Agreement.{IsKnown, IsTarget, IsTargetOf, IsArray, IsWrittenArray, IsLocal, ExpressionFits, StatementFits}
+use Rattle.compiled_model.specs.lower.Agreement.{IsKnown, IsTarget, IsTargetOf, IsArray, IsWrittenArray, ExpressionFits, StatementFits}
 use Rattle.compiled_model.specs.lower.Agreement.{ChoiceFits, BlockFits}
 use Rattle.compiled_model.specs.lower.Agreement as fits
-use Rattle.whole_programs.specs.Uses.{IsWordName, IsArrayName, IsOfType, ExpressionUses, StatementUses, ChoiceUses, BlockUses}
-use Rattle.whole_programs.proofs.Interface.{assignment_writes, store_writes, loop_writes, taken_writes, passed_writes, first_writes, others_write}
-use Rattle.whole_programs.proofs.Interface.{block_assigned}
+use Rattle.checked_trees.specs.Uses.{IsWordName, IsArrayName, IsLocal, IsOfType, ExpressionUses, StatementUses, ChoiceUses, BlockUses}
+use Rattle.checked_trees.proofs.Interface.{assignment_writes, store_writes, loop_writes, taken_writes, passed_writes, first_writes, others_write}
+use Rattle.checked_trees.proofs.Interface.{block_assigned}
 use Rattle.layout_facts.specs.Facts.{task_places}
 use Rattle.layout_facts.specs.Laws.{NamesFit}
 use Rattle.compiled_model.specs.lower.Seen.{some_path_writes}
@@ -77,6 +77,11 @@ module _ (shared : List SharedDeclaration) (p : Places) (written : ℕ → Bool)
   is_array (Shared v) h = have.arrays v h
   is_array (Local n) h = absurd h
 
+  -- what a loop counts in
+  counter : (x : Variable) → IsLocal x → fits.IsLocal x
+  counter (Shared v) h = h
+  counter (Local n) h = h
+
   local_target : (x : Variable) → IsLocal x → IsTarget p written x
   local_target (Shared v) h = absurd h
   local_target (Local n) h = h
@@ -123,7 +128,7 @@ module _ (shared : List SharedDeclaration) (p : Places) (written : ℕ → Bool)
         (written_array x.variable h.0 (λ v k. w v (store_writes v x index e k)), expression_fits index h.1, expression_fits e h.2, h.3)
     statement_fits (t.choose choice) h w = choice_fits choice h w
     statement_fits (t.loop x from tested below stepped body) h w =
-        (h.0, λ some. block_fits body h.1 (λ v k. w v (loop_writes v x from tested below stepped body some k)))
+        (counter x.variable h.0, λ some. block_fits body h.1 (λ v k. w v (loop_writes v x from tested below stepped body some k)))
     statement_fits (t.emit e) h w = expression_fits e h
     statement_fits (t.transition task) h w = tt
 

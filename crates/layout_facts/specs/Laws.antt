@@ -26,7 +26,7 @@ use Rattle.compiled_model.specs.memory_map.Spots.{version_address, IsWordOf, pri
 use Rattle.compiled_model.specs.lower.Spots.{HasRoom}
 use Rattle.compiled_model.specs.lower.Spots as spots
 use Rattle.compiled_model.specs.lower.Agreement.{place_length, BlockFits}
-use Rattle.whole_programs.specs.Uses.{BlockUses}
+use Rattle.checked_trees.specs.Uses.{BlockUses}
 use Rattle.compiled_model.specs.path_sums.Access.{writes, SomePath, IsPrivate}
 use Rattle.compiled_model.specs.task_ast.declared.names.Variable.TheVariants.{Shared}
 use Rattle.compiled_model.specs.source_values.Runs.{task_body}

@@ -10,12 +10,12 @@ use Rattle.task_ast.specs.declared.Extent.{Extent}
 use Rattle.task_ast.specs.declared.Extent.TheVariants as extent
 use Rattle.linked_code.specs.task_lex.declared.token.Token.{Token}
 use Rattle.linked_code.specs.task_lex.Lex.{width_after}
-use Rattle.whole_programs.specs.task_parse.Grammar.{Row, IsExtent, IsWorth, IsLongExtent, IsShared, IsProgram, negated}
-use Rattle.whole_programs.specs.task_parse.Parsed.{Program}
-use Rattle.whole_programs.specs.task_parse.Grammar as grammar
+use Rattle.source_meaning.specs.task_parse.Grammar.{Row, IsExtent, IsWorth, IsLongExtent, IsShared, IsProgram, negated}
+use Rattle.source_meaning.specs.task_parse.Parsed.{Program}
+use Rattle.source_meaning.specs.task_parse.Grammar as grammar
 use Rattle.whole_programs.specs.source_values.Runs.{CheckedProgram, initial_words, initial_rows}
 use Rattle.source_meaning.specs.Acceptance.{Checks}
-use Rattle.whole_programs.proofs.Interface.{OfWords, AreSound, are_sound}
+use Rattle.checked_trees.proofs.Interface.{OfWords, AreSound, are_sound}
 use Rattle.compiled_runs.specs.compiled_model.View.{are_words, are_rows}
 
 -- tokens with words for numbers

@@ -23,7 +23,7 @@ use Rattle.layout_facts.specs.source_values.Statements.{Attempt, run_block}
 use Rattle.layout_facts.specs.war_analysis.Plans.{is_scalar, IsScalarAt, IsArrayAt}
 use Rattle.layout_facts.specs.source_values.Runs.{is_long_extent}
 use Rattle.layout_facts.specs.privatise.Sizes.{home_part}
-use Rattle.layout_facts.specs.whole_programs.Uses.{IsArrayName, IsLocal, IsOfType, StatementUses, ChoiceUses, BlockUses}
+use Rattle.checked_trees.specs.Uses.{IsArrayName, IsLocal, IsOfType, StatementUses, ChoiceUses, BlockUses}
 use Rattle.layout_facts.specs.path_runs.Laws.{IsScalarInStatement, IsScalarInChoice, IsScalarIn}
 use Rattle.layout_facts.proofs.path_runs.Interface.{first_writes_forget}
 

@@ -58,10 +58,10 @@ use Rattle.lower.specs.Lowered.{lowered_expression, lowered_long, lowered_test, 
 use Rattle.lower.specs.Lowered.{index_and_value, element_updating, element_sides_set, element_assignment, loop_local, entries, lowered_transition}
 use Rattle.lower.specs.Lowered.{lowered_statement, lowered_choice, lowered_block}
 use Rattle.lower.proofs.Interface.{RunOfWords, runs_of_words}
-use Rattle.whole_programs.specs.Needs.{ExpressionFits, StatementFits, ChoiceFits, BlockFits}
-use Rattle.whole_programs.specs.Uses.{IsWordName, IsLocal, ExpressionUses, StatementUses, ChoiceUses, BlockUses}
+use Rattle.checked_trees.specs.Needs.{ExpressionFits, StatementFits, ChoiceFits, BlockFits}
+use Rattle.checked_trees.specs.Uses.{IsWordName, IsLocal, ExpressionUses, StatementUses, ChoiceUses, BlockUses}
 use Rattle.whole_programs.proofs.Placed.{PlaceOfWords, PlacesOfWords}
-use Rattle.whole_programs.proofs.Loops.{GoodStatement, GoodChoice, GoodBlock, is_good}
+use Rattle.checked_trees.proofs.Interface.{GoodStatement, GoodChoice, GoodBlock, is_good}
 
 -- ---- steps of expressions
 

@@ -19,8 +19,7 @@ use Rattle.privatise.specs.Layouts.{IsPlaceOf}
 use Rattle.privatise.specs.war_analysis.Plans.{is_scalar, IsScalarAt, IsPrivateIn}
 use Rattle.privatise.proofs.war_analysis.Interface.{element, words_of_all, HasWords, marked_are_counted}
 use Rattle.whole_programs.specs.Laws.{PrivatesAreFew}
-use Rattle.whole_programs.proofs.Checked.{all_at, task_checked}
-use Rattle.whole_programs.proofs.Written.{block_assigned}
+use Rattle.checked_trees.proofs.Interface.{all_at, task_checked, block_assigned}
 
 -- a scalar has the words of its declaration, which it counts where it is assigned
 place_counts : (written : Bool) (e : Extent) (place : VariablePlace) → IsPlaceOf written e place → words_at (Some place) ≤ scalar_part true e

@@ -10,10 +10,10 @@ use Rattle.lower.specs.array_versions.Program.{Step, Program, nothing, step, joi
 use Rattle.lower.specs.array_versions.Form.{StepSpares, TestSpares, Spares}
 use Rattle.lower.specs.memory_map.Spots.{Places}
 use Rattle.lower.specs.Lowered.{lowered_block}
-use Rattle.whole_programs.specs.Needs.{BlockFits}
-use Rattle.whole_programs.specs.Uses.{BlockUses}
+use Rattle.checked_trees.specs.Needs.{BlockFits}
+use Rattle.checked_trees.specs.Uses.{BlockUses}
 use Rattle.whole_programs.proofs.Placed.{PlacesOfWords}
-use Rattle.whole_programs.proofs.Loops.{GoodBlock}
+use Rattle.checked_trees.proofs.Interface.{GoodBlock}
 use Rattle.whole_programs.proofs.Built.{Leaf, a_number, Stores, a_store, IsApart, EachStep, block_has}
 
 -- a step without a local spares each; the first clauses make them proofs by cases

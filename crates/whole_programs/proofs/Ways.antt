@@ -32,15 +32,15 @@ use Rattle.lower.specs.Lowered.{scalar_assignment}
 use Rattle.lower.specs.Lowered.{update_step, setting, long_setting, updating, of_words, sides_set}
 use Rattle.lower.specs.Lowered.{update_element_step, index_and_value, element_updating, element_sides_set, element_assignment}
 use Rattle.lower.specs.Lowered.{loop_local, entries, lowered_transition, lowered_statement, lowered_choice, lowered_block}
-use Rattle.whole_programs.specs.Needs.{ExpressionFits, StatementFits, ChoiceFits, BlockFits}
-use Rattle.whole_programs.specs.Uses.{IsWordName, IsArrayName, ExpressionUses, StatementUses, ChoiceUses, BlockUses}
+use Rattle.checked_trees.specs.Needs.{ExpressionFits, StatementFits, ChoiceFits, BlockFits}
+use Rattle.checked_trees.specs.Uses.{IsWordName, IsArrayName, ExpressionUses, StatementUses, ChoiceUses, BlockUses}
 use Rattle.lower.proofs.Interface.{small_modulo, is_update}
 use Rattle.whole_programs.proofs.Placed.{PlacesOfWords}
 use Rattle.whole_programs.proofs.Built.{Leaf, a_number, a_load, a_reading, a_unary, a_shift, an_element, a_version, a_binary, a_widening, a_join, a_low_word}
 use Rattle.whole_programs.proofs.Built.{a_complement, a_left_shift, a_right_shift, a_calculation, is_below, is_above, ReadOf, Reads, two_fit, fits_above, Fact}
 use Rattle.whole_programs.proofs.Built.{lowering_has, long_has}
-use Rattle.whole_programs.proofs.Paths.{names_read, is_path, some_turns, some_block, written, forgotten, behind, behind_both, behind_names}
-use Rattle.whole_programs.proofs.Paths.{behind_expression, IsAssigned, Safe, safe_both, safe_expression}
+use Rattle.checked_trees.proofs.Interface.{names_read, is_path, some_turns, some_block, written, forgotten, behind, behind_both, behind_names}
+use Rattle.checked_trees.proofs.Interface.{behind_expression, IsAssigned, Safe, safe_both, safe_expression}
 
 -- ---- ways
 

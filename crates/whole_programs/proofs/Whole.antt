@@ -16,12 +16,12 @@ use Rattle.lower.specs.memory_map.Spots.{Places, places_of}
 use Rattle.lower.specs.Seen.{some_path_writes, map_seen}
 use Rattle.lower.specs.Lowered.{lowered_block, lowered_task, lowered_tasks}
 use Rattle.lower.proofs.Interface.{privates_seen, seen_laid_out}
-use Rattle.whole_programs.specs.StackLaws.{enough}
+use Rattle.checked_trees.specs.StackLaws.{enough}
 use Rattle.whole_programs.specs.Laws.{TasksAreWhole, ProgramsAreWhole}
 use Rattle.whole_programs.proofs.Ways.{task_way}
 use Rattle.whole_programs.proofs.Steps.{Sound, block_sound}
 use Rattle.whole_programs.proofs.Placed.{PlacesOfWords, task_places}
-use Rattle.whole_programs.proofs.Checked.{all_at, IsChecked, task_checked}
+use Rattle.checked_trees.proofs.Interface.{all_at, IsChecked, task_checked}
 
 -- a checked task's program, where its places are words and the commit stands at an even address
 block_whole : (p : Places) (shared : List SharedDeclaration) (b : CheckedBlock) → PlacesOfWords p → p.map.commit.address % 2 ≡ 0 → IsChecked shared b

@@ -3,7 +3,4 @@
 
 mod laws;
 
-pub use laws::{
-    expressions_have_room, names_are_used_as_declared, privates_are_few, programs_are_whole,
-    tasks_are_whole,
-};
+pub use laws::{privates_are_few, programs_are_whole, tasks_are_whole};

@@ -3,23 +3,23 @@ use Rattle.std.proofs.Common.{◌≡◌, ℕ, zero, suc, ◌+◌, ◌-◌, ◌/�
 use Rattle.std.proofs.Common.{drop, take}
 use Rattle.std.proofs.Common.{refl, subst, arith, Option, Some, None, Result, Ok, Err}
 use Rattle.std.proofs.lemmas.Bool.Decides.{nat_tests}
-use Rattle.lower.specs.alp_words.Words.{IsWord}
-use Rattle.lower.specs.alp_text.Numbers.{number_of}
-use Rattle.lower.specs.alp_text.declared.numbers.NumberFault.{NumberFault}
-use Rattle.lower.specs.task_lex.declared.token.Token.{Token}
-use Rattle.lower.specs.task_lex.declared.token.Kind.{Kind}
-use Rattle.lower.specs.task_lex.declared.token.Kind.TheVariants as k
-use Rattle.lower.specs.task_lex.declared.piece.Piece.{Piece}
-use Rattle.lower.specs.task_lex.declared.piece.Piece.TheVariants as piece
-use Rattle.lower.specs.task_lex.declared.piece.Numeral.{Numeral}
-use Rattle.lower.specs.task_lex.declared.step.Place.{Place}
-use Rattle.lower.specs.task_lex.declared.step.Step.{Step}
-use Rattle.lower.specs.task_lex.declared.step.Step.TheVariants.{Skip, Take, Fails}
-use Rattle.lower.specs.task_lex.declared.fault.Flaw.TheVariants as flaw
-use Rattle.lower.specs.task_lex.Pieces.{is_zero_led, up_to, piece_of, number_to, has_suffix, word_numeral, long_numeral, numeral, word_kind}
-use Rattle.lower.specs.task_lex.Lex.{Lexed, tokens, fault, with_front, after, step, step_by, counted, numbered, is_opening, is_end, depth_after, width_after}
-use Rattle.lower.specs.task_lex.Lex.{lex_within, lex_from, lexed}
-use Rattle.lower.proofs.task_lex.Interface.{wide}
+use Rattle.alp_words.specs.Words.{IsWord}
+use Rattle.alp_text.specs.Numbers.{number_of}
+use Rattle.alp_text.specs.declared.numbers.NumberFault.{NumberFault}
+use Rattle.task_lex.specs.declared.token.Token.{Token}
+use Rattle.task_lex.specs.declared.token.Kind.{Kind}
+use Rattle.task_lex.specs.declared.token.Kind.TheVariants as k
+use Rattle.task_lex.specs.declared.piece.Piece.{Piece}
+use Rattle.task_lex.specs.declared.piece.Piece.TheVariants as piece
+use Rattle.task_lex.specs.declared.piece.Numeral.{Numeral}
+use Rattle.task_lex.specs.declared.step.Place.{Place}
+use Rattle.task_lex.specs.declared.step.Step.{Step}
+use Rattle.task_lex.specs.declared.step.Step.TheVariants.{Skip, Take, Fails}
+use Rattle.task_lex.specs.declared.fault.Flaw.TheVariants as flaw
+use Rattle.task_lex.specs.Pieces.{is_zero_led, up_to, piece_of, number_to, has_suffix, word_numeral, long_numeral, numeral, word_kind}
+use Rattle.task_lex.specs.Lex.{Lexed, tokens, fault, with_front, after, step, step_by, counted, numbered, is_opening, is_end, depth_after, width_after}
+use Rattle.task_lex.specs.Lex.{lex_within, lex_from, lexed}
+use Rattle.task_lex.proofs.Interface.{wide}
 
 -- the number of a token is of words
 abbrev pub OfWords : Token → Type 0

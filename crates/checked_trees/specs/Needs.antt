@@ -1,10 +1,10 @@
 -- What the programs of a source's statements need: room for the words of expressions on the stack, numbers that are of words, and locals of
 -- one word.
 use Rattle.std.specs.Prelude.{ℕ, suc, ◌+◌, ◌^◌, ◌<◌, ◌≤◌, Option, Some, None}
-use Rattle.lower.specs.alp_words.Words.{IsWord}
-use Rattle.lower.specs.task_ast.Tree.{Expression, Statement, Choice, Block}
-use Rattle.lower.specs.task_ast.Tree as t
-use Rattle.lower.specs.task_ast.Types.{IsOneWord}
+use Rattle.alp_words.specs.Words.{IsWord}
+use Rattle.task_ast.specs.Tree.{Expression, Statement, Choice, Block}
+use Rattle.task_ast.specs.Tree as t
+use Rattle.task_ast.specs.Types.{IsOneWord}
 
 -- with so many words beneath, no more than the room are on the stack while the expression is worked out, as a word or as a long, which
 -- has two; and its numbers are of words. The left side of an operator waits beneath the right one, and so does the 0 that `-` subtracts

@@ -1,10 +1,10 @@
 -- What holds of the needs of accepted sources.
 use Rattle.std.specs.Prelude.{ℕ, List, All}
-use Rattle.lower.specs.task_ast.Tree.{Program}
-use Rattle.lower.specs.task_ast.declared.names.VariableName.{VariableName}
-use Rattle.lower.specs.task_ast.declared.names.TaskName.{TaskName}
+use Rattle.task_ast.specs.Tree.{Program}
+use Rattle.task_ast.specs.declared.names.VariableName.{VariableName}
+use Rattle.task_ast.specs.declared.names.TaskName.{TaskName}
 use Rattle.source_meaning.specs.Acceptance.{Checks}
-use Rattle.whole_programs.specs.Needs.{BlockFits}
+use Rattle.checked_trees.specs.Needs.{BlockFits}
 
 -- the room that is enough for each expression: two words for each of its tokens, of which no more than 256 stand in a row, and one for
 -- an index

@@ -2,37 +2,37 @@
 use Rattle.std.proofs.Common.{◌≡◌, ℕ, ◌&&◌, not, Bool, false, List, [], ◌∷◌, ◌++◌, length, map, Some, None, All, refl, sym, ap, ◌∙◌, subst, append_assoc}
 use Rattle.std.proofs.Common.{append-nil, inl, inr}
 use Rattle.std.proofs.lemmas.List.Elements.{All-nil, All-cons}
-use Rattle.lower.specs.alp_text.declared.lines.Span.{Span}
-use Rattle.lower.specs.task_ast.declared.SharedDeclaration.{SharedDeclaration}
-use Rattle.lower.specs.task_ast.declared.names.Variable.{Variable}
-use Rattle.lower.specs.task_ast.declared.names.Variable.TheVariants.{Shared, Local}
-use Rattle.lower.specs.task_ast.declared.names.VariableName.{VariableName}
-use Rattle.lower.specs.task_ast.declared.names.TaskName.{TaskName}
-use Rattle.lower.specs.task_ast.Tree as t
-use Rattle.lower.specs.task_ast.Tree.{Expression, Task, Program}
-use Rattle.lower.specs.task_ast.Paths.{CheckedExpression, CheckedStatement, CheckedChoice, CheckedBlock}
-use Rattle.lower.specs.path_checks.Firsts.{SomeTask}
-use Rattle.lower.specs.path_checks.Loops.{is_same_local, is_good_loop, block_assigns, BadLoopInStatement, BadLoopInChoice, BadLoopIn}
-use Rattle.lower.specs.task_check.declared.occurrence.Role.{Role}
-use Rattle.lower.specs.task_check.declared.occurrence.Role.TheVariants as role
-use Rattle.lower.specs.task_check.declared.occurrence.Occurrence.{Occurrence}
-use Rattle.lower.specs.task_check.declared.symbol.TypedVariable.{TypedVariable}
-use Rattle.lower.specs.task_ast.declared.WordType.{WordType}
-use Rattle.lower.specs.task_ast.Types.{is_long, joined_type, expression_type, type_of}
-use Rattle.lower.specs.task_check.declared.fault.Kept.TheVariants as kept
-use Rattle.lower.specs.task_check.SharedTypes.{shared_type}
-use Rattle.lower.specs.task_check.Occurrences.{operator_role, count_role, element_front}
-use Rattle.lower.specs.task_check.Occurrences.{and_front, expression_names, statement_names, choice_names, names_up_to, task_names, shared_names, program_names}
-use Rattle.lower.specs.task_check.LookedUp.{expression_back, statement_back, choice_back, block_back, task_back, expression_variables}
-use Rattle.lower.specs.task_check.LookedUp.{statement_variables, choice_variables, block_variables, task_variables}
-use Rattle.whole_programs.specs.Uses.{IsWordName, IsLocal, ExpressionUses, StatementUses, ChoiceUses, BlockUses}
-use Rattle.whole_programs.specs.UseLaws.{NamesAreUsedAsDeclared}
-use Rattle.whole_programs.specs.StackLaws.{enough}
-use Rattle.whole_programs.proofs.Declared.{program_declared}
-use Rattle.whole_programs.proofs.Grammar.{program_typed}
-use Rattle.whole_programs.proofs.Sources.{tree_fits}
-use Rattle.whole_programs.proofs.Walk.{array, named, operands, use_of, uses_in, AreUsed, AreClean, variables_used}
-use Rattle.whole_programs.proofs.Widths.{IsAsWide, one_word_of, joined_as_wide, unary_as_wide, binary_as_wide, not_refused}
+use Rattle.alp_text.specs.declared.lines.Span.{Span}
+use Rattle.task_ast.specs.declared.SharedDeclaration.{SharedDeclaration}
+use Rattle.task_ast.specs.declared.names.Variable.{Variable}
+use Rattle.task_ast.specs.declared.names.Variable.TheVariants.{Shared, Local}
+use Rattle.task_ast.specs.declared.names.VariableName.{VariableName}
+use Rattle.task_ast.specs.declared.names.TaskName.{TaskName}
+use Rattle.task_ast.specs.Tree as t
+use Rattle.task_ast.specs.Tree.{Expression, Task, Program}
+use Rattle.task_ast.specs.Paths.{CheckedExpression, CheckedStatement, CheckedChoice, CheckedBlock}
+use Rattle.path_checks.specs.Firsts.{SomeTask}
+use Rattle.path_checks.specs.Loops.{is_same_local, is_good_loop, block_assigns, BadLoopInStatement, BadLoopInChoice, BadLoopIn}
+use Rattle.task_check.specs.declared.occurrence.Role.{Role}
+use Rattle.task_check.specs.declared.occurrence.Role.TheVariants as role
+use Rattle.task_check.specs.declared.occurrence.Occurrence.{Occurrence}
+use Rattle.task_check.specs.declared.symbol.TypedVariable.{TypedVariable}
+use Rattle.task_ast.specs.declared.WordType.{WordType}
+use Rattle.task_ast.specs.Types.{is_long, joined_type, expression_type, type_of}
+use Rattle.task_check.specs.declared.fault.Kept.TheVariants as kept
+use Rattle.task_check.specs.SharedTypes.{shared_type}
+use Rattle.task_check.specs.Occurrences.{operator_role, count_role, element_front}
+use Rattle.task_check.specs.Occurrences.{and_front, expression_names, statement_names, choice_names, names_up_to, task_names, shared_names, program_names}
+use Rattle.task_check.specs.LookedUp.{expression_back, statement_back, choice_back, block_back, task_back, expression_variables}
+use Rattle.task_check.specs.LookedUp.{statement_variables, choice_variables, block_variables, task_variables}
+use Rattle.checked_trees.specs.Uses.{IsWordName, IsLocal, ExpressionUses, StatementUses, ChoiceUses, BlockUses}
+use Rattle.checked_trees.specs.UseLaws.{NamesAreUsedAsDeclared}
+use Rattle.checked_trees.specs.StackLaws.{enough}
+use Rattle.checked_trees.proofs.Declared.{program_declared}
+use Rattle.checked_trees.proofs.Grammar.{program_typed}
+use Rattle.checked_trees.proofs.Sources.{tree_fits}
+use Rattle.checked_trees.proofs.Walk.{array, named, operands, use_of, uses_in, AreUsed, AreClean, variables_used}
+use Rattle.checked_trees.proofs.Widths.{IsAsWide, one_word_of, joined_as_wide, unary_as_wide, binary_as_wide, not_refused}
 
 uses_append : (xs ys : List Occurrence) → uses_in (xs ++ ys) ≡ uses_in ys ++ uses_in xs
 uses_append [] ys = sym (append-nil (uses_in ys))

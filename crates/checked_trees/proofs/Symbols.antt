@@ -4,31 +4,31 @@ use Rattle.std.proofs.Common.{arith}
 use Rattle.std.specs.Option.{option_or}
 use Rattle.std.specs.Str.{bytes_eq}
 use Rattle.std.proofs.lemmas.Bool.Decides.{nat_tests}
-use Rattle.lower.specs.alp_text.declared.lines.Span.{Span}
-use Rattle.lower.specs.task_ast.declared.WordType.{WordType}
-use Rattle.lower.specs.task_ast.declared.Extent.{Extent}
-use Rattle.lower.specs.task_ast.declared.Extent.TheVariants as extent
-use Rattle.lower.specs.task_ast.Types.{IsOneWord}
-use Rattle.lower.specs.task_ast.declared.names.Variable.TheVariants.{Shared, Local as AsLocal}
-use Rattle.lower.specs.task_ast.declared.SharedDeclaration.{SharedDeclaration}
-use Rattle.lower.specs.task_check.declared.fault.CheckFault.TheVariants as fault
-use Rattle.lower.specs.task_check.declared.occurrence.Role.TheVariants as role
-use Rattle.lower.specs.task_check.declared.symbol.Symbol.TheVariants as symbol
-use Rattle.lower.proofs.task_check.Interface.{no_fault, both_none}
-use Rattle.privatise.specs.war_analysis.Plans.{IsScalarAt, IsArrayAt}
-use Rattle.lower.specs.task_check.declared.fault.CheckFault.{CheckFault}
-use Rattle.lower.specs.task_check.declared.occurrence.Role.{Role}
-use Rattle.lower.specs.task_check.declared.occurrence.Occurrence.{Occurrence}
-use Rattle.lower.specs.task_check.declared.symbol.Symbol.{Symbol}
-use Rattle.lower.specs.task_check.declared.symbol.Global.{Global}
-use Rattle.lower.specs.task_check.declared.symbol.Local.{Local}
-use Rattle.lower.specs.task_check.Scope.{text_of, shared_in, tasks_in, locals_in, locals_after, global_with, local_with, if_named, global_in, local_in}
-use Rattle.lower.specs.task_check.Scope.{or_global}
-use Rattle.lower.specs.task_check.Scope.{meaning}
-use Rattle.lower.specs.task_check.LookedUp.{symbol_by, behind, symbol_at}
-use Rattle.lower.specs.task_check.Faults.{line_at, first_fault, limit_fault, is_too_many}
-use Rattle.whole_programs.specs.Uses.{IsOfType}
-use Rattle.whole_programs.proofs.Declared.{IsDeclaration, DeclaresOf, Declared}
+use Rattle.alp_text.specs.declared.lines.Span.{Span}
+use Rattle.task_ast.specs.declared.WordType.{WordType}
+use Rattle.task_ast.specs.declared.Extent.{Extent}
+use Rattle.task_ast.specs.declared.Extent.TheVariants as extent
+use Rattle.task_ast.specs.Types.{IsOneWord}
+use Rattle.task_ast.specs.declared.names.Variable.TheVariants.{Shared, Local as AsLocal}
+use Rattle.task_ast.specs.declared.SharedDeclaration.{SharedDeclaration}
+use Rattle.task_check.specs.declared.fault.CheckFault.TheVariants as fault
+use Rattle.task_check.specs.declared.occurrence.Role.TheVariants as role
+use Rattle.task_check.specs.declared.symbol.Symbol.TheVariants as symbol
+use Rattle.task_check.proofs.Interface.{no_fault, both_none}
+use Rattle.war_analysis.specs.Plans.{IsScalarAt, IsArrayAt}
+use Rattle.task_check.specs.declared.fault.CheckFault.{CheckFault}
+use Rattle.task_check.specs.declared.occurrence.Role.{Role}
+use Rattle.task_check.specs.declared.occurrence.Occurrence.{Occurrence}
+use Rattle.task_check.specs.declared.symbol.Symbol.{Symbol}
+use Rattle.task_check.specs.declared.symbol.Global.{Global}
+use Rattle.task_check.specs.declared.symbol.Local.{Local}
+use Rattle.task_check.specs.Scope.{text_of, shared_in, tasks_in, locals_in, locals_after, global_with, local_with, if_named, global_in, local_in}
+use Rattle.task_check.specs.Scope.{or_global}
+use Rattle.task_check.specs.Scope.{meaning}
+use Rattle.task_check.specs.LookedUp.{symbol_by, behind, symbol_at}
+use Rattle.task_check.specs.Faults.{line_at, first_fault, limit_fault, is_too_many}
+use Rattle.checked_trees.specs.Uses.{IsOfType}
+use Rattle.checked_trees.proofs.Declared.{IsDeclaration, DeclaresOf, Declared}
 
 -- a symbol is of a shared variable as it was declared, or of one of 256 locals, and its type is that of one
 abbrev pub IsSound : List SharedDeclaration → Symbol → Type 0

@@ -1,14 +1,14 @@
 -- Paths: each part of a task has one, and what a path leaves unassigned.
 use Rattle.std.proofs.Common.{◌≡◌, ℕ, zero, suc, ◌-◌, Bool, true, false, List, [], ◌∷◌, ◌++◌, Some, None, refl, ap, subst, ◌∙◌, if◌then◌else◌}
-use Rattle.lower.specs.task_ast.Tree as t
-use Rattle.lower.specs.task_ast.Paths.{CheckedExpression, CheckedStatement, CheckedChoice, CheckedBlock, Access, read, write, unset, End, goes_on, goes_to}
-use Rattle.lower.specs.task_ast.Paths.{ExpressionPath, StatementPath, ChoicePath, TurnsPath, BlockPath}
-use Rattle.lower.specs.task_ast.Paths as path
-use Rattle.lower.specs.task_ast.declared.names.Variable.{Variable}
-use Rattle.lower.specs.task_ast.declared.names.Variable.TheVariants.{Shared, Local}
-use Rattle.lower.specs.task_ast.declared.names.VariableName.{VariableName}
-use Rattle.lower.specs.path_checks.Loops.{is_local}
-use Rattle.lower.specs.path_checks.Unassigned.{is_unassigned}
+use Rattle.task_ast.specs.Tree as t
+use Rattle.task_ast.specs.Paths.{CheckedExpression, CheckedStatement, CheckedChoice, CheckedBlock, Access, read, write, unset, End, goes_on, goes_to}
+use Rattle.task_ast.specs.Paths.{ExpressionPath, StatementPath, ChoicePath, TurnsPath, BlockPath}
+use Rattle.task_ast.specs.Paths as path
+use Rattle.task_ast.specs.declared.names.Variable.{Variable}
+use Rattle.task_ast.specs.declared.names.Variable.TheVariants.{Shared, Local}
+use Rattle.task_ast.specs.declared.names.VariableName.{VariableName}
+use Rattle.path_checks.specs.Loops.{is_local}
+use Rattle.path_checks.specs.Unassigned.{is_unassigned}
 
 -- ---- each part has a path
 

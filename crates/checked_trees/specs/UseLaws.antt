@@ -1,10 +1,10 @@
 -- What the checks of a source say of its names.
 use Rattle.std.specs.Prelude.{ℕ, List, All}
-use Rattle.lower.specs.task_ast.declared.names.VariableName.{VariableName}
-use Rattle.lower.specs.task_ast.declared.names.TaskName.{TaskName}
-use Rattle.lower.specs.task_ast.Tree.{Program}
+use Rattle.task_ast.specs.declared.names.VariableName.{VariableName}
+use Rattle.task_ast.specs.declared.names.TaskName.{TaskName}
+use Rattle.task_ast.specs.Tree.{Program}
 use Rattle.source_meaning.specs.Acceptance.{Checks}
-use Rattle.whole_programs.specs.Uses.{BlockUses}
+use Rattle.checked_trees.specs.Uses.{BlockUses}
 
 -- each name of a source that no check refuses is used as it was declared, and its operators have operands of their types
 abbrev pub NamesAreUsedAsDeclared : Type 0

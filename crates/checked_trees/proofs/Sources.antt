@@ -2,16 +2,16 @@
 use Rattle.std.proofs.Common.{ℕ, suc, List, [], ◌∷◌, Some, None, map, sym, subst, arith}
 use Rattle.std.specs.Prelude.{All}
 use Rattle.std.proofs.lemmas.List.Elements.{All-nil, All-cons, All-head, All-tail}
-use Rattle.lower.specs.task_ast.Tree.{Expression, Statement, Choice, Block, Task, Program}
-use Rattle.lower.specs.task_ast.Tree as t
-use Rattle.lower.specs.task_ast.declared.names.VariableName.{VariableName}
-use Rattle.lower.specs.task_ast.declared.names.TaskName.{TaskName}
-use Rattle.lower.specs.task_check.LookedUp.{expression_back, statement_back, choice_back, block_back, task_back}
+use Rattle.task_ast.specs.Tree.{Expression, Statement, Choice, Block, Task, Program}
+use Rattle.task_ast.specs.Tree as t
+use Rattle.task_ast.specs.declared.names.VariableName.{VariableName}
+use Rattle.task_ast.specs.declared.names.TaskName.{TaskName}
+use Rattle.task_check.specs.LookedUp.{expression_back, statement_back, choice_back, block_back, task_back}
 use Rattle.source_meaning.specs.Acceptance.{Checks}
-use Rattle.whole_programs.specs.Needs.{ExpressionFits, StatementFits, ChoiceFits, BlockFits}
-use Rattle.whole_programs.specs.StackLaws.{enough, SourcesFit}
-use Rattle.whole_programs.proofs.Tokens.{are_sound}
-use Rattle.whole_programs.proofs.Grammar.{program_fits}
+use Rattle.checked_trees.specs.Needs.{ExpressionFits, StatementFits, ChoiceFits, BlockFits}
+use Rattle.checked_trees.specs.StackLaws.{enough, SourcesFit}
+use Rattle.checked_trees.proofs.Tokens.{are_sound}
+use Rattle.checked_trees.proofs.Grammar.{program_fits}
 
 expression_there : (room beneath : ℕ) (e : Expression VariableName) → ExpressionFits room beneath (expression_back e) → ExpressionFits room beneath e
 expression_there room beneath (t.number w) h = h

@@ -1,13 +1,13 @@
 -- Which types are long where others are.
 use Rattle.std.proofs.Common.{◌≡◌, true, false, refl}
-use Rattle.lower.specs.task_ast.declared.WordType.{WordType}
-use Rattle.lower.specs.task_ast.declared.WordType.TheVariants.{Unsigned, Int, Long}
-use Rattle.lower.specs.task_ast.declared.UnaryOperator.{UnaryOperator}
-use Rattle.lower.specs.task_ast.declared.UnaryOperator.TheVariants as unary
-use Rattle.lower.specs.task_ast.declared.BinaryOperator.{BinaryOperator}
-use Rattle.lower.specs.task_ast.declared.BinaryOperator.TheVariants.{Multiply, Divide, Remainder, Add, Subtract, And, Xor, Or}
-use Rattle.lower.specs.task_ast.Types.{is_long, IsOneWord, joined_type, quotient_type, binary_type, unary_type}
-use Rattle.lower.specs.task_check.Occurrences.{is_refused}
+use Rattle.task_ast.specs.declared.WordType.{WordType}
+use Rattle.task_ast.specs.declared.WordType.TheVariants.{Unsigned, Int, Long}
+use Rattle.task_ast.specs.declared.UnaryOperator.{UnaryOperator}
+use Rattle.task_ast.specs.declared.UnaryOperator.TheVariants as unary
+use Rattle.task_ast.specs.declared.BinaryOperator.{BinaryOperator}
+use Rattle.task_ast.specs.declared.BinaryOperator.TheVariants.{Multiply, Divide, Remainder, Add, Subtract, And, Xor, Or}
+use Rattle.task_ast.specs.Types.{is_long, IsOneWord, joined_type, quotient_type, binary_type, unary_type}
+use Rattle.task_check.specs.Occurrences.{is_refused}
 
 -- where the first type is long, the second is
 abbrev pub IsAsWide : WordType → WordType → Type 0

@@ -2,24 +2,24 @@
 use Rattle.std.proofs.Common.{◌≡◌, ℕ, zero, suc, true, List, [], ◌∷◌, Some, refl, sym, ◌∙◌, subst, inl, inr, slice_get}
 use Rattle.std.specs.Prelude.{All}
 use Rattle.std.proofs.lemmas.List.Elements.{All-head, All-tail}
-use Rattle.lower.specs.alp_text.declared.lines.Span.{Span}
-use Rattle.lower.specs.task_ast.Tree.{Program, Task}
-use Rattle.lower.specs.task_ast.Paths.{CheckedBlock, Access, End, goes_on, BlockPath}
-use Rattle.lower.specs.task_ast.declared.SharedDeclaration.{SharedDeclaration}
-use Rattle.lower.specs.task_ast.declared.names.VariableName.{VariableName}
-use Rattle.lower.specs.task_ast.declared.names.TaskName.{TaskName}
-use Rattle.lower.specs.path_checks.Firsts.{CheckedTask, SomeTask}
-use Rattle.lower.specs.path_checks.Loops.{BadLoopIn}
-use Rattle.lower.specs.path_checks.Unassigned.{ReadsUnassigned}
-use Rattle.lower.specs.path_checks.Transitions.{OpenAt}
+use Rattle.alp_text.specs.declared.lines.Span.{Span}
+use Rattle.task_ast.specs.Tree.{Program, Task}
+use Rattle.task_ast.specs.Paths.{CheckedBlock, Access, End, goes_on, BlockPath}
+use Rattle.task_ast.specs.declared.SharedDeclaration.{SharedDeclaration}
+use Rattle.task_ast.specs.declared.names.VariableName.{VariableName}
+use Rattle.task_ast.specs.declared.names.TaskName.{TaskName}
+use Rattle.path_checks.specs.Firsts.{CheckedTask, SomeTask}
+use Rattle.path_checks.specs.Loops.{BadLoopIn}
+use Rattle.path_checks.specs.Unassigned.{ReadsUnassigned}
+use Rattle.path_checks.specs.Transitions.{OpenAt}
 use Rattle.source_meaning.specs.Acceptance.{Checks}
-use Rattle.whole_programs.specs.Needs.{BlockFits}
-use Rattle.whole_programs.specs.StackLaws.{enough}
-use Rattle.whole_programs.proofs.Sources.{sources_fit}
-use Rattle.whole_programs.specs.Uses.{BlockUses}
-use Rattle.whole_programs.proofs.Tasks.{names_are_used_as_declared}
-use Rattle.whole_programs.proofs.Paths.{behind_is, Safe, safe_of}
-use Rattle.whole_programs.proofs.Loops.{GoodBlock}
+use Rattle.checked_trees.specs.Needs.{BlockFits}
+use Rattle.checked_trees.specs.StackLaws.{enough}
+use Rattle.checked_trees.proofs.Sources.{sources_fit}
+use Rattle.checked_trees.specs.Uses.{BlockUses}
+use Rattle.checked_trees.proofs.Tasks.{names_are_used_as_declared}
+use Rattle.checked_trees.proofs.Paths.{behind_is, Safe, safe_of}
+use Rattle.checked_trees.proofs.Loops.{GoodBlock}
 
 -- what holds of each holds of the one with a number
 pub all_at : {A : Type 0} (P : A → Type 0) (xs : List A) (k : ℕ) (x : A) → All P xs → slice_get xs k ≡ Some x → P x

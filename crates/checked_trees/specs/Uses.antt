@@ -1,17 +1,16 @@
 -- That the names of a task are used as they were declared, and that its operators have operands of their types.
 use Rattle.std.specs.Prelude.{◌≡◌, ◌<◌, false, List, Some, None, slice_get, IsSomeAnd}
-use Rattle.lower.specs.task_ast.declared.Extent.{Extent}
-use Rattle.lower.specs.task_ast.declared.SharedDeclaration.{SharedDeclaration}
-use Rattle.lower.specs.task_ast.declared.WordType.{WordType}
-use Rattle.lower.specs.task_ast.declared.names.Variable.{Variable}
-use Rattle.lower.specs.task_ast.declared.names.Variable.TheVariants.{Shared, Local}
-use Rattle.lower.specs.task_ast.Tree as t
-use Rattle.lower.specs.task_ast.Paths.{CheckedExpression, CheckedStatement, CheckedChoice, CheckedBlock}
-use Rattle.lower.specs.task_ast.Types.{IsOneWord, is_long, joined_type, type_of}
-use Rattle.lower.specs.task_check.Occurrences.{is_refused}
-use Rattle.lower.specs.source_values.Runs.{is_long_extent}
-pub use Rattle.lower.specs.Agreement.{IsLocal}
-use Rattle.privatise.specs.war_analysis.Plans.{IsScalarAt, IsArrayAt}
+use Rattle.task_ast.specs.declared.Extent.{Extent}
+use Rattle.task_ast.specs.declared.SharedDeclaration.{SharedDeclaration}
+use Rattle.task_ast.specs.declared.WordType.{WordType}
+use Rattle.task_ast.specs.declared.names.Variable.{Variable}
+use Rattle.task_ast.specs.declared.names.Variable.TheVariants.{Shared, Local}
+use Rattle.task_ast.specs.Tree as t
+use Rattle.task_ast.specs.Paths.{CheckedExpression, CheckedStatement, CheckedChoice, CheckedBlock}
+use Rattle.task_ast.specs.Types.{IsOneWord, is_long, joined_type, type_of}
+use Rattle.task_check.specs.Occurrences.{is_refused}
+use Rattle.source_values.specs.Runs.{is_long_extent}
+use Rattle.war_analysis.specs.Plans.{IsScalarAt, IsArrayAt}
 
 -- a variable of a type is a long exactly where the type is long
 abbrev pub IsExtentOf : WordType → Extent → Type 0
@@ -24,6 +23,11 @@ HasItsExtent d = IsExtentOf d.word_type d.extent
 abbrev pub IsOfType : List SharedDeclaration → WordType → Variable → Type 0
 IsOfType shared of (Shared v) = IsSomeAnd (slice_get shared v) (λ d. IsExtentOf of d.extent)
 IsOfType shared of (Local n) = IsOneWord of
+
+-- a local of at most 256
+abbrev pub IsLocal : Variable → Type 0
+IsLocal (Shared v) = ⊥
+IsLocal (Local n) = n < 256
 
 -- a name without an index: a shared scalar, or a local of at most 256
 abbrev pub IsWordName : List SharedDeclaration → Variable → Type 0

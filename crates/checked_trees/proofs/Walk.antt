@@ -1,29 +1,29 @@
 -- The variables that the names of a source stand for, each by the use that is made of its name.
 use Rattle.std.proofs.Common.{◌≡◌, ℕ, Bool, false, List, [], ◌∷◌, ◌++◌, Option, Some, None}
 use Rattle.std.specs.Option.{is_none}
-use Rattle.lower.specs.alp_text.declared.lines.Span.{Span}
-use Rattle.lower.specs.task_ast.declared.SharedDeclaration.{SharedDeclaration}
-use Rattle.lower.specs.task_ast.declared.WordType.{WordType}
-use Rattle.lower.specs.task_ast.declared.names.Variable.{Variable}
-use Rattle.lower.specs.task_check.declared.fault.CheckFault.TheVariants as fault
-use Rattle.lower.specs.task_check.declared.fault.Kept.TheVariants as kept
-use Rattle.lower.specs.task_check.declared.occurrence.Role.{Role}
-use Rattle.lower.specs.task_check.declared.occurrence.Role.TheVariants as role
-use Rattle.lower.specs.task_check.declared.occurrence.Occurrence.{Occurrence}
-use Rattle.lower.specs.task_check.declared.symbol.Symbol.{Symbol}
-use Rattle.lower.specs.task_check.declared.symbol.Symbol.TheVariants as symbol
-use Rattle.lower.specs.task_check.declared.symbol.TypedVariable.{TypedVariable}
-use Rattle.lower.specs.task_check.Scope.{text_of, tasks_in, locals_in, global_in, local_in, stands_in_front}
-use Rattle.lower.specs.task_check.LookedUp.{symbol_by, variable_by, symbol_at, variables_in}
-use Rattle.lower.specs.task_check.Faults.{line_at, first_fault, is_repeated, is_unknown, name_fault, is_no_word, is_no_array, use_fault_by, use_fault}
-use Rattle.lower.specs.task_check.Faults.{limit_fault}
-use Rattle.lower.specs.task_check.SharedTypes.{type_in, shared_type}
-use Rattle.lower.proofs.task_check.Interface.{no_fault, no_name_fault}
-use Rattle.whole_programs.specs.Uses.{IsWordName, IsArrayName, IsLocal, IsOfType}
-use Rattle.whole_programs.proofs.Declared.{Declared}
-use Rattle.whole_programs.proofs.Symbols.{AreSound, Few, front_clean, here_clean, symbol_sound}
-use Rattle.whole_programs.proofs.NameTypes.{Typed, symbol_typed, as_wide}
-use Rattle.whole_programs.proofs.Widths.{IsAsWide, word_is_as_wide}
+use Rattle.alp_text.specs.declared.lines.Span.{Span}
+use Rattle.task_ast.specs.declared.SharedDeclaration.{SharedDeclaration}
+use Rattle.task_ast.specs.declared.WordType.{WordType}
+use Rattle.task_ast.specs.declared.names.Variable.{Variable}
+use Rattle.task_check.specs.declared.fault.CheckFault.TheVariants as fault
+use Rattle.task_check.specs.declared.fault.Kept.TheVariants as kept
+use Rattle.task_check.specs.declared.occurrence.Role.{Role}
+use Rattle.task_check.specs.declared.occurrence.Role.TheVariants as role
+use Rattle.task_check.specs.declared.occurrence.Occurrence.{Occurrence}
+use Rattle.task_check.specs.declared.symbol.Symbol.{Symbol}
+use Rattle.task_check.specs.declared.symbol.Symbol.TheVariants as symbol
+use Rattle.task_check.specs.declared.symbol.TypedVariable.{TypedVariable}
+use Rattle.task_check.specs.Scope.{text_of, tasks_in, locals_in, global_in, local_in, stands_in_front}
+use Rattle.task_check.specs.LookedUp.{symbol_by, variable_by, symbol_at, variables_in}
+use Rattle.task_check.specs.Faults.{line_at, first_fault, is_repeated, is_unknown, name_fault, is_no_word, is_no_array, use_fault_by, use_fault}
+use Rattle.task_check.specs.Faults.{limit_fault}
+use Rattle.task_check.specs.SharedTypes.{type_in, shared_type}
+use Rattle.task_check.proofs.Interface.{no_fault, no_name_fault}
+use Rattle.checked_trees.specs.Uses.{IsWordName, IsArrayName, IsLocal, IsOfType}
+use Rattle.checked_trees.proofs.Declared.{Declared}
+use Rattle.checked_trees.proofs.Symbols.{AreSound, Few, front_clean, here_clean, symbol_sound}
+use Rattle.checked_trees.proofs.NameTypes.{Typed, symbol_typed, as_wide}
+use Rattle.checked_trees.proofs.Widths.{IsAsWide, word_is_as_wide}
 
 -- how a name is used that stands for a variable: as a word, as an array, or it is a local that is declared
 pub data Naming : Type 0 where

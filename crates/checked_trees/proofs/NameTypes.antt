@@ -6,26 +6,26 @@ use Rattle.std.specs.Option.{option_or}
 use Rattle.std.specs.Str.{bytes_eq}
 use Rattle.std.proofs.lemmas.List.{take_more, take-append-drop}
 use Rattle.std.proofs.lemmas.Option.{slice_get_within, get_or_from_slice_get}
-use Rattle.lower.specs.alp_text.declared.lines.Span.{Span}
-use Rattle.lower.specs.task_ast.declared.SharedDeclaration.{SharedDeclaration}
-use Rattle.lower.specs.task_ast.declared.WordType.{WordType}
-use Rattle.lower.specs.task_ast.declared.WordType.TheVariants.{Unsigned}
-use Rattle.lower.specs.task_ast.declared.Extent.{Extent}
-use Rattle.lower.specs.task_ast.declared.Extent.TheVariants as extent
-use Rattle.lower.specs.task_ast.Types.{is_long}
-use Rattle.lower.specs.task_check.declared.occurrence.Role.{Role}
-use Rattle.lower.specs.task_check.declared.occurrence.Role.TheVariants as role
-use Rattle.lower.specs.task_check.declared.occurrence.Occurrence.{Occurrence}
-use Rattle.lower.specs.task_check.declared.symbol.Symbol.{Symbol}
-use Rattle.lower.specs.task_check.declared.symbol.Symbol.TheVariants as symbol
-use Rattle.lower.specs.task_check.declared.symbol.Global.{Global}
-use Rattle.lower.specs.task_check.declared.symbol.Local.{Local}
-use Rattle.lower.specs.task_check.Scope.{text_of, one_shared, shared_in, tasks_in, shared_symbol, global_with, if_named, global_in}
-use Rattle.lower.specs.task_check.Scope.{local_in, or_global, meaning}
-use Rattle.lower.specs.task_check.LookedUp.{symbol_by, behind, symbol_at}
-use Rattle.lower.specs.task_check.SharedTypes.{type_in, shared_type}
-use Rattle.whole_programs.proofs.Declared.{IsDeclaration, DeclaresOf, Declared}
-use Rattle.whole_programs.proofs.Widths.{IsAsWide}
+use Rattle.alp_text.specs.declared.lines.Span.{Span}
+use Rattle.task_ast.specs.declared.SharedDeclaration.{SharedDeclaration}
+use Rattle.task_ast.specs.declared.WordType.{WordType}
+use Rattle.task_ast.specs.declared.WordType.TheVariants.{Unsigned}
+use Rattle.task_ast.specs.declared.Extent.{Extent}
+use Rattle.task_ast.specs.declared.Extent.TheVariants as extent
+use Rattle.task_ast.specs.Types.{is_long}
+use Rattle.task_check.specs.declared.occurrence.Role.{Role}
+use Rattle.task_check.specs.declared.occurrence.Role.TheVariants as role
+use Rattle.task_check.specs.declared.occurrence.Occurrence.{Occurrence}
+use Rattle.task_check.specs.declared.symbol.Symbol.{Symbol}
+use Rattle.task_check.specs.declared.symbol.Symbol.TheVariants as symbol
+use Rattle.task_check.specs.declared.symbol.Global.{Global}
+use Rattle.task_check.specs.declared.symbol.Local.{Local}
+use Rattle.task_check.specs.Scope.{text_of, one_shared, shared_in, tasks_in, shared_symbol, global_with, if_named, global_in}
+use Rattle.task_check.specs.Scope.{local_in, or_global, meaning}
+use Rattle.task_check.specs.LookedUp.{symbol_by, behind, symbol_at}
+use Rattle.task_check.specs.SharedTypes.{type_in, shared_type}
+use Rattle.checked_trees.proofs.Declared.{IsDeclaration, DeclaresOf, Declared}
+use Rattle.checked_trees.proofs.Widths.{IsAsWide}
 
 -- a symbol of a shared variable has this type
 abbrev TypedBy : Option WordType → Symbol → Type 0

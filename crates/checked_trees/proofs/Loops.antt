@@ -1,10 +1,10 @@
 -- A loop of a checked source counts in a local, which its body doesn't assign.
 use Rattle.std.proofs.Common.{◌≡◌, ℕ, Bool, true, false, ◌&&◌, not, refl, inl}
-use Rattle.lower.specs.alp_text.declared.lines.Span.{Span}
-use Rattle.lower.specs.task_ast.Tree as t
-use Rattle.lower.specs.task_ast.Paths.{CheckedStatement, CheckedChoice, CheckedBlock}
-use Rattle.lower.specs.task_ast.declared.names.VariableName.{VariableName}
-use Rattle.lower.specs.path_checks.Loops.{is_same_local, block_assigns, is_good_loop, BadLoopInStatement, BadLoopInChoice, BadLoopIn}
+use Rattle.alp_text.specs.declared.lines.Span.{Span}
+use Rattle.task_ast.specs.Tree as t
+use Rattle.task_ast.specs.Paths.{CheckedStatement, CheckedChoice, CheckedBlock}
+use Rattle.task_ast.specs.declared.names.VariableName.{VariableName}
+use Rattle.path_checks.specs.Loops.{is_same_local, block_assigns, is_good_loop, BadLoopInStatement, BadLoopInChoice, BadLoopIn}
 
 -- no loop is bad
 abbrev pub GoodStatement : CheckedStatement → Type 0

@@ -2,18 +2,18 @@
 -- is an assignment.
 use Rattle.std.proofs.Common.{◌≡◌, ℕ, ◌-◌, ◌==◌, ◌<◌, List, Bool, true, false, ◌&&◌, ◌||◌, Some, None, refl, sym, ap, ◌∙◌, ⊎_elim, arith, if◌then◌else◌}
 use Rattle.std.proofs.lemmas.Bool.{or_cases, or_left, or_right, and_parts, and_from, eqb-true}
-use Rattle.lower.specs.task_ast.declared.SharedDeclaration.{SharedDeclaration}
-use Rattle.lower.specs.task_ast.declared.names.Variable.{Variable}
-use Rattle.lower.specs.task_ast.declared.names.Variable.TheVariants.{Shared, Local}
-use Rattle.lower.specs.task_ast.declared.names.VariableName.{VariableName}
-use Rattle.lower.specs.task_ast.Tree as t
-use Rattle.lower.specs.task_ast.Paths.{CheckedExpression, CheckedStatement, CheckedChoice, CheckedBlock}
-use Rattle.lower.specs.path_sums.Sums.{expression_sum, statement_sum, choice_sum, block_sum}
-use Rattle.lower.specs.path_sums.Access.{is_same, summary, summary_unit, summary_read, summary_write, summary_seq}
-use Rattle.lower.specs.path_sums.Reaches.{statement_falls_through, choice_falls_through, block_falls_through}
-use Rattle.lower.specs.path_sums.declared.access.AccessSummary.{AccessSummary}
-use Rattle.lower.specs.cost_bound.Counts.{is_shared, statement_assigns, choice_assigns, block_assigns}
-use Rattle.whole_programs.specs.Uses.{IsLocal, StatementUses, ChoiceUses, BlockUses}
+use Rattle.task_ast.specs.declared.SharedDeclaration.{SharedDeclaration}
+use Rattle.task_ast.specs.declared.names.Variable.{Variable}
+use Rattle.task_ast.specs.declared.names.Variable.TheVariants.{Shared, Local}
+use Rattle.task_ast.specs.declared.names.VariableName.{VariableName}
+use Rattle.task_ast.specs.Tree as t
+use Rattle.task_ast.specs.Paths.{CheckedExpression, CheckedStatement, CheckedChoice, CheckedBlock}
+use Rattle.path_sums.specs.Sums.{expression_sum, statement_sum, choice_sum, block_sum}
+use Rattle.path_sums.specs.Access.{is_same, summary, summary_unit, summary_read, summary_write, summary_seq}
+use Rattle.path_sums.specs.Reaches.{statement_falls_through, choice_falls_through, block_falls_through}
+use Rattle.path_sums.specs.declared.access.AccessSummary.{AccessSummary}
+use Rattle.cost_bound.specs.Counts.{is_shared, statement_assigns, choice_assigns, block_assigns}
+use Rattle.checked_trees.specs.Uses.{IsLocal, StatementUses, ChoiceUses, BlockUses}
 
 -- ---- tests
 

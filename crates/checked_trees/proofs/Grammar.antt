@@ -3,27 +3,27 @@ use Rattle.std.proofs.Common.{◌≡◌, ℕ, suc, ◌+◌, ◌*◌, ◌≤◌, 
 use Rattle.std.proofs.Common.{append_assoc}
 use Rattle.std.specs.Prelude.{All}
 use Rattle.std.proofs.lemmas.List.Elements.{All-nil, All-cons}
-use Rattle.lower.specs.task_ast.declared.UnaryOperator.{UnaryOperator}
-use Rattle.lower.specs.task_ast.declared.WordType.{WordType}
-use Rattle.lower.specs.task_ast.declared.WordType.TheVariants.{Unsigned, Int, Long}
-use Rattle.lower.specs.task_ast.declared.Extent.{Extent}
-use Rattle.lower.specs.task_ast.declared.SharedDeclaration.{SharedDeclaration}
-use Rattle.lower.specs.task_ast.Tree.{block_of, choice_of}
-use Rattle.lower.specs.task_ast.Types.{IsOneWord, is_long}
-use Rattle.lower.specs.task_lex.declared.token.Token.{Token}
-use Rattle.lower.specs.task_lex.declared.token.Kind.{Kind}
-use Rattle.lower.specs.task_lex.declared.token.Kind.TheVariants as k
-use Rattle.lower.specs.task_lex.Lex.{is_end, width_after}
-use Rattle.source_meaning.specs.task_parse.task_grammar.declared.operators.Infix.{Infix}
-use Rattle.source_meaning.specs.task_parse.Parsed.{Expression, Statement, Block, Tested, Task, Program}
-use Rattle.source_meaning.specs.task_parse.Grammar.{prefix_of, infix_of, weakest, type_of, IsExpression, IsGiven, IsStatement, IsElses, IsArm, IsBlock}
-use Rattle.source_meaning.specs.task_parse.Grammar.{IsStatements, Row}
-use Rattle.source_meaning.specs.task_parse.Grammar.{IsExtent, IsWorth, IsLongExtent, IsShared, IsTask, IsProgram}
-use Rattle.source_meaning.specs.task_parse.Grammar as grammar
-use Rattle.whole_programs.specs.Needs.{ExpressionFits, StatementFits, ChoiceFits, BlockFits}
-use Rattle.lower.specs.source_values.Runs.{is_long_extent}
-use Rattle.whole_programs.specs.Uses.{HasItsExtent}
-use Rattle.whole_programs.proofs.Tokens.{AreSound}
+use Rattle.task_ast.specs.declared.UnaryOperator.{UnaryOperator}
+use Rattle.task_ast.specs.declared.WordType.{WordType}
+use Rattle.task_ast.specs.declared.WordType.TheVariants.{Unsigned, Int, Long}
+use Rattle.task_ast.specs.declared.Extent.{Extent}
+use Rattle.task_ast.specs.declared.SharedDeclaration.{SharedDeclaration}
+use Rattle.task_ast.specs.Tree.{block_of, choice_of}
+use Rattle.task_ast.specs.Types.{IsOneWord, is_long}
+use Rattle.task_lex.specs.declared.token.Token.{Token}
+use Rattle.task_lex.specs.declared.token.Kind.{Kind}
+use Rattle.task_lex.specs.declared.token.Kind.TheVariants as k
+use Rattle.task_lex.specs.Lex.{is_end, width_after}
+use Rattle.task_grammar.specs.declared.operators.Infix.{Infix}
+use Rattle.task_grammar.specs.Parsed.{Expression, Statement, Block, Tested, Task, Program}
+use Rattle.task_grammar.specs.Grammar.{prefix_of, infix_of, weakest, type_of, IsExpression, IsGiven, IsStatement, IsElses, IsArm, IsBlock}
+use Rattle.task_grammar.specs.Grammar.{IsStatements, Row}
+use Rattle.task_grammar.specs.Grammar.{IsExtent, IsWorth, IsLongExtent, IsShared, IsTask, IsProgram}
+use Rattle.task_grammar.specs.Grammar as grammar
+use Rattle.checked_trees.specs.Needs.{ExpressionFits, StatementFits, ChoiceFits, BlockFits}
+use Rattle.source_values.specs.Runs.{is_long_extent}
+use Rattle.checked_trees.specs.Uses.{HasItsExtent}
+use Rattle.checked_trees.proofs.Tokens.{AreSound}
 
 -- ---- tokens that end no row
 

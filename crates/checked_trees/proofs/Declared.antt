@@ -2,23 +2,23 @@
 use Rattle.std.proofs.Common.{◌≡◌, ℕ, ◌+◌, List, [], ◌∷◌, ◌++◌, length, Option, Some, None, slice_get, refl, sym, ap, ◌∙◌, subst, arith, append_assoc}
 use Rattle.std.specs.Prelude.{All}
 use Rattle.std.proofs.lemmas.List.Elements.{All-head, All-tail}
-use Rattle.lower.specs.alp_text.declared.lines.Span.{Span}
-use Rattle.lower.specs.task_ast.declared.Extent.{Extent}
-use Rattle.lower.specs.task_ast.declared.SharedDeclaration.{SharedDeclaration}
-use Rattle.lower.specs.task_ast.Tree as t
-use Rattle.lower.specs.task_ast.Tree.{Expression, Statement, Choice, Block, Task, Program}
-use Rattle.lower.specs.task_ast.declared.WordType.{WordType}
-use Rattle.lower.specs.task_ast.Types.{IsOneWord}
-use Rattle.lower.specs.task_check.SharedTypes.{shared_type}
-use Rattle.lower.specs.task_check.Occurrences.{element_front}
-use Rattle.lower.specs.task_check.declared.occurrence.Role.{Role}
-use Rattle.lower.specs.task_check.declared.occurrence.Role.TheVariants as role
-use Rattle.lower.specs.task_check.declared.occurrence.Occurrence.{Occurrence}
-use Rattle.lower.specs.task_check.Occurrences.{and_front, expression_names, value_names, statement_names, choice_names, names_up_to, task_names, shared_names}
-use Rattle.lower.specs.task_check.Occurrences.{program_names}
-use Rattle.lower.specs.task_check.Scope.{shared_in}
-use Rattle.whole_programs.specs.Needs.{StatementFits, ChoiceFits, BlockFits}
-use Rattle.whole_programs.specs.Uses.{IsExtentOf, HasItsExtent}
+use Rattle.alp_text.specs.declared.lines.Span.{Span}
+use Rattle.task_ast.specs.declared.Extent.{Extent}
+use Rattle.task_ast.specs.declared.SharedDeclaration.{SharedDeclaration}
+use Rattle.task_ast.specs.Tree as t
+use Rattle.task_ast.specs.Tree.{Expression, Statement, Choice, Block, Task, Program}
+use Rattle.task_ast.specs.declared.WordType.{WordType}
+use Rattle.task_ast.specs.Types.{IsOneWord}
+use Rattle.task_check.specs.SharedTypes.{shared_type}
+use Rattle.task_check.specs.Occurrences.{element_front}
+use Rattle.task_check.specs.declared.occurrence.Role.{Role}
+use Rattle.task_check.specs.declared.occurrence.Role.TheVariants as role
+use Rattle.task_check.specs.declared.occurrence.Occurrence.{Occurrence}
+use Rattle.task_check.specs.Occurrences.{and_front, expression_names, value_names, statement_names, choice_names, names_up_to, task_names, shared_names}
+use Rattle.task_check.specs.Occurrences.{program_names}
+use Rattle.task_check.specs.Scope.{shared_in}
+use Rattle.checked_trees.specs.Needs.{StatementFits, ChoiceFits, BlockFits}
+use Rattle.checked_trees.specs.Uses.{IsExtentOf, HasItsExtent}
 
 -- a name with a type and an extent is that of the declaration of its number
 pub record IsDeclaration (shared : List SharedDeclaration) (n : ℕ) (name : Span) (of : WordType) (e : Extent) : Type 0 where

@@ -1,0 +1,4 @@
+pub mod Uses
+pub mod UseLaws
+pub mod Needs
+pub mod StackLaws
