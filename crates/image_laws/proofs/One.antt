@@ -5,11 +5,9 @@ use Rattle.memory_map.specs.address_space.Limits.{fram_first, fram_words}
 use Rattle.linked_code.specs.cost_bound.declared.allowance.Allow.{Allow}
 use Rattle.linked_code.specs.cost_bound.Allowance.{IsAllowed}
 use Rattle.whole_programs.specs.source_values.Runs.{CheckedProgram}
-use Rattle.war_analysis.specs.PlanValue.{TaskPlanValue}
 use Rattle.war_analysis.specs.Laws.{OnePlan}
 use Rattle.privatise.specs.Layouts.{IsLayout}
 use Rattle.privatise.specs.Laws.{OneLayout}
-use Rattle.memory_map.specs.MemoryMap.{MemoryMap}
 use Rattle.image_text.specs.ImageValue.{ImageValue, place_of}
 use Rattle.linked_code.specs.machine_effects.Machine.{IsFram, fram_of}
 use Rattle.source_maps.specs.Maps.{map_of}
