@@ -10,7 +10,7 @@ import sys
 ROOT = os.path.join(os.path.dirname(os.path.abspath(__file__)), "..")
 CRATES = os.path.join(ROOT, "crates")
 START = "alpaca_cli/specs/Answers.antt"
-APART = ("link_image/", "image_reports/", "asm_line/", "msp_asm/", "source_generator/", "state_text/", "fram_state/", "compiled_states/",
+APART = ("image_laws/", "image_reports/", "asm_line/", "msp_asm/", "source_generator/", "state_text/", "fram_state/", "compiled_states/",
          "state_commands/", "alpaca_cli/specs/OfSources.antt", "report_audit/")
 
 

@@ -9,7 +9,7 @@ use Rattle.plain_commands.specs.fram_board.Run.{RunOutcome}
 use Rattle.plain_commands.specs.fram_board.Saved.{saved}
 use Rattle.plain_commands.specs.cost_bound.declared.allowance.Allow.{Allow}
 use Rattle.plain_commands.specs.source_meaning.Acceptance.{IsAcceptedText}
-use Rattle.compiler_commands.specs.link_image.Compiled.{IsCompiled, IsImageOf}
+use Rattle.compiler_commands.specs.image_laws.Compiled.{IsCompiled, IsImageOf}
 use Rattle.compiled_states.specs.Worlds.{BelongsAt, IsToldByItsSource, LeavesItsStates}
 use Rattle.state_commands.specs.Saved.{from_state}
 use Rattle.state_commands.specs.Migrated.{HoldsOfMigrations, old_edition, new_edition}

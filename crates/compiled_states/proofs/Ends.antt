@@ -1,23 +1,23 @@
 -- What is saved at the end of a run is what is saved of the board behind its last moment.
 use Rattle.std.proofs.Common.{◌≡◌, ℕ, ◌-◌, refl, sym, ap, ◌∙◌, List, [], ◌∷◌, ◌++◌, Option, Err}
-use Rattle.image_reports.specs.link_image.msp_isa.declared.instructions.Instr.{Instr}
-use Rattle.image_reports.specs.link_image.msp_step.declared.machine.Stop.{Stop}
-use Rattle.image_reports.specs.link_image.msp_step.Registers.{Registers, registers_of}
-use Rattle.image_reports.specs.link_image.msp_step.Access.{Access, Completed, Faulted}
-use Rattle.image_reports.specs.link_image.msp_step.Effect.{Written}
-use Rattle.image_reports.specs.link_image.msp_step.Step.{effect, outcome_of}
-use Rattle.image_reports.proofs.link_image.fram_board.msp_step.Interface.{Ends, effect_ends}
-use Rattle.image_reports.specs.link_image.image_map.MapValue.{MapValue}
+use Rattle.image_reports.specs.image_laws.msp_isa.declared.instructions.Instr.{Instr}
+use Rattle.image_reports.specs.image_laws.msp_step.declared.machine.Stop.{Stop}
+use Rattle.image_reports.specs.image_laws.msp_step.Registers.{Registers, registers_of}
+use Rattle.image_reports.specs.image_laws.msp_step.Access.{Access, Completed, Faulted}
+use Rattle.image_reports.specs.image_laws.msp_step.Effect.{Written}
+use Rattle.image_reports.specs.image_laws.msp_step.Step.{effect, outcome_of}
+use Rattle.image_reports.proofs.image_laws.fram_board.msp_step.Interface.{Ends, effect_ends}
+use Rattle.image_reports.specs.image_laws.image_map.MapValue.{MapValue}
 use Rattle.fram_state.specs.state_text.declared.state.State.{State}
-use Rattle.image_reports.specs.link_image.fram_board.Bus.{BusState, board_bus}
-use Rattle.image_reports.specs.link_image.fram_board.Board.{BoardValue, opened, board_outcome, executed, powered, next_number, receiver_after}
-use Rattle.image_reports.specs.link_image.fram_board.Saved.{saved}
-use Rattle.image_reports.specs.link_image.fram_board.Run.{Measure, Moment, Charges, Stopped, RunOutcome, run_outcome, BoardCharge, price}
-use Rattle.image_reports.specs.link_image.fram_board.Run.{ChargeRun, Spent, NoInstruction}
-use Rattle.image_reports.specs.link_image.fram_board.Run.{TooDear, Refused, Executed, Run, Over, Next, Last}
-use Rattle.image_reports.proofs.link_image.fram_board.Interface.{only_takes}
-use Rattle.image_reports.specs.link_image.machine_effects.Runs.{last_board}
-use Rattle.image_reports.proofs.link_image.run_charges.Interface.{charge_last}
+use Rattle.image_reports.specs.image_laws.fram_board.Bus.{BusState, board_bus}
+use Rattle.image_reports.specs.image_laws.fram_board.Board.{BoardValue, opened, board_outcome, executed, powered, next_number, receiver_after}
+use Rattle.image_reports.specs.image_laws.fram_board.Saved.{saved}
+use Rattle.image_reports.specs.image_laws.fram_board.Run.{Measure, Moment, Charges, Stopped, RunOutcome, run_outcome, BoardCharge, price}
+use Rattle.image_reports.specs.image_laws.fram_board.Run.{ChargeRun, Spent, NoInstruction}
+use Rattle.image_reports.specs.image_laws.fram_board.Run.{TooDear, Refused, Executed, Run, Over, Next, Last}
+use Rattle.image_reports.proofs.image_laws.fram_board.Interface.{only_takes}
+use Rattle.image_reports.specs.image_laws.machine_effects.Runs.{last_board}
+use Rattle.image_reports.proofs.image_laws.run_charges.Interface.{charge_last}
 
 module _ (map : Option MapValue) where
   -- an instruction that stops takes readings alone

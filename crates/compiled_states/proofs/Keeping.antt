@@ -20,11 +20,11 @@ use Rattle.image_reports.specs.layout_facts.stands_for.Layout.{ProgramPlaces, Is
 use Rattle.image_reports.specs.layout_facts.stands_for.StandsFor.{IsAtRest, IsPendingCommit, IsSound, SoundAtRest, SoundPending}
 use Rattle.image_reports.specs.layout_facts.compiled_model.Places.{program_places}
 use Rattle.image_reports.specs.layout_facts.Facts.{HasLayout}
-use Rattle.image_reports.specs.link_image.machine_effects.World.{World}
-use Rattle.image_reports.specs.link_image.machine_effects.Machine.{fram_of}
-use Rattle.image_reports.specs.link_image.source_maps.Maps.{map_of}
-use Rattle.image_reports.specs.link_image.source_maps.Placing.{ArePlacesOf}
-use Rattle.image_reports.specs.link_image.image_map.MapValue.{MapValue}
+use Rattle.image_reports.specs.image_laws.machine_effects.World.{World}
+use Rattle.image_reports.specs.image_laws.machine_effects.Machine.{fram_of}
+use Rattle.image_reports.specs.image_laws.source_maps.Maps.{map_of}
+use Rattle.image_reports.specs.image_laws.source_maps.Placing.{ArePlacesOf}
+use Rattle.image_reports.specs.image_laws.image_map.MapValue.{MapValue}
 use Rattle.fram_state.specs.declared.runtime.Runtime.{Runtime}
 use Rattle.fram_state.specs.declared.fault.Rule.{Rule}
 use Rattle.fram_state.specs.declared.fault.Rule.TheVariants as rule

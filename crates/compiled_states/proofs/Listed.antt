@@ -17,10 +17,10 @@ use Rattle.image_reports.proofs.layout_facts.runtime_effects.Interface.{run_leng
 use Rattle.image_reports.specs.layout_facts.stands_for.Layout.{ProgramPlaces, IsSharedWord, IsCopyWord, IsAmong}
 use Rattle.image_reports.specs.layout_facts.compiled_model.Places.{program_places}
 use Rattle.image_reports.specs.layout_facts.Facts.{HasLayout}
-use Rattle.image_reports.specs.link_image.source_maps.Maps.{map_of}
-use Rattle.image_reports.specs.link_image.source_maps.Placing.{ArePlacesOf}
-use Rattle.image_reports.specs.link_image.image_map.MapValue.{MapValue, IsFramWord}
-use Rattle.image_reports.specs.link_image.machine_effects.Machine.{IsFram, fram_of}
+use Rattle.image_reports.specs.image_laws.source_maps.Maps.{map_of}
+use Rattle.image_reports.specs.image_laws.source_maps.Placing.{ArePlacesOf}
+use Rattle.image_reports.specs.image_laws.image_map.MapValue.{MapValue, IsFramWord}
+use Rattle.image_reports.specs.image_laws.machine_effects.Machine.{IsFram, fram_of}
 use Rattle.fram_state.specs.declared.entry.Entry.{Entry}
 use Rattle.fram_state.specs.Stretch.{words_at, lies_in}
 use Rattle.fram_state.specs.Named.{copies_words, is_shared}

@@ -22,17 +22,17 @@ use Rattle.image_reports.proofs.layout_facts.memory_map.Interface.{apart_of, eve
 use Rattle.image_reports.specs.layout_facts.stands_for.StandsFor.{RestsAt, IsAtRest, SoundAtRest}
 use Rattle.image_reports.specs.layout_facts.compiled_model.Places.{program_places}
 use Rattle.image_reports.specs.layout_facts.compiled_model.View.{row_in, state_view, state_in}
-use Rattle.image_reports.specs.link_image.image_map.MapValue.{MapValue}
-use Rattle.image_reports.specs.link_image.image_map.Kept.{IsMap}
-use Rattle.image_reports.specs.link_image.image_text.ImageValue.{ImageValue}
-use Rattle.image_reports.specs.link_image.machine_effects.Machine.{IsFram, fram_of}
-use Rattle.image_reports.specs.link_image.cost_bound.declared.allowance.Allow.{Allow}
-use Rattle.image_reports.specs.link_image.source_values.Runs.{CheckedProgram}
-use Rattle.image_reports.specs.link_image.source_meaning.Acceptance.{IsAcceptedText}
-use Rattle.image_reports.specs.link_image.source_maps.Maps.{map_of}
-use Rattle.image_reports.specs.link_image.Compiled.{IsCompiled}
-use Rattle.image_reports.specs.link_image.Laws.{IsFreshImage}
-use Rattle.image_reports.proofs.link_image.Interface.{images_are_fresh, worlds_stand}
+use Rattle.image_reports.specs.image_laws.image_map.MapValue.{MapValue}
+use Rattle.image_reports.specs.image_laws.image_map.Kept.{IsMap}
+use Rattle.image_reports.specs.image_laws.image_text.ImageValue.{ImageValue}
+use Rattle.image_reports.specs.image_laws.machine_effects.Machine.{IsFram, fram_of}
+use Rattle.image_reports.specs.image_laws.cost_bound.declared.allowance.Allow.{Allow}
+use Rattle.image_reports.specs.image_laws.source_values.Runs.{CheckedProgram}
+use Rattle.image_reports.specs.image_laws.source_meaning.Acceptance.{IsAcceptedText}
+use Rattle.image_reports.specs.image_laws.source_maps.Maps.{map_of}
+use Rattle.image_reports.specs.image_laws.Compiled.{IsCompiled}
+use Rattle.image_reports.specs.image_laws.Laws.{IsFreshImage}
+use Rattle.image_reports.proofs.image_laws.Interface.{images_are_fresh, worlds_stand}
 use Rattle.image_reports.specs.Resumed.{BelongsTo}
 use Rattle.image_reports.proofs.Interface.{images_belong}
 use Rattle.compiled_states.specs.Worlds.{world_of, state_with, MayHaveAccepted, HasFramWords, HasCodeWords, BelongsAt}

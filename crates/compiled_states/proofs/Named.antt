@@ -21,11 +21,11 @@ use Rattle.image_reports.specs.layout_facts.stands_for.Layout.{IsSharedWord}
 use Rattle.image_reports.specs.layout_facts.compiled_model.Places.{program_places}
 use Rattle.image_reports.specs.layout_facts.Facts.{HasLayout}
 use Rattle.image_reports.proofs.layout_facts.Interface.{shared_words_are_of_variables}
-use Rattle.image_reports.specs.link_image.machine_effects.Machine.{IsFram}
-use Rattle.image_reports.specs.link_image.source_runs.Naming.{length_of}
-use Rattle.image_reports.specs.link_image.source_maps.Maps.{map_words, map_list, map_buffer, value_type_of, variable_of, variables_of, map_of}
-use Rattle.image_reports.specs.link_image.source_maps.Placing.{IsOfKind, ArePlacesOf}
-use Rattle.image_reports.specs.link_image.image_map.MapValue.{MapValue, word_count}
+use Rattle.image_reports.specs.image_laws.machine_effects.Machine.{IsFram}
+use Rattle.image_reports.specs.image_laws.source_runs.Naming.{length_of}
+use Rattle.image_reports.specs.image_laws.source_maps.Maps.{map_words, map_list, map_buffer, value_type_of, variable_of, variables_of, map_of}
+use Rattle.image_reports.specs.image_laws.source_maps.Placing.{IsOfKind, ArePlacesOf}
+use Rattle.image_reports.specs.image_laws.image_map.MapValue.{MapValue, word_count}
 use Rattle.fram_state.specs.Stretch.{holds, is_held}
 use Rattle.fram_state.specs.Named.{place_words, list_words, variable_words, runtime_words, buffers, is_shared, is_named}
 use Rattle.compiled_states.proofs.Full.{IsFull, layout_is_full}

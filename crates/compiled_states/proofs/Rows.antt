@@ -14,13 +14,13 @@ use Rattle.image_reports.specs.layout_facts.memory_map.Places.{end_of, scalar_wo
 use Rattle.image_reports.proofs.layout_facts.memory_map.Interface.{in_order_end}
 use Rattle.image_reports.specs.layout_facts.stands_for.StandsFor.{words_at}
 use Rattle.image_reports.specs.layout_facts.compiled_model.View.{row_in}
-use Rattle.image_reports.specs.link_image.image_map.declared.parts.Variable.{Variable}
-use Rattle.image_reports.specs.link_image.image_map.MapValue.{word_count}
-use Rattle.image_reports.specs.link_image.source_values.Runs.{initial_words}
-use Rattle.image_reports.specs.link_image.source_runs.Naming.{length_of}
-use Rattle.image_reports.specs.link_image.source_maps.Maps.{value_type_of, variable_of, variables_of}
-use Rattle.image_reports.specs.link_image.source_maps.Placing.{IsOfKind, ArePlacesOf}
-use Rattle.image_reports.proofs.link_image.Interface.{half}
+use Rattle.image_reports.specs.image_laws.image_map.declared.parts.Variable.{Variable}
+use Rattle.image_reports.specs.image_laws.image_map.MapValue.{word_count}
+use Rattle.image_reports.specs.image_laws.source_values.Runs.{initial_words}
+use Rattle.image_reports.specs.image_laws.source_runs.Naming.{length_of}
+use Rattle.image_reports.specs.image_laws.source_maps.Maps.{value_type_of, variable_of, variables_of}
+use Rattle.image_reports.specs.image_laws.source_maps.Placing.{IsOfKind, ArePlacesOf}
+use Rattle.image_reports.proofs.image_laws.Interface.{half}
 use Rattle.fram_state.specs.Stretch.{holds}
 use Rattle.fram_state.specs.Named.{variable_words, is_shared}
 use Rattle.fram_state.specs.Migrated.{shared_word}

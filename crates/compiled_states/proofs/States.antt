@@ -13,31 +13,31 @@ use Rattle.image_reports.specs.layout_facts.memory_map.declared.words.RuntimeWor
 use Rattle.image_reports.specs.layout_facts.memory_map.MemoryMap.{MemoryMap, word_place}
 use Rattle.image_reports.specs.layout_facts.Facts.{HasLayout}
 use Rattle.image_reports.proofs.layout_facts.whole_programs.Interface.{privates_are_few}
-use Rattle.image_reports.specs.link_image.image_map.MapValue.{MapValue}
-use Rattle.image_reports.specs.link_image.image_text.ImageValue.{ImageValue}
-use Rattle.image_reports.specs.link_image.fram_board.Board.{BoardValue}
-use Rattle.image_reports.specs.link_image.fram_board.Run.{BoardCharge, Moment, RunOutcome, Run}
-use Rattle.image_reports.specs.link_image.fram_board.Saved.{saved}
-use Rattle.image_reports.specs.link_image.board_run.Charges.{charges_of}
-use Rattle.image_reports.specs.link_image.board_run.History.{start_of}
-use Rattle.image_reports.specs.link_image.board_run.Report.{report_of}
-use Rattle.image_reports.specs.link_image.machine_effects.World.{World}
-use Rattle.image_reports.specs.link_image.machine_effects.Machine.{IsFram, fram_of}
-use Rattle.image_reports.specs.link_image.machine_effects.Runs.{last_board}
-use Rattle.image_reports.specs.link_image.crash_rules.History.{first_history}
-use Rattle.image_reports.specs.link_image.run_charges.Charges.{ArePowerStates}
-use Rattle.image_reports.specs.link_image.run_charges.Laws.{IsRunOfWords}
-use Rattle.image_reports.proofs.link_image.run_charges.Interface.{Counts, moments_count, front_moments}
-use Rattle.image_reports.specs.link_image.cost_bound.declared.allowance.Allow.{Allow}
-use Rattle.image_reports.specs.link_image.source_values.Runs.{CheckedProgram}
-use Rattle.image_reports.specs.link_image.source_meaning.Acceptance.{IsAcceptedText}
-use Rattle.image_reports.proofs.link_image.source_runs.Interface.{traces_are_few}
-use Rattle.image_reports.specs.link_image.source_maps.Maps.{map_of}
-use Rattle.image_reports.specs.link_image.source_maps.Laws.{IsSourceMap}
-use Rattle.image_reports.specs.link_image.Compiled.{IsCompiled}
-use Rattle.image_reports.specs.link_image.Laws.{IsFreshImage}
-use Rattle.image_reports.proofs.link_image.Interface.{laid_out, images_are_fresh}
-use Rattle.image_reports.proofs.link_image.compiled_runs.Interface.{code_is_placed}
+use Rattle.image_reports.specs.image_laws.image_map.MapValue.{MapValue}
+use Rattle.image_reports.specs.image_laws.image_text.ImageValue.{ImageValue}
+use Rattle.image_reports.specs.image_laws.fram_board.Board.{BoardValue}
+use Rattle.image_reports.specs.image_laws.fram_board.Run.{BoardCharge, Moment, RunOutcome, Run}
+use Rattle.image_reports.specs.image_laws.fram_board.Saved.{saved}
+use Rattle.image_reports.specs.image_laws.board_run.Charges.{charges_of}
+use Rattle.image_reports.specs.image_laws.board_run.History.{start_of}
+use Rattle.image_reports.specs.image_laws.board_run.Report.{report_of}
+use Rattle.image_reports.specs.image_laws.machine_effects.World.{World}
+use Rattle.image_reports.specs.image_laws.machine_effects.Machine.{IsFram, fram_of}
+use Rattle.image_reports.specs.image_laws.machine_effects.Runs.{last_board}
+use Rattle.image_reports.specs.image_laws.crash_rules.History.{first_history}
+use Rattle.image_reports.specs.image_laws.run_charges.Charges.{ArePowerStates}
+use Rattle.image_reports.specs.image_laws.run_charges.Laws.{IsRunOfWords}
+use Rattle.image_reports.proofs.image_laws.run_charges.Interface.{Counts, moments_count, front_moments}
+use Rattle.image_reports.specs.image_laws.cost_bound.declared.allowance.Allow.{Allow}
+use Rattle.image_reports.specs.image_laws.source_values.Runs.{CheckedProgram}
+use Rattle.image_reports.specs.image_laws.source_meaning.Acceptance.{IsAcceptedText}
+use Rattle.image_reports.proofs.image_laws.source_runs.Interface.{traces_are_few}
+use Rattle.image_reports.specs.image_laws.source_maps.Maps.{map_of}
+use Rattle.image_reports.specs.image_laws.source_maps.Laws.{IsSourceMap}
+use Rattle.image_reports.specs.image_laws.Compiled.{IsCompiled}
+use Rattle.image_reports.specs.image_laws.Laws.{IsFreshImage}
+use Rattle.image_reports.proofs.image_laws.Interface.{laid_out, images_are_fresh}
+use Rattle.image_reports.proofs.image_laws.compiled_runs.Interface.{code_is_placed}
 use Rattle.image_reports.specs.ImageLaw.{KeepsCode}
 use Rattle.image_reports.specs.Resumed.{BelongsTo, known_from, IsToldOnward, IsResumedRun}
 use Rattle.image_reports.proofs.Interface.{made, images_belong, of_words, images_resume}

@@ -9,9 +9,9 @@ use Rattle.image_reports.specs.layout_facts.memory_map.declared.place.VariablePl
 use Rattle.image_reports.specs.layout_facts.memory_map.declared.place.PrivateScalar.{PrivateScalar}
 use Rattle.image_reports.specs.layout_facts.memory_map.MemoryMap.{TaskPlace}
 use Rattle.image_reports.specs.layout_facts.privatise.Layouts.{IsTaskLayout}
-use Rattle.image_reports.specs.link_image.image_map.MapValue.{TaskValue}
-use Rattle.image_reports.specs.link_image.source_maps.Maps.{variables_of, shared_name, task_value_of, tasks_of, map_of}
-use Rattle.image_reports.specs.link_image.source_maps.Placing.{ArePlacesOf}
+use Rattle.image_reports.specs.image_laws.image_map.MapValue.{TaskValue}
+use Rattle.image_reports.specs.image_laws.source_maps.Maps.{variables_of, shared_name, task_value_of, tasks_of, map_of}
+use Rattle.image_reports.specs.image_laws.source_maps.Placing.{ArePlacesOf}
 use Rattle.compiled_states.specs.Laws.{ImagesSuitTheirSources}
 use Rattle.compiled_states.proofs.States.{source_map}
 

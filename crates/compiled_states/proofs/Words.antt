@@ -5,10 +5,10 @@ use Rattle.std.proofs.Common.{arith}
 use Rattle.std.specs.Prelude.{nat_le, nat_lt, slice_index}
 use Rattle.std.proofs.lemmas.Bool.{leb-true, le-leb, lt-ltb, eq-eqb, and_parts, and_from, cond-true, cond_both}
 use Rattle.std.proofs.Math.Seq.{drop-cons}
-use Rattle.image_reports.specs.link_image.image_text.ImageValue.{place_of}
-use Rattle.image_reports.specs.link_image.fram_board.Bus.{is_fram}
-use Rattle.image_reports.specs.link_image.machine_effects.Machine.{IsFram, fram_of}
-use Rattle.image_reports.proofs.link_image.machine_effects.Interface.{index_small}
+use Rattle.image_reports.specs.image_laws.image_text.ImageValue.{place_of}
+use Rattle.image_reports.specs.image_laws.fram_board.Bus.{is_fram}
+use Rattle.image_reports.specs.image_laws.machine_effects.Machine.{IsFram, fram_of}
+use Rattle.image_reports.proofs.image_laws.machine_effects.Interface.{index_small}
 use Rattle.fram_state.specs.Runtime.{word_in, words_from}
 use Rattle.fram_state.specs.Sound.{are_at_most}
 

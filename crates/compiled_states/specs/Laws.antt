@@ -5,20 +5,20 @@ use Rattle.fram_state.specs.state_text.declared.state.State.{State}
 use Rattle.fram_state.specs.Belongs.{Belongs}
 use Rattle.fram_state.specs.Suits.{Suits}
 use Rattle.fram_state.specs.Migrated.{EditionValue, edition_with, rows_of, IsStateOf, IsMigrated}
-use Rattle.image_reports.specs.link_image.image_map.MapValue.{MapValue}
-use Rattle.image_reports.specs.link_image.image_map.Kept.{IsMap}
-use Rattle.image_reports.specs.link_image.image_text.ImageValue.{ImageValue}
-use Rattle.image_reports.specs.link_image.energy_trace.TraceValue.{TraceValue}
-use Rattle.image_reports.specs.link_image.fram_board.Run.{BoardCharge, RunOutcome, Run}
-use Rattle.image_reports.specs.link_image.board_run.Charges.{charges_of}
-use Rattle.image_reports.specs.link_image.board_run.History.{start_of}
-use Rattle.image_reports.specs.link_image.board_run.Report.{report_of}
-use Rattle.image_reports.specs.link_image.run_charges.Charges.{ArePowerStates}
-use Rattle.image_reports.specs.link_image.source_runs.Traces.{IsTraceOfWords}
-use Rattle.image_reports.specs.link_image.cost_bound.declared.allowance.Allow.{Allow}
-use Rattle.image_reports.specs.link_image.source_values.Runs.{CheckedProgram}
-use Rattle.image_reports.specs.link_image.source_meaning.Acceptance.{IsAcceptedText}
-use Rattle.image_reports.specs.link_image.Compiled.{IsCompiled, IsImageOf}
+use Rattle.image_reports.specs.image_laws.image_map.MapValue.{MapValue}
+use Rattle.image_reports.specs.image_laws.image_map.Kept.{IsMap}
+use Rattle.image_reports.specs.image_laws.image_text.ImageValue.{ImageValue}
+use Rattle.image_reports.specs.image_laws.energy_trace.TraceValue.{TraceValue}
+use Rattle.image_reports.specs.image_laws.fram_board.Run.{BoardCharge, RunOutcome, Run}
+use Rattle.image_reports.specs.image_laws.board_run.Charges.{charges_of}
+use Rattle.image_reports.specs.image_laws.board_run.History.{start_of}
+use Rattle.image_reports.specs.image_laws.board_run.Report.{report_of}
+use Rattle.image_reports.specs.image_laws.run_charges.Charges.{ArePowerStates}
+use Rattle.image_reports.specs.image_laws.source_runs.Traces.{IsTraceOfWords}
+use Rattle.image_reports.specs.image_laws.cost_bound.declared.allowance.Allow.{Allow}
+use Rattle.image_reports.specs.image_laws.source_values.Runs.{CheckedProgram}
+use Rattle.image_reports.specs.image_laws.source_meaning.Acceptance.{IsAcceptedText}
+use Rattle.image_reports.specs.image_laws.Compiled.{IsCompiled, IsImageOf}
 use Rattle.image_reports.specs.Resumed.{BelongsTo, IsResumedRun}
 use Rattle.compiled_states.specs.Worlds.{world_of, MayHaveAccepted, HasFramWords, HasCodeWords, BelongsAt, board_of, IsToldByItsSource, LeavesItsStates}
 

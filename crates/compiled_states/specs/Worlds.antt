@@ -3,25 +3,25 @@ use Rattle.std.specs.Prelude.{◌≡◌, ℕ, ◌%◌, ◌<◌, ◌≤◌, List,
 use Rattle.fram_state.specs.address_space.Limits.{fram_words}
 use Rattle.fram_state.specs.state_text.declared.state.State.{State}
 use Rattle.fram_state.specs.Belongs.{Belongs}
-use Rattle.image_reports.specs.link_image.image_text.ImageValue.{ImageValue}
-use Rattle.image_reports.specs.link_image.energy_trace.TraceValue.{TraceValue}
-use Rattle.image_reports.specs.link_image.fram_board.Board.{BoardValue, started}
-use Rattle.image_reports.specs.link_image.fram_board.Run.{Moment, RunOutcome}
-use Rattle.image_reports.specs.link_image.fram_board.Saved.{saved}
-use Rattle.image_reports.specs.link_image.board_run.Charges.{charges_of}
-use Rattle.image_reports.specs.link_image.machine_effects.World.{World}
-use Rattle.image_reports.specs.link_image.machine_effects.Machine.{IsFram, fram_of}
-use Rattle.image_reports.specs.link_image.machine_effects.Runs.{last_board}
-use Rattle.image_reports.specs.link_image.cost_bound.declared.allowance.Allow.{Allow}
-use Rattle.image_reports.specs.link_image.source_values.Runs.{CheckedProgram}
-use Rattle.image_reports.specs.link_image.source_values.Runs as runs
-use Rattle.image_reports.specs.link_image.source_meaning.Acceptance.{IsAcceptedText}
-use Rattle.image_reports.specs.link_image.source_maps.Maps.{map_of}
-use Rattle.image_reports.specs.link_image.memory_map.MemoryMap.{MemoryMap}
-use Rattle.image_reports.specs.link_image.stands_for.StandsFor.{RestsAt}
-use Rattle.image_reports.specs.link_image.compiled_model.Places.{program_places}
-use Rattle.image_reports.specs.link_image.compiled_model.View.{state_view, state_in}
-use Rattle.image_reports.specs.link_image.Compiled.{IsCompiled}
+use Rattle.image_reports.specs.image_laws.image_text.ImageValue.{ImageValue}
+use Rattle.image_reports.specs.image_laws.energy_trace.TraceValue.{TraceValue}
+use Rattle.image_reports.specs.image_laws.fram_board.Board.{BoardValue, started}
+use Rattle.image_reports.specs.image_laws.fram_board.Run.{Moment, RunOutcome}
+use Rattle.image_reports.specs.image_laws.fram_board.Saved.{saved}
+use Rattle.image_reports.specs.image_laws.board_run.Charges.{charges_of}
+use Rattle.image_reports.specs.image_laws.machine_effects.World.{World}
+use Rattle.image_reports.specs.image_laws.machine_effects.Machine.{IsFram, fram_of}
+use Rattle.image_reports.specs.image_laws.machine_effects.Runs.{last_board}
+use Rattle.image_reports.specs.image_laws.cost_bound.declared.allowance.Allow.{Allow}
+use Rattle.image_reports.specs.image_laws.source_values.Runs.{CheckedProgram}
+use Rattle.image_reports.specs.image_laws.source_values.Runs as runs
+use Rattle.image_reports.specs.image_laws.source_meaning.Acceptance.{IsAcceptedText}
+use Rattle.image_reports.specs.image_laws.source_maps.Maps.{map_of}
+use Rattle.image_reports.specs.image_laws.memory_map.MemoryMap.{MemoryMap}
+use Rattle.image_reports.specs.image_laws.stands_for.StandsFor.{RestsAt}
+use Rattle.image_reports.specs.image_laws.compiled_model.Places.{program_places}
+use Rattle.image_reports.specs.image_laws.compiled_model.View.{state_view, state_in}
+use Rattle.image_reports.specs.image_laws.Compiled.{IsCompiled}
 use Rattle.image_reports.specs.Resumed.{IsToldOnward}
 
 -- the world of a state whose receiver accepted these words before

@@ -20,7 +20,7 @@ use Rattle.plain_commands.specs.source_meaning.Acceptance.{IsAcceptedText}
 use Rattle.image_reports.specs.source_maps.Maps.{map_of}
 use Rattle.image_reports.specs.source_runs.Tells.{IsEndOf, IsToldBySource}
 use Rattle.image_reports.specs.source_runs.Traces.{IsTraceOfWords}
-use Rattle.link_image.specs.Compiled.{IsCompiled}
+use Rattle.link_image.specs.image_laws.Compiled.{IsCompiled}
 use Rattle.image_reports.specs.Laws.{ImagesAreTold}
 use Rattle.plain_commands.specs.declared.run.RunEnding.{RunEnding}
 use Rattle.plain_commands.specs.declared.run.RunEnding.TheVariants.{Well, AtFault}

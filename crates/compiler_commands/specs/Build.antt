@@ -9,7 +9,7 @@ use Rattle.image_reports.specs.text_parts.Printed.{printed}
 use Rattle.plain_commands.specs.alp_io.Report.{bound_line}
 use Rattle.plain_commands.specs.cost_bound.declared.allowance.Allow.{Allow}
 use Rattle.plain_commands.specs.source_meaning.Acceptance.{IsAcceptedText}
-use Rattle.link_image.specs.Compiled.{IsCompiled}
+use Rattle.link_image.specs.image_laws.Compiled.{IsCompiled}
 use Rattle.image_reports.specs.ImageLaw.{IsLawful}
 use Rattle.plain_commands.specs.source_values.Runs.{CheckedProgram}
 use Rattle.image_reports.specs.source_runs.Naming.{IsMapOf}

@@ -4,4 +4,4 @@ pub mod Gen
 pub mod Generated
 pub mod ToldRuns
 pub mod Try
-pub use Rattle.link_image.specs as link_image
+pub use Rattle.link_image.specs.image_laws as image_laws

@@ -1,30 +1,30 @@
 -- The fresh board of a source's image begins with the source.
 use Rattle.std.proofs.Common.{◌<◌, ◌≤◌, ℕ, length, refl, sym, subst, List, All}
-use Rattle.link_image.specs.cost_bound.declared.allowance.Allow.{Allow}
-use Rattle.link_image.specs.energy_trace.TraceValue.{TraceValue}
-use Rattle.link_image.specs.image_text.ImageValue.{ImageValue}
-use Rattle.link_image.specs.fram_board.Board.{BoardValue, fresh}
-use Rattle.link_image.specs.fram_board.Run.{BoardCharge, RunOutcome, Run}
-use Rattle.link_image.specs.board_run.Charges.{charges_of}
-use Rattle.link_image.specs.machine_effects.World.{World}
-use Rattle.link_image.specs.machine_effects.View.{machine_of}
-use Rattle.link_image.proofs.machine_effects.Interface.{fresh_is_whole}
-use Rattle.link_image.specs.source_values.Runs.{CheckedProgram, first_state}
-use Rattle.link_image.specs.crash_rules.Laws.{Resting, Begins}
-use Rattle.link_image.proofs.crash_rules.Interface.{runs_may_begin}
-use Rattle.link_image.specs.run_charges.Charges.{ArePowerStates, IsPlacedProgram}
-use Rattle.link_image.specs.run_charges.Laws.{IsRunOfWords}
-use Rattle.link_image.specs.memory_map.MemoryMap.{MemoryMap}
-use Rattle.link_image.specs.compiled_model.Parts.{compiled_model}
-use Rattle.link_image.specs.compiled_runs.Program.{source_code, compiled_program}
-use Rattle.link_image.proofs.compiled_runs.Interface.{code_keeps_the_laws, code_is_placed, runs_leave_the_code}
-use Rattle.link_image.specs.model_runs.Runs.{BearsModel}
-use Rattle.link_image.specs.source_runs.Traces.{IsTraceOfWords}
-use Rattle.link_image.specs.source_runs.Sources.{BeginsWithSource}
-use Rattle.link_image.proofs.source_runs.Interface.{traces_are_few}
-use Rattle.link_image.specs.source_maps.Maps.{map_of}
-use Rattle.link_image.specs.Compiled.{IsCompiled}
-use Rattle.link_image.specs.Laws.{fresh_world, IsFreshImage}
+use Rattle.image_laws.specs.cost_bound.declared.allowance.Allow.{Allow}
+use Rattle.image_laws.specs.energy_trace.TraceValue.{TraceValue}
+use Rattle.image_laws.specs.image_text.ImageValue.{ImageValue}
+use Rattle.image_laws.specs.fram_board.Board.{BoardValue, fresh}
+use Rattle.image_laws.specs.fram_board.Run.{BoardCharge, RunOutcome, Run}
+use Rattle.image_laws.specs.board_run.Charges.{charges_of}
+use Rattle.image_laws.specs.machine_effects.World.{World}
+use Rattle.image_laws.specs.machine_effects.View.{machine_of}
+use Rattle.image_laws.proofs.machine_effects.Interface.{fresh_is_whole}
+use Rattle.image_laws.specs.source_values.Runs.{CheckedProgram, first_state}
+use Rattle.image_laws.specs.crash_rules.Laws.{Resting, Begins}
+use Rattle.image_laws.proofs.crash_rules.Interface.{runs_may_begin}
+use Rattle.image_laws.specs.run_charges.Charges.{ArePowerStates, IsPlacedProgram}
+use Rattle.image_laws.specs.run_charges.Laws.{IsRunOfWords}
+use Rattle.image_laws.specs.memory_map.MemoryMap.{MemoryMap}
+use Rattle.image_laws.specs.compiled_model.Parts.{compiled_model}
+use Rattle.image_laws.specs.compiled_runs.Program.{source_code, compiled_program}
+use Rattle.image_laws.proofs.compiled_runs.Interface.{code_keeps_the_laws, code_is_placed, runs_leave_the_code}
+use Rattle.image_laws.specs.model_runs.Runs.{BearsModel}
+use Rattle.image_laws.specs.source_runs.Traces.{IsTraceOfWords}
+use Rattle.image_laws.specs.source_runs.Sources.{BeginsWithSource}
+use Rattle.image_laws.proofs.source_runs.Interface.{traces_are_few}
+use Rattle.image_laws.specs.source_maps.Maps.{map_of}
+use Rattle.image_laws.specs.Compiled.{IsCompiled}
+use Rattle.image_laws.specs.Laws.{fresh_world, IsFreshImage}
 use Rattle.compiled_laws.specs.Ready.{IsReadyToRun}
 
 module _ (text : List ℕ) (p : CheckedProgram) (allow : Allow) (image : ImageValue) (c : IsCompiled text p allow image) (readings : List ℕ)

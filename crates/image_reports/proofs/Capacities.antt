@@ -1,32 +1,32 @@
 -- A run of an image keeps to the capacities of the runtime's buffers.
 use Rattle.std.proofs.Common.{◌≡◌, ◌<◌, ◌≤◌, ℕ, arith, List, ◌++◌, All}
-use Rattle.link_image.specs.cost_bound.declared.allowance.Allow.{Allow}
-use Rattle.link_image.specs.image_text.ImageValue.{ImageValue}
-use Rattle.link_image.specs.fram_board.Board.{fresh}
-use Rattle.link_image.specs.fram_board.Run.{BoardCharge, Moment, RunOutcome}
-use Rattle.link_image.specs.board_run.Charges.{charges_of}
-use Rattle.link_image.specs.machine_effects.Machine.{IsFram, fram_of}
-use Rattle.link_image.specs.machine_effects.Runs.{last_board}
-use Rattle.link_image.specs.source_values.Runs.{CheckedProgram, first_state}
-use Rattle.link_image.specs.source_values.Running.{IsRunnable}
-use Rattle.link_image.specs.source_meaning.Acceptance.{IsAcceptedText}
-use Rattle.link_image.proofs.source_meaning.Interface.{accepted_texts_run}
-use Rattle.link_image.specs.crash_rules.Laws.{Resting}
-use Rattle.link_image.specs.run_charges.Laws.{IsRunOfWords}
-use Rattle.link_image.specs.memory_map.declared.words.RuntimeWord.TheVariants.{Gate, ListLength, EmitCount}
-use Rattle.link_image.specs.memory_map.MemoryMap.{MemoryMap, word_place}
-use Rattle.link_image.proofs.memory_map.Interface.{apart_of}
-use Rattle.link_image.proofs.runtime_code.Interface.{places_are_in_fram}
-use Rattle.link_image.proofs.stands_for.Interface.{each_weaker}
+use Rattle.image_laws.specs.cost_bound.declared.allowance.Allow.{Allow}
+use Rattle.image_laws.specs.image_text.ImageValue.{ImageValue}
+use Rattle.image_laws.specs.fram_board.Board.{fresh}
+use Rattle.image_laws.specs.fram_board.Run.{BoardCharge, Moment, RunOutcome}
+use Rattle.image_laws.specs.board_run.Charges.{charges_of}
+use Rattle.image_laws.specs.machine_effects.Machine.{IsFram, fram_of}
+use Rattle.image_laws.specs.machine_effects.Runs.{last_board}
+use Rattle.image_laws.specs.source_values.Runs.{CheckedProgram, first_state}
+use Rattle.image_laws.specs.source_values.Running.{IsRunnable}
+use Rattle.image_laws.specs.source_meaning.Acceptance.{IsAcceptedText}
+use Rattle.image_laws.proofs.source_meaning.Interface.{accepted_texts_run}
+use Rattle.image_laws.specs.crash_rules.Laws.{Resting}
+use Rattle.image_laws.specs.run_charges.Laws.{IsRunOfWords}
+use Rattle.image_laws.specs.memory_map.declared.words.RuntimeWord.TheVariants.{Gate, ListLength, EmitCount}
+use Rattle.image_laws.specs.memory_map.MemoryMap.{MemoryMap, word_place}
+use Rattle.image_laws.proofs.memory_map.Interface.{apart_of}
+use Rattle.image_laws.proofs.runtime_code.Interface.{places_are_in_fram}
+use Rattle.image_laws.proofs.stands_for.Interface.{each_weaker}
 use Rattle.compiled_laws.specs.task_attempts.Laws.{IsBelowCode}
 use Rattle.compiled_laws.proofs.task_attempts.Interface.{stores_below_code}
 use Rattle.compiled_laws.specs.compiled_bounds.Laws.{KeepsCapacities, CountsFit, AttemptsFit}
 use Rattle.compiled_laws.proofs.compiled_bounds.Interface.{capacities_are_kept}
-use Rattle.link_image.specs.compiled_runs.Program.{compiled_program}
-use Rattle.link_image.specs.whole_programs.Laws.{IsLaidOutText}
-use Rattle.link_image.specs.Compiled.{IsCompiled}
-use Rattle.link_image.specs.Laws.{fresh_world}
-use Rattle.link_image.proofs.Interface.{laid_out, images_are_fresh, zero_at, version}
+use Rattle.image_laws.specs.compiled_runs.Program.{compiled_program}
+use Rattle.image_laws.specs.whole_programs.Laws.{IsLaidOutText}
+use Rattle.image_laws.specs.Compiled.{IsCompiled}
+use Rattle.image_laws.specs.Laws.{fresh_world}
+use Rattle.image_laws.proofs.Interface.{laid_out, images_are_fresh, zero_at, version}
 use Rattle.compiled_laws.proofs.Interface.{sources_are_ready}
 use Rattle.image_reports.specs.Laws.{ImagesKeepCapacities}
 use Rattle.image_reports.proofs.Begins.{begins_with_source, run_of_words}

@@ -2,23 +2,23 @@
 use Rattle.std.proofs.Common.{◌≡◌, ℕ, zero, suc, ◌+◌, ◌*◌, ◌%◌, ◌<◌, ◌≤◌, ◌==◌, Bool, true, false, cond, refl, sym, ap, ◌∙◌, subst, arith, eqb-true, List, []}
 use Rattle.std.proofs.Common.{◌∷◌, length, length-append, Option, Some, None, slice_index}
 use Rattle.std.proofs.lemmas.Bool.Decides.{nat_tests}
-use Rattle.link_image.specs.msp_isa.declared.instructions.Instr.{Instr}
-use Rattle.link_image.specs.msp_isa.Encoding.{encoding, IsInstruction}
-use Rattle.link_image.specs.msp_step.declared.machine.Stop.{Stop}
-use Rattle.link_image.specs.msp_step.declared.machine.Stop.TheVariants as stop
-use Rattle.link_image.specs.msp_step.Effect.{word_sum}
-use Rattle.link_image.specs.msp_step.Step.{off_bit, FetchedAt}
-use Rattle.link_image.specs.image_text.ImageValue.{place_of}
-use Rattle.link_image.specs.fram_board.Bus.{board_bus, memory_word, ram_place}
-use Rattle.link_image.specs.fram_board.Board.{BoardValue, powered, opened}
-use Rattle.link_image.specs.fram_board.Effects.{Effect}
-use Rattle.link_image.specs.machine_effects.Going.{StepOutcome, Goes, Stops, At, Halted, going, continued}
-use Rattle.link_image.specs.machine_effects.Machine.{MachineBoard, Code, standing, exec, fram_of}
-use Rattle.link_image.proofs.machine_effects.Interface.{is_fram_address}
-use Rattle.link_image.specs.code_forms.Placed.{placed, words_of, Holds, AreInstructions}
-use Rattle.link_image.proofs.code_forms.Interface.{holds_front, holds_back, fram_no_ram, fram_word}
-use Rattle.link_image.specs.crash_rules.History.{History, observe, behind_boot}
-use Rattle.link_image.specs.crash_rules.Runs.{Program, Charge, Charged}
+use Rattle.image_laws.specs.msp_isa.declared.instructions.Instr.{Instr}
+use Rattle.image_laws.specs.msp_isa.Encoding.{encoding, IsInstruction}
+use Rattle.image_laws.specs.msp_step.declared.machine.Stop.{Stop}
+use Rattle.image_laws.specs.msp_step.declared.machine.Stop.TheVariants as stop
+use Rattle.image_laws.specs.msp_step.Effect.{word_sum}
+use Rattle.image_laws.specs.msp_step.Step.{off_bit, FetchedAt}
+use Rattle.image_laws.specs.image_text.ImageValue.{place_of}
+use Rattle.image_laws.specs.fram_board.Bus.{board_bus, memory_word, ram_place}
+use Rattle.image_laws.specs.fram_board.Board.{BoardValue, powered, opened}
+use Rattle.image_laws.specs.fram_board.Effects.{Effect}
+use Rattle.image_laws.specs.machine_effects.Going.{StepOutcome, Goes, Stops, At, Halted, going, continued}
+use Rattle.image_laws.specs.machine_effects.Machine.{MachineBoard, Code, standing, exec, fram_of}
+use Rattle.image_laws.proofs.machine_effects.Interface.{is_fram_address}
+use Rattle.image_laws.specs.code_forms.Placed.{placed, words_of, Holds, AreInstructions}
+use Rattle.image_laws.proofs.code_forms.Interface.{holds_front, holds_back, fram_no_ram, fram_word}
+use Rattle.image_laws.specs.crash_rules.History.{History, observe, behind_boot}
+use Rattle.image_laws.specs.crash_rules.Runs.{Program, Charge, Charged}
 
 -- a machine that goes on, but where a reading is wanted that isn't left
 abbrev pub GoesOn : Program → MachineBoard → Type 0

@@ -1,30 +1,30 @@
 -- Each run of an image of an accepted text keeps the laws.
 use Rattle.std.proofs.Common.{◌≡◌, ◌<◌, ◌≤◌, ℕ, refl, subst, arith, List, [], ◌++◌, length, All}
-use Rattle.link_image.specs.image_text.ImageValue.{ImageValue}
-use Rattle.link_image.specs.fram_board.Board.{fresh}
-use Rattle.link_image.specs.fram_board.Run.{BoardCharge, Moment, RunOutcome, Run}
-use Rattle.link_image.specs.machine_effects.World.{World}
-use Rattle.link_image.specs.machine_effects.Runs.{last_board}
-use Rattle.link_image.specs.cost_bound.declared.allowance.Allow.{Allow}
-use Rattle.link_image.specs.source_values.Runs.{CheckedProgram, State, first_state}
-use Rattle.link_image.specs.source_meaning.Acceptance.{IsAcceptedText}
-use Rattle.link_image.specs.memory_map.declared.words.RuntimeWord.TheVariants.{Gate}
-use Rattle.link_image.specs.memory_map.MemoryMap.{MemoryMap, word_place}
-use Rattle.link_image.specs.crash_rules.History.{first_history}
-use Rattle.link_image.specs.crash_rules.Laws.{Origin, Resting, StandsFor}
-use Rattle.link_image.proofs.crash_rules.Interface.{runs_may_begin}
-use Rattle.link_image.specs.run_charges.Charges.{ArePowerStates}
-use Rattle.link_image.specs.run_charges.Laws.{IsRunOfWords}
-use Rattle.link_image.proofs.model_runs.Interface.{stops_where_short}
-use Rattle.link_image.specs.stands_for.StandsFor.{SoundAtRest}
-use Rattle.link_image.specs.compiled_model.Parts.{compiled_model}
+use Rattle.image_laws.specs.image_text.ImageValue.{ImageValue}
+use Rattle.image_laws.specs.fram_board.Board.{fresh}
+use Rattle.image_laws.specs.fram_board.Run.{BoardCharge, Moment, RunOutcome, Run}
+use Rattle.image_laws.specs.machine_effects.World.{World}
+use Rattle.image_laws.specs.machine_effects.Runs.{last_board}
+use Rattle.image_laws.specs.cost_bound.declared.allowance.Allow.{Allow}
+use Rattle.image_laws.specs.source_values.Runs.{CheckedProgram, State, first_state}
+use Rattle.image_laws.specs.source_meaning.Acceptance.{IsAcceptedText}
+use Rattle.image_laws.specs.memory_map.declared.words.RuntimeWord.TheVariants.{Gate}
+use Rattle.image_laws.specs.memory_map.MemoryMap.{MemoryMap, word_place}
+use Rattle.image_laws.specs.crash_rules.History.{first_history}
+use Rattle.image_laws.specs.crash_rules.Laws.{Origin, Resting, StandsFor}
+use Rattle.image_laws.proofs.crash_rules.Interface.{runs_may_begin}
+use Rattle.image_laws.specs.run_charges.Charges.{ArePowerStates}
+use Rattle.image_laws.specs.run_charges.Laws.{IsRunOfWords}
+use Rattle.image_laws.proofs.model_runs.Interface.{stops_where_short}
+use Rattle.image_laws.specs.stands_for.StandsFor.{SoundAtRest}
+use Rattle.image_laws.specs.compiled_model.Parts.{compiled_model}
 use Rattle.compiled_laws.specs.compiled_bounds.Laws.{KeepsCapacities}
-use Rattle.link_image.specs.compiled_runs.Program.{compiled_program}
+use Rattle.image_laws.specs.compiled_runs.Program.{compiled_program}
 use Rattle.compiled_laws.specs.Ready.{IsReadyToRun}
 use Rattle.compiled_laws.proofs.Interface.{sources_are_ready}
-use Rattle.link_image.specs.Compiled.{IsCompiled}
-use Rattle.link_image.specs.Laws.{fresh_world, IsFreshImage}
-use Rattle.link_image.proofs.Interface.{laid_out, images_are_fresh}
+use Rattle.image_laws.specs.Compiled.{IsCompiled}
+use Rattle.image_laws.specs.Laws.{fresh_world, IsFreshImage}
+use Rattle.image_laws.proofs.Interface.{laid_out, images_are_fresh}
 use Rattle.image_reports.specs.ImageLaw.{known_behind, KeepsCode, HoldsAt, ImagesKeepTheLaws}
 use Rattle.image_reports.specs.Resumed.{BelongsTo, HoldsFrom, ImagesBelong}
 use Rattle.image_reports.proofs.Begins.{run_of_states}

@@ -2,56 +2,56 @@
 use Rattle.std.proofs.Common.{◌≡◌, ◌≢◌, ℕ, zero, ◌+◌, ◌*◌, ◌%◌, ◌<◌, ◌≤◌, ◌==◌, Bool, true, false, if◌then◌else◌, refl, sym, ap, ◌∙◌, subst, arith}
 use Rattle.std.proofs.Common.{List, [], ◌∷◌, ◌++◌, length, take, drop, All, append_assoc, length-take-le}
 use Rattle.std.proofs.lemmas.List.{take-append-drop}
-use Rattle.link_image.specs.msp_isa.Encoding.{encoding}
-use Rattle.link_image.specs.msp_step.Registers.{registers_of}
-use Rattle.link_image.specs.image_text.ImageValue.{ImageValue}
-use Rattle.link_image.specs.fram_board.Board.{BoardValue, PowerState, powered, started, filled}
-use Rattle.link_image.specs.fram_board.Saved.{TakesNextBehind}
-use Rattle.link_image.specs.fram_board.Steps.{IsPowerState}
-use Rattle.link_image.specs.fram_board.Effects.{Effect}
-use Rattle.link_image.specs.fram_board.Run.{BoardCharge, PowerUp, Moment, RunOutcome}
-use Rattle.link_image.proofs.fram_board.Interface.{fill_is_a_power_state}
-use Rattle.link_image.specs.machine_effects.World.{World, fram_after, IsPrefix}
-use Rattle.link_image.specs.machine_effects.Going.{going, continued}
-use Rattle.link_image.specs.machine_effects.Machine.{fram_of}
-use Rattle.link_image.specs.machine_effects.View.{machine_of}
-use Rattle.link_image.specs.machine_effects.Runs.{last_board}
-use Rattle.link_image.specs.code_forms.Placed.{words_of, Holds}
-use Rattle.link_image.specs.cost_bound.declared.allowance.Allow.{Allow}
-use Rattle.link_image.specs.source_values.Runs.{CheckedProgram, State}
-use Rattle.link_image.specs.source_meaning.Acceptance.{IsAcceptedText}
-use Rattle.link_image.specs.source_maps.Maps.{map_of}
-use Rattle.link_image.proofs.source_runs.Interface.{read_off}
-use Rattle.link_image.specs.memory_map.declared.words.RuntimeWord.TheVariants.{Gate, Version}
-use Rattle.link_image.specs.memory_map.MemoryMap.{MemoryMap, word_place}
-use Rattle.link_image.specs.runtime_effects.Stages.{commit_effects}
-use Rattle.link_image.specs.boot_runtime.Entries.{task_entries}
-use Rattle.link_image.specs.boot_runtime.Listing.{privates_in}
-use Rattle.link_image.specs.crash_rules.Model.{IsElsewhere, Model, ModelLaws, program_effects, with_commit, script}
-use Rattle.link_image.specs.crash_rules.History.{History, first_history}
-use Rattle.link_image.specs.crash_rules.Runs.{Program}
-use Rattle.link_image.specs.crash_rules.Laws.{Origin, Phase, UndecidedPhase, DecidedPhase, CommittingPhase, StandsFor, Begins}
-use Rattle.link_image.proofs.crash_rules.Interface.{world_fram, never_lost, sent_once, pending_sends, stops_short, stores_only}
-use Rattle.link_image.specs.run_charges.Charges.{AreInstructionMoments, IsPlacedProgram}
-use Rattle.link_image.specs.run_charges.Laws.{IsRunOfWords}
-use Rattle.link_image.proofs.run_charges.Interface.{IsMomentFrom, PowersUp, Instructs, AreMoments, are_behind, front_moments, Counts, moments_count}
-use Rattle.link_image.specs.model_runs.Runs.{BearsModel, Progresses}
-use Rattle.link_image.specs.model_runs.EventLaws.{StartsWith}
-use Rattle.link_image.proofs.model_runs.Interface.{AtFront, at_front, is_powered, program_leads, starts_hold, fronts_are_lawful, makes_progress}
-use Rattle.link_image.specs.stands_for.StandsFor.{HoldsWords, IsSound, SoundAtRest, SoundPending}
-use Rattle.link_image.proofs.stands_for.Interface.{commit_stores_there, each_weaker}
-use Rattle.link_image.specs.compiled_model.Places.{program_places}
-use Rattle.link_image.specs.compiled_model.Parts.{compiled_model}
+use Rattle.image_laws.specs.msp_isa.Encoding.{encoding}
+use Rattle.image_laws.specs.msp_step.Registers.{registers_of}
+use Rattle.image_laws.specs.image_text.ImageValue.{ImageValue}
+use Rattle.image_laws.specs.fram_board.Board.{BoardValue, PowerState, powered, started, filled}
+use Rattle.image_laws.specs.fram_board.Saved.{TakesNextBehind}
+use Rattle.image_laws.specs.fram_board.Steps.{IsPowerState}
+use Rattle.image_laws.specs.fram_board.Effects.{Effect}
+use Rattle.image_laws.specs.fram_board.Run.{BoardCharge, PowerUp, Moment, RunOutcome}
+use Rattle.image_laws.proofs.fram_board.Interface.{fill_is_a_power_state}
+use Rattle.image_laws.specs.machine_effects.World.{World, fram_after, IsPrefix}
+use Rattle.image_laws.specs.machine_effects.Going.{going, continued}
+use Rattle.image_laws.specs.machine_effects.Machine.{fram_of}
+use Rattle.image_laws.specs.machine_effects.View.{machine_of}
+use Rattle.image_laws.specs.machine_effects.Runs.{last_board}
+use Rattle.image_laws.specs.code_forms.Placed.{words_of, Holds}
+use Rattle.image_laws.specs.cost_bound.declared.allowance.Allow.{Allow}
+use Rattle.image_laws.specs.source_values.Runs.{CheckedProgram, State}
+use Rattle.image_laws.specs.source_meaning.Acceptance.{IsAcceptedText}
+use Rattle.image_laws.specs.source_maps.Maps.{map_of}
+use Rattle.image_laws.proofs.source_runs.Interface.{read_off}
+use Rattle.image_laws.specs.memory_map.declared.words.RuntimeWord.TheVariants.{Gate, Version}
+use Rattle.image_laws.specs.memory_map.MemoryMap.{MemoryMap, word_place}
+use Rattle.image_laws.specs.runtime_effects.Stages.{commit_effects}
+use Rattle.image_laws.specs.boot_runtime.Entries.{task_entries}
+use Rattle.image_laws.specs.boot_runtime.Listing.{privates_in}
+use Rattle.image_laws.specs.crash_rules.Model.{IsElsewhere, Model, ModelLaws, program_effects, with_commit, script}
+use Rattle.image_laws.specs.crash_rules.History.{History, first_history}
+use Rattle.image_laws.specs.crash_rules.Runs.{Program}
+use Rattle.image_laws.specs.crash_rules.Laws.{Origin, Phase, UndecidedPhase, DecidedPhase, CommittingPhase, StandsFor, Begins}
+use Rattle.image_laws.proofs.crash_rules.Interface.{world_fram, never_lost, sent_once, pending_sends, stops_short, stores_only}
+use Rattle.image_laws.specs.run_charges.Charges.{AreInstructionMoments, IsPlacedProgram}
+use Rattle.image_laws.specs.run_charges.Laws.{IsRunOfWords}
+use Rattle.image_laws.proofs.run_charges.Interface.{IsMomentFrom, PowersUp, Instructs, AreMoments, are_behind, front_moments, Counts, moments_count}
+use Rattle.image_laws.specs.model_runs.Runs.{BearsModel, Progresses}
+use Rattle.image_laws.specs.model_runs.EventLaws.{StartsWith}
+use Rattle.image_laws.proofs.model_runs.Interface.{AtFront, at_front, is_powered, program_leads, starts_hold, fronts_are_lawful, makes_progress}
+use Rattle.image_laws.specs.stands_for.StandsFor.{HoldsWords, IsSound, SoundAtRest, SoundPending}
+use Rattle.image_laws.proofs.stands_for.Interface.{commit_stores_there, each_weaker}
+use Rattle.image_laws.specs.compiled_model.Places.{program_places}
+use Rattle.image_laws.specs.compiled_model.Parts.{compiled_model}
 use Rattle.compiled_laws.specs.compiled_bounds.Laws.{KeepsCapacities}
 use Rattle.compiled_laws.proofs.compiled_bounds.Interface.{bound_is_the_sources, capacities_are_kept}
-use Rattle.link_image.specs.compiled_runs.Program.{source_code, placed_code, compiled_program}
-use Rattle.link_image.proofs.compiled_runs.Interface.{code_keeps_the_laws, code_is_placed, power_ups_raise_version, runs_leave_the_code}
+use Rattle.image_laws.specs.compiled_runs.Program.{source_code, placed_code, compiled_program}
+use Rattle.image_laws.proofs.compiled_runs.Interface.{code_keeps_the_laws, code_is_placed, power_ups_raise_version, runs_leave_the_code}
 use Rattle.compiled_laws.specs.Ready.{IsReadyToRun}
 use Rattle.compiled_laws.proofs.Interface.{sources_are_ready}
-use Rattle.link_image.specs.Compiled.{IsCompiled}
-use Rattle.link_image.specs.Laws.{IsFreshImage}
-use Rattle.link_image.specs.source_runs.Tells.{at_first, EachChargePays}
-use Rattle.link_image.proofs.Interface.{laid_out, images_are_fresh}
+use Rattle.image_laws.specs.Compiled.{IsCompiled}
+use Rattle.image_laws.specs.Laws.{IsFreshImage}
+use Rattle.image_laws.specs.source_runs.Tells.{at_first, EachChargePays}
+use Rattle.image_laws.proofs.Interface.{laid_out, images_are_fresh}
 use Rattle.image_reports.specs.ImageLaw.{start_due, attempt_due, all_due, VersionsBelow, KeepsCode, FetchesCode, IsRaisedSoon, RaisesVersion}
 use Rattle.image_reports.specs.Resumed.{BelongsTo, known_from, HoldsFrom}
 use Rattle.image_reports.proofs.Capacities.{attempts_fit}

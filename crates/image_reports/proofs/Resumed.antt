@@ -1,46 +1,46 @@
 -- Each run of a state that belongs to the image of an accepted text keeps the laws.
 use Rattle.std.proofs.Common.{◌≡◌, ◌<◌, ◌≤◌, ◌%◌, ◌^◌, ◌==◌, if◌then◌else◌, ℕ, refl, sym, ap, ◌∙◌, subst, arith, Option, Some, List, ◌++◌, length, drop, All}
 use Rattle.std.proofs.Math.Seq.{drop-append_seam}
-use Rattle.link_image.specs.image_map.MapValue.{MapValue}
-use Rattle.link_image.specs.image_text.ImageValue.{ImageValue}
-use Rattle.link_image.specs.fram_board.Board.{BoardValue, started}
-use Rattle.link_image.specs.fram_board.Run.{BoardCharge, RunOutcome, Run}
-use Rattle.link_image.specs.board_run.History.{start_with, start_of}
-use Rattle.link_image.specs.board_run.Report.{report_of}
-use Rattle.link_image.specs.machine_effects.World.{World, world_after}
-use Rattle.link_image.specs.machine_effects.Machine.{fram_of}
-use Rattle.link_image.proofs.machine_effects.Interface.{fresh_is_whole}
-use Rattle.link_image.specs.cost_bound.declared.allowance.Allow.{Allow}
-use Rattle.link_image.specs.source_values.Runs.{CheckedProgram, State}
-use Rattle.link_image.specs.source_meaning.Acceptance.{IsAcceptedText}
-use Rattle.link_image.proofs.source_meaning.Interface.{accepted_texts_run}
-use Rattle.link_image.specs.source_maps.Maps.{map_of}
-use Rattle.link_image.specs.source_runs.Resumed.{HasTransition}
-use Rattle.link_image.specs.source_runs.Laws.{ResumedRunIsTold}
-use Rattle.link_image.proofs.source_runs.Interface.{resumed_runs_are_told}
-use Rattle.link_image.specs.memory_map.declared.words.RuntimeWord.TheVariants.{Gate}
-use Rattle.link_image.specs.memory_map.MemoryMap.{MemoryMap, word_place}
-use Rattle.link_image.specs.runtime_effects.Stages.{commit_effects}
-use Rattle.link_image.specs.crash_rules.Model.{Model}
-use Rattle.link_image.specs.crash_rules.History.{first_history}
-use Rattle.link_image.specs.crash_rules.Runs.{Program}
-use Rattle.link_image.specs.crash_rules.Laws.{Origin, Resting, Pending, StandsFor}
-use Rattle.link_image.proofs.crash_rules.Interface.{runs_may_begin}
-use Rattle.link_image.specs.run_charges.Charges.{ArePowerStates}
-use Rattle.link_image.specs.run_charges.Laws.{IsRunOfWords}
-use Rattle.link_image.specs.model_runs.Runs.{BearsModel, all_amounts}
-use Rattle.link_image.proofs.model_runs.Interface.{stops_where_short}
-use Rattle.link_image.specs.stands_for.StandsFor.{IsSound, SoundAtRest, SoundPending, IsPendingCommit}
-use Rattle.link_image.proofs.stands_for.Interface.{unsent_are_few}
-use Rattle.link_image.specs.compiled_model.Places.{program_places}
-use Rattle.link_image.specs.compiled_model.View.{state_in, state_left}
-use Rattle.link_image.specs.compiled_model.Parts.{compiled_model}
-use Rattle.link_image.specs.compiled_runs.Program.{compiled_program}
+use Rattle.image_laws.specs.image_map.MapValue.{MapValue}
+use Rattle.image_laws.specs.image_text.ImageValue.{ImageValue}
+use Rattle.image_laws.specs.fram_board.Board.{BoardValue, started}
+use Rattle.image_laws.specs.fram_board.Run.{BoardCharge, RunOutcome, Run}
+use Rattle.image_laws.specs.board_run.History.{start_with, start_of}
+use Rattle.image_laws.specs.board_run.Report.{report_of}
+use Rattle.image_laws.specs.machine_effects.World.{World, world_after}
+use Rattle.image_laws.specs.machine_effects.Machine.{fram_of}
+use Rattle.image_laws.proofs.machine_effects.Interface.{fresh_is_whole}
+use Rattle.image_laws.specs.cost_bound.declared.allowance.Allow.{Allow}
+use Rattle.image_laws.specs.source_values.Runs.{CheckedProgram, State}
+use Rattle.image_laws.specs.source_meaning.Acceptance.{IsAcceptedText}
+use Rattle.image_laws.proofs.source_meaning.Interface.{accepted_texts_run}
+use Rattle.image_laws.specs.source_maps.Maps.{map_of}
+use Rattle.image_laws.specs.source_runs.Resumed.{HasTransition}
+use Rattle.image_laws.specs.source_runs.Laws.{ResumedRunIsTold}
+use Rattle.image_laws.proofs.source_runs.Interface.{resumed_runs_are_told}
+use Rattle.image_laws.specs.memory_map.declared.words.RuntimeWord.TheVariants.{Gate}
+use Rattle.image_laws.specs.memory_map.MemoryMap.{MemoryMap, word_place}
+use Rattle.image_laws.specs.runtime_effects.Stages.{commit_effects}
+use Rattle.image_laws.specs.crash_rules.Model.{Model}
+use Rattle.image_laws.specs.crash_rules.History.{first_history}
+use Rattle.image_laws.specs.crash_rules.Runs.{Program}
+use Rattle.image_laws.specs.crash_rules.Laws.{Origin, Resting, Pending, StandsFor}
+use Rattle.image_laws.proofs.crash_rules.Interface.{runs_may_begin}
+use Rattle.image_laws.specs.run_charges.Charges.{ArePowerStates}
+use Rattle.image_laws.specs.run_charges.Laws.{IsRunOfWords}
+use Rattle.image_laws.specs.model_runs.Runs.{BearsModel, all_amounts}
+use Rattle.image_laws.proofs.model_runs.Interface.{stops_where_short}
+use Rattle.image_laws.specs.stands_for.StandsFor.{IsSound, SoundAtRest, SoundPending, IsPendingCommit}
+use Rattle.image_laws.proofs.stands_for.Interface.{unsent_are_few}
+use Rattle.image_laws.specs.compiled_model.Places.{program_places}
+use Rattle.image_laws.specs.compiled_model.View.{state_in, state_left}
+use Rattle.image_laws.specs.compiled_model.Parts.{compiled_model}
+use Rattle.image_laws.specs.compiled_runs.Program.{compiled_program}
 use Rattle.compiled_laws.specs.Ready.{IsReadyToRun}
 use Rattle.compiled_laws.proofs.Interface.{sources_are_ready}
-use Rattle.link_image.specs.Compiled.{IsCompiled}
-use Rattle.link_image.specs.Laws.{HasStates}
-use Rattle.link_image.proofs.Interface.{laid_out, maps_find_states, worlds_stand}
+use Rattle.image_laws.specs.Compiled.{IsCompiled}
+use Rattle.image_laws.specs.Laws.{HasStates}
+use Rattle.image_laws.proofs.Interface.{laid_out, maps_find_states, worlds_stand}
 use Rattle.image_reports.specs.Sources.{IsSourcesMap}
 use Rattle.image_reports.specs.Resumed.{BelongsTo, origin_of, pending_transition, IsToldOnward, ToldAtRest, ToldPending, ImagesResume}
 use Rattle.image_reports.proofs.CompiledTold.{models_are_of_sources}

@@ -3,16 +3,16 @@ use Rattle.std.proofs.Common.{◌≡◌, ℕ, ◌<◌, refl, sym, subst, List, [
 use Rattle.std.proofs.lemmas.List.Elements.{All-get_or}
 use Rattle.std.proofs.lemmas.Option.{slice_get-get_or}
 use Rattle.std.specs.Prelude.{slice_get}
-use Rattle.link_image.specs.task_ast.Tree.{Task, end}
-use Rattle.link_image.specs.task_ast.declared.names.VariableName.{VariableName}
-use Rattle.link_image.specs.task_ast.declared.names.TaskName.{TaskName}
-use Rattle.link_image.specs.source_values.Values.{◌>>?◌}
-use Rattle.link_image.specs.source_values.Statements.{Outcome, goes_on, to_task, short, run_block}
-use Rattle.link_image.specs.source_values.Runs.{CheckedProgram, State, Transition, Completion, TransitionComes, EndsWell, body_of, fresh_attempt, attempt_of}
-use Rattle.link_image.specs.source_values.Runs.{completion_of, exactly, transition_of, state_after}
-use Rattle.link_image.specs.source_values.Running.{IsRunnable}
-use Rattle.link_image.specs.crash_rules.Model.{Ends, Short}
-use Rattle.link_image.specs.compiled_model.Parts.{outcome_of, whole_task}
+use Rattle.image_laws.specs.task_ast.Tree.{Task, end}
+use Rattle.image_laws.specs.task_ast.declared.names.VariableName.{VariableName}
+use Rattle.image_laws.specs.task_ast.declared.names.TaskName.{TaskName}
+use Rattle.image_laws.specs.source_values.Values.{◌>>?◌}
+use Rattle.image_laws.specs.source_values.Statements.{Outcome, goes_on, to_task, short, run_block}
+use Rattle.image_laws.specs.source_values.Runs.{CheckedProgram, State, Transition, Completion, TransitionComes, EndsWell, body_of, fresh_attempt, attempt_of}
+use Rattle.image_laws.specs.source_values.Runs.{completion_of, exactly, transition_of, state_after}
+use Rattle.image_laws.specs.source_values.Running.{IsRunnable}
+use Rattle.image_laws.specs.crash_rules.Model.{Ends, Short}
+use Rattle.image_laws.specs.compiled_model.Parts.{outcome_of, whole_task}
 
 -- a transition of a task that takes all its readings
 abbrev pub IsTransitionTo : State → State → Option Transition → Type 0

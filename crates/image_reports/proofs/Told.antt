@@ -1,30 +1,30 @@
 -- The headline.
 use Rattle.std.proofs.Common.{◌<◌, ◌^◌, ℕ, sym, refl, subst, Option, List, All}
-use Rattle.link_image.specs.cost_bound.declared.allowance.Allow.{Allow}
-use Rattle.link_image.specs.image_map.MapValue.{MapValue}
-use Rattle.link_image.specs.image_text.ImageValue.{ImageValue}
-use Rattle.link_image.specs.fram_board.Board.{BoardValue, fresh}
-use Rattle.link_image.specs.fram_board.Run.{BoardCharge, RunOutcome}
-use Rattle.link_image.specs.board_run.Charges.{charges_of}
-use Rattle.link_image.specs.board_run.History.{start_with, start_of}
-use Rattle.link_image.specs.board_run.Report.{report_of}
-use Rattle.link_image.specs.source_values.Runs.{CheckedProgram}
-use Rattle.link_image.specs.source_values.Running.{IsRunnable}
-use Rattle.link_image.specs.source_meaning.Acceptance.{IsAcceptedText}
-use Rattle.link_image.proofs.source_meaning.Interface.{accepted_texts_run}
-use Rattle.link_image.specs.run_charges.Laws.{IsRunOfWords}
-use Rattle.link_image.specs.model_runs.Runs.{all_amounts}
-use Rattle.link_image.specs.compiled_runs.Program.{compiled_program}
-use Rattle.link_image.specs.source_runs.Tells.{IsToldBySource}
-use Rattle.link_image.proofs.source_runs.Interface.{traces_are_few}
+use Rattle.image_laws.specs.cost_bound.declared.allowance.Allow.{Allow}
+use Rattle.image_laws.specs.image_map.MapValue.{MapValue}
+use Rattle.image_laws.specs.image_text.ImageValue.{ImageValue}
+use Rattle.image_laws.specs.fram_board.Board.{BoardValue, fresh}
+use Rattle.image_laws.specs.fram_board.Run.{BoardCharge, RunOutcome}
+use Rattle.image_laws.specs.board_run.Charges.{charges_of}
+use Rattle.image_laws.specs.board_run.History.{start_with, start_of}
+use Rattle.image_laws.specs.board_run.Report.{report_of}
+use Rattle.image_laws.specs.source_values.Runs.{CheckedProgram}
+use Rattle.image_laws.specs.source_values.Running.{IsRunnable}
+use Rattle.image_laws.specs.source_meaning.Acceptance.{IsAcceptedText}
+use Rattle.image_laws.proofs.source_meaning.Interface.{accepted_texts_run}
+use Rattle.image_laws.specs.run_charges.Laws.{IsRunOfWords}
+use Rattle.image_laws.specs.model_runs.Runs.{all_amounts}
+use Rattle.image_laws.specs.compiled_runs.Program.{compiled_program}
+use Rattle.image_laws.specs.source_runs.Tells.{IsToldBySource}
+use Rattle.image_laws.proofs.source_runs.Interface.{traces_are_few}
 use Rattle.image_reports.specs.Sources.{IsSourcesMap}
 use Rattle.image_reports.proofs.CompiledTold.{compiled_runs_are_told}
-use Rattle.link_image.proofs.source_maps.Interface.{names_are_names, maps_are_of_sources}
-use Rattle.link_image.specs.source_maps.Maps.{map_of}
-use Rattle.link_image.specs.source_maps.Laws.{IsSourceMap}
-use Rattle.link_image.specs.Compiled.{IsCompiled}
-use Rattle.link_image.specs.Laws.{fresh_world}
-use Rattle.link_image.proofs.Interface.{laid_out, images_are_fresh, maps_find_states}
+use Rattle.image_laws.proofs.source_maps.Interface.{names_are_names, maps_are_of_sources}
+use Rattle.image_laws.specs.source_maps.Maps.{map_of}
+use Rattle.image_laws.specs.source_maps.Laws.{IsSourceMap}
+use Rattle.image_laws.specs.Compiled.{IsCompiled}
+use Rattle.image_laws.specs.Laws.{fresh_world}
+use Rattle.image_laws.proofs.Interface.{laid_out, images_are_fresh, maps_find_states}
 use Rattle.compiled_laws.proofs.Interface.{sources_are_ready}
 use Rattle.image_reports.specs.Laws.{ImagesAreTold, ImagesAreMapped}
 use Rattle.image_reports.proofs.Begins.{begins_with_source, run_of_words}

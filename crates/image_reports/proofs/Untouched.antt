@@ -1,14 +1,14 @@
 -- A word on which no step stores is, behind any charges, as it was in front of them.
 use Rattle.std.proofs.Common.{◌≡◌, ℕ, refl, ap, ◌∙◌, List, [], ◌∷◌}
-use Rattle.link_image.specs.machine_effects.World.{EachStore}
-use Rattle.link_image.specs.machine_effects.Going.{going}
-use Rattle.link_image.specs.machine_effects.Machine.{MachineBoard}
-use Rattle.link_image.specs.machine_effects.Laws.{ChangesByEffects}
-use Rattle.link_image.specs.crash_rules.Model.{IsElsewhere}
-use Rattle.link_image.specs.crash_rules.History.{History, observe, behind_boot}
-use Rattle.link_image.specs.crash_rules.Runs.{Program, Charge, Charged}
-use Rattle.link_image.proofs.crash_rules.Interface.{changed}
-use Rattle.link_image.proofs.stands_for.Interface.{elsewhere_same}
+use Rattle.image_laws.specs.machine_effects.World.{EachStore}
+use Rattle.image_laws.specs.machine_effects.Going.{going}
+use Rattle.image_laws.specs.machine_effects.Machine.{MachineBoard}
+use Rattle.image_laws.specs.machine_effects.Laws.{ChangesByEffects}
+use Rattle.image_laws.specs.crash_rules.Model.{IsElsewhere}
+use Rattle.image_laws.specs.crash_rules.History.{History, observe, behind_boot}
+use Rattle.image_laws.specs.crash_rules.Runs.{Program, Charge, Charged}
+use Rattle.image_laws.proofs.crash_rules.Interface.{changed}
+use Rattle.image_laws.proofs.stands_for.Interface.{elsewhere_same}
 
 module _ (a : ℕ) (c : Program) (changes : (s : MachineBoard) → ChangesByEffects s (c.step s)) (gate : ℕ) where
   -- wherever charges lead, a further one stores elsewhere

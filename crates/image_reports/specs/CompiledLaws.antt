@@ -1,19 +1,19 @@
 -- A run of a compiled source's image is told by the source.
 use Rattle.std.specs.Prelude.{ℕ, ◌<◌, ◌^◌, List, Some}
-use Rattle.link_image.specs.image_map.MapValue.{MapValue}
-use Rattle.link_image.specs.fram_board.Board.{BoardValue}
-use Rattle.link_image.specs.fram_board.Run.{BoardCharge, RunOutcome}
-use Rattle.link_image.specs.board_run.History.{start_with}
-use Rattle.link_image.specs.board_run.Report.{report_of}
-use Rattle.link_image.specs.source_values.Runs.{CheckedProgram}
-use Rattle.link_image.specs.memory_map.MemoryMap.{MemoryMap}
-use Rattle.link_image.specs.machine_effects.World.{World}
-use Rattle.link_image.specs.crash_rules.Runs.{Program}
-use Rattle.link_image.specs.run_charges.Laws.{IsRunOfWords}
-use Rattle.link_image.specs.model_runs.Runs.{all_amounts}
-use Rattle.link_image.specs.source_runs.Tells.{IsToldBySource}
-use Rattle.link_image.specs.source_runs.Sources.{IsOfSource, BeginsWithSource}
-use Rattle.link_image.specs.compiled_model.Parts.{compiled_model}
+use Rattle.image_laws.specs.image_map.MapValue.{MapValue}
+use Rattle.image_laws.specs.fram_board.Board.{BoardValue}
+use Rattle.image_laws.specs.fram_board.Run.{BoardCharge, RunOutcome}
+use Rattle.image_laws.specs.board_run.History.{start_with}
+use Rattle.image_laws.specs.board_run.Report.{report_of}
+use Rattle.image_laws.specs.source_values.Runs.{CheckedProgram}
+use Rattle.image_laws.specs.memory_map.MemoryMap.{MemoryMap}
+use Rattle.image_laws.specs.machine_effects.World.{World}
+use Rattle.image_laws.specs.crash_rules.Runs.{Program}
+use Rattle.image_laws.specs.run_charges.Laws.{IsRunOfWords}
+use Rattle.image_laws.specs.model_runs.Runs.{all_amounts}
+use Rattle.image_laws.specs.source_runs.Tells.{IsToldBySource}
+use Rattle.image_laws.specs.source_runs.Sources.{IsOfSource, BeginsWithSource}
+use Rattle.image_laws.specs.compiled_model.Parts.{compiled_model}
 use Rattle.image_reports.specs.Sources.{IsSourcesMap}
 
 -- the tasks of a compiled source are the source's transitions

@@ -1,46 +1,46 @@
 -- What holds of each run of the image of an accepted source, on the board itself, cut wherever power fails: the effects since the last
 -- boot or done, what the board stands for, the words accepted, the counts, the code that is fetched, how it ends, and its report.
 use Rattle.std.specs.Prelude.{◌≡◌, ◌≢◌, ℕ, ◌+◌, ◌*◌, ◌^◌, ◌%◌, ◌<◌, ◌≤◌, ◌==◌, true, if◌then◌else◌, List, [], ◌∷◌, ◌++◌, length, drop, All}
-use Rattle.link_image.specs.msp_isa.declared.instructions.Instr.{Instr}
-use Rattle.link_image.specs.msp_isa.Encoding.{encoding}
-use Rattle.link_image.specs.msp_step.Registers.{registers_of}
-use Rattle.link_image.specs.msp_step.declared.machine.Stop.{Stop}
-use Rattle.link_image.specs.msp_step.declared.machine.Stop.TheVariants as stop
-use Rattle.link_image.specs.image_text.ImageValue.{ImageValue}
-use Rattle.link_image.specs.fram_board.Board.{BoardValue, fresh, IsNextInstruction}
-use Rattle.link_image.specs.fram_board.Effects.{Effect}
-use Rattle.link_image.specs.fram_board.Run.{BoardCharge, PowerUp, Moment, Stopped, RunOutcome, Run, accepted_words}
-use Rattle.link_image.specs.board_run.History.{start_of}
-use Rattle.link_image.specs.board_run.Report.{report_of}
-use Rattle.link_image.specs.machine_effects.World.{World, fram_after, IsPrefix}
-use Rattle.link_image.specs.machine_effects.Machine.{fram_of}
-use Rattle.link_image.specs.machine_effects.Runs.{last_board}
-use Rattle.link_image.specs.code_forms.Placed.{Holds}
-use Rattle.link_image.specs.cost_bound.declared.allowance.Allow.{Allow}
-use Rattle.link_image.specs.source_values.Runs.{CheckedProgram, State, first_state}
-use Rattle.link_image.specs.source_meaning.Acceptance.{IsAcceptedText}
-use Rattle.link_image.specs.source_runs.Tells.{at_first, EachChargePays, IsToldBySource}
-use Rattle.link_image.specs.source_maps.Maps.{map_of}
-use Rattle.link_image.specs.memory_map.declared.words.RuntimeWord.TheVariants.{CurrentTask, Gate, Version}
-use Rattle.link_image.specs.memory_map.MemoryMap.{MemoryMap, word_place}
-use Rattle.link_image.specs.array_versions.Behaviour.{behaviour, started}
-use Rattle.link_image.specs.runtime_effects.Stages.{commit_effects, start_effects, pending_effects, boot_effects}
-use Rattle.link_image.specs.boot_runtime.Entries.{task_entries}
-use Rattle.link_image.specs.boot_runtime.Listing.{privates_in}
-use Rattle.link_image.specs.crash_rules.Model.{CommitContract}
-use Rattle.link_image.specs.crash_rules.History.{History, first_history}
-use Rattle.link_image.specs.crash_rules.Laws.{Resting, StandsFor, AcceptedWords}
-use Rattle.link_image.specs.run_charges.Charges.{ArePowerStates, AreInstructionMoments, observed}
-use Rattle.link_image.specs.memory_map.Laws.{AreApart}
-use Rattle.link_image.specs.stands_for.StandsFor.{RestsAt, UndecidedAt, DecidedFrom}
-use Rattle.link_image.specs.compiled_model.Places.{program_places}
-use Rattle.link_image.specs.compiled_model.View.{state_view}
-use Rattle.link_image.specs.compiled_model.Parts.{task_program, has_jumped, compiled_model}
+use Rattle.image_laws.specs.msp_isa.declared.instructions.Instr.{Instr}
+use Rattle.image_laws.specs.msp_isa.Encoding.{encoding}
+use Rattle.image_laws.specs.msp_step.Registers.{registers_of}
+use Rattle.image_laws.specs.msp_step.declared.machine.Stop.{Stop}
+use Rattle.image_laws.specs.msp_step.declared.machine.Stop.TheVariants as stop
+use Rattle.image_laws.specs.image_text.ImageValue.{ImageValue}
+use Rattle.image_laws.specs.fram_board.Board.{BoardValue, fresh, IsNextInstruction}
+use Rattle.image_laws.specs.fram_board.Effects.{Effect}
+use Rattle.image_laws.specs.fram_board.Run.{BoardCharge, PowerUp, Moment, Stopped, RunOutcome, Run, accepted_words}
+use Rattle.image_laws.specs.board_run.History.{start_of}
+use Rattle.image_laws.specs.board_run.Report.{report_of}
+use Rattle.image_laws.specs.machine_effects.World.{World, fram_after, IsPrefix}
+use Rattle.image_laws.specs.machine_effects.Machine.{fram_of}
+use Rattle.image_laws.specs.machine_effects.Runs.{last_board}
+use Rattle.image_laws.specs.code_forms.Placed.{Holds}
+use Rattle.image_laws.specs.cost_bound.declared.allowance.Allow.{Allow}
+use Rattle.image_laws.specs.source_values.Runs.{CheckedProgram, State, first_state}
+use Rattle.image_laws.specs.source_meaning.Acceptance.{IsAcceptedText}
+use Rattle.image_laws.specs.source_runs.Tells.{at_first, EachChargePays, IsToldBySource}
+use Rattle.image_laws.specs.source_maps.Maps.{map_of}
+use Rattle.image_laws.specs.memory_map.declared.words.RuntimeWord.TheVariants.{CurrentTask, Gate, Version}
+use Rattle.image_laws.specs.memory_map.MemoryMap.{MemoryMap, word_place}
+use Rattle.image_laws.specs.array_versions.Behaviour.{behaviour, started}
+use Rattle.image_laws.specs.runtime_effects.Stages.{commit_effects, start_effects, pending_effects, boot_effects}
+use Rattle.image_laws.specs.boot_runtime.Entries.{task_entries}
+use Rattle.image_laws.specs.boot_runtime.Listing.{privates_in}
+use Rattle.image_laws.specs.crash_rules.Model.{CommitContract}
+use Rattle.image_laws.specs.crash_rules.History.{History, first_history}
+use Rattle.image_laws.specs.crash_rules.Laws.{Resting, StandsFor, AcceptedWords}
+use Rattle.image_laws.specs.run_charges.Charges.{ArePowerStates, AreInstructionMoments, observed}
+use Rattle.image_laws.specs.memory_map.Laws.{AreApart}
+use Rattle.image_laws.specs.stands_for.StandsFor.{RestsAt, UndecidedAt, DecidedFrom}
+use Rattle.image_laws.specs.compiled_model.Places.{program_places}
+use Rattle.image_laws.specs.compiled_model.View.{state_view}
+use Rattle.image_laws.specs.compiled_model.Parts.{task_program, has_jumped, compiled_model}
 use Rattle.compiled_laws.specs.compiled_bounds.Laws.{KeepsCapacities}
-use Rattle.link_image.specs.model_runs.Runs.{IsShort, all_amounts}
-use Rattle.link_image.specs.Words.{code_words}
-use Rattle.link_image.specs.Compiled.{IsCompiled}
-use Rattle.link_image.specs.Laws.{fresh_world}
+use Rattle.image_laws.specs.model_runs.Runs.{IsShort, all_amounts}
+use Rattle.image_laws.specs.Words.{code_words}
+use Rattle.image_laws.specs.Compiled.{IsCompiled}
+use Rattle.image_laws.specs.Laws.{fresh_world}
 
 -- what is read off the effects of a run's moments, behind them, where an image's fresh board began it
 abbrev pub known_behind : MemoryMap → ImageValue → List Moment → History

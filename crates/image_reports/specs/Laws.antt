@@ -1,23 +1,23 @@
 -- The headline: the report of the image of an accepted source, on any trace, is told by the source.
 use Rattle.std.specs.Prelude.{◌≡◌, ℕ, List, ◌++◌}
-use Rattle.link_image.specs.cost_bound.declared.allowance.Allow.{Allow}
-use Rattle.link_image.specs.energy_trace.TraceValue.{TraceValue}
-use Rattle.link_image.specs.image_text.ImageValue.{ImageValue}
-use Rattle.link_image.specs.fram_board.Board.{fresh}
-use Rattle.link_image.specs.fram_board.Run.{Moment, RunOutcome, Run}
-use Rattle.link_image.specs.board_run.Charges.{charges_of}
-use Rattle.link_image.specs.board_run.History.{start_of}
-use Rattle.link_image.specs.board_run.Report.{report_of}
-use Rattle.link_image.specs.machine_effects.Machine.{fram_of}
-use Rattle.link_image.specs.machine_effects.Runs.{last_board}
-use Rattle.link_image.specs.source_values.Runs.{CheckedProgram}
-use Rattle.link_image.specs.source_meaning.Acceptance.{IsAcceptedText}
-use Rattle.link_image.specs.source_runs.Naming.{IsMapOf}
-use Rattle.link_image.specs.source_runs.Traces.{IsTraceOfWords}
-use Rattle.link_image.specs.source_runs.Tells.{IsToldBySource}
+use Rattle.image_laws.specs.cost_bound.declared.allowance.Allow.{Allow}
+use Rattle.image_laws.specs.energy_trace.TraceValue.{TraceValue}
+use Rattle.image_laws.specs.image_text.ImageValue.{ImageValue}
+use Rattle.image_laws.specs.fram_board.Board.{fresh}
+use Rattle.image_laws.specs.fram_board.Run.{Moment, RunOutcome, Run}
+use Rattle.image_laws.specs.board_run.Charges.{charges_of}
+use Rattle.image_laws.specs.board_run.History.{start_of}
+use Rattle.image_laws.specs.board_run.Report.{report_of}
+use Rattle.image_laws.specs.machine_effects.Machine.{fram_of}
+use Rattle.image_laws.specs.machine_effects.Runs.{last_board}
+use Rattle.image_laws.specs.source_values.Runs.{CheckedProgram}
+use Rattle.image_laws.specs.source_meaning.Acceptance.{IsAcceptedText}
+use Rattle.image_laws.specs.source_runs.Naming.{IsMapOf}
+use Rattle.image_laws.specs.source_runs.Traces.{IsTraceOfWords}
+use Rattle.image_laws.specs.source_runs.Tells.{IsToldBySource}
 use Rattle.compiled_laws.specs.compiled_bounds.Laws.{KeepsCapacities}
-use Rattle.link_image.specs.source_maps.Maps.{map_of}
-use Rattle.link_image.specs.Compiled.{IsCompiled}
+use Rattle.image_laws.specs.source_maps.Maps.{map_of}
+use Rattle.image_laws.specs.Compiled.{IsCompiled}
 
 -- on any trace of words, the report of the one run of its fresh board is told by the source
 abbrev pub ImagesAreTold : Type 0

@@ -1,41 +1,41 @@
 -- What holds of each run of an accepted source's image that goes on from a saved state, on the board itself, beside what holds from its
 -- fresh board.
 use Rattle.std.specs.Prelude.{◌≡◌, ℕ, ◌^◌, ◌%◌, ◌<◌, ◌≤◌, ◌==◌, true, if◌then◌else◌, List, [], ◌++◌, length, drop, All}
-use Rattle.link_image.specs.msp_step.declared.machine.Stop.{Stop}
-use Rattle.link_image.specs.msp_step.declared.machine.Stop.TheVariants as stop
-use Rattle.link_image.specs.memory_map.address_space.Limits.{fram_words}
-use Rattle.link_image.specs.image_map.MapValue.{MapValue}
-use Rattle.link_image.specs.image_text.ImageValue.{ImageValue}
-use Rattle.link_image.specs.fram_board.Board.{BoardValue, started}
-use Rattle.link_image.specs.fram_board.Saved.{TakesNextBehind}
-use Rattle.link_image.specs.fram_board.Run.{BoardCharge, Moment, Stopped, RunOutcome, Run, accepted_words}
-use Rattle.link_image.specs.board_run.History.{start_of}
-use Rattle.link_image.specs.board_run.Report.{report_of}
-use Rattle.link_image.specs.machine_effects.World.{World, world_after, IsPrefix}
-use Rattle.link_image.specs.machine_effects.Machine.{fram_of}
-use Rattle.link_image.specs.machine_effects.Runs.{last_board}
-use Rattle.link_image.specs.cost_bound.declared.allowance.Allow.{Allow}
-use Rattle.link_image.specs.source_values.Runs.{CheckedProgram, State, Transition}
-use Rattle.link_image.specs.source_meaning.Acceptance.{IsAcceptedText}
-use Rattle.link_image.specs.source_runs.Tells.{at_first, EachChargePays}
-use Rattle.link_image.specs.source_runs.Resumed.{IsToldFrom, IsToldBehind}
-use Rattle.link_image.specs.source_maps.Maps.{map_of}
-use Rattle.link_image.specs.memory_map.declared.words.RuntimeWord.TheVariants.{CurrentTask, Gate}
-use Rattle.link_image.specs.memory_map.MemoryMap.{MemoryMap, word_place}
-use Rattle.link_image.specs.runtime_effects.Stages.{commit_effects}
-use Rattle.link_image.specs.crash_rules.Model.{IsBetween}
-use Rattle.link_image.specs.crash_rules.History.{History, first_history}
-use Rattle.link_image.specs.crash_rules.Laws.{Origin, Resting, Pending, StandsFor, AcceptedWords}
-use Rattle.link_image.specs.run_charges.Charges.{ArePowerStates, observed}
-use Rattle.link_image.specs.stands_for.StandsFor.{UndecidedAt, IsSound}
-use Rattle.link_image.specs.compiled_model.Places.{program_places}
-use Rattle.link_image.specs.compiled_model.View.{state_view, state_in, state_left}
-use Rattle.link_image.specs.compiled_model.Parts.{compiled_model}
+use Rattle.image_laws.specs.msp_step.declared.machine.Stop.{Stop}
+use Rattle.image_laws.specs.msp_step.declared.machine.Stop.TheVariants as stop
+use Rattle.image_laws.specs.memory_map.address_space.Limits.{fram_words}
+use Rattle.image_laws.specs.image_map.MapValue.{MapValue}
+use Rattle.image_laws.specs.image_text.ImageValue.{ImageValue}
+use Rattle.image_laws.specs.fram_board.Board.{BoardValue, started}
+use Rattle.image_laws.specs.fram_board.Saved.{TakesNextBehind}
+use Rattle.image_laws.specs.fram_board.Run.{BoardCharge, Moment, Stopped, RunOutcome, Run, accepted_words}
+use Rattle.image_laws.specs.board_run.History.{start_of}
+use Rattle.image_laws.specs.board_run.Report.{report_of}
+use Rattle.image_laws.specs.machine_effects.World.{World, world_after, IsPrefix}
+use Rattle.image_laws.specs.machine_effects.Machine.{fram_of}
+use Rattle.image_laws.specs.machine_effects.Runs.{last_board}
+use Rattle.image_laws.specs.cost_bound.declared.allowance.Allow.{Allow}
+use Rattle.image_laws.specs.source_values.Runs.{CheckedProgram, State, Transition}
+use Rattle.image_laws.specs.source_meaning.Acceptance.{IsAcceptedText}
+use Rattle.image_laws.specs.source_runs.Tells.{at_first, EachChargePays}
+use Rattle.image_laws.specs.source_runs.Resumed.{IsToldFrom, IsToldBehind}
+use Rattle.image_laws.specs.source_maps.Maps.{map_of}
+use Rattle.image_laws.specs.memory_map.declared.words.RuntimeWord.TheVariants.{CurrentTask, Gate}
+use Rattle.image_laws.specs.memory_map.MemoryMap.{MemoryMap, word_place}
+use Rattle.image_laws.specs.runtime_effects.Stages.{commit_effects}
+use Rattle.image_laws.specs.crash_rules.Model.{IsBetween}
+use Rattle.image_laws.specs.crash_rules.History.{History, first_history}
+use Rattle.image_laws.specs.crash_rules.Laws.{Origin, Resting, Pending, StandsFor, AcceptedWords}
+use Rattle.image_laws.specs.run_charges.Charges.{ArePowerStates, observed}
+use Rattle.image_laws.specs.stands_for.StandsFor.{UndecidedAt, IsSound}
+use Rattle.image_laws.specs.compiled_model.Places.{program_places}
+use Rattle.image_laws.specs.compiled_model.View.{state_view, state_in, state_left}
+use Rattle.image_laws.specs.compiled_model.Parts.{compiled_model}
 use Rattle.compiled_laws.specs.compiled_bounds.Laws.{KeepsCapacities}
-use Rattle.link_image.specs.model_runs.Events.{words_between}
-use Rattle.link_image.specs.model_runs.Runs.{IsShort, all_amounts}
-use Rattle.link_image.specs.Compiled.{IsCompiled}
-use Rattle.link_image.specs.Laws.{fresh_world}
+use Rattle.image_laws.specs.model_runs.Events.{words_between}
+use Rattle.image_laws.specs.model_runs.Runs.{IsShort, all_amounts}
+use Rattle.image_laws.specs.Compiled.{IsCompiled}
+use Rattle.image_laws.specs.Laws.{fresh_world}
 use Rattle.image_reports.specs.ImageLaw.{start_due, all_due, VersionsBelow, KeepsCode, FetchesCode, RaisesVersion}
 
 -- a world from which a run of an image may go on: the code and the reset vector are the image's, the runtime's counts keep to their

@@ -1,6 +1,7 @@
 -- Words that are put into an image.
-use Rattle.std.proofs.Common.{◌≡◌, ◌∙◌, ◌+◌, ◌-◌, ◌*◌, ◌/◌, ◌%◌, ◌<◌, ◌≤◌, ◌==◌, ◌&&◌, ℕ, zero, suc, Bool, true, false, cond, if◌then◌else◌, List, [], ◌∷◌}
-use Rattle.std.proofs.Common.{map, drop, length, replicate, refl, sym, ap, subst, arith, eqb-true, slice_index, get_or}
+use Rattle.std.proofs.Common.{◌≡◌, ◌≢◌, ◌∙◌, ◌+◌, ◌-◌, ◌*◌, ◌/◌, ◌%◌, ◌<◌, ◌≤◌, ◌==◌, ◌&&◌, ℕ, zero, suc, Bool, true, false, cond, if◌then◌else◌, List, [], ◌∷◌}
+use Rattle.std.proofs.Common.{map, drop, length, replicate, refl, sym, ap, subst, arith, eqb-true, slice_index, slice_set, get_or}
+use Rattle.std.proofs.Common.{get_or-set_same, get_or-set_other}
 use Rattle.std.proofs.lemmas.Bool.Decides.{nat_tests}
 use Rattle.std.proofs.lemmas.List.{at_drop_more}
 use Rattle.linked_code.proofs.machine_effects.Interface.{zeros_at}
@@ -8,7 +9,7 @@ use Rattle.task_ast.specs.declared.Extent.{Extent}
 use Rattle.task_ast.specs.declared.SharedDeclaration.{SharedDeclaration}
 use Rattle.image_text.specs.ImageValue.{place_of, zeros}
 use Rattle.linked_code.specs.fram_board.Bus.{is_fram}
-use Rattle.linked_code.specs.machine_effects.Machine.{fram_of}
+use Rattle.linked_code.specs.machine_effects.Machine.{IsFram, fram_of}
 use Rattle.task_ast.specs.declared.Extent.TheVariants as extent
 use Rattle.whole_programs.specs.source_values.Runs.{initial_words}
 use Rattle.memory_map.specs.address_space.Limits.{fram_first, reset_vector}
@@ -19,12 +20,30 @@ use Rattle.memory_map.specs.declared.place.VariablePlace.TheVariants.{Scalar, Ar
 use Rattle.memory_map.specs.MemoryMap.{MemoryMap}
 use Rattle.memory_map.specs.Places.{end_of, home_region, AreInOrder, IsLaidOut}
 use Rattle.memory_map.proofs.Interface.{in_order_end, parts_in_fram}
-use Rattle.compiled_runs.specs.compiled_model.View.{is_within, word_of_row, shared_word}
+use Rattle.image_laws.specs.compiled_model.View.{is_within, word_of_row, shared_word}
 use Rattle.source_maps.specs.Placing.{IsOfKind, ArePlacesOf}
 use Rattle.link_image.specs.Initial.{initial_put}
-use Rattle.link_image.specs.Words.{AreWords}
+use Rattle.image_laws.specs.Words.{AreWords}
 use Rattle.std.proofs.lemmas.List.Elements.{All-nil, All-cons}
-use Rattle.link_image.proofs.Fram.{within, none_before}
+use Rattle.image_laws.proofs.Interface.{fram_at, within, none_before}
+
+-- a word that is set
+pub fram_set : (ws : List ℕ) (at w a : ℕ) → length ws ≡ 24064 → IsFram at → IsFram a → fram_of (slice_set ws (place_of at) w) a
+    ≡ (if a == at then w else fram_of ws a)
+fram_set ws at w a count there here = go (a == at) refl
+  where
+    place : (x : ℕ) → IsFram x → place_of x < length ws
+    place x h = let low = h.low in let high = h.high in omega (arith, count, low, high)
+
+    go : (b : Bool) → (a == at) ≡ b → fram_of (slice_set ws (place_of at) w) a ≡ (if b then w else fram_of ws a)
+    go true e =
+        let same : a ≡ at = eqb-true a at e in
+        fram_at (slice_set ws (place_of at) w) a here ∙ ap (λ x. slice_index (slice_set ws (place_of at) w) (place_of x)) same
+        ∙ get_or-set_same ws (place_of at) w 0 (place at there)
+    go false e =
+        let low = here.low in let even = here.even in let other_low = there.low in let other_even = there.even in
+        let apart : place_of a ≢ place_of at = λ same. grind (arith, nat_tests, e, low, even, other_low, other_even, same) in
+        fram_at (slice_set ws (place_of at) w) a here ∙ get_or-set_other ws (place_of at) (place_of a) w 0 apart ∙ sym (fram_at ws a here)
 
 -- the words that declarations begin with
 abbrev pub rows_of : List SharedDeclaration → List (List ℕ)

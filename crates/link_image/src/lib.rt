@@ -6,9 +6,7 @@
 #![tactic(auto)]
 
 mod code;
-mod laws;
 mod linking;
 mod words;
 
-pub use laws::{images_are_fresh, images_are_one, images_have_states, maps_find_states};
 pub use linking::{compile, link};

@@ -5,8 +5,8 @@ ghost use Rattle.source_meaning.specs.Acceptance.{IsAcceptedText, IsRefusedText}
 ghost use Rattle.war_analysis.specs.Plans.{IsPlan};
 ghost use Rattle.privatise.specs.Layouts.{IsLayout};
 ghost use Rattle.link_image.specs.Needs.{IsReadyToLink};
-ghost use Rattle.link_image.specs.Words.{AreImageWords};
-ghost use Rattle.link_image.specs.Compiled.{IsCompiled, IsImageOf};
+ghost use Rattle.image_laws.specs.Words.{AreImageWords};
+ghost use Rattle.image_laws.specs.Compiled.{IsCompiled, IsImageOf};
 
 use crate::code::code_words;
 use crate::words::put_image;

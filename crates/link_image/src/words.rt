@@ -7,10 +7,10 @@ ghost use Rattle.whole_programs.specs.source_values.Runs.{initial_words};
 ghost use Rattle.memory_map.specs.MemoryMap.{word_place};
 ghost use Rattle.memory_map.specs.declared.words.RuntimeWord.TheVariants.{CurrentTask};
 ghost use Rattle.memory_map.specs.Places.{end_of, home_region, AreInOrder};
-ghost use Rattle.compiled_runs.specs.compiled_model.View.{is_within, shared_word};
+ghost use Rattle.image_laws.specs.compiled_model.View.{is_within, shared_word};
 ghost use Rattle.source_maps.specs.Placing.{IsOfKind, ArePlacesOf};
 ghost use Rattle.link_image.specs.Initial.{initial_put};
-ghost use Rattle.link_image.specs.Words.{AreWords};
+ghost use Rattle.image_laws.specs.Words.{AreWords};
 
 use image_text::Image;
 use memory_map::{Layout, RESET_VECTOR, RuntimeWord, VariablePlace};

@@ -10,8 +10,8 @@ use Rattle.memory_map.specs.MemoryMap.{MemoryMap, word_place}
 use Rattle.memory_map.proofs.Interface.{apart_of}
 use Rattle.lower.specs.Lowered.{lowered}
 use Rattle.linked_code.specs.Linked.{linked}
-use Rattle.compiled_runs.specs.compiled_model.View.{is_within, shared_word}
-use Rattle.link_image.specs.Words.{code_words, AreWords}
+use Rattle.image_laws.specs.compiled_model.View.{is_within, shared_word}
+use Rattle.image_laws.specs.Words.{code_words, AreWords}
 use Rattle.link_image.proofs.Placing.{zeros_are_words}
 use Rattle.link_image.proofs.linking.image_of.Goals as goal
 

@@ -2,8 +2,8 @@ use Rattle.std.proofs.Common.{◌∙◌, ◌<◌, ap, sym, subst, length, arith}
 use Rattle.linked_code.specs.machine_effects.Machine.{fram_of}
 use Rattle.std.proofs.lemmas.List.Elements.{All-set}
 use Rattle.image_text.specs.ImageValue.{place_of}
-use Rattle.link_image.specs.Words.{AreWords}
-use Rattle.link_image.proofs.Fram.{fram_set}
+use Rattle.image_laws.specs.Words.{AreWords}
+use Rattle.link_image.proofs.Placing.{fram_set}
 use Rattle.link_image.proofs.words.put_word.Goals as goal
 
 pub returns-clause-each : goal.returns-clause-each

@@ -1,7 +1,7 @@
 use Rattle.std.proofs.Common.{◌≡◌, ◌-◌, ◌/◌, ℕ, if◌then◌else◌, slice_index}
 use Rattle.linked_code.specs.machine_effects.Machine.{IsFram, fram_of}
-use Rattle.compiled_runs.specs.compiled_model.View.{is_within}
-use Rattle.link_image.specs.Words.{AreWords}
+use Rattle.image_laws.specs.compiled_model.View.{is_within}
+use Rattle.image_laws.specs.Words.{AreWords}
 use Rattle.link_image.proofs.words.put_words.Given as goal
 
 abbrev pub invariant-loop-i : goal.invariant-loop-i

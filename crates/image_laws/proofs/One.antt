@@ -5,20 +5,18 @@ use Rattle.memory_map.specs.address_space.Limits.{fram_first, fram_words}
 use Rattle.linked_code.specs.cost_bound.declared.allowance.Allow.{Allow}
 use Rattle.linked_code.specs.cost_bound.Allowance.{IsAllowed}
 use Rattle.whole_programs.specs.source_values.Runs.{CheckedProgram}
-use Rattle.war_analysis.specs.PlanValue.{TaskPlanValue}
 use Rattle.war_analysis.specs.Laws.{OnePlan}
 use Rattle.privatise.specs.Layouts.{IsLayout}
 use Rattle.privatise.specs.Laws.{OneLayout}
-use Rattle.memory_map.specs.MemoryMap.{MemoryMap}
 use Rattle.image_text.specs.ImageValue.{ImageValue, place_of}
 use Rattle.linked_code.specs.machine_effects.Machine.{IsFram, fram_of}
 use Rattle.source_maps.specs.Maps.{map_of}
 use Rattle.source_meaning.specs.Acceptance.{IsAcceptedText}
 use Rattle.source_meaning.specs.Laws.{OneProgram}
-use Rattle.link_image.specs.Words.{AreImageWords, image_word}
-use Rattle.link_image.specs.Compiled.{IsCompiled}
-use Rattle.link_image.specs.Laws.{ImagesAreOne}
-use Rattle.link_image.proofs.Fram.{fram_at}
+use Rattle.image_laws.specs.Words.{AreImageWords, image_word}
+use Rattle.image_laws.specs.Compiled.{IsCompiled}
+use Rattle.image_laws.specs.Laws.{ImagesAreOne}
+use Rattle.image_laws.proofs.Fram.{fram_at}
 
 -- words of the FRAM that are the same at each address
 same_words : (f : ℕ → ℕ) (xs ys : List ℕ) → length xs ≡ fram_words → length ys ≡ fram_words → ((a : ℕ) → IsFram a → fram_of xs a ≡ f a)

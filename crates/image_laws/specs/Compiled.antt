@@ -6,11 +6,11 @@ use Rattle.war_analysis.specs.PlanValue.{TaskPlanValue}
 use Rattle.war_analysis.specs.Plans.{IsPlan}
 use Rattle.memory_map.specs.MemoryMap.{MemoryMap}
 use Rattle.privatise.specs.Layouts.{IsLayout}
-use Rattle.codegen.specs.array_versions.Form.{OfWords}
+use Rattle.linked_code.specs.array_versions.Form.{OfWords}
 use Rattle.image_text.specs.ImageValue.{ImageValue}
 use Rattle.lower.specs.Lowered.{lowered}
 use Rattle.source_meaning.specs.Acceptance.{IsAcceptedText}
-use Rattle.link_image.specs.Words.{AreImageWords}
+use Rattle.image_laws.specs.Words.{AreImageWords}
 use Rattle.source_maps.specs.Maps.{map_of}
 
 -- an image has the words and the map of a source's layout, of which there is one: the layout for the source's plan and its allowance

@@ -1,6 +1,6 @@
 -- The world of an image before anything was done.
-use Rattle.std.proofs.Common.{◌≡◌, ◌≢◌, ℕ, suc, ◌+◌, ◌-◌, ◌*◌, ◌/◌, ◌%◌, ◌<◌, ◌≤◌, ◌==◌, ◌&&◌, nat_le, nat_lt, if◌then◌else◌, cond, ne_eqb, refl}
-use Rattle.std.proofs.Common.{ap, ap₂, ◌∙◌, arith, true, false, List, [], ◌∷◌, length, map, All}
+use Rattle.std.proofs.Common.{◌≡◌, ◌≢◌, ℕ, ◌+◌, ◌-◌, ◌*◌, ◌/◌, ◌%◌, ◌<◌, ◌≤◌, ◌==◌, ◌&&◌, if◌then◌else◌, cond, ne_eqb, refl, ap, ◌∙◌}
+use Rattle.std.proofs.Common.{arith, true, false, List, length, All}
 use Rattle.std.proofs.lemmas.Bool.Decides.{nat_tests}
 use Rattle.std.specs.Prelude.{slice_index}
 use Rattle.linked_code.specs.cost_bound.declared.allowance.Allow.{Allow}
@@ -12,10 +12,9 @@ use Rattle.image_text.specs.ImageValue.{ImageValue, place_of}
 use Rattle.linked_code.specs.fram_board.Bus.{is_fram}
 use Rattle.linked_code.specs.machine_effects.Machine.{IsFram, fram_of}
 use Rattle.linked_code.proofs.machine_effects.Interface.{index_small}
-use Rattle.linked_code.specs.code_forms.Placed.{Holds}
 use Rattle.compiled_runs.specs.stands_for.Layout.{IsSharedWord}
 use Rattle.compiled_runs.specs.stands_for.StandsFor.{HoldsWords, RestsAt}
-use Rattle.codegen.proofs.array_versions.Interface.{zero_unless}
+use Rattle.linked_code.proofs.array_versions.Interface.{zero_unless}
 use Rattle.lower.specs.Lowered.{lowered}
 use Rattle.whole_programs.proofs.Interface.{privates_are_few}
 use Rattle.layout_facts.specs.Facts.{HasLayout}
@@ -23,57 +22,22 @@ use Rattle.layout_facts.proofs.Interface.{tasks_match}
 use Rattle.linked_code.specs.Linked.{CodeFits}
 use Rattle.linked_code.proofs.Interface.{linked_is_code}
 use Rattle.compiled_runs.specs.compiled_model.Places.{program_places}
-use Rattle.compiled_runs.specs.compiled_model.View.{is_within, word_of_row, shared_word, state_view}
+use Rattle.compiled_runs.specs.compiled_model.View.{is_within, shared_word, state_view}
 use Rattle.compiled_runs.proofs.Interface.{sources_have_room}
-use Rattle.link_image.specs.Words.{code_words, code_region, data_word}
-use Rattle.link_image.specs.Compiled.{IsCompiled}
-use Rattle.link_image.specs.Laws.{fresh_world, IsFreshImage, ImagesAreFresh}
-use Rattle.link_image.proofs.Initial.{initial_rows_are}
-use Rattle.link_image.proofs.States.{finds_state}
+use Rattle.image_laws.specs.Words.{code_words, code_region, data_word}
+use Rattle.image_laws.specs.Compiled.{IsCompiled}
+use Rattle.image_laws.specs.Laws.{fresh_world, IsFreshImage, ImagesAreFresh}
+use Rattle.image_laws.proofs.Fram.{within, outside_before, none_before, holds_by}
+use Rattle.image_laws.proofs.Initial.{initial_rows_are}
+use Rattle.image_laws.proofs.States.{finds_state}
 use Rattle.memory_map.specs.address_space.Limits.{reset_vector}
 use Rattle.memory_map.specs.declared.words.RuntimeWord.{RuntimeWord}
 use Rattle.memory_map.specs.declared.words.RuntimeWord.TheVariants.{CurrentTask, Gate, Base}
-use Rattle.memory_map.specs.declared.place.Region.{Region}
-use Rattle.memory_map.specs.declared.place.VariablePlace.{VariablePlace}
 use Rattle.memory_map.specs.MemoryMap.{MemoryMap, word_place}
-use Rattle.memory_map.specs.Places.{end_of, home_region, AreInOrder, IsLaidOut}
+use Rattle.memory_map.specs.Places.{end_of, IsLaidOut}
 use Rattle.memory_map.proofs.Interface.{apart_of, even_of}
 use Rattle.linked_code.proofs.runtime_code.Interface.{places_are_in_fram}
-use Rattle.link_image.proofs.Laid.{laid_out}
-
--- words that stand one behind the other
-holds_each : (f : ℕ → ℕ) (p : ℕ) (ws : List ℕ) → ((k : ℕ) → k < length ws → f (p + 2 * k) ≡ slice_index ws k) → Holds f p ws
-holds_each f p [] h = tt
-holds_each f p (w ∷ ws) h = (ap f (first p) ∙ h 0 (omega arith), holds_each f (p + 2) ws (λ k l. ap f (next p k) ∙ h (suc k) (omega (arith, l))))
-  where
-    first : (p : ℕ) → p ≡ p + 2 * 0
-    first p = omega arith
-
-    next : (p k : ℕ) → p + 2 + 2 * k ≡ p + 2 * suc k
-    next p k = omega arith
-
--- an address in a region, and one before it
-inside : (r : Region) (a : ℕ) → r.address ≤ a → a < end_of r → is_within r a ≡ true
-inside r a low high =
-    let s : nat_le r.address a ≡ true = grind (arith, nat_tests) in
-    let t : nat_lt a (end_of r) ≡ true = grind (arith, nat_tests) in
-    ap₂ (λ x y. x && y) s t
-
-before : (r : Region) (a : ℕ) → a < r.address → is_within r a ≡ false
-before r a low =
-    let s : nat_le r.address a ≡ false = grind (arith, nat_tests) in
-    ap (λ x. x && nat_lt a (end_of r)) s
-
--- no variable stands before the first of them
-none_before : (vs : List VariablePlace) (rows : List (List ℕ)) (from end a : ℕ) → AreInOrder from (map home_region vs) end → a < from
-    → shared_word vs rows a ≡ 0
-none_before [] rows from end a h l = refl
-none_before (v ∷ vs) [] from end a h l = refl
-none_before (v ∷ vs) (row ∷ rows) from end a h l =
-    let r = home_region v in
-    let low = h.0.from in
-    let out : is_within r a ≡ false = before r a (omega (arith, low, l)) in
-    ap (λ b. cond b (word_of_row r row a) (shared_word vs rows a)) out ∙ none_before vs rows (end_of r) end a h.1 (omega (arith, low, l))
+use Rattle.image_laws.proofs.Laid.{laid_out}
 
 holds_words : (words : List ℕ) → All (λ w. w < 0x10000) words → HoldsWords (fram_of words)
 holds_words words all a = zero_unless ((a % 2 == 0) && is_fram a) (slice_index words (place_of a)) (index_small words (place_of a) all)
@@ -113,7 +77,7 @@ module _ (text : List ℕ) (p : CheckedProgram) (allow : Allow) (image : ImageVa
       let high = (apart_of l rules).high in
       let end = code_end in
       let other : (a == reset_vector) ≡ false = ne_eqb a reset_vector (λ e. omega (arith, low, high, end, e)) in
-      let out : is_within (code_region p l) a ≡ false = before (code_region p l) a low in
+      let out : is_within (code_region p l) a ≡ false = outside_before (code_region p l) a low in
       c.words.each a is
       ∙ ap (λ b. cond b l.boot.address (if is_within (code_region p l) a then slice_index (code_words p l) ((a - l.boot.address) / 2) else data_word p l a))
       other
@@ -129,7 +93,7 @@ module _ (text : List ℕ) (p : CheckedProgram) (allow : Allow) (image : ImageVa
       let is : IsFram a = record { even = omega (arith, even); low = omega (arith, apart); high = omega (arith, apart, end, below) } in
       let high = apart.high in
       let other : (a == reset_vector) ≡ false = ne_eqb a reset_vector (λ e. omega (arith, high, end, below, e)) in
-      let there : is_within (code_region p l) a ≡ true = inside (code_region p l) a (omega arith) (omega (arith, below)) in
+      let there : is_within (code_region p l) a ≡ true = within (code_region p l) a (omega arith) (omega (arith, below)) in
       c.words.each a is
       ∙ ap (λ b. cond b l.boot.address (if is_within (code_region p l) a then slice_index (code_words p l) ((a - l.boot.address) / 2) else data_word p l a))
       other
@@ -150,7 +114,7 @@ module _ (text : List ℕ) (p : CheckedProgram) (allow : Allow) (image : ImageVa
       let e : (a == (word_place l CurrentTask)) ≡ false = ne_eqb a (word_place l CurrentTask) other in
       data_at a is (omega (arith, apart, low))
       ∙ ap (λ b. cond b p.entry.task (shared_word l.variables (initial_rows p) a)) e
-      ∙ none_before l.variables (initial_rows p) l.homes.address (end_of l.homes) a rules.homes low
+      ∙ none_before l.homes.address (end_of l.homes) a l.variables (initial_rows p) rules.homes low
 
   current : f (word_place l CurrentTask) ≡ p.entry.task
   current =
@@ -206,7 +170,7 @@ module _ (text : List ℕ) (p : CheckedProgram) (allow : Allow) (image : ImageVa
   pub is_fresh : IsFreshImage text p allow l image
   is_fresh = record {
     fits = fits;
-    code = holds_each f l.boot.address (code_words p l) code_at;
+    code = holds_by f l.boot.address (code_words p l) code_at;
     vector = vector;
     rests = rests;
     has_words = finds_state text p allow c.plans l laid (first_state p) (fresh_world image) rests;

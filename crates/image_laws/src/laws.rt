@@ -1,6 +1,6 @@
 //! Laws of the images of accepted sources. The functions do nothing: their contracts are the laws.
 
-ghost use Rattle.link_image.specs.Laws.{ImagesAreFresh, ImagesAreOne, ImagesHaveStates, MapsFindStates};
+ghost use Rattle.image_laws.specs.Laws.{ImagesAreFresh, ImagesAreOne, ImagesHaveStates, MapsFindStates};
 
 use linked_code::{layouts_have_room, linked_is_code};
 use lower::laws::statements_keep_to_words;

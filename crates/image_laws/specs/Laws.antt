@@ -15,9 +15,9 @@ use Rattle.lower.specs.Lowered.{lowered}
 use Rattle.linked_code.specs.Linked.{CodeFits}
 use Rattle.compiled_runs.specs.compiled_model.Places.{program_places}
 use Rattle.compiled_runs.specs.compiled_model.View.{state_view, state_in, state_left}
-use Rattle.link_image.specs.Words.{code_words}
+use Rattle.image_laws.specs.Words.{code_words}
 use Rattle.source_maps.specs.Maps.{map_of}
-use Rattle.link_image.specs.Compiled.{IsCompiled, IsImageOf}
+use Rattle.image_laws.specs.Compiled.{IsCompiled, IsImageOf}
 
 -- the world of an image before anything was done
 abbrev pub fresh_world : ImageValue → World

@@ -23,10 +23,10 @@ use Rattle.source_maps.specs.Maps.{map_of}
 use Rattle.source_maps.proofs.Interface.{of_kind}
 use Rattle.image_text.specs.ImageValue.{ImageValue}
 use Rattle.source_meaning.specs.Acceptance.{IsAcceptedText}
-use Rattle.link_image.specs.Compiled.{IsCompiled}
-use Rattle.link_image.specs.Laws.{MapsFindStates, ImagesHaveStates}
-use Rattle.link_image.proofs.Rows.{RowStands, all_rows}
-use Rattle.link_image.proofs.Laid.{laid_out}
+use Rattle.image_laws.specs.Compiled.{IsCompiled}
+use Rattle.image_laws.specs.Laws.{MapsFindStates, ImagesHaveStates}
+use Rattle.image_laws.proofs.Rows.{RowStands, all_rows}
+use Rattle.image_laws.proofs.Laid.{laid_out}
 
 module _ (text : List ℕ) (p : CheckedProgram) (allow : Allow) (plans : List TaskPlanValue) (l : MemoryMap) (laid : HasLayout p allow plans l)
     (s : State) (x : World) (is_state : (state_view p l).is_state s ≡ true)

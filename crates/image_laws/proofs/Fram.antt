@@ -1,6 +1,6 @@
 -- The words of an image by their addresses.
-use Rattle.std.proofs.Common.{◌≡◌, ◌≢◌, ◌∙◌, ◌+◌, ◌*◌, ◌%◌, ◌<◌, ◌≤◌, ◌==◌, ◌&&◌, ℕ, suc, Bool, true, false, cond, if◌then◌else◌, nat_lt, nat_le, List}
-use Rattle.std.proofs.Common.{[], ◌∷◌, map, length, refl, sym, ap, arith, eqb-true, slice_index, slice_set, get_or-set_same, get_or-set_other}
+use Rattle.std.proofs.Common.{◌≡◌, ◌∙◌, ◌+◌, ◌*◌, ◌%◌, ◌<◌, ◌≤◌, ◌==◌, ◌&&◌, ℕ, suc, true, false, cond, nat_lt, nat_le, List, [], ◌∷◌, map, length, refl}
+use Rattle.std.proofs.Common.{ap, arith, slice_index}
 use Rattle.std.proofs.lemmas.Bool.Decides.{nat_tests}
 use Rattle.memory_map.specs.address_space.Limits.{fram_first}
 use Rattle.image_text.specs.ImageValue.{place_of}
@@ -26,24 +26,6 @@ in_fram a h =
 
 pub fram_at : (ws : List ℕ) (a : ℕ) → IsFram a → fram_of ws a ≡ slice_index ws (place_of a)
 fram_at ws a h = ap (λ b. cond b (slice_index ws (place_of a)) 0) (in_fram a h)
-
--- a word that is set
-pub fram_set : (ws : List ℕ) (at w a : ℕ) → length ws ≡ 24064 → IsFram at → IsFram a → fram_of (slice_set ws (place_of at) w) a
-    ≡ (if a == at then w else fram_of ws a)
-fram_set ws at w a count there here = go (a == at) refl
-  where
-    place : (x : ℕ) → IsFram x → place_of x < length ws
-    place x h = let low = h.low in let high = h.high in omega (arith, count, low, high)
-
-    go : (b : Bool) → (a == at) ≡ b → fram_of (slice_set ws (place_of at) w) a ≡ (if b then w else fram_of ws a)
-    go true e =
-        let same : a ≡ at = eqb-true a at e in
-        fram_at (slice_set ws (place_of at) w) a here ∙ ap (λ x. slice_index (slice_set ws (place_of at) w) (place_of x)) same
-        ∙ get_or-set_same ws (place_of at) w 0 (place at there)
-    go false e =
-        let low = here.low in let even = here.even in let other_low = there.low in let other_even = there.even in
-        let apart : place_of a ≢ place_of at = λ same. grind (arith, nat_tests, e, low, even, other_low, other_even, same) in
-        fram_at (slice_set ws (place_of at) w) a here ∙ get_or-set_other ws (place_of at) (place_of a) w 0 apart ∙ sym (fram_at ws a here)
 
 -- ---- regions
 

@@ -5,7 +5,7 @@ use Rattle.whole_programs.specs.source_values.Runs.{CheckedProgram}
 use Rattle.whole_programs.specs.Laws.{IsLaidOutText}
 use Rattle.source_meaning.specs.Acceptance.{IsAcceptedText}
 use Rattle.image_text.specs.ImageValue.{ImageValue}
-use Rattle.link_image.specs.Compiled.{IsCompiled}
+use Rattle.image_laws.specs.Compiled.{IsCompiled}
 
 pub laid_out : (text : List ℕ) (p : CheckedProgram) (allow : Allow) (image : ImageValue) → IsAcceptedText text p allow → (c : IsCompiled text p allow image)
     → IsLaidOutText text p allow c.plans c.layout

@@ -1,8 +1,0 @@
--- What the proofs of other crates cite.
-
--- Where the world rests at a state of the source, the map finds the state's words in it; and the state that each world has.
-pub use Rattle.link_image.proofs.States.{maps_find_states, worlds_stand}
--- The world of an image before anything was done, and the place of a word at twice its place in bytes.
-pub use Rattle.link_image.proofs.Fresh.{zero_at, version, half, images_are_fresh}
--- The text of an image, with its layout.
-pub use Rattle.link_image.proofs.Laid.{laid_out}
