@@ -77,11 +77,6 @@ module _ (shared : List SharedDeclaration) (p : Places) (written : ℕ → Bool)
   is_array (Shared v) h = have.arrays v h
   is_array (Local n) h = absurd h
 
-  -- what a loop counts in
-  counter : (x : Variable) → IsLocal x → fits.IsLocal x
-  counter (Shared v) h = h
-  counter (Local n) h = h
-
   local_target : (x : Variable) → IsLocal x → IsTarget p written x
   local_target (Shared v) h = absurd h
   local_target (Local n) h = h
@@ -128,7 +123,7 @@ module _ (shared : List SharedDeclaration) (p : Places) (written : ℕ → Bool)
         (written_array x.variable h.0 (λ v k. w v (store_writes v x index e k)), expression_fits index h.1, expression_fits e h.2, h.3)
     statement_fits (t.choose choice) h w = choice_fits choice h w
     statement_fits (t.loop x from tested below stepped body) h w =
-        (counter x.variable h.0, λ some. block_fits body h.1 (λ v k. w v (loop_writes v x from tested below stepped body some k)))
+        (h.0, λ some. block_fits body h.1 (λ v k. w v (loop_writes v x from tested below stepped body some k)))
     statement_fits (t.emit e) h w = expression_fits e h
     statement_fits (t.transition task) h w = tt
 

@@ -34,7 +34,8 @@ use Rattle.lower.specs.Lowered.{write_step, written_array, list_place, store_ste
 use Rattle.lower.specs.Lowered.{element_setting, element_updating, element_sides_set, element_assignment, lowered_transition, lowered_expression, lowered_test}
 use Rattle.lower.specs.Lowered.{lowered_statement, lowered_choice, lowered_block, lowered_task, lowered_tasks}
 use Rattle.lower.specs.Spots.{listed_of}
-use Rattle.lower.specs.Agreement.{HoldVariables, IsTarget, IsWrittenArray, IsLocal, ExpressionFits, StatementFits, ChoiceFits, BlockFits, StandsFor}
+use Rattle.checked_trees.specs.Uses.{IsLocal}
+use Rattle.lower.specs.Agreement.{HoldVariables, IsTarget, IsWrittenArray, ExpressionFits, StatementFits, ChoiceFits, BlockFits, StandsFor}
 use Rattle.lower.specs.Agreement.{at_variable, IsLongTarget, IsTargetOf, at_emit_count, in_buffer, valued, long_valued, converted_to, truth_of, AgreesWithValue}
 use Rattle.lower.specs.Agreement.{AgreesWithLong, BlocksAgree}
 use Rattle.lower.proofs.Addresses.{fram_place, placed, spot_place, first_address}

@@ -26,6 +26,7 @@ use Rattle.memory_map.specs.declared.place.VariablePlace.TheVariants.{Scalar, Ar
 use Rattle.memory_map.specs.Places.{scalar_words}
 use Rattle.memory_map.specs.Spots.{Places, scalar_address, IsScalarAt, IsScalarWord, IsArrayAt, Element, IsElement, IsCopied}
 use Rattle.memory_map.specs.Spots.{element_address, copy_address, version_address}
+use Rattle.checked_trees.specs.Uses.{IsLocal}
 use Rattle.lower.specs.Spots.{Room, AreApart, AreEven, listed_of, AreListed, HasRoom}
 use Rattle.runtime_effects.specs.Places.{CopyPair, entries_from}
 use Rattle.lower.specs.declared.runs.Run.{Run}
@@ -76,11 +77,6 @@ IsArray p (Local n) = ⊥
 abbrev pub IsWrittenArray : Places → Variable → Type 0
 IsWrittenArray p (Shared v) = (elements length : ℕ) × (copies : ArrayCopies) × IsArrayAt p v elements length (Some copies)
 IsWrittenArray p (Local n) = ⊥
-
--- a local
-abbrev pub IsLocal : Variable → Type 0
-IsLocal (Shared v) = ⊥
-IsLocal (Local n) = n < 256
 
 -- each variable of an expression is one that the task has, of its type, and an array of words where it is indexed; an index is no long, and
 -- no operator is refused
