@@ -1,20 +1,21 @@
 #!/usr/bin/env bash
 # Prints how time and memory grow: `run` with 10^6, 10^7 and 10^8 instructions of a compiled program, `mean` with 10^2, 10^3 and 10^4 transitions of a task of
-# some thirty thousand nodes. A row has the least seconds of processor time of five runs, less those of an empty trace, what that is for one (an
+# some thirty thousand nodes. A row has the least seconds of processor time of nine runs, less those of an empty trace, what that is for one (an
 # instruction, a transition), and the most memory held.
 # Then families of inputs that once took time with the square of their size, or for all that a map names: of each the least seconds of processor time of
-# five runs at three sizes, and the exponent between the last two: 1 where twice the size takes twice the time. The script fails where one is above 1.2, or,
+# nine runs at three sizes, and the exponent between the last two: 1 where twice the size takes twice the time. The script fails where one is above 1.2, or,
 # where the size is to make no difference, above 0.2.
 # ALPACA names another build of the program.
 . "$(dirname "$(readlink -f "$0")")/workplace.sh"
 
-# the least seconds of processor time of five runs, and the most memory in KiB
+# the least seconds of processor time of nine runs, to the thousandth, and the most memory in KiB
 least() {
-    for _ in 1 2 3 4 5; do
-        /usr/bin/time -q -a -o used -f '%U %S %M' "$alpaca" "$@" >out 2>err || true
+    local TIMEFORMAT='%3U %3S'
+    for _ in 1 2 3 4 5 6 7 8 9; do
+        { time /usr/bin/time -q -a -o most -f '%M' "$alpaca" "$@" >out 2>err; } 2>>used || true
     done
-    awk '{ seconds = $1 + $2; if (NR == 1 || seconds < low) low = seconds; if ($3 > most) most = $3 } END { print low, most }' used
-    rm used
+    paste used most | awk '{ seconds = $1 + $2; if (NR == 1 || seconds < low) low = seconds; if ($3 > top) top = $3 } END { print low, top }'
+    rm used most
 }
 
 # how many, of what, and the words of the command
