@@ -1,6 +1,7 @@
 mod Names
 mod Stretches
 mod Memory
+mod Locals
 mod Follows
 mod Parts
 mod Registers
