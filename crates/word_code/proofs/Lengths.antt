@@ -338,8 +338,7 @@ mutual
   step_takes bs (update o a) os = behind_below 4 os (record { are = (tt, tt); bytes = omega arith })
   step_takes bs (local n) os = so_takes (local_takes (nat_lt n 8) n os) (omega (arith, set_small (n + 1)))
   step_takes bs (set_local n) os =
-      let set = behind_below 4 os (record { are = (tt, tt); bytes = omega (arith, target_bytes_most n (nat_lt n 8)) }) in
-      so_takes set (omega (arith, set_small (n + 1)))
+      so_takes (behind_below 4 os (record { are = (tt, tt); bytes = omega (arith, target_bytes_most n (nat_lt n 8)) })) (omega (arith, set_small (n + 1)))
   step_takes bs (update_local o n) os =
       so_takes (behind_below 12 os (update_takes o n (source_from (top_of os)))) (omega (arith, set_small (n + 1)))
   step_takes bs (unary o) os = so_takes (behind (top_to_five_takes os) (unary_takes o)) (omega arith)

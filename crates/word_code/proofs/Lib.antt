@@ -33,6 +33,7 @@ mod CodeTakes
 mod LongLengths
 mod Lengths
 mod Whole
+mod TaskForms
 pub mod Interface
 pub use Rattle.array_versions.proofs as array_versions
 pub use Rattle.code_forms.proofs as code_forms

@@ -14,7 +14,7 @@ mutual
   step_below k (update_local o n) l = omega (arith, l)
   step_below k (truth t) l = test_below k t l
   step_below k (choose t p q) l =
-      (test_below k t (omega (arith, l)), (program_below k p (omega (arith, l)), program_below k q (omega (arith, l))))
+      (test_below k t (omega (arith, l)), program_below k p (omega (arith, l)), program_below k q (omega (arith, l)))
   step_below k (repeat n from below p) l = (omega (arith, l), program_below k p (omega (arith, l)))
   step_below k _ l = tt
 

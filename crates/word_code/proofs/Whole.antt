@@ -13,7 +13,7 @@ use Rattle.word_code.proofs.Names.{spent_by_two, step_spent, spent_on, test_spen
 use Rattle.word_code.proofs.Names.{whole_ends_soundly, local_words, words_step, words, Leaves, leaves, Bound, Waiting, number_source, flushed, below_top, kept}
 use Rattle.word_code.proofs.Names.{top_to_four, entry_code, compare_form, holding, failing, size, pass_over, decision, holds_code, compares_code, truth_code}
 use Rattle.word_code.proofs.Names.{number_code, turns_code, waiting_behind, waiting_after, bound_of, step_code, test_code, steps_code, block_code, code_of}
-use Rattle.word_code.proofs.Names.{ComesTo, CodeDoesAsProgram, locals_of, stack_base, stack_set, stack_cycles}
+use Rattle.word_code.proofs.Names.{ComesTo, CodeDoesAsProgram, locals_of, stack_base, stack_set, stack_cycles, code_spent}
 use Rattle.array_versions.specs.Laws.{IsStateOfWords, EndsInWords, IsSound}
 use Rattle.array_versions.specs.msp_step.msp_isa.declared.instructions.Condition.TheVariants as condition
 use Rattle.array_versions.specs.msp_step.msp_isa.declared.operands.Konst.TheVariants as konst
@@ -459,7 +459,7 @@ code_does_as_program code at p u tidy h whole o entry =
     subst (λ n. Runs code [] stack_cycles u (HasStack (n + forms_bytes front) (stack_base locals) u)) entry.pc
     (stack_part z locals u entry.sp (subst (λ n. Stands code n front) (sym entry.pc) (stands_front code at front (block_code [] p) h))) in
     let body = stands_back code at front (block_code [] p) h in
-    by_end z (stack_cycles + spent p s) b.effects b.end
+    by_end z (code_spent p s) b.effects b.end
     (then_end z (mid + forms_bytes (block_code [] p)) (spent p s) b.effects b.end set (λ t k. block_follows z [] p mid s t body
     (λ hs. steps_follow z [] p (λ q. ⊥) [] mid s t r o (program_below locals p (omega arith)) whole.loops_count tt hs (dressed z mid s t (there t k)))))
     (whole_ends_soundly p u.fram u.readings_left whole)

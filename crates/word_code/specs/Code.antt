@@ -39,6 +39,8 @@ use Rattle.array_versions.specs.Program.{Step, Test, Program, number, load, keep
 use Rattle.array_versions.specs.Program.{emit_word, list_entry, versioned_read, versioned_write, versioned_update, sense, truth, choose, repeat, store_number}
 use Rattle.array_versions.specs.Program.{move_word, jump, holds, compares, both, either, fails, nothing, step}
 use Rattle.array_versions.specs.Form.{locals_of}
+use Rattle.array_versions.specs.Behaviour.{WordState}
+use Rattle.array_versions.specs.Cost.{spent}
 
 -- the registers of the first eight locals
 abbrev pub local_registers : List WorkRegister
@@ -937,3 +939,7 @@ block_code bs p = steps_code bs [] p ++ flushed (waiting_after [] p)
 -- the code of a program: the stack has its place, and then its steps
 abbrev pub code_of : Program → List Form
 code_of p = stack_set (locals_of p) ++ block_code [] p
+
+-- its cycles from a state on, at most, on the way that the program takes
+abbrev pub code_spent : Program → WordState → ℕ
+code_spent p s = stack_cycles + spent p s
