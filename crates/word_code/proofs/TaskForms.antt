@@ -1,19 +1,19 @@
 -- The code of a program is made of the forms of tasks' code, whichever program it is: one walk, for whatever holds of such forms.
-use Rattle.word_code.proofs.Names.{◌≡◌, ℕ, zero, suc, ◌+◌, ◌-◌, ◌*◌, ◌<◌, ◌≤◌, max, ◌==◌, not, Bool, true, false, nat_lt, nat_le, if◌then◌else◌, nat_tests, List, []}
-use Rattle.word_code.proofs.Names.{◌∷◌, ◌++◌, Option, Some, None, refl, arith, R4, R5, R6, R7, WorkRegister, Register, Constant, Number, Fram, Ram, Source}
-use Rattle.word_code.proofs.Names.{ToRegister, ToFram, ToRam, ToIndexed, Form, Move, Calculate, Update, Push, Modify, SetStack, Jump, Skip, Branch, Condition}
-use Rattle.word_code.proofs.Names.{UnaryOperation, Negate, Complement, BinaryOperation, Multiply, Divide, Remainder, Plain, PlainOperation, And, ShiftOperation}
+use Rattle.word_code.proofs.Names.{ℕ, zero, suc, ◌+◌, ◌-◌, ◌<◌, ◌≤◌, ◌==◌, not, Bool, true, false, nat_lt, nat_le, if◌then◌else◌, List, []}
+use Rattle.word_code.proofs.Names.{◌∷◌, ◌++◌, Option, Some, None, refl, arith, R4, R5, R7, WorkRegister, Register, Constant, Number, Fram, Ram, Source}
+use Rattle.word_code.proofs.Names.{ToRegister, ToFram, ToRam, ToIndexed, Form, Move, Calculate, Update, Push, SetStack, Jump, Branch, Condition}
+use Rattle.word_code.proofs.Names.{UnaryOperation, Negate, BinaryOperation, Multiply, Divide, Remainder, Plain, PlainOperation, And, ShiftOperation}
 use Rattle.word_code.proofs.Names.{Left, Right, SignedRight, Comparison, Equal, Below, Above, SignedBelow, SignedAbove, CommonBit, ArrayPlace, ListPlace, Step}
 use Rattle.word_code.proofs.Names.{Test, Program, number, load, keep, update, local, set_local, update_local, unary, binary, shift, long, element, emit_word}
 use Rattle.word_code.proofs.Names.{list_entry, versioned_read, versioned_write, versioned_update, sense, truth, choose, repeat, store_number, move_word, jump}
 use Rattle.word_code.proofs.Names.{holds, compares, both, either, fails, nothing, step, StepLocalsBelow, TestLocalsBelow, LocalsBelow, locals_of, Bound, Waiting}
 use Rattle.word_code.proofs.Names.{number_source, waiting_source, flushed, top_of, source_from, below_top, any_held, cleared, kept, four_from, five_from}
 use Rattle.word_code.proofs.Names.{top_to_four, top_to_five, two_to_registers, unary_middle, binary_middle, plain_instruction, update_code, ram_update, ram_turn_end, word_sum, repeated, double, halve}
-use Rattle.word_code.proofs.Names.{right_code, shift_by, last_bit, shift_code, shift_middle, check_code, zero_code, fetch_code, element_code, emit_code, pair_code}
+use Rattle.word_code.proofs.Names.{right_code, shift_by, last_bit, shift_middle, check_code, zero_code, fetch_code, element_code, emit_code, pair_code}
 use Rattle.word_code.proofs.Names.{entry_code, own_code, read_code, first_code, stored_code, write_code, compare_form, holding, failing, size, decision, pass_over}
-use Rattle.word_code.proofs.Names.{jump_back, holds_code, compares_code, truth_code, number_code, turn_end, turns_code, stays, sides, right_source, top_power}
+use Rattle.word_code.proofs.Names.{jump_back, holds_code, compares_code, truth_code, turn_end, turns_code, stays, sides, right_source, top_power}
 use Rattle.word_code.proofs.Names.{top_number, element_at, is_inside, bound_of, two_code, power_code, rests, rest_source, to_rest, made_code, first_update, by_version}
-use Rattle.word_code.proofs.Names.{inside_update, checked_update, indexed_update, known_update, known_index, update_at, waiting_behind, waiting_after, step_code}
+use Rattle.word_code.proofs.Names.{inside_update, indexed_update, known_update, known_index, update_at, waiting_behind, waiting_after, step_code}
 use Rattle.word_code.proofs.Names.{test_code, steps_code, block_code, code_of, local_address, local_register, stack_base, stack_set}
 use Rattle.array_versions.specs.declared.operations.LongOperation.{LongOperation}
 use Rattle.array_versions.specs.declared.operations.LongOperation.TheVariants as with_longs
@@ -22,12 +22,12 @@ use Rattle.array_versions.specs.msp_step.msp_isa.declared.instructions.Condition
 use Rattle.array_versions.specs.msp_step.msp_isa.declared.instructions.TwoOp.TheVariants as op
 use Rattle.code_forms.specs.Forms as forms
 use Rattle.word_code.specs.declared.waiting.Waiting.TheVariants as waiting
-use Rattle.word_code.specs.Code.{jump_over, spared, any_at, is_turned, compare_sides, compare_source, top_mask, below_two, parted, six_from, pair_from}
+use Rattle.word_code.specs.Code.{jump_over, any_at, is_turned, compare_source, top_mask, below_two, parted, six_from, pair_from}
 use Rattle.word_code.specs.Code.{pair_to_registers, side_from, side_source, long_sides, high_source, low_source, long_calculation, below_code, above_code}
 use Rattle.word_code.specs.Code.{times_code, long_double, long_halve, byte_to_left, byte_to_right, long_right_code, left_by, right_by, dropped, lifted, high_code}
 use Rattle.word_code.specs.Code.{high_behind, parting, pair_lost, short_code, left_code, right_shift_code, complement_code, widen_code, longs_lost, longs_code}
 use Rattle.word_code.specs.Code.{long_code, local_code, words_source}
-use Rattle.word_code.specs.TaskForms.{EachForm, NamesRamFrom, SourceFrom, TargetFrom, IsTaskSource, IsTaskTarget, IsTaskForm, CodeIsOfTaskForms}
+use Rattle.word_code.specs.TaskForms.{EachForm, NamesRamFrom, SourceFrom, IsTaskSource, IsTaskForm, CodeIsOfTaskForms}
 use Rattle.word_code.specs.TaskForms.{CodeNamesRamFrom}
 use Rattle.word_code.proofs.Operands.{number_cases}
 use Rattle.word_code.proofs.Locals.{program_below}
