@@ -2,7 +2,7 @@
 -- std
 pub use Rattle.std.proofs.Common.{◌≡◌, ℕ, ◌+◌, ◌<◌, ◌==◌, not, List, [], ◌∷◌, ◌++◌, refl, sym, ap, ◌∙◌, subst, arith, Bool, true, false, ◌≤◌, if◌then◌else◌}
 pub use Rattle.std.proofs.Common.{Some, ap₂, suc, ◌-◌, length, drop, get_or, append_assoc, drop-cons, add-one, rules, Result, Ok, Err, is_ok, append-nil}
-pub use Rattle.std.proofs.Common.{Option, lt-ltb, le-ltb}
+pub use Rattle.std.proofs.Common.{Option, lt-ltb, le-ltb, max}
 pub use Rattle.std.proofs.lemmas.Result.{on_ok_weaker}
 pub use Rattle.std.specs.List.{remove, slice_index_or}
 -- words and instructions
@@ -19,7 +19,7 @@ pub use Rattle.word_code.specs.code_forms.Forms.{Jump, Branch, R6, R7, Indexed, 
 pub use Rattle.word_code.specs.code_forms.Placed.{instructions, words_of as instruction_words}
 -- word programs
 pub use Rattle.word_code.specs.array_versions.Cost.{step_words, test_words, words_of}
-pub use Rattle.word_code.specs.array_versions.Form.{StepLocalsBelow, TestLocalsBelow, LocalsBelow, OfWords}
+pub use Rattle.word_code.specs.array_versions.Form.{StepLocalsBelow, TestLocalsBelow, LocalsBelow, locals_of, OfWords}
 pub use Rattle.word_code.specs.array_versions.Program.{Step, Test, Program, local, set_local, update_local, versioned_read, versioned_write, versioned_update}
 pub use Rattle.word_code.specs.array_versions.Program.{truth, choose, repeat, holds, compares, both, either, fails, nothing, step}
 pub use Rattle.word_code.specs.array_versions.View.{step_of, steps_of, test_of}
