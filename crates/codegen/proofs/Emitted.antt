@@ -2,8 +2,8 @@
 use Rattle.codegen.proofs.Names.{◌≡◌, ℕ, suc, ◌+◌, ◌-◌, ◌<◌, ◌≤◌, List, [], ◌∷◌, ◌++◌, length, drop, get_or, sym, ap, ◌∙◌, arith, append_assoc, drop-cons, refl}
 use Rattle.codegen.proofs.Names.{Some, ◌==◌, add-one, rules, subst, Bool, true, false, if◌then◌else◌, Result, Ok, Err, is_ok, test_code, test_words, remove}
 use Rattle.codegen.proofs.Names.{slice_index_or, on_ok_weaker, Word, Instr, Two, Form, Push, instruction_of, instructions, instruction_words}
-use Rattle.codegen.proofs.Names.{instructions-append, Comparison, PlainOperation, ArrayPlace, ListPlace, Step, Test, Program, local, set_local, update_local}
-use Rattle.codegen.proofs.Names.{versioned_read, versioned_write, versioned_update, truth, choose, repeat, holds, compares, both, either, fails, nothing, step}
+use Rattle.codegen.proofs.Names.{instructions-append, Comparison, PlainOperation, ArrayPlace, ListPlace, Step, Test, Program}
+use Rattle.codegen.proofs.Names.{versioned_read, versioned_write, versioned_update, choose, holds, compares, both, either, step}
 use Rattle.codegen.proofs.Names.{step_of, steps_of, test_of, Bound, Waiting, waiting_source, flushed, top_of}
 use Rattle.codegen.proofs.Names.{below_top, repeated, size, waiting_behind, step_code, steps_code, TwoOp}
 use Rattle.word_code.specs.array_versions.declared.program.WordStep.{WordStep, the_lemmas}

@@ -1,4 +1,4 @@
-use Rattle.codegen.proofs.Names.{◌+◌, drop, ap, subst, arith, steps_of, LocalsBelow, locals_of}
+use Rattle.codegen.proofs.Names.{ap, subst, arith, LocalsBelow, locals_of}
 use Rattle.codegen.proofs.Emitted.{left_front}
 use Rattle.codegen.proofs.locals.+named.Goals as goal
 
