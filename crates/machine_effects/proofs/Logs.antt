@@ -26,7 +26,7 @@ use Rattle.machine_effects.specs.Machine.{machine_port_written, machine_written,
 use Rattle.machine_effects.specs.Machine.{machine_executed, NoInstruction, Executes, standing, step_with}
 use Rattle.machine_effects.specs.Laws.{ChangesByEffects, CodeChangesByEffects, MachineChangesByEffects}
 use Rattle.machine_effects.proofs.Worlds.{fram_after-append, readings_taken-append, taking_keeps_fram, taking_takes}
-use Rattle.machine_effects.proofs.Inputs.{takes_none}
+use Rattle.machine_effects.proofs.Inputs.{takes_nothing}
 
 -- the effects of readings taken, the first one first
 abbrev pub takes : List ℕ → List Effect
@@ -228,11 +228,11 @@ executed_changes s i =
     outcome_changes s (s.registers 0) (cycles_of i) (effect machine_bus i s.registers (machine_opened s)) (effect_logged i s.registers (machine_opened s))
 
 standing_changes : (o : Option Instr) (s : MachineBoard) → ChangesByEffects s (standing o s)
-standing_changes None s = (refl, (s.inputs, takes_none [] s.inputs refl))
+standing_changes None s = (refl, (s.inputs, takes_nothing s.inputs))
 standing_changes (Some i) s = executed_changes s i
 
 if_off : (b : Bool) (s : MachineBoard) (o : MachineOutcome) → ChangesByEffects s o → ChangesByEffects s (if b then Stops [] 0 stop.Off else o)
-if_off true s o h = (refl, (s.inputs, takes_none [] s.inputs refl))
+if_off true s o h = (refl, (s.inputs, takes_nothing s.inputs))
 if_off false s o h = h
 
 -- a step changes as its effects say
@@ -245,5 +245,5 @@ code_changes_by_effects code s = step_changes (code (s.registers 0)) s
 
 -- a machine changes as its effects say
 pub machine_changes_by_effects : MachineChangesByEffects
-machine_changes_by_effects s o (NoInstruction e h) = (refl, (s.inputs, takes_none [] s.inputs refl))
+machine_changes_by_effects s o (NoInstruction e h) = (refl, (s.inputs, takes_nothing s.inputs))
 machine_changes_by_effects s o (Executes i h) = executed_changes s i

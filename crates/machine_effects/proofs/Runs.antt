@@ -26,7 +26,7 @@ use Rattle.machine_effects.specs.View.{inputs_of, machine_of, IsWhole, IsOfWords
 use Rattle.machine_effects.specs.Runs.{action_effects, moments_effects, moments_cycles, spent, moments_spent, IsUsedUp, SpendsAs, StopsAs, EndsAs, ReachesAs}
 use Rattle.machine_effects.specs.Laws.{ChargesAlike, ChargeLeavesItWhole, ChargeKeepsWords, ChargeBoardsAlike}
 use Rattle.machine_effects.proofs.Worlds.{fram_after-append, taking_takes}
-use Rattle.machine_effects.proofs.Inputs.{takes_none, takes_through}
+use Rattle.machine_effects.proofs.Inputs.{takes_nothing, takes_through}
 use Rattle.machine_effects.proofs.Logs.{takes, machine_changes_by_effects}
 use Rattle.machine_effects.proofs.Steps.{executed_same, stopped_to_machine, current_to_machine}
 use Rattle.machine_effects.proofs.Words.{step_leaves_it_whole, words_stay_words}
@@ -101,7 +101,7 @@ module _ (m : Measure) (left : ℕ) (b : BoardValue) (whole : IsWhole b) where
     within = let k = spent_none m in omega arith;
     paid = λ k. omega arith;
     fram = refl;
-    inputs = takes_none [] (inputs_of b) refl;
+    inputs = takes_nothing (inputs_of b);
   }
 
   paid_last : (n : Measure) (i : Instr) → price n i ≤ left → n ≡ Cycles → 0 + cycles_of i ≤ left
