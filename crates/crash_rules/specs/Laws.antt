@@ -7,7 +7,7 @@ use Rattle.machine_effects.specs.Going.{Halted, going}
 use Rattle.machine_effects.specs.Machine.{MachineBoard}
 use Rattle.crash_rules.specs.Model.{Model, ModelLaws, Ends, Short, IsWord, IsBetween, Inputs, no_inputs, InputsAreWords, bound, script}
 use Rattle.crash_rules.specs.History.{Done, History, observe, behind_boot, first_history, inputs_from, decided_inputs, done_inputs}
-use Rattle.crash_rules.specs.Runs.{Program, ProgramLaws, Charge, Charged, Spends}
+use Rattle.crash_rules.specs.Runs.{Program, ProgramLaws, Charge, Charged, IsSpentFrom}
 
 -- how a run begins: at a state, or with a commit that is pending, and the state that it leaves
 pub data Origin (St : Type 0) : Type 0 where
@@ -100,20 +100,35 @@ RunsMayBegin m = ModelLaws m → (readings : List ℕ) → RunsBegin m readings
 abbrev pub RunsTo : {St : Type 0} → Model St → Program → World → MachineBoard → List Charge → MachineBoard → History → Type 0
 RunsTo m c x s charges t h = Charged c m.marks s (first_history m.marks x) charges t h
 
+-- a run that came to a board, with its history: any charges, each cut behind any number of steps
+pub record HasRun {St : Type 0} (m : Model St) (c : Program) (readings : List ℕ) (origin : Origin St) (t : MachineBoard) (h : History) : Type 0 where
+  pub world : World  -- how it began
+  pub start : MachineBoard
+  pub begins : Begins m readings origin world start
+  pub charges : List Charge
+  pub leads : RunsTo m c world start charges t h
+
+-- a board that a further power-up leaves behind a run: FRAM and the readings stay
+pub record PowersUpBehind {St : Type 0} (m : Model St) (c : Program) (readings : List ℕ) (origin : Origin St) (p : MachineBoard) : Type 0 where
+  pub board : MachineBoard
+  pub history : History
+  pub run : HasRun m c readings origin board history
+  pub powered : c.IsPoweredUp p
+  pub fram : p.fram ≡ board.fram
+  pub readings_left : p.inputs.readings ≡ board.inputs.readings
+
 -- after any charges, each cut behind any number of steps: the board stands for a run of the source, and the effects since the
 -- last boot or done follow the script
 abbrev pub CrashTheorem : {St : Type 0} → Model St → Program → Type 0
-CrashTheorem {St} m c = ModelLaws m → ProgramLaws m c → (readings : List ℕ) (origin : Origin St) (x : World) (s : MachineBoard) → Begins m readings origin x s
-    → (charges : List Charge) (t : MachineBoard) (h : History) → RunsTo m c x s charges t h → IsLawful m readings origin h × Matches readings t h
+CrashTheorem {St} m c = ModelLaws m → ProgramLaws m c → (readings : List ℕ) (origin : Origin St) (t : MachineBoard) (h : History)
+    → HasRun m c readings origin t h → IsLawful m readings origin h × Matches readings t h
 
 -- a machine stops for want of a reading alone, and there the source is short too: at the state of the last done, on the readings
 -- from the last boot or done on
 abbrev pub StopsShort : {St : Type 0} → Model St → Program → Type 0
-StopsShort {St} m c = ModelLaws m → ProgramLaws m c → (readings : List ℕ) (origin : Origin St) (x : World) (s : MachineBoard) → Begins m readings origin x s
-    → (charges : List Charge) (t : MachineBoard) (h : History) → RunsTo m c x s charges t h
-    → (p : MachineBoard) → c.IsPoweredUp p → p.fram ≡ t.fram → p.inputs.readings ≡ t.inputs.readings
-    → (n price : ℕ) (e : Stop) → (going c.step n p).status ≡ Halted price e
-    → let k = observe m.marks (going c.step n p).effects (behind_boot h) in
+StopsShort {St} m c = ModelLaws m → ProgramLaws m c → (readings : List ℕ) (origin : Origin St) (p : MachineBoard)
+    → (up : PowersUpBehind m c readings origin p) → (n price : ℕ) (e : Stop) → (going c.step n p).status ≡ Halted price e
+    → let k = observe m.marks (going c.step n p).effects (behind_boot up.history) in
     (e ≡ stop.NoReading) × ((st : StandsFor m readings origin k) × (k.decided ≡ false) × (m.task st.state (inputs_from readings k.since) ≡ Short))
 
 -- where a decide came and no done since, or the first commit is still pending, GATE is 1, and the world is undecided at no state, whatever
@@ -143,9 +158,8 @@ SentOnce {St} m = ModelLaws m → (readings : List ℕ) (origin : Origin St) (h 
 -- while a commit that was pending at the start isn't done, the accepted words are those of the start, with some of those behind them that
 -- the state has beyond these which the commit leaves
 abbrev pub PendingSends : {St : Type 0} → Model St → Program → Type 0
-PendingSends {St} m c = ModelLaws m → ProgramLaws m c → (readings : List ℕ) (to : St) (x : World) (s : MachineBoard) → Begins m readings (Pending to) x s
-    → (charges : List Charge) (t : MachineBoard) (h : History) → RunsTo m c x s charges t h → h.completed ≡ []
-    → IsBetween x.accepted (m.emitted to) h.world.accepted
+PendingSends {St} m c = ModelLaws m → ProgramLaws m c → (readings : List ℕ) (to : St) (t : MachineBoard) (h : History)
+    → (run : HasRun m c readings (Pending to) t h) → h.completed ≡ [] → IsBetween run.world.accepted (m.emitted to) h.world.accepted
 
 -- dones whose spans follow one another, from a position to another
 abbrev pub AreConsecutive : ℕ → List Done → ℕ → Type 0
@@ -154,9 +168,9 @@ AreConsecutive from (d ∷ ds) to = (d.span_from ≡ from) × AreConsecutive d.s
 
 -- in one charge the spans follow one another, from the first reading on
 abbrev pub SpansFollow : {St : Type 0} → Model St → Program → Type 0
-SpansFollow {St} m c = ModelLaws m → ProgramLaws m c → (readings : List ℕ) (s0 : St) (x : World) (s : MachineBoard) → Begins m readings (Resting s0) x s
-    → m.Undecided s0 x
-    → (e : Charge) (t : MachineBoard) (h : History) → RunsTo m c x s (e ∷ []) t h → AreConsecutive 0 h.completed h.since
+SpansFollow {St} m c = ModelLaws m → ProgramLaws m c → (readings : List ℕ) (s : St) (t : MachineBoard) (h : History)
+    → (run : HasRun m c readings (Resting s) t h) → m.Undecided s run.world → (e : Charge) → run.charges ≡ e ∷ []
+    → AreConsecutive 0 h.completed h.since
 
 -- dones of which all but the first follow one another, from the first reading on up to a position
 abbrev pub FollowFirst : List Done → ℕ → Type 0
@@ -165,25 +179,22 @@ FollowFirst (d ∷ ds) to = AreConsecutive 0 ds to
 
 -- in one charge that begins with a pending commit the spans behind its done follow one another, from the first reading on
 abbrev pub PendingSpansFollow : {St : Type 0} → Model St → Program → Type 0
-PendingSpansFollow {St} m c = ModelLaws m → ProgramLaws m c → (readings : List ℕ) (to : St) (x : World) (s : MachineBoard)
-    → Begins m readings (Pending to) x s
-    → (e : Charge) (t : MachineBoard) (h : History) → RunsTo m c x s (e ∷ []) t h → FollowFirst h.completed h.since
+PendingSpansFollow {St} m c = ModelLaws m → ProgramLaws m c → (readings : List ℕ) (to : St) (t : MachineBoard) (h : History)
+    → (run : HasRun m c readings (Pending to) t h) → (e : Charge) → run.charges ≡ e ∷ [] → FollowFirst h.completed h.since
 
--- a charge of at least n bounds, and of what commits may be delayed, that is spent has at least n dones
+-- a charge of at least n bounds, and of the cycles that its inputs may delay commits, that is spent has at least n dones
 abbrev pub ProgressLaw : {St : Type 0} → Model St → Program → Type 0
-ProgressLaw {St} m c = ModelLaws m → ProgramLaws m c → (readings : List ℕ) (origin : Origin St) (x : World) (s : MachineBoard) → Begins m readings origin x s
-    → (charges : List Charge) (t : MachineBoard) (h : History) → RunsTo m c x s charges t h
-    → (p q : MachineBoard) → c.IsPoweredUp p → p.fram ≡ t.fram → p.inputs.readings ≡ t.inputs.readings
-    → (n amount steps : ℕ) → n * bound m + m.delay p.inputs ≤ amount → Spends c.step amount steps p q
-    → n + length h.completed ≤ length (observe m.marks (going c.step steps p).effects (behind_boot h)).completed
+ProgressLaw {St} m c = ModelLaws m → ProgramLaws m c → (readings : List ℕ) (origin : Origin St) (p : MachineBoard)
+    → (up : PowersUpBehind m c readings origin p) → (n amount : ℕ) → n * bound m + m.delay p.inputs ≤ amount → (spent : IsSpentFrom c.step amount p)
+    → n + length up.history.completed ≤ length (observe m.marks (going c.step spent.steps p).effects (behind_boot up.history)).completed
 
--- where each recovery, each attempt and each commit stores only so, a run does
+-- each recovery, each attempt and each commit stores only so
+pub record ScriptsStore {St : Type 0} (m : Model St) (P : ℕ → ℕ → Type 0) : Type 0 where
+  pub recoveries : (s : St) (x : World) → m.Undecided s x → EachStore P (m.recover x.fram)
+  pub attempts : (s : St) (x : World) (inputs : Inputs) → InputsAreWords inputs → m.Settled s x → EachStore P (m.attempt x.fram inputs).effects
+  pub commits : (to : St) (x : World) (inputs : Inputs) → m.Committing to x → EachStore P (m.commit x.fram inputs)
+
+-- then a run does
 abbrev pub StoresOnly : {St : Type 0} → Model St → Program → (ℕ → ℕ → Type 0) → Type 0
-StoresOnly {St} m c P = ModelLaws m → ProgramLaws m c
-    → ((s : St) (x : World) → m.Undecided s x → EachStore P (m.recover x.fram))
-    → ((s : St) (x : World) (inputs : Inputs) → InputsAreWords inputs → m.Settled s x → EachStore P (m.attempt x.fram inputs).effects)
-    → ((to : St) (x : World) (inputs : Inputs) → m.Committing to x → EachStore P (m.commit x.fram inputs))
-    → (readings : List ℕ) (origin : Origin St) (x : World) (s : MachineBoard) → Begins m readings origin x s
-    → (charges : List Charge) (t : MachineBoard) (h : History) → RunsTo m c x s charges t h
-    → (p : MachineBoard) → c.IsPoweredUp p → p.fram ≡ t.fram → p.inputs.readings ≡ t.inputs.readings
-    → (n : ℕ) → EachStore P (going c.step n p).effects
+StoresOnly {St} m c P = ModelLaws m → ProgramLaws m c → ScriptsStore m P → (readings : List ℕ) (origin : Origin St) (p : MachineBoard)
+    → PowersUpBehind m c readings origin p → (n : ℕ) → EachStore P (going c.step n p).effects

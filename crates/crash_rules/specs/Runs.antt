@@ -77,3 +77,9 @@ pub record Spends (step : MachineBoard → MachineOutcome) (amount steps : ℕ) 
   pub status : (going step steps s).status ≡ At t
   pub within : (going step steps s).cycles ≤ amount
   pub spent : IsSpent (amount - (going step steps s).cycles) (step t)
+
+-- a charge of so many cycles that is spent from a board on
+pub record IsSpentFrom (step : MachineBoard → MachineOutcome) (amount : ℕ) (s : MachineBoard) : Type 0 where
+  pub steps : ℕ
+  pub end : MachineBoard
+  pub spends : Spends step amount steps s end
