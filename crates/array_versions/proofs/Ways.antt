@@ -3,6 +3,7 @@ use Rattle.std.proofs.Common.{◌≡◌, ℕ, zero, suc, ◌+◌, ◌-◌, ◌%�
 use Rattle.std.proofs.Common.{nat_eq, refl, sym, ap, ◌∙◌, subst, arith, eq-eqb, if◌then◌else◌}
 use Rattle.std.proofs.lemmas.List.{length-append}
 use Rattle.machine_effects.specs.fram_board.Effects.{Effect}
+use Rattle.machine_effects.specs.Inputs.{Inputs}
 use Rattle.array_versions.specs.declared.operations.PlainOperation.{PlainOperation}
 use Rattle.array_versions.specs.declared.operations.LongOperation.{LongOperation}
 use Rattle.array_versions.specs.declared.operations.LongOperation.TheVariants.{ShiftLeft}
@@ -237,7 +238,7 @@ mutual
       two_well next s.stack _ (omega (arith, h.0, m.depth)) (λ i v vs e.
       let t = with_stack vs s in
       written_well next (updated_writes ⊥ op place list i v t (λ x. absurd x) (unknown t)) (λ f. moved_well room 2 0 next q s _ h m (omega arith) refl))
-  step_well room sense next q s h m = reading_well room s.readings next q s h m
+  step_well room sense next q s h m = reading_well room s.inputs.readings next q s h m
   step_well room (truth t) next q s h m =
       test_well room t (Moves room 0 1 next) (Moves room 0 1 next) next (number_pushed 1) (number_pushed 0) q s h m
       (number_leads room 1 next) (number_leads room 0 next)
@@ -280,13 +281,13 @@ mutual
       (λ p t g w. well room more next p t g w)
 
 -- the state that an attempt starts with
-pub start_matches : (fram : ℕ → ℕ) (readings : List ℕ) → Matches start (started fram readings)
-start_matches fram readings = record { depth = refl; assigned = λ n e. absurd (let f = e in (cc)) }
+pub start_matches : (fram : ℕ → ℕ) (inputs : Inputs) → Matches start (started fram inputs)
+start_matches fram inputs = record { depth = refl; assigned = λ n e. absurd (let f = e in (cc)) }
 
 -- a whole program jumps, or is short of readings, or comes to an address that isn't in FRAM
 pub whole_ends_soundly : WholeEndsSoundly
-whole_ends_soundly p fram readings h = by_end (behaviour p (started fram readings)).end
-    (well h.room p (λ q. ⊥) start (started fram readings) h.ways (start_matches fram readings))
+whole_ends_soundly p fram inputs h = by_end (behaviour p (started fram inputs)).end
+    (well h.room p (λ q. ⊥) start (started fram inputs) h.ways (start_matches fram inputs))
   where
     by_end : (e : End) → GoesWell (λ q. ⊥) e → IsSound e
     by_end (GoesOn t) g = g.1

@@ -27,7 +27,7 @@ use Rattle.array_versions.specs.Operations.{plain_word}
 use Rattle.array_versions.specs.Program.{Program, keep, emit_word, versioned_write, versioned_update, choose, repeat, nothing, step, joined}
 use Rattle.array_versions.specs.Behaviour as words
 use Rattle.array_versions.specs.Behaviour.{WordState, Behaviour, behind_effects, then_on, local_updated, is_place, at_place, stored, with_local, word_emitted}
-use Rattle.array_versions.specs.Behaviour.{way_by_top, tested, behaviour}
+use Rattle.array_versions.specs.Behaviour.{with_readings, way_by_top, tested, behaviour}
 use Rattle.array_versions.proofs.Interface.{joined_go_on, joined_assoc, decided_by_truth}
 use Rattle.lower.specs.Lowered.{update_step, write_long, setting, long_setting, updating, of_words, sides_set, scalar_assignment, lowering, lowered_long, one}
 use Rattle.lower.specs.Lowered.{write_step, written_array, list_place, store_step, update_element_step, loop_local, assignment, index_and_value}
@@ -69,7 +69,7 @@ module _ (z : Scene) where
       let p = z.p in
       let f = w.fram in
       let at = scalar_address p i j in
-      let u : WordState = record w { readings = left } in
+      let u : WordState = with_readings left w in
       let o : Outcome = goes_on (source.assigned (record m { left = left }) (Shared i) j v) in
       let Kept : ℕ → Type 0 = λ b. Does z f most w.stack (behaviour (one (keep b)) (valued w (v, left))) o in
       let P : Behaviour → Type 0 = λ b. Does z f most w.stack (then_on b (behaviour nothing)) o in
@@ -135,7 +135,7 @@ module _ (z : Scene) where
   local_updated_does : (op : PlainOperation) (i v : ℕ) (o : Option ℕ) (m : Attempt) (listed : List Element) (w : WordState) (n : ℕ) (count most : ℕ → ℕ)
       (left : List ℕ) → i < 256 → ((u : ℕ) → o ≡ Some u → word_at m.variables (Local i) 0 ≡ u)
       → Begins z m listed w n count most
-      → Does z w.fram most w.stack (then_on (local_updated op (i % 65536) v o (record w { readings = left })) (behaviour nothing))
+      → Does z w.fram most w.stack (then_on (local_updated op (i % 65536) v o (with_readings left w)) (behaviour nothing))
       (goes_on (source.assigned (record m { left = left }) (Local i) 0 (plain_word op (word_at m.variables (Local i) 0) v)))
   local_updated_does op i v None m listed w n count most left few is h = tt
   local_updated_does op i v (Some u) m listed w n count most left few is h =
@@ -207,8 +207,8 @@ module _ (z : Scene) where
       let low = v % 65536 in
       let high = v / 65536 in
       let once = put f b high in
-      let u : WordState = record w { stack = low ∷ w.stack; readings = left } in
-      let t : WordState = record w { fram = once; readings = left } in
+      let u : WordState = with_readings left (record w { stack = low ∷ w.stack }) in
+      let t : WordState = with_readings left (record w { fram = once }) in
       let o : Outcome = goes_on (both_assigned (record m { left = left }) (Shared i) v) in
       let Kept : ℕ → ℕ → Type 0 = λ c d. Does z f most w.stack (behaviour (step (keep c) (one (keep d))) (long_valued w (v, left))) o in
       let P : Behaviour → Type 0 = λ c. Does z f most w.stack (then_on c (behaviour (one (keep a)))) o in
@@ -285,25 +285,25 @@ module _ (z : Scene) where
 
   store_step_does : (x : Variable) (i v : ℕ) (m : Attempt) (listed : List Element) (w : WordState) (left : List ℕ) (most : ℕ → ℕ) → IsWrittenArray z.p x
       → Begins z m listed w 0 (λ u. if is_shared u x then 1 else 0) most
-      → Does z w.fram most w.stack (behaviour (one (store_step z.p x)) (record w { stack = v ∷ i ∷ w.stack; readings = left }))
+      → Does z w.fram most w.stack (behaviour (one (store_step z.p x)) (with_readings left (record w { stack = v ∷ i ∷ w.stack })))
       (goes_on (source.assigned (record m { left = left }) x i v))
   store_step_does (Shared n) i v m listed w left most k h =
       let P : Option VariablePlace → Type 0 =
       λ o. Does z w.fram most w.stack
-      (behaviour (one (versioned_write (written_array o) (list_place z.p))) (record w { stack = v ∷ i ∷ w.stack; readings = left }))
+      (behaviour (one (versioned_write (written_array o) (list_place z.p))) (with_readings left (record w { stack = v ∷ i ∷ w.stack })))
       (goes_on (source.assigned (record m { left = left }) (Shared n) i v)) in
       subst P (sym k.3.place) (store_does z n i v k.0 k.1 k.2 w m listed left most k.3 h)
   store_step_does (Local n) i v m listed w left most k h = absurd k
 
   update_step_does : (op : PlainOperation) (x : Variable) (i v : ℕ) (m : Attempt) (listed : List Element) (w : WordState) (left : List ℕ) (most : ℕ → ℕ)
       → IsWrittenArray z.p x → Begins z m listed w 0 (λ u. if is_shared u x then 1 else 0) most
-      → Does z w.fram most w.stack (behaviour (one (update_element_step z.p op x)) (record w { stack = v ∷ i ∷ w.stack; readings = left }))
+      → Does z w.fram most w.stack (behaviour (one (update_element_step z.p op x)) (with_readings left (record w { stack = v ∷ i ∷ w.stack })))
       (goes_on (source.assigned (record m { left = left }) x i (plain_word op (word_at m.variables x i) v)))
   update_step_does op (Shared n) i v m listed w left most k h =
       let u = plain_word op (word_at m.variables (Shared n) i) v in
       let P : Option VariablePlace → Type 0 =
       λ o. Does z w.fram most w.stack
-      (behaviour (one (versioned_update op (written_array o) (list_place z.p))) (record w { stack = v ∷ i ∷ w.stack; readings = left }))
+      (behaviour (one (versioned_update op (written_array o) (list_place z.p))) (with_readings left (record w { stack = v ∷ i ∷ w.stack })))
       (goes_on (source.assigned (record m { left = left }) (Shared n) i u)) in
       subst P (sym k.3.place) (element_update_does z n i u k.0 k.1 k.2 w m listed left most k.3 h op v refl)
   update_step_does op (Local n) i v m listed w left most k h = absurd k
@@ -311,7 +311,7 @@ module _ (z : Scene) where
   -- an index and a value, and what a step does with both
   index_and_value_do : (index e : CheckedExpression) (last : Program) (given : ℕ → ℕ → Attempt → Outcome) (m : Attempt) (listed : List Element) (w : WordState)
       (most : ℕ → ℕ) → ExpressionFits z.p index → ExpressionFits z.p e → StandsFor z.p m listed w
-      → ((i v : ℕ) (left : List ℕ) → Does z w.fram most w.stack (behaviour last (record w { stack = v ∷ i ∷ w.stack; readings = left }))
+      → ((i v : ℕ) (left : List ℕ) → Does z w.fram most w.stack (behaviour last (with_readings left (record w { stack = v ∷ i ∷ w.stack })))
       (given i v (record m { left = left })))
       → Does z w.fram most w.stack (behaviour (joined (index_and_value z.p index e) last) w)
       (if_value (word_value index m.variables m.left) m (λ i s. if_value (word_value e s.variables s.left) s (given i)))
@@ -423,7 +423,7 @@ module _ (z : Scene) where
       let count = word_place p.map EmitCount in
       let n = f count in
       let a = 2 * n + p.map.emits.address in
-      let u : WordState = record w { readings = left } in
+      let u : WordState = with_readings left w in
       let o = goes_on (record m { emitted = m.emitted ++ v ∷ []; left = left }) in
       let counted = h.stands.emitted.emit_count in
       let few = h.emits in
@@ -566,8 +566,8 @@ module _ (z : Scene) where
   -- a choice, where both ways do from any readings on
   choice_of_ways : (e : CheckedExpression) (m : Attempt) (listed : List Element) (w : WordState) (most : ℕ → ℕ) (taken otherwise : Program)
       (f g : Attempt → Outcome) → ExpressionFits z.p e → StandsFor z.p m listed w
-      → ((left : List ℕ) → Does z w.fram most w.stack (behaviour taken (record w { readings = left })) (f (record m { left = left })))
-      → ((left : List ℕ) → Does z w.fram most w.stack (behaviour otherwise (record w { readings = left })) (g (record m { left = left })))
+      → ((left : List ℕ) → Does z w.fram most w.stack (behaviour taken (with_readings left w)) (f (record m { left = left })))
+      → ((left : List ℕ) → Does z w.fram most w.stack (behaviour otherwise (with_readings left w)) (g (record m { left = left })))
       → Does z w.fram most w.stack (behaviour (one (choose (lowered_test z.p e) taken otherwise)) w)
       (if_value (value_of e m.variables m.left) m (λ v s. if holds v then f s else g s))
   choice_of_ways e m listed w most taken otherwise f g fits h a b =
@@ -577,20 +577,20 @@ module _ (z : Scene) where
       let ways = way_by_top (behaviour taken) (behaviour otherwise) in
       let decided = decided_by_truth c (behaviour taken) (behaviour otherwise) w in
       let agrees = subst (λ l. AgreesWithValue w (truth_pushed c w) (truth_of (value_of e m.variables l))) h.readings
-      (test_agrees (type_of e) w (lowering z.p e) (value_of e m.variables w.readings)
+      (test_agrees (type_of e) w (lowering z.p e) (value_of e m.variables w.inputs.readings)
       (lowering_agrees z.p z.room e m.variables w z.apart z.even fits h.variables)) in
       does_alone z w.fram most w.stack (tested c (behaviour taken) (behaviour otherwise) w) (if_value o m run)
       (subst (λ r. Does z w.fram most w.stack r (if_value o m run)) (sym decided)
       (subst (Does z w.fram most w.stack (then_on (truth_pushed c w) ways)) (by_truth o m f g)
       (does_value z most w.stack w (truth_pushed c w) (truth_of o) ways m run agrees (λ y.
-      let u : WordState = record w { readings = y.1 } in
+      let u : WordState = with_readings y.1 w in
       let n : Attempt = record m { left = y.1 } in
       either_does (holds y.0) w.fram most w.stack (behaviour taken u) (behaviour otherwise u) (f n) (g n) (a y.1) (b y.1)))))
 
   -- with other readings left, for statements that emit and list no more
   with_left : (m : Attempt) (listed : List Element) (w : WordState) (n k : ℕ) (count fewer most : ℕ → ℕ) (left : List ℕ) → Begins z m listed w n count most
       → k ≤ n → ((v : ℕ) → fewer v ≤ count v)
-      → Begins z (record m { left = left }) listed (record w { readings = left }) k fewer most
+      → Begins z (record m { left = left }) listed (with_readings left w) k fewer most
   with_left m listed w n k count fewer most left h l less =
       let e = h.emits in
       record {
@@ -637,9 +637,9 @@ module _ (z : Scene) where
     choice_does (t.otherwise block) m listed w most fits h = block_does block m listed w most fits h
     choice_does (t.test e block more) m listed w most fits h =
         choice_of_ways e m listed w most (lowered_block z.p block) (lowered_choice z.p more) (run_block block) (run_choice more) fits.0 h.stands
-        (λ left. block_does block (record m { left = left }) listed (record w { readings = left }) most fits.1
+        (λ left. block_does block (record m { left = left }) listed (with_readings left w) most fits.1
         (with_left m listed w _ (block_emits block) _ (λ v. block_count (is_store_to v) block) most left h (omega arith) (λ v. omega arith)))
-        (λ left. choice_does more (record m { left = left }) listed (record w { readings = left }) most fits.2
+        (λ left. choice_does more (record m { left = left }) listed (with_readings left w) most fits.2
         (with_left m listed w _ (choice_emits more) _ (λ v. choice_count (is_store_to v) more) most left h (omega arith) (λ v. omega arith)))
 
     block_does : (b : CheckedBlock) (m : Attempt) (listed : List Element) (w : WordState) (most : ℕ → ℕ) → BlockFits z.p z.written b

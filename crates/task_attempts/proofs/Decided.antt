@@ -55,12 +55,12 @@ use Rattle.layout_facts.specs.memory_map.Spots.{scalar_address, private_words, I
 use Rattle.layout_facts.specs.memory_map.Spots.{element, copy, spot_address, element_address, copy_address, IsWordOf}
 
 module _ (run : Started) where
-  open run use {program as p, map as l, given, state as s, is_task, task as i, world as x, readings, start as st}
+  open run use {program as p, map as l, given, state as s, is_task, task as i, world as x, inputs, start as st}
   open (scene run) use {here, code, space, facts, sites, view, ver}
 
   -- the bounds of the task's statements
   abbrev pub bounds : Bounds
-  bounds = bounds_of here (some_path_writes code) space code [] (started x.fram readings)
+  bounds = bounds_of here (some_path_writes code) space code [] (started x.fram inputs)
 
   pub quiet_start : IsQuietAt sites view s ver x
   quiet_start = record { undecided = st.undecided; version = refl }
