@@ -3,16 +3,17 @@ use Rattle.std.proofs.Common.{◌≡◌, ℕ, ◌+◌, List, [], ◌∷◌, ◌+
 use Rattle.std.proofs.Common.{append_assoc, append-nil, All}
 use Rattle.std.proofs.lemmas.List.Elements.{All-drop}
 use Rattle.machine_effects.specs.fram_board.Effects.{Effect, Store}
-use Rattle.machine_effects.specs.World.{World, world_after_one, world_after, fram_after, readings_taken, IsPrefix, EachStore}
-use Rattle.machine_effects.proofs.Interface.{world_after-append, readings_taken-append, each_store-append}
-use Rattle.crash_rules.specs.Model.{Model, ModelLaws, Outcome, Ends, Short, ProgramEffects, program_effects, behind_effects, IsWord, IsElsewhere}
+use Rattle.machine_effects.specs.World.{World, world_after, fram_after, readings_taken, IsPrefix, EachStore}
+use Rattle.machine_effects.proofs.Interface.{world_after-append}
+use Rattle.crash_rules.specs.Model.{Model, ModelLaws, Outcome, Ends, Short, ProgramEffects, program_effects, IsWord, IsElsewhere}
 use Rattle.crash_rules.specs.Model.{Inputs, InputsAreWords, inputs_behind, inputs_taken, no_inputs, with_commit, attempt_from, script, Decides, RunsShort}
-use Rattle.crash_rules.specs.Model.{AttemptContract, RecoveryKeeps, CommitKeeps}
+use Rattle.crash_rules.specs.Model.{AttemptContract, CommitKeeps}
 use Rattle.crash_rules.specs.History.{Done, History, with_effect, behind_decide, behind_done, observe_one, observe, behind_boot, inputs_from}
 use Rattle.crash_rules.specs.History.{decided_inputs, done_inputs}
 use Rattle.crash_rules.specs.Laws.{Origin, Resting, Pending, SourceRun, HasNoSpan, Reaches, IsPending, IsSettled, Transits, Phase, UndecidedPhase, DecidedPhase}
 use Rattle.crash_rules.specs.Laws.{CommittingPhase, StandsFor, IsLawful, AreConsecutive}
-use Rattle.crash_rules.proofs.Lists.{world_fram, each_prefix, holds_prefix, holds_end, holds-append, prefix_cases, prefix_one, nothing_first, range_of}
+use Rattle.crash_rules.proofs.Lists.{world_fram, each_prefix, holds_prefix, holds_end, prefix_cases, prefix_one, nothing_first, range_of}
+use Rattle.crash_rules.proofs.Front.{in_front}
 use Rattle.crash_rules.proofs.Observed.{observe-append, with_effects, observe_quiet, observe_done, observe_decide}
 
 module _ {St : Type 0} (m : Model St) (laws : ModelLaws m) (readings : List ℕ) (words : All IsWord readings) where
@@ -465,30 +466,7 @@ module _ {St : Type 0} (m : Model St) (laws : ModelLaws m) (readings : List ℕ)
     pub words_left : (h : History) → InputsAreWords (inputs_at h)
     words_left h = record { readings = All-drop IsWord h.taken readings words }
 
-    -- an attempt behind its recovery owes what an attempt owes
-    behind_recovery : (s : St) (x : World) (inputs : Inputs) (a : Outcome St) (p : ProgramEffects) → RecoveryKeeps m s x
-        → AttemptContract m s inputs (world_after (m.recover x.fram) x) a p → AttemptContract m s inputs x a (behind_effects (m.recover x.fram) p)
-    behind_recovery s x inputs (Ends next left) p r c =
-        let rec : List Effect = m.recover x.fram in
-        let none : readings_taken (rec ++ c.before) ≡ readings_taken c.before = readings_taken-append rec c.before
-        ∙ ap (λ l. l ++ readings_taken c.before) r.takes_none in
-        let same : inputs_taken (rec ++ c.before) ≡ inputs_taken c.before = λ i. record { readings = none i } in
-        record {
-          before = rec ++ c.before;
-          is = ap (behind_effects rec) c.is ∙ ap (λ l. program_effects l true) (sym (append_assoc rec c.before (Store m.marks.gate 1 ∷ [])));
-          elsewhere = each_store-append (IsElsewhere m.marks.gate) rec c.before r.elsewhere c.elsewhere;
-          reads = record { readings = ap (λ l. l ++ left.readings) none ∙ c.reads.readings };
-          undecided = holds-append (m.Undecided s) rec c.before x r.undecided c.undecided;
-          decided = subst (λ y. m.Decided s next (world_after_one (Store m.marks.gate 1) y)) (sym (world_after-append rec c.before x)) c.decided;
-          exact = ap (m.task s) same ∙ c.exact;
-        }
-    behind_recovery s x inputs Short p r c = record {
-      is = c.is;
-      elsewhere = each_store-append (IsElsewhere m.marks.gate) (m.recover x.fram) p.effects r.elsewhere c.elsewhere;
-      undecided = holds-append (m.Undecided s) (m.recover x.fram) p.effects x r.undecided c.undecided;
-    }
-
-    -- so behind a boot as behind a done an attempt keeps the contract
+    -- behind a boot as behind a done an attempt keeps the contract
     pub owed_from : (booted : Bool) (s : St) (x : World) (inputs : Inputs) → InputsAreWords inputs → m.Undecided s x
         → (booted ≡ false → m.Settled s x) → AttemptContract m s inputs x (m.task s inputs) (attempt_from m booted x.fram inputs)
     owed_from false s x inputs ws u k = laws.attempts s x inputs ws (k refl)
@@ -496,7 +474,7 @@ module _ {St : Type 0} (m : Model St) (laws : ModelLaws m) (readings : List ℕ)
         let r = laws.recovers s x u in
         let rec : List Effect = m.recover x.fram in
         let y : World = world_after rec x in
-        behind_recovery s x inputs (m.task s inputs) (m.attempt (fram_after rec x.fram) inputs) r
+        in_front m s x inputs rec (m.task s inputs) (m.attempt (fram_after rec x.fram) inputs) r.stays
         (subst (λ f. AttemptContract m s inputs y (m.task s inputs) (m.attempt f inputs)) (world_fram rec x) (laws.attempts s y inputs ws r.settled))
 
     owed : (h : History) (u : AtUndecided h) → AttemptContract m u.state (inputs_at h) h.world (m.task u.state (inputs_at h)) (attempt_at h)

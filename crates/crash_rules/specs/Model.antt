@@ -101,11 +101,15 @@ abbrev pub AttemptContract : {St : Type 0} → Model St → St → Inputs → Wo
 AttemptContract m s inputs x (Ends next left) p = Decides m s next left inputs x p
 AttemptContract m s inputs x Short p = RunsShort m s x p
 
--- what a recovery owes: it takes no reading, leaves GATE alone, keeps the world undecided throughout, and leaves nothing to recover
+-- effects that take no reading, leave GATE alone and keep the world undecided throughout
+pub record StaysUndecided {St : Type 0} (m : Model St) (s : St) (x : World) (es : List Effect) : Type 0 where
+  pub takes_none : readings_taken es ≡ []
+  pub elsewhere : EachStore (IsElsewhere m.marks.gate) es
+  pub undecided : HoldsThroughout (m.Undecided s) es x
+
+-- what a recovery owes: it stays undecided, and leaves nothing to recover
 pub record RecoveryKeeps {St : Type 0} (m : Model St) (s : St) (x : World) : Type 0 where
-  pub elsewhere : EachStore (IsElsewhere m.marks.gate) (m.recover x.fram)
-  pub takes_none : readings_taken (m.recover x.fram) ≡ []
-  pub undecided : HoldsThroughout (m.Undecided s) (m.recover x.fram) x
+  pub stays : StaysUndecided m s x (m.recover x.fram)
   pub settled : m.Settled s (world_after (m.recover x.fram) x)
 
 -- what a commit owes on these inputs: its last effect stores 0 to GATE; up to there the world stays as it is said to be, and behind it
