@@ -1,6 +1,6 @@
 -- The statements of each task are well-formed.
-use Rattle.std.proofs.Common.{◌≡◌, ℕ, ◌+◌, ◌≤◌, ◌&&◌, not, max, Bool, true, false, List, [], ◌∷◌, ◌++◌, length, map, Some, None, All, refl, sym, ap, ap₂, ◌∙◌, subst}
-use Rattle.std.proofs.Common.{append_assoc, append-nil, inl, inr}
+use Rattle.std.proofs.Common.{◌≡◌, ℕ, ◌+◌, ◌≤◌, ◌&&◌, not, max, Bool, true, false, List, [], ◌∷◌, ◌++◌, length, map, Some, None, All, refl}
+use Rattle.std.proofs.Common.{sym, ap, ap₂, ◌∙◌, subst, append_assoc, append-nil, inl, inr}
 use Rattle.std.proofs.lemmas.List.Elements.{All-nil, All-cons, All-head, All-tail}
 use Rattle.alp_text.specs.declared.lines.Span.{Span}
 use Rattle.task_ast.specs.declared.SharedDeclaration.{SharedDeclaration}

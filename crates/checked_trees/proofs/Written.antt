@@ -223,7 +223,8 @@ module _ (v : ℕ) where
     mutual
       unfolding summary
 
-      statement_assigned : (s : CheckedStatement) → WellFormedStatement shared s → (statement_sum (summary (Shared v)) s).writes ≡ true → statement_assigns v s ≡ true
+      statement_assigned : (s : CheckedStatement) → WellFormedStatement shared s → (statement_sum (summary (Shared v)) s).writes ≡ true
+          → statement_assigns v s ≡ true
       statement_assigned (t.declare _ n None) u h = absurd (let never : false ≡ true = h in cc)
       statement_assigned (t.declare _ n (Some e)) u h =
           let wrote = is_assigned n e _ refl h in

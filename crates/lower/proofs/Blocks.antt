@@ -166,8 +166,8 @@ module _ (z : Scene) where
 
   -- in place, where both sides are of one word
   sides_do : (x : Variable) (op : PlacedOperator) (a b : CheckedExpression) (o : Option PlainOperation) (m : Attempt) (listed : List Element) (w : WordState)
-      (n : ℕ) (count most : ℕ → ℕ) → of_words (joined_type (type_of a) (type_of b)) (updating x op.operator a) ≡ o → WellFormedExpression z.shared (t.binary op a b)
-      → IsTarget z.p z.written x
+      (n : ℕ) (count most : ℕ → ℕ) → of_words (joined_type (type_of a) (type_of b)) (updating x op.operator a) ≡ o
+      → WellFormedExpression z.shared (t.binary op a b) → IsTarget z.p z.written x
       → Begins z m listed w n count most
       → Sets x (t.binary op a b) m w most (sides_set z.p x op a b o)
   sides_do x op a b None m listed w n count most is fits target h = setting_does x (t.binary op a b) m listed w n count most fits target h
@@ -612,7 +612,8 @@ module _ (z : Scene) where
   Writes writes = (v : ℕ) → writes v ≡ true → z.written v ≡ true
 
   mutual
-    statement_does : (s : CheckedStatement) (m : Attempt) (listed : List Element) (w : WordState) (most : ℕ → ℕ) → WellFormedStatement z.shared s → Writes (λ v. (statement_sum (summary (Shared v)) s).writes)
+    statement_does : (s : CheckedStatement) (m : Attempt) (listed : List Element) (w : WordState) (most : ℕ → ℕ) → WellFormedStatement z.shared s
+        → Writes (λ v. (statement_sum (summary (Shared v)) s).writes)
         → Begins z m listed w (statement_emits s) (λ v. statement_count (is_store_to v) s) most
         → Does z w.fram most w.stack (behaviour (lowered_statement z.p s) w) (run_statement s m)
     statement_does (t.declare of x None) m listed w most fits writes h = record
@@ -629,7 +630,8 @@ module _ (z : Scene) where
     statement_does (t.choose choice) m listed w most fits writes h = choice_does choice m listed w most fits writes h
     statement_does (t.loop x from tested below stepped body) m listed w most fits writes h =
         loop_does x.variable from below (lowered_block z.p body) (run_block body) (block_emits body) (λ v. block_count (is_store_to v) body) fits.0
-        (λ some u listing s few k. block_does body u listing s few fits.1 (λ v turn. writes v (loop_writes v x from tested below stepped body some turn)) k) (block_emitted body) m listed w most h
+        (λ some u listing s few k. block_does body u listing s few fits.1 (λ v turn. writes v (loop_writes v x from tested below stepped body some turn)) k)
+        (block_emitted body) m listed w most h
     statement_does (t.emit e) m listed w most fits writes h =
         let last = one (emit_word (word_place z.p.map EmitCount) z.p.map.emits.address) in
         let given : ℕ → Attempt → Outcome = λ v s. goes_on (record s { emitted = s.emitted ++ v ∷ [] }) in
@@ -642,7 +644,8 @@ module _ (z : Scene) where
         (value_agrees e m listed w fits.0 h.stands) (λ y. emit_does m listed w _ most y.0 y.1 h)))
     statement_does (t.transition task) m listed w most fits writes h = transition_does task.task m listed w _ _ most h
 
-    choice_does : (c : CheckedChoice) (m : Attempt) (listed : List Element) (w : WordState) (most : ℕ → ℕ) → WellFormedChoice z.shared c → Writes (λ v. (choice_sum (summary (Shared v)) c).writes)
+    choice_does : (c : CheckedChoice) (m : Attempt) (listed : List Element) (w : WordState) (most : ℕ → ℕ) → WellFormedChoice z.shared c
+        → Writes (λ v. (choice_sum (summary (Shared v)) c).writes)
         → Begins z m listed w (choice_emits c) (λ v. choice_count (is_store_to v) c) most
         → Does z w.fram most w.stack (behaviour (lowered_choice z.p c) w) (run_choice c m)
     choice_does t.nothing m listed w most fits writes h = record
@@ -650,12 +653,15 @@ module _ (z : Scene) where
     choice_does (t.otherwise block) m listed w most fits writes h = block_does block m listed w most fits writes h
     choice_does (t.test e block more) m listed w most fits writes h =
         choice_of_ways e m listed w most (lowered_block z.p block) (lowered_choice z.p more) (run_block block) (run_choice more) fits.0 h.stands
-        (λ left. block_does block (record m { left = left }) listed (record w { readings = left }) most fits.1 (λ v k. writes v (taken_writes v e block more k))
+        (λ left. block_does block (record m { left = left }) listed (record w { readings = left }) most fits.1
+        (λ v k. writes v (taken_writes v e block more k))
         (with_left m listed w _ (block_emits block) _ (λ v. block_count (is_store_to v) block) most left h (omega arith) (λ v. omega arith)))
-        (λ left. choice_does more (record m { left = left }) listed (record w { readings = left }) most fits.2 (λ v k. writes v (passed_writes v e block more k))
+        (λ left. choice_does more (record m { left = left }) listed (record w { readings = left }) most fits.2
+        (λ v k. writes v (passed_writes v e block more k))
         (with_left m listed w _ (choice_emits more) _ (λ v. choice_count (is_store_to v) more) most left h (omega arith) (λ v. omega arith)))
 
-    block_does : (b : CheckedBlock) (m : Attempt) (listed : List Element) (w : WordState) (most : ℕ → ℕ) → WellFormedBlock z.shared b → Writes (λ v. (block_sum (summary (Shared v)) b).writes)
+    block_does : (b : CheckedBlock) (m : Attempt) (listed : List Element) (w : WordState) (most : ℕ → ℕ) → WellFormedBlock z.shared b
+        → Writes (λ v. (block_sum (summary (Shared v)) b).writes)
         → Begins z m listed w (block_emits b) (λ v. block_count (is_store_to v) b) most
         → Does z w.fram most w.stack (behaviour (lowered_block z.p b) w) (run_block b m)
     block_does t.end m listed w most fits writes h = record
@@ -675,12 +681,14 @@ module _ (z : Scene) where
         subst P (sym (joined_go_on (lowered_statement z.p s) (lowered_block z.p more) w))
         (does_then z (lowered_statement z.p s) w once most w.stack (length m.emitted + statement_emits s) (run_statement s m)
         (behaviour (lowered_block z.p more)) (run_block more) h.number fewer
-        (statement_does s m listed w once fits.0 (λ v k. writes v (first_writes v s more k)) begins) (statement_emitted s m (length m.emitted + statement_emits s) (omega arith))
+        (statement_does s m listed w once fits.0 (λ v k. writes v (first_writes v s more k)) begins)
+        (statement_emitted s m (length m.emitted + statement_emits s) (omega arith))
         (λ u n listing is there.
         let below = there.few_emitted in
         let Q : List ℕ → Type 0 = λ l. Does z u.fram most l (behaviour (lowered_block z.p more) u) (run_block more n) in
-        let further : Writes (λ v. (block_sum (summary (Shared v)) more).writes) = λ v k. writes v (others_write v s more (runs_go_on_along_paths s m n is) k) in
-        subst Q there.stack_kept (block_does more n listing u most fits.1 further (record {
+        let others : Writes (λ v. (block_sum (summary (Shared v)) more).writes) =
+        λ v k. writes v (others_write v s more (runs_go_on_along_paths s m n is) k) in
+        subst Q there.stack_kept (block_does more n listing u most fits.1 others (record {
           stands = there.stands;
           number = there.number;
           emits = omega (arith, room, below);

@@ -211,12 +211,14 @@ widened_agrees p e m w h = long_agrees (type_of e) w (lowering p e) (value_of e 
 
 -- ---- all expressions
 
-pub lowering_agrees : (shared : List SharedDeclaration) (p : Places) (room : Room) (e : CheckedExpression) (m : Variables) (w : WordState) → AreApart p room → AreEven p
-    → AsDeclared shared p → WellFormedExpression shared e → HoldVariables p m w.fram w.locals → AgreesAs (type_of e) w (lowering p e) (value_of e m w.readings)
+pub lowering_agrees : (shared : List SharedDeclaration) (p : Places) (room : Room) (e : CheckedExpression) (m : Variables) (w : WordState)
+    → AreApart p room → AreEven p → AsDeclared shared p → WellFormedExpression shared e → HoldVariables p m w.fram w.locals
+    → AgreesAs (type_of e) w (lowering p e) (value_of e m w.readings)
 lowering_agrees shared p room (t.number n) m w apart even declared fits h =
     as_one_word (type_of (t.number n)) (one_word.literal_word n) w _ _ (by_word w (one (number n)) _ (tt, refl))
 lowering_agrees shared p room (t.long_number n) m w apart even declared fits h = by_long w _ _ (tt, refl)
-lowering_agrees shared p room (t.name x) m w apart even declared fits h = name_agrees x.word_type p room x.variable m w apart even (known_as shared p declared x.word_type x.variable fits.0 fits.1) h
+lowering_agrees shared p room (t.name x) m w apart even declared fits h =
+    name_agrees x.word_type p room x.variable m w apart even (known_as shared p declared x.word_type x.variable fits.0 fits.1) h
 lowering_agrees shared p room (t.element x index) m w apart even declared fits h =
     let l = lowering p index in
     let last = one (element_step p x.variable) in

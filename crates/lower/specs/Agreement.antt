@@ -181,14 +181,14 @@ converted_to from to o = o >>? λ x. Some (converted from to x.0, x.1)
 
 -- the program of an expression leaves its value, as one word
 abbrev pub ExpressionsAgree : Type 0
-ExpressionsAgree = (shared : List SharedDeclaration) (p : Places) (room : Room) (e : CheckedExpression) (m : Variables) (w : WordState) → AreApart p room → AreEven p
-    → AsDeclared shared p → WellFormedExpression shared e → HoldVariables p m w.fram w.locals
+ExpressionsAgree = (shared : List SharedDeclaration) (p : Places) (room : Room) (e : CheckedExpression) (m : Variables) (w : WordState)
+    → AreApart p room → AreEven p → AsDeclared shared p → WellFormedExpression shared e → HoldVariables p m w.fram w.locals
     → AgreesWithValue w (behaviour (lowered_expression p e) w) (converted_to (type_of e) Unsigned (value_of e m w.readings))
 
 -- and the other its value as a long
 abbrev pub LongsAgree : Type 0
-LongsAgree = (shared : List SharedDeclaration) (p : Places) (room : Room) (e : CheckedExpression) (m : Variables) (w : WordState) → AreApart p room → AreEven p
-    → AsDeclared shared p → WellFormedExpression shared e → HoldVariables p m w.fram w.locals
+LongsAgree = (shared : List SharedDeclaration) (p : Places) (room : Room) (e : CheckedExpression) (m : Variables) (w : WordState)
+    → AreApart p room → AreEven p → AsDeclared shared p → WellFormedExpression shared e → HoldVariables p m w.fram w.locals
     → AgreesWithLong w (behaviour (lowered_long p e) w) (converted_to (type_of e) Long (value_of e m w.readings))
 
 -- a value as 1 where it isn't 0, else 0
@@ -201,8 +201,8 @@ truth_of o = o >>? truth_value
 
 -- the test of an expression holds where its value isn't 0
 abbrev pub TestsAgree : Type 0
-TestsAgree = (shared : List SharedDeclaration) (p : Places) (room : Room) (e : CheckedExpression) (m : Variables) (w : WordState) → AreApart p room → AreEven p
-    → AsDeclared shared p → WellFormedExpression shared e → HoldVariables p m w.fram w.locals
+TestsAgree = (shared : List SharedDeclaration) (p : Places) (room : Room) (e : CheckedExpression) (m : Variables) (w : WordState)
+    → AreApart p room → AreEven p → AsDeclared shared p → WellFormedExpression shared e → HoldVariables p m w.fram w.locals
     → AgreesWithValue w (behaviour (one (truth (lowered_test p e))) w) (truth_of (value_of e m w.readings))
 
 -- ---- statements

@@ -36,8 +36,8 @@ use Rattle.checked_trees.specs.WellFormed.{enough, IsWordName, IsArrayName, Well
 use Rattle.lower.proofs.Interface.{small_modulo, is_update}
 use Rattle.whole_programs.proofs.Placed.{PlacesOfWords}
 use Rattle.whole_programs.proofs.Built.{Leaf, a_number, a_load, a_reading, a_unary, a_shift, an_element, a_version, a_binary, a_widening, a_join, a_low_word}
-use Rattle.whole_programs.proofs.Built.{a_complement, a_left_shift, a_right_shift, a_calculation, is_below, is_above, ReadOf, Reads, two_fit, Fact, FitsAbove, right_fits}
-use Rattle.whole_programs.proofs.Built.{lowering_has, long_has}
+use Rattle.whole_programs.proofs.Built.{a_complement, a_left_shift, a_right_shift, a_calculation, is_below, is_above, ReadOf, Reads, two_fit, Fact}
+use Rattle.whole_programs.proofs.Built.{FitsAbove, right_fits, lowering_has, long_has}
 use Rattle.checked_trees.proofs.Interface.{names_read, is_path, some_turns, some_block, written, forgotten, behind, behind_both, behind_names}
 use Rattle.checked_trees.proofs.Interface.{behind_expression, IsAssigned, Safe, safe_both, safe_expression}
 
@@ -320,7 +320,8 @@ module _ (p : Places) (words : PlacesOfWords p) (shared : List SharedDeclaration
   typed_assignment_way u a Int x e next f c r h = assignment_way u a x e next f c r h
   typed_assignment_way u a Unsigned x e next f c r h = assignment_way u a x e next f c r h
 
-  assigned_way : (u a : ℕ → Bool) (of : WordType) (x : VariableName) (e : CheckedExpression) (next : Place → Type 0) → FitsAbove shared 0 e → Covers u a → Safe u (names_read e ++ write x ∷ []) → Written u x e next
+  assigned_way : (u a : ℕ → Bool) (of : WordType) (x : VariableName) (e : CheckedExpression) (next : Place → Type 0) → FitsAbove shared 0 e
+      → Covers u a → Safe u (names_read e ++ write x ∷ []) → Written u x e next
       → EachWay enough (scalar_assignment p of x.variable e) next (at 0 a)
   assigned_way u a of x e next f c s h =
       typed_assignment_way u a of x e next f c (reads_assigned shared u a e c f.0 (safe_expression u e (write x ∷ []) s).0) h
@@ -436,7 +437,7 @@ module _ (p : Places) (words : PlacesOfWords p) (shared : List SharedDeclaration
         let xs = names_read index ++ (names_read e ++ write x ∷ []) in
         element_assigned_way u a x index e next (is.1, is.4) (is.2, is.5) is.0 c (h.safe xs goes_on q) (h.on xs q)
     statement_way (t.choose choice) u a next is c h =
-        choice_way choice u a next f n c (record {
+        choice_way choice u a next is c (record {
           safe = λ xs end q. h.safe xs end (path.choose choice xs end q);
           on = λ xs q. h.on xs (path.choose choice xs goes_on q);
         })
@@ -462,7 +463,8 @@ module _ (p : Places) (words : PlacesOfWords p) (shared : List SharedDeclaration
         let some = some_block b in
         let s = h.safe (names_read e ++ some.accesses) some.end (path.taken e b more (names_read e) some.accesses some.end (is_path e) some.is) in
         let reads = reads_assigned shared u a e c is.0 (safe_expression u e some.accesses s).0 in
-        (lowering_has (ways enough a) p words shared 0 e is.0 is.3 reads).test (EachWay enough (lowered_block p b) next) (EachWay enough (lowered_choice p more) next)
+        (lowering_has (ways enough a) p words shared 0 e is.0 is.3 reads).test (EachWay enough (lowered_block p b) next)
+        (EachWay enough (lowered_choice p more) next)
         (block_way b u a next is.1 c (taken_follows e b more u next h)) (choice_way more u a next is.2 c (passed_follows e b more u next h))
 
     block_way : (b : CheckedBlock) (u a : ℕ → Bool) (next : Place → Type 0) → WellFormedBlock shared b → Covers u a
