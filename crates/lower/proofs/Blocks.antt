@@ -27,7 +27,7 @@ use Rattle.array_versions.specs.Operations.{plain_word}
 use Rattle.array_versions.specs.Program.{Program, keep, emit_word, versioned_write, versioned_update, choose, repeat, nothing, step, joined}
 use Rattle.array_versions.specs.Behaviour as words
 use Rattle.array_versions.specs.Behaviour.{WordState, Behaviour, behind_effects, then_on, local_updated, is_place, at_place, stored, with_local, word_emitted}
-use Rattle.array_versions.specs.Behaviour.{way_by_top, tested, behaviour}
+use Rattle.array_versions.specs.Behaviour.{with_readings, way_by_top, tested, behaviour}
 use Rattle.array_versions.proofs.Interface.{joined_go_on, joined_assoc, decided_by_truth}
 use Rattle.lower.specs.Lowered.{update_step, write_long, setting, long_setting, updating, of_words, sides_set, scalar_assignment, lowering, lowered_long, one}
 use Rattle.lower.specs.Lowered.{write_step, written_array, list_place, store_step, update_element_step, loop_local, assignment, index_and_value}
@@ -72,7 +72,7 @@ module _ (z : Scene) where
       let p = z.p in
       let f = here.w.fram in
       let at = scalar_address p i j in
-      let u : WordState = record here.w { readings = left } in
+      let u : WordState = with_readings left here.w in
       let o : Outcome = goes_on (source.assigned (record here.m { left = left }) (Shared i) j v) in
       let Kept : ℕ → Type 0 = λ b. Does z f here.most here.w.stack (behaviour (one (keep b)) (valued here.w (v, left))) o in
       let P : Behaviour → Type 0 = λ b. Does z f here.most here.w.stack (then_on b (behaviour nothing)) o in
@@ -136,7 +136,7 @@ module _ (z : Scene) where
   -- a local that has a word has what the operation gives of it
   local_updated_does : (op : PlainOperation) (i v : ℕ) (o : Option ℕ) {n : ℕ} {count : ℕ → ℕ} (here : Start z n count)
       (left : List ℕ) → i < 256 → ((u : ℕ) → o ≡ Some u → word_at here.m.variables (Local i) 0 ≡ u)
-      → DoesFrom here (then_on (local_updated op (i % 65536) v o (record here.w { readings = left })) (behaviour nothing))
+      → DoesFrom here (then_on (local_updated op (i % 65536) v o (with_readings left here.w)) (behaviour nothing))
       (goes_on (source.assigned (record here.m { left = left }) (Local i) 0 (plain_word op (word_at here.m.variables (Local i) 0) v)))
   local_updated_does op i v None here left few is = tt
   local_updated_does op i v (Some u) here left few is =
@@ -204,8 +204,8 @@ module _ (z : Scene) where
       let low = v % 65536 in
       let high = v / 65536 in
       let once = put f b high in
-      let u : WordState = record here.w { stack = low ∷ here.w.stack; readings = left } in
-      let t : WordState = record here.w { fram = once; readings = left } in
+      let u : WordState = with_readings left (record here.w { stack = low ∷ here.w.stack }) in
+      let t : WordState = with_readings left (record here.w { fram = once }) in
       let o : Outcome = goes_on (both_assigned (record here.m { left = left }) (Shared i) v) in
       let Kept : ℕ → ℕ → Type 0 = λ c d. Does z f here.most here.w.stack (behaviour (step (keep c) (one (keep d))) (long_valued here.w (v, left))) o in
       let P : Behaviour → Type 0 = λ c. Does z f here.most here.w.stack (then_on c (behaviour (one (keep a)))) o in
@@ -282,24 +282,24 @@ module _ (z : Scene) where
   one_store x u = if is_shared u x then 1 else 0
 
   store_step_does : (x : Variable) (i v : ℕ) (left : List ℕ) (here : Start z 0 (one_store x)) → IsWrittenArray z.p x
-      → DoesFrom here (behaviour (one (store_step z.p x)) (record here.w { stack = v ∷ i ∷ here.w.stack; readings = left }))
+      → DoesFrom here (behaviour (one (store_step z.p x)) (with_readings left (record here.w { stack = v ∷ i ∷ here.w.stack })))
       (goes_on (source.assigned (record here.m { left = left }) x i v))
   store_step_does (Shared n) i v left here k =
       let P : Option VariablePlace → Type 0 =
       λ o. DoesFrom here
-      (behaviour (one (versioned_write (written_array o) (list_place z.p))) (record here.w { stack = v ∷ i ∷ here.w.stack; readings = left }))
+      (behaviour (one (versioned_write (written_array o) (list_place z.p))) (with_readings left (record here.w { stack = v ∷ i ∷ here.w.stack })))
       (goes_on (source.assigned (record here.m { left = left }) (Shared n) i v)) in
       subst P (sym k.3.place) (store_does z n i v k.0 k.1 k.2 k.3 here left)
   store_step_does (Local n) i v left here k = absurd k
 
   update_step_does : (op : PlainOperation) (x : Variable) (i v : ℕ) (left : List ℕ) (here : Start z 0 (one_store x)) → IsWrittenArray z.p x
-      → DoesFrom here (behaviour (one (update_element_step z.p op x)) (record here.w { stack = v ∷ i ∷ here.w.stack; readings = left }))
+      → DoesFrom here (behaviour (one (update_element_step z.p op x)) (with_readings left (record here.w { stack = v ∷ i ∷ here.w.stack })))
       (goes_on (source.assigned (record here.m { left = left }) x i (plain_word op (word_at here.m.variables x i) v)))
   update_step_does op (Shared n) i v left here k =
       let u = plain_word op (word_at here.m.variables (Shared n) i) v in
       let P : Option VariablePlace → Type 0 =
       λ o. DoesFrom here
-      (behaviour (one (versioned_update op (written_array o) (list_place z.p))) (record here.w { stack = v ∷ i ∷ here.w.stack; readings = left }))
+      (behaviour (one (versioned_update op (written_array o) (list_place z.p))) (with_readings left (record here.w { stack = v ∷ i ∷ here.w.stack })))
       (goes_on (source.assigned (record here.m { left = left }) (Shared n) i u)) in
       subst P (sym k.3.place) (element_update_does z n i u k.0 k.1 k.2 k.3 here left op v refl)
   update_step_does op (Local n) i v left here k = absurd k
@@ -307,7 +307,7 @@ module _ (z : Scene) where
   -- an index and a value, and what a step does with both
   index_and_value_do : (index e : CheckedExpression) (last : Program) (given : ℕ → ℕ → Attempt → Outcome) {n : ℕ} {count : ℕ → ℕ} (here : Start z n count)
       → WellFormedExpression z.shared index → WellFormedExpression z.shared e
-      → ((i v : ℕ) (left : List ℕ) → DoesFrom here (behaviour last (record here.w { stack = v ∷ i ∷ here.w.stack; readings = left }))
+      → ((i v : ℕ) (left : List ℕ) → DoesFrom here (behaviour last (with_readings left (record here.w { stack = v ∷ i ∷ here.w.stack })))
       (given i v (record here.m { left = left })))
       → DoesFrom here (behaviour (joined (index_and_value z.p index e) last) here.w)
       (if_value (word_value index here.m.variables here.m.left) here.m (λ i s. if_value (word_value e s.variables s.left) s (given i)))
@@ -419,7 +419,7 @@ module _ (z : Scene) where
       let count = word_place p.map EmitCount in
       let n = f count in
       let a = 2 * n + p.map.emits.address in
-      let u : WordState = record here.w { readings = left } in
+      let u : WordState = with_readings left here.w in
       let o = goes_on (record m { emitted = m.emitted ++ v ∷ []; left = left }) in
       let counted = here.stands.emitted.emit_count in
       let few = here.emits in
@@ -569,7 +569,7 @@ module _ (z : Scene) where
 
   -- one way of a choice does what the source runs, from any readings on
   abbrev WayDoes : {n : ℕ} {count : ℕ → ℕ} → Start z n count → Program → (Attempt → Outcome) → Type 0
-  WayDoes here q run = (left : List ℕ) → DoesFrom here (behaviour q (record here.w { readings = left })) (run (record here.m { left = left }))
+  WayDoes here q run = (left : List ℕ) → DoesFrom here (behaviour q (with_readings left here.w)) (run (record here.m { left = left }))
 
   -- a choice, where both ways do
   choice_of_ways : (e : CheckedExpression) {n : ℕ} {count : ℕ → ℕ} (here : Start z n count) (taken otherwise : Program) (f g : Attempt → Outcome)
@@ -585,13 +585,13 @@ module _ (z : Scene) where
       let ways = way_by_top (behaviour taken) (behaviour otherwise) in
       let decided = decided_by_truth c (behaviour taken) (behaviour otherwise) w in
       let agrees = subst (λ l. AgreesWithValue w (truth_pushed c w) (truth_of (value_of e m.variables l))) here.stands.readings
-      (test_agrees (type_of e) w (lowering z.p e) (value_of e m.variables w.readings)
+      (test_agrees (type_of e) w (lowering z.p e) (value_of e m.variables w.inputs.readings)
       (lowering_agrees z.shared z.p z.room e m.variables w z.apart z.even z.declared fits here.stands.variables)) in
       does_alone z w.fram here.most w.stack (tested c (behaviour taken) (behaviour otherwise) w) (if_value o m run)
       (subst (λ r. DoesFrom here r (if_value o m run)) (sym decided)
       (subst (DoesFrom here (then_on (truth_pushed c w) ways)) (by_truth o m f g)
       (does_value z here.most w.stack w (truth_pushed c w) (truth_of o) ways m run agrees (λ y.
-      let u : WordState = record w { readings = y.1 } in
+      let u : WordState = with_readings y.1 w in
       let n : Attempt = record m { left = y.1 } in
       either_does (holds y.0) here (behaviour taken u) (behaviour otherwise u) (f n) (g n) (a y.1) (b y.1)))))
 
@@ -603,7 +603,7 @@ module _ (z : Scene) where
       record {
         m = record here.m { left = left };
         listed = here.listed;
-        w = record here.w { readings = left };
+        w = with_readings left here.w;
         most = here.most;
         stands = record {
           variables = here.stands.variables;

@@ -13,7 +13,7 @@ use Rattle.source_values.specs.Statements.{Attempt, Outcome, goes_on}
 use Rattle.array_versions.specs.declared.operations.PlainOperation.{PlainOperation}
 use Rattle.array_versions.specs.Operations.{plain_word}
 use Rattle.array_versions.specs.Behaviour.{WordState, Behaviour, goes_on as going_on, then_on, is_place, word_listed, versioned_stored, behaviour}
-use Rattle.array_versions.specs.Behaviour.{own_place, versioned_updated}
+use Rattle.array_versions.specs.Behaviour.{with_readings, own_place, versioned_updated}
 use Rattle.array_versions.specs.Program.{nothing}
 use Rattle.array_versions.specs.declared.program.ArrayPlace.{ArrayPlace}
 use Rattle.memory_map.specs.MemoryMap.{word_place}
@@ -81,7 +81,7 @@ module _ (z : Scene) (n i v elements len : ℕ) (c : ArrayCopies) (at : IsArrayA
   place = array_place elements len c
 
   abbrev from : WordState
-  from = record w { readings = left }
+  from = with_readings left w
 
   abbrev after : Attempt
   after = record m { variables = with_word m.variables (Shared n) i v; left = left }
@@ -153,7 +153,7 @@ module _ (z : Scene) (n i v elements len : ℕ) (c : ArrayCopies) (at : IsArrayA
       let fits = list_fits h in
       let Q : ℕ → Type 0 = λ a. put f a v (word_place p.map Version) ≡ put f a v (version_address p x) in
       let same = subst Q (copy_is p x elements len c at) (now.number ∙ sym now.mark) ∙ ap (put f (2 * i + c.copies) v) (version_is p x elements len c at) in
-      let P : ℕ → Type 0 = λ a. WentOn p (bounds z f most) w.stack (Store a v ∷ []) (record w { fram = put f a v; readings = left }) after in
+      let P : ℕ → Type 0 = λ a. WentOn p (bounds z f most) w.stack (Store a v ∷ []) (with_readings left (record w { fram = put f a v })) after in
       subst Result (sym (stores_again place (list_place p) i v from l (here_copy l) here_number (here_version l) same))
       (subst P (copy_is p x elements len c at) (record {
         stores = (at_copy x is refl, tt);
@@ -207,7 +207,7 @@ module _ (z : Scene) (n i v elements len : ℕ) (c : ArrayCopies) (at : IsArrayA
       subst (λ d. here (2 * i + c.copies) (2 * i + c.versions) d) at_e
       (subst (λ b. here (2 * i + c.copies) b (element_address p x)) at_n (subst (λ a. here a (version_address p x) (element_address p x)) at_c lists.does)) in
       let P : List Effect → ℕ → ℕ → Type 0 = λ es a b. WentOn p (bounds z f most) w.stack (Store a v ∷ Store b (f (word_place p.map Version)) ∷ es)
-      (record w { fram = g; readings = left }) after in
+      (with_readings left (record w { fram = g })) after in
       let went : P lists.effects (copy_address p x) (version_address p x) = record {
         stores = (at_copy x is refl, (at_version x is refl h.number, lists.stores));
         stack_kept = refl;

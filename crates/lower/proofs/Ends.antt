@@ -3,7 +3,7 @@ use Rattle.std.proofs.Common.{◌≡◌, ℕ, ◌<◌, ◌≤◌, List, [], ◌�
 use Rattle.std.proofs.Common.{append-nil}
 use Rattle.memory_map.specs.MemoryMap.{word_place}
 use Rattle.memory_map.specs.declared.words.RuntimeWord.TheVariants.{ListLength, EmitCount, Version}
-use Rattle.array_versions.specs.fram_board.Effects.{Effect, Store, Take, Send}
+use Rattle.array_versions.specs.fram_board.Effects.{Effect, Store, Take, Outside}
 use Rattle.array_versions.specs.machine_effects.World.{put, fram_after}
 use Rattle.array_versions.proofs.machine_effects.Interface.{fram_after-append, put_other}
 use Rattle.source_values.specs.Statements.{Attempt, Outcome, goes_on, to_task, short, and_then, if_value}
@@ -51,7 +51,7 @@ stores_keep p written room ver a [] f apart kept h = refl
 stores_keep p written room ver a (Store b w ∷ es) f apart kept h =
     stores_keep p written room ver a es (put f b w) apart kept h.1 ∙ put_other f b w a (store_elsewhere p written room ver a b w apart kept h.0)
 stores_keep p written room ver a (Take r ∷ es) f apart kept h = stores_keep p written room ver a es f apart kept h
-stores_keep p written room ver a (Send n w ∷ es) f apart kept h = absurd h
+stores_keep p written room ver a (Outside o ∷ es) f apart kept h = absurd h
 
 -- VER is one
 pub keeps_version : (p : Places) (room : Room) → AreApart p room → IsKept p (word_place p.map Version)
@@ -62,7 +62,7 @@ pub takes_keep : (es : List Effect) (f : ℕ → ℕ) → OnlyTakes es → fram_
 takes_keep [] f h = refl
 takes_keep (Store a w ∷ es) f h = absurd h.0
 takes_keep (Take r ∷ es) f h = takes_keep es f h
-takes_keep (Send n w ∷ es) f h = absurd h
+takes_keep (Outside o ∷ es) f h = absurd h
 
 -- ---- effects in front
 

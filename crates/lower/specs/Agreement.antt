@@ -2,7 +2,7 @@
 -- for the outcome.
 use Rattle.std.specs.Prelude.{◌≡◌, ℕ, ◌+◌, ◌*◌, ◌/◌, ◌%◌, ◌<◌, ◌≤◌, ◌==◌, Bool, true, if◌then◌else◌, Contains, List, [], ◌∷◌, ◌++◌, length, map, Option}
 use Rattle.std.specs.Prelude.{Some, None, slice_get, slice_index, slice_index_or}
-use Rattle.array_versions.specs.fram_board.Effects.{Effect, Store, Take, Send}
+use Rattle.array_versions.specs.fram_board.Effects.{Effect, Store, Take, Outside}
 use Rattle.array_versions.specs.machine_effects.World.{fram_after}
 use Rattle.task_ast.specs.declared.SharedDeclaration.{SharedDeclaration}
 use Rattle.task_ast.specs.Paths.{CheckedExpression, CheckedBlock}
@@ -14,7 +14,7 @@ use Rattle.task_ast.specs.declared.names.Variable.TheVariants.{Shared, Local}
 use Rattle.array_versions.specs.alp_words.Words.{bit}
 use Rattle.source_values.specs.Values.{◌>>?◌, Variables, word_at, converted, holds, value_of}
 use Rattle.source_values.specs.Statements.{Attempt, Outcome, goes_on, to_task, short, run_block, block_emits}
-use Rattle.array_versions.specs.Behaviour.{WordState, End, GoesOn, Jumps, Short, Strays, Broken, Behaviour, behaviour}
+use Rattle.array_versions.specs.Behaviour.{WordState, with_readings, End, GoesOn, Jumps, Short, Strays, Broken, Behaviour, behaviour}
 use Rattle.cost_bound.specs.Counts.{stores_of}
 use Rattle.memory_map.specs.MemoryMap.{word_place}
 use Rattle.memory_map.specs.declared.words.RuntimeWord.TheVariants.{NextTask, Gate, ListLength, EmitCount, Base, SentBase, Version}
@@ -103,16 +103,16 @@ pub record StandsFor (p : Places) (m : Attempt) (listed : List Element) (w : Wor
   pub variables : HoldVariables p m.variables w.fram w.locals
   pub emitted : HoldEmits p m.emitted w.fram
   pub list : HoldList p listed w.fram
-  pub readings : w.readings ≡ m.left
+  pub readings : w.inputs.readings ≡ m.left
 
 -- ---- effects
 
--- effects that take readings and make stores of this kind, by address and word, and send nothing
+-- effects that take readings and make stores of this kind, by address and word, and do nothing outside the board
 abbrev pub TakesAndStores : (ℕ → ℕ → Type 0) → List Effect → Type 0
 TakesAndStores P [] = Unit {0}
 TakesAndStores P (Store a w ∷ es) = P a w × TakesAndStores P es
 TakesAndStores P (Take r ∷ es) = TakesAndStores P es
-TakesAndStores P (Send n w ∷ es) = ⊥
+TakesAndStores P (Outside o ∷ es) = ⊥
 
 -- effects that take readings alone
 abbrev pub OnlyTakes : List Effect → Type 0
@@ -146,11 +146,11 @@ transition_effects p task entries base =
 
 -- the state with a value on top of the stack, and these readings left
 abbrev pub valued : WordState → ℕ × List ℕ → WordState
-valued w x = record w { stack = x.0 ∷ w.stack; readings = x.1 }
+valued w x = with_readings x.1 (record w { stack = x.0 ∷ w.stack })
 
 -- the same with a value as a long: its high word is on top
 abbrev pub long_valued : WordState → ℕ × List ℕ → WordState
-long_valued w x = record w { stack = x.0 / 65536 ∷ (x.0 % 65536 ∷ w.stack); readings = x.1 }
+long_valued w x = with_readings x.1 (record w { stack = x.0 / 65536 ∷ (x.0 % 65536 ∷ w.stack) })
 
 -- the end leaves the state that a value makes, or is short where there is none. A program that reads a local before it is assigned is
 -- broken, and then nothing is said
@@ -183,13 +183,13 @@ converted_to from to o = o >>? λ x. Some (converted from to x.0, x.1)
 abbrev pub ExpressionsAgree : Type 0
 ExpressionsAgree = (shared : List SharedDeclaration) (p : Places) (room : Room) (e : CheckedExpression) (m : Variables) (w : WordState)
     → AreApart p room → AreEven p → AsDeclared shared p → WellFormedExpression shared e → HoldVariables p m w.fram w.locals
-    → AgreesWithValue w (behaviour (lowered_expression p e) w) (converted_to (type_of e) Unsigned (value_of e m w.readings))
+    → AgreesWithValue w (behaviour (lowered_expression p e) w) (converted_to (type_of e) Unsigned (value_of e m w.inputs.readings))
 
 -- and the other its value as a long
 abbrev pub LongsAgree : Type 0
 LongsAgree = (shared : List SharedDeclaration) (p : Places) (room : Room) (e : CheckedExpression) (m : Variables) (w : WordState)
     → AreApart p room → AreEven p → AsDeclared shared p → WellFormedExpression shared e → HoldVariables p m w.fram w.locals
-    → AgreesWithLong w (behaviour (lowered_long p e) w) (converted_to (type_of e) Long (value_of e m w.readings))
+    → AgreesWithLong w (behaviour (lowered_long p e) w) (converted_to (type_of e) Long (value_of e m w.inputs.readings))
 
 -- a value as 1 where it isn't 0, else 0
 abbrev pub truth_value : ℕ × List ℕ → Option (ℕ × List ℕ)
@@ -203,7 +203,7 @@ truth_of o = o >>? truth_value
 abbrev pub TestsAgree : Type 0
 TestsAgree = (shared : List SharedDeclaration) (p : Places) (room : Room) (e : CheckedExpression) (m : Variables) (w : WordState)
     → AreApart p room → AreEven p → AsDeclared shared p → WellFormedExpression shared e → HoldVariables p m w.fram w.locals
-    → AgreesWithValue w (behaviour (one (truth (lowered_test p e))) w) (truth_of (value_of e m w.readings))
+    → AgreesWithValue w (behaviour (one (truth (lowered_test p e))) w) (truth_of (value_of e m w.inputs.readings))
 
 -- ---- statements
 
@@ -259,7 +259,7 @@ pub record Left (p : Places) (b : Bounds) (es : List Effect) (to : ℕ) (s : Wor
   pub stands : StandsFor p m listed there
   pub few : (v : ℕ) → listed_of v listed ≤ b.most v
   pub commits : to ≡ p.map.commit.address
-  pub readings : s.readings ≡ m.left
+  pub readings : s.inputs.readings ≡ m.left
 
 -- the end is as the outcome has it
 abbrev pub EndsAs : Places → Bounds → List ℕ → List Effect → End → Outcome → Type 0

@@ -57,7 +57,7 @@ use Rattle.layout_facts.specs.memory_map.Spots.{scalar_address, private_words, I
 use Rattle.layout_facts.specs.memory_map.Spots.{element, copy, spot_address, element_address, copy_address, IsWordOf}
 
 module _ (run : Started) where
-  open run use {program as p, map as l, given, state as s, is_task, task as i, world as x, readings, start as st}
+  open run use {program as p, map as l, given, state as s, is_task, task as i, world as x, inputs, start as st}
   open (scene run) use {here, code, space, facts, sites, view, ver}
 
   -- what its statements stand in
