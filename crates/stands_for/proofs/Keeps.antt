@@ -154,8 +154,7 @@ module _ {St : Type 0} (l : ProgramPlaces) (apart : AreApart l.map) (room : Have
     -- CUR becomes the next task
     pub cur_keeps : (k : ℕ) (x : World) (w : ℕ) → w < 0x10000 → w ≡ v.task next → So k x → So k (world_after_one (Store (word_place l.map CurrentTask) w) x)
     cur_keeps k x w small e0 d =
-        let f = x.fram in let a = word_place l.map CurrentTask in
-        (
+        let f = x.fram in let a = word_place l.map CurrentTask in (
           keeps_sends k k x (world_after_one (Store a w) x) (put_words f a w d.0.words small) (λ b n c e. put_other f a w b c)
               (inr (put_same f a w ∙ e0)) (inl (put_other f a w (word_place l.map Base) (λ e. omega (arith, apart, e))))
               (same_accepted k x (put f a w) d.0) d.0,
@@ -166,8 +165,7 @@ module _ {St : Type 0} (l : ProgramPlaces) (apart : AreApart l.map) (room : Have
     pub base_keeps : (k : ℕ) (x : World) (w : ℕ) → w < 0x10000 → w ≡ next_base l.map x.fram → So k x
         → So k (world_after_one (Store (word_place l.map Base) w) x)
     base_keeps k x w small e0 d =
-        let f = x.fram in let a = word_place l.map Base in
-        (
+        let f = x.fram in let a = word_place l.map Base in (
           keeps_sends k k x (world_after_one (Store a w) x) (put_words f a w d.0.words small) (λ b n c e. put_other f a w b e)
               (inl (put_other f a w (word_place l.map CurrentTask) (λ e. omega (arith, apart, e)))) (inr (put_same f a w ∙ e0))
               (same_accepted k x (put f a w) d.0) d.0,
@@ -181,8 +179,7 @@ module _ {St : Type 0} (l : ProgramPlaces) (apart : AreApart l.map) (room : Have
     pub send_keeps : (i n w : ℕ) (x : World) → i < length es → n ≡ (length (v.emitted s) + i) % 0x10000 → w ≡ slice_index es i → So i x
         → So (suc i) (world_after_one (Outside (Offered n w)) x)
     send_keeps i n w x h num ew d =
-        let y = world_after_one (Outside (Offered n w)) x in
-        (
+        let y = world_after_one (Outside (Offered n w)) x in (
           keeps_sends i (suc i) x y d.0.words (λ a q c e. refl) (inl refl) (inl refl) (accepted_sent i n w x h num ew d.0) d.0,
           bears i x y d.0 (λ a c e. refl) d.1,
         )
