@@ -4,7 +4,6 @@ use Rattle.compiled_model.specs.fram_board.Board.{BoardValue}
 use Rattle.compiled_model.specs.fram_board.Run.{BoardCharge, Moment, RunOutcome}
 use Rattle.compiled_model.specs.machine_effects.World.{World, EachStore}
 use Rattle.compiled_model.specs.machine_effects.Inputs.{Inputs, InputsAreWords}
-use Rattle.compiled_model.specs.machine_effects.Machine.{fram_of}
 use Rattle.compiled_model.specs.machine_effects.Runs.{last_board}
 use Rattle.compiled_model.specs.cost_bound.declared.allowance.Allow.{Allow}
 use Rattle.compiled_model.specs.cost_bound.Allowance.{CheckedProgram, IsAllowed, bound_of}
@@ -17,6 +16,7 @@ use Rattle.compiled_model.specs.privatise.Layouts.{IsLayout}
 use Rattle.compiled_model.specs.crash_rules.Model.{bound}
 use Rattle.compiled_model.specs.crash_rules.Runs.{Program}
 use Rattle.compiled_model.specs.crash_rules.Laws.{Origin}
+use Rattle.model_runs.specs.run_charges.View.{outside_of}
 use Rattle.model_runs.specs.run_charges.Laws.{IsRunOfWords}
 use Rattle.compiled_model.specs.memory_map.Laws.{AreApart}
 use Rattle.compiled_model.specs.stands_for.StandsFor.{UndecidedAt}
@@ -57,4 +57,4 @@ abbrev pub CapacitiesAreKept : Program → Type 0
 CapacitiesAreKept c = (p : CheckedProgram) (l : MemoryMap) → AreApart l → AttemptsFit p l
     → (readings : List ℕ) (origin : Origin State) (x : World) (cs : List BoardCharge) (b : BoardValue) (r : RunOutcome)
     → IsRunOfWords cs b r → BearsModel (compiled_model p l) c readings origin x b → KeepsCapacities l x.fram
-    → (ms rest : List Moment) → r.moments ≡ ms ++ rest → KeepsCapacities l (fram_of (last_board b ms).fram)
+    → (ms rest : List Moment) → r.moments ≡ ms ++ rest → KeepsCapacities l (outside_of (last_board b ms)).fram

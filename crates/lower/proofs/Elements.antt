@@ -25,7 +25,7 @@ use Rattle.memory_map.proofs.Interface.{word_even}
 use Rattle.memory_map.specs.Spots.{Places, private_words, IsArrayAt, Element, IsCopied, element, copy, version, element_address, copy_address, version_address}
 use Rattle.lower.specs.Lowered.{array_place, list_place}
 use Rattle.lower.specs.Spots.{listed_of}
-use Rattle.lower.specs.Agreement.{own_word, element_pair, at_copy, at_version, HoldVariables, StandsFor, WentOn}
+use Rattle.lower.specs.Agreement.{own_word, element_pair, at_copy, at_version, HoldVariables, StandsFor, Scene, bounds, WentOn}
 use Rattle.lower.proofs.Addresses.{fram_place, spot_place, element_is, copy_is, version_is, has_element}
 use Rattle.lower.proofs.Stored.{word_past, set_holds, same_list, same_emits, spot_emits}
 use Rattle.lower.proofs.Lists.{HasNext, lists_word}
@@ -33,7 +33,7 @@ use Rattle.runtime_effects.specs.Places.{CopyPair}
 use Rattle.lower.proofs.Versioned.{stores_again, stores_first, stores_nothing, update_stores, updates_nothing}
 use Rattle.lower.proofs.Versioned.{element_set, again_stored, again_list, after_mark, mark_keeps_pairs}
 use Rattle.lower.proofs.Versioned.{mark_keeps_words, elements_have_next, first_stored_at, first_emits, first_list, pushed_of, push_listed}
-use Rattle.lower.proofs.Ends.{Scene, bounds, Does}
+use Rattle.lower.proofs.Ends.{Does}
 
 -- what is asked where statements begin that emit and list so much: the state stands for the attempt, and there is room
 pub record Begins (z : Scene) (m : Attempt) (listed : List Element) (w : WordState) (emitting : ℕ) (count most : ℕ → ℕ) : Type 0 where

@@ -12,27 +12,11 @@ use Rattle.array_versions.specs.Behaviour.{WordState, End, GoesOn, Jumps, Short,
 use Rattle.array_versions.specs.Laws.{EndsByEffects}
 use Rattle.array_versions.proofs.Interface.{behaves_by_effects}
 use Rattle.memory_map.specs.Spots.{Places, Element, scalar, copy, version}
-use Rattle.lower.specs.Spots.{Room, AreApart, AreEven, listed_of, HasRoom}
+use Rattle.lower.specs.Spots.{Room, AreApart, listed_of}
 use Rattle.lower.specs.Agreement.{TakesAndStores, OnlyTakes, IsTaskStore, at_variable, at_copy, at_version, in_list, at_list_length, at_emit_count, in_buffer}
-use Rattle.lower.specs.Agreement.{StandsFor, valued, EndsAt, AgreesAt, AgreesWithValue, Bounds, Left, EndsAs, Agrees}
+use Rattle.lower.specs.Agreement.{StandsFor, valued, EndsAt, AgreesAt, AgreesWithValue, Scene, bounds, Left, EndsAs, Agrees}
 use Rattle.lower.proofs.Values.{takes_append, only_takes}
 use Rattle.lower.proofs.Emitted.{EmitsAtMost}
-
--- the task that statements stand in: its places, apart and even, with room for so many stores to each array, the scalars that it
--- writes, and VER
-pub record Scene : Type 0 where
-  pub p : Places
-  pub written : ℕ → Bool
-  pub room : Room
-  pub stores : ℕ → ℕ
-  pub ver : ℕ
-  pub apart : AreApart p room
-  pub even : AreEven p
-  pub has_room : HasRoom p stores room
-
--- the bounds of statements from this FRAM on, which may list so many elements
-abbrev pub bounds : Scene → (ℕ → ℕ) → (ℕ → ℕ) → Bounds
-bounds z start most = record { start = start; written = z.written; room = z.room; ver = z.ver; most = most }
 
 abbrev pub Stores : Scene → List Effect → Type 0
 Stores z = TakesAndStores (IsTaskStore z.p z.written z.room z.ver)

@@ -29,7 +29,7 @@ use Rattle.task_attempts.proofs.Tasks.{body_is, program_is}
 use Rattle.task_attempts.proofs.Stores.{Safe, StoresOf, task_safe, emits_fit}
 use Rattle.task_attempts.proofs.Starts.{held_attempt, held_runs, attempt_stands}
 use Rattle.task_attempts.proofs.Started.{Started, scene}
-use Rattle.task_attempts.proofs.Decided.{bounds, Transition, before, effects_are, safe_before, quiet_before, quiet_start, quiet_of, next, decided}
+use Rattle.task_attempts.proofs.Decided.{setting, bounds, Transition, before, effects_are, safe_before, quiet_before, quiet_start, quiet_of, next, decided}
 use Rattle.layout_facts.specs.memory_map.declared.words.RuntimeWord.TheVariants.{Gate}
 use Rattle.layout_facts.specs.memory_map.MemoryMap.{word_place}
 
@@ -178,8 +178,7 @@ module _ (run : Started) where
       record {
         -- the program agrees with the attempt from what FRAM has, which comes to what the source's attempt comes to
         agrees = subst (EndsAs here (bounds run) [] b.effects b.end) (held_runs run)
-            (agree here (some_path_writes code) space (λ v. stores_of v code) code (held_attempt run) [] w
-            facts.apart facts.even facts.has_room facts.fits (attempt_stands run)
+            (agree (setting run) code (held_attempt run) [] w refl facts.formed (λ v h. h) (attempt_stands run)
             (let f = few_emits in omega (arith, f)) (λ v. omega arith));
         by_effects = behaves_by_effects program w;
         sound = whole_ends_soundly program x.fram inputs facts.whole;
