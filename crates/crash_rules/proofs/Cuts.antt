@@ -237,6 +237,20 @@ module _ {St : Type 0} (given : Setting St) where
     pub lawful : IsLawful m readings origin k
     pub spans : Spans h k
 
+  -- effects that store nothing to GATE are part of a script that goes on, and no done
+  quiet_cut : (s : St) (h : History) (es : List Effect) → EachStore (IsElsewhere m.marks.gate) es → IsTold h → MayGoOn h es
+      → Reaches m readings origin h.completed s → Phase m readings origin s (with_effects es h) → Cut h (observe m.marks es h)
+  quiet_cut s h es q told go reached phase =
+      let is = observe_quiet m.marks es h q in
+      record {
+        lawful = (quiet_part s h es q told go reached phase).lawful;
+        spans = record {
+          dones = [];
+          completed = ap (λ k. k.completed) is ∙ sym (append-nil h.completed);
+          follow = λ z. sym (ap (λ k. k.since) is);
+        };
+      }
+
   part_grows : (h v k : History) → v.completed ≡ h.completed → v.since ≡ h.since → v.span_from ≡ h.since → v.span_to ≡ v.taken → Grows v k → Spans h k
   part_grows h v k c s f t (Stayed a b) = record { dones = []; completed = a ∙ c ∙ sym (append-nil h.completed); follow = λ z. sym (b ∙ s) }
   part_grows h v k c s f t (Finished a b) = record {
@@ -342,22 +356,8 @@ module _ {St : Type 0} (given : Setting St) where
     -- up to it
     before_gate : (es : List Effect) → IsPrefix es c.before → MayGoOn h es → Cut h (observe m.marks es h)
     before_gate es p go =
-        let k = quiet_part s h es (each_prefix (IsElsewhere m.marks.gate) es c.before p c.elsewhere) (point_lawful h pt).world go u.reached
-        (UndecidedPhase u.undecided u.settled (holds_prefix (m.Undecided s) es c.before h.world p c.undecided)) in
-        cut_quiet es (each_prefix (IsElsewhere m.marks.gate) es c.before p c.elsewhere) k.lawful
-      where
-        cut_quiet : (es : List Effect) → EachStore (IsElsewhere m.marks.gate) es → IsLawful m readings origin (observe m.marks es h) → Cut h (observe m.marks es h)
-        cut_quiet es q l =
-            let is = observe_quiet m.marks es h q in
-            record {
-              lawful = l;
-              spans = record {
-                dones = [];
-                completed = ap (λ k. k.completed) is
-                    ∙ sym (append-nil h.completed);
-                follow = λ z. sym (ap (λ k. k.since) is);
-              };
-            }
+        quiet_cut s h es (each_prefix (IsElsewhere m.marks.gate) es c.before p c.elsewhere) (point_lawful h pt).world go u.reached
+        (UndecidedPhase u.undecided u.settled (holds_prefix (m.Undecided s) es c.before h.world p c.undecided))
 
     decides_part : (es : List Effect) → IsPrefix es (with_commit m h.world.fram (inputs_at h) r).effects → MayGoOn h es → Cut h (observe m.marks es h)
     decides_part es p0 go =
@@ -401,19 +401,8 @@ module _ {St : Type 0} (given : Setting St) where
   short_part : (h : History) (u : AtUndecided h) (r : ProgramEffects) (es : List Effect) → RunsShort m u.state h.world r → IsPrefix es r.effects
       → MayGoOn h es → Cut h (observe m.marks es h)
   short_part h u r es c p go =
-      let q = each_prefix (IsElsewhere m.marks.gate) es r.effects p c.elsewhere in
-      let k = quiet_part u.state h es q (point_lawful h u.point).world go u.reached
-      (UndecidedPhase u.undecided u.settled (holds_prefix (m.Undecided u.state) es r.effects h.world p c.undecided)) in
-      let is = observe_quiet m.marks es h q in
-      record {
-        lawful = k.lawful;
-        spans = record {
-          dones = [];
-          completed = ap (λ k. k.completed) is
-              ∙ sym (append-nil h.completed);
-          follow = λ z. sym (ap (λ k. k.since) is);
-        };
-      }
+      quiet_cut u.state h es (each_prefix (IsElsewhere m.marks.gate) es r.effects p c.elsewhere) (point_lawful h u.point).world go u.reached
+      (UndecidedPhase u.undecided u.settled (holds_prefix (m.Undecided u.state) es r.effects h.world p c.undecided))
 
   attempt_part : (h : History) (u : AtUndecided h) (es : List Effect) (a : Outcome St) (r : ProgramEffects)
       → AttemptContract m u.state (inputs_at h) h.world a r → IsPrefix es (with_commit m h.world.fram (inputs_at h) r).effects → MayGoOn h es
