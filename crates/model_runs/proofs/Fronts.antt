@@ -1,5 +1,5 @@
 -- Fronts of a run whose code is a program of a model.
-use Rattle.std.proofs.Common.{refl, List}
+use Rattle.std.proofs.Common.{ℕ, refl, List}
 use Rattle.crash_rules.specs.fram_board.Board.{BoardValue}
 use Rattle.crash_rules.specs.fram_board.Run.{Moment}
 use Rattle.crash_rules.specs.machine_effects.World.{World}

@@ -37,7 +37,7 @@ pub record Together (m : MapValue) (x : World) (b : BoardValue) (h : board.Histo
   pub tells : TellsOf b k
 
 -- and as the next moment begins
-together_on : (m : MapValue) (x : World) (b c : BoardValue) (h : board.History) (k : History) → Follows b c → Together m x b h k → Together m x c h k
+pub together_on : (m : MapValue) (x : World) (b c : BoardValue) (h : board.History) (k : History) → Follows b c → Together m x b h k → Together m x c h k
 together_on m x b c h k follows t =
     let keeps = follows_keeps b c follows in
     record {

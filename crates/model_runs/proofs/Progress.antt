@@ -1,15 +1,15 @@
 -- Each charge that is spent has as many dones as it has bounds.
-use Rattle.std.proofs.Common.{◌≡◌, ◌+◌, ◌≤◌, ℕ, refl, subst, List, [], ◌∷◌, length}
+use Rattle.std.proofs.Common.{◌+◌, ◌≤◌, ℕ, refl, subst, List, [], length}
 use Rattle.crash_rules.specs.fram_board.Board.{BoardValue, powered}
 use Rattle.crash_rules.specs.fram_board.Steps.{IsPowerState}
-use Rattle.crash_rules.specs.fram_board.Run.{Moment, Charges, RunOutcome, run_outcome, BoardCharge, ChargeRun, Run, Over, Next, Last, power_up_of}
+use Rattle.crash_rules.specs.fram_board.Run.{Moment, Charges, RunOutcome, run_outcome, BoardCharge, ChargeRun, Run, Over, Next, Last}
 use Rattle.crash_rules.specs.machine_effects.World.{World}
 use Rattle.crash_rules.specs.Model.{Model, bound}
 use Rattle.crash_rules.specs.History.{History, behind_boot, first_history}
 use Rattle.crash_rules.specs.Runs.{Program}
 use Rattle.crash_rules.specs.Laws.{Origin}
 use Rattle.crash_rules.proofs.Interface.{progress_law}
-use Rattle.run_charges.specs.View.{outside_of, IsFront}
+use Rattle.run_charges.specs.View.{outside_of}
 use Rattle.run_charges.specs.Charges.{ArePowerStates, observed}
 use Rattle.run_charges.proofs.Interface.{PlacedProgram, run_front, first_start, other_starts, begun, is_powered, same_fram, same_readings, spent_seen, spent_reached, is_spent}
 use Rattle.model_runs.specs.Runs.{BearsModel, PaysFor, Progresses, AllSpent, SpentOne, StoppedIn}

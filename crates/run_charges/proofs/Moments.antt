@@ -10,7 +10,7 @@ use Rattle.crash_rules.specs.msp_step.Step.{effect, execution, Executed}
 use Rattle.crash_rules.specs.fram_board.declared.board.Stepped.{Stepped}
 use Rattle.crash_rules.specs.fram_board.declared.receiver.Receiver.{Receiver}
 use Rattle.crash_rules.specs.fram_board.Bus.{board_bus, is_fram, data_port}
-use Rattle.crash_rules.specs.fram_board.Board.{BoardValue, PowerState, powered, opened, executed, IsNextInstruction, IsStep, is_accepted, next_number}
+use Rattle.crash_rules.specs.fram_board.Board.{BoardValue, powered, opened, executed, IsNextInstruction, IsStep, is_accepted, next_number}
 use Rattle.crash_rules.specs.fram_board.Board.{offered_to}
 use Rattle.crash_rules.specs.fram_board.Saved.{TakesNextBehind}
 use Rattle.crash_rules.specs.fram_board.Steps.{IsPowerState}

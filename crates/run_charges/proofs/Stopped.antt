@@ -14,7 +14,7 @@ use Rattle.crash_rules.proofs.machine_effects.Interface.{power_up_keeps_words, c
 use Rattle.crash_rules.specs.Model.{IsElsewhere}
 use Rattle.crash_rules.specs.History.{History, observe, behind_boot}
 use Rattle.crash_rules.proofs.Interface.{observe-append, observe_quiet, with_effects}
-use Rattle.run_charges.specs.View.{outside_of, IsFront}
+use Rattle.run_charges.specs.View.{outside_of}
 use Rattle.run_charges.specs.Charges.{ArePowerStates, AreInstructionMoments, observed}
 use Rattle.run_charges.specs.Laws.{IsRunOfWords}
 use Rattle.run_charges.proofs.Moments.{first_start, other_starts, charge_last}
