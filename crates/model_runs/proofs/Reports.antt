@@ -17,7 +17,7 @@ use Rattle.crash_rules.specs.machine_effects.Runs.{last_board}
 use Rattle.crash_rules.specs.History.{first_history}
 use Rattle.run_charges.specs.Charges.{observed}
 use Rattle.run_charges.specs.Laws.{IsRunOfWords}
-use Rattle.model_runs.specs.Events.{counted, dones_lines}
+use Rattle.model_runs.specs.Events.{marks_of, counted, dones_lines}
 use Rattle.model_runs.specs.EventLaws.{StartsWith, LinesAreOfDones, ReportIsOfDones, FewWordsHaveLines}
 use Rattle.run_charges.proofs.Interface.{front_moments}
 use Rattle.model_runs.proofs.Histories.{Together, Leads, moments_lead, first_histories_are_the_same}
@@ -25,14 +25,14 @@ use Rattle.model_runs.proofs.Histories.{Together, Leads, moments_lead, first_his
 -- a front of a run from its first histories on
 first_lead : (cs : List BoardCharge) (b : BoardValue) (r : RunOutcome) (ms rest : List Moment) → IsRunOfWords cs b r → r.moments ≡ ms ++ rest
     → (m : MapValue) (x : World) → IsMap m → StartsWith b x → (end : BoardValue)
-    × Leads m x end (after_all (start_with b.fram (Some m)) ms) (first_history m.words.gate x) (observed m.words.gate ms (first_history m.words.gate x))
+    × Leads m x end (after_all (start_with b.fram (Some m)) ms) (first_history (marks_of m) x) (observed (marks_of m) ms (first_history (marks_of m) x))
     (lines_from (start_with b.fram (Some m)) ms)
 first_lead cs b r ms rest run e m x ok s =
     let begun = first_histories_are_the_same b m x ok s in
-    let t : Together m x b (start_with b.fram (Some m)) (first_history m.words.gate x) =
+    let t : Together m x b (start_with b.fram (Some m)) (first_history (marks_of m) x) =
     record { whole = run.whole; words = run.words; same = begun.0; tells = begun.1 } in (
       last_board b ms,
-      moments_lead m x ok b (start_with b.fram (Some m)) (first_history m.words.gate x) ms t
+      moments_lead m x ok b (start_with b.fram (Some m)) (first_history (marks_of m) x) ms t
           (front_moments cs b r ms rest run.starts run.run e),
     )
 

@@ -9,8 +9,13 @@ use Rattle.crash_rules.specs.fram_board.Saved.{TakesNextBehind}
 use Rattle.board_run.specs.History.{SharedNumber, number_of, shared_numbers, task_name, changed_line, more_lines}
 use Rattle.board_run.specs.History as board
 use Rattle.crash_rules.specs.machine_effects.World.{World}
+use Rattle.crash_rules.specs.Model.{Marks}
 use Rattle.crash_rules.specs.History.{Done, History}
 use Rattle.run_charges.specs.View.{outside_of}
+
+-- what happens in a run is told by the words that a map names
+abbrev pub marks_of : MapValue → Marks
+marks_of m = record { gate = m.words.gate }
 
 -- a history tells of this board: its FRAM, the word that its receiver takes next, how many readings were taken
 pub record TellsOf (b : BoardValue) (k : History) : Type 0 where

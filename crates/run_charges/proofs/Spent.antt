@@ -107,29 +107,29 @@ module _ (on : PlacedProgram) (b : BoardValue) (h : History) (ready : Ready on b
       (charge_moments d.measure d.amount (powered b d.start) (run_outcome ms Charges end) one) are
 
   -- the program's effects are those that the moments tell
-  pub spent_seen : observe on.gate (going step n p).effects (behind_boot h) ≡ observed on.gate ms (behind_boot h)
+  pub spent_seen : observe on.marks (going step n p).effects (behind_boot h) ≡ observed on.marks ms (behind_boot h)
   spent_seen = seen on b h ready d.start ok ms are reach
 
   -- the board behind it is ready
-  spent_ready : Ready on end (observed on.gate ms (behind_boot h))
+  spent_ready : Ready on end (observed on.marks ms (behind_boot h))
   spent_ready =
-      let P : BoardValue → Type 0 = λ t. Ready on t (observed on.gate ms (behind_boot h)) in
+      let P : BoardValue → Type 0 = λ t. Ready on t (observed on.marks ms (behind_boot h)) in
       subst P (charge_last d.measure d.amount (powered b d.start) (run_outcome ms Charges end) one refl)
       (ready_behind on b h ready d.start ok ms are reach)
 
   -- charges lead to it where charges lead to the board before
   pub spent_reached : (first : BoardValue) (begun : History) (charges : List Charge)
-      → Charged on.program on.gate (outside_of first) begun charges (outside_of b) h
-      → Reached on first begun end (observed on.gate ms (behind_boot h))
+      → Charged on.program on.marks (outside_of first) begun charges (outside_of b) h
+      → Reached on first begun end (observed on.marks ms (behind_boot h))
   spent_reached first begun charges charged =
       let own : Charge = record { powered = p; steps = n } in
-      let k = observed on.gate ms (behind_boot h) in
-      let P : BoardValue → Type 0 = λ t. Charged on.program on.gate (outside_of b) h (own ∷ []) (outside_of t) k in
+      let k = observed on.marks ms (behind_boot h) in
+      let P : BoardValue → Type 0 = λ t. Charged on.program on.marks (outside_of b) h (own ∷ []) (outside_of t) k in
       let once = subst P (charge_last d.measure d.amount (powered b d.start) (run_outcome ms Charges end) one refl)
       (charged_once on b h ready d.start ok ms are reach) in
       record {
         charges = charges ++ own ∷ [];
-        charged = charged_join on.program on.gate charges (own ∷ []) (outside_of first) (outside_of b) q begun h k charged once;
+        charged = charged_join on.program on.marks charges (own ∷ []) (outside_of first) (outside_of b) q begun h k charged once;
         ready = spent_ready;
       }
 

@@ -14,7 +14,7 @@ use Rattle.crash_rules.specs.machine_effects.Machine.{MachineBoard, MachineStret
 use Rattle.crash_rules.specs.machine_effects.View.{IsMachineOfWords}
 use Rattle.crash_rules.specs.machine_effects.Runs.{SpendsAs, StopsAs, ReachesAs, last_board}
 use Rattle.code_forms.specs.Placed.{placed, words_of, AreInstructions, LeavesCode}
-use Rattle.crash_rules.specs.Model.{IsElsewhere}
+use Rattle.crash_rules.specs.Model.{IsElsewhere, Marks}
 use Rattle.crash_rules.specs.History.{History, observe, behind_boot}
 use Rattle.crash_rules.specs.Runs.{Program, Charge, Charged}
 use Rattle.run_charges.specs.View.{outside_of, outside_effects, Follows}
@@ -79,19 +79,19 @@ pub data RunsAsMachine : List BoardCharge → BoardValue → RunOutcome → Type
       → StopsAs c.measure c.amount (powered b c.start) (run_outcome ms (Stopped stop) end) stop
       → RunsAsMachine (c ∷ cs) b (run_outcome (power_up_of b c.start ∷ ms) (Stopped stop) end)
 
--- the history behind an action with these effects, where GATE is at this address: behind a boot, or behind the effects of an instruction
-abbrev pub behind_action : ℕ → Action → List Effect → History → History
-behind_action gate PowerUp es k = behind_boot k
-behind_action gate (Execute done offered) es k = observe gate es k
+-- the history behind an action with these effects, by these marks: behind a boot, or behind the effects of an instruction
+abbrev pub behind_action : Marks → Action → List Effect → History → History
+behind_action marks PowerUp es k = behind_boot k
+behind_action marks (Execute done offered) es k = observe marks es k
 
 -- the history behind a moment
-abbrev pub behind_moment : ℕ → Moment → History → History
-behind_moment gate m k = behind_action gate m.action (outside_effects m) k
+abbrev pub behind_moment : Marks → Moment → History → History
+behind_moment marks m k = behind_action marks m.action (outside_effects m) k
 
 -- the history behind moments
-abbrev pub observed : ℕ → List Moment → History → History
-observed gate [] k = k
-observed gate (m ∷ ms) k = observed gate ms (behind_moment gate m k)
+abbrev pub observed : Marks → List Moment → History → History
+observed marks [] k = k
+observed marks (m ∷ ms) k = observed marks ms (behind_moment marks m k)
 
 -- charges as the crash theorem has them: the machine that a power-up left, and how many steps were made
 abbrev pub charges_of : List ChargeFront → List Charge
@@ -113,7 +113,7 @@ pub record LeavesProgram (p n : ℕ) (r : MachineStretch) : Type 0 where
   pub vector : EachStore (IsElsewhere reset_vector) r.effects
 
 -- wherever charges of a program lead, the steps of a further one are such
-abbrev pub AlwaysLeaves : Program → ℕ → ℕ → ℕ → MachineBoard → History → Type 0
-AlwaysLeaves c p n gate s h = (charges : List Charge) (t : MachineBoard) (k : History) → Charged c gate s h charges t k
-    → (q : MachineBoard) → c.IsPoweredUp q → q.fram ≡ t.fram → q.readings_left ≡ t.readings_left
+abbrev pub AlwaysLeaves : Program → ℕ → ℕ → Marks → MachineBoard → History → Type 0
+AlwaysLeaves c p n marks s h = (charges : List Charge) (t : MachineBoard) (k : History) → Charged c marks s h charges t k
+    → (q : MachineBoard) → c.IsPoweredUp q → q.fram ≡ t.fram → q.inputs.readings ≡ t.inputs.readings
     → (m : ℕ) → LeavesProgram p n (going c.step m q)
