@@ -34,7 +34,7 @@ module _ (p : CheckedProgram) (l : MemoryMap) (apart : AreApart l) where
   phase_versions : (readings : List ℕ) (origin : Origin State) (s : State) (h : History) → Phase (compiled_model p l) readings origin s h
       → VersionsWithin (program_places p l) h.world.fram
   phase_versions readings origin s h (UndecidedPhase u settled w) = w.is_open.versions
-  phase_versions readings origin s h (DecidedPhase next u t w) = w.decided.versions
+  phase_versions readings origin s h (DecidedPhase next u t w) = w.decided.sends.versions
   phase_versions readings origin s h (CommittingPhase u k n w) = w.pending.versions
 
 -- the counts of a compiled source keep to the capacities of its layout at each board of a run

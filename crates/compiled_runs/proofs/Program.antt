@@ -112,13 +112,13 @@ module _ (p : CheckedProgram) (l : MemoryMap) (r : CanRun p l) (laws : ModelLaws
 
   fits_commit : (s next : State) (x : World) → m.Decided s next x → FitsCommit s.task x.fram
   fits_commit s next x d =
-      let e = d.decided.emit_count in let k = d.decided.within_emits in
+      let e = d.decided.sends.emit_count in let k = d.decided.sends.within_emits in
       record {
         can = pending_can_commit (program_places p l) x r.apart (laws.decided_committing s next x d).pending;
-        list = d.decided.within_list;
-        words = d.decided.within_words;
+        list = d.decided.home.within_list;
+        words = d.decided.home.within_words;
         emits = omega (arith, e, k);
-        base = d.decided.words (word_place l SentBase);
+        base = d.decided.sends.words (word_place l SentBase);
       }
 
   -- a pending commit, from a boot on: the list and the words to send have room, and the bound has the cycles for all that has

@@ -1,6 +1,6 @@
 -- What is made from a boot or a done on, cut anywhere, keeps what a history stands for.
 use Rattle.std.proofs.Common.{◌≡◌, ℕ, ◌+◌, List, [], ◌∷◌, ◌++◌, length, drop, refl, sym, ap, ◌∙◌, subst, ⊎_elim, inl, inr, ◌⊎◌, arith, true, false, cond, ◌==◌}
-use Rattle.std.proofs.Common.{append_assoc, append-nil, All}
+use Rattle.std.proofs.Common.{append_assoc, append-nil, All, Bool}
 use Rattle.std.proofs.lemmas.List.Elements.{All-drop}
 use Rattle.machine_effects.specs.fram_board.Effects.{Effect, Store}
 use Rattle.machine_effects.specs.World.{World, world_after, fram_after, readings_taken, IsPrefix, EachStore}

@@ -19,7 +19,7 @@ use Rattle.boot_runtime.specs.runtime_effects.Stages.{is_at_end, start_effects, 
 use Rattle.boot_runtime.specs.runtime_effects.Needs.{CanCommit}
 use Rattle.boot_runtime.specs.runtime_code.Addresses.{start_address}
 use Rattle.boot_runtime.specs.runtime_code.Comes.{Comes, IsAt, Enters}
-use Rattle.boot_runtime.proofs.runtime_code.Interface.{comes_on, places_are_in_fram, opening_keeps_task}
+use Rattle.boot_runtime.proofs.runtime_code.Interface.{comes_on, known_at, places_are_in_fram, opening_keeps_task}
 use Rattle.boot_runtime.specs.Entries.{entry_of, task_entries}
 use Rattle.boot_runtime.specs.Listing.{TaskEntry, entry_at, privates_in, start_steps, start_cycles}
 use Rattle.boot_runtime.specs.Laws.{IsBoot}
@@ -113,7 +113,7 @@ module _ (l : MemoryMap) (programs : List Program) (fits : CodeFits l programs) 
       let k : v.fram (word_place l CurrentTask) < length tasks = subst (λ g. g (word_place l CurrentTask) < length tasks) (sym h.fram) named in
       let a : FromStart v v.fram v.inputs = start_is_made code l l.commit.address tasks l.boot.address v is_boot h.pc k
       (subst (λ g. g (word_place l Version) < 0x10000) (sym h.fram) word) in
-      subst (λ q. FromStart v f q) h.inputs (subst (λ g. FromStart v g v.inputs) h.fram a)
+      known_at (FromStart v) h a
 
   -- from where a board enters to the code of the task that CUR names
   pub to_task : (u : Core) (steps cycles : ℕ) → Comes code [] steps cycles u (IsAt start_at u.fram u.inputs)
@@ -180,7 +180,7 @@ module _ (l : MemoryMap) (programs : List Program) (fits : CodeFits l programs) 
       let a : DoesCommit v v.fram v.inputs = commit_is_made code l l.commit.address start_at v is_linked.tidy is_boot.places
       (omega (arith, c, d, k)) (omega (arith, even)) parts.commit h.pc (subst (CanCommit l) (sym h.fram) can)
       (subst (λ g. g (word_place l SentBase) < 0x10000) (sym h.fram) word) in
-      subst (λ q. DoesCommit v f q) h.inputs (subst (λ g. DoesCommit v g v.inputs) h.fram a)
+      known_at (DoesCommit v) h a
 
   -- from the boot to the commit, where GATE is 1
   pub to_commit : (u : Core) → u.pc ≡ l.boot.address → u.fram (word_place l Gate) ≡ 1 → CanCommit l u.fram
