@@ -40,6 +40,10 @@ pub record IsShort {St : Type 0} (m : Model St) (readings : List ℕ) (origin : 
   pub is_task : m.task_number state < m.tasks
   pub short : m.task state (inputs_from readings h.since) ≡ Short
 
+-- what the outside has ready delays no commit
+abbrev pub no_delay : Inputs → ℕ
+no_delay inputs = 0
+
 -- a charge of cycles has n dones at least where it has n bounds, and the cycles that its inputs may delay commits, if these are the
 -- histories before and behind it
 abbrev pub PaysFor : (bound delay : ℕ) → BoardCharge → History → History → Type 0

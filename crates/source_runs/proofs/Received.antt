@@ -25,7 +25,7 @@ use Rattle.model_runs.specs.run_charges.Charges.{observed}
 use Rattle.model_runs.specs.run_charges.Laws.{IsRunOfWords}
 use Rattle.model_runs.specs.run_charges.View.{IsMomentFrom, PowersUp, Instructs, AreMoments}
 use Rattle.model_runs.proofs.run_charges.Interface.{follows_keeps, charge_last, front_moments, Counts, moments_count}
-use Rattle.model_runs.specs.Events.{last_world}
+use Rattle.model_runs.specs.Events.{marks_of, last_world}
 use Rattle.model_runs.specs.EventLaws.{StartsWith}
 use Rattle.model_runs.proofs.Interface.{Together, moments_lead, first_histories_are_the_same}
 use Rattle.model_runs.specs.board_run.History.{start_with}
@@ -108,20 +108,20 @@ words_counted b (m ∷ ms) all =
 -- so it accepted what the transitions emitted
 pub words_are_received : (m : MapValue) (x : World) (cs : List BoardCharge) (b : BoardValue) (r : RunOutcome) (s : State) (ts : List Transition)
     → IsMap m → StartsWith b x → IsRunOfWords cs b r → HasWordsOf m x s
-    → StandForTransitions m s (observed m.words.gate r.moments (first_history m.words.gate x)).completed ts → words_in ts ≤ r.board.receiver.accepted
+    → StandForTransitions m s (observed (marks_of m) r.moments (first_history (marks_of m) x)).completed ts → words_in ts ≤ r.board.receiver.accepted
 words_are_received m x cs b r s ts ok starts run here stand =
     let begun = first_histories_are_the_same b m x ok starts in
-    let k = first_history m.words.gate x in
+    let k = first_history (marks_of m) x in
     let t : Together m x b (start_with b.fram (Some m)) k = record { whole = run.whole; words = run.words; same = begun.0; tells = begun.1 } in
     let moments = front_moments cs b r r.moments [] run.starts run.run (sym (append-nil r.moments)) in
     let end = (moments_lead m x ok b (start_with b.fram (Some m)) k r.moments t moments).together in
-    let done = (observed m.words.gate r.moments k).completed in
+    let done = (observed (marks_of m) r.moments k).completed in
     let words = words_at_last m x s done ts here stand in
     let all = ap length end.same.alike.words_are in
     let both = length-append (last_world x done).accepted end.same.alike.words in
     let first : Counts b k x.accepted =
     record { whole = run.whole; words = run.words; accepted = refl; count = starts.accepted; taken = sym starts.taken } in
-    let heard = ap length (moments_count m.words.gate b k x.accepted r.moments first moments).accepted in
+    let heard = ap length (moments_count (marks_of m) b k x.accepted r.moments first moments).accepted in
     let begin = ap length here.accepted in
     let told = length-append x.accepted (accepted_words r.moments) in
     let count = words_counted b r.moments moments in

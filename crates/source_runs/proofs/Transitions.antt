@@ -15,7 +15,7 @@ use Rattle.source_report.specs.source_values.Runs.{exactly, transition_of, sourc
 use Rattle.source_report.proofs.source_values.Interface.{EmitsUpTo, block_up_to}
 use Rattle.source_report.specs.SourceReport.{readings_of}
 use Rattle.model_runs.specs.crash_rules.Model.{Model}
-use Rattle.model_runs.specs.crash_rules.History.{Done, done_readings}
+use Rattle.model_runs.specs.crash_rules.History.{Done, done_readings, done_inputs}
 use Rattle.model_runs.specs.crash_rules.Laws.{SourceRun}
 use Rattle.source_runs.specs.Transitions.{StandForTransitions, committed_by}
 use Rattle.source_runs.specs.Sources.{IsOfSource}
@@ -74,7 +74,7 @@ module _ (text : List ℕ) (program : CheckedProgram) (m : MapValue) (model : Mo
   tells readings s u [] run = record { transitions = []; source = refl; stand = tt; end = run }
   tells readings s u (d ∷ ds) run =
       let next = run.0 in
-      let k = is.transits s next (done_readings readings d) run.1 in
+      let k = is.transits s next (done_inputs readings d) run.1 in
       let t = k.0 in
       let P : State → Type 0 = λ y. SourceRun model readings y ds u in
       let Q : State → Type 0 = λ y. model.Rests y d.world in
