@@ -38,7 +38,7 @@ use Rattle.image_reports.specs.image_laws.Compiled.{IsCompiled}
 use Rattle.image_reports.specs.image_laws.Laws.{IsFreshImage}
 use Rattle.image_reports.proofs.image_laws.Interface.{laid_out, images_are_fresh}
 use Rattle.image_reports.proofs.image_laws.compiled_runs.Interface.{code_is_placed}
-use Rattle.image_reports.specs.ImageLaw.{KeepsCode}
+use Rattle.image_reports.specs.ImageLaw.{runtime_marks, KeepsCode}
 use Rattle.image_reports.specs.Resumed.{BelongsTo, known_from, IsToldOnward, IsResumedRun}
 use Rattle.image_reports.proofs.Interface.{made, images_belong, of_words, images_resume}
 use Rattle.compiled_states.specs.Worlds.{world_of, MayHaveAccepted, HasFramWords, HasCodeWords, board_of, LeavesItsStates}

@@ -25,7 +25,7 @@ use Rattle.compiled_laws.proofs.Interface.{sources_are_ready}
 use Rattle.image_laws.specs.Compiled.{IsCompiled}
 use Rattle.image_laws.specs.Laws.{fresh_world, IsFreshImage}
 use Rattle.image_laws.proofs.Interface.{laid_out, images_are_fresh}
-use Rattle.image_reports.specs.ImageLaw.{known_behind, KeepsCode, HoldsAt, ImagesKeepTheLaws}
+use Rattle.image_reports.specs.ImageLaw.{runtime_marks, known_behind, KeepsCode, HoldsAt, ImagesKeepTheLaws}
 use Rattle.image_reports.specs.Resumed.{BelongsTo, HoldsFrom, ImagesBelong}
 use Rattle.image_reports.proofs.Begins.{run_of_states}
 use Rattle.image_reports.proofs.Capacities.{at_first}

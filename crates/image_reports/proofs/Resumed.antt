@@ -30,7 +30,7 @@ use Rattle.image_laws.specs.run_charges.Charges.{ArePowerStates}
 use Rattle.image_laws.specs.run_charges.Laws.{IsRunOfWords}
 use Rattle.image_laws.specs.model_runs.Runs.{BearsModel, all_amounts}
 use Rattle.image_laws.proofs.model_runs.Interface.{stops_where_short}
-use Rattle.image_laws.specs.stands_for.StandsFor.{IsSound, SoundAtRest, SoundPending, IsPendingCommit}
+use Rattle.image_laws.specs.stands_for.StandsFor.{IsSound, SoundAtRest, SoundPending, IsAtRest, IsPendingCommit}
 use Rattle.image_laws.proofs.stands_for.Interface.{unsent_are_few}
 use Rattle.image_laws.specs.compiled_model.Places.{program_places}
 use Rattle.image_laws.specs.compiled_model.View.{state_in, state_left}
@@ -41,6 +41,7 @@ use Rattle.compiled_laws.proofs.Interface.{sources_are_ready}
 use Rattle.image_laws.specs.Compiled.{IsCompiled}
 use Rattle.image_laws.specs.Laws.{HasStates}
 use Rattle.image_laws.proofs.Interface.{laid_out, maps_find_states, worlds_stand}
+use Rattle.image_reports.specs.ImageLaw.{runtime_marks}
 use Rattle.image_reports.specs.Sources.{IsSourcesMap}
 use Rattle.image_reports.specs.Resumed.{BelongsTo, origin_of, pending_transition, IsToldOnward, ToldAtRest, ToldPending, ImagesResume}
 use Rattle.image_reports.proofs.CompiledTold.{models_are_of_sources}
