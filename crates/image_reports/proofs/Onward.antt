@@ -361,12 +361,18 @@ module _ (text : List ℕ) (p : CheckedProgram) (allow : Allow) (image : ImageVa
   RaisesFrom steps boot = (outside_of boot.after).fram (word_place l Gate) ≡ 0 → (outside_of boot.after).fram (word_place l Version) ≢ 0xFFFF
       → IsRaisedSoon l boot.after steps
 
-  raises_from : (t : BoardValue) (h : History) → IsReached t h → HoldsWords (outside_of t).fram → (steps first more : List Moment) → steps ≡ first ++ more
-      → length first ≡ 5 → AreInstructionMoments first → (boot : Moment) → boot.action ≡ PowerUp → IsMomentFrom t boot → AreMoments boot.after first
+  -- a board on which a charge begins
+  record BeginsCharge (t : BoardValue) : Type 0 where
+    pub history : History
+    pub at : IsReached t history
+    pub words : HoldsWords (outside_of t).fram
+
+  raises_from : (t : BoardValue) → BeginsCharge t → (steps first more : List Moment) → steps ≡ first ++ more → length first ≡ 5
+      → AreInstructionMoments first → (boot : Moment) → boot.action ≡ PowerUp → IsMomentFrom t boot → AreMoments boot.after first
       → RaisesFrom steps boot
-  raises_from t h at words steps first more cut five are boot up (Instructs i done current answer is) moments =
+  raises_from t from steps first more cut five are boot up (Instructs i done current answer is) moments =
       absurd (let other = sym up ∙ ap (λ y. y.action) is in cc (other))
-  raises_from t h at words steps first more cut five are boot up (PowersUp power powers is) moments =
+  raises_from t from steps first more cut five are boot up (PowersUp power powers is) moments =
       let P : Moment → Type 0 = λ y. AreMoments y.after first → RaisesFrom steps y in
       subst P (sym is)
       (λ own gate end. record {
@@ -374,7 +380,7 @@ module _ (text : List ℕ) (p : CheckedProgram) (allow : Allow) (image : ImageVa
         rest = more;
         are = cut;
         soon = omega (arith, five);
-        raised = raised_by_five t h at power powers first own are five gate (below_end _ (words (word_place l Version)) end);
+        raised = raised_by_five t from.history from.at power powers first own are five gate (below_end _ (from.words (word_place l Version)) end);
       }) moments
 
   pub raises : RaisesVersion l r.moments
@@ -393,8 +399,9 @@ module _ (text : List ℕ) (p : CheckedProgram) (allow : Allow) (image : ImageVa
       let at = reached_on on b (first_history (runtime_marks l) x) t boot.before h moments.0 (reached ms tail e) in
       let known = (fronts_are_lawful model program readings origin x cs b r run bearing ms tail e).1.fram in
       let same : (outside_of boot.before).fram ≡ h.world.fram = ap (λ s. s.fram) (follows_keeps t boot.before moments.0).outside ∙ known in
-      raises_from boot.before h at (subst HoldsWords (sym same) (keeps_versions ms tail e).words) steps first more cut five
-      (front_are first more (subst AreInstructionMoments cut are)) boot up moments.1 moments.2
+      let from : BeginsCharge boot.before =
+      record { history = h; at = at; words = subst HoldsWords (sym same) (keeps_versions ms tail e).words } in
+      raises_from boot.before from steps first more cut five (front_are first more (subst AreInstructionMoments cut are)) boot up moments.1 moments.2
 
   -- each charge that is spent pays for its transitions
   pub pays : let m = map_of text p l allow in EachChargePays m cs b (at_first m b) r

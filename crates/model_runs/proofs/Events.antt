@@ -6,19 +6,19 @@ use Rattle.std.proofs.lemmas.List.{take_all, take-append-le, length-take-le}
 use Rattle.std.proofs.lemmas.Bool.{cases_lt}
 use Rattle.std.proofs.lemmas.Bool.Decides.{nat_tests}
 use Rattle.std.specs.Prelude.{flat_map}
-use Rattle.board_run.specs.alp_io.Count.{risen}
-use Rattle.board_run.specs.alp_io.Report.{accepted_line, step_line}
-use Rattle.crash_rules.specs.image_map.MapValue.{MapValue}
-use Rattle.crash_rules.specs.image_map.Kept.{IsMap}
-use Rattle.crash_rules.specs.fram_board.Board.{BoardValue}
-use Rattle.crash_rules.specs.fram_board.Effects.{Effect, Outside}
-use Rattle.crash_rules.specs.fram_board.Run.{word_list}
+use Rattle.alp_io.specs.Count.{risen}
+use Rattle.alp_io.specs.Report.{accepted_line, step_line}
+use Rattle.image_map.specs.MapValue.{MapValue}
+use Rattle.image_map.specs.Kept.{IsMap}
+use Rattle.fram_board.specs.Board.{BoardValue}
+use Rattle.fram_board.specs.Effects.{Effect, Outside}
+use Rattle.fram_board.specs.Run.{word_list}
 use Rattle.board_run.specs.History.{shared_numbers, word_in, values_in, task_name, more_lines, changed_lines, transition_lines, with_word, with_words}
 use Rattle.board_run.specs.History.{completed}
 use Rattle.board_run.specs.History.{decided}
 use Rattle.board_run.specs.History as board
-use Rattle.crash_rules.specs.machine_effects.World.{World, world_after, readings_taken, EachStore}
-use Rattle.crash_rules.proofs.machine_effects.Interface.{takes, world_after-append}
+use Rattle.machine_effects.specs.World.{World, world_after, readings_taken, EachStore}
+use Rattle.machine_effects.proofs.Interface.{takes, world_after-append}
 use Rattle.crash_rules.specs.Model.{IsElsewhere, Marks}
 use Rattle.crash_rules.specs.History.{Done, History, is_done, is_decide, behind_decide, behind_done, behind_gate, observe}
 use Rattle.crash_rules.proofs.Interface.{observe-append, with_effects, observe_quiet, unchanged}

@@ -1,11 +1,11 @@
 -- Fronts of a run whose code is a program of a model.
 use Rattle.std.proofs.Common.{ℕ, refl, List}
-use Rattle.crash_rules.specs.fram_board.Board.{BoardValue, PowerState, powered}
-use Rattle.crash_rules.specs.fram_board.Steps.{IsPowerState}
-use Rattle.crash_rules.specs.fram_board.Run.{Moment}
-use Rattle.crash_rules.specs.machine_effects.World.{World}
-use Rattle.crash_rules.specs.machine_effects.View.{IsWhole, IsOfWords}
-use Rattle.crash_rules.specs.machine_effects.Runs.{last_board}
+use Rattle.fram_board.specs.Board.{BoardValue, PowerState, powered}
+use Rattle.fram_board.specs.Steps.{IsPowerState}
+use Rattle.fram_board.specs.Run.{Moment}
+use Rattle.machine_effects.specs.World.{World}
+use Rattle.machine_effects.specs.View.{IsWhole, IsOfWords}
+use Rattle.machine_effects.specs.Runs.{last_board}
 use Rattle.crash_rules.specs.Model.{Model}
 use Rattle.crash_rules.specs.History.{History, first_history}
 use Rattle.crash_rules.specs.Runs.{Program}

@@ -1,23 +1,23 @@
 -- The two histories over the moments of a run.
 use Rattle.std.proofs.Common.{◌≡◌, ℕ, suc, ◌+◌, ◌%◌, refl, sym, ap, ap₂, ◌∙◌, subst, arith, List, [], ◌∷◌, ◌++◌, length, append_assoc, length-append}
 use Rattle.std.proofs.Common.{append-nil, Some, Ok}
-use Rattle.crash_rules.specs.msp_isa.declared.instructions.Instr.{Instr}
-use Rattle.crash_rules.specs.image_map.MapValue.{MapValue}
-use Rattle.crash_rules.specs.image_map.Kept.{IsMap}
-use Rattle.crash_rules.specs.fram_board.declared.board.Stepped.{Stepped}
-use Rattle.crash_rules.specs.fram_board.Board.{BoardValue, next_number, PowerState, powered, executed, IsNextInstruction}
-use Rattle.crash_rules.specs.fram_board.Saved.{TakesNextBehind}
-use Rattle.crash_rules.specs.fram_board.Steps.{IsPowerState}
-use Rattle.crash_rules.specs.fram_board.Effects.{Effect}
-use Rattle.crash_rules.specs.fram_board.Run.{Moment, moment_of, power_up_of, word_list}
+use Rattle.msp_isa.specs.declared.instructions.Instr.{Instr}
+use Rattle.image_map.specs.MapValue.{MapValue}
+use Rattle.image_map.specs.Kept.{IsMap}
+use Rattle.fram_board.specs.declared.board.Stepped.{Stepped}
+use Rattle.fram_board.specs.Board.{BoardValue, next_number, PowerState, powered, executed, IsNextInstruction}
+use Rattle.fram_board.specs.Saved.{TakesNextBehind}
+use Rattle.fram_board.specs.Steps.{IsPowerState}
+use Rattle.fram_board.specs.Effects.{Effect}
+use Rattle.fram_board.specs.Run.{Moment, moment_of, power_up_of, word_list}
 use Rattle.board_run.specs.History.{moment_lines, noted, word_in, with_words, behind_power_up, behind_instruction, instruction_lines, start_with}
 use Rattle.board_run.specs.History.{shared_numbers}
 use Rattle.board_run.specs.History as board
 use Rattle.board_run.specs.Report.{lines_from, after_all}
-use Rattle.crash_rules.specs.machine_effects.World.{World, fram_after, world_after}
-use Rattle.crash_rules.specs.machine_effects.View.{IsWhole, IsOfWords}
-use Rattle.crash_rules.specs.machine_effects.Runs.{last_board}
-use Rattle.crash_rules.proofs.machine_effects.Interface.{world_by_its_parts, power_up_keeps_words}
+use Rattle.machine_effects.specs.World.{World, fram_after, world_after}
+use Rattle.machine_effects.specs.View.{IsWhole, IsOfWords}
+use Rattle.machine_effects.specs.Runs.{last_board}
+use Rattle.machine_effects.proofs.Interface.{world_by_its_parts, power_up_keeps_words}
 use Rattle.crash_rules.specs.Model.{Marks}
 use Rattle.crash_rules.specs.History.{Done, History, behind_boot, behind_gate, first_history, observe}
 use Rattle.crash_rules.proofs.Interface.{with_effects, observed_world, observed_taken}

@@ -1,9 +1,9 @@
 -- Each charge that is spent has as many dones as it has bounds.
 use Rattle.std.proofs.Common.{◌+◌, ◌≤◌, ℕ, refl, subst, List, [], length}
-use Rattle.crash_rules.specs.fram_board.Board.{BoardValue, powered}
-use Rattle.crash_rules.specs.fram_board.Steps.{IsPowerState}
-use Rattle.crash_rules.specs.fram_board.Run.{Moment, Charges, RunOutcome, run_outcome, BoardCharge, ChargeRun, Run, Over, Next, Last}
-use Rattle.crash_rules.specs.machine_effects.World.{World}
+use Rattle.fram_board.specs.Board.{BoardValue, powered}
+use Rattle.fram_board.specs.Steps.{IsPowerState}
+use Rattle.fram_board.specs.Run.{Moment, Charges, RunOutcome, run_outcome, BoardCharge, ChargeRun, Run, Over, Next, Last}
+use Rattle.machine_effects.specs.World.{World}
 use Rattle.crash_rules.specs.Model.{Model, bound}
 use Rattle.crash_rules.specs.History.{History, behind_boot, first_history}
 use Rattle.crash_rules.specs.Runs.{Program}

@@ -2,18 +2,18 @@
 use Rattle.std.proofs.Common.{◌≡◌, ◌-◌, refl, sym, ap, ap₂, ◌∙◌, arith, List, [], ◌++◌, length, append-nil, Some}
 use Rattle.std.proofs.lemmas.List.{take_all}
 use Rattle.std.specs.Prelude.{flat_map}
-use Rattle.crash_rules.specs.msp_step.declared.machine.Stop.TheVariants as stop
-use Rattle.board_run.specs.alp_io.Report.{accepted_line, bound_line, end_line}
-use Rattle.board_run.specs.alp_io.declared.report.Reason.TheVariants as reason
-use Rattle.crash_rules.specs.image_map.MapValue.{MapValue}
-use Rattle.crash_rules.specs.image_map.Kept.{IsMap}
-use Rattle.crash_rules.specs.fram_board.Board.{BoardValue}
-use Rattle.crash_rules.specs.fram_board.Run.{End, Charges, Stopped, BoardCharge, Moment, RunOutcome}
+use Rattle.msp_step.specs.declared.machine.Stop.TheVariants as stop
+use Rattle.alp_io.specs.Report.{accepted_line, bound_line, end_line}
+use Rattle.alp_io.specs.declared.report.Reason.TheVariants as reason
+use Rattle.image_map.specs.MapValue.{MapValue}
+use Rattle.image_map.specs.Kept.{IsMap}
+use Rattle.fram_board.specs.Board.{BoardValue}
+use Rattle.fram_board.specs.Run.{End, Charges, Stopped, BoardCharge, Moment, RunOutcome}
 use Rattle.board_run.specs.History.{start_with, more_lines}
 use Rattle.board_run.specs.History as board
 use Rattle.board_run.specs.Report.{after_all, lines_from, last_line}
-use Rattle.crash_rules.specs.machine_effects.World.{World}
-use Rattle.crash_rules.specs.machine_effects.Runs.{last_board}
+use Rattle.machine_effects.specs.World.{World}
+use Rattle.machine_effects.specs.Runs.{last_board}
 use Rattle.crash_rules.specs.History.{first_history}
 use Rattle.run_charges.specs.Charges.{observed}
 use Rattle.run_charges.specs.Laws.{IsRunOfWords}

@@ -1,14 +1,14 @@
 -- In one charge the spans follow one another.
 use Rattle.std.proofs.Common.{◌≡◌, ℕ, ◌≤◌, refl, sym, ap, ◌∙◌, subst, arith, true, false, cond, List, [], ◌∷◌, ◌++◌, length, append-nil}
-use Rattle.crash_rules.specs.fram_board.Board.{BoardValue, powered}
-use Rattle.crash_rules.specs.fram_board.Steps.{IsPowerState}
-use Rattle.crash_rules.specs.fram_board.Effects.{Effect}
-use Rattle.crash_rules.specs.fram_board.Run.{Measure, Action, PowerUp, Execute, Moment, RunOutcome, run_outcome, BoardCharge, ChargeRun, Run, Over}
-use Rattle.crash_rules.specs.fram_board.Run.{Next, Last, power_up_of, Charges, Stopped}
-use Rattle.crash_rules.specs.machine_effects.World.{World, world_after_one}
-use Rattle.crash_rules.specs.machine_effects.Machine.{MachineBoard}
-use Rattle.crash_rules.specs.machine_effects.Runs.{last_board}
-use Rattle.crash_rules.proofs.machine_effects.Interface.{power_up_keeps_words}
+use Rattle.fram_board.specs.Board.{BoardValue, powered}
+use Rattle.fram_board.specs.Steps.{IsPowerState}
+use Rattle.fram_board.specs.Effects.{Effect}
+use Rattle.fram_board.specs.Run.{Measure, Action, PowerUp, Execute, Moment, RunOutcome, run_outcome, BoardCharge, ChargeRun, Run, Over}
+use Rattle.fram_board.specs.Run.{Next, Last, power_up_of, Charges, Stopped}
+use Rattle.machine_effects.specs.World.{World, world_after_one}
+use Rattle.machine_effects.specs.Machine.{MachineBoard}
+use Rattle.machine_effects.specs.Runs.{last_board}
+use Rattle.machine_effects.proofs.Interface.{power_up_keeps_words}
 use Rattle.crash_rules.specs.Model.{Model, Marks}
 use Rattle.crash_rules.specs.History.{Done, History, is_done, is_decide, with_effect, behind_boot, behind_done, behind_decide, behind_gate, observe_one}
 use Rattle.crash_rules.specs.History.{observe, first_history}

@@ -1,15 +1,15 @@
 -- What a word of FRAM holds at most, by what is stored there.
 use Rattle.std.proofs.Common.{◌≡◌, ◌≤◌, ◌==◌, if◌then◌else◌, ℕ, refl, sym, subst, Bool, true, false, cond, eqb-true, List, [], ◌∷◌}
-use Rattle.crash_rules.specs.fram_board.Effects.{Effect, Store, Take, Outside}
-use Rattle.crash_rules.specs.machine_effects.World.{fram_after, EachStore}
-use Rattle.crash_rules.specs.machine_effects.Going.{going}
-use Rattle.crash_rules.specs.machine_effects.Machine.{MachineBoard}
-use Rattle.crash_rules.specs.machine_effects.Runs.{last_board}
+use Rattle.fram_board.specs.Effects.{Effect, Store, Take, Outside}
+use Rattle.machine_effects.specs.World.{fram_after, EachStore}
+use Rattle.machine_effects.specs.Going.{going}
+use Rattle.machine_effects.specs.Machine.{MachineBoard}
+use Rattle.machine_effects.specs.Runs.{last_board}
 use Rattle.crash_rules.specs.Model.{Model, Marks}
 use Rattle.crash_rules.specs.History.{History, observe, behind_boot, first_history}
 use Rattle.crash_rules.specs.Runs.{Program, Charge, Charged}
 use Rattle.crash_rules.proofs.Interface.{changed, stores_only}
-use Rattle.crash_rules.specs.machine_effects.Laws.{ChangesByEffects}
+use Rattle.machine_effects.specs.Laws.{ChangesByEffects}
 use Rattle.run_charges.specs.View.{outside_of}
 use Rattle.run_charges.proofs.Interface.{run_front}
 use Rattle.model_runs.specs.Runs.{history_behind}

@@ -1,11 +1,11 @@
 -- Laws of a board's run and a model.
 use Rattle.std.specs.Prelude.{◌≡◌, ℕ, ◌+◌, ◌≤◌, List, [], ◌∷◌, ◌++◌, length}
-use Rattle.crash_rules.specs.msp_step.declared.machine.Stop.{Stop}
-use Rattle.crash_rules.specs.msp_step.declared.machine.Stop.TheVariants as stop
-use Rattle.crash_rules.specs.fram_board.Board.{BoardValue}
-use Rattle.crash_rules.specs.fram_board.Run.{Moment, Stopped, RunOutcome, BoardCharge}
-use Rattle.crash_rules.specs.machine_effects.World.{World}
-use Rattle.crash_rules.specs.machine_effects.Runs.{last_board}
+use Rattle.msp_step.specs.declared.machine.Stop.{Stop}
+use Rattle.msp_step.specs.declared.machine.Stop.TheVariants as stop
+use Rattle.fram_board.specs.Board.{BoardValue}
+use Rattle.fram_board.specs.Run.{Moment, Stopped, RunOutcome, BoardCharge}
+use Rattle.machine_effects.specs.World.{World}
+use Rattle.machine_effects.specs.Runs.{last_board}
 use Rattle.crash_rules.specs.Model.{Model, Marks, bound}
 use Rattle.crash_rules.specs.History.{History, first_history}
 use Rattle.crash_rules.specs.Runs.{Program}

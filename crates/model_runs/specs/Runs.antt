@@ -1,11 +1,11 @@
 -- Runs of the board whose code is a program that keeps what it owes to a model, and what is said of them.
 use Rattle.std.specs.Prelude.{◌≡◌, ℕ, ◌+◌, ◌*◌, ◌<◌, ◌≤◌, List, [], ◌∷◌, length}
-use Rattle.crash_rules.specs.msp_isa.declared.instructions.Instr.{Instr}
-use Rattle.crash_rules.specs.msp_step.declared.machine.Stop.{Stop}
-use Rattle.crash_rules.specs.fram_board.Board.{BoardValue, powered}
-use Rattle.crash_rules.specs.fram_board.Run.{Cycles, Moment, Charges, Stopped, RunOutcome, run_outcome, after_moments, BoardCharge, ChargeRun, power_up_of}
-use Rattle.crash_rules.specs.machine_effects.World.{World}
-use Rattle.run_charges.specs.code_forms.Placed.{words_of, Holds}
+use Rattle.msp_isa.specs.declared.instructions.Instr.{Instr}
+use Rattle.msp_step.specs.declared.machine.Stop.{Stop}
+use Rattle.fram_board.specs.Board.{BoardValue, powered}
+use Rattle.fram_board.specs.Run.{Cycles, Moment, Charges, Stopped, RunOutcome, run_outcome, after_moments, BoardCharge, ChargeRun, power_up_of}
+use Rattle.machine_effects.specs.World.{World}
+use Rattle.code_forms.specs.Placed.{words_of, Holds}
 use Rattle.crash_rules.specs.Model.{Model, ModelLaws, Marks, Inputs, Short}
 use Rattle.crash_rules.specs.History.{Done, History, first_history, inputs_from}
 use Rattle.crash_rules.specs.Runs.{Program, ProgramLaws}

@@ -1,34 +1,34 @@
 -- The moments of a run, one behind the other, and what each of its instructions does to the machine.
 use Rattle.std.proofs.Common.{◌≡◌, ◌==◌, ◌≤◌, ◌+◌, ◌-◌, ◌%◌, ℕ, suc, refl, sym, ap, ◌∙◌, subst, arith, Bool, true, false, if◌then◌else◌, List, [], ◌∷◌, ◌++◌}
 use Rattle.std.proofs.Common.{length, append-nil, length-append, Option, Some, None, Ok}
-use Rattle.crash_rules.specs.msp_isa.declared.instructions.Instr.{Instr}
-use Rattle.crash_rules.specs.msp_cycles.Cycles.{cycles_of}
-use Rattle.crash_rules.specs.msp_step.Registers.{Registers, registers_of}
-use Rattle.crash_rules.specs.msp_step.Access.{Access, Completed, Faulted}
-use Rattle.crash_rules.specs.msp_step.Effect.{Written}
-use Rattle.crash_rules.specs.msp_step.Step.{effect, execution, Executed}
-use Rattle.crash_rules.specs.fram_board.declared.board.Stepped.{Stepped}
-use Rattle.crash_rules.specs.fram_board.declared.receiver.Receiver.{Receiver}
-use Rattle.crash_rules.specs.fram_board.Bus.{board_bus, is_fram, data_port}
-use Rattle.crash_rules.specs.fram_board.Board.{BoardValue, powered, opened, executed, IsNextInstruction, IsStep, is_accepted, next_number}
-use Rattle.crash_rules.specs.fram_board.Board.{offered_to}
-use Rattle.crash_rules.specs.fram_board.Saved.{TakesNextBehind}
-use Rattle.crash_rules.specs.fram_board.Steps.{IsPowerState}
-use Rattle.crash_rules.specs.fram_board.Effects.{Effect, Store, Take, Outside, OutsideEffect, Offered, sends_of, effects_of, heard}
-use Rattle.crash_rules.specs.fram_board.Run.{Measure, Instructions, price, Moment, moment_of, power_up_of, Charges, RunOutcome, run_outcome, after_moments}
-use Rattle.crash_rules.specs.fram_board.Run.{ChargeRun}
-use Rattle.crash_rules.specs.fram_board.Run.{Spent, NoInstruction, TooDear, Refused, BoardCharge, Run, Over, Next, Last, word_list}
-use Rattle.crash_rules.specs.fram_board.Run as run
-use Rattle.crash_rules.proofs.fram_board.Interface.{step_makes_its_effects, data_not_fram}
-use Rattle.crash_rules.specs.machine_effects.World.{fram_after, received, accepted_after, readings_taken}
-use Rattle.crash_rules.specs.machine_effects.Going.{Goes, At, stretch}
-use Rattle.crash_rules.specs.machine_effects.Machine.{MachineBus, MachineBoard, MachineOutcome, MachineRun, Stays, Steps, word_address, IsMachineStep, machine_bus}
-use Rattle.crash_rules.specs.machine_effects.Machine.{machine_opened, machine_outcome}
-use Rattle.crash_rules.specs.machine_effects.Machine.{machine_executed}
-use Rattle.crash_rules.specs.machine_effects.View.{machine_of, IsWhole, IsOfWords, outcome_of_answer}
-use Rattle.crash_rules.specs.machine_effects.Runs.{moments_effects, moments_cycles, last_board, ReachesAs}
-use Rattle.crash_rules.proofs.machine_effects.Interface.{takes, written_effects, LoggedBy, effect_logged, machine_changes_by_effects, executed_same}
-use Rattle.crash_rules.proofs.machine_effects.Interface.{current_to_machine, step_leaves_it_whole, words_stay_words, charge_accepts_by_sends}
+use Rattle.msp_isa.specs.declared.instructions.Instr.{Instr}
+use Rattle.msp_cycles.specs.Cycles.{cycles_of}
+use Rattle.msp_step.specs.Registers.{Registers, registers_of}
+use Rattle.msp_step.specs.Access.{Access, Completed, Faulted}
+use Rattle.msp_step.specs.Effect.{Written}
+use Rattle.msp_step.specs.Step.{effect, execution, Executed}
+use Rattle.fram_board.specs.declared.board.Stepped.{Stepped}
+use Rattle.fram_board.specs.declared.receiver.Receiver.{Receiver}
+use Rattle.fram_board.specs.Bus.{board_bus, is_fram, data_port}
+use Rattle.fram_board.specs.Board.{BoardValue, powered, opened, executed, IsNextInstruction, IsStep, is_accepted, next_number}
+use Rattle.fram_board.specs.Board.{offered_to}
+use Rattle.fram_board.specs.Saved.{TakesNextBehind}
+use Rattle.fram_board.specs.Steps.{IsPowerState}
+use Rattle.fram_board.specs.Effects.{Effect, Store, Take, Outside, OutsideEffect, Offered, sends_of, effects_of, heard}
+use Rattle.fram_board.specs.Run.{Measure, Instructions, price, Moment, moment_of, power_up_of, Charges, RunOutcome, run_outcome, after_moments}
+use Rattle.fram_board.specs.Run.{ChargeRun}
+use Rattle.fram_board.specs.Run.{Spent, NoInstruction, TooDear, Refused, BoardCharge, Run, Over, Next, Last, word_list}
+use Rattle.fram_board.specs.Run as run
+use Rattle.fram_board.proofs.Interface.{step_makes_its_effects, data_not_fram}
+use Rattle.machine_effects.specs.World.{fram_after, received, accepted_after, readings_taken}
+use Rattle.machine_effects.specs.Going.{Goes, At, stretch}
+use Rattle.machine_effects.specs.Machine.{MachineBus, MachineBoard, MachineOutcome, MachineRun, Stays, Steps, word_address, IsMachineStep, machine_bus}
+use Rattle.machine_effects.specs.Machine.{machine_opened, machine_outcome}
+use Rattle.machine_effects.specs.Machine.{machine_executed}
+use Rattle.machine_effects.specs.View.{machine_of, IsWhole, IsOfWords, outcome_of_answer}
+use Rattle.machine_effects.specs.Runs.{moments_effects, moments_cycles, last_board, ReachesAs}
+use Rattle.machine_effects.proofs.Interface.{takes, written_effects, LoggedBy, effect_logged, machine_changes_by_effects, executed_same}
+use Rattle.machine_effects.proofs.Interface.{current_to_machine, step_leaves_it_whole, words_stay_words, charge_accepts_by_sends}
 use Rattle.crash_rules.specs.Model.{Marks}
 use Rattle.crash_rules.specs.History.{History}
 use Rattle.crash_rules.proofs.Interface.{observed_taken, events_of_instructions}

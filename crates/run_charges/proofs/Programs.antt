@@ -1,18 +1,18 @@
 -- Fronts of a run as charges of a program that stands in FRAM.
 use Rattle.std.proofs.Common.{◌≡◌, ℕ, refl, sym, ap, ◌∙◌, subst, List, [], ◌∷◌, ◌++◌, length}
-use Rattle.crash_rules.specs.msp_isa.declared.instructions.Instr.{Instr}
-use Rattle.crash_rules.specs.msp_step.declared.machine.Stop.{Stop}
-use Rattle.crash_rules.specs.fram_board.Board.{BoardValue, PowerState, powered}
-use Rattle.crash_rules.specs.fram_board.Steps.{IsPowerState}
-use Rattle.crash_rules.specs.fram_board.Effects.{Effect}
-use Rattle.crash_rules.specs.fram_board.Run.{Action, PowerUp, Execute, Moment}
-use Rattle.crash_rules.specs.machine_effects.World.{fram_after, EachStore}
-use Rattle.crash_rules.specs.machine_effects.Going.{Goes, Status, At, Halted, stretch, going}
-use Rattle.crash_rules.specs.machine_effects.Machine.{MachineBoard, MachineOutcome, MachineStretch, MachineRun, Stays, Halts, Steps}
-use Rattle.crash_rules.specs.machine_effects.View.{machine_of, IsWhole, IsOfWords}
-use Rattle.crash_rules.specs.machine_effects.Runs.{moments_effects, moments_cycles, last_board, ReachesAs}
-use Rattle.crash_rules.proofs.machine_effects.Interface.{fram_after-append, fram_untouched, machine_changes_by_effects, power_up_keeps_words}
-use Rattle.crash_rules.proofs.machine_effects.Interface.{machine_is_of_words, power_up_is_the_machines}
+use Rattle.msp_isa.specs.declared.instructions.Instr.{Instr}
+use Rattle.msp_step.specs.declared.machine.Stop.{Stop}
+use Rattle.fram_board.specs.Board.{BoardValue, PowerState, powered}
+use Rattle.fram_board.specs.Steps.{IsPowerState}
+use Rattle.fram_board.specs.Effects.{Effect}
+use Rattle.fram_board.specs.Run.{Action, PowerUp, Execute, Moment}
+use Rattle.machine_effects.specs.World.{fram_after, EachStore}
+use Rattle.machine_effects.specs.Going.{Goes, Status, At, Halted, stretch, going}
+use Rattle.machine_effects.specs.Machine.{MachineBoard, MachineOutcome, MachineStretch, MachineRun, Stays, Halts, Steps}
+use Rattle.machine_effects.specs.View.{machine_of, IsWhole, IsOfWords}
+use Rattle.machine_effects.specs.Runs.{moments_effects, moments_cycles, last_board, ReachesAs}
+use Rattle.machine_effects.proofs.Interface.{fram_after-append, fram_untouched, machine_changes_by_effects, power_up_keeps_words}
+use Rattle.machine_effects.proofs.Interface.{machine_is_of_words, power_up_is_the_machines}
 use Rattle.code_forms.specs.Placed.{words_of, Holds, LeavesCode, IsOutside}
 use Rattle.code_forms.proofs.Interface.{holds_stores, code_in_fram_runs}
 use Rattle.crash_rules.specs.Model.{IsElsewhere, Marks}

@@ -1,16 +1,16 @@
 -- The charge in which a run stops.
 use Rattle.std.proofs.Common.{◌≡◌, ℕ, suc, ◌-◌, refl, sym, ap, ◌∙◌, subst, List, [], ◌∷◌, ◌++◌, length, map, append_assoc}
-use Rattle.crash_rules.specs.msp_step.declared.machine.Stop.{Stop}
-use Rattle.crash_rules.specs.fram_board.Board.{BoardValue, powered, executed}
-use Rattle.crash_rules.specs.fram_board.Steps.{IsPowerState}
-use Rattle.crash_rules.specs.fram_board.Effects.{Effect, Take}
-use Rattle.crash_rules.specs.fram_board.Run.{Measure, price, Moment, Charges, Stopped, RunOutcome, run_outcome, BoardCharge, ChargeRun, Spent, NoInstruction}
-use Rattle.crash_rules.specs.fram_board.Run.{TooDear, Refused, Executed, Run, Over, Next, Last, power_up_of}
-use Rattle.crash_rules.specs.machine_effects.World.{EachStore}
-use Rattle.crash_rules.specs.machine_effects.Going.{Halted, stretch, going}
-use Rattle.crash_rules.specs.machine_effects.Machine.{MachineBoard}
-use Rattle.crash_rules.specs.machine_effects.Runs.{moments_effects, moments_cycles, last_board, StopsAs}
-use Rattle.crash_rules.proofs.machine_effects.Interface.{power_up_keeps_words, charges_alike}
+use Rattle.msp_step.specs.declared.machine.Stop.{Stop}
+use Rattle.fram_board.specs.Board.{BoardValue, powered, executed}
+use Rattle.fram_board.specs.Steps.{IsPowerState}
+use Rattle.fram_board.specs.Effects.{Effect, Take}
+use Rattle.fram_board.specs.Run.{Measure, price, Moment, Charges, Stopped, RunOutcome, run_outcome, BoardCharge, ChargeRun, Spent, NoInstruction}
+use Rattle.fram_board.specs.Run.{TooDear, Refused, Executed, Run, Over, Next, Last, power_up_of}
+use Rattle.machine_effects.specs.World.{EachStore}
+use Rattle.machine_effects.specs.Going.{Halted, stretch, going}
+use Rattle.machine_effects.specs.Machine.{MachineBoard}
+use Rattle.machine_effects.specs.Runs.{moments_effects, moments_cycles, last_board, StopsAs}
+use Rattle.machine_effects.proofs.Interface.{power_up_keeps_words, charges_alike}
 use Rattle.crash_rules.specs.Model.{IsElsewhere, Marks}
 use Rattle.crash_rules.specs.History.{History, observe, behind_boot}
 use Rattle.crash_rules.proofs.Interface.{observe-append, observe_quiet, with_effects}

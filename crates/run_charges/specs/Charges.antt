@@ -1,18 +1,18 @@
 -- The charges of a board's run as charges of the machine.
 use Rattle.std.specs.Prelude.{◌≡◌, ℕ, ◌+◌, ◌*◌, ◌%◌, ◌<◌, ◌≤◌, List, [], ◌∷◌, ◌++◌, length, All}
-use Rattle.crash_rules.specs.address_space.Limits.{fram_first, fram_end, reset_vector}
-use Rattle.crash_rules.specs.msp_isa.declared.instructions.Instr.{Instr}
-use Rattle.crash_rules.specs.msp_step.declared.machine.Stop.{Stop}
-use Rattle.crash_rules.specs.fram_board.Board.{BoardValue, PowerState, powered}
-use Rattle.crash_rules.specs.fram_board.Steps.{IsPowerState}
-use Rattle.crash_rules.specs.fram_board.Effects.{Effect}
-use Rattle.crash_rules.specs.fram_board.Run.{Action, PowerUp, Execute, Moment, Charges, Stopped, RunOutcome, run_outcome, after_moments, BoardCharge}
-use Rattle.crash_rules.specs.fram_board.Run.{power_up_of}
-use Rattle.crash_rules.specs.machine_effects.World.{EachStore}
-use Rattle.crash_rules.specs.machine_effects.Going.{going}
-use Rattle.crash_rules.specs.machine_effects.Machine.{MachineBoard, MachineStretch, exec, machine_powered}
-use Rattle.crash_rules.specs.machine_effects.View.{IsMachineOfWords}
-use Rattle.crash_rules.specs.machine_effects.Runs.{SpendsAs, StopsAs, ReachesAs, last_board}
+use Rattle.address_space.specs.Limits.{fram_first, fram_end, reset_vector}
+use Rattle.msp_isa.specs.declared.instructions.Instr.{Instr}
+use Rattle.msp_step.specs.declared.machine.Stop.{Stop}
+use Rattle.fram_board.specs.Board.{BoardValue, PowerState, powered}
+use Rattle.fram_board.specs.Steps.{IsPowerState}
+use Rattle.fram_board.specs.Effects.{Effect}
+use Rattle.fram_board.specs.Run.{Action, PowerUp, Execute, Moment, Charges, Stopped, RunOutcome, run_outcome, after_moments, BoardCharge}
+use Rattle.fram_board.specs.Run.{power_up_of}
+use Rattle.machine_effects.specs.World.{EachStore}
+use Rattle.machine_effects.specs.Going.{going}
+use Rattle.machine_effects.specs.Machine.{MachineBoard, MachineStretch, exec, machine_powered}
+use Rattle.machine_effects.specs.View.{IsMachineOfWords}
+use Rattle.machine_effects.specs.Runs.{SpendsAs, StopsAs, ReachesAs, last_board}
 use Rattle.code_forms.specs.Placed.{placed, words_of, AreInstructions, LeavesCode}
 use Rattle.crash_rules.specs.Model.{IsElsewhere, Marks}
 use Rattle.crash_rules.specs.History.{History, observe, behind_boot}

@@ -1,9 +1,9 @@
 -- Laws that join a board's run, the machine, and the charges of the crash theorem.
 use Rattle.std.specs.Prelude.{◌≡◌, ℕ, List, ◌++◌, length}
-use Rattle.crash_rules.specs.msp_isa.declared.instructions.Instr.{Instr}
-use Rattle.crash_rules.specs.fram_board.Board.{BoardValue}
-use Rattle.crash_rules.specs.fram_board.Run.{BoardCharge, Moment, RunOutcome, Run}
-use Rattle.crash_rules.specs.machine_effects.View.{IsWhole, IsOfWords}
+use Rattle.msp_isa.specs.declared.instructions.Instr.{Instr}
+use Rattle.fram_board.specs.Board.{BoardValue}
+use Rattle.fram_board.specs.Run.{BoardCharge, Moment, RunOutcome, Run}
+use Rattle.machine_effects.specs.View.{IsWhole, IsOfWords}
 use Rattle.code_forms.specs.Placed.{words_of, Holds}
 use Rattle.crash_rules.specs.Model.{Marks}
 use Rattle.crash_rules.specs.History.{History}

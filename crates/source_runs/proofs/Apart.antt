@@ -2,14 +2,14 @@
 -- last decide began.
 use Rattle.std.proofs.Common.{◌≡◌, ◌≤◌, ℕ, refl, arith, Bool, true, false, cond, List, [], ◌∷◌, ◌++◌}
 use Rattle.std.proofs.lemmas.Bool.Decides.{nat_tests}
-use Rattle.model_runs.specs.fram_board.Effects.{Effect}
-use Rattle.model_runs.specs.fram_board.Run.{Action, PowerUp, Execute, Moment}
-use Rattle.model_runs.specs.machine_effects.World.{World, world_after_one}
-use Rattle.model_runs.specs.crash_rules.Model.{Marks}
-use Rattle.model_runs.specs.crash_rules.History.{Done, History, is_done, is_decide, with_effect, behind_boot, behind_done, behind_decide, behind_gate}
-use Rattle.model_runs.specs.crash_rules.History.{observe_one, observe, first_history}
-use Rattle.model_runs.specs.run_charges.View.{outside_effects}
-use Rattle.model_runs.specs.run_charges.Charges.{behind_action, behind_moment, observed}
+use Rattle.fram_board.specs.Effects.{Effect}
+use Rattle.fram_board.specs.Run.{Action, PowerUp, Execute, Moment}
+use Rattle.machine_effects.specs.World.{World, world_after_one}
+use Rattle.crash_rules.specs.Model.{Marks}
+use Rattle.crash_rules.specs.History.{Done, History, is_done, is_decide, with_effect, behind_boot, behind_done, behind_decide, behind_gate}
+use Rattle.crash_rules.specs.History.{observe_one, observe, first_history}
+use Rattle.run_charges.specs.View.{outside_effects}
+use Rattle.run_charges.specs.Charges.{behind_action, behind_moment, observed}
 use Rattle.source_report.specs.Apart.{AreApart}
 use Rattle.source_runs.specs.Transitions.{committed_by}
 

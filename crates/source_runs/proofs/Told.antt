@@ -2,28 +2,28 @@
 use Rattle.std.proofs.Common.{◌≡◌, ℕ, ◌+◌, ◌-◌, ◌<◌, ◌≤◌, ◌^◌, refl, sym, ap, ap₂, ◌∙◌, subst, arith, List, [], ◌∷◌, ◌++◌, length, drop, append-nil}
 use Rattle.std.proofs.Common.{length-append, Some}
 use Rattle.std.proofs.lemmas.List.{length-map, map-append}
-use Rattle.model_runs.specs.alp_io.declared.report.Reason.{Reason}
-use Rattle.model_runs.specs.alp_io.declared.report.Reason.TheVariants as reason
-use Rattle.model_runs.specs.alp_io.Report.{bound_line, end_line}
-use Rattle.model_runs.specs.image_map.MapValue.{MapValue}
-use Rattle.model_runs.specs.msp_step.declared.machine.Stop.{Stop}
-use Rattle.model_runs.specs.msp_step.declared.machine.Stop.TheVariants.{NoReading}
-use Rattle.model_runs.specs.fram_board.Board.{BoardValue}
-use Rattle.model_runs.specs.fram_board.Run.{End, Charges, Stopped, BoardCharge, RunOutcome}
-use Rattle.model_runs.specs.board_run.History.{start_with}
-use Rattle.model_runs.specs.board_run.History as board
-use Rattle.model_runs.specs.board_run.Report.{report_of, last_line}
-use Rattle.source_report.specs.source_values.Statements.{Outcome, short}
-use Rattle.source_report.specs.source_values.Runs.{CheckedProgram, State, Transition, first_state, state_after, state_behind, attempt_of}
+use Rattle.alp_io.specs.declared.report.Reason.{Reason}
+use Rattle.alp_io.specs.declared.report.Reason.TheVariants as reason
+use Rattle.alp_io.specs.Report.{bound_line, end_line}
+use Rattle.image_map.specs.MapValue.{MapValue}
+use Rattle.msp_step.specs.declared.machine.Stop.{Stop}
+use Rattle.msp_step.specs.declared.machine.Stop.TheVariants.{NoReading}
+use Rattle.fram_board.specs.Board.{BoardValue}
+use Rattle.fram_board.specs.Run.{End, Charges, Stopped, BoardCharge, RunOutcome}
+use Rattle.board_run.specs.History.{start_with}
+use Rattle.board_run.specs.History as board
+use Rattle.board_run.specs.Report.{report_of, last_line}
+use Rattle.source_values.specs.Statements.{Outcome, short}
+use Rattle.source_values.specs.Runs.{CheckedProgram, State, Transition, first_state, state_after, state_behind, attempt_of}
 use Rattle.source_report.specs.Apart.{AreApart}
 use Rattle.source_report.specs.SourceReport.{IsConsecutive, position_after, source_report}
-use Rattle.model_runs.specs.machine_effects.World.{World}
-use Rattle.model_runs.specs.crash_rules.Model.{Model, Marks, Inputs, bound}
-use Rattle.model_runs.specs.crash_rules.History.{Done, History, first_history, inputs_from}
-use Rattle.model_runs.specs.crash_rules.Runs.{Program}
-use Rattle.model_runs.specs.crash_rules.Laws.{Origin, Resting, Pending, IsSettled, Reaches, IsLawful, SourceRun}
-use Rattle.model_runs.specs.run_charges.Charges.{observed}
-use Rattle.model_runs.specs.run_charges.Laws.{IsRunOfWords}
+use Rattle.machine_effects.specs.World.{World}
+use Rattle.crash_rules.specs.Model.{Model, Marks, Inputs, bound}
+use Rattle.crash_rules.specs.History.{Done, History, first_history, inputs_from}
+use Rattle.crash_rules.specs.Runs.{Program}
+use Rattle.crash_rules.specs.Laws.{Origin, Resting, Pending, IsSettled, Reaches, IsLawful, SourceRun}
+use Rattle.run_charges.specs.Charges.{observed}
+use Rattle.run_charges.specs.Laws.{IsRunOfWords}
 use Rattle.model_runs.specs.Events.{marks_of, counted, dones_lines}
 use Rattle.model_runs.specs.EventLaws.{StartsWith}
 use Rattle.model_runs.proofs.Interface.{report_is_of_dones, fronts_are_lawful, stops_where_short, makes_progress, dones_are_few, takes_what_is_there}

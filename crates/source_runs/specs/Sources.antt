@@ -1,17 +1,17 @@
 -- A model of the crash theorem that is a source's, and a board that begins with it.
 use Rattle.std.specs.Prelude.{◌≡◌, ◌<◌, All, Some}
-use Rattle.model_runs.specs.image_map.MapValue.{MapValue}
-use Rattle.model_runs.specs.image_map.Kept.{IsMap}
-use Rattle.model_runs.specs.fram_board.Board.{BoardValue}
-use Rattle.model_runs.specs.fram_board.Run.{RunOutcome}
-use Rattle.source_report.specs.source_values.Statements.{short}
-use Rattle.source_report.specs.source_values.Runs.{CheckedProgram, State, Transition, EmitsFit, first_state, state_after, transition_of, attempt_of}
-use Rattle.model_runs.specs.machine_effects.World.{World}
-use Rattle.model_runs.specs.crash_rules.Model.{Model, Inputs, no_inputs, Ends, Short, bound}
-use Rattle.model_runs.specs.crash_rules.History.{History, first_history}
-use Rattle.model_runs.specs.crash_rules.Runs.{Program}
-use Rattle.model_runs.specs.crash_rules.Laws.{Resting}
-use Rattle.model_runs.specs.run_charges.Charges.{observed}
+use Rattle.image_map.specs.MapValue.{MapValue}
+use Rattle.image_map.specs.Kept.{IsMap}
+use Rattle.fram_board.specs.Board.{BoardValue}
+use Rattle.fram_board.specs.Run.{RunOutcome}
+use Rattle.source_values.specs.Statements.{short}
+use Rattle.source_values.specs.Runs.{CheckedProgram, State, Transition, EmitsFit, first_state, state_after, transition_of, attempt_of}
+use Rattle.machine_effects.specs.World.{World}
+use Rattle.crash_rules.specs.Model.{Model, Inputs, no_inputs, Ends, Short, bound}
+use Rattle.crash_rules.specs.History.{History, first_history}
+use Rattle.crash_rules.specs.Runs.{Program}
+use Rattle.crash_rules.specs.Laws.{Resting}
+use Rattle.run_charges.specs.Charges.{observed}
 use Rattle.model_runs.specs.Events.{marks_of}
 use Rattle.model_runs.specs.EventLaws.{StartsWith}
 use Rattle.source_runs.specs.Naming.{IsMapOf}
