@@ -587,7 +587,7 @@ module _ (p : Places) (G : EachStep p) (words : PlacesOfWords p) (shared : List 
     loop_has : (v : Variable) (from below : ℕ) (b : CheckedBlock) → IsLocal v → IsApart G.spared v → IsWord from → IsWord below
         → block_assigns v b ≡ false → WellFormedBlock shared b → G.of_program (lowered_block p b)
         → G.of_step (repeat (loop_local v) from below (lowered_block p b))
-    loop_has (Shared v) from below b local a i j s is h = absurd local
+    loop_has (Shared v) from below b low a i j s is h = absurd low
     loop_has (Local n) from below b low a i j s is h = G.counted n from below (lowered_block p b) low a i j (body_has n b low s is) h
 
     mutual

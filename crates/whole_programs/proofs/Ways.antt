@@ -438,7 +438,7 @@ module _ (p : Places) (words : PlacesOfWords p) (shared : List SharedDeclaration
         assigned_way u a Unsigned x e next (is.1, is.3) c (h.safe (names_read e ++ write x ∷ []) goes_on q) (h.on (names_read e ++ write x ∷ []) q)
     statement_way (t.assign x e) u a next is c h =
         let q = path.assign x e (names_read e) (is_path e) in
-        assigned_way u a x.word_type x e next f n.1 c (h.safe (names_read e ++ write x ∷ []) goes_on q) (h.on (names_read e ++ write x ∷ []) q)
+        assigned_way u a x.word_type x e next (is.1, is.3) c (h.safe (names_read e ++ write x ∷ []) goes_on q) (h.on (names_read e ++ write x ∷ []) q)
     statement_way (t.store x index e) u a next is c h =
         let q = path.store x index e (names_read index) (names_read e) (is_path index) (is_path e) in
         let xs = names_read index ++ (names_read e ++ write x ∷ []) in
