@@ -8,7 +8,7 @@ use Rattle.compiled_model.specs.memory_map.declared.words.RuntimeWord.TheVariant
 use Rattle.compiled_model.specs.memory_map.MemoryMap.{MemoryMap, word_place}
 use Rattle.compiled_model.specs.crash_rules.History.{History}
 use Rattle.compiled_model.specs.crash_rules.Runs.{Program}
-use Rattle.compiled_model.specs.crash_rules.Laws.{Origin, Phase, UndecidedPhase, DecidedPhase, CommittingPhase}
+use Rattle.compiled_model.specs.crash_rules.Laws.{Origin, Phase, UndecidedPhase, DecidedPhase, CommittingPhase, ScriptsStore}
 use Rattle.compiled_model.specs.memory_map.Laws.{AreApart}
 use Rattle.compiled_model.specs.stands_for.StandsFor.{CommittingTo, VersionsWithin}
 use Rattle.compiled_model.proofs.stands_for.Interface.{commit_stores_all}
@@ -41,7 +41,8 @@ module _ (p : CheckedProgram) (l : MemoryMap) (apart : AreApart l) where
 pub capacities_are_kept : (c : Program) → CapacitiesAreKept c
 capacities_are_kept c p l apart fit readings origin x cs b r run bears first ms rest e =
     let model = compiled_model p l in
-    let stays = words_stay_within model c (CountsFit l) readings origin x cs b r run bears fit (commits_fit p l apart) in
+    let scripts : ScriptsStore model (CountsFit l) = record { recoveries = λ s y u. tt; attempts = fit; commits = commits_fit p l apart } in
+    let stays = words_stay_within model c (CountsFit l) readings origin x cs b r run bears scripts in
     let k = fronts_are_lawful model c readings origin x cs b r run bears ms rest e in
     let h = history_behind model x ms in
     let P : (ℕ → ℕ) → Type 0 = λ f. VersionsWithin (program_places p l) f in
