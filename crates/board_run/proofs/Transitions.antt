@@ -1,5 +1,5 @@
 -- The lines of a transition, part by part.
-use Rattle.std.proofs.Common.{◌≡◌, ℕ, List, [], ◌++◌, ap, sym, subst, ◌∙◌, Option, Result, IsErr, flat_map, true, false, if◌then◌else◌, append-nil}
+use Rattle.std.proofs.Common.{◌≡◌, ℕ, zero, suc, List, [], ◌++◌, refl, ap, sym, subst, ◌∙◌, Option, Result, IsErr, flat_map, true, false, if◌then◌else◌, append-nil}
 use Rattle.std.specs.Io.KnownBytes.{Appends}
 use Rattle.alp_io.specs.Count.{risen}
 use Rattle.alp_io.specs.Sink.{AppendsProperPrefix, Writes}
@@ -62,3 +62,29 @@ pub decided_gate : (m : MapValue) (h : History) (b : BoardValue) (now : ℕ) →
 decided_gate m h b now e f =
     ap (λ t. record (if t then decided h b else h) { gate = now }) (sym f)
     ∙ ap (λ t. record (if t then completed m h b else (if is_decide h.gate now then decided h b else h)) { gate = now }) (sym e)
+
+-- GATE that is as it was neither decides nor ends anything
+not_done : (gate : ℕ) → is_done gate gate ≡ false
+not_done zero = refl
+not_done (suc zero) = refl
+not_done (suc (suc gate)) = refl
+
+not_decide : (gate : ℕ) → is_decide gate gate ≡ false
+not_decide zero = refl
+not_decide (suc zero) = refl
+not_decide (suc (suc gate)) = refl
+
+same_gate : (m : MapValue) (h : History) (b : BoardValue) → gated m h b h.gate ≡ h
+same_gate m h b =
+    ap (λ t. record (if t then completed m h b else if is_decide h.gate h.gate then decided h b else h) { gate = h.gate }) (not_done h.gate)
+    ∙ ap (λ t. record (if t then decided h b else h) { gate = h.gate }) (not_decide h.gate)
+
+pub still_gated : (m : MapValue) (h k : History) (b : BoardValue) (gate : ℕ) → h.gate ≡ gate → h ≡ k → h ≡ gated m k b gate
+still_gated m h k b gate is same = sym (same_gate m h b) ∙ ap (gated m h b) is ∙ ap (λ x. gated m x b gate) same
+
+pub still_silent : {A E : Type 0} (old : Option (List ℕ)) (r : Result A E) (gate now : ℕ) (lines : List ℕ) → gate ≡ now → Writes old old r []
+    → Writes old old r (if is_done gate now then lines else [])
+still_silent old r gate now lines same w =
+    let P : List ℕ → Type 0 = λ t. Writes old old r t in
+    let none : [] ≡ (if is_done gate now then lines else []) = ap (λ t. if t then lines else []) (sym (not_done gate)) ∙ ap (λ n. if is_done gate n then lines else []) same in
+    subst P none w
