@@ -5,15 +5,14 @@ use Rattle.std.proofs.Common.{arith, ne_eqb, eq-eqb, cond, length, drop, length-
 use Rattle.std.proofs.Math.Seq.{drop-cons, drop-length}
 use Rattle.std.proofs.lemmas.Bool.{cases_eq}
 use Rattle.std.specs.List.{slice_index}
-use Rattle.runtime_effects.specs.fram_board.Effects.{Store, Send}
+use Rattle.runtime_effects.specs.fram_board.Effects.{Store, Outside, Offered}
 use Rattle.runtime_effects.specs.machine_effects.World.{World, put, received, fram_after, accepted_after, world_after_one, world_after}
 use Rattle.runtime_effects.proofs.machine_effects.Interface.{world_after-append, put_same, put_other}
 use Rattle.runtime_effects.specs.Places.{CopyPair, listed}
 use Rattle.runtime_effects.specs.Stages.{copied_home, sends, emits_sent, commit_closed, commit_effects}
 use Rattle.stands_for.specs.Layout.{IsAmong}
 use Rattle.stands_for.specs.StandsFor.{words_at}
-use Rattle.stands_for.proofs.Keeps.{same_number}
-use Rattle.stands_for.proofs.Walks.{next_base}
+use Rattle.stands_for.proofs.Keeps.{same_number, next_base}
 use Rattle.runtime_effects.specs.memory_map.MemoryMap.{MemoryMap, word_place}
 use Rattle.runtime_effects.specs.memory_map.declared.words.RuntimeWord.TheVariants.{CurrentTask, NextTask, Gate, EmitCount, Base, SentBase}
 
@@ -78,7 +77,7 @@ copies_world (q ∷ qs) x = copies_world qs (world_after_one (Store q.home (x.fr
 sends_world : (n k p : ℕ) (f : ℕ → ℕ) (x : World)
     → world_after (sends n k p f) x ≡ record { fram = x.fram; accepted = accepted_after (sends n k p f) x.accepted }
 sends_world zero k p f x = refl
-sends_world (suc n) k p f x = sends_world n ((k + 1) % 0x10000) (p + 2) f (world_after_one (Send k (f p)) x)
+sends_world (suc n) k p f x = sends_world n ((k + 1) % 0x10000) (p + 2) f (world_after_one (Outside (Offered k (f p))) x)
 
 -- the world behind a commit
 pub behind_commit : (m : MemoryMap) (x : World) → world_after (commit_effects m x.fram) x

@@ -3,7 +3,7 @@
 pub use Rattle.std.proofs.Common.{◌≡◌, ℕ, ◌+◌, ◌*◌, ◌%◌, ◌<◌, ◌==◌, not, List, [], ◌∷◌, ◌++◌, refl, sym, ap, ◌∙◌, subst, arith, Bool, true, false, ◌≤◌, nat_lt}
 pub use Rattle.std.proofs.Common.{nat_le, if◌then◌else◌, Some, ap₂, suc, ◌-◌, length, drop, get_or, append_assoc, append-nil, ◌/◌, eq-eqb, ne_eqb, eqb-true}
 pub use Rattle.std.proofs.Common.{zero, length-append, Option, None, ltb-true, ◌&&◌, ◌≢◌, ◌||◌, lt-ltb, nat_eq, suc-add, ◌^◌, bit_and, bit_xor, ◌⊎◌, inl, inr}
-pub use Rattle.std.proofs.Common.{⊎_elim, w16, le-leb, le-ltb, All}
+pub use Rattle.std.proofs.Common.{⊎_elim, w16, le-leb, le-ltb, All, max}
 pub use Rattle.std.proofs.Math.Bool.{not-not}
 pub use Rattle.std.proofs.lemmas.Bool.{both_ways, and_parts, cases_eq}
 pub use Rattle.std.proofs.lemmas.Bool.Decides.{nat_tests}
@@ -26,6 +26,7 @@ pub use Rattle.array_versions.specs.fram_board.Effects.{Effect, Store, Take}
 pub use Rattle.array_versions.specs.machine_effects.Going.{At, stretch, Goes, StepOutcome, Stops, Stretch, Halted, after_effects, continued, going}
 pub use Rattle.array_versions.specs.machine_effects.Machine.{IsFram, IsRam, MachineBoard, exec, Code}
 pub use Rattle.array_versions.specs.machine_effects.World.{put, IsPrefix}
+pub use Rattle.array_versions.specs.machine_effects.Inputs.{Inputs}
 pub use Rattle.array_versions.specs.machine_effects.msp_cycles.Cycles.{CycleRow, cycles_of, source_cycles, to_register, to_memory, push}
 pub use Rattle.array_versions.specs.msp_step.Effect.{word_sum as sum16, distance, is_met, operated, writes_destination}
 -- forms of instructions
@@ -35,7 +36,7 @@ pub use Rattle.code_forms.specs.Code.{Stands, forms_bytes, forms_run, Runs, Star
 pub use Rattle.code_forms.specs.Forms.{R4, R5, Core, Number, Constant, ToRegister, ToIndexed, Form, Move, Calculate, Update, form_bytes, Register}
 pub use Rattle.code_forms.specs.Forms.{instruction_of, Push, Fram, Ram, ToFram, Source, Jump, Skip, Branch, source_bytes, ToRam, target_bytes, WorkRegister, R6}
 pub use Rattle.code_forms.specs.Forms.{R7, work_number, Indexed, HasPushRoom, source_operand, source_value, source_read, SourceNeeds, board_of, Modify, sensed}
-pub use Rattle.code_forms.specs.Forms.{flags_after, form_step, FormNeeds, IsNotMov}
+pub use Rattle.code_forms.specs.Forms.{flags_after, form_step, FormNeeds, IsNotMov, SetStack}
 pub use Rattle.code_forms.specs.Placed.{instructions, words_of as instruction_words, AreInstructions}
 -- word programs
 pub use Rattle.array_versions.proofs.Interface.{put_words, Leaves, leaves, plain_small, Matches, GoesWell, matches_local, start_matches, step_well, well}
@@ -43,14 +44,14 @@ pub use Rattle.array_versions.proofs.Interface.{whole_ends_soundly, local_words,
 pub use Rattle.array_versions.specs.Behaviour.{WordState, is_place, stored, word_emitted, entry_stored, Behaviour, End, GoesOn, Jumps, Short, Strays, Broken}
 pub use Rattle.array_versions.specs.Behaviour.{behind_effects, on_end, strays, raised, ends_before, listed_behind, first_stored, with_stack, assigned}
 pub use Rattle.array_versions.specs.Behaviour.{step_behaviour, behaviour, with_local, turns, pushed, behaves, goes_on, broken, word_stored, jumped, with_top}
-pub use Rattle.array_versions.specs.Behaviour.{with_two, at_place, element_pushed, own_element, versioned_pushed, versioned_stored, reading_pushed, own_stored}
+pub use Rattle.array_versions.specs.Behaviour.{with_two, at_place, element_pushed, own_element, versioned_pushed, versioned_stored, with_readings, reading_pushed, own_stored}
 pub use Rattle.array_versions.specs.Behaviour.{own_place, own_kept, own_updated, versioned_updated, started, local_pushed, local_updated, number_pushed}
 pub use Rattle.array_versions.specs.Behaviour.{way_by_top, way_by_two, then_on, tested}
 pub use Rattle.array_versions.specs.Cost.{spent_on, unary_words, binary_words, right_words, shift_words, step_words, test_words, words_of, turns_spent}
 pub use Rattle.array_versions.specs.Cost.{unary_cycles, binary_cycles, top_spent, spent_by_top, spent_by_two, step_spent, test_spent, spent}
 pub use Rattle.array_versions.specs.Form.{StepLocalsBelow, TestLocalsBelow, LocalsBelow, StepSpares, Spares, Place, start, assigning, Moves, EachTurn}
 pub use Rattle.array_versions.specs.Form.{EachStepWay, EachTestWay, EachWay, TestSpares, StepLoopsCount, TestLoopsCount, LoopsCount, StepOfWords, TestOfWords}
-pub use Rattle.array_versions.specs.Form.{OfWords}
+pub use Rattle.array_versions.specs.Form.{OfWords, step_locals, test_locals, locals_of}
 pub use Rattle.array_versions.specs.Operations.{is_true, compare_words, unary_word, plain_word, binary_word, shift_word, shifted_word}
 pub use Rattle.array_versions.specs.Program.{Step, Test, Program, number, load, keep, update, local, set_local, update_local, unary, binary, shift, long}
 pub use Rattle.array_versions.specs.Program.{element, emit_word, list_entry, versioned_read, versioned_write, versioned_update, sense, truth, choose, repeat}
@@ -70,6 +71,7 @@ pub use Rattle.array_versions.specs.declared.program.ListPlace.{ListPlace}
 -- this room's own definitions
 pub use Rattle.word_code.specs.Code.{number_source, check_code, zero_code, fetch_code, element_code, emit_code, pair_code, entry_code, compare_form, holding}
 pub use Rattle.word_code.specs.Code.{failing, jump_over, decision, waiting_source, flushed, top_of, below_top, any_held, repeated, size, waiting_behind}
+pub use Rattle.word_code.specs.Code.{stack_base, stack_set, stack_cycles, code_spent}
 pub use Rattle.word_code.specs.Code.{step_code, steps_code, local_address, local_target, source_from, cleared, kept, four_from, top_number, element_at, stays}
 pub use Rattle.word_code.specs.Code.{sides, right_source, top_power, two_code, power_code, five_from, top_to_four, top_to_five, two_to_registers, unary_middle}
 pub use Rattle.word_code.specs.Code.{binary_middle, plain_instruction, update_code, double, halve, right_code, shift_by, last_bit, shift_code, shift_middle}
