@@ -79,9 +79,10 @@ follows_by : (m : Option MapValue) (s : ShadowValue) (is_known : Bool) (gate : �
     → IsNextInstruction b i → (executed b i).answer ≡ Ok done → FollowsBy m s is_known gate b.fram
     → FollowsButBy m done.wrote s is_known gate (executed b i).board.fram
 follows_by None s is_known gate b i done is next answer h = tt
-follows_by (Some m) s is_known gate b i done is next answer h =
-    (λ k inside but marked. h.0 k inside marked ∙ sym (kept_elsewhere b i done k is next answer but),
-    λ but known. h.1 known ∙ sym (kept_elsewhere b i done (place_of m.words.gate) is next answer but))
+follows_by (Some m) s is_known gate b i done is next answer h = (
+  λ k inside but marked. h.0 k inside marked ∙ sym (kept_elsewhere b i done k is next answer but),
+  λ but known. h.1 known ∙ sym (kept_elsewhere b i done (place_of m.words.gate) is next answer but),
+)
 
 -- behind an instruction all is followed but what it wrote
 pub follows_but : (s : Seen) (b after : BoardValue) (i : Instr) (done : Stepped) → IsBoard b → IsNextInstruction b i

@@ -85,19 +85,19 @@ fn clear(marks: &mut Vec<bool>)
 
 // The words at these places, which are those that differ or are marked, become those of the FRAM, and lose their marks.
 fn follow_places(
-    words: &mut [u16],
-    marks: &mut [bool],
-    blocks: &mut [bool],
-    regions: &mut [bool],
+    words: &mut Vec<u16>,
+    marks: &mut Vec<bool>,
+    blocks: &mut Vec<bool>,
+    regions: &mut Vec<bool>,
     places: &[u16],
     fram: &[u16],
 )
-    requires lengths { HasLengths words.old marks.old blocks.old regions.old }
+    requires lengths { HasLengths words.old.items marks.old.items blocks.old.items regions.old.items }
     requires inside { All (λ p. p < fram_words) places.now }
     requires fram { length fram.now ≡ fram_words }
-    requires rest { AreRest words.old marks.old fram.now places.now }
-    ensures lengths { HasLengths words.new marks.new blocks.new regions.new }
-    ensures rest { AreRest words.new marks.new fram.now [] }
+    requires rest { AreRest words.old.items marks.old.items fram.now places.now }
+    ensures lengths { HasLengths words.new.items marks.new.items blocks.new.items regions.new.items }
+    ensures rest { AreRest words.new.items marks.new.items fram.now [] }
 {
     for listed in places {
         let place = usize::from(*listed);
@@ -322,10 +322,10 @@ impl Shadow {
         ensures { self.new.words ≡ board.now.fram }
     {
         follow_places(
-            self.words.as_mut_slice(),
-            self.marks.as_mut_slice(),
-            self.blocks.as_mut_slice(),
-            self.regions.as_mut_slice(),
+            &mut self.words,
+            &mut self.marks,
+            &mut self.blocks,
+            &mut self.regions,
             self.places.as_slice(),
             board.fram(),
         );
