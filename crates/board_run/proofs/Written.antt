@@ -11,7 +11,7 @@ use Rattle.fram_board.specs.declared.board.Stepped.{Stepped}
 use Rattle.fram_board.specs.Bus.{is_fram}
 use Rattle.fram_board.specs.Board.{BoardValue, executed, IsNextInstruction}
 use Rattle.fram_board.specs.Steps.{IsBoard, KeepsAllButTaken}
-use Rattle.fram_board.specs.Effects.{Effect, Store, Take, Send, takes_of, store_at, stores_of, sends_of, effects_of, stored}
+use Rattle.fram_board.specs.Effects.{Effect, Store, Take, Outside, takes_of, store_at, stores_of, sends_of, effects_of, stored}
 use Rattle.fram_board.proofs.Interface.{step_makes_its_effects, fram_low}
 use Rattle.board_run.specs.declared.seen.Seen.{Seen}
 use Rattle.board_run.specs.Shadow.{ShadowValue, IsWritten}
@@ -22,19 +22,19 @@ abbrev NoStore : List Effect → ℕ → Type 0
 NoStore [] i = Unit {0}
 NoStore (Store a w ∷ es) i = (i ≡ place_of a → ⊥) × NoStore es i
 NoStore (Take w ∷ es) i = NoStore es i
-NoStore (Send n w ∷ es) i = NoStore es i
+NoStore (Outside o ∷ es) i = NoStore es i
 
 stays : (es : List Effect) (fram : List ℕ) (i : ℕ) → NoStore es i → slice_index (stored es fram) i ≡ slice_index fram i
 stays [] fram i h = refl
 stays (Store a w ∷ es) fram i h = stays es (slice_set fram (place_of a) w) i h.1 ∙ get_or-set_other fram (place_of a) i w 0 h.0
 stays (Take w ∷ es) fram i h = stays es fram i h
-stays (Send n w ∷ es) fram i h = stays es fram i h
+stays (Outside o ∷ es) fram i h = stays es fram i h
 
 both : (es fs : List Effect) (i : ℕ) → NoStore es i → NoStore fs i → NoStore (es ++ fs) i
 both [] fs i g h = h
 both (Store a w ∷ es) fs i g h = (g.0, both es fs i g.1 h)
 both (Take w ∷ es) fs i g h = both es fs i g h
-both (Send n w ∷ es) fs i g h = both es fs i g h
+both (Outside o ∷ es) fs i g h = both es fs i g h
 
 takes_store_nothing : (ws : List ℕ) (i : ℕ) → NoStore (map (λ w. Take w) ws) i
 takes_store_nothing [] i = tt

@@ -1,6 +1,7 @@
 -- The commit list and the emit buffer keep to their capacities, and version words to VER.
 use Rattle.std.proofs.Common.{ℕ, refl, sym, subst, arith, List}
 use Rattle.compiled_model.specs.machine_effects.World.{World, EachStore}
+use Rattle.compiled_model.specs.machine_effects.Inputs.{Inputs}
 use Rattle.compiled_model.specs.cost_bound.Allowance.{CheckedProgram}
 use Rattle.compiled_model.specs.source_values.Runs.{State}
 use Rattle.compiled_model.specs.memory_map.declared.words.RuntimeWord.TheVariants.{ListLength, EmitCount}
@@ -20,9 +21,9 @@ use Rattle.compiled_bounds.specs.Laws.{CountsFit, CapacitiesAreKept}
 
 module _ (p : CheckedProgram) (l : MemoryMap) (apart : AreApart l) where
   -- a commit stores neither to CLN nor to EN
-  commits_fit : (to : State) (x : World) → CommittingTo (program_places p l) (state_view p l) to x
-      → EachStore (CountsFit l) ((compiled_model p l).commit x.fram)
-  commits_fit to x d =
+  commits_fit : (to : State) (x : World) (inputs : Inputs) → CommittingTo (program_places p l) (state_view p l) to x
+      → EachStore (CountsFit l) ((compiled_model p l).commit x.fram inputs)
+  commits_fit to x inputs d =
       commit_stores_all (program_places p l) apart x d.pending (CountsFit l)
       (λ a w h. record { list = λ e. absurd (omega (arith, apart, h, e)); emits = λ e. absurd (omega (arith, apart, h, e)) })
       (λ w. record { list = λ e. absurd (omega (arith, apart, e)); emits = λ e. absurd (omega (arith, apart, e)) })

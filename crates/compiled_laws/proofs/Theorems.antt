@@ -23,9 +23,9 @@ runs_stand text p allow plans l laid = crash_theorem (compiled_model p l) (compi
     (code_keeps text p allow plans l laid)
 
 pub runs_stop : RunsStopWhereTheSourceIsShort
-runs_stop text p allow plans l laid readings origin x s begins charges t k runs b up fram left n price e halted =
+runs_stop text p allow plans l laid readings origin b up n price e halted =
     let r = stops_short (compiled_model p l) (compiled_program p l) (sources_keep_the_laws text p allow plans l laid) (code_keeps text p allow plans l laid)
-    readings origin x s begins charges t k runs b up fram left n price e halted in
+    readings origin b up n price e halted in
     (r.0, (r.1.0, r.1.2))
 
 pub words_are_sent_once : WordsAreSentOnce
@@ -36,7 +36,6 @@ reads_in_order text p allow plans l laid = spans_follow (compiled_model p l) (co
     (code_keeps text p allow plans l laid)
 
 pub bounds_pay : BoundsPayForTransitions
-bounds_pay text p allow plans l laid readings origin x s begins charges t k runs b q up fram left n amount steps pays spends =
+bounds_pay text p allow plans l laid readings origin b up n amount pays spent =
     progress_law (compiled_model p l) (compiled_program p l) (sources_keep_the_laws text p allow plans l laid) (code_keeps text p allow plans l laid)
-    readings origin x s begins charges t k runs b q up fram left n amount steps
-    (subst (λ c. n * c ≤ amount) (sym (bound_is_the_sources p l)) pays) spends
+    readings origin b up n amount (subst (λ c. n * c ≤ amount) (sym (bound_is_the_sources p l)) pays) spent

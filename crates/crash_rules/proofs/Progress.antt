@@ -6,19 +6,20 @@ use Rattle.machine_effects.specs.msp_step.declared.machine.Stop.TheVariants as s
 use Rattle.machine_effects.specs.fram_board.Effects.{Effect}
 use Rattle.machine_effects.specs.Going.{Goes, Stops, At, Halted, stretch, after_effects, continued, going, Stalls}
 use Rattle.machine_effects.specs.Machine.{MachineBoard, MachineOutcome}
-use Rattle.crash_rules.specs.Model.{Model, ModelLaws, IsWord, bound}
+use Rattle.crash_rules.specs.Model.{Model, ModelLaws, ProgramEffects, IsWord, bound}
 use Rattle.crash_rules.specs.History.{History, observe}
 use Rattle.crash_rules.specs.Runs.{Program, Makes, ProgramLaws, TakesCycles, IsSpent, Spends}
-use Rattle.crash_rules.specs.Laws.{Origin, Matches}
+use Rattle.crash_rules.specs.Laws.{Origin}
 use Rattle.crash_rules.proofs.Observed.{observe-append, dones_grow}
 use Rattle.crash_rules.proofs.Steps.{goes_on, halts, fewer, leads_end, stalls_end}
-use Rattle.crash_rules.proofs.Plays.{AtPoint, scripted, makes_script, Round, round}
+use Rattle.crash_rules.proofs.Cuts.{script_at}
+use Rattle.crash_rules.proofs.Plays.{IsThere, makes_script, Round, round}
 
-one_bound : (n b amount : ℕ) → suc n * b ≤ amount → b ≤ amount
-one_bound n b amount h = omega (arith, h)
+one_bound : (n b d amount : ℕ) → suc n * b + d ≤ amount → b + d ≤ amount
+one_bound n b d amount h = omega (arith, h)
 
-fewer_bounds : (n b c amount : ℕ) → suc n * b ≤ amount → c ≤ b → n * b ≤ amount - c
-fewer_bounds n b c amount h k = omega (arith, h, k)
+fewer_bounds : (n b d e c amount : ℕ) → suc n * b + d ≤ amount → c + e ≤ b + d → n * b + e ≤ amount - c
+fewer_bounds n b d e c amount h k = omega (arith, h, k)
 
 can_pay : (amount used c : ℕ) → used + c ≤ amount → 0 < c → (amount - used ≡ 0) ⊎ (amount - used < c) → ⊥
 can_pay amount used c le some h = ⊎_elim {C = ⊥} (λ z. absurd (omega (arith, le, some, z))) (λ l. absurd (omega (arith, le, some, l))) h
@@ -70,18 +71,34 @@ module _ (step : MachineBoard → MachineOutcome) (takes : (s : MachineBoard) �
 
 module _ {St : Type 0} (m : Model St) (laws : ModelLaws m) (c : Program) (code : ProgramLaws m c) (readings : List ℕ) (words : All IsWord readings)
     (origin : Origin St) where
+  abbrev IsAt : MachineBoard → History → Type 0
+  IsAt b h = IsThere m laws c code readings words origin b h
+
+  abbrev script_there : History → ProgramEffects
+  script_there h = script_at m laws readings words origin h
+
+  abbrev RoundOf : History → MachineBoard → Type 0
+  RoundOf h b = Round m laws c code readings words origin h b
+
+  abbrev behind_script : History → History
+  behind_script h = observe m.marks (script_there h).effects h
+
   abbrev Counts : ℕ → History → List Effect → Type 0
-  Counts n h es = n + length h.completed ≤ length (observe m.gate es h).completed
+  Counts n h es = n + length h.completed ≤ length (observe m.marks es h).completed
+
+  -- what pays for n scripts from a board on
+  abbrev Pays : ℕ → MachineBoard → ℕ → Type 0
+  Pays n b amount = n * bound m + m.delay b.inputs ≤ amount
 
   -- a whole script, and what the rest of the charge pays for
-  round_counts : (n amount k : ℕ) (h : History) (b q : MachineBoard) (r : Round m laws c code readings words origin h b) → suc n * bound m ≤ amount
+  round_counts : (n amount k : ℕ) (h : History) (b q : MachineBoard) (r : RoundOf h b) → Pays (suc n) b amount
       → Spends c.step amount k b q → ((j : ℕ) → Spends c.step (amount - r.cycles) j r.board q
-      → Counts n (observe m.gate (scripted m laws c code readings words origin b).effects h) (going c.step j r.board).effects)
+      → Counts n (behind_script h) (going c.step j r.board).effects)
       → Counts (suc n) h (going c.step k b).effects
   round_counts n amount k h b q r most sp next =
-      let es = (scripted m laws c code readings words origin b).effects in
+      let es = (script_there h).effects in
       let end = leads_end c.step r.steps es r.cycles b r.board r.leads in
-      let enough = one_bound n (bound m) amount most in
+      let enough = one_bound n (bound m) (m.delay b.inputs) amount most in
       let within = r.within in
       ⊎_elim
       (λ lt.
@@ -102,32 +119,30 @@ module _ {St : Type 0} (m : Model St) (laws : ModelLaws m) (c : Program) (code :
         spent = subst (λ l. IsSpent l (c.step q)) rest sp.spent;
       } in
       let counts = next j more in
-      let one : length (observe m.gate es h).completed ≡ length h.completed + 1 = ap length r.next.completed ∙ length-append h.completed (r.next.done ∷ []) in
-      let is : observe m.gate (going c.step k b).effects h ≡ observe m.gate (going c.step j r.board).effects (observe m.gate es h) = ap
-      (λ z. observe m.gate z.effects h) there ∙ observe-append m.gate es (going c.step j r.board).effects h in
+      let one : length (behind_script h).completed ≡ length h.completed + 1 = ap length r.next.completed ∙ length-append h.completed (r.next.done ∷ []) in
+      let is : observe m.marks (going c.step k b).effects h ≡ observe m.marks (going c.step j r.board).effects (behind_script h) = ap
+      (λ z. observe m.marks z.effects h) there ∙ observe-append m.marks es (going c.step j r.board).effects h in
       subst (λ z. suc n + length h.completed ≤ length z.completed) (sym is) (omega (arith, counts, one)))
       (cases_lt k r.steps)
 
-  end_counts : (n amount k : ℕ) (h : History) (b q : MachineBoard) → Matches readings b h → AtPoint m laws c code readings words origin h
-      → Makes c (bound m) (scripted m laws c code readings words origin b) b → suc n * bound m ≤ amount → Spends c.step amount k b q
-      → ((r : Round m laws c code readings words origin h b) (j : ℕ) → Spends c.step (amount - r.cycles) j r.board q
-      → Counts n (observe m.gate (scripted m laws c code readings words origin b).effects h) (going c.step j r.board).effects) → (v : Bool)
-      → (scripted m laws c code readings words origin b).ends ≡ v → Counts (suc n) h (going c.step k b).effects
-  end_counts n amount k h b q mt p mk most sp next true e = let r =
-      round m laws c code readings words origin h b mt p mk e in round_counts n amount k h b q r most sp (next r)
-  end_counts n amount k h b q mt p mk most sp next false e =
+  end_counts : (n amount k : ℕ) (h : History) (b q : MachineBoard) → IsAt b h → Makes c m.delay (bound m) (script_there h) b → Pays (suc n) b amount
+      → Spends c.step amount k b q → ((r : RoundOf h b) (j : ℕ) → Spends c.step (amount - r.cycles) j r.board q
+      → Counts n (behind_script h) (going c.step j r.board).effects) → (v : Bool)
+      → (script_there h).ends ≡ v → Counts (suc n) h (going c.step k b).effects
+  end_counts n amount k h b q t mk most sp next true e =
+      let r = round m laws c code readings words origin h b t mk e in round_counts n amount k h b q r most sp (next r)
+  end_counts n amount k h b q t mk most sp next false e =
       let l = mk.lacks e in
-      let le = l.1 in
-      let enough = one_bound n (bound m) amount most in
-      absurd (stall_paid c.step code.takes_cycles amount k mk.steps mk.cycles l.0 (scripted m laws c code readings words origin b).effects b q
-      (c.step q) refl (code.takes_cycles q) sp.status l.2 (omega (arith, le, enough)) sp.spent)
+      let le = l.within in
+      let enough = one_bound n (bound m) (m.delay b.inputs) amount most in
+      absurd (stall_paid c.step code.takes_cycles amount k mk.steps mk.cycles l.price (script_there h).effects b q
+      (c.step q) refl (code.takes_cycles q) sp.status l.stalls (omega (arith, le, enough)) sp.spent)
 
-  pub counts_from : (n amount k : ℕ) (h : History) (b q : MachineBoard) → c.AtEntry b → Matches readings b h
-      → AtPoint m laws c code readings words origin h → n * bound m ≤ amount → Spends c.step amount k b q → Counts n h (going c.step k b).effects
-  counts_from zero amount k h b q en mt p most sp = let g = dones_grow m.gate (going c.step k b).effects h in omega (arith, g)
-  counts_from (suc n) amount k h b q en mt p most sp =
-      end_counts n amount k h b q mt p (makes_script m laws c code readings words origin h b en mt p) most sp
-      (λ r j more. let within = r.within in counts_from n (amount - r.cycles) j
-      (observe m.gate (scripted m laws c code readings words origin b).effects h) r.board q r.entry r.matches r.next.point
-      (fewer_bounds n (bound m) r.cycles amount most within) more)
-      (scripted m laws c code readings words origin b).ends refl
+  pub counts_from : (n amount k : ℕ) (h : History) (b q : MachineBoard) → IsAt b h → Pays n b amount → Spends c.step amount k b q
+      → Counts n h (going c.step k b).effects
+  counts_from zero amount k h b q t most sp = let g = dones_grow m.marks (going c.step k b).effects h in omega (arith, g)
+  counts_from (suc n) amount k h b q t most sp =
+      end_counts n amount k h b q t (makes_script m laws c code readings words origin h b t) most sp
+      (λ r j more. let within = r.within in counts_from n (amount - r.cycles) j (behind_script h) r.board q r.there
+      (fewer_bounds n (bound m) (m.delay b.inputs) (m.delay r.board.inputs) r.cycles amount most within) more)
+      (script_there h).ends refl

@@ -7,11 +7,11 @@ use Rattle.image_laws.specs.fram_board.Board.{BoardValue, fresh}
 use Rattle.image_laws.specs.fram_board.Run.{BoardCharge, RunOutcome, Run}
 use Rattle.image_laws.specs.board_run.Charges.{charges_of}
 use Rattle.image_laws.specs.machine_effects.World.{World}
-use Rattle.image_laws.specs.machine_effects.View.{machine_of}
 use Rattle.image_laws.proofs.machine_effects.Interface.{fresh_is_whole}
 use Rattle.image_laws.specs.source_values.Runs.{CheckedProgram, first_state}
 use Rattle.image_laws.specs.crash_rules.Laws.{Resting, Begins}
 use Rattle.image_laws.proofs.crash_rules.Interface.{runs_may_begin}
+use Rattle.image_laws.specs.run_charges.View.{outside_of}
 use Rattle.image_laws.specs.run_charges.Charges.{ArePowerStates, IsPlacedProgram}
 use Rattle.image_laws.specs.run_charges.Laws.{IsRunOfWords}
 use Rattle.image_laws.specs.memory_map.MemoryMap.{MemoryMap}
@@ -38,7 +38,7 @@ module _ (text : List ℕ) (p : CheckedProgram) (allow : Allow) (image : ImageVa
   abbrev b : BoardValue
   b = fresh image.words readings
 
-  abbrev pub begins : Begins (compiled_model p l) readings (Resting (first_state p)) x (machine_of b)
+  abbrev pub begins : Begins (compiled_model p l) readings (Resting (first_state p)) x (outside_of b)
   begins = record {
     fram = refl;
     readings_left = refl;
@@ -59,7 +59,7 @@ module _ (text : List ℕ) (p : CheckedProgram) (allow : Allow) (image : ImageVa
           instructions = source_code p l;
           placed = subst P (sym new.vector) (code_is_placed p l new.fits);
           holds = new.code;
-          leaves = runs_leave_the_code p l ready.code ready.model ready.stores readings (Resting (first_state p)) x (machine_of b) begins;
+          leaves = runs_leave_the_code p l ready.code ready.model ready.stores readings (Resting (first_state p)) x (outside_of b) begins;
         };
       }
 

@@ -12,6 +12,7 @@ use Rattle.image_laws.specs.source_values.Running.{IsRunnable}
 use Rattle.image_laws.specs.source_meaning.Acceptance.{IsAcceptedText}
 use Rattle.image_laws.proofs.source_meaning.Interface.{accepted_texts_run}
 use Rattle.image_laws.specs.crash_rules.Laws.{Resting}
+use Rattle.image_laws.specs.run_charges.View.{outside_of}
 use Rattle.image_laws.specs.run_charges.Laws.{IsRunOfWords}
 use Rattle.image_laws.specs.memory_map.declared.words.RuntimeWord.TheVariants.{Gate, ListLength, EmitCount}
 use Rattle.image_laws.specs.memory_map.MemoryMap.{MemoryMap, word_place}
@@ -67,7 +68,7 @@ module _ (text : List ℕ) (p : CheckedProgram) (allow : Allow) (image : ImageVa
   -- at each board of a run under any charges
   pub capacities_stay : (cs : List BoardCharge) (readings : List ℕ) → All (λ w. w < 0x10000) readings → (r : RunOutcome)
       → IsRunOfWords cs (fresh image.words readings) r → (ms rest : List Moment) → r.moments ≡ ms ++ rest
-      → KeepsCapacities l (fram_of (last_board (fresh image.words readings) ms).fram)
+      → KeepsCapacities l (outside_of (last_board (fresh image.words readings) ms)).fram
   capacities_stay cs readings words r run ms rest e =
       let ready = sources_are_ready text p allow c.plans l laid in
       let new = images_are_fresh text p allow image ok c in

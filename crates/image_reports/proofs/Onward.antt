@@ -14,7 +14,6 @@ use Rattle.image_laws.proofs.fram_board.Interface.{fill_is_a_power_state}
 use Rattle.image_laws.specs.machine_effects.World.{World, fram_after, IsPrefix}
 use Rattle.image_laws.specs.machine_effects.Going.{going, continued}
 use Rattle.image_laws.specs.machine_effects.Machine.{fram_of}
-use Rattle.image_laws.specs.machine_effects.View.{machine_of}
 use Rattle.image_laws.specs.machine_effects.Runs.{last_board}
 use Rattle.image_laws.specs.code_forms.Placed.{words_of, Holds}
 use Rattle.image_laws.specs.cost_bound.declared.allowance.Allow.{Allow}
@@ -31,13 +30,16 @@ use Rattle.image_laws.specs.crash_rules.Model.{IsElsewhere, Model, ModelLaws, pr
 use Rattle.image_laws.specs.crash_rules.History.{History, first_history}
 use Rattle.image_laws.specs.crash_rules.Runs.{Program}
 use Rattle.image_laws.specs.crash_rules.Laws.{Origin, Phase, UndecidedPhase, DecidedPhase, CommittingPhase, StandsFor, Begins}
+use Rattle.image_laws.proofs.machine_effects.Interface.{power_up_keeps_words}
 use Rattle.image_laws.proofs.crash_rules.Interface.{world_fram, never_lost, sent_once, pending_sends, stops_short, stores_only}
+use Rattle.image_laws.specs.run_charges.View.{outside_of, IsMomentFrom, PowersUp, Instructs, AreMoments}
 use Rattle.image_laws.specs.run_charges.Charges.{AreInstructionMoments, IsPlacedProgram}
 use Rattle.image_laws.specs.run_charges.Laws.{IsRunOfWords}
-use Rattle.image_laws.proofs.run_charges.Interface.{IsMomentFrom, PowersUp, Instructs, AreMoments, are_behind, front_moments, Counts, moments_count}
+use Rattle.image_laws.proofs.run_charges.Interface.{follows_keeps, are_behind, front_moments, run_front, instructions_reach, PlacedProgram, is_powered, leads}
+use Rattle.image_laws.proofs.run_charges.Interface.{reached_on, Counts, moments_count}
 use Rattle.image_laws.specs.model_runs.Runs.{BearsModel, Progresses}
 use Rattle.image_laws.specs.model_runs.EventLaws.{StartsWith}
-use Rattle.image_laws.proofs.model_runs.Interface.{AtFront, at_front, is_powered, program_leads, starts_hold, fronts_are_lawful, makes_progress}
+use Rattle.image_laws.proofs.model_runs.Interface.{stood, AtFront, at_front, starts_hold, fronts_are_lawful, makes_progress}
 use Rattle.image_laws.specs.stands_for.StandsFor.{HoldsWords, IsSound, SoundAtRest, SoundPending}
 use Rattle.image_laws.proofs.stands_for.Interface.{commit_stores_there, each_weaker}
 use Rattle.image_laws.specs.compiled_model.Places.{program_places}
@@ -155,7 +157,7 @@ module _ (text : List ℕ) (p : CheckedProgram) (allow : Allow) (image : ImageVa
   stands_there = holds_as (fram_of fram) (fram_of image.words) (words_of (source_code p l)) l.boot.address (code_is_placed p l new.fits).even
       belongs.code.code new.code
 
-  abbrev pub begins : Begins model readings origin x (machine_of b)
+  abbrev pub begins : Begins model readings origin x (outside_of b)
   begins = record { fram = refl; readings_left = refl; words = words; stands = begun }
 
   abbrev pub bearing : BearsModel model program readings origin x b
@@ -170,7 +172,7 @@ module _ (text : List ℕ) (p : CheckedProgram) (allow : Allow) (image : ImageVa
           instructions = source_code p l;
           placed = subst P (sym (belongs.code.vector ∙ new.vector)) (code_is_placed p l new.fits);
           holds = stands_there;
-          leaves = runs_leave_the_code p l ready.code ready.model ready.stores readings origin x (machine_of b) begins;
+          leaves = runs_leave_the_code p l ready.code ready.model ready.stores readings origin x (outside_of b) begins;
         };
       }
 
@@ -178,28 +180,37 @@ module _ (text : List ℕ) (p : CheckedProgram) (allow : Allow) (image : ImageVa
   starts_with = record { fram = refl; accepted = omega (arith, count); taken = refl }
 
   -- a charge stops for want of a reading alone, wherever charges lead
-  stops_at_readings : StopsAtReadings program (word_place l Gate) (machine_of b) (first_history (word_place l Gate) x)
+  stops_at_readings : StopsAtReadings program (word_place l Gate) (outside_of b) (first_history (word_place l Gate) x)
   stops_at_readings es t k charged q up fram left n price e halted =
-      (stops_short model program ready.model bearing.program readings origin x (machine_of b) bearing.begins es t k charged q up fram left n price e halted).0
+      (stops_short model program ready.model bearing.program readings origin x (outside_of b) bearing.begins es t k charged q up fram left n price e halted).0
 
   -- no step stores on the code or behind it
   never_there : (a : ℕ) → l.boot.address ≤ a
-      → NeverThere a program bearing.program.changes (word_place l Gate) (machine_of b) (first_history (word_place l Gate) x)
+      → NeverThere a program bearing.program.changes (word_place l Gate) (outside_of b) (first_history (word_place l Gate) x)
   never_there a from es t k charged q up fram left n =
       let P : ℕ → ℕ → Type 0 = λ d w. d < l.boot.address in
       let apart = ready.code.apart in
       each_weaker P (IsElsewhere a) (λ d w low e. omega (arith, low, from, e)) _
       (stores_only model program P ready.model bearing.program (λ st y rs w u. ready.stores.below st y rs w u)
       (λ to y d. each_weaker _ P (λ d w h. let low = h.below in omega (arith, low, apart)) _ (commit_stores_there (program_places p l) y apart d.pending))
-      readings origin x (machine_of b) begins es t k charged q up fram left n)
+      readings origin x (outside_of b) begins es t k charged q up fram left n)
+
+  abbrev on : PlacedProgram
+  on = stood model program readings origin x b bearing
+
+  abbrev IsReached : BoardValue → History → Type 0
+  IsReached = AtFront model program readings origin x b bearing
+
+  reached : (ms rest : List Moment) → r.moments ≡ ms ++ rest → IsReached (last_board b ms) (known_from l x ms)
+  reached ms rest e = at_front model program readings origin x b bearing ms (run_front cs b r ms rest run e)
 
   -- the board is one that a power-up left
-  begins_on : GoesOn program (machine_of b)
+  begins_on : GoesOn program (outside_of b)
   begins_on es price e stops =
-      let at = at_front model program readings origin x cs b r run bearing [] r.moments refl in
+      let at = reached [] r.moments refl in
       let zero_fill = fill_is_a_power_state 0 (omega arith) in
-      let up = is_powered model program readings origin x cs b r run bearing b (first_history (word_place l Gate) x) at (filled 0) zero_fill in
-      stops_at_readings [] (machine_of b) (first_history (word_place l Gate) x) (refl, refl) (machine_of b) up refl refl 1 price e
+      let up = is_powered on b (first_history (word_place l Gate) x) at.ready (filled 0) zero_fill in
+      stops_at_readings [] (outside_of b) (first_history (word_place l Gate) x) (refl, refl) (outside_of b) up refl refl 1 price e
       (ap (λ o. (continued o (going program.step zero)).status) stops)
 
   -- at each front
@@ -222,12 +233,12 @@ module _ (text : List ℕ) (p : CheckedProgram) (allow : Allow) (image : ImageVa
     abbrev h : History
     h = known_from l x ms
 
-    at : AtFront model program readings origin x cs b r run bearing t h
-    at = at_front model program readings origin x cs b r run bearing ms rest e
+    at : IsReached t h
+    at = reached ms rest e
 
-    stands : StandsOn (placed_code p l) (machine_of t)
-    stands = stands_on (placed_code p l) (machine_of t)
-        (goes_on program (word_place l Gate) at.charges (machine_of b) (machine_of t)
+    stands : StandsOn (placed_code p l) (outside_of t)
+    stands = stands_on (placed_code p l) (outside_of t)
+        (goes_on program (word_place l Gate) at.charges (outside_of b) (outside_of t)
         (first_history (word_place l Gate) x) h stops_at_readings begins_on at.charged)
 
     fetches : FetchesCode p l image t
@@ -238,7 +249,7 @@ module _ (text : List ℕ) (p : CheckedProgram) (allow : Allow) (image : ImageVa
         let pc = registers_of t.cpu 0 in
         let i = stands.instruction in
         let is = source_code p l in
-        let here = placed_within (fram_of t.fram) is l.boot.address pc i placed.instructions placed.even at.ready.holds stands.there in
+        let here = placed_within (outside_of t).fram is l.boot.address pc i placed.instructions placed.even at.ready.holds stands.there in
         let there = placed_within (fram_of image.words) is l.boot.address pc i placed.instructions placed.even new.code stands.there in
         let from = here.from in
         let to = here.to in
@@ -254,21 +265,21 @@ module _ (text : List ℕ) (p : CheckedProgram) (allow : Allow) (image : ImageVa
           same = there.holds;
         }
 
-    keeps_code : KeepsCode p l image (fram_of t.fram)
+    keeps_code : KeepsCode p l image (outside_of t).fram
     keeps_code = record {
-      code = λ a even from to. same_words (fram_of t.fram) (fram_of image.words) (words_of (source_code p l)) l.boot.address a at.ready.holds new.code
+      code = λ a even from to. same_words (outside_of t).fram (fram_of image.words) (words_of (source_code p l)) l.boot.address a at.ready.holds new.code
           (code_is_placed p l new.fits).even even from to;
       vector = at.ready.vector ∙ belongs.code.vector;
     }
 
-    keeps_capacities : KeepsCapacities l (fram_of t.fram)
+    keeps_capacities : KeepsCapacities l (outside_of t).fram
     keeps_capacities =
         capacities_are_kept program p l ready.code.apart (attempts_fit text p allow image ok c) readings origin x cs b r run bearing belongs.capacities
         ms rest e
 
-    kept : (a : ℕ) → l.boot.address ≤ a → fram_of t.fram a ≡ x.fram a
+    kept : (a : ℕ) → l.boot.address ≤ a → (outside_of t).fram a ≡ x.fram a
     kept a from =
-        untouched a program bearing.program.changes (word_place l Gate) at.charges (machine_of b) (machine_of t) (first_history (word_place l Gate) x) h
+        untouched a program bearing.program.changes (word_place l Gate) at.charges (outside_of b) (outside_of t) (first_history (word_place l Gate) x) h
         (never_there a from) at.charged
 
     pub front : HoldsFrom p l image x origin readings t ms h
@@ -292,11 +303,11 @@ module _ (text : List ℕ) (p : CheckedProgram) (allow : Allow) (image : ImageVa
           never_lost = λ decided. let kept = never_lost model ready.model readings origin h lawful decided in
               (ap (λ f. f (word_place l Gate)) same ∙ kept.0, kept.1);
           accepted = sent_once model ready.model readings origin h lawful.stands;
-          sent = λ to is none. pending_sends model program ready.model bearing.program readings to x (machine_of b)
-              (subst (λ o. Begins model readings o x (machine_of b)) is begins) at.charges (machine_of t) h at.charged none;
+          sent = λ to is none. pending_sends model program ready.model bearing.program readings to x (outside_of b)
+              (subst (λ o. Begins model readings o x (outside_of b)) is begins) at.charges (outside_of t) h at.charged none;
           versions = λ made.
               let P : (ℕ → ℕ) → Type 0 = λ f. VersionsBelow l f in
-              let f : fram_of t.fram ≡ fram_after (start_due l h.start.fram) h.start.fram =
+              let f : (outside_of t).fram ≡ fram_after (start_due l h.start.fram) h.start.fram =
               same ∙ ap (λ w. w.fram) lawful.world ∙ world_fram h.effects h.start ∙ ap (λ es. fram_after es h.start.fram) made in
               let kept = began ms rest e in
               subst P (sym f) (versions_below (program_places p l) ready.code.apart (privates_in (task_entries l)) ready.code.privates h.start.fram
@@ -311,44 +322,37 @@ module _ (text : List ℕ) (p : CheckedProgram) (allow : Allow) (image : ImageVa
         }
 
   -- VER is raised by the fifth instruction of a charge
-  module _ (ms : List Moment) (power : PowerState) (powers : IsPowerState power) (at : AtFront model program readings origin x cs b r run bearing
-      (last_board b ms) (known_from l x ms)) where
-    abbrev on : BoardValue
-    on = powered (last_board b ms) power
+  module _ (t : BoardValue) (h : History) (at : IsReached t h) (power : PowerState) (powers : IsPowerState power) where
+    abbrev start : BoardValue
+    start = powered t power
 
-    raised_by_five : (first : List Moment) → AreMoments on first → AreInstructionMoments first → length first ≡ 5
-        → fram_of on.fram (word_place l Gate) ≡ 0 → fram_of on.fram (word_place l Version) < 0xFFFF
-        → fram_of (last_board on first).fram (word_place l Version) ≡ fram_of on.fram (word_place l Version) + 1
+    raised_by_five : (first : List Moment) → AreMoments start first → AreInstructionMoments first → length first ≡ 5
+        → (outside_of start).fram (word_place l Gate) ≡ 0 → (outside_of start).fram (word_place l Version) < 0xFFFF
+        → (outside_of (last_board start first)).fram (word_place l Version) ≡ (outside_of start).fram (word_place l Version) + 1
     raised_by_five first are is five gate low =
-        let t = last_board b ms in let h = known_from l x ms in
-        let up = is_powered model program readings origin x cs b r run bearing t h at power powers in
-        let leads = program_leads model program readings origin x cs b r run bearing t h at power powers first are is in
-        power_ups_raise_version p l ready.code (machine_of on) up gate low (machine_of (last_board on first))
-        (ap (λ n. (going program.step n (machine_of on)).status) (sym five) ∙ leads)
+        let reach = instructions_reach start first (power_up_keeps_words t power at.ready.whole at.ready.words powers).0 are is in
+        power_ups_raise_version p l ready.code (outside_of start) (is_powered on t h at.ready power powers) gate low (outside_of (last_board start first))
+        (ap (λ n. (going program.step n (outside_of start)).status) (sym five) ∙ leads on t h at.ready power powers first is reach)
 
   -- what a charge that begins so owes
   abbrev RaisesFrom : List Moment → Moment → Type 0
-  RaisesFrom steps boot = fram_of boot.after.fram (word_place l Gate) ≡ 0 → fram_of boot.after.fram (word_place l Version) ≢ 0xFFFF
+  RaisesFrom steps boot = (outside_of boot.after).fram (word_place l Gate) ≡ 0 → (outside_of boot.after).fram (word_place l Version) ≢ 0xFFFF
       → IsRaisedSoon l boot.after steps
 
-  raises_from : (ms rest steps first more : List Moment) → r.moments ≡ ms ++ rest → steps ≡ first ++ more → length first ≡ 5
-      → AreInstructionMoments first → (boot : Moment) → boot.action ≡ PowerUp → IsMomentFrom (last_board b ms) boot → AreMoments boot.after first
+  raises_from : (t : BoardValue) (h : History) → IsReached t h → HoldsWords (outside_of t).fram → (steps first more : List Moment) → steps ≡ first ++ more
+      → length first ≡ 5 → AreInstructionMoments first → (boot : Moment) → boot.action ≡ PowerUp → IsMomentFrom t boot → AreMoments boot.after first
       → RaisesFrom steps boot
-  raises_from ms rest steps first more e cut five are boot up (Instructs i done current answer is) moments =
+  raises_from t h at words steps first more cut five are boot up (Instructs i done current answer is) moments =
       absurd (let other = sym up ∙ ap (λ y. y.action) is in cc (other))
-  raises_from ms rest steps first more e cut five are boot up (PowersUp power powers is) moments =
+  raises_from t h at words steps first more cut five are boot up (PowersUp power powers is) moments =
       let P : Moment → Type 0 = λ y. AreMoments y.after first → RaisesFrom steps y in
-      let Q : (ℕ → ℕ) → Type 0 = λ f. f (word_place l Version) < 0x10000 in
-      let at = at_front model program readings origin x cs b r run bearing ms rest e in
-      let same = (fronts_are_lawful model program readings origin x cs b r run bearing ms rest e).1.fram in
-      let word = subst Q (sym same) ((keeps_versions ms rest e).words (word_place l Version)) in
       subst P (sym is)
       (λ own gate end. record {
         first = first;
         rest = more;
         are = cut;
         soon = omega (arith, five);
-        raised = raised_by_five ms power powers at first own are five gate (below_end _ word end);
+        raised = raised_by_five t h at power powers first own are five gate (below_end _ (words (word_place l Version)) end);
       }) moments
 
   pub raises : RaisesVersion l r.moments
@@ -361,8 +365,14 @@ module _ (text : List ℕ) (p : CheckedProgram) (allow : Allow) (image : ImageVa
       let front : r.moments ≡ (ms ++ (boot ∷ first)) ++ (more ++ rest) = behind ∙ sym (append_assoc ms (boot ∷ first) (more ++ rest)) in
       let moments = are_behind b ms (boot ∷ first) (front_moments cs b r (ms ++ (boot ∷ first)) (more ++ rest) run.starts run.run front) in
       let five : length first ≡ 5 = length-take-le 5 steps (omega (arith, many)) in
-      raises_from ms (boot ∷ (steps ++ rest)) steps first more e cut five (front_are first more (subst AreInstructionMoments cut are)) boot up
-      moments.0 moments.1
+      let h = known_from l x ms in
+      let t = last_board b ms in
+      let tail = boot ∷ (steps ++ rest) in
+      let at = reached_on on b (first_history (word_place l Gate) x) t boot.before h moments.0 (reached ms tail e) in
+      let known = (fronts_are_lawful model program readings origin x cs b r run bearing ms tail e).1.fram in
+      let same : (outside_of boot.before).fram ≡ h.world.fram = ap (λ s. s.fram) (follows_keeps t boot.before moments.0).outside ∙ known in
+      raises_from boot.before h at (subst HoldsWords (sym same) (keeps_versions ms tail e).words) steps first more cut five
+      (front_are first more (subst AreInstructionMoments cut are)) boot up moments.1 moments.2
 
   -- each charge that is spent pays for its transitions
   pub pays : let m = map_of text p l allow in EachChargePays m cs b (at_first m b) r

@@ -30,6 +30,7 @@ use Rattle.image_laws.specs.boot_runtime.Listing.{privates_in}
 use Rattle.image_laws.specs.crash_rules.Model.{CommitContract}
 use Rattle.image_laws.specs.crash_rules.History.{History, first_history}
 use Rattle.image_laws.specs.crash_rules.Laws.{Resting, StandsFor, AcceptedWords}
+use Rattle.image_laws.specs.run_charges.View.{outside_of}
 use Rattle.image_laws.specs.run_charges.Charges.{ArePowerStates, AreInstructionMoments, observed}
 use Rattle.image_laws.specs.memory_map.Laws.{AreApart}
 use Rattle.image_laws.specs.stands_for.StandsFor.{RestsAt, UndecidedAt, DecidedFrom}
@@ -68,7 +69,7 @@ all_due p l f readings =
 -- what is known behind these moments is of the board behind them: its FRAM, the words that its receiver accepted, in order, and how many
 -- readings were taken
 pub record TellsOfBoard (b : BoardValue) (ms : List Moment) (h : History) : Type 0 where
-  pub fram : h.world.fram ≡ fram_of b.fram
+  pub fram : h.world.fram ≡ (outside_of b).fram
   pub accepted : h.world.accepted ≡ accepted_words ms
   pub taken : h.taken ≡ b.taken
 
@@ -104,16 +105,17 @@ pub record HoldsAt (p : CheckedProgram) (l : MemoryMap) (image : ImageValue) (re
   -- readings of the dones; or it is decided from it to the state that its task gives on the committed readings of the decide
   pub stands : StandsFor (compiled_model p l) readings (Resting (first_state p)) h
   -- a decided state is never lost: between a decide and its done the board is undecided at no state, whatever boots stand between
-  pub never_lost : h.decided ≡ true → (fram_of b.fram (word_place l Gate) ≡ 1) × ((s : State) → UndecidedAt (program_places p l) (state_view p l) s h.world → ⊥)
+  pub never_lost : h.decided ≡ true → ((outside_of b).fram (word_place l Gate) ≡ 1)
+      × ((s : State) → UndecidedAt (program_places p l) (state_view p l) s h.world → ⊥)
   -- between a done, or the start, and the next decide no word is accepted; between a decide and its done a prefix of that task's
   pub accepted : AcceptedWords (compiled_model p l) readings (Resting (first_state p)) h stands.state h.decided
   -- CLN and EN are within the map's capacities, and version words at most VER
-  pub capacities : KeepsCapacities l (fram_of b.fram)
+  pub capacities : KeepsCapacities l (outside_of b).fram
   -- as a task's first own instruction runs, whose start is made and which has done nothing yet, each version word is below VER. (With
   -- exactly the start's effects the code comes to the task's own: `start_is_made` of `boot_runtime`.)
-  pub versions : h.effects ≡ start_due l h.start.fram → VersionsBelow l (fram_of b.fram)
+  pub versions : h.effects ≡ start_due l h.start.fram → VersionsBelow l (outside_of b).fram
   -- no store fell on the code
-  pub code : KeepsCode p l image (fram_of b.fram)
+  pub code : KeepsCode p l image (outside_of b).fram
   -- every word that is fetched is the fresh image's
   pub fetches : FetchesCode p l image b
 
@@ -123,13 +125,13 @@ pub record IsRaisedSoon (l : MemoryMap) (b : BoardValue) (steps : List Moment) :
   pub rest : List Moment
   pub are : steps ≡ first ++ rest
   pub soon : length first ≤ 40
-  pub raised : fram_of (last_board b first).fram (word_place l Version) ≡ fram_of b.fram (word_place l Version) + 1
+  pub raised : (outside_of (last_board b first)).fram (word_place l Version) ≡ (outside_of b).fram (word_place l Version) + 1
 
 -- in a charge that begins with GATE 0 and VER not 65535, if the charge has 40 instructions
 abbrev pub RaisesVersion : MemoryMap → List Moment → Type 0
 RaisesVersion l moments = (ms steps rest : List Moment) (boot : Moment) → moments ≡ ms ++ (boot ∷ (steps ++ rest)) → boot.action ≡ PowerUp
-    → AreInstructionMoments steps → 40 ≤ length steps → fram_of boot.after.fram (word_place l Gate) ≡ 0
-    → fram_of boot.after.fram (word_place l Version) ≢ 0xFFFF → IsRaisedSoon l boot.after steps
+    → AreInstructionMoments steps → 40 ≤ length steps → (outside_of boot.after).fram (word_place l Gate) ≡ 0
+    → (outside_of boot.after).fram (word_place l Version) ≢ 0xFFFF → IsRaisedSoon l boot.after steps
 
 -- What holds of a run of an image under charges, on readings.
 pub record IsLawfulRun (text : List ℕ) (p : CheckedProgram) (allow : Allow) (l : MemoryMap) (image : ImageValue) (cs : List BoardCharge) (readings : List ℕ)

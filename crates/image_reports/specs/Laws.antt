@@ -8,8 +8,8 @@ use Rattle.image_laws.specs.fram_board.Run.{Moment, RunOutcome, Run}
 use Rattle.image_laws.specs.board_run.Charges.{charges_of}
 use Rattle.image_laws.specs.board_run.History.{start_of}
 use Rattle.image_laws.specs.board_run.Report.{report_of}
-use Rattle.image_laws.specs.machine_effects.Machine.{fram_of}
 use Rattle.image_laws.specs.machine_effects.Runs.{last_board}
+use Rattle.image_laws.specs.run_charges.View.{outside_of}
 use Rattle.image_laws.specs.source_values.Runs.{CheckedProgram}
 use Rattle.image_laws.specs.source_meaning.Acceptance.{IsAcceptedText}
 use Rattle.image_laws.specs.source_runs.Naming.{IsMapOf}
@@ -36,4 +36,4 @@ abbrev pub ImagesKeepCapacities : Type 0
 ImagesKeepCapacities = (text : List ℕ) (p : CheckedProgram) (allow : Allow) (image : ImageValue) → IsAcceptedText text p allow
     → (c : IsCompiled text p allow image) → (trace : TraceValue) → IsTraceOfWords trace → (r : RunOutcome)
     → Run (charges_of trace.charges) (fresh image.words trace.readings) r
-    → (ms rest : List Moment) → r.moments ≡ ms ++ rest → KeepsCapacities c.layout (fram_of (last_board (fresh image.words trace.readings) ms).fram)
+    → (ms rest : List Moment) → r.moments ≡ ms ++ rest → KeepsCapacities c.layout (outside_of (last_board (fresh image.words trace.readings) ms)).fram

@@ -26,6 +26,7 @@ use Rattle.image_laws.specs.runtime_effects.Stages.{commit_effects}
 use Rattle.image_laws.specs.crash_rules.Model.{IsBetween}
 use Rattle.image_laws.specs.crash_rules.History.{History, first_history}
 use Rattle.image_laws.specs.crash_rules.Laws.{Origin, Resting, Pending, StandsFor, AcceptedWords}
+use Rattle.image_laws.specs.run_charges.View.{outside_of}
 use Rattle.image_laws.specs.run_charges.Charges.{ArePowerStates, observed}
 use Rattle.image_laws.specs.stands_for.StandsFor.{UndecidedAt, IsSound}
 use Rattle.image_laws.specs.compiled_model.Places.{program_places}
@@ -78,19 +79,20 @@ known_from l x ms = observed (word_place l Gate) ms (first_history (word_place l
 -- pending at the start isn't done, the words accepted since are some of those that the state has beyond the start's which it leaves
 pub record HoldsFrom (p : CheckedProgram) (l : MemoryMap) (image : ImageValue) (x : World) (origin : Origin State) (readings : List ℕ) (b : BoardValue)
     (ms : List Moment) (h : History) : Type 0 where
-  pub fram : h.world.fram ≡ fram_of b.fram
+  pub fram : h.world.fram ≡ (outside_of b).fram
   pub words : h.world.accepted ≡ x.accepted ++ accepted_words ms
   pub number : TakesNextBehind h.world.accepted b.receiver
   pub taken : h.taken ≡ b.taken
   pub effects : IsPrefix h.effects (all_due p l h.start.fram (drop h.since readings))
   pub stands : StandsFor (compiled_model p l) readings origin h
-  pub never_lost : h.decided ≡ true → (fram_of b.fram (word_place l Gate) ≡ 1) × ((s : State) → UndecidedAt (program_places p l) (state_view p l) s h.world → ⊥)
+  pub never_lost : h.decided ≡ true → ((outside_of b).fram (word_place l Gate) ≡ 1)
+      × ((s : State) → UndecidedAt (program_places p l) (state_view p l) s h.world → ⊥)
   pub accepted : AcceptedWords (compiled_model p l) readings origin h stands.state h.decided
   pub sent : (to : State) → origin ≡ Pending to → h.completed ≡ [] → IsBetween x.accepted to.emitted h.world.accepted
-  pub versions : h.effects ≡ start_due l h.start.fram → VersionsBelow l (fram_of b.fram)
+  pub versions : h.effects ≡ start_due l h.start.fram → VersionsBelow l (outside_of b).fram
   pub belongs : BelongsTo p l image h.world
   -- no store fell on the code, nor on a word behind it
-  pub kept : (a : ℕ) → l.boot.address ≤ a → fram_of b.fram a ≡ x.fram a
+  pub kept : (a : ℕ) → l.boot.address ≤ a → (outside_of b).fram a ≡ x.fram a
   pub fetches : FetchesCode p l image b
 
 -- What holds of a run of an image from a saved state, with these words in FRAM and this number for the next word; the words accepted before

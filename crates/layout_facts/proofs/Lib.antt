@@ -12,7 +12,7 @@ mod Room
 mod Planned
 mod Assigned
 mod Listed
-mod Fits
+mod Declared
 pub mod Interface
 pub use Rattle.compiled_model.proofs.memory_map as memory_map
 pub use Rattle.compiled_model.proofs.machine_effects as machine_effects

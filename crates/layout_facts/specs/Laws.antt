@@ -25,8 +25,8 @@ use Rattle.compiled_model.specs.memory_map.Spots.{Places, address_of, Element, I
 use Rattle.compiled_model.specs.memory_map.Spots.{version_address, IsWordOf, private_words}
 use Rattle.compiled_model.specs.lower.Spots.{HasRoom}
 use Rattle.compiled_model.specs.lower.Spots as spots
-use Rattle.compiled_model.specs.lower.Agreement.{place_length, BlockFits}
-use Rattle.checked_trees.specs.Uses.{BlockUses}
+use Rattle.compiled_model.specs.lower.Agreement.{place_length, AsDeclared, HasCopies}
+use Rattle.checked_trees.specs.WellFormed.{WellFormedBlock}
 use Rattle.compiled_model.specs.path_sums.Access.{writes, SomePath, IsPrivate}
 use Rattle.compiled_model.specs.task_ast.declared.names.Variable.TheVariants.{Shared}
 use Rattle.compiled_model.specs.source_values.Runs.{task_body}
@@ -178,9 +178,14 @@ pub record AddressIs (p : CheckedProgram) (l : MemoryMap) (task : CheckedTask) (
 abbrev pub AddressesAre : Type 0
 AddressesAre = OfTasks AddressIs
 
--- names that are used as they were declared fit the task's places, of which it may write what some path writes
-abbrev pub NamesFit : Type 0
-NamesFit = OfTasks (λ p l task layout. BlockUses p.shared task.body → BlockFits (task_places l task layout) (some_path_writes task.body) task.body)
+-- the task's places have what the source declares
+abbrev pub PlacesAreAsDeclared : Type 0
+PlacesAreAsDeclared = OfTasks (λ p l task layout. AsDeclared p.shared (task_places l task layout))
+
+-- of a well-formed task, each array that some path writes has copies
+abbrev pub WrittenArraysHaveCopies : Type 0
+WrittenArraysHaveCopies = OfTasks (λ p l task layout.
+    WellFormedBlock p.shared task.body → HasCopies p.shared (task_places l task layout) (some_path_writes task.body))
 
 -- a task writes the words of a scalar in place exactly where some path of it writes it, and it isn't private there
 abbrev pub InPlaceByPaths : Type 0

@@ -27,16 +27,20 @@ use Rattle.array_versions.specs.Operations.{plain_word}
 use Rattle.array_versions.specs.Program.{Program, keep, emit_word, versioned_write, versioned_update, choose, repeat, nothing, step, joined}
 use Rattle.array_versions.specs.Behaviour as words
 use Rattle.array_versions.specs.Behaviour.{WordState, Behaviour, behind_effects, then_on, local_updated, is_place, at_place, stored, with_local, word_emitted}
-use Rattle.array_versions.specs.Behaviour.{way_by_top, tested, behaviour}
+use Rattle.array_versions.specs.Behaviour.{with_readings, way_by_top, tested, behaviour}
 use Rattle.array_versions.proofs.Interface.{joined_go_on, joined_assoc, decided_by_truth}
 use Rattle.lower.specs.Lowered.{update_step, write_long, setting, long_setting, updating, of_words, sides_set, scalar_assignment, lowering, lowered_long, one}
 use Rattle.lower.specs.Lowered.{write_step, written_array, list_place, store_step, update_element_step, loop_local, assignment, index_and_value}
 use Rattle.lower.specs.Lowered.{element_setting, element_updating, element_sides_set, element_assignment, lowered_transition, lowered_expression, lowered_test}
 use Rattle.lower.specs.Lowered.{lowered_statement, lowered_choice, lowered_block, lowered_task, lowered_tasks}
 use Rattle.lower.specs.Spots.{listed_of}
-use Rattle.checked_trees.specs.Uses.{IsLocal}
-use Rattle.lower.specs.Agreement.{HoldVariables, IsTarget, IsWrittenArray, ExpressionFits, StatementFits, ChoiceFits, BlockFits, StandsFor}
-use Rattle.lower.specs.Agreement.{at_variable, IsLongTarget, IsTargetOf, at_emit_count, in_buffer, valued, long_valued, converted_to, truth_of, AgreesWithValue}
+use Rattle.checked_trees.specs.WellFormed.{IsLocal, WellFormedExpression, WellFormedStatement, WellFormedChoice, WellFormedBlock}
+use Rattle.checked_trees.proofs.Interface.{local_word, assignment_writes, store_writes, loop_writes, taken_writes, passed_writes, first_writes, others_write}
+use Rattle.path_sums.specs.Sums.{statement_sum, choice_sum, block_sum}
+use Rattle.path_sums.specs.Access.{summary}
+use Rattle.lower.proofs.Declared.{IsTarget, IsLongTarget, IsTargetOf, local_target, target_of, array_target}
+use Rattle.lower.specs.Agreement.{HoldVariables, IsWrittenArray, StandsFor, Scene}
+use Rattle.lower.specs.Agreement.{at_variable, at_emit_count, in_buffer, valued, long_valued, converted_to, truth_of, AgreesWithValue}
 use Rattle.lower.specs.Agreement.{AgreesWithLong, BlocksAgree}
 use Rattle.lower.proofs.Addresses.{fram_place, placed, spot_place, first_address}
 use Rattle.lower.proofs.Updates.{is_update, update_goes_on, is_element_update, element_update_goes_on, is_of_words, joined_words}
@@ -49,7 +53,7 @@ use Rattle.lower.proofs.Stored.{same_variables, same_list, same_emits, spot_list
 use Rattle.lower.proofs.Stored.{emit_list, emitted_emits, few_entries}
 use Rattle.lower.proofs.Neighbours.{runs_are_few}
 use Rattle.lower.proofs.Transitions.{transition_behaves}
-use Rattle.lower.proofs.Ends.{Scene, Does, does_then, does_alone, does_at, does_value}
+use Rattle.lower.proofs.Ends.{Does, does_then, does_alone, does_at, does_value}
 use Rattle.lower.proofs.Elements.{Begins, few_listed, list_fits, few_emitted, store_does, element_update_does}
 use Rattle.memory_map.specs.MemoryMap.{MemoryMap, TaskPlace, word_place}
 use Rattle.memory_map.specs.declared.words.RuntimeWord.TheVariants.{ListLength, EmitCount, Version}
@@ -69,7 +73,7 @@ module _ (z : Scene) where
       let p = z.p in
       let f = w.fram in
       let at = scalar_address p i j in
-      let u : WordState = record w { readings = left } in
+      let u : WordState = with_readings left w in
       let o : Outcome = goes_on (source.assigned (record m { left = left }) (Shared i) j v) in
       let Kept : ℕ → Type 0 = λ b. Does z f most w.stack (behaviour (one (keep b)) (valued w (v, left))) o in
       let P : Behaviour → Type 0 = λ b. Does z f most w.stack (then_on b (behaviour nothing)) o in
@@ -108,11 +112,11 @@ module _ (z : Scene) where
   write_does (Shared i) m listed w n count most v left k h =
       word_kept_does i 0 (address_of z.p i) m listed w n count most v left (sym (first_address z.p i)) (first_word z.p i k.0) k.1 h
 
-  value_agrees : (e : CheckedExpression) (m : Attempt) (listed : List Element) (w : WordState) → ExpressionFits z.p e → StandsFor z.p m listed w
+  value_agrees : (e : CheckedExpression) (m : Attempt) (listed : List Element) (w : WordState) → WellFormedExpression z.shared e → StandsFor z.p m listed w
       → AgreesWithValue w (behaviour (lowered_expression z.p e) w) (word_value e m.variables m.left)
   value_agrees e m listed w fits h =
       let P : List ℕ → Type 0 = λ l. AgreesWithValue w (behaviour (lowered_expression z.p e) w) (word_value e m.variables l) in
-      subst P h.readings (expressions_agree z.p z.room e m.variables w z.apart z.even fits h.variables)
+      subst P h.readings (expressions_agree z.shared z.p z.room e m.variables w z.apart z.even z.declared fits h.variables)
 
   -- a variable of one word is set to a value as one word
   abbrev Sets : Variable → CheckedExpression → Attempt → WordState → (ℕ → ℕ) → Program → Type 0
@@ -120,7 +124,7 @@ module _ (z : Scene) where
       Does z w.fram most w.stack (behaviour q w) (if_value (word_value e m.variables m.left) m (λ v s. goes_on (source.assigned s x 0 v)))
 
   setting_does : (x : Variable) (e : CheckedExpression) (m : Attempt) (listed : List Element) (w : WordState) (n : ℕ) (count most : ℕ → ℕ)
-      → ExpressionFits z.p e → IsTarget z.p z.written x
+      → WellFormedExpression z.shared e → IsTarget z.p z.written x
       → Begins z m listed w n count most
       → Sets x e m w most (setting z.p x e)
   setting_does x e m listed w n count most fits target h =
@@ -135,7 +139,7 @@ module _ (z : Scene) where
   local_updated_does : (op : PlainOperation) (i v : ℕ) (o : Option ℕ) (m : Attempt) (listed : List Element) (w : WordState) (n : ℕ) (count most : ℕ → ℕ)
       (left : List ℕ) → i < 256 → ((u : ℕ) → o ≡ Some u → word_at m.variables (Local i) 0 ≡ u)
       → Begins z m listed w n count most
-      → Does z w.fram most w.stack (then_on (local_updated op (i % 65536) v o (record w { readings = left })) (behaviour nothing))
+      → Does z w.fram most w.stack (then_on (local_updated op (i % 65536) v o (with_readings left w)) (behaviour nothing))
       (goes_on (source.assigned (record m { left = left }) (Local i) 0 (plain_word op (word_at m.variables (Local i) 0) v)))
   local_updated_does op i v None m listed w n count most left few is h = tt
   local_updated_does op i v (Some u) m listed w n count most left few is h =
@@ -162,8 +166,8 @@ module _ (z : Scene) where
 
   -- in place, where both sides are of one word
   sides_do : (x : Variable) (op : PlacedOperator) (a b : CheckedExpression) (o : Option PlainOperation) (m : Attempt) (listed : List Element) (w : WordState)
-      (n : ℕ) (count most : ℕ → ℕ) → of_words (joined_type (type_of a) (type_of b)) (updating x op.operator a) ≡ o → ExpressionFits z.p (t.binary op a b)
-      → IsTarget z.p z.written x
+      (n : ℕ) (count most : ℕ → ℕ) → of_words (joined_type (type_of a) (type_of b)) (updating x op.operator a) ≡ o
+      → WellFormedExpression z.shared (t.binary op a b) → IsTarget z.p z.written x
       → Begins z m listed w n count most
       → Sets x (t.binary op a b) m w most (sides_set z.p x op a b o)
   sides_do x op a b None m listed w n count most is fits target h = setting_does x (t.binary op a b) m listed w n count most fits target h
@@ -185,7 +189,7 @@ module _ (z : Scene) where
 
   -- by the kind of the expression: the first clause makes it a proof by cases
   assignment_does : (x : Variable) (e : CheckedExpression) (m : Attempt) (listed : List Element) (w : WordState) (n : ℕ) (count most : ℕ → ℕ)
-      → ExpressionFits z.p e → IsTarget z.p z.written x
+      → WellFormedExpression z.shared e → IsTarget z.p z.written x
       → Begins z m listed w n count most
       → Sets x e m w most (assignment z.p x e)
   assignment_does x (t.binary op a b) m listed w n count most fits target h =
@@ -207,8 +211,8 @@ module _ (z : Scene) where
       let low = v % 65536 in
       let high = v / 65536 in
       let once = put f b high in
-      let u : WordState = record w { stack = low ∷ w.stack; readings = left } in
-      let t : WordState = record w { fram = once; readings = left } in
+      let u : WordState = with_readings left (record w { stack = low ∷ w.stack }) in
+      let t : WordState = with_readings left (record w { fram = once }) in
       let o : Outcome = goes_on (both_assigned (record m { left = left }) (Shared i) v) in
       let Kept : ℕ → ℕ → Type 0 = λ c d. Does z f most w.stack (behaviour (step (keep c) (one (keep d))) (long_valued w (v, left))) o in
       let P : Behaviour → Type 0 = λ c. Does z f most w.stack (then_on c (behaviour (one (keep a)))) o in
@@ -237,7 +241,7 @@ module _ (z : Scene) where
       }))))
 
   long_setting_does : (x : Variable) (e : CheckedExpression) (m : Attempt) (listed : List Element) (w : WordState) (n : ℕ) (count most : ℕ → ℕ)
-      → ExpressionFits z.p e → IsLongTarget z.p z.written x
+      → WellFormedExpression z.shared e → IsLongTarget z.p z.written x
       → Begins z m listed w n count most
       → Does z w.fram most w.stack (behaviour (long_setting z.p x e) w)
       (if_value (converted_to (type_of e) Long (value_of e m.variables m.left)) m (λ v s. goes_on (both_assigned s x v)))
@@ -246,14 +250,14 @@ module _ (z : Scene) where
       let given : ℕ → Attempt → Outcome = λ v s. goes_on (both_assigned s x v) in
       let q = lowered_long z.p e in
       let agrees = subst (λ l. AgreesWithLong w (behaviour q w) (value l)) h.stands.readings
-      (longs_agree z.p z.room e m.variables w z.apart z.even fits h.stands.variables) in
+      (longs_agree z.shared z.p z.room e m.variables w z.apart z.even z.declared fits h.stands.variables) in
       subst (λ b. Does z w.fram most w.stack b (if_value (value m.left) m given)) (sym (joined_go_on q (write_long z.p x) w))
       (does_at z most w.stack w (long_valued w) (behaviour q w) (value m.left) (behaviour (write_long z.p x)) m given agrees
       (λ y. write_long_does x m listed w n count most y.0 y.1 target h))
 
   -- a variable of one word takes the value as one word
   word_assigned_does : (of : WordType) (x : Variable) (e : CheckedExpression) (m : Attempt) (listed : List Element) (w : WordState) (n : ℕ)
-      (count most : ℕ → ℕ) → IsOneWord of → ExpressionFits z.p e → IsTarget z.p z.written x
+      (count most : ℕ → ℕ) → IsOneWord of → WellFormedExpression z.shared e → IsTarget z.p z.written x
       → Begins z m listed w n count most
       → Does z w.fram most w.stack (behaviour (assignment z.p x e) w)
       (if_value (value_of e m.variables m.left) m (λ v s. goes_on (assigned_as of s x (type_of e) v)))
@@ -270,7 +274,7 @@ module _ (z : Scene) where
 
   -- an assignment to a scalar of a type
   scalar_does : (of : WordType) (x : Variable) (e : CheckedExpression) (m : Attempt) (listed : List Element) (w : WordState) (n : ℕ) (count most : ℕ → ℕ)
-      → ExpressionFits z.p e → IsTargetOf z.p z.written of x
+      → WellFormedExpression z.shared e → IsTargetOf z.p z.written of x
       → Begins z m listed w n count most
       → Does z w.fram most w.stack (behaviour (scalar_assignment z.p of x e) w)
       (if_value (value_of e m.variables m.left) m (λ v s. goes_on (assigned_as of s x (type_of e) v)))
@@ -285,33 +289,33 @@ module _ (z : Scene) where
 
   store_step_does : (x : Variable) (i v : ℕ) (m : Attempt) (listed : List Element) (w : WordState) (left : List ℕ) (most : ℕ → ℕ) → IsWrittenArray z.p x
       → Begins z m listed w 0 (λ u. if is_shared u x then 1 else 0) most
-      → Does z w.fram most w.stack (behaviour (one (store_step z.p x)) (record w { stack = v ∷ i ∷ w.stack; readings = left }))
+      → Does z w.fram most w.stack (behaviour (one (store_step z.p x)) (with_readings left (record w { stack = v ∷ i ∷ w.stack })))
       (goes_on (source.assigned (record m { left = left }) x i v))
   store_step_does (Shared n) i v m listed w left most k h =
       let P : Option VariablePlace → Type 0 =
       λ o. Does z w.fram most w.stack
-      (behaviour (one (versioned_write (written_array o) (list_place z.p))) (record w { stack = v ∷ i ∷ w.stack; readings = left }))
+      (behaviour (one (versioned_write (written_array o) (list_place z.p))) (with_readings left (record w { stack = v ∷ i ∷ w.stack })))
       (goes_on (source.assigned (record m { left = left }) (Shared n) i v)) in
       subst P (sym k.3.place) (store_does z n i v k.0 k.1 k.2 w m listed left most k.3 h)
   store_step_does (Local n) i v m listed w left most k h = absurd k
 
   update_step_does : (op : PlainOperation) (x : Variable) (i v : ℕ) (m : Attempt) (listed : List Element) (w : WordState) (left : List ℕ) (most : ℕ → ℕ)
       → IsWrittenArray z.p x → Begins z m listed w 0 (λ u. if is_shared u x then 1 else 0) most
-      → Does z w.fram most w.stack (behaviour (one (update_element_step z.p op x)) (record w { stack = v ∷ i ∷ w.stack; readings = left }))
+      → Does z w.fram most w.stack (behaviour (one (update_element_step z.p op x)) (with_readings left (record w { stack = v ∷ i ∷ w.stack })))
       (goes_on (source.assigned (record m { left = left }) x i (plain_word op (word_at m.variables x i) v)))
   update_step_does op (Shared n) i v m listed w left most k h =
       let u = plain_word op (word_at m.variables (Shared n) i) v in
       let P : Option VariablePlace → Type 0 =
       λ o. Does z w.fram most w.stack
-      (behaviour (one (versioned_update op (written_array o) (list_place z.p))) (record w { stack = v ∷ i ∷ w.stack; readings = left }))
+      (behaviour (one (versioned_update op (written_array o) (list_place z.p))) (with_readings left (record w { stack = v ∷ i ∷ w.stack })))
       (goes_on (source.assigned (record m { left = left }) (Shared n) i u)) in
       subst P (sym k.3.place) (element_update_does z n i u k.0 k.1 k.2 w m listed left most k.3 h op v refl)
   update_step_does op (Local n) i v m listed w left most k h = absurd k
 
   -- an index and a value, and what a step does with both
   index_and_value_do : (index e : CheckedExpression) (last : Program) (given : ℕ → ℕ → Attempt → Outcome) (m : Attempt) (listed : List Element) (w : WordState)
-      (most : ℕ → ℕ) → ExpressionFits z.p index → ExpressionFits z.p e → StandsFor z.p m listed w
-      → ((i v : ℕ) (left : List ℕ) → Does z w.fram most w.stack (behaviour last (record w { stack = v ∷ i ∷ w.stack; readings = left }))
+      (most : ℕ → ℕ) → WellFormedExpression z.shared index → WellFormedExpression z.shared e → StandsFor z.p m listed w
+      → ((i v : ℕ) (left : List ℕ) → Does z w.fram most w.stack (behaviour last (with_readings left (record w { stack = v ∷ i ∷ w.stack })))
       (given i v (record m { left = left })))
       → Does z w.fram most w.stack (behaviour (joined (index_and_value z.p index e) last) w)
       (if_value (word_value index m.variables m.left) m (λ i s. if_value (word_value e s.variables s.left) s (given i)))
@@ -329,7 +333,7 @@ module _ (z : Scene) where
       let Q : Behaviour → Type 0 = λ b. Does z w.fram most w.stack b (more i.0 n) in
       subst Q (sym (joined_go_on second last u))
       (does_value z most w.stack u (behaviour second u) (word_value e n.variables n.left) (behaviour last) n (given i.0)
-      (expressions_agree z.p z.room e m.variables u z.apart z.even of_e h.variables)
+      (expressions_agree z.shared z.p z.room e m.variables u z.apart z.even z.declared of_e h.variables)
       (λ v. k i.0 v.0 v.1))))
 
   -- an assignment to an element does what the source's does: the index and the value are taken as one word
@@ -341,7 +345,7 @@ module _ (z : Scene) where
       Does z w.fram most w.stack (behaviour q w) (if_value (word_value index m.variables m.left) m (stored_word x e))
 
   element_setting_does : (x : Variable) (index e : CheckedExpression) (m : Attempt) (listed : List Element) (w : WordState) (most : ℕ → ℕ)
-      → IsWrittenArray z.p x → ExpressionFits z.p index → ExpressionFits z.p e
+      → IsWrittenArray z.p x → WellFormedExpression z.shared index → WellFormedExpression z.shared e
       → Begins z m listed w 0 (λ u. if is_shared u x then 1 else 0) most
       → AssignsElement x index e m w most (element_setting z.p x index e)
   element_setting_does x index e m listed w most array of_index of_e h =
@@ -361,7 +365,7 @@ module _ (z : Scene) where
   element_sides_do : (x : Variable) (index : CheckedExpression) (op : PlacedOperator) (a b : CheckedExpression) (o : Option PlainOperation) (m : Attempt)
       (listed : List Element) (w : WordState) (most : ℕ → ℕ)
       → of_words (joined_type (type_of a) (type_of b)) (element_updating x index op.operator a) ≡ o
-      → IsWrittenArray z.p x → ExpressionFits z.p index → IsOneWord (type_of index) → ExpressionFits z.p (t.binary op a b)
+      → IsWrittenArray z.p x → WellFormedExpression z.shared index → IsOneWord (type_of index) → WellFormedExpression z.shared (t.binary op a b)
       → Begins z m listed w 0 (λ u. if is_shared u x then 1 else 0) most
       → AssignsElement x index (t.binary op a b) m w most (element_sides_set z.p x index op a b o)
   element_sides_do x index op a b None m listed w most is array of_index index_word of_e h =
@@ -371,7 +375,7 @@ module _ (z : Scene) where
       let types = joined_words (type_of a) (type_of b) word.word in
       let whole = one_word.binary_word op.operator (type_of a) (type_of b) types.0 types.1 in
       let u = is_element_update x index op.operator a o word.is in
-      let element = subst (ExpressionFits z.p) u.is of_e.0 in
+      let element = subst (WellFormedExpression z.shared) u.is of_e.0 in
       let given : ℕ → ℕ → Attempt → Outcome = λ i v s. goes_on (source.assigned s x i v) in
       let next : ℕ → ℕ → Attempt → Outcome = λ i v s. goes_on (source.assigned s x i (plain_word o (word_at m.variables x i) v)) in
       let same = as_values index (t.binary op a b) m given index_word whole
@@ -383,7 +387,7 @@ module _ (z : Scene) where
 
   -- by the kind of the expression: the first clause makes it a proof by cases
   element_does : (x : Variable) (index e : CheckedExpression) (m : Attempt) (listed : List Element) (w : WordState) (most : ℕ → ℕ) → IsWrittenArray z.p x
-      → ExpressionFits z.p index → IsOneWord (type_of index) → ExpressionFits z.p e
+      → WellFormedExpression z.shared index → IsOneWord (type_of index) → WellFormedExpression z.shared e
       → Begins z m listed w 0 (λ u. if is_shared u x then 1 else 0) most
       → AssignsElement x index e m w most (element_assignment z.p x index e)
   element_does x index (t.binary op a b) m listed w most array of_index index_word of_e h =
@@ -392,7 +396,7 @@ module _ (z : Scene) where
   element_does x index e m listed w most array of_index index_word of_e h = element_setting_does x index e m listed w most array of_index of_e h
 
   element_store_does : (x : Variable) (index e : CheckedExpression) (m : Attempt) (listed : List Element) (w : WordState) (most : ℕ → ℕ) → IsWrittenArray z.p x
-      → ExpressionFits z.p index → IsOneWord (type_of index) → ExpressionFits z.p e
+      → WellFormedExpression z.shared index → IsOneWord (type_of index) → WellFormedExpression z.shared e
       → Begins z m listed w 0 (λ u. if is_shared u x then 1 else 0) most
       → Does z w.fram most w.stack (behaviour (element_assignment z.p x index e) w)
       (if_value (value_of index m.variables m.left) m
@@ -423,7 +427,7 @@ module _ (z : Scene) where
       let count = word_place p.map EmitCount in
       let n = f count in
       let a = 2 * n + p.map.emits.address in
-      let u : WordState = record w { readings = left } in
+      let u : WordState = with_readings left w in
       let o = goes_on (record m { emitted = m.emitted ++ v ∷ []; left = left }) in
       let counted = h.stands.emitted.emit_count in
       let few = h.emits in
@@ -565,9 +569,9 @@ module _ (z : Scene) where
 
   -- a choice, where both ways do from any readings on
   choice_of_ways : (e : CheckedExpression) (m : Attempt) (listed : List Element) (w : WordState) (most : ℕ → ℕ) (taken otherwise : Program)
-      (f g : Attempt → Outcome) → ExpressionFits z.p e → StandsFor z.p m listed w
-      → ((left : List ℕ) → Does z w.fram most w.stack (behaviour taken (record w { readings = left })) (f (record m { left = left })))
-      → ((left : List ℕ) → Does z w.fram most w.stack (behaviour otherwise (record w { readings = left })) (g (record m { left = left })))
+      (f g : Attempt → Outcome) → WellFormedExpression z.shared e → StandsFor z.p m listed w
+      → ((left : List ℕ) → Does z w.fram most w.stack (behaviour taken (with_readings left w)) (f (record m { left = left })))
+      → ((left : List ℕ) → Does z w.fram most w.stack (behaviour otherwise (with_readings left w)) (g (record m { left = left })))
       → Does z w.fram most w.stack (behaviour (one (choose (lowered_test z.p e) taken otherwise)) w)
       (if_value (value_of e m.variables m.left) m (λ v s. if holds v then f s else g s))
   choice_of_ways e m listed w most taken otherwise f g fits h a b =
@@ -577,20 +581,20 @@ module _ (z : Scene) where
       let ways = way_by_top (behaviour taken) (behaviour otherwise) in
       let decided = decided_by_truth c (behaviour taken) (behaviour otherwise) w in
       let agrees = subst (λ l. AgreesWithValue w (truth_pushed c w) (truth_of (value_of e m.variables l))) h.readings
-      (test_agrees (type_of e) w (lowering z.p e) (value_of e m.variables w.readings)
-      (lowering_agrees z.p z.room e m.variables w z.apart z.even fits h.variables)) in
+      (test_agrees (type_of e) w (lowering z.p e) (value_of e m.variables w.inputs.readings)
+      (lowering_agrees z.shared z.p z.room e m.variables w z.apart z.even z.declared fits h.variables)) in
       does_alone z w.fram most w.stack (tested c (behaviour taken) (behaviour otherwise) w) (if_value o m run)
       (subst (λ r. Does z w.fram most w.stack r (if_value o m run)) (sym decided)
       (subst (Does z w.fram most w.stack (then_on (truth_pushed c w) ways)) (by_truth o m f g)
       (does_value z most w.stack w (truth_pushed c w) (truth_of o) ways m run agrees (λ y.
-      let u : WordState = record w { readings = y.1 } in
+      let u : WordState = with_readings y.1 w in
       let n : Attempt = record m { left = y.1 } in
       either_does (holds y.0) w.fram most w.stack (behaviour taken u) (behaviour otherwise u) (f n) (g n) (a y.1) (b y.1)))))
 
   -- with other readings left, for statements that emit and list no more
   with_left : (m : Attempt) (listed : List Element) (w : WordState) (n k : ℕ) (count fewer most : ℕ → ℕ) (left : List ℕ) → Begins z m listed w n count most
       → k ≤ n → ((v : ℕ) → fewer v ≤ count v)
-      → Begins z (record m { left = left }) listed (record w { readings = left }) k fewer most
+      → Begins z (record m { left = left }) listed (with_readings left w) k fewer most
   with_left m listed w n k count fewer most left h l less =
       let e = h.emits in
       record {
@@ -603,21 +607,32 @@ module _ (z : Scene) where
 
   -- ---- all statements
 
+  -- what some path writes, the task writes
+  abbrev Writes : (ℕ → Bool) → Type 0
+  Writes writes = (v : ℕ) → writes v ≡ true → z.written v ≡ true
+
   mutual
-    statement_does : (s : CheckedStatement) (m : Attempt) (listed : List Element) (w : WordState) (most : ℕ → ℕ) → StatementFits z.p z.written s
+    statement_does : (s : CheckedStatement) (m : Attempt) (listed : List Element) (w : WordState) (most : ℕ → ℕ) → WellFormedStatement z.shared s
+        → Writes (λ v. (statement_sum (summary (Shared v)) s).writes)
         → Begins z m listed w (statement_emits s) (λ v. statement_count (is_store_to v) s) most
         → Does z w.fram most w.stack (behaviour (lowered_statement z.p s) w) (run_statement s m)
-    statement_does (t.declare of x None) m listed w most fits h = record
+    statement_does (t.declare of x None) m listed w most fits writes h = record
         { stores = tt; stack_kept = refl; listed = listed; stands = h.stands; few = few_listed z m listed w _ _ most h }
-    statement_does (t.declare of x (Some e)) m listed w most fits h =
-        word_assigned_does x.word_type x.variable e m listed w _ _ most fits.2 fits.0 fits.1 h
-    statement_does (t.assign x e) m listed w most fits h = scalar_does x.word_type x.variable e m listed w _ _ most fits.0 fits.1 h
-    statement_does (t.store x index e) m listed w most fits h = element_store_does x.variable index e m listed w most fits.0 fits.1 fits.3 fits.2 h
-    statement_does (t.choose choice) m listed w most fits h = choice_does choice m listed w most fits h
-    statement_does (t.loop x from tested below stepped body) m listed w most fits h =
+    statement_does (t.declare of x (Some e)) m listed w most fits writes h =
+        word_assigned_does x.word_type x.variable e m listed w _ _ most (local_word z.shared x.word_type x.variable fits.0 fits.2) fits.1
+        (local_target z.p z.written x.variable fits.0) h
+    statement_does (t.assign x e) m listed w most fits writes h =
+        scalar_does x.word_type x.variable e m listed w _ _ most fits.1
+        (target_of z.shared z.p z.written z.declared x.word_type x.variable fits.0 fits.2 (λ v k. writes v (assignment_writes v x e k))) h
+    statement_does (t.store x index e) m listed w most fits writes h =
+        element_store_does x.variable index e m listed w most
+        (array_target z.shared z.p z.written z.declared x.variable z.copied fits.0 (λ v k. writes v (store_writes v x index e k))) fits.1 fits.3 fits.2 h
+    statement_does (t.choose choice) m listed w most fits writes h = choice_does choice m listed w most fits writes h
+    statement_does (t.loop x from tested below stepped body) m listed w most fits writes h =
         loop_does x.variable from below (lowered_block z.p body) (run_block body) (block_emits body) (λ v. block_count (is_store_to v) body) fits.0
-        (λ some u listing s few k. block_does body u listing s few (fits.1 some) k) (block_emitted body) m listed w most h
-    statement_does (t.emit e) m listed w most fits h =
+        (λ some u listing s few k. block_does body u listing s few fits.1 (λ v turn. writes v (loop_writes v x from tested below stepped body some turn)) k)
+        (block_emitted body) m listed w most h
+    statement_does (t.emit e) m listed w most fits writes h =
         let last = one (emit_word (word_place z.p.map EmitCount) z.p.map.emits.address) in
         let given : ℕ → Attempt → Outcome = λ v s. goes_on (record s { emitted = s.emitted ++ v ∷ [] }) in
         let value = word_value e m.variables m.left in
@@ -626,28 +641,32 @@ module _ (z : Scene) where
         (subst (Does z w.fram most w.stack (then_on (behaviour (lowered_expression z.p e) w) (behaviour last)))
         (if_converted (type_of e) Unsigned (value_of e m.variables m.left) m given)
         (does_value z most w.stack w (behaviour (lowered_expression z.p e) w) value (behaviour last) m given
-        (value_agrees e m listed w fits h.stands) (λ y. emit_does m listed w _ most y.0 y.1 h)))
-    statement_does (t.transition task) m listed w most fits h = transition_does task.task m listed w _ _ most h
+        (value_agrees e m listed w fits.0 h.stands) (λ y. emit_does m listed w _ most y.0 y.1 h)))
+    statement_does (t.transition task) m listed w most fits writes h = transition_does task.task m listed w _ _ most h
 
-    choice_does : (c : CheckedChoice) (m : Attempt) (listed : List Element) (w : WordState) (most : ℕ → ℕ) → ChoiceFits z.p z.written c
+    choice_does : (c : CheckedChoice) (m : Attempt) (listed : List Element) (w : WordState) (most : ℕ → ℕ) → WellFormedChoice z.shared c
+        → Writes (λ v. (choice_sum (summary (Shared v)) c).writes)
         → Begins z m listed w (choice_emits c) (λ v. choice_count (is_store_to v) c) most
         → Does z w.fram most w.stack (behaviour (lowered_choice z.p c) w) (run_choice c m)
-    choice_does t.nothing m listed w most fits h = record
+    choice_does t.nothing m listed w most fits writes h = record
         { stores = tt; stack_kept = refl; listed = listed; stands = h.stands; few = few_listed z m listed w _ _ most h }
-    choice_does (t.otherwise block) m listed w most fits h = block_does block m listed w most fits h
-    choice_does (t.test e block more) m listed w most fits h =
+    choice_does (t.otherwise block) m listed w most fits writes h = block_does block m listed w most fits writes h
+    choice_does (t.test e block more) m listed w most fits writes h =
         choice_of_ways e m listed w most (lowered_block z.p block) (lowered_choice z.p more) (run_block block) (run_choice more) fits.0 h.stands
-        (λ left. block_does block (record m { left = left }) listed (record w { readings = left }) most fits.1
+        (λ left. block_does block (record m { left = left }) listed (with_readings left w) most fits.1
+        (λ v k. writes v (taken_writes v e block more k))
         (with_left m listed w _ (block_emits block) _ (λ v. block_count (is_store_to v) block) most left h (omega arith) (λ v. omega arith)))
-        (λ left. choice_does more (record m { left = left }) listed (record w { readings = left }) most fits.2
+        (λ left. choice_does more (record m { left = left }) listed (with_readings left w) most fits.2
+        (λ v k. writes v (passed_writes v e block more k))
         (with_left m listed w _ (choice_emits more) _ (λ v. choice_count (is_store_to v) more) most left h (omega arith) (λ v. omega arith)))
 
-    block_does : (b : CheckedBlock) (m : Attempt) (listed : List Element) (w : WordState) (most : ℕ → ℕ) → BlockFits z.p z.written b
+    block_does : (b : CheckedBlock) (m : Attempt) (listed : List Element) (w : WordState) (most : ℕ → ℕ) → WellFormedBlock z.shared b
+        → Writes (λ v. (block_sum (summary (Shared v)) b).writes)
         → Begins z m listed w (block_emits b) (λ v. block_count (is_store_to v) b) most
         → Does z w.fram most w.stack (behaviour (lowered_block z.p b) w) (run_block b m)
-    block_does t.end m listed w most fits h = record
+    block_does t.end m listed w most fits writes h = record
         { stores = tt; stack_kept = refl; listed = listed; stands = h.stands; few = few_listed z m listed w _ _ most h }
-    block_does (t.step s more) m listed w most fits h =
+    block_does (t.step s more) m listed w most fits writes h =
         let P : Behaviour → Type 0 = λ b. Does z w.fram most w.stack b (run_block (t.step s more) m) in
         let room = h.emits in
         let once : ℕ → ℕ = λ v. listed_of v listed + statement_count (is_store_to v) s in
@@ -662,11 +681,14 @@ module _ (z : Scene) where
         subst P (sym (joined_go_on (lowered_statement z.p s) (lowered_block z.p more) w))
         (does_then z (lowered_statement z.p s) w once most w.stack (length m.emitted + statement_emits s) (run_statement s m)
         (behaviour (lowered_block z.p more)) (run_block more) h.number fewer
-        (statement_does s m listed w once fits.0 begins) (statement_emitted s m (length m.emitted + statement_emits s) (omega arith))
+        (statement_does s m listed w once fits.0 (λ v k. writes v (first_writes v s more k)) begins)
+        (statement_emitted s m (length m.emitted + statement_emits s) (omega arith))
         (λ u n listing is there.
         let below = there.few_emitted in
         let Q : List ℕ → Type 0 = λ l. Does z u.fram most l (behaviour (lowered_block z.p more) u) (run_block more n) in
-        subst Q there.stack_kept (block_does more n listing u most (fits.1 (runs_go_on_along_paths s m n is)) (record {
+        let others : Writes (λ v. (block_sum (summary (Shared v)) more).writes) =
+        λ v k. writes v (others_write v s more (runs_go_on_along_paths s m n is) k) in
+        subst Q there.stack_kept (block_does more n listing u most fits.1 others (record {
           stands = there.stands;
           number = there.number;
           emits = omega (arith, room, below);
@@ -676,11 +698,10 @@ module _ (z : Scene) where
 
 pub blocks_agree : BlocksAgree
 unfolding stores_of
-blocks_agree p written room stores block m listed w apart even has_room fits stands emits lists =
-    let z : Scene = record
-    { p = p; written = written; room = room; stores = stores; ver = w.fram (word_place p.map Version); apart = apart; even = even; has_room = has_room } in
+blocks_agree z block m listed w ver fits writes stands emits lists =
     let most : ℕ → ℕ = λ v. listed_of v listed + stores_of v block in
-    block_does z block m listed w most fits (record { stands = stands; number = refl; emits = emits; lists = λ v. le_refl (most v); within = lists })
+    block_does z block m listed w most fits writes
+    (record { stands = stands; number = ver; emits = emits; lists = λ v. le_refl (most v); within = lists })
 
 -- the program of a task, by its number
 pub program_at : (l : MemoryMap) (tasks : List CheckedTask) (layouts : List TaskPlace) (k : ℕ) (task : CheckedTask) (t : TaskPlace)

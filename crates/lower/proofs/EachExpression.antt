@@ -2,6 +2,7 @@
 use Rattle.std.proofs.Common.{◌≡◌, ℕ, List, Option, Some, None, Bool, true, false, nat_le, nat_lt, if◌then◌else◌, refl, sym, ap, ◌∙◌, subst, arith}
 use Rattle.task_ast.specs.Tree as t
 use Rattle.task_ast.specs.Paths.{CheckedExpression}
+use Rattle.task_ast.specs.declared.SharedDeclaration.{SharedDeclaration}
 use Rattle.task_ast.specs.declared.WordType.{WordType}
 use Rattle.task_ast.specs.declared.WordType.TheVariants.{Unsigned, Int, Long}
 use Rattle.task_ast.specs.declared.UnaryOperator.{UnaryOperator}
@@ -20,16 +21,19 @@ use Rattle.source_values.specs.Values.{unary_result, binary_value, binary_result
 use Rattle.array_versions.proofs.Interface.{joined_go_on}
 use Rattle.array_versions.specs.Program.{number, shift, sense, load, long, step, joined}
 use Rattle.array_versions.specs.declared.operations.LongOperation.TheVariants as with_longs
-use Rattle.array_versions.specs.Behaviour.{WordState, pushed, behaviour}
+use Rattle.array_versions.specs.Behaviour.{WordState, with_readings, pushed, behaviour}
 use Rattle.memory_map.specs.Spots.{Places, address_of, scalar_address, IsScalarWord, scalar}
 use Rattle.lower.specs.Operations.{binary_meaning, shift_operation, operand_type, long_meaning}
 use Rattle.lower.specs.Lowered.{one, high_address, read_step, read_long, element_step, Lowering, as_word, word_program, value_test, long_words}
 use Rattle.lower.specs.Lowered.{long_program, name_lowering, operand_lowering, binary_lowering, sides_lowering, shift_lowering}
 use Rattle.lower.specs.Lowered.{sides_test, widened_type, lowering, lowered_long, lowered_test}
 use Rattle.lower.specs.Spots.{Room, AreApart, AreEven}
-use Rattle.lower.specs.Agreement.{IsLong, IsOfType, ExpressionFits, HoldVariables, valued, long_valued, AgreesWithValue}
+use Rattle.checked_trees.specs.WellFormed.{WellFormedExpression}
+use Rattle.checked_trees.proofs.Interface.{array_word}
+use Rattle.lower.specs.Agreement.{AsDeclared, HoldVariables, valued, long_valued, AgreesWithValue}
 use Rattle.lower.specs.Agreement.{AgreesWithLong, converted_to, truth_of, ExpressionsAgree, LongsAgree, TestsAgree}
 use Rattle.lower.proofs.Addresses.{first_address}
+use Rattle.lower.proofs.Declared.{IsLong, IsKnownAs, known_as, array_known}
 use Rattle.lower.proofs.Values.{value_done, agrees_then, read_agrees, word_read_agrees, element_agrees, sense_agrees, binary_same, shift_same, sides_of_truth}
 use Rattle.lower.proofs.Values.{sides_are_truth, pair_value, truth_pushed, from_left, LoweringAgrees, by_word, by_test, then_step, SidesAgree, binary_agrees}
 use Rattle.lower.proofs.Values.{not_agrees, unary_agrees, side_agrees}
@@ -47,15 +51,15 @@ high_is p room v apart k = let below = apart.below (scalar v 1) k in omega (arit
 -- two words read one behind the other are a long
 read_long_agrees : (p : Places) (room : Room) (x : Variable) (m : Variables) (w : WordState) → AreApart p room → AreEven p → IsLong p x
     → HoldVariables p m w.fram w.locals
-    → AgreesWithLong w (behaviour (read_long p x) w) (Some (two_words (word_at m x 0) (word_at m x 1), w.readings))
+    → AgreesWithLong w (behaviour (read_long p x) w) (Some (two_words (word_at m x 0) (word_at m x 1), w.inputs.readings))
 read_long_agrees p room (Shared v) m w apart even k h =
     let a = address_of p v in
     let joins = one (long with_longs.Join) in
     let high = word_at m (Shared v) 1 in
     let whole : ℕ × List ℕ → Option (ℕ × List ℕ) = λ x. Some (two_words x.0 high, x.1) in
     let first : IsScalarWord p v 0 = omega (arith, k) in
-    subst (λ b. AgreesWithLong w b (whole (word_at m (Shared v) 0, w.readings))) (sym (joined_go_on (one (load a)) (step (load (high_address a)) joins) w))
-    (agrees_then (valued w) (long_valued w) (behaviour (one (load a)) w) (Some (word_at m (Shared v) 0, w.readings))
+    subst (λ b. AgreesWithLong w b (whole (word_at m (Shared v) 0, w.inputs.readings))) (sym (joined_go_on (one (load a)) (step (load (high_address a)) joins) w))
+    (agrees_then (valued w) (long_valued w) (behaviour (one (load a)) w) (Some (word_at m (Shared v) 0, w.inputs.readings))
     (behaviour (step (load (high_address a)) joins)) whole (word_read_agrees p room v 0 a m w (sym (first_address p v)) apart even first h) (λ x.
     subst (λ b. AgreesWithLong w b (whole x)) (sym (joined_go_on (one (load (high_address a))) joins (valued w x)))
     (agrees_then (valued (valued w x)) (long_valued w) (behaviour (one (load (high_address a))) (valued w x)) (Some (high, x.1)) (behaviour joins)
@@ -64,8 +68,8 @@ read_long_agrees p room (Shared v) m w apart even k h =
 read_long_agrees p room (Local n) m w apart even k h = absurd k
 
 name_agrees : (of : WordType) (p : Places) (room : Room) (x : Variable) (m : Variables) (w : WordState) → AreApart p room → AreEven p
-    → IsOfType p of x → HoldVariables p m w.fram w.locals
-    → AgreesAs of w (name_lowering p of x) (Some (by_width of (word_at m x 0) (two_words (word_at m x 0) (word_at m x 1)), w.readings))
+    → IsKnownAs p of x → HoldVariables p m w.fram w.locals
+    → AgreesAs of w (name_lowering p of x) (Some (by_width of (word_at m x 0) (two_words (word_at m x 0) (word_at m x 1)), w.inputs.readings))
 name_agrees Long p room x m w apart even k h = by_long w (read_long p x) _ (read_long_agrees p room x m w apart even k h)
 name_agrees Int p room x m w apart even k h = by_word w (one (read_step p x)) _ (read_agrees p room x m w apart even k h)
 name_agrees Unsigned p room x m w apart even k h = by_word w (one (read_step p x)) _ (read_agrees p room x m w apart even k h)
@@ -198,78 +202,80 @@ number_as_long n = by (nat_le n 32767) refl
     by false e = refl
 
 -- its value as a long, by the type by which it becomes one
-widened_agrees : (p : Places) (e : CheckedExpression) (m : Variables) (w : WordState) → AgreesAs (type_of e) w (lowering p e) (value_of e m w.readings)
-    → AgreesWithLong w (behaviour (lowered_long p e) w) (converted_to (type_of e) Long (value_of e m w.readings))
+widened_agrees : (p : Places) (e : CheckedExpression) (m : Variables) (w : WordState) → AgreesAs (type_of e) w (lowering p e) (value_of e m w.inputs.readings)
+    → AgreesWithLong w (behaviour (lowered_long p e) w) (converted_to (type_of e) Long (value_of e m w.inputs.readings))
 widened_agrees p (t.number n) m w h =
-    subst (λ v. AgreesWithLong w (behaviour (lowered_long p (t.number n)) w) (Some (v, w.readings))) (sym (number_as_long n))
-    (long_agrees Unsigned w (lowering p (t.number n)) (Some (n, w.readings)) (by_word w (one (number n)) _ (tt, refl)))
-widened_agrees p e m w h = long_agrees (type_of e) w (lowering p e) (value_of e m w.readings) h
+    subst (λ v. AgreesWithLong w (behaviour (lowered_long p (t.number n)) w) (Some (v, w.inputs.readings))) (sym (number_as_long n))
+    (long_agrees Unsigned w (lowering p (t.number n)) (Some (n, w.inputs.readings)) (by_word w (one (number n)) _ (tt, refl)))
+widened_agrees p e m w h = long_agrees (type_of e) w (lowering p e) (value_of e m w.inputs.readings) h
 
 -- ---- all expressions
 
-pub lowering_agrees : (p : Places) (room : Room) (e : CheckedExpression) (m : Variables) (w : WordState) → AreApart p room → AreEven p
-    → ExpressionFits p e → HoldVariables p m w.fram w.locals → AgreesAs (type_of e) w (lowering p e) (value_of e m w.readings)
-lowering_agrees p room (t.number n) m w apart even fits h =
+pub lowering_agrees : (shared : List SharedDeclaration) (p : Places) (room : Room) (e : CheckedExpression) (m : Variables) (w : WordState)
+    → AreApart p room → AreEven p → AsDeclared shared p → WellFormedExpression shared e → HoldVariables p m w.fram w.locals
+    → AgreesAs (type_of e) w (lowering p e) (value_of e m w.inputs.readings)
+lowering_agrees shared p room (t.number n) m w apart even declared fits h =
     as_one_word (type_of (t.number n)) (one_word.literal_word n) w _ _ (by_word w (one (number n)) _ (tt, refl))
-lowering_agrees p room (t.long_number n) m w apart even fits h = by_long w _ _ (tt, refl)
-lowering_agrees p room (t.name x) m w apart even fits h = name_agrees x.word_type p room x.variable m w apart even fits h
-lowering_agrees p room (t.element x index) m w apart even fits h =
+lowering_agrees shared p room (t.long_number n) m w apart even declared fits h = by_long w _ _ (tt, refl)
+lowering_agrees shared p room (t.name x) m w apart even declared fits h =
+    name_agrees x.word_type p room x.variable m w apart even (known_as shared p declared x.word_type x.variable fits.0 fits.1) h
+lowering_agrees shared p room (t.element x index) m w apart even declared fits h =
     let l = lowering p index in
     let last = one (element_step p x.variable) in
-    let o = value_of index m w.readings in
-    let agrees = of_one_word (type_of index) fits.3 w l o (lowering_agrees p room index m w apart even fits.1 h) in
-    as_one_word x.word_type fits.2 w _ _
+    let o = value_of index m w.inputs.readings in
+    let agrees = of_one_word (type_of index) fits.3 w l o (lowering_agrees shared p room index m w apart even declared fits.1 h) in
+    as_one_word x.word_type (array_word shared x.word_type x.variable fits.0 fits.2) w _ _
     (by_word w (joined (word_program l) last) _
     (then_step w (word_program l) last o (λ i. Some (word_at m x.variable i.0, i.1)) agrees.word
-    (λ i. element_agrees p room x.variable i.0 m w i.1 apart even fits.0 h)))
-lowering_agrees p room t.sense m w apart even fits h = by_word w (one sense) _ (sense_agrees w w.readings)
-lowering_agrees p room (t.unary op e) m w apart even fits h =
-    operand_agrees op (type_of e) w (lowering p e) (value_of e m w.readings) (lowering_agrees p room e m w apart even fits h)
-    (lowering_agrees p room e m (pushed 0 (pushed 0 w)) apart even fits h)
-lowering_agrees p room (t.binary op a b) m w apart even fits h =
+    (λ i. element_agrees p room x.variable i.0 m w i.1 apart even (array_known shared p declared x.variable fits.0) h)))
+lowering_agrees shared p room t.sense m w apart even declared fits h = by_word w (one sense) _ (sense_agrees w w.inputs.readings)
+lowering_agrees shared p room (t.unary op e) m w apart even declared fits h =
+    operand_agrees op (type_of e) w (lowering p e) (value_of e m w.inputs.readings) (lowering_agrees shared p room e m w apart even declared fits h)
+    (lowering_agrees shared p room e m (pushed 0 (pushed 0 w)) apart even declared fits h)
+lowering_agrees shared p room (t.binary op a b) m w apart even declared fits h =
     let s = type_of a in
     let of = type_of b in
     let u = widened_type a in
     let v = widened_type b in
     let l = lowering p a in
     let r = lowering p b in
-    let o = value_of a m w.readings in
-    let left = lowering_agrees p room a m w apart even fits.0 h in
+    let o = value_of a m w.inputs.readings in
+    let left = lowering_agrees shared p room a m w apart even declared fits.0 h in
     let operands : OperandsAgree s of u v w l r o (value_of b m) = record {
       left = left;
-      right = λ x. lowering_agrees p room b m (valued w x) apart even fits.1 h;
+      right = λ x. lowering_agrees shared p room b m (valued w x) apart even declared fits.1 h;
       longs = record {
         left_side = widened_agrees p a m w left;
-        right_side = λ x. widened_agrees p b m (long_valued w x) (lowering_agrees p room b m (long_valued w x) apart even fits.1 h);
+        right_side = λ x. widened_agrees p b m (long_valued w x) (lowering_agrees shared p room b m (long_valued w x) apart even declared fits.1 h);
       };
     } in
-    let value = value_of (t.binary op a b) m w.readings in
+    let value = value_of (t.binary op a b) m w.inputs.readings in
     let P : WordType → Type 0 = λ z. AgreesAs (binary_type op.operator s of) w (sides_lowering z op.operator u v l r) value in
     subst P (sym (operands_as_joined (joined_type s of) op.operator fits.2))
     (operands_agree (joined_type s of) op.operator s of u v refl fits.2 w l r o (value_of b m) operands)
-lowering_agrees p room (t.shift op e count) m w apart even fits h =
-    shift_agrees (type_of e) op count.value w (lowering p e) (value_of e m w.readings) (lowering_agrees p room e m w apart even fits h)
-lowering_agrees p room (t.short_circuit op a b) m w apart even fits h =
+lowering_agrees shared p room (t.shift op e count) m w apart even declared fits h =
+    shift_agrees (type_of e) op count.value w (lowering p e) (value_of e m w.inputs.readings) (lowering_agrees shared p room e m w apart even declared fits.0 h)
+lowering_agrees shared p room (t.short_circuit op a b) m w apart even declared fits h =
     let c = value_test (lowering p a) in
     let d = value_test (lowering p b) in
-    let o = value_of a m w.readings in
+    let o = value_of a m w.inputs.readings in
     let right = value_of b m in
     by_test w (sides_test op c d) _ (sides_are_truth op o right)
     (subst (AgreesWithValue w (truth_pushed (sides_test op c d) w)) (sides_of_truth o op right)
-    (side_agrees op w c d o right (test_agrees (type_of a) w (lowering p a) o (lowering_agrees p room a m w apart even fits.0 h))
-    (λ left. let u : WordState = record w { readings = left } in
+    (side_agrees op w c d o right (test_agrees (type_of a) w (lowering p a) o (lowering_agrees shared p room a m w apart even declared fits.0 h))
+    (λ left. let u : WordState = with_readings left w in
     from_left w left (truth_pushed d u) (truth_of (right left))
-    (test_agrees (type_of b) u (lowering p b) (right left) (lowering_agrees p room b m u apart even fits.1 h)))))
+    (test_agrees (type_of b) u (lowering p b) (right left) (lowering_agrees shared p room b m u apart even declared fits.1 h)))))
 
 pub expressions_agree : ExpressionsAgree
-expressions_agree p room e m w apart even fits h =
-    word_agrees (type_of e) w (lowering p e) (value_of e m w.readings) (lowering_agrees p room e m w apart even fits h)
+expressions_agree shared p room e m w apart even declared fits h =
+    word_agrees (type_of e) w (lowering p e) (value_of e m w.inputs.readings) (lowering_agrees shared p room e m w apart even declared fits h)
 
 pub longs_agree : LongsAgree
-longs_agree p room e m w apart even fits h =
-    widened_agrees p e m w (lowering_agrees p room e m w apart even fits h)
+longs_agree shared p room e m w apart even declared fits h =
+    widened_agrees p e m w (lowering_agrees shared p room e m w apart even declared fits h)
 
 pub tests_agree : TestsAgree
-tests_agree p room e m w apart even fits h =
-    value_done w (truth_pushed (lowered_test p e) w) (truth_of (value_of e m w.readings))
-    (test_agrees (type_of e) w (lowering p e) (value_of e m w.readings) (lowering_agrees p room e m w apart even fits h))
+tests_agree shared p room e m w apart even declared fits h =
+    value_done w (truth_pushed (lowered_test p e) w) (truth_of (value_of e m w.inputs.readings))
+    (test_agrees (type_of e) w (lowering p e) (value_of e m w.inputs.readings) (lowering_agrees shared p room e m w apart even declared fits h))

@@ -13,7 +13,7 @@ use Rattle.source_values.specs.Statements.{Attempt, goes_on}
 use Rattle.array_versions.specs.declared.operations.PlainOperation.{PlainOperation}
 use Rattle.array_versions.specs.Operations.{plain_word}
 use Rattle.array_versions.specs.Behaviour.{WordState, Behaviour, goes_on as going_on, then_on, is_place, word_listed, versioned_stored, behaviour}
-use Rattle.array_versions.specs.Behaviour.{own_place, versioned_updated}
+use Rattle.array_versions.specs.Behaviour.{with_readings, own_place, versioned_updated}
 use Rattle.array_versions.specs.Program.{nothing}
 use Rattle.array_versions.specs.declared.program.ArrayPlace.{ArrayPlace}
 use Rattle.memory_map.specs.MemoryMap.{word_place}
@@ -25,7 +25,7 @@ use Rattle.memory_map.proofs.Interface.{word_even}
 use Rattle.memory_map.specs.Spots.{Places, private_words, IsArrayAt, Element, IsCopied, element, copy, version, element_address, copy_address, version_address}
 use Rattle.lower.specs.Lowered.{array_place, list_place}
 use Rattle.lower.specs.Spots.{listed_of}
-use Rattle.lower.specs.Agreement.{own_word, element_pair, at_copy, at_version, HoldVariables, StandsFor, WentOn}
+use Rattle.lower.specs.Agreement.{own_word, element_pair, at_copy, at_version, HoldVariables, StandsFor, Scene, bounds, WentOn}
 use Rattle.lower.proofs.Addresses.{fram_place, spot_place, element_is, copy_is, version_is, has_element}
 use Rattle.lower.proofs.Stored.{word_past, set_holds, same_list, same_emits, spot_emits}
 use Rattle.lower.proofs.Lists.{HasNext, lists_word}
@@ -33,7 +33,7 @@ use Rattle.runtime_effects.specs.Places.{CopyPair}
 use Rattle.lower.proofs.Versioned.{stores_again, stores_first, stores_nothing, update_stores, updates_nothing}
 use Rattle.lower.proofs.Versioned.{element_set, again_stored, again_list, after_mark, mark_keeps_pairs}
 use Rattle.lower.proofs.Versioned.{mark_keeps_words, elements_have_next, first_stored_at, first_emits, first_list, pushed_of, push_listed}
-use Rattle.lower.proofs.Ends.{Scene, bounds, Does}
+use Rattle.lower.proofs.Ends.{Does}
 
 -- what is asked where statements begin that emit and list so much: the state stands for the attempt, and there is room
 pub record Begins (z : Scene) (m : Attempt) (listed : List Element) (w : WordState) (emitting : ℕ) (count most : ℕ → ℕ) : Type 0 where
@@ -74,7 +74,7 @@ module _ (z : Scene) (n i v elements len : ℕ) (c : ArrayCopies) (w : WordState
   place = array_place elements len c
 
   abbrev from : WordState
-  from = record w { readings = left }
+  from = with_readings left w
 
   abbrev after : Attempt
   after = record m { variables = with_word m.variables (Shared n) i v; left = left }
@@ -146,7 +146,7 @@ module _ (z : Scene) (n i v elements len : ℕ) (c : ArrayCopies) (w : WordState
       let fits = list_fits z m listed w 0 (λ u. if n == u then 1 else 0) most h in
       let Q : ℕ → Type 0 = λ a. put f a v (word_place p.map Version) ≡ put f a v (version_address p x) in
       let same = subst Q (copy_is p x elements len c at) (now.number ∙ sym now.mark) ∙ ap (put f (2 * i + c.copies) v) (version_is p x elements len c at) in
-      let P : ℕ → Type 0 = λ a. WentOn p (bounds z f most) w.stack (Store a v ∷ []) (record w { fram = put f a v; readings = left }) after in
+      let P : ℕ → Type 0 = λ a. WentOn p (bounds z f most) w.stack (Store a v ∷ []) (with_readings left (record w { fram = put f a v })) after in
       subst Result (sym (stores_again place (list_place p) i v from l (here_copy l) here_number (here_version l) same))
       (subst P (copy_is p x elements len c at) (record {
         stores = (at_copy x is refl, tt);
@@ -200,7 +200,7 @@ module _ (z : Scene) (n i v elements len : ℕ) (c : ArrayCopies) (w : WordState
       subst (λ d. here (2 * i + c.copies) (2 * i + c.versions) d) at_e
       (subst (λ b. here (2 * i + c.copies) b (element_address p x)) at_n (subst (λ a. here a (version_address p x) (element_address p x)) at_c lists.does)) in
       let P : List Effect → ℕ → ℕ → Type 0 = λ es a b. WentOn p (bounds z f most) w.stack (Store a v ∷ Store b (f (word_place p.map Version)) ∷ es)
-      (record w { fram = g; readings = left }) after in
+      (with_readings left (record w { fram = g })) after in
       let went : P lists.effects (copy_address p x) (version_address p x) = record {
         stores = (at_copy x is refl, (at_version x is refl h.number, lists.stores));
         stack_kept = refl;

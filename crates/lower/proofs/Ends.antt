@@ -3,7 +3,7 @@ use Rattle.std.proofs.Common.{◌≡◌, ℕ, ◌<◌, ◌≤◌, List, [], ◌�
 use Rattle.std.proofs.Common.{append-nil}
 use Rattle.memory_map.specs.MemoryMap.{word_place}
 use Rattle.memory_map.specs.declared.words.RuntimeWord.TheVariants.{ListLength, EmitCount, Version}
-use Rattle.array_versions.specs.fram_board.Effects.{Effect, Store, Take, Send}
+use Rattle.array_versions.specs.fram_board.Effects.{Effect, Store, Take, Outside}
 use Rattle.array_versions.specs.machine_effects.World.{put, fram_after}
 use Rattle.array_versions.proofs.machine_effects.Interface.{fram_after-append, put_other}
 use Rattle.source_values.specs.Statements.{Attempt, Outcome, goes_on, to_task, short, and_then, if_value}
@@ -12,27 +12,11 @@ use Rattle.array_versions.specs.Behaviour.{WordState, End, GoesOn, Jumps, Short,
 use Rattle.array_versions.specs.Laws.{EndsByEffects}
 use Rattle.array_versions.proofs.Interface.{behaves_by_effects}
 use Rattle.memory_map.specs.Spots.{Places, Element, scalar, copy, version}
-use Rattle.lower.specs.Spots.{Room, AreApart, AreEven, listed_of, HasRoom}
+use Rattle.lower.specs.Spots.{Room, AreApart, listed_of}
 use Rattle.lower.specs.Agreement.{TakesAndStores, OnlyTakes, IsTaskStore, at_variable, at_copy, at_version, in_list, at_list_length, at_emit_count, in_buffer}
-use Rattle.lower.specs.Agreement.{StandsFor, valued, EndsAt, AgreesAt, AgreesWithValue, Bounds, Left, EndsAs, Agrees}
+use Rattle.lower.specs.Agreement.{StandsFor, valued, EndsAt, AgreesAt, AgreesWithValue, Scene, bounds, Left, EndsAs, Agrees}
 use Rattle.lower.proofs.Values.{takes_append, only_takes}
 use Rattle.lower.proofs.Emitted.{EmitsAtMost}
-
--- the task that statements stand in: its places, apart and even, with room for so many stores to each array, the scalars that it
--- writes, and VER
-pub record Scene : Type 0 where
-  pub p : Places
-  pub written : ℕ → Bool
-  pub room : Room
-  pub stores : ℕ → ℕ
-  pub ver : ℕ
-  pub apart : AreApart p room
-  pub even : AreEven p
-  pub has_room : HasRoom p stores room
-
--- the bounds of statements from this FRAM on, which may list so many elements
-abbrev pub bounds : Scene → (ℕ → ℕ) → (ℕ → ℕ) → Bounds
-bounds z start most = record { start = start; written = z.written; room = z.room; ver = z.ver; most = most }
 
 abbrev pub Stores : Scene → List Effect → Type 0
 Stores z = TakesAndStores (IsTaskStore z.p z.written z.room z.ver)
@@ -67,7 +51,7 @@ stores_keep p written room ver a [] f apart kept h = refl
 stores_keep p written room ver a (Store b w ∷ es) f apart kept h =
     stores_keep p written room ver a es (put f b w) apart kept h.1 ∙ put_other f b w a (store_elsewhere p written room ver a b w apart kept h.0)
 stores_keep p written room ver a (Take r ∷ es) f apart kept h = stores_keep p written room ver a es f apart kept h
-stores_keep p written room ver a (Send n w ∷ es) f apart kept h = absurd h
+stores_keep p written room ver a (Outside o ∷ es) f apart kept h = absurd h
 
 -- VER is one
 pub keeps_version : (p : Places) (room : Room) → AreApart p room → IsKept p (word_place p.map Version)
@@ -78,7 +62,7 @@ pub takes_keep : (es : List Effect) (f : ℕ → ℕ) → OnlyTakes es → fram_
 takes_keep [] f h = refl
 takes_keep (Store a w ∷ es) f h = absurd h.0
 takes_keep (Take r ∷ es) f h = takes_keep es f h
-takes_keep (Send n w ∷ es) f h = absurd h
+takes_keep (Outside o ∷ es) f h = absurd h
 
 -- ---- effects in front
 

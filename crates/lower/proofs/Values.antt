@@ -2,7 +2,7 @@
 use Rattle.std.proofs.Common.{◌≡◌, ℕ, ◌+◌, ◌*◌, ◌%◌, ◌==◌, ◌<◌, ◌≤◌, List, [], ◌∷◌, ◌++◌, Option, Some, None, Bool, true, false, not, nat_le, nat_lt, refl, sym}
 use Rattle.std.proofs.Common.{ap, ◌∙◌, subst, arith, le-ltb, lt-ltb, get_or, ⊎_elim, if◌then◌else◌, bit_and}
 use Rattle.array_versions.specs.alp_words.Words.{bit}
-use Rattle.array_versions.specs.fram_board.Effects.{Effect, Store, Take, Send}
+use Rattle.array_versions.specs.fram_board.Effects.{Effect, Store, Take, Outside}
 use Rattle.std.proofs.lemmas.Bool.{cases_lt}
 use Rattle.std.proofs.lemmas.List.{get_or_past}
 use Rattle.task_ast.specs.declared.WordType.{WordType}
@@ -27,7 +27,7 @@ use Rattle.array_versions.specs.declared.operations.Comparison.TheVariants.{Comm
 use Rattle.array_versions.specs.Operations.{unary_word, binary_word, shift_word, shifted_word, compare_words}
 use Rattle.array_versions.specs.Program.{Test, Program, load, local, unary, binary, compares, fails, nothing, joined}
 use Rattle.array_versions.specs.Behaviour.{WordState, End, GoesOn, Jumps, Short, Strays, Broken, Behaviour, goes_on, behind_effects, on_end, then_on, is_place}
-use Rattle.array_versions.specs.Behaviour.{at_place, pushed, number_pushed, local_pushed, reading_pushed, way_by_top, way_by_two, tested, behaviour}
+use Rattle.array_versions.specs.Behaviour.{at_place, with_readings, pushed, number_pushed, local_pushed, reading_pushed, way_by_top, way_by_two, tested, behaviour}
 use Rattle.array_versions.proofs.Interface.{joined_go_on, then_on_assoc, decided_by_truth}
 use Rattle.memory_map.specs.MemoryMap.{word_place}
 use Rattle.memory_map.specs.declared.words.RuntimeWord.TheVariants.{Version}
@@ -42,8 +42,9 @@ use Rattle.lower.specs.Operations.{binary_meaning, shift_operation}
 use Rattle.lower.specs.Lowered.{one, read_step, element_read, element_step, Lowering, as_word, as_test, word_program, value_test, unary_lowering}
 use Rattle.lower.specs.Lowered.{binary_lowering, sides_test}
 use Rattle.lower.specs.Spots.{Room, AreApart, AreEven}
-use Rattle.lower.specs.Agreement.{IsKnown, IsArray, own_word, HoldVariables, TakesAndStores, OnlyTakes, valued, EndsAt, AgreesAt, AgreesWithValue, truth_value}
+use Rattle.lower.specs.Agreement.{IsArray, own_word, HoldVariables, TakesAndStores, OnlyTakes, valued, EndsAt, AgreesAt, AgreesWithValue, truth_value}
 use Rattle.lower.specs.Agreement.{truth_of}
+use Rattle.lower.proofs.Declared.{IsKnown}
 use Rattle.lower.proofs.Addresses.{fram_place, placed, spot_place, first_address, element_is, copy_is, version_is, has_element}
 
 -- ---- effects
@@ -53,13 +54,13 @@ pub takes_append : (P : ℕ → ℕ → Type 0) (es fs : List Effect) → TakesA
 takes_append P [] fs h k = k
 takes_append P (Store a w ∷ es) fs h k = (h.0, takes_append P es fs h.1 k)
 takes_append P (Take r ∷ es) fs h k = takes_append P es fs h k
-takes_append P (Send n w ∷ es) fs h k = h
+takes_append P (Outside o ∷ es) fs h k = h
 
 pub only_takes : (P : ℕ → ℕ → Type 0) (es : List Effect) → OnlyTakes es → TakesAndStores P es
 only_takes P [] h = tt
 only_takes P (Store a w ∷ es) h = absurd h.0
 only_takes P (Take r ∷ es) h = only_takes P es h
-only_takes P (Send n w ∷ es) h = h
+only_takes P (Outside o ∷ es) h = h
 
 -- ---- one behind the other
 
@@ -103,33 +104,33 @@ value_done w b o h = go b.effects b.end o h.0 h.1
 -- ---- leaves
 
 local_agrees : (w : WordState) (o : Option ℕ) (v : ℕ) → ((u : ℕ) → o ≡ Some u → v ≡ u)
-    → AgreesWithValue w (then_on (local_pushed o w) (behaviour nothing)) (Some (v, w.readings))
+    → AgreesWithValue w (then_on (local_pushed o w) (behaviour nothing)) (Some (v, w.inputs.readings))
 local_agrees w None v h = (tt, tt)
-local_agrees w (Some u) v h = (tt, ap (λ x. valued w (x, w.readings)) (sym (h u refl)))
+local_agrees w (Some u) v h = (tt, ap (λ x. valued w (x, w.inputs.readings)) (sym (h u refl)))
 
 -- a number below 256 is its own residue
 pub small_modulo : (n : ℕ) → n < 256 → n % 65536 ≡ n
 small_modulo n h = omega arith
 
-load_agrees : (w : WordState) (a v : ℕ) → is_place a ≡ true → w.fram a ≡ v → AgreesWithValue w (behaviour (one (load a)) w) (Some (v, w.readings))
+load_agrees : (w : WordState) (a v : ℕ) → is_place a ≡ true → w.fram a ≡ v → AgreesWithValue w (behaviour (one (load a)) w) (Some (v, w.inputs.readings))
 load_agrees w a v place is =
-    let P : Behaviour → Type 0 = λ b. AgreesWithValue w (then_on b (behaviour nothing)) (Some (v, w.readings)) in
-    subst P (sym (placed a (goes_on [] (pushed (w.fram a) w)) place)) (tt, ap (λ x. valued w (x, w.readings)) is)
+    let P : Behaviour → Type 0 = λ b. AgreesWithValue w (then_on b (behaviour nothing)) (Some (v, w.inputs.readings)) in
+    subst P (sym (placed a (goes_on [] (pushed (w.fram a) w)) place)) (tt, ap (λ x. valued w (x, w.inputs.readings)) is)
 
 pub word_read_agrees : (p : Places) (room : Room) (v i a : ℕ) (m : Variables) (w : WordState) → a ≡ scalar_address p v i → AreApart p room → AreEven p
     → IsScalarWord p v i → HoldVariables p m w.fram w.locals
-    → AgreesWithValue w (behaviour (one (load a)) w) (Some (word_at m (Shared v) i, w.readings))
+    → AgreesWithValue w (behaviour (one (load a)) w) (Some (word_at m (Shared v) i, w.inputs.readings))
 word_read_agrees p room v i a m w e apart even k h =
-    let P : ℕ → Type 0 = λ b. AgreesWithValue w (behaviour (one (load b)) w) (Some (word_at m (Shared v) i, w.readings)) in
+    let P : ℕ → Type 0 = λ b. AgreesWithValue w (behaviour (one (load b)) w) (Some (word_at m (Shared v) i, w.inputs.readings)) in
     subst P (sym e) (load_agrees w (scalar_address p v i) (word_at m (Shared v) i) (spot_place p room (scalar v i) apart even k) (h.words v i k))
 
 pub read_agrees : (p : Places) (room : Room) (x : Variable) (m : Variables) (w : WordState) → AreApart p room → AreEven p → IsKnown p x
     → HoldVariables p m w.fram w.locals
-    → AgreesWithValue w (behaviour (one (read_step p x)) w) (Some (word_at m x 0, w.readings))
+    → AgreesWithValue w (behaviour (one (read_step p x)) w) (Some (word_at m x 0, w.inputs.readings))
 read_agrees p room (Shared v) m w apart even k h =
     word_read_agrees p room v 0 (address_of p v) m w (sym (first_address p v)) apart even (first_word p v k) h
 read_agrees p room (Local n) m w apart even k h =
-    let P : ℕ → Type 0 = λ j. AgreesWithValue w (behaviour (one (local j)) w) (Some (word_at m (Local n) 0, w.readings)) in
+    let P : ℕ → Type 0 = λ j. AgreesWithValue w (behaviour (one (local j)) w) (Some (word_at m (Local n) 0, w.inputs.readings)) in
     subst P (sym (small_modulo n k)) (local_agrees w (w.locals n) (word_at m (Local n) 0) (λ u e. h.locals n u e))
 
 pub sense_agrees : (w : WordState) (rs : List ℕ) → AgreesWithValue w (then_on (reading_pushed rs w) (behaviour nothing)) (next_reading rs)
@@ -355,22 +356,22 @@ pub record LoweringAgrees (w : WordState) (l : Lowering) (o : Option (ℕ × Lis
 
 -- 1 is pushed where it holds, else 0
 pub bit_agrees : (b : Bool) (r : ℕ) (w : WordState) (left : List ℕ) → bit b ≡ r
-    → (let u : WordState = record w { readings = left } in AgreesWithValue w (if b then number_pushed 1 u else number_pushed 0 u) (Some (r, left)))
+    → (let u : WordState = with_readings left w in AgreesWithValue w (if b then number_pushed 1 u else number_pushed 0 u) (Some (r, left)))
 bit_agrees true r w left e = (tt, ap (λ v. valued w (v, left)) e)
 bit_agrees false r w left e = (tt, ap (λ v. valued w (v, left)) e)
 
 -- 0 is pushed where it holds, else 1
 pub turned_bit_agrees : (b : Bool) (r : ℕ) (w : WordState) (left : List ℕ) → bit (not b) ≡ r
-    → (let u : WordState = record w { readings = left } in AgreesWithValue w (if b then number_pushed 0 u else number_pushed 1 u) (Some (r, left)))
+    → (let u : WordState = with_readings left w in AgreesWithValue w (if b then number_pushed 0 u else number_pushed 1 u) (Some (r, left)))
 turned_bit_agrees true r w left e = (tt, ap (λ v. valued w (v, left)) e)
 turned_bit_agrees false r w left e = (tt, ap (λ v. valued w (v, left)) e)
 
 -- what agrees with other readings in front agrees
-pub from_left : (w : WordState) (left : List ℕ) (b : Behaviour) (o : Option (ℕ × List ℕ)) → AgreesWithValue (record w { readings = left }) b o
+pub from_left : (w : WordState) (left : List ℕ) (b : Behaviour) (o : Option (ℕ × List ℕ)) → AgreesWithValue (with_readings left w) b o
     → AgreesWithValue w b o
 from_left w left b o h = (h.0, by b.end o h.1)
   where
-    by : (e : End) (o : Option (ℕ × List ℕ)) → EndsAt (valued (record w { readings = left })) e o → EndsAt (valued w) e o
+    by : (e : End) (o : Option (ℕ × List ℕ)) → EndsAt (valued (with_readings left w)) e o → EndsAt (valued w) e o
     by (GoesOn s) (Some x) g = g
     by (GoesOn s) None g = g
     by (Jumps to s) o g = g
@@ -410,7 +411,7 @@ pub record SidesAgree (w : WordState) (a b : Program) (o : Option (ℕ × List �
 
 -- what is done with both values, which makes this word of them
 abbrev MakesWord : WordState → (WordState → Behaviour) → (ℕ → ℕ → ℕ) → Type 0
-MakesWord w next f = (x y : ℕ) (left : List ℕ) → AgreesWithValue w (next (record w { stack = y ∷ (x ∷ w.stack); readings = left })) (Some (f x y, left))
+MakesWord w next f = (x y : ℕ) (left : List ℕ) → AgreesWithValue w (next (with_readings left (record w { stack = y ∷ (x ∷ w.stack) }))) (Some (f x y, left))
 
 sides_agree : (w : WordState) (a b : Program) (o : Option (ℕ × List ℕ)) (second : List ℕ → Option (ℕ × List ℕ)) (f : ℕ → ℕ → ℕ)
     (next : WordState → Behaviour) → SidesAgree w a b o second → MakesWord w next f
@@ -483,7 +484,7 @@ unary_agrees unary_operator.Not w l o h = not_agrees w (value_test l) o h.test
 
 pub side_agrees : (op : ShortCircuitOperator) (w : WordState) (c d : Test) (o : Option (ℕ × List ℕ)) (right : List ℕ → Option (ℕ × List ℕ))
     → AgreesWithValue w (truth_pushed c w) (truth_of o)
-    → ((left : List ℕ) → AgreesWithValue w (truth_pushed d (record w { readings = left })) (truth_of (right left)))
+    → ((left : List ℕ) → AgreesWithValue w (truth_pushed d (with_readings left w)) (truth_of (right left)))
     → AgreesWithValue w (truth_pushed (sides_test op c d) w) (truth_of o >>? side_value op right)
 side_agrees BothHold w c d o right h k =
     let next = way_by_top (truth_pushed d) (number_pushed 0) in
@@ -491,7 +492,7 @@ side_agrees BothHold w c d o right h k =
     (value_then w w (truth_pushed c w) (truth_of o) next (side_value BothHold right) h (λ x. by (holds x.0) x.1))
   where
     by : (b : Bool) (left : List ℕ)
-        → (let u : WordState = record w { readings = left } in
+        → (let u : WordState = with_readings left w in
         AgreesWithValue w (if b then truth_pushed d u else number_pushed 0 u) (if not b then Some (bit b, left) else truth_of (right left)))
     by true left = k left
     by false left = (tt, refl)
@@ -501,7 +502,7 @@ side_agrees OneHolds w c d o right h k =
     (value_then w w (truth_pushed c w) (truth_of o) next (side_value OneHolds right) h (λ x. by (holds x.0) x.1))
   where
     by : (b : Bool) (left : List ℕ)
-        → (let u : WordState = record w { readings = left } in
+        → (let u : WordState = with_readings left w in
         AgreesWithValue w (if b then number_pushed 1 u else truth_pushed d u) (if b then Some (bit b, left) else truth_of (right left)))
     by true left = (tt, refl)
     by false left = k left

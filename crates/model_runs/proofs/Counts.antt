@@ -15,8 +15,9 @@ use Rattle.crash_rules.specs.machine_effects.Runs.{last_board}
 use Rattle.crash_rules.proofs.machine_effects.Interface.{power_up_keeps_words}
 use Rattle.crash_rules.specs.History.{History, is_done, is_decide, behind_boot, behind_done, behind_decide, behind_gate, observe}
 use Rattle.crash_rules.proofs.Interface.{observed_taken, with_effects}
-use Rattle.run_charges.specs.Charges.{behind_action, observed}
-use Rattle.run_charges.proofs.Interface.{IsMomentFrom, PowersUp, Instructs, AreMoments, front_moments, told, whole_after, words_after, one_write}
+use Rattle.run_charges.specs.View.{IsMomentFrom, PowersUp, Instructs, AreMoments}
+use Rattle.run_charges.specs.Charges.{behind_moment, observed}
+use Rattle.run_charges.proofs.Interface.{follows_keeps, front_moments, told, whole_after, words_after, one_write}
 use Rattle.run_charges.proofs.Interface.{readings_counted, readings_stay}
 use Rattle.model_runs.proofs.Events.{seen}
 use Rattle.run_charges.specs.Laws.{IsRunOfWords}
@@ -78,7 +79,7 @@ power_counts gate b h p w q ok =
 
 instruction_counts : (gate : ℕ) (b : BoardValue) (h : History) (i : Instr) (done : Stepped) → IsWhole b → IsOfWords b → IsNextInstruction b i
     → (executed b i).answer ≡ Ok done
-    → Counts b h (executed b i).board (behind_action gate (moment_of b i done).action b (executed b i).board h) 1
+    → Counts b h (executed b i).board (behind_moment gate (moment_of b i done) h) 1
 instruction_counts gate b h i done w q c a =
     let es : List Effect = told b w i done c a in
     let all = seen gate es h (one_write b w i done c a) in
@@ -95,12 +96,12 @@ instruction_counts gate b h i done w q c a =
     }
 
 moment_counts : (gate : ℕ) (b : BoardValue) (h : History) (m : Moment) → IsWhole b → IsOfWords b → IsMomentFrom b m
-    → Counts b h m.after (behind_action gate m.action m.before m.after h) 1
+    → Counts b h m.after (behind_moment gate m h) 1
 moment_counts gate b h m w q (PowersUp p ok e) =
-    let P : Moment → Type 0 = λ y. Counts b h y.after (behind_action gate y.action y.before y.after h) 1 in
+    let P : Moment → Type 0 = λ y. Counts b h y.after (behind_moment gate y h) 1 in
     subst P (sym e) (power_counts gate b h p w q ok)
 moment_counts gate b h m w q (Instructs i done c a e) =
-    let P : Moment → Type 0 = λ y. Counts b h y.after (behind_action gate y.action y.before y.after h) 1 in
+    let P : Moment → Type 0 = λ y. Counts b h y.after (behind_moment gate y h) 1 in
     subst P (sym e) (instruction_counts gate b h i done w q c a)
 
 moments_count : (gate : ℕ) (b : BoardValue) (h : History) (ms : List Moment) → IsWhole b → IsOfWords b → AreMoments b ms
@@ -108,9 +109,10 @@ moments_count : (gate : ℕ) (b : BoardValue) (h : History) (ms : List Moment) �
 moments_count gate b h [] w q all =
     record { whole = w; words = q; dones = omega arith; since = λ l. l; taken = λ e. e; readings = refl }
 moments_count gate b h (m ∷ ms) w q all =
-    let k = behind_action gate m.action m.before m.after h in
-    let one = moment_counts gate b h m w q all.0 in
-    let more = moments_count gate m.after k ms one.whole one.words all.1 in
+    let k = behind_moment gate m h in
+    let keeps = follows_keeps b m.before all.0 in
+    let one = moment_counts gate m.before h m (keeps.whole w) (keeps.words q) all.1 in
+    let more = moments_count gate m.after k ms one.whole one.words all.2 in
     let x = one.dones in
     let y = more.dones in
     record {
@@ -118,8 +120,8 @@ moments_count gate b h (m ∷ ms) w q all =
       words = more.words;
       dones = omega (arith, x, y);
       since = λ l. more.since (one.since l);
-      taken = λ e. more.taken (one.taken e);
-      readings = more.readings ∙ one.readings;
+      taken = λ e. more.taken (one.taken (e ∙ sym keeps.taken));
+      readings = more.readings ∙ one.readings ∙ keeps.readings;
     }
 
 run_counts : (cs : List BoardCharge) (b : BoardValue) (r : RunOutcome) → IsRunOfWords cs b r → (gate : ℕ) (h : History)

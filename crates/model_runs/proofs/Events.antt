@@ -191,7 +191,7 @@ module _ (m : MapValue) (x : World) (ok : IsMap m) (h : board.History) (k : Hist
   there = last-append x k.completed (done ∷ [])
 
   task_now : word_in b.fram m.words.current_task ≡ k.world.fram m.words.current_task
-  task_now = world_word b.fram k.world m.words.current_task t.fram ok.words.current_task
+  task_now = world_word b k.world m.words.current_task t.fram ok.words.current_task
 
   done_alike : SaysAlike m x (record (completed m h b) { gate = now }) (behind_done k)
   done_alike =
@@ -200,7 +200,7 @@ module _ (m : MapValue) (x : World) (ok : IsMap m) (h : board.History) (k : Hist
         mapped = a.mapped;
         completed = ap risen a.completed ∙ ap counted more;
         task = task_now ∙ ap (λ y. y.fram m.words.current_task) (sym there);
-        shared = values_same b.fram k.world (shared_numbers m.variables) t.fram (shared_in m.variables ok.variables)
+        shared = values_same b k.world (shared_numbers m.variables) t.fram (shared_in m.variables ok.variables)
             ∙ ap (λ y. world_values y (shared_numbers m.variables)) (sym there);
         words = [];
         words_are = ap (λ y. y.accepted) (sym there) ∙ sym (append-nil (last_world x (k.completed ++ done ∷ [])).accepted);
@@ -266,7 +266,7 @@ module _ (m : MapValue) (x : World) (ok : IsMap m) (h : board.History) (k : Hist
   change_same : changed_lines (shared_numbers m.variables) h.shared b.fram ≡ change_lines (shared_numbers m.variables) last k.world
   change_same =
       ap (λ l. changed_lines (shared_numbers m.variables) l b.fram) a.shared
-      ∙ changes_same b.fram last k.world (shared_numbers m.variables) t.fram (shared_in m.variables ok.variables)
+      ∙ changes_same b last k.world (shared_numbers m.variables) t.fram (shared_in m.variables ok.variables)
 
   other_lines : flat_map accepted_line h.accepted ++ (more_lines h.more ++ changed_lines (shared_numbers m.variables) h.shared b.fram)
       ≡ word_lines (words_between last k.world) ++ change_lines (shared_numbers m.variables) last k.world

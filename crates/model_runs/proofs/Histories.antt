@@ -5,26 +5,26 @@ use Rattle.crash_rules.specs.msp_isa.declared.instructions.Instr.{Instr}
 use Rattle.crash_rules.specs.image_map.MapValue.{MapValue}
 use Rattle.crash_rules.specs.image_map.Kept.{IsMap}
 use Rattle.crash_rules.specs.fram_board.declared.board.Stepped.{Stepped}
-use Rattle.crash_rules.specs.fram_board.Board.{BoardValue, PowerState, powered, executed, IsNextInstruction}
+use Rattle.crash_rules.specs.fram_board.Board.{BoardValue, next_number, PowerState, powered, executed, IsNextInstruction}
 use Rattle.crash_rules.specs.fram_board.Saved.{TakesNextBehind}
 use Rattle.crash_rules.specs.fram_board.Steps.{IsPowerState}
 use Rattle.crash_rules.specs.fram_board.Effects.{Effect}
-use Rattle.crash_rules.specs.fram_board.Run.{PowerUp, Execute, Moment, moment_of, power_up_of, word_list}
+use Rattle.crash_rules.specs.fram_board.Run.{Moment, moment_of, power_up_of, word_list}
 use Rattle.board_run.specs.History.{moment_lines, noted, word_in, with_words, behind_power_up, behind_instruction, instruction_lines, start_with}
 use Rattle.board_run.specs.History.{shared_numbers}
 use Rattle.board_run.specs.History as board
 use Rattle.board_run.specs.Report.{lines_from, after_all}
 use Rattle.crash_rules.specs.machine_effects.World.{World, fram_after, world_after}
-use Rattle.crash_rules.specs.machine_effects.Machine.{fram_of}
 use Rattle.crash_rules.specs.machine_effects.View.{IsWhole, IsOfWords}
-use Rattle.crash_rules.specs.machine_effects.Runs.{action_effects, last_board}
+use Rattle.crash_rules.specs.machine_effects.Runs.{last_board}
 use Rattle.crash_rules.proofs.machine_effects.Interface.{world_by_its_parts, power_up_keeps_words}
 use Rattle.crash_rules.specs.History.{Done, History, behind_boot, behind_gate, first_history, observe}
 use Rattle.crash_rules.proofs.Interface.{with_effects, observed_world, observed_taken}
-use Rattle.run_charges.specs.Charges.{behind_action, observed}
+use Rattle.run_charges.specs.View.{outside_of, outside_effects, Follows, IsMomentFrom, PowersUp, Instructs, AreMoments}
+use Rattle.run_charges.specs.Charges.{behind_moment, observed}
 use Rattle.model_runs.specs.Events.{TellsOf, last_world, counted, SaysAlike, SaysTheSame, done_lines, dones_lines}
 use Rattle.model_runs.specs.EventLaws.{HistoriesStayTheSame, FirstHistoriesAreTheSame}
-use Rattle.run_charges.proofs.Interface.{IsMomentFrom, PowersUp, Instructs, AreMoments, front_moments, whole_after, words_after, fram_changed, one_write}
+use Rattle.run_charges.proofs.Interface.{follows_keeps, front_moments, whole_after, words_after, fram_changed, one_write}
 use Rattle.run_charges.proofs.Interface.{words_accepted, words_counted, readings_counted}
 use Rattle.model_runs.proofs.Places.{world_word, shared_in, values_same}
 use Rattle.model_runs.proofs.Events.{seen, last-append, words_keep_gate, gated_from, gate_lines, Told, event_alike, event_told, words_told}
@@ -35,6 +35,21 @@ pub record Together (m : MapValue) (x : World) (b : BoardValue) (h : board.Histo
   pub words : IsOfWords b
   pub same : SaysTheSame m x h k
   pub tells : TellsOf b k
+
+-- and as the next moment begins
+together_on : (m : MapValue) (x : World) (b c : BoardValue) (h : board.History) (k : History) → Follows b c → Together m x b h k → Together m x c h k
+together_on m x b c h k follows t =
+    let keeps = follows_keeps b c follows in
+    record {
+      whole = keeps.whole t.whole;
+      words = keeps.words t.words;
+      same = t.same;
+      tells = record {
+        fram = t.tells.fram ∙ ap (λ s. s.fram) (sym keeps.outside);
+        accepted = t.tells.accepted ∙ ap next_number (sym keeps.receiver);
+        taken = t.tells.taken ∙ sym keeps.taken;
+      };
+    }
 
 -- what moments lead to, with the lines of the dones among them
 pub record Leads (m : MapValue) (x : World) (b : BoardValue) (h : board.History) (k j : History) (lines : List ℕ) : Type 0 where
@@ -78,7 +93,7 @@ module _ (m : MapValue) (x : World) (ok : IsMap m) where
     unfolding moment_lines
     no_lines = refl
 
-    boot_leads : Leads m x (powered b p) (noted h (power_up_of b p)) k (behind_action gate PowerUp b (powered b p) k) (moment_lines h (power_up_of b p))
+    boot_leads : Leads m x (powered b p) (noted h (power_up_of b p)) k (behind_boot k) (moment_lines h (power_up_of b p))
     boot_leads =
         let up = power_up_keeps_words b p t.whole t.words start in
         let P : board.History → Type 0 = λ y. SaysTheSame m x y (behind_boot k) in
@@ -101,7 +116,7 @@ module _ (m : MapValue) (x : World) (ok : IsMap m) where
     after = (executed b i).board
 
     abbrev es : List Effect
-    es = action_effects (Execute done (executed b i).offered) b after
+    es = outside_effects (moment_of b i done)
 
     abbrev ws : List ℕ
     ws = word_list done.accepted
@@ -118,7 +133,7 @@ module _ (m : MapValue) (x : World) (ok : IsMap m) where
     abbrev now : ℕ
     now = word_in after.fram gate
 
-    fram_now : (world_after es k.world).fram ≡ fram_of after.fram
+    fram_now : (world_after es k.world).fram ≡ (outside_of after).fram
     fram_now =
         ap (λ y. y.fram) (world_by_its_parts es k.world)
         ∙ ap (fram_after es) t.tells.fram
@@ -138,7 +153,7 @@ module _ (m : MapValue) (x : World) (ok : IsMap m) where
     moved_tells = record { fram = fram_now; accepted = count_now; taken = taken_now }
 
     gate_now : now ≡ (world_after es k.world).fram gate
-    gate_now = world_word after.fram (world_after es k.world) gate fram_now ok.words.gate
+    gate_now = world_word after (world_after es k.world) gate fram_now ok.words.gate
 
     alike_moved : SaysAlike m x spoken moved
     alike_moved = words_told m x h k es done.accepted t.same.alike accepted_now
@@ -205,7 +220,7 @@ module _ (m : MapValue) (x : World) (ok : IsMap m) where
 
   -- one moment
   abbrev MomentLeads : BoardValue → board.History → History → Moment → Type 0
-  MomentLeads b h k o = Leads m x o.after (noted h o) k (behind_action gate o.action o.before o.after k) (moment_lines h o)
+  MomentLeads b h k o = Leads m x o.after (noted h o) k (behind_moment gate o k) (moment_lines h o)
 
   -- a moment leads both histories on
   pub moment_leads : (b : BoardValue) (h : board.History) (k : History) → Together m x b h k → (o : Moment) → IsMomentFrom b o → MomentLeads b h k o
@@ -243,9 +258,9 @@ module _ (m : MapValue) (x : World) (ok : IsMap m) where
       → Leads m x (last_board b ms) (after_all h ms) k (observed gate ms k) (lines_from h ms)
   moments_lead b h k [] t are = record { together = t; told = record { dones = []; completed = sym (append-nil k.completed); told = refl } }
   moments_lead b h k (o ∷ ms) t are =
-      let one = moment_leads b h k t o are.0 in
-      let j = behind_action gate o.action o.before o.after k in
-      let rest = moments_lead o.after (noted h o) j ms one.together are.1 in
+      let one = moment_leads o.before h k (together_on m x b o.before h k are.0 t) o are.1 in
+      let j = behind_moment gate o k in
+      let rest = moments_lead o.after (noted h o) j ms one.together are.2 in
       record { together = rest.together; told = told_join k j (observed gate ms j) (moment_lines h o) (lines_from (noted h o) ms) one.told rest.told }
 
 pub histories_stay_the_same : HistoriesStayTheSame
@@ -261,8 +276,8 @@ first_histories_are_the_same b m x ok s =
     record {
       mapped = refl;
       completed = refl;
-      task = world_word b.fram x m.words.current_task s.fram ok.words.current_task;
-      shared = values_same b.fram x (shared_numbers m.variables) s.fram (shared_in m.variables ok.variables);
+      task = world_word b x m.words.current_task s.fram ok.words.current_task;
+      shared = values_same b x (shared_numbers m.variables) s.fram (shared_in m.variables ok.variables);
       words = [];
       words_are = sym (append-nil x.accepted);
       accepted = refl;
@@ -271,6 +286,6 @@ first_histories_are_the_same b m x ok s =
       span_from = refl;
       span_to = refl;
     } in (
-      record { alike = alike; gate = world_word b.fram x m.words.gate s.fram ok.words.gate },
+      record { alike = alike; gate = world_word b x m.words.gate s.fram ok.words.gate },
       record { fram = s.fram; accepted = s.accepted; taken = sym s.taken },
     )

@@ -10,8 +10,9 @@ use Rattle.crash_rules.specs.machine_effects.View.{IsWhole, IsOfWords}
 use Rattle.crash_rules.proofs.machine_effects.Interface.{power_up_keeps_words}
 use Rattle.crash_rules.specs.History.{History, is_done, is_decide, behind_done, behind_decide, behind_gate}
 use Rattle.crash_rules.proofs.Interface.{with_effects, observed_world}
-use Rattle.run_charges.specs.Charges.{behind_action, observed}
-use Rattle.run_charges.proofs.Interface.{IsMomentFrom, PowersUp, Instructs, AreMoments, told, whole_after, words_after, one_write}
+use Rattle.run_charges.specs.View.{IsMomentFrom, PowersUp, Instructs, AreMoments}
+use Rattle.run_charges.specs.Charges.{behind_moment, observed}
+use Rattle.run_charges.proofs.Interface.{follows_keeps, told, whole_after, words_after, one_write}
 use Rattle.model_runs.proofs.Events.{seen}
 
 -- behind a change of GATE the last boot or done is the one before, or now
@@ -36,7 +37,7 @@ module _ (P : World → Type 0) (gate : ℕ) where
     abbrev es : List Effect
     es = told b h.whole i done current answer
 
-    behind_instruction : let m = moment_of b i done in let j = behind_action gate m.action m.before m.after k in P j.world → Begun m.after j
+    behind_instruction : let m = moment_of b i done in let j = behind_moment gate m k in P j.world → Begun m.after j
     behind_instruction now =
         let Q : World → Type 0 = λ y. P y in
         let R : History → Type 0 = λ y. P y.start in
@@ -49,15 +50,14 @@ module _ (P : World → Type 0) (gate : ℕ) where
           world = now;
         }
 
-  behind_moment : (b : BoardValue) (k : History) → Begun b k → (m : Moment) → IsMomentFrom b m
-      → P (behind_action gate m.action m.before m.after k).world → Begun m.after (behind_action gate m.action m.before m.after k)
-  behind_moment b k h m (PowersUp p ok e) now =
-      let Q : Moment → Type 0 = λ y. Begun y.after (behind_action gate y.action y.before y.after k) in
+  begun_behind : (b : BoardValue) (k : History) → Begun b k → (m : Moment) → IsMomentFrom b m → P (behind_moment gate m k).world
+      → Begun m.after (behind_moment gate m k)
+  begun_behind b k h m (PowersUp p ok e) now =
+      let Q : Moment → Type 0 = λ y. Begun y.after (behind_moment gate y k) in
       let up = power_up_keeps_words b p h.whole h.words ok in
       subst Q (sym e) (record { whole = up.0; words = up.1; start = h.world; world = h.world })
-  behind_moment b k h m (Instructs i done c a e) now =
-      let Q : Moment → Type 0 = λ y. P (behind_action gate y.action y.before y.after k).world
-      → Begun y.after (behind_action gate y.action y.before y.after k) in
+  begun_behind b k h m (Instructs i done c a e) now =
+      let Q : Moment → Type 0 = λ y. P (behind_moment gate y k).world → Begun y.after (behind_moment gate y k) in
       subst Q (sym e) (behind_instruction b k h i done c a) now
 
   -- what holds of the world at each front, and at first of the last boot or done, holds of the last boot or done behind all moments
@@ -65,7 +65,9 @@ module _ (P : World → Type 0) (gate : ℕ) where
       → ((ns rest : List Moment) → ms ≡ ns ++ rest → P (observed gate ns k).world) → P (observed gate ms k).start
   starts_hold b k [] whole words are start fronts = start
   starts_hold b k (m ∷ ms) whole words are start fronts =
-      let j = behind_action gate m.action m.before m.after k in
-      let here : Begun b k = record { whole = whole; words = words; start = start; world = fronts [] (m ∷ ms) refl } in
-      let next = behind_moment b k here m are.0 (fronts (m ∷ []) ms refl) in
-      starts_hold m.after j ms next.whole next.words are.1 next.start (λ ns rest e. fronts (m ∷ ns) rest (ap (λ l. m ∷ l) e))
+      let keeps = follows_keeps b m.before are.0 in
+      let here : Begun m.before k =
+      record { whole = keeps.whole whole; words = keeps.words words; start = start; world = fronts [] (m ∷ ms) refl } in
+      let next = begun_behind m.before k here m are.1 (fronts (m ∷ []) ms refl) in
+      starts_hold m.after (behind_moment gate m k) ms next.whole next.words are.2 next.start
+      (λ ns rest e. fronts (m ∷ ns) rest (ap (λ l. m ∷ l) e))

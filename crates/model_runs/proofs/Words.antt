@@ -4,13 +4,14 @@ use Rattle.crash_rules.specs.fram_board.Effects.{Effect, Store, Take, Send}
 use Rattle.crash_rules.specs.machine_effects.World.{fram_after, EachStore}
 use Rattle.crash_rules.specs.machine_effects.Going.{going}
 use Rattle.crash_rules.specs.machine_effects.Machine.{MachineBoard}
-use Rattle.crash_rules.specs.machine_effects.View.{machine_of}
 use Rattle.crash_rules.specs.machine_effects.Runs.{last_board}
 use Rattle.crash_rules.specs.Model.{Model}
 use Rattle.crash_rules.specs.History.{History, observe, behind_boot, first_history}
 use Rattle.crash_rules.specs.Runs.{Program, Charge, Charged}
 use Rattle.crash_rules.proofs.Interface.{changed, stores_only}
 use Rattle.crash_rules.specs.machine_effects.Laws.{ChangesByEffects}
+use Rattle.run_charges.specs.View.{outside_of}
+use Rattle.run_charges.proofs.Interface.{run_front}
 use Rattle.model_runs.specs.Runs.{history_behind}
 use Rattle.model_runs.specs.Laws.{WordsStayWithin}
 use Rattle.model_runs.proofs.Fronts.{at_front}
@@ -51,9 +52,9 @@ module _ (P : ℕ → ℕ → Type 0) (a most : ℕ) (few : (w : ℕ) → P a w 
 -- a word stays within its bound at each front
 pub words_stay_within : {St : Type 0} (m : Model St) (c : Program) (P : ℕ → ℕ → Type 0) → WordsStayWithin m c P
 words_stay_within m c P readings origin x cs b r run bears attempts commits a most few first ms rest e =
-    let at = at_front m c readings origin x cs b r run bears ms rest e in
+    let at = at_front m c readings origin x b bears ms (run_front cs b r ms rest run e) in
     let Q : (ℕ → ℕ) → Type 0 = λ f. f a ≤ most in
-    charges_within P a most few c bears.program.changes m.gate at.charges (machine_of b) (machine_of (last_board b ms))
+    charges_within P a most few c bears.program.changes m.gate at.charges (outside_of b) (outside_of (last_board b ms))
     (first_history m.gate x) (history_behind m x ms)
-    (λ es t k charged. stores_only m c P bears.model bears.program attempts commits readings origin x (machine_of b) bears.begins es t k charged)
+    (λ es t k charged. stores_only m c P bears.model bears.program attempts commits readings origin x (outside_of b) bears.begins es t k charged)
     at.charged (subst Q (sym bears.begins.fram) first)

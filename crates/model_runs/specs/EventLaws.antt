@@ -10,9 +10,9 @@ use Rattle.board_run.specs.History.{start_with}
 use Rattle.board_run.specs.History as board
 use Rattle.board_run.specs.Report.{after_all, lines_from, report_of, last_line}
 use Rattle.crash_rules.specs.machine_effects.World.{World}
-use Rattle.crash_rules.specs.machine_effects.Machine.{fram_of}
 use Rattle.crash_rules.specs.machine_effects.Runs.{last_board}
 use Rattle.crash_rules.specs.History.{History, first_history}
+use Rattle.run_charges.specs.View.{outside_of}
 use Rattle.run_charges.specs.Charges.{observed}
 use Rattle.run_charges.specs.Laws.{IsRunOfWords}
 use Rattle.model_runs.specs.Events.{TellsOf, counted, SaysTheSame, word_lines, dones_lines}
@@ -26,7 +26,7 @@ HistoriesStayTheSame = (cs : List BoardCharge) (b : BoardValue) (r : RunOutcome)
 
 -- a board from which a run begins, and the world then: no reading is taken yet
 pub record StartsWith (b : BoardValue) (x : World) : Type 0 where
-  pub fram : x.fram ≡ fram_of b.fram
+  pub fram : x.fram ≡ (outside_of b).fram
   pub accepted : TakesNextBehind x.accepted b.receiver
   pub taken : b.taken ≡ 0
 

@@ -8,13 +8,13 @@ use Rattle.crash_rules.specs.fram_board.Board.{BoardValue}
 use Rattle.crash_rules.specs.fram_board.Saved.{TakesNextBehind}
 use Rattle.board_run.specs.History.{SharedNumber, number_of, shared_numbers, task_name, changed_line, more_lines}
 use Rattle.board_run.specs.History as board
-use Rattle.crash_rules.specs.machine_effects.Machine.{fram_of}
 use Rattle.crash_rules.specs.machine_effects.World.{World}
 use Rattle.crash_rules.specs.History.{Done, History}
+use Rattle.run_charges.specs.View.{outside_of}
 
 -- a history tells of this board: its FRAM, the word that its receiver takes next, how many readings were taken
 pub record TellsOf (b : BoardValue) (k : History) : Type 0 where
-  pub fram : k.world.fram ≡ fram_of b.fram
+  pub fram : k.world.fram ≡ (outside_of b).fram
   pub accepted : TakesNextBehind k.world.accepted b.receiver
   pub taken : k.taken ≡ b.taken
 

@@ -5,13 +5,12 @@ use Rattle.crash_rules.specs.msp_step.declared.machine.Stop.TheVariants as stop
 use Rattle.crash_rules.specs.fram_board.Board.{BoardValue}
 use Rattle.crash_rules.specs.fram_board.Run.{Moment, Stopped, RunOutcome, BoardCharge}
 use Rattle.crash_rules.specs.machine_effects.World.{World, EachStore}
-use Rattle.crash_rules.specs.machine_effects.Machine.{fram_of}
-use Rattle.crash_rules.specs.machine_effects.View.{machine_of}
 use Rattle.crash_rules.specs.machine_effects.Runs.{last_board}
 use Rattle.crash_rules.specs.Model.{Model, IsWord, bound}
 use Rattle.crash_rules.specs.History.{History, first_history}
 use Rattle.crash_rules.specs.Runs.{Program}
 use Rattle.crash_rules.specs.Laws.{Origin, Resting, Pending, IsLawful, Matches}
+use Rattle.run_charges.specs.View.{outside_of}
 use Rattle.run_charges.specs.Charges.{observed}
 use Rattle.run_charges.specs.Laws.{IsRunOfWords}
 use Rattle.model_runs.specs.Runs.{BearsModel, history_behind, IsShort, Progresses, all_amounts, AreInOrder, AreInOrderPast}
@@ -20,7 +19,7 @@ use Rattle.model_runs.specs.Runs.{BearsModel, history_behind, IsShort, Progresse
 abbrev pub FrontsAreLawful : {St : Type 0} → Model St → Program → Type 0
 FrontsAreLawful {St} m c = (readings : List ℕ) (origin : Origin St) (x : World) (cs : List BoardCharge) (b : BoardValue) (r : RunOutcome)
     → IsRunOfWords cs b r → BearsModel m c readings origin x b → (ms rest : List Moment) → r.moments ≡ ms ++ rest
-    → IsLawful m readings origin (history_behind m x ms) × Matches readings (machine_of (last_board b ms)) (history_behind m x ms)
+    → IsLawful m readings origin (history_behind m x ms) × Matches readings (outside_of (last_board b ms)) (history_behind m x ms)
 
 -- a run stops for want of a reading alone, and only where the source is short
 abbrev pub StopsWhereShort : {St : Type 0} → Model St → Program → Type 0
@@ -53,7 +52,7 @@ WordsStayWithin {St} m c P = (readings : List ℕ) (origin : Origin St) (x : Wor
     → ((s : St) (y : World) (more : List ℕ) → All IsWord more → m.Undecided s y → EachStore P (m.attempt y.fram more).effects)
     → ((to : St) (y : World) → m.Committing to y → EachStore P (m.commit y.fram))
     → (a most : ℕ) → ((w : ℕ) → P a w → w ≤ most) → x.fram a ≤ most
-    → (ms rest : List Moment) → r.moments ≡ ms ++ rest → fram_of (last_board b ms).fram a ≤ most
+    → (ms rest : List Moment) → r.moments ≡ ms ++ rest → (outside_of (last_board b ms)).fram a ≤ most
 
 -- no more readings are taken than there are
 abbrev pub TakesWhatIsThere : Type 0

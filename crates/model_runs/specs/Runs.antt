@@ -5,28 +5,27 @@ use Rattle.crash_rules.specs.msp_step.declared.machine.Stop.{Stop}
 use Rattle.crash_rules.specs.fram_board.Board.{BoardValue, powered}
 use Rattle.crash_rules.specs.fram_board.Run.{Cycles, Moment, Charges, Stopped, RunOutcome, run_outcome, after_moments, BoardCharge, ChargeRun, power_up_of}
 use Rattle.crash_rules.specs.machine_effects.World.{World}
-use Rattle.crash_rules.specs.machine_effects.Machine.{fram_of}
-use Rattle.crash_rules.specs.machine_effects.View.{machine_of}
 use Rattle.run_charges.specs.code_forms.Placed.{words_of, Holds}
 use Rattle.crash_rules.specs.Model.{Model, ModelLaws, Short}
 use Rattle.crash_rules.specs.History.{Done, History, first_history}
 use Rattle.crash_rules.specs.Runs.{Program, ProgramLaws}
 use Rattle.crash_rules.specs.Laws.{Origin, Begins, IsSettled, Reaches}
+use Rattle.run_charges.specs.View.{outside_of}
 use Rattle.run_charges.specs.Charges.{observed, IsPlacedProgram, AlwaysLeaves}
 
 -- where a program stands in the FRAM of a board, which enters it by its reset vector, and that its charges never change it
 pub record HasProgram (c : Program) (gate : ℕ) (x : World) (b : BoardValue) : Type 0 where
   pub place : ℕ
   pub instructions : List Instr
-  pub placed : IsPlacedProgram c place instructions (fram_of b.fram 0xFFFE)
-  pub holds : Holds (fram_of b.fram) place (words_of instructions)
-  pub leaves : AlwaysLeaves c place (length (words_of instructions)) gate (machine_of b) (first_history gate x)
+  pub placed : IsPlacedProgram c place instructions ((outside_of b).fram 0xFFFE)
+  pub holds : Holds (outside_of b).fram place (words_of instructions)
+  pub leaves : AlwaysLeaves c place (length (words_of instructions)) gate (outside_of b) (first_history gate x)
 
 -- a program that keeps what it owes to a model stands on a board, whose world then a run may begin with
 pub record BearsModel {St : Type 0} (m : Model St) (c : Program) (readings : List ℕ) (origin : Origin St) (x : World) (b : BoardValue) : Type 0 where
   pub model : ModelLaws m
   pub program : ProgramLaws m c
-  pub begins : Begins m readings origin x (machine_of b)
+  pub begins : Begins m readings origin x (outside_of b)
   pub stands : HasProgram c m.gate x b
 
 -- what is known behind moments of a run that began with this world

@@ -173,6 +173,7 @@ behind a w n e = omega (arith, e)
 
 pub one_layout : (p : CheckedProgram) (allow : Allow) → IsAllowed p allow → OneLayout p allow
 one_layout p allow h plans a b planned x y = λ j. record {
+  runtime = runtime j;
   row = at 0 j;
   list = list j;
   entries = entries j;
@@ -189,6 +190,9 @@ one_layout p allow h plans a b planned x y = λ j. record {
   where
     at : (k : ℕ) → get_or (addresses a) k 0 ≡ get_or (addresses b) k 0
     at k = ap (λ xs. get_or xs k 0) (same_addresses p allow plans a b h x y)
+
+    runtime : a.runtime ≡ b.runtime
+    runtime = x.runtime ∙ sym y.runtime
 
     entries : a.entries ≡ b.entries
     entries = x.list ∙ sym y.list

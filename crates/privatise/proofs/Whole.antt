@@ -25,7 +25,7 @@ use Rattle.privatise.specs.declared.sizes.Sizes.{Sizes}
 use Rattle.memory_map.specs.declared.layouts.Regions.{Regions}
 use Rattle.memory_map.specs.declared.place.Region.{Region}
 use Rattle.memory_map.specs.Words.{row_words}
-use Rattle.memory_map.specs.MemoryMap.{TaskPlace, parts, row_region}
+use Rattle.memory_map.specs.MemoryMap.{TaskPlace, parts, row_region, lone_redo}
 use Rattle.memory_map.specs.View.{map_with}
 use Rattle.memory_map.specs.Places.{end_of, list_entry_room, home_region, copy_regions, version_regions, IsBehind, AreInOrder, IsLaidOut}
 use Rattle.privatise.specs.Sizes.{home_words, copy_part, copy_words, body_words, boot_words, commit_words}
@@ -150,12 +150,12 @@ right_behind end r e f = record { from = omega (arith, e); even = f }
 -- the regions in order
 pub chain : (allow : Allow) (s : Sizes) (r : Regions) (places : List VariablePlace) (layouts : List TaskPlace) → AreRegions allow s r
     → fram_first + 2 * (row_words + commit_words + 3 * allow.list + allow.emits + allow.versions + s.homes + s.copies + s.boot + s.code) ≤ reset_vector
-    → AreInOrder fram_first (parts (map_with r places layouts)) reset_vector
+    → AreInOrder fram_first (parts (map_with lone_redo r places layouts)) reset_vector
 chain allow s r places layouts k fits =
     let b = starts allow s r k in
     let e = even_starts allow s r k in
     let end = b.end in
-    let row : IsBehind fram_first (row_region (map_with r places layouts)) = right_behind fram_first _ k.row (ap (λ a. a % 2) k.row) in
+    let row : IsBehind fram_first (row_region (map_with lone_redo r places layouts)) = right_behind fram_first _ k.row (ap (λ a. a % 2) k.row) in
     let list : IsBehind (r.row + 2 * row_words) r.list = right_behind _ r.list k.list (ap (λ a. a % 2) b.list) in
     let emits : IsBehind (end_of r.list) r.emits = right_behind _ r.emits k.emits (even r.emits.address _ b.emits) in
     let versions : IsBehind (end_of r.emits) r.versions = right_behind _ r.versions k.versions e.versions in
@@ -278,7 +278,7 @@ pub laid_out : (p : CheckedProgram) (allow : Allow) (plans : List TaskPlanValue)
     → length p.shared ≤ 256 → AreWritten p written → IsAllowed p allow → AreSizes p s → AreRegions allow s r
     → ArePlaced p.shared written (record { home = r.homes.address; copy = r.copies.address; version = r.versions.address }) places
     → ArePlacedTasks p.shared places p.tasks plans r.code.address layouts
-    → IsLaidOut (map_with r places layouts)
+    → IsLaidOut (map_with lone_redo r places layouts)
 laid_out p allow plans s r written places layouts few h a k g v t = record {
   chain = chain allow s r places layouts g (sizes_fit p allow s a k);
   list = g.list_words ∙ ap (λ n. list_entry_room * n) (sym g.entries);
@@ -302,8 +302,9 @@ pub whole : (p : CheckedProgram) (allow : Allow) (plans : List TaskPlanValue) (s
     → length p.shared ≤ 256 → AreWritten p written → IsAllowed p allow → AreSizes p s → AreRegions allow s r
     → ArePlaced p.shared written (record { home = r.homes.address; copy = r.copies.address; version = r.versions.address }) places
     → ArePlacedTasks p.shared places p.tasks plans r.code.address layouts
-    → IsLayout p allow plans (map_with r places layouts)
+    → IsLayout p allow plans (map_with lone_redo r places layouts)
 whole p allow plans s r written places layouts few h a k g v t = record {
+  runtime = refl;
   rules = laid_out p allow plans s r written places layouts few h a k g v t;
   list = g.entries;
   emits = g.emits_words;

@@ -13,9 +13,11 @@ use Rattle.crash_rules.specs.machine_effects.Runs.{last_board}
 use Rattle.crash_rules.proofs.machine_effects.Interface.{world_by_its_parts, power_up_keeps_words}
 use Rattle.crash_rules.specs.History.{History, behind_boot}
 use Rattle.crash_rules.proofs.Interface.{observed_world, observed_taken}
-use Rattle.run_charges.specs.Charges.{behind_action, observed}
+use Rattle.run_charges.specs.View.{Follows, IsMomentFrom, PowersUp, Instructs, AreMoments}
+use Rattle.run_charges.specs.Charges.{behind_moment, observed}
 use Rattle.run_charges.specs.Laws.{IsRunOfWords}
-use Rattle.run_charges.proofs.Moments.{IsMomentFrom, PowersUp, Instructs, AreMoments, front_moments, told, whole_after, words_after, words_accepted}
+use Rattle.run_charges.proofs.View.{follows_keeps}
+use Rattle.run_charges.proofs.Moments.{front_moments, told, whole_after, words_after, words_accepted}
 use Rattle.run_charges.proofs.Moments.{words_counted, readings_counted}
 
 -- the words accepted and the readings taken are a board's
@@ -25,6 +27,18 @@ pub record Counts (b : BoardValue) (h : History) (ws : List ℕ) : Type 0 where
   pub accepted : h.world.accepted ≡ ws
   pub count : TakesNextBehind ws b.receiver
   pub taken : h.taken ≡ b.taken
+
+-- also where the next moment begins
+counts_on : (b c : BoardValue) (h : History) (ws : List ℕ) → Follows b c → Counts b h ws → Counts c h ws
+counts_on b c h ws f k =
+    let keeps = follows_keeps b c f in
+    record {
+      whole = keeps.whole k.whole;
+      words = keeps.words k.words;
+      accepted = k.accepted;
+      count = k.count ∙ ap next_number (sym keeps.receiver);
+      taken = k.taken ∙ sym keeps.taken;
+    }
 
 module _ (gate : ℕ) where
   power_counts : (b : BoardValue) (h : History) (ws : List ℕ) (p : PowerState) → Counts b h ws → IsPowerState p
@@ -36,7 +50,7 @@ module _ (gate : ℕ) where
 
   instruction_counts : (b : BoardValue) (h : History) (ws : List ℕ) (i : Instr) (done : Stepped) → Counts b h ws → IsNextInstruction b i
       → (executed b i).answer ≡ Ok done
-      → Counts (executed b i).board (behind_action gate (moment_of b i done).action b (executed b i).board h) (ws ++ word_list done.accepted)
+      → Counts (executed b i).board (behind_moment gate (moment_of b i done) h) (ws ++ word_list done.accepted)
   instruction_counts b h ws i done k c a =
       let es : List Effect = told b k.whole i done c a in
       let heard = words_accepted b k.whole i done c a ws k.count in
@@ -49,22 +63,22 @@ module _ (gate : ℕ) where
       }
 
   moment_counts : (b : BoardValue) (h : History) (ws : List ℕ) (m : Moment) → Counts b h ws → IsMomentFrom b m
-      → Counts m.after (behind_action gate m.action m.before m.after h) (ws ++ accepted_by m.action)
+      → Counts m.after (behind_moment gate m h) (ws ++ accepted_by m.action)
   moment_counts b h ws m k (PowersUp p ok e) =
-      let P : Moment → Type 0 = λ y. Counts y.after (behind_action gate y.action y.before y.after h) (ws ++ accepted_by y.action) in
+      let P : Moment → Type 0 = λ y. Counts y.after (behind_moment gate y h) (ws ++ accepted_by y.action) in
       subst P (sym e) (power_counts b h ws p k ok)
   moment_counts b h ws m k (Instructs i done c a e) =
-      let P : Moment → Type 0 = λ y. Counts y.after (behind_action gate y.action y.before y.after h) (ws ++ accepted_by y.action) in
+      let P : Moment → Type 0 = λ y. Counts y.after (behind_moment gate y h) (ws ++ accepted_by y.action) in
       subst P (sym e) (instruction_counts b h ws i done k c a)
 
   pub moments_count : (b : BoardValue) (h : History) (ws : List ℕ) (ms : List Moment) → Counts b h ws → AreMoments b ms
       → Counts (last_board b ms) (observed gate ms h) (ws ++ accepted_words ms)
   moments_count b h ws [] k all = let P : List ℕ → Type 0 = λ l. Counts b h l in subst P (sym (append-nil ws)) k
   moments_count b h ws (m ∷ ms) k all =
-      let one = moment_counts b h ws m k all.0 in
-      let j = behind_action gate m.action m.before m.after h in
+      let one = moment_counts m.before h ws m (counts_on b m.before h ws all.0 k) all.1 in
+      let j = behind_moment gate m h in
       let P : List ℕ → Type 0 = λ l. Counts (last_board m.after ms) (observed gate ms j) l in
-      subst P (append_assoc ws (accepted_by m.action) (accepted_words ms)) (moments_count m.after j (ws ++ accepted_by m.action) ms one all.1)
+      subst P (append_assoc ws (accepted_by m.action) (accepted_words ms)) (moments_count m.after j (ws ++ accepted_by m.action) ms one all.2)
 
   -- from a board whose receiver takes its first word next
   pub front_counts : (cs : List BoardCharge) (b : BoardValue) (r : RunOutcome) (h : History) → IsRunOfWords cs b r → h.world.accepted ≡ []

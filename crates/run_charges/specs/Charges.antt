@@ -5,40 +5,47 @@ use Rattle.crash_rules.specs.msp_isa.declared.instructions.Instr.{Instr}
 use Rattle.crash_rules.specs.msp_step.declared.machine.Stop.{Stop}
 use Rattle.crash_rules.specs.fram_board.Board.{BoardValue, PowerState, powered}
 use Rattle.crash_rules.specs.fram_board.Steps.{IsPowerState}
+use Rattle.crash_rules.specs.fram_board.Effects.{Effect}
 use Rattle.crash_rules.specs.fram_board.Run.{Action, PowerUp, Execute, Moment, Charges, Stopped, RunOutcome, run_outcome, after_moments, BoardCharge}
 use Rattle.crash_rules.specs.fram_board.Run.{power_up_of}
 use Rattle.crash_rules.specs.machine_effects.World.{EachStore}
 use Rattle.crash_rules.specs.machine_effects.Going.{going}
 use Rattle.crash_rules.specs.machine_effects.Machine.{MachineBoard, MachineStretch, exec, machine_powered}
-use Rattle.crash_rules.specs.machine_effects.View.{machine_of, IsMachineOfWords}
-use Rattle.crash_rules.specs.machine_effects.Runs.{SpendsAs, StopsAs, ReachesAs, action_effects, last_board}
+use Rattle.crash_rules.specs.machine_effects.View.{IsMachineOfWords}
+use Rattle.crash_rules.specs.machine_effects.Runs.{SpendsAs, StopsAs, ReachesAs, last_board}
 use Rattle.code_forms.specs.Placed.{placed, words_of, AreInstructions, LeavesCode}
 use Rattle.crash_rules.specs.Model.{IsElsewhere}
 use Rattle.crash_rules.specs.History.{History, observe, behind_boot}
 use Rattle.crash_rules.specs.Runs.{Program, Charge, Charged}
+use Rattle.run_charges.specs.View.{outside_of, outside_effects, Follows}
 
 -- charges begin with any words that a power-up may leave
 abbrev pub ArePowerStates : List BoardCharge → Type 0
 ArePowerStates cs = All (λ c. IsPowerState c.start) cs
 
--- a charge up to some instruction: the words that its power-up left, and the instructions that were made
+-- a charge up to some instruction: the board on which it begins, the words that its power-up left, and the instructions that were made
 pub record ChargeFront : Type 0 where
+  pub before : BoardValue
   pub start : PowerState
   pub instructions : List Moment
 
+-- the board that its power-up left
+abbrev pub board_powered : ChargeFront → BoardValue
+board_powered c = powered c.before c.start
+
 -- the board behind it
-abbrev pub board_behind : BoardValue → ChargeFront → BoardValue
-board_behind b c = last_board (powered b c.start) c.instructions
+abbrev pub board_behind : ChargeFront → BoardValue
+board_behind c = last_board (board_powered c) c.instructions
 
 -- the board behind such charges
 abbrev pub board_behind_all : BoardValue → List ChargeFront → BoardValue
 board_behind_all b [] = b
-board_behind_all b (c ∷ cs) = board_behind_all (board_behind b c) cs
+board_behind_all b (c ∷ cs) = board_behind_all (board_behind c) cs
 
 -- their moments: a power-up each, and the instructions
-abbrev pub moments_of : BoardValue → List ChargeFront → List Moment
-moments_of b [] = []
-moments_of b (c ∷ cs) = power_up_of b c.start ∷ (c.instructions ++ moments_of (board_behind b c) cs)
+abbrev pub moments_of : List ChargeFront → List Moment
+moments_of [] = []
+moments_of (c ∷ cs) = power_up_of c.before c.start ∷ (c.instructions ++ moments_of cs)
 
 -- an action is an instruction
 abbrev pub IsInstruction : Action → Type 0
@@ -50,16 +57,17 @@ abbrev pub AreInstructionMoments : List Moment → Type 0
 AreInstructionMoments [] = Unit {0}
 AreInstructionMoments (m ∷ ms) = IsInstruction m.action × AreInstructionMoments ms
 
--- the instructions of a charge are steps of the machine from the board that the power-up left
+-- a charge follows this board, and its instructions are steps of the machine from the board that the power-up left
 pub record IsMachineCharge (b : BoardValue) (c : ChargeFront) : Type 0 where
+  pub follows : Follows b c.before
   pub start : IsPowerState c.start
   pub instructions : AreInstructionMoments c.instructions
-  pub reaches : ReachesAs (powered b c.start) c.instructions
+  pub reaches : ReachesAs (board_powered c) c.instructions
 
 -- those of each charge are, one behind the other
 abbrev pub AreMachineCharges : BoardValue → List ChargeFront → Type 0
 AreMachineCharges b [] = Unit {0}
-AreMachineCharges b (c ∷ cs) = IsMachineCharge b c × AreMachineCharges (board_behind b c) cs
+AreMachineCharges b (c ∷ cs) = IsMachineCharge b c × AreMachineCharges (board_behind c) cs
 
 -- a run whose charges are the machine's: each is spent as the machine spends it, and the last one may stop as the machine stops
 pub data RunsAsMachine : List BoardCharge → BoardValue → RunOutcome → Type 0 where
@@ -71,20 +79,24 @@ pub data RunsAsMachine : List BoardCharge → BoardValue → RunOutcome → Type
       → StopsAs c.measure c.amount (powered b c.start) (run_outcome ms (Stopped stop) end) stop
       → RunsAsMachine (c ∷ cs) b (run_outcome (power_up_of b c.start ∷ ms) (Stopped stop) end)
 
--- the history behind an action between these boards, where GATE is at this address: a boot, or the effects of an instruction
-abbrev pub behind_action : ℕ → Action → BoardValue → BoardValue → History → History
-behind_action gate PowerUp before after k = behind_boot k
-behind_action gate (Execute done offered) before after k = observe gate (action_effects (Execute done offered) before after) k
+-- the history behind an action with these effects, where GATE is at this address: behind a boot, or behind the effects of an instruction
+abbrev pub behind_action : ℕ → Action → List Effect → History → History
+behind_action gate PowerUp es k = behind_boot k
+behind_action gate (Execute done offered) es k = observe gate es k
+
+-- the history behind a moment
+abbrev pub behind_moment : ℕ → Moment → History → History
+behind_moment gate m k = behind_action gate m.action (outside_effects m) k
 
 -- the history behind moments
 abbrev pub observed : ℕ → List Moment → History → History
 observed gate [] k = k
-observed gate (m ∷ ms) k = observed gate ms (behind_action gate m.action m.before m.after k)
+observed gate (m ∷ ms) k = observed gate ms (behind_moment gate m k)
 
 -- charges as the crash theorem has them: the machine that a power-up left, and how many steps were made
-abbrev pub charges_of : BoardValue → List ChargeFront → List Charge
-charges_of b [] = []
-charges_of b (c ∷ cs) = record { powered = machine_of (powered b c.start); steps = length c.instructions } ∷ charges_of (board_behind b c) cs
+abbrev pub charges_of : List ChargeFront → List Charge
+charges_of [] = []
+charges_of (c ∷ cs) = record { powered = outside_of (board_powered c); steps = length c.instructions } ∷ charges_of cs
 
 -- a program that is instructions placed in FRAM from p on, and which boards a power-up leaves where the reset vector is its entry
 pub record IsPlacedProgram (c : Program) (p : ℕ) (is : List Instr) (entry : ℕ) : Type 0 where

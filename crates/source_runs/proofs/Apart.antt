@@ -2,14 +2,13 @@
 -- last decide began.
 use Rattle.std.proofs.Common.{◌≡◌, ◌≤◌, ℕ, refl, arith, Bool, true, false, cond, List, [], ◌∷◌, ◌++◌}
 use Rattle.std.proofs.lemmas.Bool.Decides.{nat_tests}
-use Rattle.model_runs.specs.fram_board.Board.{BoardValue}
 use Rattle.model_runs.specs.fram_board.Effects.{Effect}
 use Rattle.model_runs.specs.fram_board.Run.{Action, PowerUp, Execute, Moment}
 use Rattle.model_runs.specs.machine_effects.World.{World, world_after_one}
-use Rattle.model_runs.specs.machine_effects.Runs.{action_effects}
 use Rattle.model_runs.specs.crash_rules.History.{Done, History, is_done, is_decide, with_effect, behind_boot, behind_done, behind_decide, behind_gate}
 use Rattle.model_runs.specs.crash_rules.History.{observe_one, observe, first_history}
-use Rattle.model_runs.specs.run_charges.Charges.{behind_action, observed}
+use Rattle.model_runs.specs.run_charges.View.{outside_effects}
+use Rattle.model_runs.specs.run_charges.Charges.{behind_action, behind_moment, observed}
 use Rattle.source_report.specs.Apart.{AreApart}
 use Rattle.source_runs.specs.Transitions.{committed_by}
 
@@ -113,14 +112,14 @@ effects_ordered : (gate : ℕ) (es : List Effect) (h : History) → Ordered gate
 effects_ordered gate [] h o = o
 effects_ordered gate (e ∷ es) h o = effects_ordered gate es (observe_one gate e h) (one_ordered gate e h o)
 
-moment_ordered : (gate : ℕ) (a : Action) (before after : BoardValue) (h : History) → Ordered gate h → Ordered gate (behind_action gate a before after h)
-moment_ordered gate PowerUp before after h o = boot_ordered gate h o
-moment_ordered gate (Execute done offered) before after h o = effects_ordered gate (action_effects (Execute done offered) before after) h o
+action_ordered : (gate : ℕ) (a : Action) (es : List Effect) (h : History) → Ordered gate h → Ordered gate (behind_action gate a es h)
+action_ordered gate PowerUp es h o = boot_ordered gate h o
+action_ordered gate (Execute done offered) es h o = effects_ordered gate es h o
 
 moments_ordered : (gate : ℕ) (ms : List Moment) (h : History) → Ordered gate h → Ordered gate (observed gate ms h)
 moments_ordered gate [] h o = o
 moments_ordered gate (m ∷ ms) h o =
-    moments_ordered gate ms (behind_action gate m.action m.before m.after h) (moment_ordered gate m.action m.before m.after h o)
+    moments_ordered gate ms (behind_moment gate m h) (action_ordered gate m.action (outside_effects m) h o)
 
 -- the spans of a run's dones, of which the last ended with the last done
 pub spans_are_apart : (gate : ℕ) (x : World) (ms : List Moment) (end : ℕ) → (observed gate ms (first_history gate x)).since ≤ end

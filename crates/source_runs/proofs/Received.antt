@@ -23,7 +23,8 @@ use Rattle.model_runs.specs.machine_effects.Runs.{last_board}
 use Rattle.model_runs.specs.crash_rules.History.{Done, first_history}
 use Rattle.model_runs.specs.run_charges.Charges.{observed}
 use Rattle.model_runs.specs.run_charges.Laws.{IsRunOfWords}
-use Rattle.model_runs.proofs.run_charges.Interface.{IsMomentFrom, PowersUp, Instructs, AreMoments, charge_last, front_moments, Counts, moments_count}
+use Rattle.model_runs.specs.run_charges.View.{IsMomentFrom, PowersUp, Instructs, AreMoments}
+use Rattle.model_runs.proofs.run_charges.Interface.{follows_keeps, charge_last, front_moments, Counts, moments_count}
 use Rattle.model_runs.specs.Events.{last_world}
 use Rattle.model_runs.specs.EventLaws.{StartsWith}
 use Rattle.model_runs.proofs.Interface.{Together, moments_lead, first_histories_are_the_same}
@@ -98,10 +99,11 @@ words_counted : (b : BoardValue) (ms : List Moment) → AreMoments b ms
     → (last_board b ms).receiver.accepted ≡ b.receiver.accepted + length (accepted_words ms)
 words_counted b [] all = omega arith
 words_counted b (m ∷ ms) all =
-    let one = moment_counted b m all.0 in
-    let more = words_counted m.after ms all.1 in
+    let same = ap (λ r. r.accepted) (follows_keeps b m.before all.0).receiver in
+    let one = moment_counted m.before m all.1 in
+    let more = words_counted m.after ms all.2 in
     let both = length-append (accepted_by m.action) (accepted_words ms) in
-    omega (arith, one, more, both)
+    omega (arith, same, one, more, both)
 
 -- so it accepted what the transitions emitted
 pub words_are_received : (m : MapValue) (x : World) (cs : List BoardCharge) (b : BoardValue) (r : RunOutcome) (s : State) (ts : List Transition)

@@ -8,21 +8,21 @@ use Rattle.model_runs.specs.image_map.MapValue.{MapValue}
 use Rattle.model_runs.specs.image_map.Kept.{IsMap}
 use Rattle.model_runs.specs.fram_board.declared.board.Stepped.{Stepped}
 use Rattle.model_runs.specs.fram_board.Board.{BoardValue, PowerState, powered, executed, IsNextInstruction}
-use Rattle.model_runs.specs.fram_board.Run.{Execute, Moment, moment_of, power_up_of, Charges, RunOutcome, run_outcome, after_moments, BoardCharge}
+use Rattle.model_runs.specs.fram_board.Run.{Moment, moment_of, power_up_of, Charges, RunOutcome, run_outcome, after_moments, BoardCharge}
 use Rattle.model_runs.specs.board_run.History.{noted, is_done, word_in}
 use Rattle.model_runs.specs.board_run.History as board
 use Rattle.model_runs.specs.board_run.Report.{after_all}
 use Rattle.model_runs.specs.machine_effects.World.{World}
-use Rattle.model_runs.specs.machine_effects.Runs.{action_effects, last_board}
+use Rattle.model_runs.specs.machine_effects.Runs.{last_board}
 use Rattle.model_runs.specs.crash_rules.History.{Done, History, is_decide, behind_boot, behind_decide, behind_done, behind_gate, first_history, observe}
 use Rattle.model_runs.proofs.crash_rules.Interface.{with_effects}
-use Rattle.model_runs.specs.run_charges.Charges.{ArePowerStates, behind_action, observed}
+use Rattle.model_runs.specs.run_charges.View.{outside_effects, IsMomentFrom, PowersUp, Instructs, AreMoments}
+use Rattle.model_runs.specs.run_charges.Charges.{ArePowerStates, behind_moment, observed}
 use Rattle.model_runs.specs.run_charges.Laws.{IsRunOfWords}
-use Rattle.model_runs.proofs.run_charges.Interface.{IsMomentFrom, PowersUp, Instructs, AreMoments, charge_moments, charge_last, first_start, other_starts}
-use Rattle.model_runs.proofs.run_charges.Interface.{front_moments}
+use Rattle.model_runs.proofs.run_charges.Interface.{no_gap, charge_moments, charge_last, first_start, other_starts, front_moments}
 use Rattle.model_runs.specs.Events.{SaysTheSame}
 use Rattle.model_runs.specs.EventLaws.{StartsWith}
-use Rattle.model_runs.proofs.Interface.{Together, observed_so, moment_leads, moments_lead, first_histories_are_the_same}
+use Rattle.model_runs.proofs.Interface.{Together, together_on, observed_so, moment_leads, moments_lead, first_histories_are_the_same}
 use Rattle.source_report.specs.SourceReport.{Committed}
 use Rattle.source_runs.specs.Transitions.{committed_by}
 use Rattle.model_runs.specs.Runs as model
@@ -53,13 +53,13 @@ module _ (m : MapValue) (x : World) (ok : IsMap m) where
 
   -- the history by effects behind a moment adds the spans of the moment
   abbrev Adds : board.History → History → Moment → Type 0
-  Adds h k o = committed_by (behind_action gate o.action o.before o.after k).completed ≡ committed_by k.completed ++ spans_by m h o.action o.after
+  Adds h k o = committed_by (behind_moment gate o k).completed ≡ committed_by k.completed ++ spans_by m h o.action o.after
 
   instruction_adds : (b : BoardValue) (h : board.History) (k : History) → Together m x b h k → (i : Instr) (done : Stepped) → IsNextInstruction b i
       → (executed b i).answer ≡ Ok done → Adds h k (moment_of b i done)
   instruction_adds b h k t i done current answer =
       let after = (executed b i).board in
-      let moved = with_effects (action_effects (Execute done (executed b i).offered) b after) k in
+      let moved = with_effects (outside_effects (moment_of b i done)) k in
       let before : ℕ = k.world.fram gate in
       let now : ℕ = word_in after.fram gate in
       let a = t.same.alike in
@@ -79,10 +79,11 @@ module _ (m : MapValue) (x : World) (ok : IsMap m) where
       → committed_by (observed gate ms k).completed ≡ committed_by k.completed ++ spans_of m h ms
   moments_add b h k [] t are = sym (append-nil (committed_by k.completed))
   moments_add b h k (o ∷ ms) t are =
-      let j = behind_action gate o.action o.before o.after k in
-      let one = moment_leads m x ok b h k t o are.0 in
-      moments_add o.after (noted h o) j ms one.together are.1
-      ∙ ap (λ l. l ++ spans_of m (noted h o) ms) (moment_adds b h k t o are.0)
+      let j = behind_moment gate o k in
+      let here = together_on m x b o.before h k are.0 t in
+      let one = moment_leads m x ok o.before h k here o are.1 in
+      moments_add o.after (noted h o) j ms one.together are.2
+      ∙ ap (λ l. l ++ spans_of m (noted h o) ms) (moment_adds o.before h k here o are.1)
       ∙ append_assoc (committed_by k.completed) (spans_by m h o.action o.after) (spans_of m (noted h o) ms)
 
   -- a charge that pays for dones pays for the transitions that are read off its moments
@@ -102,7 +103,8 @@ module _ (m : MapValue) (x : World) (ok : IsMap m) where
   charges_pay cs b k r h t starts (model.SpentOne c ds _ _ ms end rest one pays more) =
       let start = first_start c ds starts in
       let own = power_up_of b c.start ∷ ms in
-      let are : AreMoments b own = (PowersUp c.start start refl, charge_moments c.measure c.amount (powered b c.start) (run_outcome ms Charges end) one) in
+      let are : AreMoments b own =
+      (no_gap b, PowersUp c.start start refl, charge_moments c.measure c.amount (powered b c.start) (run_outcome ms Charges end) one) in
       let there : last_board (powered b c.start) ms ≡ end = charge_last c.measure c.amount (powered b c.start) (run_outcome ms Charges end) one refl in
       let P : BoardValue → Type 0 = λ y. Together m x y (after_all h own) (observed gate own k) in
       let next = subst P there (moments_lead m x ok b h k own t are).together in

@@ -2,7 +2,7 @@
 use Rattle.std.proofs.Common.{◌≡◌, ℕ, suc, ◌+◌, ◌*◌, ◌%◌, ◌<◌, ◌≤◌, List, ◌++◌, refl, sym, ap, ap₂, ◌∙◌, subst, ⊎_elim, inl, inr, ◌⊎◌, arith, length}
 use Rattle.std.proofs.Math.Path.{fun_ext}
 use Rattle.std.proofs.lemmas.Bool.{cases_eq}
-use Rattle.runtime_effects.specs.fram_board.Effects.{Store, Send}
+use Rattle.runtime_effects.specs.fram_board.Effects.{Store, Outside, Offered}
 use Rattle.runtime_effects.specs.machine_effects.World.{World, put, accepted_after, world_after_one, world_after}
 use Rattle.runtime_effects.proofs.machine_effects.Interface.{put_same, put_other}
 use Rattle.runtime_effects.specs.Places.{CopyPair, entry_bytes, entries_from, listed}
@@ -184,7 +184,7 @@ module _ (l : ProgramPlaces) (apart : AreApart l.map) (room : HaveRoom l) (x : W
 
   -- a word is sent
   send_within : (i n v : ℕ) (y : World) → i < f (word_place m EmitCount) → n ≡ (f (word_place m SentBase) + i) % 0x10000
-      → v ≡ f (m.emits.address + 2 * i) → IsWithin i y → IsWithin (suc i) (world_after_one (Send n v) y)
+      → v ≡ f (m.emits.address + 2 * i) → IsWithin i y → IsWithin (suc i) (world_after_one (Outside (Offered n v)) y)
   send_within i n v y lt num ev w =
       record {
         same = w.same;

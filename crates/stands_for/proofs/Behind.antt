@@ -5,7 +5,7 @@ use Rattle.std.proofs.Common.{arith, ne_eqb, eq-eqb, cond, length, drop, length-
 use Rattle.std.proofs.Math.Seq.{drop-cons, drop-length}
 use Rattle.std.proofs.lemmas.Bool.{cases_eq}
 use Rattle.std.specs.List.{slice_index}
-use Rattle.runtime_effects.specs.fram_board.Effects.{Store, Send}
+use Rattle.runtime_effects.specs.fram_board.Effects.{Store, Outside, Offered}
 use Rattle.runtime_effects.specs.machine_effects.World.{World, put, received, fram_after, accepted_after, world_after_one, world_after}
 use Rattle.runtime_effects.proofs.machine_effects.Interface.{world_after-append, put_same, put_other}
 use Rattle.runtime_effects.specs.Places.{CopyPair, listed}
@@ -78,7 +78,7 @@ copies_world (q ∷ qs) x = copies_world qs (world_after_one (Store q.home (x.fr
 sends_world : (n k p : ℕ) (f : ℕ → ℕ) (x : World)
     → world_after (sends n k p f) x ≡ record { fram = x.fram; accepted = accepted_after (sends n k p f) x.accepted }
 sends_world zero k p f x = refl
-sends_world (suc n) k p f x = sends_world n ((k + 1) % 0x10000) (p + 2) f (world_after_one (Send k (f p)) x)
+sends_world (suc n) k p f x = sends_world n ((k + 1) % 0x10000) (p + 2) f (world_after_one (Outside (Offered k (f p))) x)
 
 -- the world behind a commit
 pub behind_commit : (m : MemoryMap) (x : World) → world_after (commit_effects m x.fram) x

@@ -3,7 +3,7 @@ use Rattle.std.proofs.Common.{◌≡◌, ℕ, suc, ◌+◌, ◌*◌, ◌%◌, �
 use Rattle.std.proofs.Common.{eq-eqb, cond, length, take, length-append, length-take-le, append_assoc, take-suc}
 use Rattle.std.proofs.lemmas.Bool.{cases_eq}
 use Rattle.std.specs.List.{slice_index}
-use Rattle.runtime_effects.specs.fram_board.Effects.{Store, Send}
+use Rattle.runtime_effects.specs.fram_board.Effects.{Store, Outside, Offered}
 use Rattle.runtime_effects.specs.machine_effects.World.{World, put, world_after_one}
 use Rattle.runtime_effects.proofs.machine_effects.Interface.{put_same, put_other}
 use Rattle.runtime_effects.specs.Places.{CopyPair, entry_bytes, entries_from}
@@ -158,15 +158,15 @@ module _ {St : Type 0} (l : ProgramPlaces) (apart : AreApart l.map) (room : Have
 
   -- word i is sent
   pub send_keeps : (i n w : ℕ) (x : World) → i < length es → n ≡ (length (v.emitted s) + i) % 0x10000 → w ≡ slice_index es i → With i x
-      → With (suc i) (world_after_one (Send n w) x)
+      → With (suc i) (world_after_one (Outside (Offered n w)) x)
   send_keeps i n w x h num ew d =
       let j = d.accepted.count in
       let so1 = d.accepted.at_least in let so2 = d.accepted.at_most in
       let most = few_emits i x d in let few256 = room.few_emits in
       let len : length x.accepted ≡ length (v.emitted s) + j = ap length d.accepted.is ∙ length-append (v.emitted s) (take j es)
       ∙ ap (λ y. length (v.emitted s) + y) (length-take-le j es so2) in
-      keeps i (suc i) x (world_after_one (Send n w) x) d.words (λ a q c e. refl) (inl refl) (inl refl) (λ a sh. inl refl)
-      (⊎_elim {C = AcceptedFrom v s es (suc i) (world_after_one (Send n w) x)}
+      keeps i (suc i) x (world_after_one (Outside (Offered n w)) x) d.words (λ a q c e. refl) (inl refl) (inl refl) (λ a sh. inl refl)
+      (⊎_elim {C = AcceptedFrom v s es (suc i) (world_after_one (Outside (Offered n w)) x)}
       (λ e.
       let hit : n ≡ length x.accepted % 0x10000 = num ∙ ap (λ y. (length (v.emitted s) + y) % 0x10000) e ∙ ap (λ y. y % 0x10000) (sym len) in
       record {

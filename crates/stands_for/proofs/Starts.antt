@@ -3,7 +3,7 @@ use Rattle.std.proofs.Common.{◌≡◌, ℕ, zero, suc, ◌+◌, ◌*◌, ◌<�
 use Rattle.std.proofs.Common.{true, false}
 use Rattle.std.proofs.lemmas.Bool.{cases_eq}
 use Rattle.std.proofs.lemmas.Bool.Decides.{nat_tests}
-use Rattle.runtime_effects.specs.fram_board.Effects.{Effect, Store, Take, Send}
+use Rattle.runtime_effects.specs.fram_board.Effects.{Effect, Store, Take, Outside}
 use Rattle.runtime_effects.specs.machine_effects.World.{World, put, world_after_one, world_after, fram_after, readings_taken, EachStore}
 use Rattle.runtime_effects.proofs.machine_effects.Interface.{readings_taken-append, world_after-append, each_store-append, put_same, put_other}
 use Rattle.runtime_effects.specs.Places.{CopyPair}
@@ -23,14 +23,14 @@ pub each_weaker : (P Q : ℕ → ℕ → Type 0) → ((a w : ℕ) → P a w → 
 each_weaker P Q h [] k = tt
 each_weaker P Q h (Store a w ∷ es) k = (h a w k.0, each_weaker P Q h es k.1)
 each_weaker P Q h (Take w ∷ es) k = (tt, each_weaker P Q h es k.1)
-each_weaker P Q h (Send n w ∷ es) k = (tt, each_weaker P Q h es k.1)
+each_weaker P Q h (Outside o ∷ es) k = (tt, each_weaker P Q h es k.1)
 
 -- stores elsewhere leave a word
 pub elsewhere_same : (address : ℕ) (es : List Effect) (f : ℕ → ℕ) → EachStore (IsElsewhere address) es → fram_after es f address ≡ f address
 elsewhere_same address [] f h = refl
 elsewhere_same address (Store a w ∷ es) f h = elsewhere_same address es (put f a w) h.1 ∙ put_other f a w address (λ e. h.0 (sym e))
 elsewhere_same address (Take w ∷ es) f h = elsewhere_same address es f h.1
-elsewhere_same address (Send n w ∷ es) f h = elsewhere_same address es f h.1
+elsewhere_same address (Outside o ∷ es) f h = elsewhere_same address es f h.1
 
 cleared_takes : (n p : ℕ) → readings_taken (cleared n p) ≡ []
 cleared_takes zero p = refl

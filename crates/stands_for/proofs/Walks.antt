@@ -1,6 +1,6 @@
 -- The effects of a commit one by one: what each of them keeps, the commit keeps up to its last.
 use Rattle.std.proofs.Common.{◌≡◌, ℕ, zero, suc, ◌+◌, ◌*◌, ◌%◌, ◌<◌, List, [], ◌∷◌, ◌++◌, refl, sym, ap, ◌∙◌, subst, inl, inr, arith, append_assoc}
-use Rattle.runtime_effects.specs.fram_board.Effects.{Effect, Store, Send}
+use Rattle.runtime_effects.specs.fram_board.Effects.{Effect, Store, Outside, Offered}
 use Rattle.runtime_effects.specs.machine_effects.World.{World, put, world_after_one, world_after, readings_taken, EachStore}
 use Rattle.runtime_effects.proofs.machine_effects.Interface.{readings_taken-append, each_store-append}
 use Rattle.runtime_effects.specs.Places.{CopyPair, listed}
@@ -62,7 +62,7 @@ module _ (m : MemoryMap) (x : World) (small : x.fram (word_place m SentBase) < 0
     (so : (k : ℕ) (y : World) → Q k y → P y)
     (copies : (y : World) (p : CopyPair) → IsAmong (listed m x.fram) p → Q 0 y → Q 0 (world_after_one (Store p.home (y.fram p.copy)) y))
     (sent : (i n w : ℕ) (y : World) → i < x.fram (word_place m EmitCount) → n ≡ (x.fram (word_place m SentBase) + i) % 0x10000
-    → w ≡ x.fram (m.emits.address + 2 * i) → Q i y → Q (suc i) (world_after_one (Send n w) y))
+    → w ≡ x.fram (m.emits.address + 2 * i) → Q i y → Q (suc i) (world_after_one (Outside (Offered n w)) y))
     (current : (k : ℕ) (y : World) → Q k y → Q k (world_after_one (Store (word_place m CurrentTask) (x.fram (word_place m NextTask))) y))
     (based : (k : ℕ) (y : World) → Q k y → Q k (world_after_one (Store (word_place m Base) (next_base m x.fram)) y)) where
   copies_through : (qs : List CopyPair) (y : World) → ((q : CopyPair) → IsAmong qs q → IsAmong (listed m x.fram) q) → Q 0 y
@@ -79,7 +79,7 @@ module _ (m : MemoryMap) (x : World) (small : x.fram (word_place m SentBase) < 0
   sends_through (suc n) i k p y e ek ep d =
       let w = x.fram p in
       let d2 = sent i k w y (omega (arith, e)) ek (ap x.fram ep) d in
-      let r = sends_through n (suc i) ((k + 1) % 0x10000) (p + 2) (world_after_one (Send k w) y) (omega (arith, e)) (omega (arith, ek)) (omega (arith, ep))
+      let r = sends_through n (suc i) ((k + 1) % 0x10000) (p + 2) (world_after_one (Outside (Offered k w)) y) (omega (arith, e)) (omega (arith, ek)) (omega (arith, ep))
       d2 in
       ((so i y d, r.0), r.1)
 

@@ -13,7 +13,7 @@ use Rattle.layout_facts.proofs.machine_effects.Interface.{fram_after-append, wor
 use Rattle.layout_facts.proofs.crash_rules.Interface.{world_fram}
 use Rattle.layout_facts.specs.task_ast.declared.SharedDeclaration.{SharedDeclaration}
 use Rattle.layout_facts.specs.task_ast.declared.names.Variable.TheVariants.{Shared}
-use Rattle.layout_facts.specs.cost_bound.Counts.{emits_of}
+use Rattle.layout_facts.specs.cost_bound.Counts.{emits_of, stores_of}
 use Rattle.layout_facts.specs.cost_bound.Allowance.{is_written, list_of}
 use Rattle.layout_facts.proofs.war_analysis.Interface.{element as item_at}
 use Rattle.layout_facts.specs.source_values.Values.{word_at}
@@ -28,7 +28,9 @@ use Rattle.layout_facts.specs.lower.Runs.{runs_of}
 use Rattle.layout_facts.specs.stands_for.Layout.{IsAmong, IsSharedWord, IsCopyWord}
 use Rattle.layout_facts.specs.stands_for.StandsFor.{EntriesHaveWords, DecidedWith, DecidedFrom}
 use Rattle.layout_facts.proofs.stands_for.Interface.{put_words}
-use Rattle.layout_facts.specs.lower.Agreement.{TakesAndStores, transition_effects, element_pair, Bounds, bounds_of, Left, place_length}
+use Rattle.layout_facts.specs.lower.Agreement.{TakesAndStores, transition_effects, element_pair, Bounds, Left, place_length}
+use Rattle.layout_facts.specs.lower.Agreement as agreement
+use Rattle.layout_facts.specs.lower.Spots.{listed_of}
 use Rattle.layout_facts.specs.compiled_model.Places.{stays_in_place}
 use Rattle.layout_facts.specs.compiled_model.View.{are_rows}
 use Rattle.layout_facts.proofs.memory_map.Interface.{scalar_home, privates_few}
@@ -55,12 +57,28 @@ use Rattle.layout_facts.specs.memory_map.Spots.{scalar_address, private_words, I
 use Rattle.layout_facts.specs.memory_map.Spots.{element, copy, spot_address, element_address, copy_address, IsWordOf}
 
 module _ (run : Started) where
-  open run use {program as p, map as l, given, state as s, is_task, task as i, world as x, readings, start as st}
+  open run use {program as p, map as l, given, state as s, is_task, task as i, world as x, inputs, start as st}
   open (scene run) use {here, code, space, facts, sites, view, ver}
+
+  -- what its statements stand in
+  abbrev pub setting : agreement.Scene
+  setting = record {
+    shared = p.shared;
+    p = here;
+    written = some_path_writes code;
+    room = space;
+    stores = λ v. stores_of v code;
+    ver = x.fram (word_place here.map Version);
+    apart = facts.apart;
+    even = facts.even;
+    has_room = facts.has_room;
+    declared = facts.declared;
+    copied = facts.copied;
+  }
 
   -- the bounds of the task's statements
   abbrev pub bounds : Bounds
-  bounds = bounds_of here (some_path_writes code) space code [] (started x.fram readings)
+  bounds = agreement.bounds setting x.fram (λ v. listed_of v [] + stores_of v code)
 
   pub quiet_start : IsQuietAt sites view s ver x
   quiet_start = record { undecided = st.undecided; version = refl }

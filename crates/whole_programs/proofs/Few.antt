@@ -42,14 +42,14 @@ words_by_number variables (s ∷ more) h =
 
 pub privates_are_few : PrivatesAreFew
 privates_are_few text program allow plans l laid k task t e f =
-    let uses = (task_checked text program laid.accepted.checks k task e).uses in
+    let formed = (task_checked text program laid.accepted.checks k task e).statements in
     let inside = slice_get_within program.tasks k task e in
     let count = laid.plan.count in
     let plan = element plans k (omega (arith, inside, count)) in
     let is = (laid.plan.each k task plan.0 e plan.1).private_scalars in
     let few = marked_are_counted (λ i. block_assigns i task.body) words program.shared plan.0.private_scalars is.ascending
     (All-weaker (IsPrivateIn program.shared task.body) (λ i. HasWords program.shared i (words i) × (block_assigns i task.body ≡ true))
-    (λ i h. (has_words i h.scalar, block_assigned i program.shared task.body uses (writes_some (Shared i) task.body h.owed.0)))
+    (λ i h. (has_words i h.scalar, block_assigned i program.shared task.body formed (writes_some (Shared i) task.body h.owed.0)))
     plan.0.private_scalars is.only) in
     let numbers = ap (words_of_all words) (laid.layout.tasks.each k task plan.0 t e plan.1 f).privates in
     let their = words_by_number l.variables t.privates (all_at (λ t. All (HasItsPlace l.variables) t.privates) l.tasks k t laid.layout.rules.privates f) in

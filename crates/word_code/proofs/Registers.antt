@@ -41,9 +41,9 @@ IsZero b f = f.z ≡ b
 abbrev pub IsCarry : Bool → Flags → Type 0
 IsCarry b f = f.c ≡ b
 
--- what straight code leaves as it was that writes nothing but R4 to R7: SP, RAM, the locals in registers, the readings and FRAM
+-- what straight code leaves as it was that writes nothing but R4 to R7: SP, RAM, the locals in registers, the inputs and FRAM
 abbrev pub rest_of : Core → ℕ × (ℕ → ℕ) × List ℕ × List ℕ × (ℕ → ℕ)
-rest_of u = (u.sp, u.ram, local_words u.work, u.readings_left, u.fram)
+rest_of u = (u.sp, u.ram, local_words u.work, u.inputs, u.fram)
 
 module _ (z : Setting) where
   -- the machine stands for the state, and its registers hold such words
@@ -71,7 +71,7 @@ module _ (z : Setting) where
       let words = subst (λ x. Memory z x.0 x.1 x.2 w.stack w.locals) (sym k) i.memory in
       subst (λ l. Runs z.code l c t Q) made
       (straight z ms c t (end_of t r.status) r.effects c Q st (stands_at z.code pc ms t h i.at) ok e (omega arith)
-      (q (record { at = p; memory = words; fram = fram; readings = ap (λ x. x.3) k ∙ i.readings })))
+      (q (record { at = p; memory = words; fram = fram; inputs = ap (λ x. x.3) k ∙ i.inputs })))
 
   -- straight code that writes R4 to R7 alone
   pub line : {pc : ℕ} {w : WordState} {t : Core} (ms : List Form) (c pc' : ℕ) (Q : Core → Type 0) → StandsFor z pc w t → AreStraight ms → Stands z.code pc ms
@@ -80,7 +80,7 @@ module _ (z : Setting) where
   line {pc} {w} {t} ms c pc' Q i st h ok e k p q =
       let words = subst (λ x. Memory z x.0 x.1 x.2 w.stack w.locals) (sym k) i.memory in
       straight z ms c t (end_of t (forms_run ms t).status) [] c Q st (stands_at z.code pc ms t h i.at) ok e (omega arith)
-      (q (record { at = p; memory = words; fram = ap (λ x. x.4) k ∙ i.fram; readings = ap (λ x. x.3) k ∙ i.readings }))
+      (q (record { at = p; memory = words; fram = ap (λ x. x.4) k ∙ i.fram; inputs = ap (λ x. x.3) k ∙ i.inputs }))
 
   -- ---- jumps
 

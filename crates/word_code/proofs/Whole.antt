@@ -64,7 +64,7 @@ ready_popped bs next q n w us f m h b e l =
       place = record q { depth = q.depth - n + 0 };
       fit = f;
       matches = record { depth = omega (arith, e, m.depth); assigned = m.assigned };
-      words_in = record { stack = l; locals = h.locals; fram = h.fram; readings = h.readings };
+      words_in = record { stack = l; locals = h.locals; fram = h.fram; inputs = h.inputs };
       bounded = b;
     }
 
@@ -240,7 +240,7 @@ module _ (z : Setting) where
         write_reaches z bs place list os pc w w.stack u o.0.3 r.words_in.fram r.bounded refl r.words_in.stack h d
     step_follows bs (versioned_update op place list) next os pc w u r o l c spared h d =
         in_place_reaches z op place list o.0.3 bs os pc w w.stack u r.words_in.fram r.bounded refl r.words_in.stack h d
-    step_follows bs sense next os pc w u r o l c spared h d = sense_part z os pc w w.readings u (omega (arith, r.fit.1, r.matches.depth)) refl h d
+    step_follows bs sense next os pc w u r o l c spared h d = sense_part z os pc w w.inputs.readings u (omega (arith, r.fit.1, r.matches.depth)) refl h d
     step_follows bs (truth t) next os pc w u r o l c spared h d =
         let a = test_code bs t false 2 in
         let at = pc + forms_bytes (flushed os) in
@@ -422,11 +422,6 @@ module _ (z : Setting) where
         (steps_follow bs more next mid pc' v t q o.1 l.1 c.1 (spared_so bs (λ n. Spares n (step first more)) (λ n. Spares n more) (λ n k. k.1) spared)
         (stands_back z.code pc a rest h) j))))
 
--- each of a list by its head and its tail
-all_by_recursion : (vs : List ℕ) → All (λ r. r < 0x10000) vs → AllByRecursion (λ r. r < 0x10000) vs
-all_by_recursion [] h = tt
-all_by_recursion (v ∷ vs) h = (h 0 0 (omega arith), all_by_recursion vs (λ k d l. h (suc k) d (omega arith)))
-
 none_has_no_word : (v w : ℕ) → None ≡ Some v → w ≡ v
 none_has_no_word v w e = cc
 
@@ -434,25 +429,24 @@ none_has_no_word v w e = cc
 pub code_does_as_program : CodeDoesAsProgram
 code_does_as_program code at p u tidy h whole o entry =
     let z : Setting = record { code = code; tidy = tidy; locals = whole.locals; room = whole.room; roomy = whole.fits } in
-    let s = started u.fram u.readings_left in
+    let s = started u.fram u.inputs in
     let b = behaviour p s in
     let i : StandsFor z at s u = record {
       at = entry.pc;
       memory = record { depth = omega (arith, entry.sp); fits = omega arith; stack = tt; vars = λ n v l q. none_has_no_word v _ q };
       fram = refl;
-      readings = refl;
+      inputs = refl;
     } in
     let r : Ready [] (EachWay whole.room p (λ q. ⊥)) s = record {
       place = start;
       fit = whole.ways;
-      matches = start_matches u.fram u.readings_left;
-      words_in =
-          record { stack = tt; locals = λ n v q. absurd (let q' = q in (cc)); fram = entry.fram; readings = all_by_recursion u.readings_left entry.readings };
+      matches = start_matches u.fram u.inputs;
+      words_in = record { stack = tt; locals = λ n v q. absurd (let q' = q in (cc)); fram = entry.fram; inputs = entry.inputs };
       bounded = tt;
     } in
     by_end z (spent p s) b.effects b.end
     (block_follows z [] p at s u h (λ hs. steps_follow z [] p (λ q. ⊥) [] at s u r o whole.low_locals whole.loops_count tt hs (dressed z at s u i)))
-    (whole_ends_soundly p u.fram u.readings_left whole)
+    (whole_ends_soundly p u.fram u.inputs whole)
   where
     by_end : (z : Setting) (most : ℕ) (es : List Effect) (e : End) → FollowsEnd z (at + forms_bytes (code_of p)) most u es e
         → IsSound e → ComesTo z.code most u es e
