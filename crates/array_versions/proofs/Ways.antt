@@ -160,19 +160,19 @@ number_leads : (room n : ℕ) (next : Place → Type 0) → Leads (Moves room 0 
 number_leads room n next q s h m = moved_well room 0 1 next q s _ h m (omega arith) refl
 
 -- where an answer leads: the places that are fit for what follows it
-record Answer (next : Place → Type 0) : Type 1 where
-  fit : Place → Type 0
-  go : WordState → Behaviour
-  leads : Leads fit next go
+pub record Answer (next : Place → Type 0) : Type 1 where
+  pub fit : Place → Type 0
+  pub go : WordState → Behaviour
+  pub leads : Leads fit next go
 
 -- one of two ways, behind words that are popped
-popped_well : (c : Bool) (d : ℕ) (vs : List ℕ) (next : Place → Type 0) (yes no : Answer next) (q : Place) (s : WordState)
-    → yes.fit (at_depth d q) × no.fit (at_depth d q) → Matches q s → length vs ≡ d
-    → GoesWell next (if c then yes.go (with_stack vs s) else no.go (with_stack vs s)).end
-popped_well c d vs next yes no q s h m e =
+popped_well : (c : Bool) (d : ℕ) (vs : List ℕ) (next : Place → Type 0) (held failed : Answer next) (q : Place) (s : WordState)
+    → held.fit (at_depth d q) × failed.fit (at_depth d q) → Matches q s → length vs ≡ d
+    → GoesWell next (if c then held.go (with_stack vs s) else failed.go (with_stack vs s)).end
+popped_well c d vs next held failed q s h m e =
     let t = with_stack vs s in
     let n = matches_depth q s vs d m e in
-    either_well c next (yes.go t) (no.go t) (yes.leads (at_depth d q) t h.0 n) (no.leads (at_depth d q) t h.1 n)
+    either_well c next (held.go t) (failed.go t) (held.leads (at_depth d q) t h.0 n) (failed.leads (at_depth d q) t h.1 n)
 
 turns_well : (body : (Place → Type 0) → Place → Type 0) (run : WordState → Behaviour)
     → ((next : Place → Type 0) (q : Place) (s : WordState) → body next q → Matches q s → GoesWell next (run s).end)
@@ -260,23 +260,23 @@ mutual
   step_well room (jump to) next q s h m = jump_well (to % 2 == 0) to next s (eq-eqb (to % 2) 0 h)
 
   -- a test along each way
-  pub test_well : (room : ℕ) (t : Test) (next : Place → Type 0) (yes no : Answer next) (q : Place) (s : WordState)
-      → EachTestWay room t yes.fit no.fit q → Matches q s → GoesWell next (tested t yes.go no.go s).end
-  test_well room (holds p) next yes no q s h m =
-      then_well (Moves room 1 0 (λ r. yes.fit r × no.fit r)) next (behaviour p s) (way_by_top yes.go no.go) (well room p _ q s h m)
+  pub test_well : (room : ℕ) (t : Test) (next : Place → Type 0) (held failed : Answer next) (q : Place) (s : WordState)
+      → EachTestWay room t held.fit failed.fit q → Matches q s → GoesWell next (tested t held.go failed.go s).end
+  test_well room (holds p) next held failed q s h m =
+      then_well (Moves room 1 0 (λ r. held.fit r × failed.fit r)) next (behaviour p s) (way_by_top held.go failed.go) (well room p _ q s h m)
       (λ r u k n. top_well next u.stack _ (omega (arith, k.0, n.depth)) (λ v vs e.
-      popped_well (is_true v) (r.depth - 1 + 0) vs next yes no r u k.2 n (omega (arith, n.depth))))
-  test_well room (compares op p) next yes no q s h m =
-      then_well (Moves room 2 0 (λ r. yes.fit r × no.fit r)) next (behaviour p s) (way_by_two op yes.go no.go) (well room p _ q s h m)
+      popped_well (is_true v) (r.depth - 1 + 0) vs next held failed r u k.2 n (omega (arith, n.depth))))
+  test_well room (compares op p) next held failed q s h m =
+      then_well (Moves room 2 0 (λ r. held.fit r × failed.fit r)) next (behaviour p s) (way_by_two op held.go failed.go) (well room p _ q s h m)
       (λ r u k n. two_well next u.stack _ (omega (arith, k.0, n.depth)) (λ x y vs e.
-      popped_well (compare_words op x y) (r.depth - 2 + 0) vs next yes no r u k.2 n (omega (arith, n.depth))))
-  test_well room (both t u) next yes no q s h m =
-      let second : Answer next = record { fit = EachTestWay room u yes.fit no.fit; go = tested u yes.go no.go; leads = test_well room u next yes no } in
-      test_well room t next second no q s h m
-  test_well room (either t u) next yes no q s h m =
-      let second : Answer next = record { fit = EachTestWay room u yes.fit no.fit; go = tested u yes.go no.go; leads = test_well room u next yes no } in
-      test_well room t next yes second q s h m
-  test_well room (fails t) next yes no q s h m = test_well room t next no yes q s h m
+      popped_well (compare_words op x y) (r.depth - 2 + 0) vs next held failed r u k.2 n (omega (arith, n.depth))))
+  test_well room (both t u) next held failed q s h m =
+      let second : Answer next = record { fit = EachTestWay room u held.fit failed.fit; go = tested u held.go failed.go; leads = test_well room u next held failed } in
+      test_well room t next second failed q s h m
+  test_well room (either t u) next held failed q s h m =
+      let second : Answer next = record { fit = EachTestWay room u held.fit failed.fit; go = tested u held.go failed.go; leads = test_well room u next held failed } in
+      test_well room t next held second q s h m
+  test_well room (fails t) next held failed q s h m = test_well room t next failed held q s h m
 
   -- a program along each way
   pub well : (room : ℕ) (p : Program) (next : Place → Type 0) (q : Place) (s : WordState) → EachWay room p next q → Matches q s

@@ -20,7 +20,7 @@ use Rattle.runtime_code.specs.runtime_effects.Needs.{AreInFram}
 use Rattle.runtime_code.specs.Addresses.{start_address}
 use Rattle.runtime_code.specs.Comes.{Comes, IsAt, Enters}
 use Rattle.runtime_code.specs.Counted.{if_any}
-use Rattle.runtime_code.proofs.Interface.{last_flag, straight, one_form, comes_on, recounted, then_on, chain}
+use Rattle.runtime_code.proofs.Interface.{last_flag, straight, one_form, comes_on, recounted, then_on, moved_to, known_at}
 use Rattle.boot_runtime.specs.Listing.{TaskEntry, entry_at, privates_in, head, end_tested, clearing, counts_set, opening, dispatch, ladder_to, stubs}
 use Rattle.boot_runtime.specs.Listing.{start_steps, start_cycles, ladder_address, stubs_address}
 use Rattle.boot_runtime.specs.Laws.{IsEntered, IsBoot, PendingCommitIsFound, AttemptIsFound, StartIsMade, VersionIsRaised}
@@ -103,13 +103,12 @@ module _ (code : Code) (tidy : IsTidy code) where
       let a = subst (λ x. Comes code os (5 + clear_steps) (18 + clear_cycles) u (IsAt x g inputs)) there
       (opens code tidy m boot.places (at + 10) u (omega (arith, room)) e word o1) in
       let rung = rung_at q tasks k in
-      let b : (v : Core) → v.pc ≡ at + 54 → v.fram ≡ g → v.inputs ≡ inputs → Comes code [] 6 12 v (Enters rung stack_top g inputs) =
-      λ v pc is left.
-      subst (λ l. Comes code [] 6 12 v (Enters rung stack_top g l)) left
-      (subst (λ x. Comes code [] 6 12 v (Enters rung stack_top x v.inputs)) is
-      (dispatched code tidy m (at + 54) q k tasks v boot.places pc o2 o3 (omega (arith, room)) (omega (arith, even)) entered_at.even
-      (ap (λ x. x (word_place m CurrentTask)) is ∙ stays) named)) in
-      let ab = chain code (5 + clear_steps) 6 (18 + clear_cycles) 12 (at + 54) u os [] g inputs (Enters rung stack_top g inputs) a b in
+      let b : (v : Core) → IsAt (at + 54) g inputs v → Comes code [] 6 12 v (Enters rung stack_top g inputs) =
+      λ v j.
+      known_at (λ x l. Comes code [] 6 12 v (Enters rung stack_top x l)) j
+      (dispatched code tidy m (at + 54) q k tasks v boot.places j.pc o2 o3 (omega (arith, room)) (omega (arith, even)) entered_at.even
+      (ap (λ x. x (word_place m CurrentTask)) j.fram ∙ stays) named) in
+      let ab = comes_on code (5 + clear_steps) 6 (18 + clear_cycles) 12 u (IsAt (at + 54) g inputs) (Enters rung stack_top g inputs) os [] a b in
       let x = if_any j 1 + j in let y = if_any j 3 + 6 * j in
       let d : (v : Core) → Enters rung stack_top g inputs v → Comes code cs x y v (Enters t.code stack_top (fram_after cs g) inputs) =
       λ v h.
@@ -165,21 +164,19 @@ version_is_raised code m commit tasks at u boot e small gate below =
     let Raised : Core → Type 0 = IsAt (at + 46) (put f (word_place m Version) (n + 1)) inputs in
     let a = looked code boot.tidy m commit at false u boot.places (omega (arith, room)) e h (gate_is_not_one (f (word_place m Gate)) small gate) in
     let there : at + 10 + 32 ≡ at + 42 = omega arith in
-    let Q : ℕ → (ℕ → ℕ) → Inputs → Core → Type 0 = λ q g l v. Comes code [] 2 6 v (IsAt q g l) in
-    let looks : (v : Core) → IsAt (at + 10) f inputs v → Q (at + 42) f inputs v =
+    let looks : (v : Core) → IsAt (at + 10) f inputs v → Comes code [] 2 6 v (IsAt (at + 42) f inputs) =
     λ v k.
     let w : v.fram (word_place m Version) < 0xFFFF = subst (λ g. g (word_place m Version) < 0xFFFF) (sym k.fram) below in
-    subst (λ q. Q q f inputs v) there (subst (λ l. Q (at + 10 + 32) f l v) k.inputs (subst (λ g. Q (at + 10 + 32) g v.inputs v) k.fram
-    (looks_at_version code boot.tidy m boot.places (at + 10) false v (omega (arith, room)) k.pc tests (omega (arith, w)) (not_at_end _ w)))) in
-    let R : ℕ → (ℕ → ℕ) → Inputs → Core → Type 0 =
-    λ q g l v. Comes code (Store (word_place m Version) (g (word_place m Version) + 1) ∷ []) 1 4 v
-    (IsAt q (put g (word_place m Version) (g (word_place m Version) + 1)) l) in
+    moved_to code _ (at + 42) 2 6 v [] f inputs there (known_at (λ g l. Comes code [] 2 6 v (IsAt (at + 10 + 32) g l)) k
+    (looks_at_version code boot.tidy m boot.places (at + 10) false v (omega (arith, room)) k.pc tests (omega (arith, w)) (not_at_end _ w))) in
+    let R : (ℕ → ℕ) → Inputs → Core → Type 0 =
+    λ g l v. let raised = g (word_place m Version) + 1 in
+    Comes code (Store (word_place m Version) raised ∷ []) 1 4 v (IsAt (at + 42 + 4) (put g (word_place m Version) raised) l) in
     let to : at + 42 + 4 ≡ at + 46 = omega arith in
-    let stores : (v : Core) → IsAt (at + 42) f inputs v → R (at + 46) f inputs v =
+    let stores : (v : Core) → IsAt (at + 42) f inputs v → Comes code set 1 4 v Raised =
     λ v k.
     let w : v.fram (word_place m Version) < 0xFFFF = subst (λ g. g (word_place m Version) < 0xFFFF) (sym k.fram) below in
-    subst (λ q. R q f inputs v) to (subst (λ l. R (at + 42 + 4) f l v) k.inputs (subst (λ g. R (at + 42 + 4) g v.inputs v) k.fram
-    (raises code boot.tidy m boot.places (at + 42) v k.pc sets w))) in
+    moved_to code _ (at + 46) 1 4 v set _ inputs to (known_at (λ g l. R g l v) k (raises code boot.tidy m boot.places (at + 42) v k.pc sets w)) in
     let all = comes_on code 4 1 12 4 u (IsAt (at + 42) f inputs) Raised [] set
     (comes_on code 2 2 6 6 u (IsAt (at + 10) f inputs) (IsAt (at + 42) f inputs) [] [] a looks) stores in
     let at_last : at + 46 ≡ start_address at + 36 = omega arith in

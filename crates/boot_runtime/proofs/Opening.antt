@@ -20,7 +20,7 @@ use Rattle.runtime_code.specs.runtime_effects.Stages.{is_at_end, clearing_if, cl
 use Rattle.runtime_code.specs.runtime_effects.Needs.{AreInFram, KeepsTask}
 use Rattle.runtime_code.specs.Comes.{Comes, IsAt}
 use Rattle.runtime_code.specs.Counted.{if_any}
-use Rattle.runtime_code.proofs.Interface.{straight, one_form, recounted, nothing, then_on, moved_to, chain}
+use Rattle.runtime_code.proofs.Interface.{straight, one_form, comes_on, recounted, nothing, then_on, moved_to, known_at}
 use Rattle.runtime_code.proofs.Interface.{tested, one_less, begun, turn_stands, passes, begins, goes_back, leaves}
 use Rattle.boot_runtime.specs.Listing.{end_tested, clearing_begins, clear_turn, clear_loop, version_cleared, clearing, counts_set, opening}
 use Rattle.memory_map.specs.declared.words.RuntimeWord.TheVariants.{CurrentTask, ListLength, EmitCount, Version}
@@ -209,15 +209,16 @@ module _ (code : Code) (tidy : IsTidy code) (m : MemoryMap) (places : AreInFram 
       let b = clears_all (p + 4) (omega (arith, high)) l1 n u1 (omega (arith, e)) refl (omega (arith, end))
       (record { even = places.versions.even; low = omega arith; high = omega arith }) in
       let ab = moved_to code _ (p + 22) _ _ u cs g inputs (omega arith) (then_on code 1 x 2 y u u1 _ [] cs a b) in
-      let d : (v : Core) → v.pc ≡ p + 22 → v.fram ≡ g → v.inputs ≡ inputs → Comes code last 1 4 v (IsAt (p + 26) (fram_after last g) inputs) =
-      λ v at is left.
-      subst (λ x. Comes code last 1 4 v (IsAt (p + 26) (fram_after last x) inputs)) is
+      let d : (v : Core) → IsAt (p + 22) g inputs v → Comes code last 1 4 v (IsAt (p + 26) (fram_after last g) inputs) =
+      λ v h.
+      let at = h.pc in
+      known_at (λ i l. Comes code last 1 4 v (IsAt (p + 26) (fram_after last i) l)) h
       (straight code tidy (version_cleared m) 1 v (end_of v (forms_run (version_cleared m) v).status) last 4 _ (tt, tt)
       (stands_at code (p + 22) (version_cleared m) v t2 at) ((tt, places.words Version), tt) refl refl
-      (record { pc = omega (arith, at); fram = refl; inputs = left })) in
+      (record { pc = omega (arith, at); fram = refl; inputs = refl })) in
       recounted code (cs ++ last) (1 + x + 1) (4 + (if_any n 1 + 4 * n)) (2 + y + 4) (9 + (if_any n 2 + 8 * n)) u _ (omega arith) (omega arith)
       (subst (λ i. Comes code (cs ++ last) (1 + x + 1) (2 + y + 4) u (IsAt (p + 26) i inputs)) (sym (fram_after-append cs last f))
-      (chain code (1 + x) 1 (2 + y) 4 (p + 22) u cs last g inputs (IsAt (p + 26) (fram_after last g) inputs) ab d))
+      (comes_on code (1 + x) 1 (2 + y) 4 u (IsAt (p + 22) g inputs) (IsAt (p + 26) (fram_after last g) inputs) cs last ab d))
 
   -- VER goes up by one
   pub raises : (p : ℕ) (u : Core) → u.pc ≡ p → Stands code p (counts_set m) → u.fram (word_place m Version) < 0xFFFF
@@ -261,12 +262,11 @@ module _ (code : Code) (tidy : IsTidy code) (m : MemoryMap) (places : AreInFram 
       let n = m.versions.words in
       let es = clearing_if m true in
       let x = 4 + (if_any n 1 + 4 * n) in let y = 9 + (if_any n 2 + 8 * n) in
-      let Q : ℕ → (ℕ → ℕ) → Inputs → Core → Type 0 = λ q g l v. Comes code es x y v (IsAt q (fram_after es g) l) in
       let there : p + 6 + 26 ≡ p + 32 = omega arith in
-      let d : (v : Core) → v.pc ≡ p + 6 → v.fram ≡ f → v.inputs ≡ inputs → Q (p + 32) f inputs v =
-      λ v at is left. subst (λ q. Q q f inputs v) there (subst (λ l. Q (p + 6 + 26) f l v) left
-      (subst (λ g. Q (p + 6 + 26) g v.inputs v) is (clears (p + 6) v (omega (arith, high)) at k))) in
-      chain code 2 x 6 y (p + 6) u [] es f inputs (IsAt (p + 32) (fram_after es f) inputs)
+      let d : (v : Core) → IsAt (p + 6) f inputs v → Comes code es x y v (IsAt (p + 32) (fram_after es f) inputs) =
+      λ v j. moved_to code _ (p + 32) x y v es _ inputs there
+      (known_at (λ g l. Comes code es x y v (IsAt (p + 6 + 26) (fram_after es g) l)) j (clears (p + 6) v (omega (arith, high)) j.pc k)) in
+      comes_on code 2 x 6 y u (IsAt (p + 6) f inputs) (IsAt (p + 32) (fram_after es f) inputs) [] es
       (looks_at_version p true u (omega (arith, high)) e h word z) d
   clears_if false p u high e word h k z = looks_at_version p false u (omega (arith, high)) e h word z
 
@@ -287,15 +287,13 @@ module _ (code : Code) (tidy : IsTidy code) (m : MemoryMap) (places : AreInFram 
       let t : Stands code (p + 32) (counts_set m) =
       subst (λ q. Stands code q (counts_set m)) (omega arith) (stands_back code _ (clearing m) (counts_set m) h1) in
       let a = clears_if b p u high e word (stands_front code p (end_tested m) (clearing m ++ counts_set m) h) k z in
-      let Q : ℕ → (ℕ → ℕ) → Inputs → Core → Type 0 =
-      λ q i l v. Comes code (counting_effects m i) 3 12 v (IsAt q (fram_after (counting_effects m i) i) l) in
       let there : p + 32 + 12 ≡ p + 44 = omega arith in
-      let d : (v : Core) → v.pc ≡ p + 32 → v.fram ≡ g → v.inputs ≡ inputs → Q (p + 44) g inputs v =
-      λ v at is left. subst (λ q. Q q g inputs v) there (subst (λ l. Q (p + 32 + 12) g l v) left
-      (subst (λ i. Q (p + 32 + 12) i v.inputs v) is (counts (p + 32) v at t))) in
+      let d : (v : Core) → IsAt (p + 32) g inputs v → Comes code last 3 12 v (IsAt (p + 44) (fram_after last g) inputs) =
+      λ v j. moved_to code _ (p + 44) 3 12 v last _ inputs there
+      (known_at (λ i l. let es = counting_effects m i in Comes code es 3 12 v (IsAt (p + 32 + 12) (fram_after es i) l)) j (counts (p + 32) v j.pc t)) in
       recounted code (cs ++ last) (2 + x + 3) (5 + x) (6 + y + 12) (18 + y) u _ (omega arith) (omega arith)
       (subst (λ i. Comes code (cs ++ last) (2 + x + 3) (6 + y + 12) u (IsAt (p + 44) i inputs)) (sym (fram_after-append cs last f))
-      (chain code (2 + x) 3 (6 + y) 12 (p + 32) u cs last g inputs (IsAt (p + 44) (fram_after last g) inputs) a d))
+      (comes_on code (2 + x) 3 (6 + y) 12 u (IsAt (p + 32) g inputs) (IsAt (p + 44) (fram_after last g) inputs) cs last a d))
 
   pub opens : (p : ℕ) (u : Core) → p + 44 < 0x10000 → u.pc ≡ p → u.fram (word_place m Version) < 0x10000 → Stands code p (opening m)
       → let es = opening_effects m u.fram in let b = is_at_end m u.fram in

@@ -18,7 +18,7 @@ use Rattle.runtime_code.specs.runtime_effects.Needs.{AreInFram, IsRegion, IsOutO
 use Rattle.runtime_code.proofs.runtime_effects.Interface.{run_length, entries_alike}
 use Rattle.runtime_code.specs.Comes.{Comes, IsAt}
 use Rattle.runtime_code.specs.Counted.{if_any}
-use Rattle.runtime_code.proofs.Interface.{straight, one_form, recounted, nothing, then_on, comes_on, moved_to, chain}
+use Rattle.runtime_code.proofs.Interface.{straight, one_form, recounted, nothing, then_on, comes_on, moved_to, known_at}
 use Rattle.runtime_code.proofs.Interface.{if_any_grows, tested, one_less, begun, turn_stands, jumps_to, passes, begins, goes_back, leaves}
 use Rattle.commit_runtime.specs.Listing.{copies_begin, entry_begin, word_loop, copy_loop, sends_begin, send_turn, send_loop, closing, commit_forms}
 use Rattle.commit_runtime.specs.Listing.{commit_steps, commit_cycles}
@@ -424,34 +424,32 @@ module _ (code : Code) (tidy : IsTidy code) (m : MemoryMap) (places : AreInFram 
       let number = (base + k) % 0x10000 in
       let x1 = 3 + if_any n 1 + n * 8 + ws * 4 in let y1 = 6 + if_any n 2 + n * 14 + ws * 9 in
       let x2 = 4 + if_any k 1 + k * 5 in let y2 = 9 + if_any k 2 + k * 13 in
-      let b : (v : Core) → v.pc ≡ p + 34 → v.fram ≡ g → v.inputs ≡ inputs → Comes code ss x2 y2 v (BehindSends (p + 64) number g inputs) =
-      λ v at is left.
+      let b : (v : Core) → IsAt (p + 34) g inputs v → Comes code ss x2 y2 v (BehindSends (p + 64) number g inputs) =
+      λ v j.
       let Q : List Effect → ℕ → ℕ → (ℕ → ℕ) → Inputs → Type 0 = λ es s o q l. Comes code es (4 + if_any o 1 + o * 5) (9 + if_any o 2 + o * 13) v
       (BehindSends (p + 64) ((s + o) % 0x10000) q l) in
       let there : p + 34 + 30 ≡ p + 64 = omega arith in
-      let few_now : v.fram (word_place m EmitCount) ≤ m.emits.words = subst (λ q. q (word_place m EmitCount) ≤ m.emits.words) (sym is)
+      let few_now : v.fram (word_place m EmitCount) ≤ m.emits.words = subst (λ q. q (word_place m EmitCount) ≤ m.emits.words) (sym j.fram)
       (subst (λ o. o ≤ m.emits.words) (sym en) few) in
-      let word_now : v.fram (word_place m SentBase) < 0x10000 = subst (λ q. q (word_place m SentBase) < 0x10000) (sym is)
+      let word_now : v.fram (word_place m SentBase) < 0x10000 = subst (λ q. q (word_place m SentBase) < 0x10000) (sym j.fram)
       (subst (λ s. s < 0x10000) (sym sb) word) in
       let o = v.fram (word_place m EmitCount) in
       let r : Q (emits_sent m v.fram) (v.fram (word_place m SentBase)) o v.fram v.inputs =
       subst (λ q. Comes code (emits_sent m v.fram) (4 + if_any o 1 + o * 5) (9 + if_any o 2 + o * 13) v
       (BehindSends q ((v.fram (word_place m SentBase) + o) % 0x10000) v.fram v.inputs)) there
-      (send_part (p + 34) v (omega (arith, high)) at s2 l3 few_now word_now) in
+      (send_part (p + 34) v (omega (arith, high)) j.pc s2 l3 few_now word_now) in
       let r1 : Q (emits_sent m g) (g (word_place m SentBase)) (g (word_place m EmitCount)) g inputs =
-      subst (λ l. Q (emits_sent m g) (g (word_place m SentBase)) (g (word_place m EmitCount)) g l) left
-      (subst (λ q. Q (emits_sent m q) (q (word_place m SentBase)) (q (word_place m EmitCount)) q v.inputs) is r) in
+      known_at (λ q l. Q (emits_sent m q) (q (word_place m SentBase)) (q (word_place m EmitCount)) q l) j r in
       subst (λ es. Q es base k g inputs) sends_same (subst (λ o. Q (emits_sent m g) base o g inputs) en
       (subst (λ s. Q (emits_sent m g) s (g (word_place m EmitCount)) g inputs) sb r1)) in
-      let ab = chain code x1 x2 y1 y2 (p + 34) u cs ss g inputs (BehindSends (p + 64) number g inputs) a b in
+      let ab = comes_on code x1 x2 y1 y2 u (IsAt (p + 34) g inputs) (BehindSends (p + 64) number g inputs) cs ss a b in
       let ls = commit_closed m f in
       let d : (v : Core) → BehindSends (p + 64) number g inputs v → Comes code ls 4 17 v (IsAt start (fram_after ls g) inputs) =
       λ v j.
       let R : ℕ → (ℕ → ℕ) → Inputs → Type 0 = λ next q l. Comes code (closed_with next number) 4 17 v
       (IsAt start (fram_after (closed_with next number) q) l) in
       let r = close_part (p + 64) start number v j.at.pc even c4 j.next_number in
-      subst (λ next. R next g inputs) nx (subst (λ l. R (g (word_place m NextTask)) g l) j.at.inputs
-      (subst (λ q. R (q (word_place m NextTask)) q v.inputs) j.at.fram r)) in
+      subst (λ next. R next g inputs) nx (known_at (λ q l. R (q (word_place m NextTask)) q l) j.at r) in
       let abd = comes_on code (x1 + x2) 4 (y1 + y2) 17 u (BehindSends (p + 64) number g inputs) (IsAt start (fram_after ls g) inputs) (cs ++ ss) ls ab d in
       let es : (cs ++ ss) ++ ls ≡ commit_effects m f = append_assoc cs ss ls in
       let fs : fram_after ls g ≡ fram_after (commit_effects m f) f =

@@ -1,5 +1,6 @@
 -- The crash theorem on compiled sources.
-use Rattle.std.proofs.Common.{◌*◌, ◌≤◌, sym, subst}
+use Rattle.std.proofs.Common.{◌*◌, ◌≤◌, sym, subst, arith}
+use Rattle.task_attempts.specs.crash_rules.Model.{bound}
 use Rattle.task_attempts.proofs.crash_rules.Interface.{crash_theorem, stops_short, sent_once, spans_follow, progress_law}
 use Rattle.task_attempts.specs.compiled_model.Parts.{compiled_model}
 use Rattle.compiled_bounds.proofs.Interface.{bound_is_the_sources}
@@ -37,5 +38,6 @@ reads_in_order text p allow plans l laid = spans_follow (compiled_model p l) (co
 
 pub bounds_pay : BoundsPayForTransitions
 bounds_pay text p allow plans l laid readings origin b up n amount pays spent =
+    let own : n * bound (compiled_model p l) ≤ amount = subst (λ c. n * c ≤ amount) (sym (bound_is_the_sources p l)) pays in
     progress_law (compiled_model p l) (compiled_program p l) (sources_keep_the_laws text p allow plans l laid) (code_keeps text p allow plans l laid)
-    readings origin b up n amount (subst (λ c. n * c ≤ amount) (sym (bound_is_the_sources p l)) pays) spent
+    readings origin b up n amount (omega (arith, own)) spent

@@ -97,5 +97,5 @@ module _ (step : MachineBoard → MachineOutcome) (changes : (s : MachineBoard) 
   -- any number of steps changes FRAM and the inputs by its effects
   pub changed : (n : ℕ) (s q : MachineBoard) → (going step n s).status ≡ At q → Changed s (going step n s).effects q
   changed zero s q e =
-      let h : s ≡ q = sym cc in subst (Changed s []) h (record { fram = refl; inputs = takes_nothing s.inputs })
+      let h : s ≡ q = cc e in subst (Changed s []) h (record { fram = refl; inputs = takes_nothing s.inputs })
   changed (suc n) s q e = changed_from n s q (step s) (changes s) (λ t g. changed n t q g) e

@@ -1,6 +1,7 @@
 -- Runs of a machine whose power is cut: charges of any number of steps, from any boards that a power-up leaves.
-use Rattle.std.specs.Prelude.{◌≡◌, ℕ, ◌+◌, ◌-◌, ◌<◌, ◌≤◌, ◌⊎◌, Bool, true, false, if◌then◌else◌, List, [], ◌∷◌}
+use Rattle.std.specs.Prelude.{◌≡◌, ℕ, ◌+◌, ◌-◌, ◌<◌, ◌≤◌, ◌⊎◌, Bool, true, false, List, [], ◌∷◌}
 use Rattle.machine_effects.specs.msp_step.declared.machine.Stop.TheVariants as stop
+use Rattle.machine_effects.specs.fram_board.Effects.{Effect}
 use Rattle.machine_effects.specs.World.{World}
 use Rattle.machine_effects.specs.Going.{Goes, Stops, At, going, Leads, Stalls}
 use Rattle.machine_effects.specs.Machine.{MachineBoard, MachineOutcome}
@@ -16,8 +17,8 @@ pub record Program : Type 1 where
 
 -- boards from which the script is to be done, behind a boot or a done
 abbrev pub AtEntry : Program → Bool → MachineBoard → Type 0
-AtEntry c true = c.IsPoweredUp
-AtEntry c false = c.AtStart
+AtEntry c true b = c.IsPoweredUp b
+AtEntry c false b = c.AtStart b
 
 -- these effects are made whole within so many cycles, and those that the inputs taken delay them: to the start behind a done
 pub record MakesAll (c : Program) (delay : Inputs → ℕ) (most steps cycles : ℕ) (es : List Effect) (s : MachineBoard) : Type 0 where

@@ -44,7 +44,7 @@ module _ (text : List ℕ) (p : CheckedProgram) (allow : Allow) (image : ImageVa
     readings_left = refl;
     words = words;
     stands = (runs_may_begin (compiled_model p l) ready.model readings).resting (first_state p) x
-        (ready.model.rests_undecided (first_state p) x new.rests);
+        (ready.model.settled_undecided (first_state p) x (ready.model.rests_settled (first_state p) x new.rests));
   }
 
   abbrev pub bears : BearsModel (compiled_model p l) (compiled_program p l) readings (Resting (first_state p)) x b
@@ -67,7 +67,7 @@ module _ (text : List ℕ) (p : CheckedProgram) (allow : Allow) (image : ImageVa
   begins_with_source = record {
     bears = bears;
     starts = record { fram = refl; accepted = refl; taken = refl };
-    undecided = ready.model.rests_undecided (first_state p) x new.rests;
+    undecided = ready.model.settled_undecided (first_state p) x (ready.model.rests_settled (first_state p) x new.rests);
     words = new.has_words;
   }
 

@@ -17,6 +17,7 @@ use Rattle.image_laws.specs.machine_effects.Machine.{MachineBoard, Code, standin
 use Rattle.image_laws.proofs.machine_effects.Interface.{is_fram_address}
 use Rattle.image_laws.specs.code_forms.Placed.{placed, words_of, Holds, AreInstructions}
 use Rattle.image_laws.proofs.code_forms.Interface.{holds_front, holds_back, fram_no_ram, fram_word}
+use Rattle.image_laws.specs.crash_rules.Model.{Marks}
 use Rattle.image_laws.specs.crash_rules.History.{History, observe, behind_boot}
 use Rattle.image_laws.specs.crash_rules.Runs.{Program, Charge, Charged}
 
@@ -37,18 +38,18 @@ stops_next {S} {X} step (suc n) s t es price e h k =
     ]) h
 
 -- wherever charges lead, a further one stops for want of a reading alone
-abbrev pub StopsAtReadings : Program → ℕ → MachineBoard → History → Type 0
-StopsAtReadings c gate s h = (es : List Charge) (t : MachineBoard) (k : History) → Charged c gate s h es t k → (p : MachineBoard) → c.IsPoweredUp p
-    → p.fram ≡ t.fram → p.readings_left ≡ t.readings_left → (n price : ℕ) (e : Stop) → (going c.step n p).status ≡ Halted price e → e ≡ stop.NoReading
+abbrev pub StopsAtReadings : Program → Marks → MachineBoard → History → Type 0
+StopsAtReadings c marks s h = (es : List Charge) (t : MachineBoard) (k : History) → Charged c marks s h es t k → (p : MachineBoard) → c.IsPoweredUp p
+    → p.fram ≡ t.fram → p.inputs.readings ≡ t.inputs.readings → (n price : ℕ) (e : Stop) → (going c.step n p).status ≡ Halted price e → e ≡ stop.NoReading
 
 -- so the machine goes on where charges lead
-pub goes_on : (c : Program) (gate : ℕ) (es : List Charge) (s t : MachineBoard) (h k : History) → StopsAtReadings c gate s h → GoesOn c s
-    → Charged c gate s h es t k → GoesOn c t
-goes_on c gate [] s t h k stops here run = let P : MachineBoard → Type 0 = λ u. GoesOn c u in subst P (sym run.0) here
-goes_on c gate (e ∷ es) s t h k stops here run =
+pub goes_on : (c : Program) (marks : Marks) (es : List Charge) (s t : MachineBoard) (h k : History) → StopsAtReadings c marks s h → GoesOn c s
+    → Charged c marks s h es t k → GoesOn c t
+goes_on c marks [] s t h k stops here run = let P : MachineBoard → Type 0 = λ u. GoesOn c u in subst P (sym run.0) here
+goes_on c marks (e ∷ es) s t h k stops here run =
     let q = run.3.0 in
     let made = (going c.step e.steps e.powered).effects in
-    goes_on c gate es q t (observe gate made (behind_boot h)) k
+    goes_on c marks es q t (observe marks made (behind_boot h)) k
     (λ fs u z more. stops (e ∷ fs) u z (run.0, run.1, run.2, (q, run.3.1, more)))
     (λ fs price x k2. stops [] s h (refl, refl) e.powered run.0 run.1 run.2 (suc e.steps) price x
     (stops_next c.step e.steps e.powered q fs price x run.3.1 k2))

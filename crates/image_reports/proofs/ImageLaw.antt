@@ -25,7 +25,7 @@ use Rattle.compiled_laws.proofs.Interface.{sources_are_ready}
 use Rattle.image_laws.specs.Compiled.{IsCompiled}
 use Rattle.image_laws.specs.Laws.{fresh_world, IsFreshImage}
 use Rattle.image_laws.proofs.Interface.{laid_out, images_are_fresh}
-use Rattle.image_reports.specs.ImageLaw.{known_behind, KeepsCode, HoldsAt, ImagesKeepTheLaws}
+use Rattle.image_reports.specs.ImageLaw.{runtime_marks, known_behind, KeepsCode, HoldsAt, ImagesKeepTheLaws}
 use Rattle.image_reports.specs.Resumed.{BelongsTo, HoldsFrom, ImagesBelong}
 use Rattle.image_reports.proofs.Begins.{run_of_states}
 use Rattle.image_reports.proofs.Capacities.{at_first}
@@ -67,8 +67,10 @@ module _ (text : List ℕ) (p : CheckedProgram) (allow : Allow) (image : ImageVa
   belongs : BelongsTo p l image x
   belongs = images_belong text p allow image ok c
 
-  begun : StandsFor (compiled_model p l) readings origin (first_history (word_place l Gate) x)
-  begun = (runs_may_begin (compiled_model p l) ready.model readings).resting (first_state p) x (ready.model.rests_undecided (first_state p) x new.rests)
+  begun : StandsFor (compiled_model p l) readings origin (first_history (runtime_marks l) x)
+  begun =
+      let undecided = ready.model.settled_undecided (first_state p) x (ready.model.rests_settled (first_state p) x new.rests) in
+      (runs_may_begin (compiled_model p l) ready.model readings).resting (first_state p) x undecided
 
   held : (ms rest : List Moment) → r.moments ≡ ms ++ rest
       → HoldsAt p l image readings (last_board (fresh image.words readings) ms) ms (known_behind l image ms)

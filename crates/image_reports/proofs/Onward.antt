@@ -13,7 +13,7 @@ use Rattle.image_laws.specs.fram_board.Run.{BoardCharge, PowerUp, Moment, RunOut
 use Rattle.image_laws.proofs.fram_board.Interface.{fill_is_a_power_state}
 use Rattle.image_laws.specs.machine_effects.World.{World, fram_after, IsPrefix}
 use Rattle.image_laws.specs.machine_effects.Going.{going, continued}
-use Rattle.image_laws.specs.machine_effects.Machine.{fram_of}
+use Rattle.image_laws.specs.machine_effects.Machine.{MachineBoard, fram_of}
 use Rattle.image_laws.specs.machine_effects.Runs.{last_board}
 use Rattle.image_laws.specs.code_forms.Placed.{words_of, Holds}
 use Rattle.image_laws.specs.cost_bound.declared.allowance.Allow.{Allow}
@@ -26,10 +26,10 @@ use Rattle.image_laws.specs.memory_map.MemoryMap.{MemoryMap, word_place}
 use Rattle.image_laws.specs.runtime_effects.Stages.{commit_effects}
 use Rattle.image_laws.specs.boot_runtime.Entries.{task_entries}
 use Rattle.image_laws.specs.boot_runtime.Listing.{privates_in}
-use Rattle.image_laws.specs.crash_rules.Model.{IsElsewhere, Model, ModelLaws, program_effects, with_commit, script}
-use Rattle.image_laws.specs.crash_rules.History.{History, first_history}
-use Rattle.image_laws.specs.crash_rules.Runs.{Program}
-use Rattle.image_laws.specs.crash_rules.Laws.{Origin, Phase, UndecidedPhase, DecidedPhase, CommittingPhase, StandsFor, Begins}
+use Rattle.image_laws.specs.crash_rules.Model.{IsElsewhere, Model, ModelLaws, Inputs, program_effects, with_commit, attempt_from, script}
+use Rattle.image_laws.specs.crash_rules.History.{History, first_history, inputs_from}
+use Rattle.image_laws.specs.crash_rules.Runs.{Program, Charge, Charged}
+use Rattle.image_laws.specs.crash_rules.Laws.{Origin, Phase, UndecidedPhase, DecidedPhase, CommittingPhase, StandsFor, Begins, PowersUpBehind, ScriptsStore}
 use Rattle.image_laws.proofs.machine_effects.Interface.{power_up_keeps_words}
 use Rattle.image_laws.proofs.crash_rules.Interface.{world_fram, never_lost, sent_once, pending_sends, stops_short, stores_only}
 use Rattle.image_laws.specs.run_charges.View.{outside_of, IsMomentFrom, PowersUp, Instructs, AreMoments}
@@ -37,7 +37,7 @@ use Rattle.image_laws.specs.run_charges.Charges.{AreInstructionMoments, IsPlaced
 use Rattle.image_laws.specs.run_charges.Laws.{IsRunOfWords}
 use Rattle.image_laws.proofs.run_charges.Interface.{follows_keeps, are_behind, front_moments, run_front, instructions_reach, PlacedProgram, is_powered, leads}
 use Rattle.image_laws.proofs.run_charges.Interface.{reached_on, Counts, moments_count}
-use Rattle.image_laws.specs.model_runs.Runs.{BearsModel, Progresses}
+use Rattle.image_laws.specs.model_runs.Runs.{BearsModel, no_delay, Progresses}
 use Rattle.image_laws.specs.model_runs.EventLaws.{StartsWith}
 use Rattle.image_laws.proofs.model_runs.Interface.{stood, AtFront, at_front, starts_hold, fronts_are_lawful, makes_progress}
 use Rattle.image_laws.specs.stands_for.StandsFor.{HoldsWords, IsSound, SoundAtRest, SoundPending}
@@ -54,7 +54,7 @@ use Rattle.image_laws.specs.Compiled.{IsCompiled}
 use Rattle.image_laws.specs.Laws.{IsFreshImage}
 use Rattle.image_laws.specs.source_runs.Tells.{at_first, EachChargePays}
 use Rattle.image_laws.proofs.Interface.{laid_out, images_are_fresh}
-use Rattle.image_reports.specs.ImageLaw.{start_due, attempt_due, all_due, VersionsBelow, KeepsCode, FetchesCode, IsRaisedSoon, RaisesVersion}
+use Rattle.image_reports.specs.ImageLaw.{runtime_marks, start_due, attempt_due, all_due, VersionsBelow, KeepsCode, FetchesCode, IsRaisedSoon, RaisesVersion}
 use Rattle.image_reports.specs.Resumed.{BelongsTo, known_from, HoldsFrom}
 use Rattle.image_reports.proofs.Capacities.{attempts_fit}
 use Rattle.image_reports.proofs.Told.{made}
@@ -62,20 +62,21 @@ use Rattle.image_reports.proofs.ImageStart.{versions_below}
 use Rattle.image_reports.proofs.Untouched.{NeverThere, untouched}
 use Rattle.image_reports.proofs.ImageCode.{GoesOn, StopsAtReadings, goes_on, StandsOn, stands_on, placed_within, same_words, words_fetched}
 
--- what is due is the crash theorem's script
-due_is_script : (p : CheckedProgram) (l : MemoryMap) (f : ℕ → ℕ) (readings : List ℕ)
-    → (script (compiled_model p l) f readings).effects ≡ all_due p l f readings
-due_is_script p l f readings = by (f (word_place l Gate) == 1)
+-- what is due is the crash theorem's script, behind a boot as behind a done
+due_is_script : (p : CheckedProgram) (l : MemoryMap) (booted : Bool) (f : ℕ → ℕ) (inputs : Inputs)
+    → (script (compiled_model p l) booted f inputs).effects ≡ all_due p l f inputs
+due_is_script p l booted f inputs = by (f (word_place l Gate) == 1) booted
   where
-    by : (b : Bool) → ◌≡◌ {A = List Effect}
+    by : (b booted : Bool) → ◌≡◌ {A = List Effect}
         (if b then program_effects (commit_effects l f) true
-        else with_commit (compiled_model p l) f ((compiled_model p l).attempt f readings)).effects
+        else with_commit (compiled_model p l) f inputs (attempt_from (compiled_model p l) booted f inputs)).effects
         (if b then (if b then commit_effects l f else [])
         else attempt_due p l
         (let es = (if b then commit_effects l f else []) in es ++ start_due l (fram_after es f))
-        f readings)
-    by true = refl
-    by false = refl
+        f inputs)
+    by true booted = refl
+    by false true = refl
+    by false false = refl
 
 -- a word that isn't 65535 is below it
 below_end : (n : ℕ) → n < 0x10000 → n ≢ 0xFFFF → n < 0xFFFF
@@ -95,7 +96,7 @@ record KeepsVersions (l : MemoryMap) (f : ℕ → ℕ) : Type 0 where
 phase_keeps_versions : (p : CheckedProgram) (l : MemoryMap) (readings : List ℕ) (origin : Origin State) (s : State) (h : History)
     → Phase (compiled_model p l) readings origin s h → KeepsVersions l h.world.fram
 phase_keeps_versions p l readings origin s h (UndecidedPhase u settled w) = record { words = w.is_open.words; versions = w.is_open.versions }
-phase_keeps_versions p l readings origin s h (DecidedPhase next d t w) = record { words = w.decided.words; versions = w.decided.versions }
+phase_keeps_versions p l readings origin s h (DecidedPhase next d t w) = record { words = w.decided.sends.words; versions = w.decided.sends.versions }
 phase_keeps_versions p l readings origin s h (CommittingPhase d k n w) = record { words = w.pending.words; versions = w.pending.versions }
 
 -- what a run stands for is sound
@@ -129,7 +130,7 @@ module _ (text : List ℕ) (p : CheckedProgram) (allow : Allow) (image : ImageVa
     (origin : Origin State)
     (cs : List BoardCharge) (readings : List ℕ) (words : All (λ w. w < 0x10000) readings)
     (begun : StandsFor (compiled_model p c.layout) readings origin
-    (first_history (word_place c.layout Gate) (record { fram = fram_of fram; accepted = accepted_before })))
+    (first_history (runtime_marks c.layout) (record { fram = fram_of fram; accepted = accepted_before })))
     (r : RunOutcome) (run : IsRunOfWords cs (started fram number readings) r) where
   abbrev l : MemoryMap
   l = c.layout
@@ -179,21 +180,40 @@ module _ (text : List ℕ) (p : CheckedProgram) (allow : Allow) (image : ImageVa
   pub starts_with : StartsWith b x
   starts_with = record { fram = refl; accepted = omega (arith, count); taken = refl }
 
+  abbrev first : History
+  first = first_history (runtime_marks l) x
+
+  -- a power-up behind charges, as the crash theorem takes it
+  powered_behind : (es : List Charge) (t : MachineBoard) (k : History) → Charged program (runtime_marks l) (outside_of b) first es t k
+      → (q : MachineBoard) → program.IsPoweredUp q → q.fram ≡ t.fram → q.inputs.readings ≡ t.inputs.readings
+      → PowersUpBehind model program readings origin q
+  powered_behind es t k charged q up fram left = record {
+    board = t;
+    history = k;
+    run = record { world = x; start = outside_of b; begins = bearing.begins; charges = es; leads = charged };
+    powered = up;
+    fram = fram;
+    readings_left = left;
+  }
+
   -- a charge stops for want of a reading alone, wherever charges lead
-  stops_at_readings : StopsAtReadings program (word_place l Gate) (outside_of b) (first_history (word_place l Gate) x)
+  stops_at_readings : StopsAtReadings program (runtime_marks l) (outside_of b) first
   stops_at_readings es t k charged q up fram left n price e halted =
-      (stops_short model program ready.model bearing.program readings origin x (outside_of b) bearing.begins es t k charged q up fram left n price e halted).0
+      (stops_short model program ready.model bearing.program readings origin q (powered_behind es t k charged q up fram left) n price e halted).0
 
   -- no step stores on the code or behind it
-  never_there : (a : ℕ) → l.boot.address ≤ a
-      → NeverThere a program bearing.program.changes (word_place l Gate) (outside_of b) (first_history (word_place l Gate) x)
+  never_there : (a : ℕ) → l.boot.address ≤ a → NeverThere a program bearing.program.changes (runtime_marks l) (outside_of b) first
   never_there a from es t k charged q up fram left n =
       let P : ℕ → ℕ → Type 0 = λ d w. d < l.boot.address in
       let apart = ready.code.apart in
+      let scripts : ScriptsStore model P = record {
+        recoveries = λ st y u. tt;
+        attempts = λ st y inputs w u. ready.stores.below st y inputs w u;
+        commits = λ to y inputs d.
+            each_weaker _ P (λ d w h. let low = h.below in omega (arith, low, apart)) _ (commit_stores_there (program_places p l) y apart d.pending);
+      } in
       each_weaker P (IsElsewhere a) (λ d w low e. omega (arith, low, from, e)) _
-      (stores_only model program P ready.model bearing.program (λ st y rs w u. ready.stores.below st y rs w u)
-      (λ to y d. each_weaker _ P (λ d w h. let low = h.below in omega (arith, low, apart)) _ (commit_stores_there (program_places p l) y apart d.pending))
-      readings origin x (outside_of b) begins es t k charged q up fram left n)
+      (stores_only model program P ready.model bearing.program scripts readings origin q (powered_behind es t k charged q up fram left) n)
 
   abbrev on : PlacedProgram
   on = stood model program readings origin x b bearing
@@ -209,8 +229,8 @@ module _ (text : List ℕ) (p : CheckedProgram) (allow : Allow) (image : ImageVa
   begins_on es price e stops =
       let at = reached [] r.moments refl in
       let zero_fill = fill_is_a_power_state 0 (omega arith) in
-      let up = is_powered on b (first_history (word_place l Gate) x) at.ready (filled 0) zero_fill in
-      stops_at_readings [] (outside_of b) (first_history (word_place l Gate) x) (refl, refl) (outside_of b) up refl refl 1 price e
+      let up = is_powered on b (first_history (runtime_marks l) x) at.ready (filled 0) zero_fill in
+      stops_at_readings [] (outside_of b) (first_history (runtime_marks l) x) (refl, refl) (outside_of b) up refl refl 1 price e
       (ap (λ o. (continued o (going program.step zero)).status) stops)
 
   -- at each front
@@ -222,7 +242,7 @@ module _ (text : List ℕ) (p : CheckedProgram) (allow : Allow) (image : ImageVa
   -- and so at the last boot or done
   began : (ms rest : List Moment) → r.moments ≡ ms ++ rest → KeepsVersions l (known_from l x ms).start.fram
   began ms rest e =
-      starts_hold (λ w. KeepsVersions l w.fram) (word_place l Gate) b (first_history (word_place l Gate) x) ms run.whole run.words
+      starts_hold (λ w. KeepsVersions l w.fram) (runtime_marks l) b (first_history (runtime_marks l) x) ms run.whole run.words
       (front_moments cs b r ms rest run.starts run.run e) (keeps_versions [] r.moments refl)
       (λ ns more d. keeps_versions ns (more ++ rest) (e ∙ ap (λ q. q ++ rest) d ∙ append_assoc ns more rest))
 
@@ -238,8 +258,8 @@ module _ (text : List ℕ) (p : CheckedProgram) (allow : Allow) (image : ImageVa
 
     stands : StandsOn (placed_code p l) (outside_of t)
     stands = stands_on (placed_code p l) (outside_of t)
-        (goes_on program (word_place l Gate) at.charges (outside_of b) (outside_of t)
-        (first_history (word_place l Gate) x) h stops_at_readings begins_on at.charged)
+        (goes_on program (runtime_marks l) at.charges (outside_of b) (outside_of t)
+        (first_history (runtime_marks l) x) h stops_at_readings begins_on at.charged)
 
     fetches : FetchesCode p l image t
     fetches =
@@ -279,7 +299,7 @@ module _ (text : List ℕ) (p : CheckedProgram) (allow : Allow) (image : ImageVa
 
     kept : (a : ℕ) → l.boot.address ≤ a → (outside_of t).fram a ≡ x.fram a
     kept a from =
-        untouched a program bearing.program.changes (word_place l Gate) at.charges (outside_of b) (outside_of t) (first_history (word_place l Gate) x) h
+        untouched a program bearing.program.changes (runtime_marks l) at.charges (outside_of b) (outside_of t) (first_history (runtime_marks l) x) h
         (never_there a from) at.charged
 
     pub front : HoldsFrom p l image x origin readings t ms h
@@ -287,9 +307,9 @@ module _ (text : List ℕ) (p : CheckedProgram) (allow : Allow) (image : ImageVa
         let known = fronts_are_lawful model program readings origin x cs b r run bearing ms rest e in
         let lawful = known.0 in
         let same = known.1.fram in
-        let first : Counts b (first_history (word_place l Gate) x) accepted_before =
+        let first : Counts b (first_history (runtime_marks l) x) accepted_before =
         record { whole = run.whole; words = run.words; accepted = refl; count = starts_with.accepted; taken = refl } in
-        let counts = moments_count (word_place l Gate) b (first_history (word_place l Gate) x) accepted_before ms first
+        let counts = moments_count (runtime_marks l) b (first_history (runtime_marks l) x) accepted_before ms first
         (front_moments cs b r ms rest run.starts run.run e) in
         let Code : (ℕ → ℕ) → Type 0 = λ f. KeepsCode p l image f in
         let Capacities : (ℕ → ℕ) → Type 0 = λ f. KeepsCapacities l f in
@@ -298,13 +318,15 @@ module _ (text : List ℕ) (p : CheckedProgram) (allow : Allow) (image : ImageVa
           words = counts.accepted;
           number = subst (λ ws. TakesNextBehind ws t.receiver) (sym counts.accepted) counts.count;
           taken = counts.taken;
-          effects = subst (IsPrefix h.effects) (due_is_script p l h.start.fram (drop h.since readings)) lawful.follows;
+          effects = subst (IsPrefix h.effects) (due_is_script p l h.booted h.start.fram (inputs_from readings h.since)) lawful.follows;
           stands = lawful.stands;
           never_lost = λ decided. let kept = never_lost model ready.model readings origin h lawful decided in
               (ap (λ f. f (word_place l Gate)) same ∙ kept.0, kept.1);
           accepted = sent_once model ready.model readings origin h lawful.stands;
-          sent = λ to is none. pending_sends model program ready.model bearing.program readings to x (outside_of b)
-              (subst (λ o. Begins model readings o x (outside_of b)) is begins) at.charges (outside_of t) h at.charged none;
+          sent = λ to is none.
+              let P : Origin State → Type 0 = λ o. Begins model readings o x (outside_of b) in
+              pending_sends model program ready.model bearing.program readings to (outside_of t) h
+              (record { world = x; start = outside_of b; begins = subst P is begins; charges = at.charges; leads = at.charged }) none;
           versions = λ made.
               let P : (ℕ → ℕ) → Type 0 = λ f. VersionsBelow l f in
               let f : (outside_of t).fram ≡ fram_after (start_due l h.start.fram) h.start.fram =
@@ -339,12 +361,18 @@ module _ (text : List ℕ) (p : CheckedProgram) (allow : Allow) (image : ImageVa
   RaisesFrom steps boot = (outside_of boot.after).fram (word_place l Gate) ≡ 0 → (outside_of boot.after).fram (word_place l Version) ≢ 0xFFFF
       → IsRaisedSoon l boot.after steps
 
-  raises_from : (t : BoardValue) (h : History) → IsReached t h → HoldsWords (outside_of t).fram → (steps first more : List Moment) → steps ≡ first ++ more
-      → length first ≡ 5 → AreInstructionMoments first → (boot : Moment) → boot.action ≡ PowerUp → IsMomentFrom t boot → AreMoments boot.after first
+  -- a board on which a charge begins
+  record BeginsCharge (t : BoardValue) : Type 0 where
+    pub history : History
+    pub at : IsReached t history
+    pub words : HoldsWords (outside_of t).fram
+
+  raises_from : (t : BoardValue) → BeginsCharge t → (steps first more : List Moment) → steps ≡ first ++ more → length first ≡ 5
+      → AreInstructionMoments first → (boot : Moment) → boot.action ≡ PowerUp → IsMomentFrom t boot → AreMoments boot.after first
       → RaisesFrom steps boot
-  raises_from t h at words steps first more cut five are boot up (Instructs i done current answer is) moments =
+  raises_from t from steps first more cut five are boot up (Instructs i done current answer is) moments =
       absurd (let other = sym up ∙ ap (λ y. y.action) is in cc (other))
-  raises_from t h at words steps first more cut five are boot up (PowersUp power powers is) moments =
+  raises_from t from steps first more cut five are boot up (PowersUp power powers is) moments =
       let P : Moment → Type 0 = λ y. AreMoments y.after first → RaisesFrom steps y in
       subst P (sym is)
       (λ own gate end. record {
@@ -352,7 +380,7 @@ module _ (text : List ℕ) (p : CheckedProgram) (allow : Allow) (image : ImageVa
         rest = more;
         are = cut;
         soon = omega (arith, five);
-        raised = raised_by_five t h at power powers first own are five gate (below_end _ (words (word_place l Version)) end);
+        raised = raised_by_five t from.history from.at power powers first own are five gate (below_end _ (from.words (word_place l Version)) end);
       }) moments
 
   pub raises : RaisesVersion l r.moments
@@ -368,17 +396,18 @@ module _ (text : List ℕ) (p : CheckedProgram) (allow : Allow) (image : ImageVa
       let h = known_from l x ms in
       let t = last_board b ms in
       let tail = boot ∷ (steps ++ rest) in
-      let at = reached_on on b (first_history (word_place l Gate) x) t boot.before h moments.0 (reached ms tail e) in
+      let at = reached_on on b (first_history (runtime_marks l) x) t boot.before h moments.0 (reached ms tail e) in
       let known = (fronts_are_lawful model program readings origin x cs b r run bearing ms tail e).1.fram in
       let same : (outside_of boot.before).fram ≡ h.world.fram = ap (λ s. s.fram) (follows_keeps t boot.before moments.0).outside ∙ known in
-      raises_from boot.before h at (subst HoldsWords (sym same) (keeps_versions ms tail e).words) steps first more cut five
-      (front_are first more (subst AreInstructionMoments cut are)) boot up moments.1 moments.2
+      let from : BeginsCharge boot.before =
+      record { history = h; at = at; words = subst HoldsWords (sym same) (keeps_versions ms tail e).words } in
+      raises_from boot.before from steps first more cut five (front_are first more (subst AreInstructionMoments cut are)) boot up moments.1 moments.2
 
   -- each charge that is spent pays for its transitions
   pub pays : let m = map_of text p l allow in EachChargePays m cs b (at_first m b) r
   pays =
       let m = map_of text p l allow in
-      let P : ℕ → Type 0 = λ n. Progresses (word_place l Gate) n cs b (first_history (word_place l Gate) x) r in
-      let paid : Progresses (word_place l Gate) m.bound cs b (first_history (word_place l Gate) x) r =
+      let P : ℕ → Type 0 = λ n. Progresses (runtime_marks l) n no_delay cs b (first_history (runtime_marks l) x) r in
+      let paid : Progresses (runtime_marks l) m.bound no_delay cs b (first_history (runtime_marks l) x) r =
       subst P (bound_is_the_sources p l ∙ sym ok.allowed.cycles) (makes_progress model program readings origin x cs b r run bearing) in
       (read_off m x cs b r (made text p allow image ok c).is_map starts_with run).pays x paid starts_with

@@ -30,7 +30,7 @@ use Rattle.image_laws.specs.run_charges.Charges.{ArePowerStates}
 use Rattle.image_laws.specs.run_charges.Laws.{IsRunOfWords}
 use Rattle.image_laws.specs.model_runs.Runs.{BearsModel, all_amounts}
 use Rattle.image_laws.proofs.model_runs.Interface.{stops_where_short}
-use Rattle.image_laws.specs.stands_for.StandsFor.{IsSound, SoundAtRest, SoundPending, IsPendingCommit}
+use Rattle.image_laws.specs.stands_for.StandsFor.{IsSound, SoundAtRest, SoundPending, IsAtRest, IsPendingCommit}
 use Rattle.image_laws.proofs.stands_for.Interface.{unsent_are_few}
 use Rattle.image_laws.specs.compiled_model.Places.{program_places}
 use Rattle.image_laws.specs.compiled_model.View.{state_in, state_left}
@@ -41,6 +41,7 @@ use Rattle.compiled_laws.proofs.Interface.{sources_are_ready}
 use Rattle.image_laws.specs.Compiled.{IsCompiled}
 use Rattle.image_laws.specs.Laws.{HasStates}
 use Rattle.image_laws.proofs.Interface.{laid_out, maps_find_states, worlds_stand}
+use Rattle.image_reports.specs.ImageLaw.{runtime_marks}
 use Rattle.image_reports.specs.Sources.{IsSourcesMap}
 use Rattle.image_reports.specs.Resumed.{BelongsTo, origin_of, pending_transition, IsToldOnward, ToldAtRest, ToldPending, ImagesResume}
 use Rattle.image_reports.proofs.CompiledTold.{models_are_of_sources}
@@ -107,15 +108,19 @@ module _ (text : List ℕ) (p : CheckedProgram) (allow : Allow) (image : ImageVa
   in_commit : x.fram (word_place l Gate) ≡ 1 → Pending (state_left l x) ≡ origin
   in_commit e = sym (ap (λ n. if n == 1 then Pending (state_left l x) else Resting (state_in l x)) e)
 
-  begun_by : IsSound (program_places p l) x → StandsFor model readings origin (first_history (word_place l Gate) x)
+  -- the state that a sound world has is undecided
+  undecided_there : IsAtRest (program_places p l) x → model.Undecided (state_in l x) x
+  undecided_there q = ready.model.settled_undecided (state_in l x) x (ready.model.rests_settled (state_in l x) x (states.rest x q))
+
+  begun_by : IsSound (program_places p l) x → StandsFor model readings origin (first_history (runtime_marks l) x)
   begun_by (SoundAtRest q) =
-      subst (λ o. StandsFor model readings o (first_history (word_place l Gate) x)) (at_rest q.gate)
-      ((runs_may_begin model ready.model readings).resting (state_in l x) x (ready.model.rests_undecided (state_in l x) x (states.rest x q)))
+      subst (λ o. StandsFor model readings o (first_history (runtime_marks l) x)) (at_rest q.gate)
+      ((runs_may_begin model ready.model readings).resting (state_in l x) x (undecided_there q))
   begun_by (SoundPending q) =
-      subst (λ o. StandsFor model readings o (first_history (word_place l Gate) x)) (in_commit q.gate)
+      subst (λ o. StandsFor model readings o (first_history (runtime_marks l) x)) (in_commit q.gate)
       ((runs_may_begin model ready.model readings).pending (state_left l x) x (states.commit x q))
 
-  begun : StandsFor model readings origin (first_history (word_place l Gate) x)
+  begun : StandsFor model readings origin (first_history (runtime_marks l) x)
   begun = begun_by belongs.sound
 
   abbrev bears : BearsModel model program readings origin x b
@@ -156,7 +161,7 @@ module _ (text : List ℕ) (p : CheckedProgram) (allow : Allow) (image : ImageVa
     onward_by : IsSound (program_places p l) x → IsToldOnward text p m l x cs b r (report_of (start_with fram (Some m)) r)
     onward_by (SoundAtRest q) =
         ToldAtRest q.gate (told.resting (state_in l x) (subst (λ o. BearsModel model program readings o x b) (sym (at_rest q.gate)) bears)
-        (ready.model.rests_undecided (state_in l x) x (states.rest x q)) (states.words x q.words))
+        (undecided_there q) (states.words x q.words))
     onward_by (SoundPending q) =
         ToldPending q.gate (told.pending (state_in l x) (state_left l x) (pending_transition l x)
         (subst (λ o. BearsModel model program readings o x b) (sym (in_commit q.gate)) bears) (transition q))

@@ -1,6 +1,6 @@
 -- What holds of each run of the image of an accepted source, on the board itself, cut wherever power fails: the effects since the last
 -- boot or done, what the board stands for, the words accepted, the counts, the code that is fetched, how it ends, and its report.
-use Rattle.std.specs.Prelude.{◌≡◌, ◌≢◌, ℕ, ◌+◌, ◌*◌, ◌^◌, ◌%◌, ◌<◌, ◌≤◌, ◌==◌, true, if◌then◌else◌, List, [], ◌∷◌, ◌++◌, length, drop, All}
+use Rattle.std.specs.Prelude.{◌≡◌, ◌≢◌, ℕ, ◌+◌, ◌*◌, ◌^◌, ◌%◌, ◌<◌, ◌≤◌, ◌==◌, true, if◌then◌else◌, List, [], ◌∷◌, ◌++◌, length, All}
 use Rattle.image_laws.specs.msp_isa.declared.instructions.Instr.{Instr}
 use Rattle.image_laws.specs.msp_isa.Encoding.{encoding}
 use Rattle.image_laws.specs.msp_step.Registers.{registers_of}
@@ -27,8 +27,8 @@ use Rattle.image_laws.specs.array_versions.Behaviour.{behaviour, started}
 use Rattle.image_laws.specs.runtime_effects.Stages.{commit_effects, start_effects, pending_effects, boot_effects}
 use Rattle.image_laws.specs.boot_runtime.Entries.{task_entries}
 use Rattle.image_laws.specs.boot_runtime.Listing.{privates_in}
-use Rattle.image_laws.specs.crash_rules.Model.{CommitContract}
-use Rattle.image_laws.specs.crash_rules.History.{History, first_history}
+use Rattle.image_laws.specs.crash_rules.Model.{Marks, Inputs, CommitContract}
+use Rattle.image_laws.specs.crash_rules.History.{History, first_history, inputs_from}
 use Rattle.image_laws.specs.crash_rules.Laws.{Resting, StandsFor, AcceptedWords}
 use Rattle.image_laws.specs.run_charges.View.{outside_of}
 use Rattle.image_laws.specs.run_charges.Charges.{ArePowerStates, AreInstructionMoments, observed}
@@ -43,28 +43,32 @@ use Rattle.image_laws.specs.Words.{code_words}
 use Rattle.image_laws.specs.Compiled.{IsCompiled}
 use Rattle.image_laws.specs.Laws.{fresh_world}
 
+-- the words by which what happens in a run is told
+abbrev pub runtime_marks : MemoryMap → Marks
+runtime_marks l = record { gate = word_place l Gate }
+
 -- what is read off the effects of a run's moments, behind them, where an image's fresh board began it
 abbrev pub known_behind : MemoryMap → ImageValue → List Moment → History
-known_behind l image ms = observed (word_place l Gate) ms (first_history (word_place l Gate) (fresh_world image))
+known_behind l image ms = observed (runtime_marks l) ms (first_history (runtime_marks l) (fresh_world image))
 
 -- an attempt's start, on FRAM as it is
 abbrev pub start_due : MemoryMap → (ℕ → ℕ) → List Effect
 start_due l f = start_effects l (privates_in (task_entries l)) f
 
--- a start; then the word program of the task that CUR names, on FRAM as the start leaves it and on these readings; and the commit, where
+-- a start; then the word program of the task that CUR names, on FRAM as the start leaves it and on these inputs; and the commit, where
 -- that program comes to its transition
-abbrev pub attempt_due : CheckedProgram → MemoryMap → List Effect → (ℕ → ℕ) → List ℕ → List Effect
-attempt_due p l start f readings =
-    let task = behaviour (task_program p l (f (word_place l CurrentTask))) (started (fram_after start f) readings) in
+abbrev pub attempt_due : CheckedProgram → MemoryMap → List Effect → (ℕ → ℕ) → Inputs → List Effect
+attempt_due p l start f inputs =
+    let task = behaviour (task_program p l (f (word_place l CurrentTask))) (started (fram_after start f) inputs) in
     let es = start ++ task.effects in
     es ++ (if has_jumped task.end then commit_effects l (fram_after es f) else [])
 
--- all that is due from a boot or a done on, by FRAM and the readings left there. Where GATE is 1: the commit that is pending. Else all
+-- all that is due from a boot or a done on, by FRAM and the inputs there. Where GATE is 1: the commit that is pending. Else all
 -- of a boot, which then is an attempt's start, with the task and its commit
-abbrev pub all_due : CheckedProgram → MemoryMap → (ℕ → ℕ) → List ℕ → List Effect
-all_due p l f readings =
+abbrev pub all_due : CheckedProgram → MemoryMap → (ℕ → ℕ) → Inputs → List Effect
+all_due p l f inputs =
     if f (word_place l Gate) == 1 then pending_effects l f
-    else attempt_due p l (boot_effects l (privates_in (task_entries l)) f) f readings
+    else attempt_due p l (boot_effects l (privates_in (task_entries l)) f) f inputs
 
 -- what is known behind these moments is of the board behind them: its FRAM, the words that its receiver accepted, in order, and how many
 -- readings were taken
@@ -100,7 +104,7 @@ pub record HoldsAt (p : CheckedProgram) (l : MemoryMap) (image : ImageValue) (re
     (h : History) : Type 0 where
   pub tells : TellsOfBoard b ms h
   -- the effects since the last boot or done are a prefix of what was due there
-  pub effects : IsPrefix h.effects (all_due p l h.start.fram (drop h.since readings))
+  pub effects : IsPrefix h.effects (all_due p l h.start.fram (inputs_from readings h.since))
   -- the board is undecided at the state of the last done (at first the first state), which the source's tasks reach on the committed
   -- readings of the dones; or it is decided from it to the state that its task gives on the committed readings of the decide
   pub stands : StandsFor (compiled_model p l) readings (Resting (first_state p)) h

@@ -24,7 +24,7 @@ use Rattle.image_laws.specs.memory_map.declared.words.RuntimeWord.TheVariants.{C
 use Rattle.image_laws.specs.memory_map.MemoryMap.{MemoryMap, word_place}
 use Rattle.image_laws.specs.runtime_effects.Stages.{commit_effects}
 use Rattle.image_laws.specs.crash_rules.Model.{IsBetween}
-use Rattle.image_laws.specs.crash_rules.History.{History, first_history}
+use Rattle.image_laws.specs.crash_rules.History.{History, first_history, inputs_from}
 use Rattle.image_laws.specs.crash_rules.Laws.{Origin, Resting, Pending, StandsFor, AcceptedWords}
 use Rattle.image_laws.specs.run_charges.View.{outside_of}
 use Rattle.image_laws.specs.run_charges.Charges.{ArePowerStates, observed}
@@ -37,7 +37,7 @@ use Rattle.image_laws.specs.model_runs.Events.{words_between}
 use Rattle.image_laws.specs.model_runs.Runs.{IsShort, all_amounts}
 use Rattle.image_laws.specs.Compiled.{IsCompiled}
 use Rattle.image_laws.specs.Laws.{fresh_world}
-use Rattle.image_reports.specs.ImageLaw.{start_due, all_due, VersionsBelow, KeepsCode, FetchesCode, RaisesVersion}
+use Rattle.image_reports.specs.ImageLaw.{runtime_marks, start_due, all_due, VersionsBelow, KeepsCode, FetchesCode, RaisesVersion}
 
 -- a world from which a run of an image may go on: the code and the reset vector are the image's, the runtime's counts keep to their
 -- capacities, and it is sound
@@ -72,7 +72,7 @@ pub data IsToldOnward (text : List ℕ) (p : CheckedProgram) (m : MapValue) (l :
 
 -- what is read off the effects of a run's moments, behind them, where this world began it
 abbrev pub known_from : MemoryMap → World → List Moment → History
-known_from l x ms = observed (word_place l Gate) ms (first_history (word_place l Gate) x)
+known_from l x ms = observed (runtime_marks l) ms (first_history (runtime_marks l) x)
 
 -- What holds at each boundary between two instructions of a run that goes on so: `b` is the board behind these moments, and `h` what is
 -- known of the run so far. All is as from a fresh board (`HoldsAt`), and a run may go on from this board too. While the commit that was
@@ -83,7 +83,7 @@ pub record HoldsFrom (p : CheckedProgram) (l : MemoryMap) (image : ImageValue) (
   pub words : h.world.accepted ≡ x.accepted ++ accepted_words ms
   pub number : TakesNextBehind h.world.accepted b.receiver
   pub taken : h.taken ≡ b.taken
-  pub effects : IsPrefix h.effects (all_due p l h.start.fram (drop h.since readings))
+  pub effects : IsPrefix h.effects (all_due p l h.start.fram (inputs_from readings h.since))
   pub stands : StandsFor (compiled_model p l) readings origin h
   pub never_lost : h.decided ≡ true → ((outside_of b).fram (word_place l Gate) ≡ 1)
       × ((s : State) → UndecidedAt (program_places p l) (state_view p l) s h.world → ⊥)

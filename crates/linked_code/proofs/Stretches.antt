@@ -10,8 +10,7 @@ use Rattle.boot_runtime.specs.code_forms.Code.{Stands}
 use Rattle.boot_runtime.specs.code_forms.Placed.{placed}
 use Rattle.word_code.specs.array_versions.Program.{Program, nothing}
 use Rattle.word_code.specs.array_versions.Behaviour.{behaviour, started}
-use Rattle.word_code.specs.array_versions.Cost.{spent}
-use Rattle.word_code.specs.Code.{code_of}
+use Rattle.word_code.specs.Code.{code_of, code_spent}
 use Rattle.word_code.specs.Laws.{IsEntry, ComesTo}
 use Rattle.word_code.proofs.Interface.{code_does_as_program}
 use Rattle.boot_runtime.specs.runtime_effects.Places.{listed}
@@ -19,7 +18,7 @@ use Rattle.boot_runtime.specs.runtime_effects.Stages.{is_at_end, start_effects, 
 use Rattle.boot_runtime.specs.runtime_effects.Needs.{CanCommit}
 use Rattle.boot_runtime.specs.runtime_code.Addresses.{start_address}
 use Rattle.boot_runtime.specs.runtime_code.Comes.{Comes, IsAt, Enters}
-use Rattle.boot_runtime.proofs.runtime_code.Interface.{comes_on, places_are_in_fram, opening_keeps_task}
+use Rattle.boot_runtime.proofs.runtime_code.Interface.{comes_on, known_at, places_are_in_fram, opening_keeps_task}
 use Rattle.boot_runtime.specs.Entries.{entry_of, task_entries}
 use Rattle.boot_runtime.specs.Listing.{TaskEntry, entry_at, privates_in, start_steps, start_cycles}
 use Rattle.boot_runtime.specs.Laws.{IsBoot}
@@ -113,7 +112,7 @@ module _ (l : MemoryMap) (programs : List Program) (fits : CodeFits l programs) 
       let k : v.fram (word_place l CurrentTask) < length tasks = subst (λ g. g (word_place l CurrentTask) < length tasks) (sym h.fram) named in
       let a : FromStart v v.fram v.inputs = start_is_made code l l.commit.address tasks l.boot.address v is_boot h.pc k
       (subst (λ g. g (word_place l Version) < 0x10000) (sym h.fram) word) in
-      subst (λ q. FromStart v f q) h.inputs (subst (λ g. FromStart v g v.inputs) h.fram a)
+      known_at (FromStart v) h a
 
   -- from where a board enters to the code of the task that CUR names
   pub to_task : (u : Core) (steps cycles : ℕ) → Comes code [] steps cycles u (IsAt start_at u.fram u.inputs)
@@ -147,7 +146,7 @@ module _ (l : MemoryMap) (programs : List Program) (fits : CodeFits l programs) 
   -- what a task's body does on FRAM and inputs
   abbrev pub DoesBody : Core → ℕ → (ℕ → ℕ) → Inputs → Type 0
   DoesBody v k g inputs =
-      let b = behaviour (program k) (started g inputs) in ComesTo code (spent (program k) (started g inputs)) v b.effects b.end
+      let b = behaviour (program k) (started g inputs) in ComesTo code (code_spent (program k) (started g inputs)) v b.effects b.end
 
   -- where a task is entered, its code does as its word program
   pub body_there : (v : Core) (k : ℕ) (g : ℕ → ℕ) (inputs : Inputs) → Enters (entry_at tasks k).code stack_top g inputs v → k < length programs
@@ -180,7 +179,7 @@ module _ (l : MemoryMap) (programs : List Program) (fits : CodeFits l programs) 
       let a : DoesCommit v v.fram v.inputs = commit_is_made code l l.commit.address start_at v is_linked.tidy is_boot.places
       (omega (arith, c, d, k)) (omega (arith, even)) parts.commit h.pc (subst (CanCommit l) (sym h.fram) can)
       (subst (λ g. g (word_place l SentBase) < 0x10000) (sym h.fram) word) in
-      subst (λ q. DoesCommit v f q) h.inputs (subst (λ g. DoesCommit v g v.inputs) h.fram a)
+      known_at (DoesCommit v) h a
 
   -- from the boot to the commit, where GATE is 1
   pub to_commit : (u : Core) → u.pc ≡ l.boot.address → u.fram (word_place l Gate) ≡ 1 → CanCommit l u.fram

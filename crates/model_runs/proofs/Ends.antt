@@ -1,21 +1,21 @@
 -- A run that stops stops where the source is short.
-use Rattle.std.proofs.Common.{◌≡◌, ◌<◌, ℕ, false, sym, ap, ◌∙◌, subst, List, drop}
-use Rattle.crash_rules.specs.msp_step.declared.machine.Stop.{Stop}
-use Rattle.crash_rules.specs.msp_step.declared.machine.Stop.TheVariants as stop
-use Rattle.crash_rules.specs.fram_board.Board.{BoardValue}
-use Rattle.crash_rules.specs.fram_board.Run.{RunOutcome}
-use Rattle.crash_rules.specs.machine_effects.World.{World}
-use Rattle.crash_rules.specs.machine_effects.Going.{going}
+use Rattle.std.proofs.Common.{◌≡◌, ◌<◌, ℕ, false, sym, ap, ◌∙◌, subst, List}
+use Rattle.msp_step.specs.declared.machine.Stop.{Stop}
+use Rattle.msp_step.specs.declared.machine.Stop.TheVariants as stop
+use Rattle.fram_board.specs.Board.{BoardValue}
+use Rattle.fram_board.specs.Run.{RunOutcome}
+use Rattle.machine_effects.specs.World.{World}
+use Rattle.machine_effects.specs.Going.{going}
 use Rattle.crash_rules.specs.Model.{Model}
-use Rattle.crash_rules.specs.History.{History, observe, behind_boot, first_history}
+use Rattle.crash_rules.specs.History.{History, observe, behind_boot, first_history, inputs_from}
 use Rattle.crash_rules.specs.Runs.{Program}
-use Rattle.crash_rules.specs.Laws.{Origin, IsSettled, Reaches, Phase, UndecidedPhase, DecidedPhase, CommittingPhase}
+use Rattle.crash_rules.specs.Laws.{Origin, IsSettled, Reaches, Phase, UndecidedPhase, DecidedPhase, CommittingPhase, PowersUpBehind}
 use Rattle.crash_rules.proofs.Interface.{stops_short}
 use Rattle.run_charges.specs.View.{outside_of}
 use Rattle.run_charges.proofs.Interface.{HaltsIn, run_halts}
 use Rattle.model_runs.specs.Runs.{BearsModel, history_behind, IsShort}
 use Rattle.model_runs.specs.Laws.{StopsWhereShort}
-use Rattle.model_runs.proofs.Fronts.{stood, ready_at_first}
+use Rattle.model_runs.proofs.Fronts.{stood, ready_at_first, has_run}
 
 module _ {St : Type 0} (m : Model St) (c : Program) (readings : List ℕ) (origin : Origin St) (x : World) (b : BoardValue)
     (bears : BearsModel m c readings origin x b) where
@@ -25,13 +25,20 @@ module _ {St : Type 0} (m : Model St) (c : Program) (readings : List ℕ) (origi
   phase_task k z d (DecidedPhase next u t w) = absurd (cc (u, d))
   phase_task k z d (CommittingPhase u p n w) = absurd (cc (u, d))
 
-  stopped : (r : RunOutcome) (e : Stop) → HaltsIn (stood m c readings origin x b bears) b (first_history m.gate x) r e
+  stopped : (r : RunOutcome) (e : Stop) → HaltsIn (stood m c readings origin x b bears) b (first_history m.marks x) r e
       → (e ≡ stop.NoReading) × IsShort m readings origin (history_behind m x r.moments)
   stopped r e l =
-      let s = stops_short m c bears.model bears.program readings origin x (outside_of b) bears.begins l.at.charges (outside_of l.there) l.before
-      l.at.charged l.start l.is_powered l.fram l.readings l.steps l.price e l.halts in
+      let up : PowersUpBehind m c readings origin l.start = record {
+        board = outside_of l.there;
+        history = l.before;
+        run = has_run m c readings origin x b bears l.there l.before l.at;
+        powered = l.is_powered;
+        fram = l.fram;
+        readings_left = l.readings;
+      } in
+      let s = stops_short m c bears.model bears.program readings origin l.start up l.steps l.price e l.halts in
       let st = s.1.0 in
-      let behind = observe m.gate (going c.step l.steps l.start).effects (behind_boot l.before) in
+      let behind = observe m.marks (going c.step l.steps l.start).effects (behind_boot l.before) in
       let task = phase_task behind st.state s.1.1 st.phase in (
         s.0,
         record {
@@ -39,7 +46,7 @@ module _ {St : Type 0} (m : Model St) (c : Program) (readings : List ℕ) (origi
           settled = subst (IsSettled origin) l.same.completed task.1;
           reached = subst (λ ds. Reaches m readings origin ds st.state) l.same.completed st.reached;
           is_task = task.0;
-          short = ap (λ n. m.task st.state (drop n readings)) (sym l.same.since) ∙ s.1.2;
+          short = ap (λ n. m.task st.state (inputs_from readings n)) (sym l.same.since) ∙ s.1.2;
         },
       )
 
@@ -47,4 +54,4 @@ module _ {St : Type 0} (m : Model St) (c : Program) (readings : List ℕ) (origi
 pub stops_where_short : {St : Type 0} (m : Model St) (c : Program) → StopsWhereShort m c
 stops_where_short m c readings origin x cs b r run bears e h =
     let ready = ready_at_first m c readings origin x b bears run.whole run.words in
-    stopped m c readings origin x b bears r e (run_halts (stood m c readings origin x b bears) cs b r (first_history m.gate x) run ready e h)
+    stopped m c readings origin x b bears r e (run_halts (stood m c readings origin x b bears) cs b r (first_history m.marks x) run ready e h)

@@ -1,28 +1,29 @@
 -- The two histories over the moments of a run.
 use Rattle.std.proofs.Common.{◌≡◌, ℕ, suc, ◌+◌, ◌%◌, refl, sym, ap, ap₂, ◌∙◌, subst, arith, List, [], ◌∷◌, ◌++◌, length, append_assoc, length-append}
 use Rattle.std.proofs.Common.{append-nil, Some, Ok}
-use Rattle.crash_rules.specs.msp_isa.declared.instructions.Instr.{Instr}
-use Rattle.crash_rules.specs.image_map.MapValue.{MapValue}
-use Rattle.crash_rules.specs.image_map.Kept.{IsMap}
-use Rattle.crash_rules.specs.fram_board.declared.board.Stepped.{Stepped}
-use Rattle.crash_rules.specs.fram_board.Board.{BoardValue, next_number, PowerState, powered, executed, IsNextInstruction}
-use Rattle.crash_rules.specs.fram_board.Saved.{TakesNextBehind}
-use Rattle.crash_rules.specs.fram_board.Steps.{IsPowerState}
-use Rattle.crash_rules.specs.fram_board.Effects.{Effect}
-use Rattle.crash_rules.specs.fram_board.Run.{Moment, moment_of, power_up_of, word_list}
+use Rattle.msp_isa.specs.declared.instructions.Instr.{Instr}
+use Rattle.image_map.specs.MapValue.{MapValue}
+use Rattle.image_map.specs.Kept.{IsMap}
+use Rattle.fram_board.specs.declared.board.Stepped.{Stepped}
+use Rattle.fram_board.specs.Board.{BoardValue, next_number, PowerState, powered, executed, IsNextInstruction}
+use Rattle.fram_board.specs.Saved.{TakesNextBehind}
+use Rattle.fram_board.specs.Steps.{IsPowerState}
+use Rattle.fram_board.specs.Effects.{Effect}
+use Rattle.fram_board.specs.Run.{Moment, moment_of, power_up_of, word_list}
 use Rattle.board_run.specs.History.{moment_lines, noted, word_in, with_words, behind_power_up, behind_instruction, instruction_lines, start_with}
 use Rattle.board_run.specs.History.{shared_numbers}
 use Rattle.board_run.specs.History as board
 use Rattle.board_run.specs.Report.{lines_from, after_all}
-use Rattle.crash_rules.specs.machine_effects.World.{World, fram_after, world_after}
-use Rattle.crash_rules.specs.machine_effects.View.{IsWhole, IsOfWords}
-use Rattle.crash_rules.specs.machine_effects.Runs.{last_board}
-use Rattle.crash_rules.proofs.machine_effects.Interface.{world_by_its_parts, power_up_keeps_words}
+use Rattle.machine_effects.specs.World.{World, fram_after, world_after}
+use Rattle.machine_effects.specs.View.{IsWhole, IsOfWords}
+use Rattle.machine_effects.specs.Runs.{last_board}
+use Rattle.machine_effects.proofs.Interface.{world_by_its_parts, power_up_keeps_words}
+use Rattle.crash_rules.specs.Model.{Marks}
 use Rattle.crash_rules.specs.History.{Done, History, behind_boot, behind_gate, first_history, observe}
 use Rattle.crash_rules.proofs.Interface.{with_effects, observed_world, observed_taken}
 use Rattle.run_charges.specs.View.{outside_of, outside_effects, Follows, IsMomentFrom, PowersUp, Instructs, AreMoments}
 use Rattle.run_charges.specs.Charges.{behind_moment, observed}
-use Rattle.model_runs.specs.Events.{TellsOf, last_world, counted, SaysAlike, SaysTheSame, done_lines, dones_lines}
+use Rattle.model_runs.specs.Events.{marks_of, TellsOf, last_world, counted, SaysAlike, SaysTheSame, done_lines, dones_lines}
 use Rattle.model_runs.specs.EventLaws.{HistoriesStayTheSame, FirstHistoriesAreTheSame}
 use Rattle.run_charges.proofs.Interface.{follows_keeps, front_moments, whole_after, words_after, fram_changed, one_write}
 use Rattle.run_charges.proofs.Interface.{words_accepted, words_counted, readings_counted}
@@ -37,7 +38,7 @@ pub record Together (m : MapValue) (x : World) (b : BoardValue) (h : board.Histo
   pub tells : TellsOf b k
 
 -- and as the next moment begins
-together_on : (m : MapValue) (x : World) (b c : BoardValue) (h : board.History) (k : History) → Follows b c → Together m x b h k → Together m x c h k
+pub together_on : (m : MapValue) (x : World) (b c : BoardValue) (h : board.History) (k : History) → Follows b c → Together m x b h k → Together m x c h k
 together_on m x b c h k follows t =
     let keeps = follows_keeps b c follows in
     record {
@@ -59,6 +60,9 @@ pub record Leads (m : MapValue) (x : World) (b : BoardValue) (h : board.History)
 module _ (m : MapValue) (x : World) (ok : IsMap m) where
   abbrev gate : ℕ
   gate = m.words.gate
+
+  abbrev marks : Marks
+  marks = marks_of m
 
   -- a power-up
   module _ (b : BoardValue) (h : board.History) (k : History) (t : Together m x b h k) (p : PowerState) (start : IsPowerState p) where
@@ -159,8 +163,8 @@ module _ (m : MapValue) (x : World) (ok : IsMap m) where
     alike_moved = words_told m x h k es done.accepted t.same.alike accepted_now
 
     -- what is observed of this instruction
-    pub observed_so : observe gate es k ≡ behind_gate before now moved
-    observed_so = seen gate es k (one_write b t.whole i done current answer) ∙ ap (λ n. behind_gate before n moved) (sym gate_now)
+    pub observed_so : observe marks es k ≡ behind_gate before now moved
+    observed_so = seen marks es k (one_write b t.whole i done current answer) ∙ ap (λ n. behind_gate before n moved) (sym gate_now)
 
     gate_before : spoken.gate ≡ before
     gate_before = words_keep_gate h done.accepted ∙ t.same.gate
@@ -177,37 +181,37 @@ module _ (m : MapValue) (x : World) (ok : IsMap m) where
         ap (λ o. instruction_lines o h ws after) t.same.alike.mapped
         ∙ ap (λ n. gate_lines m spoken after n now) t.same.gate
 
-    behind_same : SaysTheSame m x (gated_from m spoken after before now) (observe gate es k)
+    behind_same : SaysTheSame m x (gated_from m spoken after before now) (observe marks es k)
     behind_same =
         let P : History → Type 0 = λ y. SaysAlike m x (gated_from m spoken after before now) y in
-        let world = observed_world gate es k in
+        let world = observed_world marks es k in
         record {
           alike = subst P (sym observed_so) (event_alike m x ok spoken moved after alike_moved moved_tells now before);
           gate = gate_now ∙ ap (λ y. y.fram gate) (sym world);
         }
 
-    behind_tells : TellsOf after (observe gate es k)
+    behind_tells : TellsOf after (observe marks es k)
     behind_tells =
-        let world = observed_world gate es k in
+        let world = observed_world marks es k in
         record {
           fram = ap (λ y. y.fram) world ∙ fram_now;
           accepted = ap (λ y. length y.accepted % 0x10000) world ∙ count_now;
-          taken = observed_taken gate es k ∙ taken_now;
+          taken = observed_taken marks es k ∙ taken_now;
         }
 
-    behind_told : Told m x k (observe gate es k) (moment_lines h (moment_of b i done))
+    behind_told : Told m x k (observe marks es k) (moment_lines h (moment_of b i done))
     behind_told =
         let P : History → Type 0 = λ y. Told m x k y (gate_lines m spoken after before now) in
-        let Q : List ℕ → Type 0 = λ l. Told m x k (observe gate es k) l in
+        let Q : List ℕ → Type 0 = λ l. Told m x k (observe marks es k) l in
         let event : Told m x moved (behind_gate before now moved) (gate_lines m spoken after before now) =
         event_told m x ok spoken moved after alike_moved moved_tells now before in
         let same : Told m x k (behind_gate before now moved) (gate_lines m spoken after before now) =
         record { dones = event.dones; completed = event.completed; told = event.told } in
         subst Q (sym lines_so) (subst P (sym observed_so) same)
 
-    instruction_leads : Leads m x after (noted h (moment_of b i done)) k (observe gate es k) (moment_lines h (moment_of b i done))
+    instruction_leads : Leads m x after (noted h (moment_of b i done)) k (observe marks es k) (moment_lines h (moment_of b i done))
     instruction_leads =
-        let P : board.History → Type 0 = λ y. SaysTheSame m x y (observe gate es k) in
+        let P : board.History → Type 0 = λ y. SaysTheSame m x y (observe marks es k) in
         record {
           together = record {
             whole = whole_after b t.whole i done current answer;
@@ -220,7 +224,7 @@ module _ (m : MapValue) (x : World) (ok : IsMap m) where
 
   -- one moment
   abbrev MomentLeads : BoardValue → board.History → History → Moment → Type 0
-  MomentLeads b h k o = Leads m x o.after (noted h o) k (behind_moment gate o k) (moment_lines h o)
+  MomentLeads b h k o = Leads m x o.after (noted h o) k (behind_moment marks o k) (moment_lines h o)
 
   -- a moment leads both histories on
   pub moment_leads : (b : BoardValue) (h : board.History) (k : History) → Together m x b h k → (o : Moment) → IsMomentFrom b o → MomentLeads b h k o
@@ -255,13 +259,13 @@ module _ (m : MapValue) (x : World) (ok : IsMap m) where
 
   -- all moments
   pub moments_lead : (b : BoardValue) (h : board.History) (k : History) (ms : List Moment) → Together m x b h k → AreMoments b ms
-      → Leads m x (last_board b ms) (after_all h ms) k (observed gate ms k) (lines_from h ms)
+      → Leads m x (last_board b ms) (after_all h ms) k (observed marks ms k) (lines_from h ms)
   moments_lead b h k [] t are = record { together = t; told = record { dones = []; completed = sym (append-nil k.completed); told = refl } }
   moments_lead b h k (o ∷ ms) t are =
       let one = moment_leads o.before h k (together_on m x b o.before h k are.0 t) o are.1 in
-      let j = behind_moment gate o k in
+      let j = behind_moment marks o k in
       let rest = moments_lead o.after (noted h o) j ms one.together are.2 in
-      record { together = rest.together; told = told_join k j (observed gate ms j) (moment_lines h o) (lines_from (noted h o) ms) one.told rest.told }
+      record { together = rest.together; told = told_join k j (observed marks ms j) (moment_lines h o) (lines_from (noted h o) ms) one.told rest.told }
 
 pub histories_stay_the_same : HistoriesStayTheSame
 histories_stay_the_same cs b r ms rest run e m x h k ok same tells =
@@ -272,7 +276,7 @@ histories_stay_the_same cs b r ms rest run e m x h k ok same tells =
 -- the two histories begin the same
 pub first_histories_are_the_same : FirstHistoriesAreTheSame
 first_histories_are_the_same b m x ok s =
-    let alike : SaysAlike m x (start_with b.fram (Some m)) (first_history m.words.gate x) =
+    let alike : SaysAlike m x (start_with b.fram (Some m)) (first_history (marks_of m) x) =
     record {
       mapped = refl;
       completed = refl;

@@ -3,13 +3,13 @@ use Rattle.std.proofs.Common.{◌≡◌, ℕ, zero, suc, ◌+◌, ◌*◌, ◌%�
 use Rattle.std.proofs.Common.{if◌then◌else◌, All, List, [], ◌∷◌, ◌++◌, slice_index, Option, Some, None}
 use Rattle.std.proofs.lemmas.Bool.Decides.{nat_tests}
 use Rattle.std.proofs.lemmas.Bool.{and_parts}
-use Rattle.crash_rules.specs.image_map.declared.parts.ValueType.{ValueType}
-use Rattle.crash_rules.specs.image_map.declared.parts.Variable.{Variable}
-use Rattle.crash_rules.specs.image_map.MapValue.{IsFramWord, IsVariable, fits, word_count}
-use Rattle.crash_rules.specs.image_text.ImageValue.{place_of}
-use Rattle.crash_rules.specs.fram_board.Bus.{is_fram}
-use Rattle.crash_rules.specs.fram_board.Board.{BoardValue}
-use Rattle.crash_rules.specs.machine_effects.World.{World}
+use Rattle.image_map.specs.declared.parts.ValueType.{ValueType}
+use Rattle.image_map.specs.declared.parts.Variable.{Variable}
+use Rattle.image_map.specs.MapValue.{IsFramWord, IsVariable, fits, word_count}
+use Rattle.image_text.specs.ImageValue.{place_of}
+use Rattle.fram_board.specs.Bus.{is_fram}
+use Rattle.fram_board.specs.Board.{BoardValue}
+use Rattle.machine_effects.specs.World.{World}
 use Rattle.run_charges.specs.View.{outside_of}
 use Rattle.board_run.proofs.Interface.{high_fits}
 use Rattle.board_run.specs.History.{SharedNumber, array_words, variable_numbers, shared_numbers, word_in, number_at, number_of, values_in, changed_line}

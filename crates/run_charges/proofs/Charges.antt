@@ -1,15 +1,15 @@
 -- A run of the board is charges of the machine.
-use Rattle.std.proofs.Common.{◌≡◌, refl, sym, ap, ◌∙◌, subst, List, [], ◌∷◌, ◌++◌, length, Ok}
-use Rattle.crash_rules.specs.msp_isa.declared.instructions.Instr.{Instr}
-use Rattle.crash_rules.specs.fram_board.declared.board.Stepped.{Stepped}
-use Rattle.crash_rules.specs.fram_board.Board.{BoardValue, PowerState, powered, executed, IsNextInstruction}
-use Rattle.crash_rules.specs.fram_board.Steps.{IsPowerState}
-use Rattle.crash_rules.specs.fram_board.Run.{Action, PowerUp, Execute, Moment, moment_of, power_up_of, Charges, Stopped, RunOutcome, run_outcome, BoardCharge}
-use Rattle.crash_rules.specs.fram_board.Run.{Run, Over}
-use Rattle.crash_rules.specs.fram_board.Run.{Next, Last}
-use Rattle.crash_rules.specs.machine_effects.View.{IsWhole, IsOfWords}
-use Rattle.crash_rules.specs.machine_effects.Runs.{ReachesAs, last_board}
-use Rattle.crash_rules.proofs.machine_effects.Interface.{power_up_keeps_words, charges_alike, charge_leaves_it_whole, charge_keeps_words, reaches_none}
+use Rattle.std.proofs.Common.{◌≡◌, refl, sym, ap, ◌∙◌, subst, List, [], ◌∷◌, ◌++◌, Ok}
+use Rattle.msp_isa.specs.declared.instructions.Instr.{Instr}
+use Rattle.fram_board.specs.declared.board.Stepped.{Stepped}
+use Rattle.fram_board.specs.Board.{BoardValue, PowerState, powered, executed, IsNextInstruction}
+use Rattle.fram_board.specs.Steps.{IsPowerState}
+use Rattle.fram_board.specs.Run.{Action, PowerUp, Execute, Moment, moment_of, power_up_of, Charges, Stopped, RunOutcome, run_outcome, BoardCharge}
+use Rattle.fram_board.specs.Run.{Run, Over}
+use Rattle.fram_board.specs.Run.{Next, Last}
+use Rattle.machine_effects.specs.View.{IsWhole, IsOfWords}
+use Rattle.machine_effects.specs.Runs.{ReachesAs, last_board}
+use Rattle.machine_effects.proofs.Interface.{power_up_keeps_words, charges_alike, charge_leaves_it_whole, charge_keeps_words, reaches_none}
 use Rattle.run_charges.specs.Charges.{ArePowerStates, ChargeFront, moments_of, IsInstruction, AreInstructionMoments, AreMachineCharges, RunsAsMachine, NoCharge}
 use Rattle.run_charges.specs.Charges.{SpentCharge, StoppedCharge}
 use Rattle.run_charges.specs.View.{Follows, IsMomentFrom, PowersUp, Instructs, AreMoments, BeginWithPower, IsFront}

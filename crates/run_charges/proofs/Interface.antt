@@ -4,7 +4,7 @@
 pub use Rattle.run_charges.proofs.View.{Keeps, follows_keeps, no_gap}
 -- The moments of a run, one behind the other, and what each of its instructions does to the machine.
 pub use Rattle.run_charges.proofs.Moments.{charge_moments, charge_last, first_start, other_starts, are_behind, front_moments, instructions_reach}
-pub use Rattle.run_charges.proofs.Moments.{AtMostOne, NoWrite, AStore, ASend, OneWrite, told, whole_after, words_after}
+pub use Rattle.run_charges.proofs.Moments.{AtMostOne, NoWrite, AStore, AnOutside, OneWrite, told, whole_after, words_after}
 pub use Rattle.run_charges.proofs.Moments.{fram_changed, one_write, words_accepted, words_counted, readings_stay, readings_counted}
 -- Each front of a run is one by its moments alone.
 pub use Rattle.run_charges.proofs.Charges.{run_front}

@@ -1,34 +1,35 @@
 -- The moments of a run, one behind the other, and what each of its instructions does to the machine.
 use Rattle.std.proofs.Common.{◌≡◌, ◌==◌, ◌≤◌, ◌+◌, ◌-◌, ◌%◌, ℕ, suc, refl, sym, ap, ◌∙◌, subst, arith, Bool, true, false, if◌then◌else◌, List, [], ◌∷◌, ◌++◌}
 use Rattle.std.proofs.Common.{length, append-nil, length-append, Option, Some, None, Ok}
-use Rattle.crash_rules.specs.msp_isa.declared.instructions.Instr.{Instr}
-use Rattle.crash_rules.specs.msp_cycles.Cycles.{cycles_of}
-use Rattle.crash_rules.specs.msp_step.Registers.{Registers, registers_of}
-use Rattle.crash_rules.specs.msp_step.Access.{Access, Completed, Faulted}
-use Rattle.crash_rules.specs.msp_step.Effect.{Written}
-use Rattle.crash_rules.specs.msp_step.Step.{effect, execution, Executed}
-use Rattle.crash_rules.specs.fram_board.declared.board.Stepped.{Stepped}
-use Rattle.crash_rules.specs.fram_board.declared.receiver.Receiver.{Receiver}
-use Rattle.crash_rules.specs.fram_board.Bus.{board_bus, is_fram, data_port}
-use Rattle.crash_rules.specs.fram_board.Board.{BoardValue, PowerState, powered, opened, executed, IsNextInstruction, IsStep, is_accepted, next_number}
-use Rattle.crash_rules.specs.fram_board.Board.{offered_to}
-use Rattle.crash_rules.specs.fram_board.Saved.{TakesNextBehind}
-use Rattle.crash_rules.specs.fram_board.Steps.{IsPowerState}
-use Rattle.crash_rules.specs.fram_board.Effects.{Effect, Store, Take, Send, sends_of, effects_of, heard}
-use Rattle.crash_rules.specs.fram_board.Run.{Measure, Instructions, price, Moment, moment_of, power_up_of, Charges, RunOutcome, run_outcome, after_moments}
-use Rattle.crash_rules.specs.fram_board.Run.{ChargeRun}
-use Rattle.crash_rules.specs.fram_board.Run.{Spent, NoInstruction, TooDear, Refused, BoardCharge, Run, Over, Next, Last, word_list}
-use Rattle.crash_rules.specs.fram_board.Run as run
-use Rattle.crash_rules.proofs.fram_board.Interface.{step_makes_its_effects, data_not_fram}
-use Rattle.crash_rules.specs.machine_effects.World.{fram_after, received, accepted_after, readings_taken}
-use Rattle.crash_rules.specs.machine_effects.Going.{Goes, At, stretch}
-use Rattle.crash_rules.specs.machine_effects.Machine.{MachineBus, MachineBoard, MachineOutcome, MachineRun, Stays, Steps, word_address, IsMachineStep, machine_bus}
-use Rattle.crash_rules.specs.machine_effects.Machine.{machine_opened, machine_outcome}
-use Rattle.crash_rules.specs.machine_effects.Machine.{machine_executed}
-use Rattle.crash_rules.specs.machine_effects.View.{machine_of, IsWhole, IsOfWords, outcome_of_answer}
-use Rattle.crash_rules.specs.machine_effects.Runs.{moments_effects, moments_cycles, last_board, ReachesAs}
-use Rattle.crash_rules.proofs.machine_effects.Interface.{takes, written_effects, LoggedBy, effect_logged, machine_changes_by_effects, executed_same}
-use Rattle.crash_rules.proofs.machine_effects.Interface.{current_to_machine, step_leaves_it_whole, words_stay_words, charge_accepts_by_sends}
+use Rattle.msp_isa.specs.declared.instructions.Instr.{Instr}
+use Rattle.msp_cycles.specs.Cycles.{cycles_of}
+use Rattle.msp_step.specs.Registers.{Registers, registers_of}
+use Rattle.msp_step.specs.Access.{Access, Completed, Faulted}
+use Rattle.msp_step.specs.Effect.{Written}
+use Rattle.msp_step.specs.Step.{effect, execution, Executed}
+use Rattle.fram_board.specs.declared.board.Stepped.{Stepped}
+use Rattle.fram_board.specs.declared.receiver.Receiver.{Receiver}
+use Rattle.fram_board.specs.Bus.{board_bus, is_fram, data_port}
+use Rattle.fram_board.specs.Board.{BoardValue, powered, opened, executed, IsNextInstruction, IsStep, is_accepted, next_number}
+use Rattle.fram_board.specs.Board.{offered_to}
+use Rattle.fram_board.specs.Saved.{TakesNextBehind}
+use Rattle.fram_board.specs.Steps.{IsPowerState}
+use Rattle.fram_board.specs.Effects.{Effect, Store, Take, Outside, OutsideEffect, Offered, sends_of, effects_of, heard}
+use Rattle.fram_board.specs.Run.{Measure, Instructions, price, Moment, moment_of, power_up_of, Charges, RunOutcome, run_outcome, after_moments}
+use Rattle.fram_board.specs.Run.{ChargeRun}
+use Rattle.fram_board.specs.Run.{Spent, NoInstruction, TooDear, Refused, BoardCharge, Run, Over, Next, Last, word_list}
+use Rattle.fram_board.specs.Run as run
+use Rattle.fram_board.proofs.Interface.{step_makes_its_effects, data_not_fram}
+use Rattle.machine_effects.specs.World.{fram_after, received, accepted_after, readings_taken}
+use Rattle.machine_effects.specs.Going.{Goes, At, stretch}
+use Rattle.machine_effects.specs.Machine.{MachineBus, MachineBoard, MachineOutcome, MachineRun, Stays, Steps, word_address, IsMachineStep, machine_bus}
+use Rattle.machine_effects.specs.Machine.{machine_opened, machine_outcome}
+use Rattle.machine_effects.specs.Machine.{machine_executed}
+use Rattle.machine_effects.specs.View.{machine_of, IsWhole, IsOfWords, outcome_of_answer}
+use Rattle.machine_effects.specs.Runs.{moments_effects, moments_cycles, last_board, ReachesAs}
+use Rattle.machine_effects.proofs.Interface.{takes, written_effects, LoggedBy, effect_logged, machine_changes_by_effects, executed_same}
+use Rattle.machine_effects.proofs.Interface.{current_to_machine, step_leaves_it_whole, words_stay_words, charge_accepts_by_sends}
+use Rattle.crash_rules.specs.Model.{Marks}
 use Rattle.crash_rules.specs.History.{History}
 use Rattle.crash_rules.proofs.Interface.{observed_taken, events_of_instructions}
 use Rattle.run_charges.specs.View.{outside_of, outside_effects, IsMomentFrom, PowersUp, Instructs, AreMoments}
@@ -92,16 +93,16 @@ pub front_moments : (cs : List BoardCharge) (b : BoardValue) (r : RunOutcome) (m
     → r.moments ≡ ms ++ rest → AreMoments b ms
 front_moments cs b r ms rest ok h e = let P : List Moment → Type 0 = λ l. AreMoments b l in are_front b ms rest (subst P e (run_moments cs b r ok h))
 
--- one store, one send, or none
+-- one store, one effect outside the board, or none
 pub data AtMostOne (es : List Effect) : Type 0 where
   -- nothing
   NoWrite : es ≡ [] → AtMostOne es
   -- one store
   AStore : (a w : ℕ) → es ≡ Store a w ∷ [] → AtMostOne es
-  -- one word sent
-  ASend : (n w : ℕ) → es ≡ Send n w ∷ [] → AtMostOne es
+  -- one effect outside the board
+  AnOutside : (o : OutsideEffect) → es ≡ Outside o ∷ [] → AtMostOne es
 
--- takes, and then one store or one send at most
+-- takes, and then one store or one effect outside at most
 pub record OneWrite (es : List Effect) : Type 0 where
   pub words : List ℕ
   pub write : List Effect
@@ -112,7 +113,7 @@ one_by_tests : (x y : Bool) (a v w n : ℕ) → (y ≡ true → x ≡ false)
     → AtMostOne ((if x then Store a w ∷ [] else []) ++ sends_of n (if y then Some v else None))
 one_by_tests true true a v w n h = let e : true ≡ false = h refl in absurd cc
 one_by_tests true false a v w n h = AStore a w refl
-one_by_tests false true a v w n h = ASend n v refl
+one_by_tests false true a v w n h = AnOutside (Offered n v) refl
 one_by_tests false false a v w n h = NoWrite refl
 
 one_written : (w : Option Written) (f : ℕ → ℕ) (n : ℕ) → AtMostOne (written_effects w f n)
@@ -142,7 +143,7 @@ heard_count : (es : List Effect) (r : Receiver) (ws : List ℕ) → TakesNextBeh
 heard_count [] r ws e = e
 heard_count (Store a w ∷ es) r ws e = heard_count es r ws e
 heard_count (Take w ∷ es) r ws e = heard_count es r ws e
-heard_count (Send n w ∷ es) r ws e =
+heard_count (Outside (Offered n w) ∷ es) r ws e =
     let test : (n == (length ws % 0x10000)) ≡ is_accepted n r = ap (λ c. n == c) e in
     heard_count es (offered_to n r) (received n w ws)
     (ap (λ c. length (if c then ws ++ w ∷ [] else ws) % 0x10000) test ∙ heard_one (is_accepted n r) w r ws e)
@@ -220,8 +221,9 @@ module _ (b : BoardValue) (whole : IsWhole b) (i : Instr) (done : Stepped) (curr
   readings_counted k e =
       let made = step_makes_its_effects b (executed b i) whole.board is_step in
       let room = at_most after.taken (length after.readings) (length b.readings) whole_after.board.taken (ap length made.readings) in
-      let event = events_of_instructions 0 b (executed b i) k e made.from room in
-      let count = observed_taken 0 (effects_of b (executed b i)) k in
+      let any : Marks = record { gate = 0 } in
+      let event = events_of_instructions any b (executed b i) k e made.from room in
+      let count = observed_taken any (effects_of b (executed b i)) k in
       ap (λ es. k.taken + length (readings_taken es)) told_same ∙ sym count ∙ event.taken
 
   -- more instructions behind it are as many more steps of the machine

@@ -1,21 +1,21 @@
 -- Fronts of a run as charges of a program that stands in FRAM.
 use Rattle.std.proofs.Common.{◌≡◌, ℕ, refl, sym, ap, ◌∙◌, subst, List, [], ◌∷◌, ◌++◌, length}
-use Rattle.crash_rules.specs.msp_isa.declared.instructions.Instr.{Instr}
-use Rattle.crash_rules.specs.msp_step.declared.machine.Stop.{Stop}
-use Rattle.crash_rules.specs.fram_board.Board.{BoardValue, PowerState, powered}
-use Rattle.crash_rules.specs.fram_board.Steps.{IsPowerState}
-use Rattle.crash_rules.specs.fram_board.Effects.{Effect}
-use Rattle.crash_rules.specs.fram_board.Run.{Action, PowerUp, Execute, Moment}
-use Rattle.crash_rules.specs.machine_effects.World.{fram_after, EachStore}
-use Rattle.crash_rules.specs.machine_effects.Going.{Goes, Status, At, Halted, stretch, going}
-use Rattle.crash_rules.specs.machine_effects.Machine.{MachineBoard, MachineOutcome, MachineStretch, MachineRun, Stays, Halts, Steps}
-use Rattle.crash_rules.specs.machine_effects.View.{machine_of, IsWhole, IsOfWords}
-use Rattle.crash_rules.specs.machine_effects.Runs.{moments_effects, moments_cycles, last_board, ReachesAs}
-use Rattle.crash_rules.proofs.machine_effects.Interface.{fram_after-append, fram_untouched, machine_changes_by_effects, power_up_keeps_words}
-use Rattle.crash_rules.proofs.machine_effects.Interface.{machine_is_of_words, power_up_is_the_machines}
+use Rattle.msp_isa.specs.declared.instructions.Instr.{Instr}
+use Rattle.msp_step.specs.declared.machine.Stop.{Stop}
+use Rattle.fram_board.specs.Board.{BoardValue, PowerState, powered}
+use Rattle.fram_board.specs.Steps.{IsPowerState}
+use Rattle.fram_board.specs.Effects.{Effect}
+use Rattle.fram_board.specs.Run.{Action, PowerUp, Execute, Moment}
+use Rattle.machine_effects.specs.World.{fram_after, EachStore}
+use Rattle.machine_effects.specs.Going.{Goes, Status, At, Halted, stretch, going}
+use Rattle.machine_effects.specs.Machine.{MachineBoard, MachineOutcome, MachineStretch, MachineRun, Stays, Halts, Steps}
+use Rattle.machine_effects.specs.View.{machine_of, IsWhole, IsOfWords}
+use Rattle.machine_effects.specs.Runs.{moments_effects, moments_cycles, last_board, ReachesAs}
+use Rattle.machine_effects.proofs.Interface.{fram_after-append, fram_untouched, machine_changes_by_effects, power_up_keeps_words}
+use Rattle.machine_effects.proofs.Interface.{machine_is_of_words, power_up_is_the_machines}
 use Rattle.code_forms.specs.Placed.{words_of, Holds, LeavesCode, IsOutside}
 use Rattle.code_forms.proofs.Interface.{holds_stores, code_in_fram_runs}
-use Rattle.crash_rules.specs.Model.{IsElsewhere}
+use Rattle.crash_rules.specs.Model.{IsElsewhere, Marks}
 use Rattle.crash_rules.specs.History.{History, observe, behind_boot}
 use Rattle.crash_rules.specs.Runs.{Program, Charge, Charged}
 use Rattle.crash_rules.proofs.Interface.{observe-append}
@@ -42,22 +42,22 @@ run_fram n s r (Steps k _ t es c rest h more) =
     fram_more rest.status s.fram t.fram es rest.effects (machine_changes_by_effects s (Goes es c t) h).0 (run_fram k t rest more)
 
 -- moments in two parts
-pub observed-append : (gate : ℕ) (ms ns : List Moment) (k : History) → observed gate (ms ++ ns) k ≡ observed gate ns (observed gate ms k)
-observed-append gate [] ns k = refl
-observed-append gate (m ∷ ms) ns k = observed-append gate ms ns (behind_moment gate m k)
+pub observed-append : (marks : Marks) (ms ns : List Moment) (k : History) → observed marks (ms ++ ns) k ≡ observed marks ns (observed marks ms k)
+observed-append marks [] ns k = refl
+observed-append marks (m ∷ ms) ns k = observed-append marks ms ns (behind_moment marks m k)
 
-action_observed : (gate : ℕ) (a : Action) (es : List Effect) (k : History) → IsInstruction a → behind_action gate a es k ≡ observe gate es k
-action_observed gate PowerUp es k h = absurd h
-action_observed gate (Execute done offered) es k h = refl
+action_observed : (marks : Marks) (a : Action) (es : List Effect) (k : History) → IsInstruction a → behind_action marks a es k ≡ observe marks es k
+action_observed marks PowerUp es k h = absurd h
+action_observed marks (Execute done offered) es k h = refl
 
 -- moments that are instructions are observed by their effects
-pub instructions_observed : (gate : ℕ) (ms : List Moment) (k : History) → AreInstructionMoments ms → observed gate ms k ≡ observe gate (moments_effects ms) k
-instructions_observed gate [] k h = refl
-instructions_observed gate (m ∷ ms) k h =
+pub instructions_observed : (marks : Marks) (ms : List Moment) (k : History) → AreInstructionMoments ms → observed marks ms k ≡ observe marks (moments_effects ms) k
+instructions_observed marks [] k h = refl
+instructions_observed marks (m ∷ ms) k h =
     let es = outside_effects m in
-    ap (observed gate ms) (action_observed gate m.action es k h.0)
-    ∙ instructions_observed gate ms (observe gate es k) h.1
-    ∙ sym (observe-append gate es (moments_effects ms) k)
+    ap (observed marks ms) (action_observed marks m.action es k h.0)
+    ∙ instructions_observed marks ms (observe marks es k) h.1
+    ∙ sym (observe-append marks es (moments_effects ms) k)
 
 -- the board behind moments in two parts
 pub last-append : (b : BoardValue) (ms ns : List Moment) → last_board b (ms ++ ns) ≡ last_board (last_board b ms) ns
@@ -70,20 +70,20 @@ last_behind b [] = refl
 last_behind b (f ∷ fs) = last-append (board_powered f) f.instructions (moments_of fs) ∙ last_behind (board_behind f) fs
 
 -- charges behind charges
-pub charged_join : (c : Program) (gate : ℕ) (es fs : List Charge) (s q t : MachineBoard) (h j k : History) → Charged c gate s h es q j
-    → Charged c gate q j fs t k → Charged c gate s h (es ++ fs) t k
-charged_join c gate [] fs s q t h j k run more =
-    let P : MachineBoard → Type 0 = λ y. Charged c gate y h fs t k in
-    let Q : History → Type 0 = λ y. Charged c gate q y fs t k in
+pub charged_join : (c : Program) (marks : Marks) (es fs : List Charge) (s q t : MachineBoard) (h j k : History) → Charged c marks s h es q j
+    → Charged c marks q j fs t k → Charged c marks s h (es ++ fs) t k
+charged_join c marks [] fs s q t h j k run more =
+    let P : MachineBoard → Type 0 = λ y. Charged c marks y h fs t k in
+    let Q : History → Type 0 = λ y. Charged c marks q y fs t k in
     subst P run.0 (subst Q run.1 more)
-charged_join c gate (e ∷ es) fs s q t h j k run more =
-    let behind = observe gate (going c.step e.steps e.powered).effects (behind_boot h) in
-    (run.0, run.1, run.2, (run.3.0, run.3.1, charged_join c gate es fs run.3.0 q t behind j k run.3.2 more))
+charged_join c marks (e ∷ es) fs s q t h j k run more =
+    let behind = observe marks (going c.step e.steps e.powered).effects (behind_boot h) in
+    (run.0, run.1, run.2, (run.3.0, run.3.1, charged_join c marks es fs run.3.0 q t behind j k run.3.2 more))
 
--- a program in FRAM, with the address of GATE: where it stands, and the entry in the reset vector
+-- a program in FRAM, with the marks of its runs: where it stands, and the entry in the reset vector
 pub record PlacedProgram : Type 1 where
   pub program : Program
-  pub gate : ℕ
+  pub marks : Marks
   pub place : ℕ
   pub instructions : List Instr
   pub entry : ℕ
@@ -93,8 +93,8 @@ module _ (on : PlacedProgram) where
   abbrev step : MachineBoard → MachineOutcome
   step = on.program.step
 
-  abbrev gate : ℕ
-  gate = on.gate
+  abbrev marks : Marks
+  marks = on.marks
 
   abbrev code_words : List ℕ
   code_words = words_of on.instructions
@@ -105,14 +105,14 @@ module _ (on : PlacedProgram) where
     pub words : IsOfWords b
     pub vector : (outside_of b).fram 0xFFFE ≡ on.entry
     pub holds : Holds (outside_of b).fram on.place code_words
-    pub leaves : AlwaysLeaves on.program on.place (length code_words) gate (outside_of b) h
+    pub leaves : AlwaysLeaves on.program on.place (length code_words) marks (outside_of b) h
 
   -- and as the next charge begins
   pub ready_on : (b c : BoardValue) (h : History) → Follows b c → Ready b h → Ready c h
   ready_on b c h follows ready =
       let keeps = follows_keeps b c follows in
       let Placed : MachineBoard → Type 0 = λ s. Holds s.fram on.place code_words in
-      let Leaves : MachineBoard → Type 0 = λ s. AlwaysLeaves on.program on.place (length code_words) gate s h in
+      let Leaves : MachineBoard → Type 0 = λ s. AlwaysLeaves on.program on.place (length code_words) marks s h in
       record {
         whole = keeps.whole ready.whole;
         words = keeps.words ready.words;
@@ -136,7 +136,7 @@ module _ (on : PlacedProgram) where
     pub same_fram : begun.fram ≡ (outside_of b).fram
     same_fram = refl
 
-    pub same_readings : begun.readings_left ≡ (outside_of b).readings_left
+    pub same_readings : begun.inputs.readings ≡ (outside_of b).inputs.readings
     same_readings = refl
 
     pub leaves_code : (n : ℕ) → LeavesProgram on.place (length code_words) (going step n begun)
@@ -159,7 +159,7 @@ module _ (on : PlacedProgram) where
       end = last_board (powered b start) ms
 
       abbrev pub behind : History
-      behind = observed gate ms (behind_boot h)
+      behind = observed marks ms (behind_boot h)
 
       told_is_made : stretch (moments_effects ms) (moments_cycles ms) (At (machine_of end)) ≡ going step steps begun
       told_is_made = program_runs steps _ reach.run
@@ -169,8 +169,8 @@ module _ (on : PlacedProgram) where
       leads = sym (ap (λ r. r.status) told_is_made)
 
       -- with the program's effects
-      pub seen : observe gate (going step steps begun).effects (behind_boot h) ≡ behind
-      seen = ap (λ r. observe gate r.effects (behind_boot h)) (sym told_is_made) ∙ sym (instructions_observed gate ms (behind_boot h) are)
+      pub seen : observe marks (going step steps begun).effects (behind_boot h) ≡ behind
+      seen = ap (λ r. observe marks r.effects (behind_boot h)) (sym told_is_made) ∙ sym (instructions_observed marks ms (behind_boot h) are)
 
       same_effects : (going step steps begun).effects ≡ moments_effects ms
       same_effects = ap (λ r. r.effects) (sym told_is_made)
@@ -198,18 +198,18 @@ module _ (on : PlacedProgram) where
             vector = ap (λ g. g 0xFFFE) fram_behind ∙ fram_untouched (moments_effects ms) 0xFFFE f off_vector ∙ ready.vector;
             holds = subst P (sym fram_behind) (holds_stores (moments_effects ms) f on.place code_words off_code ready.holds);
             leaves = λ charges t k run.
-                let Q : History → Type 0 = λ j. Charged on.program gate (outside_of end) j charges t k in
+                let Q : History → Type 0 = λ j. Charged on.program marks (outside_of end) j charges t k in
                 ready.leaves (record { powered = begun; steps = steps } ∷ charges) t k
                 (is_powered, same_fram, same_readings, (outside_of end, leads, subst Q (sym seen) run));
           }
 
       -- it is one charge of the program
-      pub charged_once : Charged on.program gate (outside_of b) h (record { powered = begun; steps = steps } ∷ []) (outside_of end) behind
+      pub charged_once : Charged on.program marks (outside_of b) h (record { powered = begun; steps = steps } ∷ []) (outside_of end) behind
       charged_once = (is_powered, same_fram, same_readings, (outside_of end, leads, (refl, sym seen)))
 
   -- charges of a board that is ready
   charged : (b : BoardValue) (h : History) (fs : List ChargeFront) → Ready b h → AreMachineCharges b fs
-      → Charged on.program gate (outside_of b) h (charges_of fs) (outside_of (board_behind_all b fs)) (observed gate (moments_of fs) h)
+      → Charged on.program marks (outside_of b) h (charges_of fs) (outside_of (board_behind_all b fs)) (observed marks (moments_of fs) h)
   charged b h [] ready all = (refl, refl)
   charged b h (f ∷ fs) ready all =
       let c = all.0 in
@@ -217,45 +217,45 @@ module _ (on : PlacedProgram) where
       let keeps = follows_keeps b f.before c.follows in
       let here = ready_on b f.before h c.follows ready in
       let end = board_behind f in
-      let k = observed gate ms (behind_boot h) in
+      let k = observed marks ms (behind_boot h) in
       let rest = charged end k fs (ready_behind f.before h here f.start c.start ms c.instructions c.reaches) all.1 in
-      let P : History → Type 0 = λ j. Charged on.program gate (outside_of end) j (charges_of fs) (outside_of (board_behind_all end fs))
-      (observed gate (ms ++ moments_of fs) (behind_boot h)) in
-      let Q : History → Type 0 = λ j. Charged on.program gate (outside_of end) k (charges_of fs) (outside_of (board_behind_all end fs)) j in (
+      let P : History → Type 0 = λ j. Charged on.program marks (outside_of end) j (charges_of fs) (outside_of (board_behind_all end fs))
+      (observed marks (ms ++ moments_of fs) (behind_boot h)) in
+      let Q : History → Type 0 = λ j. Charged on.program marks (outside_of end) k (charges_of fs) (outside_of (board_behind_all end fs)) j in (
         is_powered f.before h here f.start c.start,
         same_fram f.before h here f.start c.start ∙ ap (λ s. s.fram) keeps.outside,
-        same_readings f.before h here f.start c.start ∙ ap (λ s. s.readings_left) keeps.outside,
+        same_readings f.before h here f.start c.start ∙ ap (λ s. s.inputs.readings) keeps.outside,
         (
           outside_of end,
           leads f.before h here f.start c.start ms c.instructions c.reaches,
           subst P (sym (seen f.before h here f.start c.start ms c.instructions c.reaches))
-              (subst Q (sym (observed-append gate ms (moments_of fs) (behind_boot h))) rest),
+              (subst Q (sym (observed-append marks ms (moments_of fs) (behind_boot h))) rest),
         ),
       )
 
   -- the board behind them is ready too
   ready_behind_all : (b : BoardValue) (h : History) (fs : List ChargeFront) → Ready b h → AreMachineCharges b fs
-      → Ready (board_behind_all b fs) (observed gate (moments_of fs) h)
+      → Ready (board_behind_all b fs) (observed marks (moments_of fs) h)
   ready_behind_all b h [] ready all = ready
   ready_behind_all b h (f ∷ fs) ready all =
       let c = all.0 in
       let ms = f.instructions in
       let here = ready_on b f.before h c.follows ready in
       let P : History → Type 0 = λ k. Ready (board_behind_all (board_behind f) fs) k in
-      subst P (sym (observed-append gate ms (moments_of fs) (behind_boot h)))
-      (ready_behind_all (board_behind f) (observed gate ms (behind_boot h)) fs
+      subst P (sym (observed-append marks ms (moments_of fs) (behind_boot h)))
+      (ready_behind_all (board_behind f) (observed marks ms (behind_boot h)) fs
       (ready_behind f.before h here f.start c.start ms c.instructions c.reaches) all.1)
 
   -- a board to which charges of the program lead
   pub record Reached (b : BoardValue) (h : History) (t : BoardValue) (k : History) : Type 0 where
     pub charges : List Charge
-    pub charged : Charged on.program gate (outside_of b) h charges (outside_of t) k
+    pub charged : Charged on.program marks (outside_of b) h charges (outside_of t) k
     pub ready : Ready t k
 
   -- and the board on which the next charge begins
   pub reached_on : (b : BoardValue) (h : History) (t u : BoardValue) (k : History) → Follows t u → Reached b h t k → Reached b h u k
   reached_on b h t u k follows at =
-      let P : MachineBoard → Type 0 = λ s. Charged on.program gate (outside_of b) h at.charges s k in
+      let P : MachineBoard → Type 0 = λ s. Charged on.program marks (outside_of b) h at.charges s k in
       record {
         charges = at.charges;
         charged = subst P (sym (follows_keeps t u follows).outside) at.charged;
@@ -264,13 +264,13 @@ module _ (on : PlacedProgram) where
 
   -- so it is behind each front of a board that is ready
   pub front_reached : (b : BoardValue) (h : History) → Ready b h → (ms : List Moment) → IsFront b ms
-      → Reached b h (last_board b ms) (observed gate ms h)
+      → Reached b h (last_board b ms) (observed marks ms h)
   front_reached b h ready ms front =
       let all = front_charges b ms front in
       let fs = all.charges in
       let there : last_board b ms ≡ board_behind_all b fs = ap (last_board b) all.moments ∙ last_behind b fs in
-      let P : BoardValue → Type 0 = λ t. Reached b h t (observed gate ms h) in
-      let Q : List Moment → Type 0 = λ l. Reached b h (board_behind_all b fs) (observed gate l h) in
+      let P : BoardValue → Type 0 = λ t. Reached b h t (observed marks ms h) in
+      let Q : List Moment → Type 0 = λ l. Reached b h (board_behind_all b fs) (observed marks l h) in
       subst P (sym there) (subst Q (sym all.moments) (record {
         charges = charges_of fs;
         charged = charged b h fs ready all.machine;
@@ -278,16 +278,16 @@ module _ (on : PlacedProgram) where
       }))
 
   -- the same, said of the charges of the front
-  front_charged : (b : BoardValue) (h : History) → Ready b h → (ms : List Moment) → IsFront b ms → IsChargedBy on.program gate b h ms
+  front_charged : (b : BoardValue) (h : History) → Ready b h → (ms : List Moment) → IsFront b ms → IsChargedBy on.program marks b h ms
   front_charged b h ready ms front =
       let all = front_charges b ms front in
-      let P : List Moment → Type 0 = λ l. Charged on.program gate (outside_of b) h (charges_of all.charges)
-      (outside_of (board_behind_all b all.charges)) (observed gate l h) in
+      let P : List Moment → Type 0 = λ l. Charged on.program marks (outside_of b) h (charges_of all.charges)
+      (outside_of (board_behind_all b all.charges)) (observed marks l h) in
       record { front = all; charged = subst P (sym all.moments) (charged b h all.charges ready all.machine) }
 
 -- each front of a run is charges of the program
 pub fronts_are_charged : (c : Program) → FrontsAreCharged c
-fronts_are_charged c cs b r ms rest run e gate p is h stands holds leaves =
-    let on : PlacedProgram = record { program = c; gate = gate; place = p; instructions = is; entry = (outside_of b).fram 0xFFFE; is = stands } in
+fronts_are_charged c cs b r ms rest run e marks p is h stands holds leaves =
+    let on : PlacedProgram = record { program = c; marks = marks; place = p; instructions = is; entry = (outside_of b).fram 0xFFFE; is = stands } in
     front_charged on b h (record { whole = run.whole; words = run.words; vector = refl; holds = holds; leaves = leaves }) ms
     (run_front cs b r ms rest run e)

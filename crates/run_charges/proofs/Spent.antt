@@ -1,20 +1,20 @@
 -- A charge of cycles that is spent is spent by the program too.
-use Rattle.std.proofs.Common.{◌≡◌, ℕ, ◌+◌, ◌-◌, ◌≤◌, ◌<◌, refl, sym, ap, ◌∙◌, subst, arith, inl, inr, List, [], ◌∷◌, ◌++◌, length}
-use Rattle.crash_rules.specs.msp_isa.declared.instructions.Instr.{Instr}
-use Rattle.crash_rules.specs.msp_cycles.Cycles.{cycles_of}
-use Rattle.crash_rules.specs.msp_step.Registers.{Registers}
-use Rattle.crash_rules.specs.msp_step.Access.{Access, Completed, Faulted}
-use Rattle.crash_rules.specs.msp_step.Effect.{Written}
-use Rattle.crash_rules.specs.msp_step.Step.{effect}
-use Rattle.crash_rules.specs.fram_board.Board.{BoardValue, powered, IsNextInstruction}
-use Rattle.crash_rules.specs.fram_board.Steps.{IsPowerState}
-use Rattle.crash_rules.specs.fram_board.Run.{Measure, Cycles, Moment, Charges, run_outcome, BoardCharge, ChargeRun}
-use Rattle.crash_rules.specs.machine_effects.Going.{Goes, Stops, At, Halted, stretch, after_effects, continued, going}
-use Rattle.crash_rules.specs.machine_effects.Machine.{MachineBus, MachineBoard, MachineOutcome, MachineStretch, MachineRun, Stays, Halts, Steps}
-use Rattle.crash_rules.specs.machine_effects.Machine.{IsMachineStep, machine_outcome, machine_bus, machine_opened, machine_executed}
-use Rattle.crash_rules.specs.machine_effects.View.{IsWhole}
-use Rattle.crash_rules.specs.machine_effects.Runs.{moments_effects, moments_cycles, ReachesAs, SpendsAs, IsUsedUp}
-use Rattle.crash_rules.proofs.machine_effects.Interface.{power_up_keeps_words, each_store-back, charges_alike, current_to_machine}
+use Rattle.std.proofs.Common.{◌≡◌, ℕ, ◌+◌, ◌-◌, ◌≤◌, ◌<◌, refl, sym, ap, ◌∙◌, subst, arith, inl, inr, List, [], ◌∷◌, ◌++◌, length, Option}
+use Rattle.msp_isa.specs.declared.instructions.Instr.{Instr}
+use Rattle.msp_cycles.specs.Cycles.{cycles_of}
+use Rattle.msp_step.specs.Registers.{Registers}
+use Rattle.msp_step.specs.Access.{Access, Completed, Faulted}
+use Rattle.msp_step.specs.Effect.{Written}
+use Rattle.msp_step.specs.Step.{effect}
+use Rattle.fram_board.specs.Board.{BoardValue, powered, IsNextInstruction}
+use Rattle.fram_board.specs.Steps.{IsPowerState}
+use Rattle.fram_board.specs.Run.{Measure, Cycles, Moment, Charges, run_outcome, BoardCharge, ChargeRun}
+use Rattle.machine_effects.specs.Going.{Goes, Stops, At, Halted, stretch, after_effects, continued, going}
+use Rattle.machine_effects.specs.Machine.{MachineBus, MachineBoard, MachineOutcome, MachineStretch, MachineRun, Stays, Halts, Steps}
+use Rattle.machine_effects.specs.Machine.{IsMachineStep, machine_outcome, machine_bus, machine_opened, machine_executed}
+use Rattle.machine_effects.specs.View.{IsWhole}
+use Rattle.machine_effects.specs.Runs.{moments_effects, moments_cycles, ReachesAs, SpendsAs, IsUsedUp}
+use Rattle.machine_effects.proofs.Interface.{power_up_keeps_words, each_store-back, charges_alike, current_to_machine}
 use Rattle.code_forms.specs.Placed.{words_of, IsOutside, LeavesCode}
 use Rattle.code_forms.proofs.Interface.{code_in_fram_runs}
 use Rattle.crash_rules.specs.History.{History, observe, behind_boot}
@@ -107,29 +107,29 @@ module _ (on : PlacedProgram) (b : BoardValue) (h : History) (ready : Ready on b
       (charge_moments d.measure d.amount (powered b d.start) (run_outcome ms Charges end) one) are
 
   -- the program's effects are those that the moments tell
-  pub spent_seen : observe on.gate (going step n p).effects (behind_boot h) ≡ observed on.gate ms (behind_boot h)
+  pub spent_seen : observe on.marks (going step n p).effects (behind_boot h) ≡ observed on.marks ms (behind_boot h)
   spent_seen = seen on b h ready d.start ok ms are reach
 
   -- the board behind it is ready
-  spent_ready : Ready on end (observed on.gate ms (behind_boot h))
+  spent_ready : Ready on end (observed on.marks ms (behind_boot h))
   spent_ready =
-      let P : BoardValue → Type 0 = λ t. Ready on t (observed on.gate ms (behind_boot h)) in
+      let P : BoardValue → Type 0 = λ t. Ready on t (observed on.marks ms (behind_boot h)) in
       subst P (charge_last d.measure d.amount (powered b d.start) (run_outcome ms Charges end) one refl)
       (ready_behind on b h ready d.start ok ms are reach)
 
   -- charges lead to it where charges lead to the board before
   pub spent_reached : (first : BoardValue) (begun : History) (charges : List Charge)
-      → Charged on.program on.gate (outside_of first) begun charges (outside_of b) h
-      → Reached on first begun end (observed on.gate ms (behind_boot h))
+      → Charged on.program on.marks (outside_of first) begun charges (outside_of b) h
+      → Reached on first begun end (observed on.marks ms (behind_boot h))
   spent_reached first begun charges charged =
       let own : Charge = record { powered = p; steps = n } in
-      let k = observed on.gate ms (behind_boot h) in
-      let P : BoardValue → Type 0 = λ t. Charged on.program on.gate (outside_of b) h (own ∷ []) (outside_of t) k in
+      let k = observed on.marks ms (behind_boot h) in
+      let P : BoardValue → Type 0 = λ t. Charged on.program on.marks (outside_of b) h (own ∷ []) (outside_of t) k in
       let once = subst P (charge_last d.measure d.amount (powered b d.start) (run_outcome ms Charges end) one refl)
       (charged_once on b h ready d.start ok ms are reach) in
       record {
         charges = charges ++ own ∷ [];
-        charged = charged_join on.program on.gate charges (own ∷ []) (outside_of first) (outside_of b) q begun h k charged once;
+        charged = charged_join on.program on.marks charges (own ∷ []) (outside_of first) (outside_of b) q begun h k charged once;
         ready = spent_ready;
       }
 

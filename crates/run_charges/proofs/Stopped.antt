@@ -1,20 +1,20 @@
 -- The charge in which a run stops.
 use Rattle.std.proofs.Common.{◌≡◌, ℕ, suc, ◌-◌, refl, sym, ap, ◌∙◌, subst, List, [], ◌∷◌, ◌++◌, length, map, append_assoc}
-use Rattle.crash_rules.specs.msp_step.declared.machine.Stop.{Stop}
-use Rattle.crash_rules.specs.fram_board.Board.{BoardValue, powered, executed}
-use Rattle.crash_rules.specs.fram_board.Steps.{IsPowerState}
-use Rattle.crash_rules.specs.fram_board.Effects.{Effect, Take}
-use Rattle.crash_rules.specs.fram_board.Run.{Measure, price, Moment, Charges, Stopped, RunOutcome, run_outcome, BoardCharge, ChargeRun, Spent, NoInstruction}
-use Rattle.crash_rules.specs.fram_board.Run.{TooDear, Refused, Executed, Run, Over, Next, Last, power_up_of}
-use Rattle.crash_rules.specs.machine_effects.World.{EachStore}
-use Rattle.crash_rules.specs.machine_effects.Going.{Halted, stretch, going}
-use Rattle.crash_rules.specs.machine_effects.Machine.{MachineBoard}
-use Rattle.crash_rules.specs.machine_effects.Runs.{moments_effects, moments_cycles, last_board, StopsAs}
-use Rattle.crash_rules.proofs.machine_effects.Interface.{power_up_keeps_words, charges_alike}
-use Rattle.crash_rules.specs.Model.{IsElsewhere}
+use Rattle.msp_step.specs.declared.machine.Stop.{Stop}
+use Rattle.fram_board.specs.Board.{BoardValue, powered, executed}
+use Rattle.fram_board.specs.Steps.{IsPowerState}
+use Rattle.fram_board.specs.Effects.{Effect, Take}
+use Rattle.fram_board.specs.Run.{Measure, price, Moment, Charges, Stopped, RunOutcome, run_outcome, BoardCharge, ChargeRun, Spent, NoInstruction}
+use Rattle.fram_board.specs.Run.{TooDear, Refused, Executed, Run, Over, Next, Last, power_up_of}
+use Rattle.machine_effects.specs.World.{EachStore}
+use Rattle.machine_effects.specs.Going.{Halted, stretch, going}
+use Rattle.machine_effects.specs.Machine.{MachineBoard}
+use Rattle.machine_effects.specs.Runs.{moments_effects, moments_cycles, last_board, StopsAs}
+use Rattle.machine_effects.proofs.Interface.{power_up_keeps_words, charges_alike}
+use Rattle.crash_rules.specs.Model.{IsElsewhere, Marks}
 use Rattle.crash_rules.specs.History.{History, observe, behind_boot}
 use Rattle.crash_rules.proofs.Interface.{observe-append, observe_quiet, with_effects}
-use Rattle.run_charges.specs.View.{outside_of, IsFront}
+use Rattle.run_charges.specs.View.{outside_of}
 use Rattle.run_charges.specs.Charges.{ArePowerStates, AreInstructionMoments, observed}
 use Rattle.run_charges.specs.Laws.{IsRunOfWords}
 use Rattle.run_charges.proofs.Moments.{first_start, other_starts, charge_last}
@@ -84,12 +84,12 @@ pub record SameDones (h k : History) : Type 0 where
   pub completed : k.completed ≡ h.completed
   pub since : k.since ≡ h.since
 
-taken_more : (gate : ℕ) (es : List Effect) (ws : List ℕ) (h : History)
-    → SameDones (observe gate es h) (observe gate (es ++ map (λ w. Take w) ws) h)
-taken_more gate es ws h =
+taken_more : (marks : Marks) (es : List Effect) (ws : List ℕ) (h : History)
+    → SameDones (observe marks es h) (observe marks (es ++ map (λ w. Take w) ws) h)
+taken_more marks es ws h =
     let fs : List Effect = map (λ w. Take w) ws in
-    let all : observe gate (es ++ fs) h ≡ with_effects fs (observe gate es h) =
-    observe-append gate es fs h ∙ observe_quiet gate fs (observe gate es h) (takes_elsewhere gate ws) in
+    let all : observe marks (es ++ fs) h ≡ with_effects fs (observe marks es h) =
+    observe-append marks es fs h ∙ observe_quiet marks fs (observe marks es h) (takes_elsewhere marks.gate ws) in
     record { completed = ap (λ k. k.completed) all; since = ap (λ k. k.since) all }
 
 module _ (on : PlacedProgram) where
@@ -101,14 +101,14 @@ module _ (on : PlacedProgram) where
     pub start : MachineBoard
     pub is_powered : on.program.IsPoweredUp start
     pub fram : start.fram ≡ (outside_of there).fram
-    pub readings : start.readings_left ≡ (outside_of there).readings_left
+    pub readings : start.inputs.readings ≡ (outside_of there).inputs.readings
     pub steps : ℕ
     pub price : ℕ
     pub halts : (going on.program.step steps start).status ≡ Halted price e
-    pub same : SameDones (observed on.gate r.moments h) (observe on.gate (going on.program.step steps start).effects (behind_boot before))
+    pub same : SameDones (observed on.marks r.moments h) (observe on.marks (going on.program.step steps start).effects (behind_boot before))
 
   module _ (b : BoardValue) (h : History) (r : RunOutcome) (e : Stop) (l : LastCharge b r e) (before : History)
-      (known : observed on.gate l.before h ≡ before) (at : Reached on b h l.there before) where
+      (known : observed on.marks l.before h ≡ before) (at : Reached on b h l.there before) where
     abbrev start : MachineBoard
     start = begun on l.there before at.ready l.charge.start l.start
 
@@ -123,18 +123,18 @@ module _ (on : PlacedProgram) where
         ≡ going on.program.step steps start
     made = program_runs on l.there before at.ready l.charge.start l.start steps _ stops_as.run
 
-    same : SameDones (observed on.gate r.moments h) (observe on.gate (going on.program.step steps start).effects (behind_boot before))
+    same : SameDones (observed on.marks r.moments h) (observe on.marks (going on.program.step steps start).effects (behind_boot before))
     same =
         let es = moments_effects l.own in
-        let now : observed on.gate r.moments h ≡ observe on.gate es (behind_boot before) =
-        ap (λ ms. observed on.gate ms h) l.moments
-        ∙ observed-append on.gate l.before (power_up_of l.there l.charge.start ∷ l.own) h
-        ∙ ap (λ k. observed on.gate l.own (behind_boot k)) known
-        ∙ instructions_observed on.gate l.own (behind_boot before)
+        let now : observed on.marks r.moments h ≡ observe on.marks es (behind_boot before) =
+        ap (λ ms. observed on.marks ms h) l.moments
+        ∙ observed-append on.marks l.before (power_up_of l.there l.charge.start ∷ l.own) h
+        ∙ ap (λ k. observed on.marks l.own (behind_boot k)) known
+        ∙ instructions_observed on.marks l.own (behind_boot before)
         (charge_instructs l.charge.measure l.charge.amount (powered l.there l.charge.start) (run_outcome l.own (Stopped e) l.end) l.stops) in
-        let P : History → Type 0 = λ k. SameDones k (observe on.gate (going on.program.step steps start).effects (behind_boot before)) in
-        let Q : List Effect → Type 0 = λ fs. SameDones (observe on.gate es (behind_boot before)) (observe on.gate fs (behind_boot before)) in
-        subst P (sym now) (subst Q (ap (λ q. q.effects) made) (taken_more on.gate es stops_as.last_taken (behind_boot before)))
+        let P : History → Type 0 = λ k. SameDones k (observe on.marks (going on.program.step steps start).effects (behind_boot before)) in
+        let Q : List Effect → Type 0 = λ fs. SameDones (observe on.marks es (behind_boot before)) (observe on.marks fs (behind_boot before)) in
+        subst P (sym now) (subst Q (ap (λ q. q.effects) made) (taken_more on.marks es stops_as.last_taken (behind_boot before)))
 
     halts_in : HaltsIn b h r e
     halts_in = record {
@@ -157,6 +157,6 @@ module _ (on : PlacedProgram) where
   run_halts cs b r h run ready e ends =
       let l = last_charge cs b r run.starts run.run e ends in
       let front = run_front cs b r l.before (power_up_of l.there l.charge.start ∷ l.own) run l.moments in
-      let before = observed on.gate l.before h in
+      let before = observed on.marks l.before h in
       let P : BoardValue → Type 0 = λ t. Reached on b h t before in
       halts_in b h r e l before refl (subst P l.at (front_reached on b h ready l.before front))

@@ -1,7 +1,7 @@
 -- What stays of a board until the next moment begins.
 use Rattle.std.proofs.Common.{◌≡◌, refl, sym, subst}
-use Rattle.crash_rules.specs.fram_board.Board.{BoardValue}
-use Rattle.crash_rules.specs.machine_effects.View.{IsWhole, IsOfWords}
+use Rattle.fram_board.specs.Board.{BoardValue}
+use Rattle.machine_effects.specs.View.{IsWhole, IsOfWords}
 use Rattle.run_charges.specs.View.{outside_of, Follows}
 
 -- what came from outside in between leaves all but itself as it was

@@ -1,20 +1,20 @@
 -- The charges of a board's run as charges of the machine.
 use Rattle.std.specs.Prelude.{◌≡◌, ℕ, ◌+◌, ◌*◌, ◌%◌, ◌<◌, ◌≤◌, List, [], ◌∷◌, ◌++◌, length, All}
-use Rattle.crash_rules.specs.address_space.Limits.{fram_first, fram_end, reset_vector}
-use Rattle.crash_rules.specs.msp_isa.declared.instructions.Instr.{Instr}
-use Rattle.crash_rules.specs.msp_step.declared.machine.Stop.{Stop}
-use Rattle.crash_rules.specs.fram_board.Board.{BoardValue, PowerState, powered}
-use Rattle.crash_rules.specs.fram_board.Steps.{IsPowerState}
-use Rattle.crash_rules.specs.fram_board.Effects.{Effect}
-use Rattle.crash_rules.specs.fram_board.Run.{Action, PowerUp, Execute, Moment, Charges, Stopped, RunOutcome, run_outcome, after_moments, BoardCharge}
-use Rattle.crash_rules.specs.fram_board.Run.{power_up_of}
-use Rattle.crash_rules.specs.machine_effects.World.{EachStore}
-use Rattle.crash_rules.specs.machine_effects.Going.{going}
-use Rattle.crash_rules.specs.machine_effects.Machine.{MachineBoard, MachineStretch, exec, machine_powered}
-use Rattle.crash_rules.specs.machine_effects.View.{IsMachineOfWords}
-use Rattle.crash_rules.specs.machine_effects.Runs.{SpendsAs, StopsAs, ReachesAs, last_board}
+use Rattle.address_space.specs.Limits.{fram_first, fram_end, reset_vector}
+use Rattle.msp_isa.specs.declared.instructions.Instr.{Instr}
+use Rattle.msp_step.specs.declared.machine.Stop.{Stop}
+use Rattle.fram_board.specs.Board.{BoardValue, PowerState, powered}
+use Rattle.fram_board.specs.Steps.{IsPowerState}
+use Rattle.fram_board.specs.Effects.{Effect}
+use Rattle.fram_board.specs.Run.{Action, PowerUp, Execute, Moment, Charges, Stopped, RunOutcome, run_outcome, after_moments, BoardCharge}
+use Rattle.fram_board.specs.Run.{power_up_of}
+use Rattle.machine_effects.specs.World.{EachStore}
+use Rattle.machine_effects.specs.Going.{going}
+use Rattle.machine_effects.specs.Machine.{MachineBoard, MachineStretch, exec, machine_powered}
+use Rattle.machine_effects.specs.View.{IsMachineOfWords}
+use Rattle.machine_effects.specs.Runs.{SpendsAs, StopsAs, ReachesAs, last_board}
 use Rattle.code_forms.specs.Placed.{placed, words_of, AreInstructions, LeavesCode}
-use Rattle.crash_rules.specs.Model.{IsElsewhere}
+use Rattle.crash_rules.specs.Model.{IsElsewhere, Marks}
 use Rattle.crash_rules.specs.History.{History, observe, behind_boot}
 use Rattle.crash_rules.specs.Runs.{Program, Charge, Charged}
 use Rattle.run_charges.specs.View.{outside_of, outside_effects, Follows}
@@ -79,19 +79,19 @@ pub data RunsAsMachine : List BoardCharge → BoardValue → RunOutcome → Type
       → StopsAs c.measure c.amount (powered b c.start) (run_outcome ms (Stopped stop) end) stop
       → RunsAsMachine (c ∷ cs) b (run_outcome (power_up_of b c.start ∷ ms) (Stopped stop) end)
 
--- the history behind an action with these effects, where GATE is at this address: behind a boot, or behind the effects of an instruction
-abbrev pub behind_action : ℕ → Action → List Effect → History → History
-behind_action gate PowerUp es k = behind_boot k
-behind_action gate (Execute done offered) es k = observe gate es k
+-- the history behind an action with these effects, by these marks: behind a boot, or behind the effects of an instruction
+abbrev pub behind_action : Marks → Action → List Effect → History → History
+behind_action marks PowerUp es k = behind_boot k
+behind_action marks (Execute done offered) es k = observe marks es k
 
 -- the history behind a moment
-abbrev pub behind_moment : ℕ → Moment → History → History
-behind_moment gate m k = behind_action gate m.action (outside_effects m) k
+abbrev pub behind_moment : Marks → Moment → History → History
+behind_moment marks m k = behind_action marks m.action (outside_effects m) k
 
 -- the history behind moments
-abbrev pub observed : ℕ → List Moment → History → History
-observed gate [] k = k
-observed gate (m ∷ ms) k = observed gate ms (behind_moment gate m k)
+abbrev pub observed : Marks → List Moment → History → History
+observed marks [] k = k
+observed marks (m ∷ ms) k = observed marks ms (behind_moment marks m k)
 
 -- charges as the crash theorem has them: the machine that a power-up left, and how many steps were made
 abbrev pub charges_of : List ChargeFront → List Charge
@@ -113,7 +113,7 @@ pub record LeavesProgram (p n : ℕ) (r : MachineStretch) : Type 0 where
   pub vector : EachStore (IsElsewhere reset_vector) r.effects
 
 -- wherever charges of a program lead, the steps of a further one are such
-abbrev pub AlwaysLeaves : Program → ℕ → ℕ → ℕ → MachineBoard → History → Type 0
-AlwaysLeaves c p n gate s h = (charges : List Charge) (t : MachineBoard) (k : History) → Charged c gate s h charges t k
-    → (q : MachineBoard) → c.IsPoweredUp q → q.fram ≡ t.fram → q.readings_left ≡ t.readings_left
+abbrev pub AlwaysLeaves : Program → ℕ → ℕ → Marks → MachineBoard → History → Type 0
+AlwaysLeaves c p n marks s h = (charges : List Charge) (t : MachineBoard) (k : History) → Charged c marks s h charges t k
+    → (q : MachineBoard) → c.IsPoweredUp q → q.fram ≡ t.fram → q.inputs.readings ≡ t.inputs.readings
     → (m : ℕ) → LeavesProgram p n (going c.step m q)

@@ -2,15 +2,15 @@
 -- the board, and nothing comes from outside between two moments. What is to run on a board beside its program, or to reach it between two
 -- steps, is said here.
 use Rattle.std.specs.Prelude.{◌≡◌, List, [], ◌∷◌, Ok}
-use Rattle.crash_rules.specs.msp_isa.declared.instructions.Instr.{Instr}
-use Rattle.crash_rules.specs.fram_board.declared.board.Stepped.{Stepped}
-use Rattle.crash_rules.specs.fram_board.Board.{BoardValue, PowerState, executed, IsNextInstruction}
-use Rattle.crash_rules.specs.fram_board.Steps.{IsPowerState}
-use Rattle.crash_rules.specs.fram_board.Effects.{Effect}
-use Rattle.crash_rules.specs.fram_board.Run.{PowerUp, Moment, moment_of, power_up_of}
-use Rattle.crash_rules.specs.machine_effects.Machine.{MachineBoard}
-use Rattle.crash_rules.specs.machine_effects.View.{machine_of, IsWhole, IsOfWords}
-use Rattle.crash_rules.specs.machine_effects.Runs.{action_effects}
+use Rattle.msp_isa.specs.declared.instructions.Instr.{Instr}
+use Rattle.fram_board.specs.declared.board.Stepped.{Stepped}
+use Rattle.fram_board.specs.Board.{BoardValue, PowerState, executed, IsNextInstruction}
+use Rattle.fram_board.specs.Steps.{IsPowerState}
+use Rattle.fram_board.specs.Effects.{Effect}
+use Rattle.fram_board.specs.Run.{PowerUp, Moment, moment_of, power_up_of}
+use Rattle.machine_effects.specs.Machine.{MachineBoard}
+use Rattle.machine_effects.specs.View.{machine_of, IsWhole, IsOfWords}
+use Rattle.machine_effects.specs.Runs.{action_effects}
 
 -- the machine that a board is to its program
 abbrev pub outside_of : BoardValue → MachineBoard

@@ -53,7 +53,7 @@ pub moved_to : (code : Code) (q q' n c : ℕ) (u : Core) (es : List Effect) (f :
     → Comes code es n c u (IsAt q' f inputs)
 moved_to code q q' n c u es f inputs e a = subst (λ x. Comes code es n c u (IsAt x f inputs)) e a
 
--- a stretch, and one from where it leads, whose effects and end depend on FRAM as it then is
-pub chain : (code : Code) (n n' c c' q : ℕ) (u : Core) (es fs : List Effect) (g : ℕ → ℕ) (inputs : Inputs) (Q : Core → Type 0) → Comes code es n c u (IsAt q g inputs)
-    → ((v : Core) → v.pc ≡ q → v.fram ≡ g → v.inputs ≡ inputs → Comes code fs n' c' v Q) → Comes code (es ++ fs) (n + n') (c + c') u Q
-chain code n n' c c' q u es fs g inputs Q a f = comes_on code n n' c c' u (IsAt q g inputs) Q es fs a (λ v h. f v h.pc h.fram h.inputs)
+-- what holds of a state's own FRAM and inputs holds of those that it is known to have
+pub known_at : {address : ℕ} {memory : ℕ → ℕ} {left : Inputs} {u : Core} (F : (ℕ → ℕ) → Inputs → Type 0) → IsAt address memory left u
+    → F u.fram u.inputs → F memory left
+known_at {memory = memory} {u = u} F h a = subst (F memory) h.inputs (subst (λ f. F f u.inputs) h.fram a)

@@ -11,8 +11,8 @@ use Rattle.runtime_effects.specs.Stages.{emits_sent, commit_effects}
 use Rattle.crash_rules.specs.Model.{HoldsThroughout}
 use Rattle.stands_for.specs.Layout.{ProgramPlaces, StateView, IsSharedWord, IsAmong, HaveRoom}
 use Rattle.stands_for.specs.StandsFor.{HoldsWords, words_at, RestsAt, IsPendingCommit, CommittingTo}
-use Rattle.stands_for.proofs.Keeps.{put_either, put_words}
-use Rattle.stands_for.proofs.Walks.{next_base, commit_before, through}
+use Rattle.stands_for.proofs.Keeps.{put_either, put_words, next_base}
+use Rattle.stands_for.proofs.Walks.{commit_before, through}
 use Rattle.stands_for.proofs.Behind.{IsHome, copies_behind, copies_related, closed, behind_commit, IsSent, one_sent, emits_received, words_alike}
 use Rattle.stands_for.proofs.Pending.{few, copies_apart, still_to_send}
 use Rattle.runtime_effects.specs.memory_map.MemoryMap.{MemoryMap, word_place}
@@ -223,10 +223,16 @@ pub committing : {St : Type 0} (l : ProgramPlaces) (v : StateView St) → AreApa
     → HoldsThroughout (CommittingTo l v to) (commit_before l.map x.fram) x
 committing l v apart room to x d =
     let p = d.pending in
-    through l.map x (p.words (word_place l.map SentBase)) (CommittingTo l v to) (IsWithin l apart room x p)
+    through l.map x (CommittingTo l v to) (IsWithin l apart room x p)
     (λ k y w. record {
       pending = within_pending l apart room x p k y w;
       rests = subst (RestsAt l v to) (sym (within_end l apart room x p k y w)) d.rests;
     })
-    (copy_within l apart room x p) (send_within l apart room x p) (cur_within l apart room x p) (base_within l apart room x p)
+    (copy_within l apart room x p)
+    (record {
+      small = p.words (word_place l.map SentBase);
+      sent = send_within l apart room x p;
+      current = cur_within l apart room x p;
+      based = base_within l apart room x p;
+    })
     (at_start l apart room x p)

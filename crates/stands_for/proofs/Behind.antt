@@ -12,8 +12,7 @@ use Rattle.runtime_effects.specs.Places.{CopyPair, listed}
 use Rattle.runtime_effects.specs.Stages.{copied_home, sends, emits_sent, commit_closed, commit_effects}
 use Rattle.stands_for.specs.Layout.{IsAmong}
 use Rattle.stands_for.specs.StandsFor.{words_at}
-use Rattle.stands_for.proofs.Keeps.{same_number}
-use Rattle.stands_for.proofs.Walks.{next_base}
+use Rattle.stands_for.proofs.Keeps.{same_number, next_base}
 use Rattle.runtime_effects.specs.memory_map.MemoryMap.{MemoryMap, word_place}
 use Rattle.runtime_effects.specs.memory_map.declared.words.RuntimeWord.TheVariants.{CurrentTask, NextTask, Gate, EmitCount, Base, SentBase}
 

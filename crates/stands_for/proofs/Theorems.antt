@@ -21,10 +21,10 @@ keeps_the_laws St l v privates p apart room start tasks =
       undecided_task = λ s x u. u.is_open.is_task;
       undecided_words = λ s x u. u.is_open.accepted;
       decided_words = λ s next x d. record {
-        sent = take d.decided.accepted.count d.emits;
-        unsent = drop d.decided.accepted.count d.emits;
-        accepted_is = d.decided.accepted.is;
-        to_is = d.decided.emitted ∙ ap (λ l. v.emitted s ++ l) (sym (take-append-drop d.decided.accepted.count d.emits));
+        sent = take d.decided.sends.accepted.count d.emits;
+        unsent = drop d.decided.sends.accepted.count d.emits;
+        accepted_is = d.decided.sends.accepted.is;
+        to_is = d.decided.sends.emitted ∙ ap (λ l. v.emitted s ++ l) (sym (take-append-drop d.decided.sends.accepted.count d.emits));
       };
       decided_commits = λ s next x d inputs. commit_keeps l v p apart _ next inputs x (decided_committing l apart room v s next x d)
           (stays_decided l apart room v s next x d);
