@@ -16,7 +16,7 @@ use Rattle.source_values.specs.Statements as source
 use Rattle.source_values.specs.Statements.{Outcome, goes_on, to_task, if_value, with_value, run_statement, run_choice, run_block, statement_emits, choice_emits}
 use Rattle.source_values.specs.Statements.{block_emits}
 use Rattle.cost_bound.specs.Counts.{statement_count, choice_count, block_count, is_shared, is_store_to, stores_of}
-use Rattle.source_values.proofs.Interface.{IsBehind, made_behind, both_behind, more_turns}
+use Rattle.source_values.proofs.Interface.{IsBehind, made_behind, more_turns}
 use Rattle.task_ast.specs.Types.{IsOneWord, type_of, joined_type}
 use Rattle.task_ast.specs.declared.WordType.{WordType}
 use Rattle.task_ast.specs.declared.WordType.TheVariants.{Unsigned, Int, Long}
@@ -44,7 +44,7 @@ use Rattle.lower.specs.Agreement.{at_variable, at_emit_count, in_buffer, valued,
 use Rattle.lower.specs.Agreement.{AgreesWithValue, AgreesWithLong, BlocksAgree}
 use Rattle.lower.proofs.Addresses.{fram_place, placed, spot_place, first_address}
 use Rattle.lower.proofs.Updates.{is_update, update_goes_on, is_element_update, element_update_goes_on, is_of_words, joined_words}
-use Rattle.lower.proofs.Assigned.{word_value, word_as_value, if_same, if_converted, both_assigned, assigned_as, same_conversion, words_commute}
+use Rattle.lower.proofs.Assigned.{both_behind, word_value, word_as_value, if_same, if_converted, both_assigned, assigned_as, same_conversion, words_commute}
 use Rattle.lower.proofs.Values.{small_modulo, holds_bit, truth_pushed}
 use Rattle.lower.proofs.Longs.{test_agrees}
 use Rattle.lower.proofs.EachExpression.{high_is, lowering_agrees, expressions_agree, longs_agree}
