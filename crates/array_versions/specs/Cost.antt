@@ -126,15 +126,15 @@ abbrev mutual
   cycles_of (step first more) = step_cycles first + cycles_of more
 
 abbrev mutual
-  -- the words of a step's code, at most
+  -- the words of a step's code, at most. A step that names a local has two more, with which the place of the stack may be set in front of all
   pub step_words : Step → ℕ
   step_words (number w) = 2
   step_words (load a) = 2
   step_words (keep a) = 2
   step_words (update op a) = 2
-  step_words (local n) = 2
-  step_words (set_local n) = 2
-  step_words (update_local op n) = 6
+  step_words (local n) = 4
+  step_words (set_local n) = 4
+  step_words (update_local op n) = 8
   step_words (unary op) = unary_words op
   step_words (binary op) = binary_words op
   step_words (shift op k) = 2 + (if nat_le k 15 then shift_words op k else 1)
@@ -148,7 +148,7 @@ abbrev mutual
   step_words sense = 3
   step_words (truth t) = test_words t + 3
   step_words (choose t taken otherwise) = test_words t + 2 + words_of taken + words_of otherwise
-  step_words (repeat n from below body) = 13 + words_of body
+  step_words (repeat n from below body) = 15 + words_of body
   step_words (store_number a w) = 3
   step_words (move_word from to) = 3
   step_words (jump to) = 2

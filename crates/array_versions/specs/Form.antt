@@ -1,6 +1,6 @@
 -- What a program must have so that code can be made of it: each way through it, with conditions free and loops with their turns,
 -- ends in a jump, takes no word from an empty stack, and reads no local before it is assigned; and there is room.
-use Rattle.std.specs.Prelude.{ℕ, zero, suc, ◌+◌, ◌-◌, ◌*◌, ◌%◌, ◌≡◌, ◌≢◌, ◌<◌, ◌≤◌, ◌||◌, Bool, true, false, nat_eq}
+use Rattle.std.specs.Prelude.{ℕ, zero, suc, ◌+◌, ◌-◌, ◌*◌, ◌%◌, ◌≡◌, ◌≢◌, ◌<◌, ◌≤◌, ◌||◌, Bool, true, false, nat_eq, max}
 use Rattle.machine_effects.specs.alp_words.Words.{IsWord}
 use Rattle.array_versions.specs.declared.program.ArrayPlace.{ArrayPlace}
 use Rattle.array_versions.specs.declared.program.ListPlace.{ListPlace}
@@ -103,6 +103,30 @@ abbrev mutual
   LocalsBelow locals (step first more) = StepLocalsBelow locals first × LocalsBelow locals more
 
 abbrev mutual
+  -- one more than the greatest local that a step names; 0 where it names none
+  pub step_locals : Step → ℕ
+  step_locals (local n) = n + 1
+  step_locals (set_local n) = n + 1
+  step_locals (update_local op n) = n + 1
+  step_locals (truth t) = test_locals t
+  step_locals (choose t taken otherwise) = max (test_locals t) (max (locals_of taken) (locals_of otherwise))
+  step_locals (repeat n from below body) = max (n + 1) (locals_of body)
+  step_locals _ = 0
+
+  -- the same of a test
+  pub test_locals : Test → ℕ
+  test_locals (holds p) = locals_of p
+  test_locals (compares op p) = locals_of p
+  test_locals (both t u) = max (test_locals t) (test_locals u)
+  test_locals (either t u) = max (test_locals t) (test_locals u)
+  test_locals (fails t) = test_locals t
+
+  -- the same of a program
+  pub locals_of : Program → ℕ
+  locals_of nothing = 0
+  locals_of (step first more) = max (step_locals first) (locals_of more)
+
+abbrev mutual
   -- a step assigns no local of this number
   pub StepSpares : ℕ → Step → Type 0
   StepSpares n (set_local m) = m ≢ n
@@ -201,7 +225,7 @@ abbrev mutual
   OfWords nothing = Unit {0}
   OfWords (step first more) = StepOfWords first × OfWords more
 
--- a program that is whole: its locals stand from 1C20 on, its stack grows down from 2400, and each of its ways ends in a jump
+-- a program that is whole: RAM has room for its locals and the stack below them, above the 32 bytes at its beginning; and each of its ways ends in a jump
 pub record IsWhole (p : Program) : Type 0 where
   pub locals : ℕ  -- each local is below this number
   pub room : ℕ  -- no way has more words on the stack

@@ -54,7 +54,7 @@ pub fn local_address(n: u16) -> u16
     requires { n < 1008 }
     ensures { result ≡ place.local_address n }
 {
-    0x1c20 + 2 * n
+    0x240e - 2 * n
 }
 
 /// A local as what MOV writes.

@@ -15,6 +15,7 @@ use Rattle.compiled_model.specs.linked_code.Rooms.{PrivatesAreCounted}
 use Rattle.compiled_model.specs.array_versions.Program.{Program}
 use Rattle.compiled_model.specs.array_versions.Behaviour.{WordState, End, GoesOn, Jumps, Short, Strays, Broken, behaviour, started}
 use Rattle.compiled_model.specs.array_versions.Cost.{spent}
+use Rattle.compiled_model.specs.word_code.Code.{stack_cycles}
 use Rattle.compiled_model.specs.privatise.Layouts.{IsLayout}
 use Rattle.compiled_model.proofs.lower.Interface.{program_at, blocks_keep_to_cycles}
 use Rattle.compiled_model.proofs.runtime_effects.Interface.{scalar_pairs_count}
@@ -42,9 +43,9 @@ entries_cost l layout Short = omega arith
 entries_cost l layout Strays = omega arith
 entries_cost l layout Broken = omega arith
 
--- a boot, a start with the clearing of versions and the copies of private words, the body, the entries, and the commit
+-- a boot, a start with the clearing of versions and the copies of private words, the place of the stack, the body, the entries, and the commit
 all_within : (v1 v2 privates scalars body price list emits : ℕ) → v1 ≡ v2 → privates ≤ scalars → body ≤ price + 26 * privates
-    → 9 + start_cycles true v1 privates + body + commit_cycles list list emits
+    → 9 + start_cycles true v1 privates + (stack_cycles + body) + commit_cycles list list emits
     ≤ 400 + 12 * v2 + 72 * scalars + price + 40 * list + 40 * emits
 all_within v1 v2 privates scalars body price list emits v e b =
     let clears = if_any_most v1 2 in let copies = if_any_most privates 3 in let lists = if_any_most list 2 in let sends = if_any_most emits 2 in

@@ -7,7 +7,7 @@ use Rattle.linked_code.specs.cost_bound.Counts.{emits_of}
 use Rattle.lower.specs.source_values.Runs.{CheckedProgram, State, task_body}
 use Rattle.linked_code.specs.array_versions.Behaviour.{End, GoesOn, Jumps, Short, Strays, Broken, behaviour, started}
 use Rattle.linked_code.specs.array_versions.Form.{IsWhole, OfWords}
-use Rattle.linked_code.specs.array_versions.Cost.{spent}
+use Rattle.linked_code.specs.word_code.Code.{code_spent}
 use Rattle.linked_code.specs.memory_map.MemoryMap.{MemoryMap}
 use Rattle.linked_code.specs.boot_runtime.Entries.{task_entries}
 use Rattle.linked_code.specs.boot_runtime.Listing.{privates_in, start_cycles}
@@ -22,7 +22,7 @@ use Rattle.compiled_model.specs.Parts.{task_program, compiled_model}
 -- words, the body and the commit, of as many entries as words: each may be a run of its own
 abbrev pub whole_cycles : CheckedProgram → MemoryMap → ℕ → (ℕ → ℕ) → Inputs → ℕ
 whole_cycles p l t fram inputs =
-    9 + start_cycles true l.versions.words (length (privates_in (task_entries l) t)) + spent (task_program p l t) (started fram inputs)
+    9 + start_cycles true l.versions.words (length (privates_in (task_entries l) t)) + code_spent (task_program p l t) (started fram inputs)
     + commit_cycles (list_of p.shared (task_body p t)) (list_of p.shared (task_body p t)) (emits_of (task_body p t))
 
 -- each task keeps to its bound, whatever FRAM holds and whatever the inputs are; and where there is a task, a boot with the commit of a

@@ -12,7 +12,7 @@ use Rattle.compiled_model.specs.code_forms.Code.{Runs, Starves}
 use Rattle.compiled_model.proofs.crash_rules.Interface.{world_fram}
 use Rattle.compiled_model.specs.source_values.Runs.{CheckedProgram, State}
 use Rattle.compiled_model.specs.array_versions.Behaviour.{WordState, Behaviour, End, GoesOn, Jumps, Short as Lacks, Strays, Broken, behaviour, started}
-use Rattle.compiled_model.specs.array_versions.Cost.{spent}
+use Rattle.compiled_model.specs.word_code.Code.{code_spent}
 use Rattle.compiled_model.specs.array_versions.Laws.{EndsByEffects}
 use Rattle.compiled_model.proofs.array_versions.Interface.{behaves_by_effects}
 use Rattle.compiled_model.specs.word_code.Laws.{HasJumped, ComesTo}
@@ -252,7 +252,7 @@ module _ (p : CheckedProgram) (l : MemoryMap) (r : CanRun p l) (laws : ModelLaws
       body = body_there l (lowered l p) r.fits are_whole there.end k g u.inputs there.holds program_named start_words words
 
       jumps_on : (to : ℕ) (w : WordState) → b.end ≡ Jumps to w → to ≡ l.commit.address
-          → Runs code b.effects (spent (task_program p l k) (started g u.inputs)) there.end (HasJumped to w)
+          → Runs code b.effects (code_spent (task_program p l k) (started g u.inputs)) there.end (HasJumped to w)
           → IsDecidedBehind s u.fram (es ++ b.effects) → Makes c m.delay (cost k) (script_by (Jumps to w)) (board_of u)
       jumps_on to w e t q d =
           let by = subst (EndsByEffects (started g u.inputs) b.effects) e (behaves_by_effects (task_program p l k) (started g u.inputs)) in
@@ -283,7 +283,7 @@ module _ (p : CheckedProgram) (l : MemoryMap) (r : CanRun p l) (laws : ModelLaws
             lacks = λ z. absurd (cc (z));
           }
 
-      lacks_on : Starves code b.effects (spent (task_program p l k) (started g u.inputs)) there.end
+      lacks_on : Starves code b.effects (code_spent (task_program p l k) (started g u.inputs)) there.end
           → Makes c m.delay (cost k) (script_by Lacks) (board_of u)
       lacks_on q =
           let all = join_stall (exec code) to_steps q.steps es b.effects to_cycles q.cycles (board_of u) (board_of there.end) q.price stop.NoReading
@@ -300,7 +300,7 @@ module _ (p : CheckedProgram) (l : MemoryMap) (r : CanRun p l) (laws : ModelLaws
           }
 
       by_end : (e : End) → b.end ≡ e → LeavesFor l.commit.address e
-          → ComesTo code (spent (task_program p l k) (started g u.inputs)) there.end b.effects e → Makes c m.delay (cost k) (script_by e) (board_of u)
+          → ComesTo code (code_spent (task_program p l k) (started g u.inputs)) there.end b.effects e → Makes c m.delay (cost k) (script_by e) (board_of u)
       by_end (Jumps to w) e t q =
           jumps_on to w e t q (decided_behind s x u.inputs (m.task s u.inputs) (m.attempt u.fram u.inputs) contract (ap has_jumped e))
       by_end Lacks e t q = lacks_on q

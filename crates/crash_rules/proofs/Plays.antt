@@ -1,6 +1,6 @@
 -- From whole scripts to any number of steps, and to any charges.
 use Rattle.std.proofs.Common.{◌≡◌, ℕ, zero, suc, ◌+◌, ◌-◌, ◌<◌, ◌≤◌, List, [], ◌∷◌, ◌++◌, length, drop, refl, sym, ap, ap₂, ◌∙◌, subst, ⊎_elim, arith, Bool}
-use Rattle.std.proofs.Common.{true, false, cond, nat_lt, append_assoc, All, ltb-true, ltb-false}
+use Rattle.std.proofs.Common.{true, false, cond, nat_lt, append_assoc, ltb-true, ltb-false}
 use Rattle.std.proofs.lemmas.Bool.{cases_lt}
 use Rattle.std.proofs.lemmas.List.{drop-drop}
 use Rattle.machine_effects.specs.msp_step.declared.machine.Stop.{Stop}
@@ -10,14 +10,14 @@ use Rattle.machine_effects.specs.World.{World, world_after_one, world_after, fra
 use Rattle.machine_effects.specs.Going.{At, Halted, stretch, after_effects, going, Leads, Stalls}
 use Rattle.machine_effects.specs.Machine.{MachineBoard}
 use Rattle.machine_effects.proofs.Interface.{world_after-append, each_store-append, behind_exactly}
-use Rattle.crash_rules.specs.Model.{Model, ModelLaws, Outcome, Ends, Short, AttemptContract, ProgramEffects, program_effects, IsWord, bound, greatest}
+use Rattle.crash_rules.specs.Model.{Outcome, Ends, Short, AttemptContract, ProgramEffects, program_effects, bound, greatest}
 use Rattle.crash_rules.specs.Model.{Inputs, InputsAreWords, inputs_behind, with_commit, attempt_from}
 use Rattle.crash_rules.specs.History.{History, Done, observe, inputs_from}
 use Rattle.crash_rules.specs.Runs.{Program, AtEntry, Makes, ProgramLaws}
-use Rattle.crash_rules.specs.Laws.{Origin, IsLawful, Matches, AreConsecutive, ScriptsStore}
+use Rattle.crash_rules.specs.Laws.{IsLawful, Matches, AreConsecutive, ScriptsStore}
 use Rattle.crash_rules.proofs.Lists.{world_fram, each_prefix}
 use Rattle.crash_rules.proofs.Observed.{observe-append, observed_taken, observed_world}
-use Rattle.crash_rules.proofs.Cuts.{ChargeEffects, partial, complete, Point, Next, Grows, Stayed, Finished, Spans, EndsShort, done_of, point_part}
+use Rattle.crash_rules.proofs.Cuts.{Setting, ChargeEffects, partial, complete, Point, Next, Grows, Stayed, Finished, Spans, EndsShort, done_of, point_part}
 use Rattle.crash_rules.proofs.Cuts.{point_grows, point_whole, point_some, point_short, phase_of}
 use Rattle.crash_rules.proofs.Cuts.{script_at, script_u, script_d, words_left, short_effects, owed_from}
 use Rattle.crash_rules.proofs.Steps.{halts, fewer, leads_end, stalls_end, no_steps, Changed, changed}
@@ -50,16 +50,22 @@ widen c delay most more p b le k =
       lacks = λ e. let r = k.lacks e in let l = r.within in record { price = r.price; within = omega (arith, l, le); stalls = r.stalls };
     }
 
-module _ {St : Type 0} (m : Model St) (laws : ModelLaws m) (c : Program) (code : ProgramLaws m c) (readings : List ℕ) (words : All IsWord readings)
-    (origin : Origin St) where
+-- by the value of a Bool
+pub by_value : {P : Type 0} (b : Bool) → (b ≡ true → P) → (b ≡ false → P) → P
+by_value true t f = t refl
+by_value false t f = f refl
+
+module _ {St : Type 0} (given : Setting St) (c : Program) (code : ProgramLaws given.model c) where
+  open given use {model as m, laws, readings, origin}
+
   abbrev pub AtPoint : History → Type 0
-  AtPoint h = Point m laws readings words origin h
+  AtPoint h = Point given h
 
   abbrev pub script_there : History → ProgramEffects
-  script_there h = script_at m laws readings words origin h
+  script_there h = script_at given h
 
   abbrev pub IsCharge : History → List Effect → Type 0
-  IsCharge h es = ChargeEffects m laws readings words origin h es
+  IsCharge h es = ChargeEffects given h es
 
   -- behind the whole script there
   abbrev pub behind_script : History → History
@@ -96,17 +102,17 @@ module _ {St : Type 0} (m : Model St) (laws : ModelLaws m) (c : Program) (code :
       let i : b.inputs ≡ inputs_there h = inputs_are b h t.matches in
       ⊎_elim
       (λ u.
-      let ws : InputsAreWords b.inputs = subst InputsAreWords (sym i) (words_left m laws readings words origin h) in
+      let ws : InputsAreWords b.inputs = subst InputsAreWords (sym i) (words_left given h) in
       let mk = makes_attempt h.booted u.state h.world b t.entry f ws u.holds u.ready in
       let same : with_commit m b.fram b.inputs (attempt_from m h.booted b.fram b.inputs) ≡ script_there h =
-      ap₂ (λ g j. with_commit m g j (attempt_from m h.booted g j)) f i ∙ sym (script_u m laws readings words origin h u) in
+      ap₂ (λ g j. with_commit m g j (attempt_from m h.booted g j)) f i ∙ sym (script_u given h u) in
       subst (λ q. Makes c m.delay (bound m) q b) same
       (widen c m.delay _ _ _ b (below_greatest m.task_cost m.tasks (m.task_number u.state) (laws.undecided_task u.state h.world u.holds)) mk))
       (λ d.
       let same : program_effects (m.commit b.fram b.inputs) true ≡ script_there h =
-      ap₂ (λ g j. program_effects (m.commit g j) true) f i ∙ sym (script_d m laws readings words origin h d) in
+      ap₂ (λ g j. program_effects (m.commit g j) true) f i ∙ sym (script_d given h d) in
       subst (λ q. Makes c m.delay (bound m) q b) same (makes_commit h.booted d.to h.world b t.entry f d.holds d.booted))
-      (phase_of m laws readings words origin h t.point)
+      (phase_of given h t.point)
 
   -- a board behind effects holds what the history behind them says
   pub matches_more : (b t : MachineBoard) (h : History) (es : List Effect) → Matches readings b h → Changed b es t
@@ -127,7 +133,7 @@ module _ {St : Type 0} (m : Model St) (laws : ModelLaws m) (c : Program) (code :
     pub within : cycles + m.delay board.inputs ≤ bound m + m.delay b.inputs
     pub leads : Leads c.step steps (script_there h).effects cycles b board
     pub whole : (script_there h).ends ≡ true
-    pub next : Next m laws readings words origin h (behind_script h)
+    pub next : Next given h (behind_script h)
     pub there : IsThere board (behind_script h)
     pub some : 0 < steps
 
@@ -138,9 +144,9 @@ module _ {St : Type 0} (m : Model St) (laws : ModelLaws m) (c : Program) (code :
       let t = r.end in
       let es = (script_there h).effects in
       let end = leads_end c.step mk.steps es mk.cycles b t r.leads in
-      let n = point_whole m laws readings words origin h k.point e in
+      let n = point_whole given h k.point e in
       let ch : Changed b es t = subst (λ l. Changed b l t) (ap (λ q. q.effects) end) (changed c.step code.changes mk.steps b t (ap (λ q. q.status) end)) in
-      let none : mk.steps ≡ 0 → ⊥ = λ z. point_some m laws readings words origin h k.point e (no_steps c.step mk.steps es mk.cycles b t z r.leads) in
+      let none : mk.steps ≡ 0 → ⊥ = λ z. point_some given h k.point e (no_steps c.step mk.steps es mk.cycles b t z r.leads) in
       record {
         steps = mk.steps;
         cycles = mk.cycles;
@@ -186,29 +192,25 @@ module _ {St : Type 0} (m : Model St) (laws : ModelLaws m) (c : Program) (code :
       subst (IsCharge h) is (complete r.whole (next j i)))
       (cases_lt k r.steps)
 
-  plays_end : (k : ℕ) (h : History) (b : MachineBoard) → IsThere b h → Makes c m.delay (bound m) (script_there h) b
-      → ((r : Round h b) (j : ℕ) → r.steps + j ≡ k → IsCharge (behind_script h) (going c.step j r.board).effects) → (v : Bool)
-      → (script_there h).ends ≡ v → IsCharge h (going c.step k b).effects
-  plays_end k h b t mk next true e = let r = round h b t mk e in round_plays k h b r (next r)
-  plays_end k h b t mk next false e = let l = mk.lacks e in stalled k mk.steps mk.cycles l.price stop.NoReading h b l.stalls
-
   pub plays_from : (fuel k : ℕ) (h : History) (b : MachineBoard) → k < fuel → IsThere b h → IsCharge h (going c.step k b).effects
   plays_from zero k h b le t = absurd (omega (arith, le))
   plays_from (suc fuel) k h b le t =
-      plays_end k h b t (makes_script h b t)
-      (λ r j i. let some = r.some in plays_from fuel j (behind_script h) r.board (omega (arith, le, some, i)) r.there)
-      (script_there h).ends refl
+      let mk = makes_script h b t in
+      by_value (script_there h).ends
+      (λ e. let r = round h b t mk e in let some = r.some in
+      round_plays k h b r (λ j i. plays_from fuel j (behind_script h) r.board (omega (arith, le, some, i)) r.there))
+      (λ e. let l = mk.lacks e in stalled k mk.steps mk.cycles l.price stop.NoReading h b l.stalls)
 
   -- a history behind a whole script and more
   behind_more : (es : List Effect) (h : History) → observe m.marks ((script_there h).effects ++ es) h ≡ observe m.marks es (behind_script h)
   behind_more es h = observe-append m.marks (script_there h).effects es h
 
-  whole_there : (h : History) → AtPoint h → (script_there h).ends ≡ true → Next m laws readings words origin h (behind_script h)
-  whole_there h p e = point_whole m laws readings words origin h p e
+  whole_there : (h : History) → AtPoint h → (script_there h).ends ≡ true → Next given h (behind_script h)
+  whole_there h p e = point_whole given h p e
 
   -- what holds of each cut, over whole charges
   pub charge_cut : (h : History) (es : List Effect) → IsCharge h es → AtPoint h → IsLawful m readings origin (observe m.marks es h)
-  charge_cut h es (partial pre) p = (point_part m laws readings words origin h es p pre).lawful
+  charge_cut h es (partial pre) p = (point_part given h es p pre).lawful
   charge_cut h es (complete {es = more} e ce) p =
       subst (IsLawful m readings origin) (sym (behind_more more h)) (charge_cut (behind_script h) more ce (whole_there h p e).point)
 
@@ -222,21 +224,21 @@ module _ {St : Type 0} (m : Model St) (laws : ModelLaws m) (c : Program) (code :
   spans_join from (d ∷ ds) es mid to a b = (a.0, spans_join d.span_to ds es mid to a.1 b)
 
   pub charge_spans : (h : History) (es : List Effect) → IsCharge h es → AtPoint h → h.decided ≡ false
-      → Spans m laws readings words origin h (observe m.marks es h)
-  charge_spans h es (partial pre) p u = (point_part m laws readings words origin h es p pre).spans
+      → Spans given h (observe m.marks es h)
+  charge_spans h es (partial pre) p u = (point_part given h es p pre).spans
   charge_spans h es (complete {es = more} e ce) p u =
       let n = whole_there h p e in
       let k = behind_script h in
       let r = charge_spans k more ce n.point n.undecided in
       let sp = n.span u in
       let one : AreConsecutive h.since (n.done ∷ []) k.since = (sp.0, sp.1) in
-      let s : Spans m laws readings words origin h (observe m.marks more k) =
+      let s : Spans given h (observe m.marks more k) =
       record {
         dones = (n.done ∷ []) ++ r.dones;
         completed = r.completed ∙ ap (λ l. l ++ r.dones) n.completed ∙ append_assoc h.completed (n.done ∷ []) r.dones;
         follow = λ z. spans_join h.since (n.done ∷ []) r.dones k.since _ one (r.follow n.undecided);
       } in
-      subst (Spans m laws readings words origin h) (sym (behind_more more h)) s
+      subst (Spans given h) (sym (behind_more more h)) s
 
   -- from a pending commit on no done comes, or one, behind which the dones follow one another
   pub data SpansPast (h k : History) : Type 0 where
@@ -244,11 +246,11 @@ module _ {St : Type 0} (m : Model St) (laws : ModelLaws m) (c : Program) (code :
     PastDone : (d : Done) (ds : List Done) → k.completed ≡ h.completed ++ (d ∷ ds) → AreConsecutive h.taken ds k.since → SpansPast h k
 
   pub charge_past : (h : History) (es : List Effect) → IsCharge h es → AtPoint h → h.decided ≡ true → SpansPast h (observe m.marks es h)
-  charge_past h es (partial pre) p u = past (point_grows m laws readings words origin h es p u pre)
+  charge_past h es (partial pre) p u = past (point_grows given h es p u pre)
     where
-      past : Grows m laws readings words origin h (observe m.marks es h) → SpansPast h (observe m.marks es h)
+      past : Grows given h (observe m.marks es h) → SpansPast h (observe m.marks es h)
       past (Stayed a b) = NoDone a
-      past (Finished a b) = PastDone (done_of m laws readings words origin h (observe m.marks es h).world) [] a (sym b)
+      past (Finished a b) = PastDone (done_of given h (observe m.marks es h).world) [] a (sym b)
   charge_past h es (complete {es = more} e ce) p u =
       let n = whole_there h p e in
       let k = behind_script h in
@@ -262,7 +264,7 @@ module _ {St : Type 0} (m : Model St) (laws : ModelLaws m) (c : Program) (code :
   -- a machine that halts does so for want of a reading, where the source is short
   pub record HaltsShort (k : History) (e : Stop) : Type 0 where
     pub reading : e ≡ stop.NoReading
-    pub short : EndsShort m laws readings words origin k
+    pub short : EndsShort given k
 
   -- a halt behind so many steps
   abbrev pub Halts : ℕ → MachineBoard → ℕ → Stop → Type 0
@@ -301,28 +303,23 @@ module _ {St : Type 0} (m : Model St) (laws : ModelLaws m) (c : Program) (code :
       let i : n + 1 + k ≡ k + (n + 1) = omega arith in
       let there : going c.step k b ≡ stretch es mk.cycles (Halted st.price stop.NoReading) = sym (halts c.step k (n + 1) b price e x)
       ∙ ap (λ j. going c.step j b) (sym i) ∙ stalls_end c.step n es mk.cycles b st.price stop.NoReading st.stalls k in
-      let sh = point_short m laws readings words origin h p lacking in
+      let sh = point_short given h p lacking in
       let status : Halted price e ≡ Halted st.price stop.NoReading = sym x ∙ ap (λ q. q.status) there in
       let reason : e ≡ stop.NoReading = cc status in
       record {
         reading = reason;
-        short = subst (λ q. EndsShort m laws readings words origin (observe m.marks q.effects h)) (sym there) sh;
+        short = subst (λ q. EndsShort given (observe m.marks q.effects h)) (sym there) sh;
       }
-
-  halts_end : (k : ℕ) (h : History) (b : MachineBoard) (price : ℕ) (e : Stop) → IsThere b h
-      → Makes c m.delay (bound m) (script_there h) b → Halts k b price e
-      → ((r : Round h b) (j : ℕ) → r.steps + j ≡ k → Halts j r.board price e → ShortBehind j r.board (behind_script h) e) → (v : Bool)
-      → (script_there h).ends ≡ v → ShortBehind k b h e
-  halts_end k h b price e t mk x next true q = let r = round h b t mk q in round_halts k h b price e r x (next r)
-  halts_end k h b price e t mk x next false q = stall_halts k h b price e mk t.point q x
 
   pub halted_from : (fuel k : ℕ) (h : History) (b : MachineBoard) (price : ℕ) (e : Stop) → k < fuel → IsThere b h → Halts k b price e
       → ShortBehind k b h e
   halted_from zero k h b price e le t x = absurd (omega (arith, le))
   halted_from (suc fuel) k h b price e le t x =
-      halts_end k h b price e t (makes_script h b t) x
-      (λ r j i y. let some = r.some in halted_from fuel j (behind_script h) r.board price e (omega (arith, le, some, i)) r.there y)
-      (script_there h).ends refl
+      let mk = makes_script h b t in
+      by_value (script_there h).ends
+      (λ q. let r = round h b t mk q in let some = r.some in
+      round_halts k h b price e r x (λ j i y. halted_from fuel j (behind_script h) r.board price e (omega (arith, le, some, i)) r.there y))
+      (λ q. stall_halts k h b price e mk t.point q x)
 
   -- where each recovery, each attempt and each commit stores only so, any number of steps does
   module _ (P : ℕ → ℕ → Type 0) (scripts : ScriptsStore m P) where
@@ -340,7 +337,7 @@ module _ {St : Type 0} (m : Model St) (laws : ModelLaws m) (c : Program) (code :
         let both : EachStore P (with_commit m x.fram inputs (program_effects es true)).effects =
         each_store-append P es (m.commit (fram_after es x.fram) rest) q2 committed in
         subst (λ p. EachStore P (with_commit m x.fram inputs p).effects) (sym k.is) both
-    attempt_stores s x inputs Short r k q = subst (EachStore P) (sym (short_effects m laws readings words origin s x.fram inputs x r k)) q
+    attempt_stores s x inputs Short r k q = subst (EachStore P) (sym (short_effects given s x.fram inputs x r k)) q
 
     -- an attempt behind a boot or a done does
     attempt_from_stores : (booted : Bool) (s : St) (x : World) (inputs : Inputs) → InputsAreWords inputs → m.Undecided s x
@@ -354,14 +351,14 @@ module _ {St : Type 0} (m : Model St) (laws : ModelLaws m) (c : Program) (code :
     script_stores : (h : History) → AtPoint h → EachStore P (script_there h).effects
     script_stores h p =
         let i : Inputs = inputs_there h in
-        let ws = words_left m laws readings words origin h in
+        let ws = words_left given h in
         ⊎_elim
-        (λ u. subst (λ q. EachStore P q.effects) (sym (script_u m laws readings words origin h u))
+        (λ u. subst (λ q. EachStore P q.effects) (sym (script_u given h u))
         (attempt_stores u.state h.world i (m.task u.state i) (attempt_from m h.booted h.world.fram i)
-        (owed_from m laws readings words origin h.booted u.state h.world i ws u.holds u.ready)
+        (owed_from given h.booted u.state h.world i ws u.holds u.ready)
         (attempt_from_stores h.booted u.state h.world i ws u.holds u.ready)))
-        (λ d. subst (λ q. EachStore P q.effects) (sym (script_d m laws readings words origin h d)) (scripts.commits d.to h.world i d.holds))
-        (phase_of m laws readings words origin h p)
+        (λ d. subst (λ q. EachStore P q.effects) (sym (script_d given h d)) (scripts.commits d.to h.world i d.holds))
+        (phase_of given h p)
 
     pub charge_stores : (h : History) (es : List Effect) → IsCharge h es → AtPoint h → EachStore P es
     charge_stores h es (partial pre) p = each_prefix P es (script_there h).effects pre (script_stores h p)

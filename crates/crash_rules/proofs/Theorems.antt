@@ -1,8 +1,9 @@
 -- The laws of runs that are cut anywhere.
 use Rattle.std.proofs.Common.{◌≡◌, ℕ, suc, List, [], ◌∷◌, ◌++◌, refl, sym, ap, ◌==◌, ◌∙◌, subst, arith, true, false, All, append_assoc, append-nil}
+use Rattle.machine_effects.specs.msp_step.declared.machine.Stop.{Stop}
 use Rattle.machine_effects.specs.fram_board.Effects.{Effect}
 use Rattle.machine_effects.specs.World.{World}
-use Rattle.machine_effects.specs.Going.{going}
+use Rattle.machine_effects.specs.Going.{Halted, going}
 use Rattle.machine_effects.specs.Machine.{MachineBoard}
 use Rattle.crash_rules.specs.Model.{Model, ModelLaws, Marks, IsWord, IsBetween}
 use Rattle.crash_rules.specs.History.{Done, History, observe, behind_boot, first_history, decided_inputs}
@@ -13,16 +14,17 @@ use Rattle.crash_rules.specs.Laws.{StopsShort, NeverLost, SentOnce, PendingSends
 use Rattle.crash_rules.specs.Laws.{RunsMayBegin}
 use Rattle.crash_rules.proofs.Lists.{nothing_first}
 use Rattle.crash_rules.proofs.Observed.{accepted_more}
-use Rattle.crash_rules.proofs.Cuts.{booted}
+use Rattle.crash_rules.proofs.Cuts.{Setting, booted}
 use Rattle.crash_rules.proofs.Plays.{AtPoint, IsThere, IsCharge, plays_from, lawful_from, matches_more, charge_spans, SpansPast, NoDone, PastDone, charge_past}
-use Rattle.crash_rules.proofs.Plays.{charge_stores, halted_from}
+use Rattle.crash_rules.proofs.Plays.{charge_stores, HaltsShort, halted_from}
 use Rattle.crash_rules.proofs.Progress.{counts_from}
 use Rattle.crash_rules.proofs.Steps.{changed}
 
-module _ {St : Type 0} (m : Model St) (c : Program) (laws : ModelLaws m) (code : ProgramLaws m c) (readings : List ℕ) (words : All IsWord readings)
-    (origin : Origin St) where
+module _ {St : Type 0} (given : Setting St) (c : Program) (code : ProgramLaws given.model c) where
+  open given use {model as m, readings, origin}
+
   abbrev IsAt : MachineBoard → History → Type 0
-  IsAt p h = IsThere m laws c code readings words origin p h
+  IsAt p h = IsThere given c code p h
 
   -- a power-up behind a lawful history
   powered_there : (s p : MachineBoard) (h : History) → IsLawful m readings origin h → Matches readings s h → c.IsPoweredUp p → p.fram ≡ s.fram
@@ -30,7 +32,7 @@ module _ {St : Type 0} (m : Model St) (c : Program) (laws : ModelLaws m) (code :
   powered_there s p h k mt up f l = record {
     entry = up;
     matches = record { fram = f ∙ mt.fram; readings_left = l ∙ mt.readings_left };
-    point = booted m laws readings words origin h k.stands;
+    point = booted given h k.stands;
   }
 
   -- charges keep what holds
@@ -47,8 +49,8 @@ module _ {St : Type 0} (m : Model St) (c : Program) (laws : ModelLaws m) (code :
       let there = powered_there s p h l mt run.0 run.1 run.2 in
       let made = (going c.step e.steps p).effects in
       charged_on es q t (observe m.marks made (behind_boot h)) k
-      (matches_more m laws c code readings words origin p q (behind_boot h) made there.matches (changed c.step code.changes e.steps p q run.3.1))
-      (lawful_from m laws c code readings words origin e.steps (behind_boot h) p there) run.3.2
+      (matches_more given c code p q (behind_boot h) made there.matches (changed c.step code.changes e.steps p q run.3.1))
+      (lawful_from given c code e.steps (behind_boot h) p there) run.3.2
 
   begun : (x : World) (s : MachineBoard) → Begins m readings origin x s
       → IsLawful m readings origin (first_history m.marks x) × Matches readings s (first_history m.marks x)
@@ -63,16 +65,23 @@ module _ {St : Type 0} (m : Model St) (c : Program) (laws : ModelLaws m) (code :
   ready : (p : MachineBoard) (up : PowersUpBehind m c readings origin p) → IsAt p (behind_boot up.history)
   ready p up = let k = ran up.board up.history up.run in powered_there up.board p up.history k.0 k.1 up.powered up.fram up.readings_left
 
+  -- a machine that halts, behind charges
+  halts_short : (p : MachineBoard) (up : PowersUpBehind m c readings origin p) (n price : ℕ) (e : Stop) → (going c.step n p).status ≡ Halted price e
+      → HaltsShort given c code (observe m.marks (going c.step n p).effects (behind_boot up.history)) e
+  halts_short p up n price e halted = halted_from given c code (suc n) n (behind_boot up.history) p price e (omega arith) (ready p up) halted
+
+-- the setting of a run
+abbrev setting : {St : Type 0} (m : Model St) → ModelLaws m → (readings : List ℕ) → All IsWord readings → (origin : Origin St) → Setting St
+setting m laws readings words origin = record { model = m; laws = laws; readings = readings; words = words; origin = origin }
+
 -- the crash theorem
 pub crash_theorem : {St : Type 0} (m : Model St) (c : Program) → CrashTheorem m c
-crash_theorem m c laws code readings origin t h run = ran m c laws code readings run.begins.words origin t h run
+crash_theorem m c laws code readings origin t h run = ran (setting m laws readings run.begins.words origin) c code t h run
 
 -- a machine stops for want of a reading alone, where the source is short too
 pub stops_short : {St : Type 0} (m : Model St) (c : Program) → StopsShort m c
 stops_short m c laws code readings origin p up n price e halted =
-    let words = up.run.begins.words in
-    let r = ready m c laws code readings words origin p up in
-    let k = halted_from m laws c code readings words origin (suc n) n (behind_boot up.history) p price e (omega arith) r halted in
+    let k = halts_short (setting m laws readings up.run.begins.words origin) c code p up n price e halted in
     (k.reading, (k.short.stands, k.short.undecided, k.short.short))
 
 -- where a decide came and no done since, or the first commit is pending, GATE is 1
@@ -161,10 +170,9 @@ first_undecided {St} m laws readings s0 x st u = by_phase st.state st.phase
     by_phase s (CommittingPhase e p n w) = absurd p
 
 -- a run of one charge
-module _ {St : Type 0} (m : Model St) (c : Program) (laws : ModelLaws m) (code : ProgramLaws m c) (readings : List ℕ) (origin : Origin St) (t : MachineBoard)
-    (h : History) (run : HasRun m c readings origin t h) where
-  abbrev words : All IsWord readings
-  words = run.begins.words
+module _ {St : Type 0} (given : Setting St) (c : Program) (code : ProgramLaws given.model c) (t : MachineBoard) (h : History)
+    (run : HasRun given.model c given.readings given.origin t h) where
+  open given use {model as m, readings, origin}
 
   abbrev first : History
   first = first_history m.marks run.world
@@ -172,38 +180,39 @@ module _ {St : Type 0} (m : Model St) (c : Program) (laws : ModelLaws m) (code :
   record IsOfCharge : Type 0 where
     effects : List Effect
     is : h ≡ observe m.marks effects (behind_boot first)
-    charge : IsCharge m laws c code readings words origin (behind_boot first) effects
-    point : AtPoint m laws c code readings words origin (behind_boot first)
+    charge : IsCharge given c code (behind_boot first) effects
+    point : AtPoint given c code (behind_boot first)
 
   of_charge : (e : Charge) → run.charges ≡ e ∷ [] → IsOfCharge
   of_charge e one =
       let led : Charged c m.marks run.start first (e ∷ []) t h = subst (λ es. Charged c m.marks run.start first es t h) one run.leads in
-      let start = begun m c laws code readings words origin run.world run.start run.begins in
+      let start = begun given c code run.world run.start run.begins in
       let p = e.powered in
-      let there = powered_there m c laws code readings words origin run.start p first start.0 start.1 led.0 led.1 led.2 in
+      let there = powered_there given c code run.start p first start.0 start.1 led.0 led.1 led.2 in
       record {
         effects = (going c.step e.steps p).effects;
         is = led.3.2.1;
-        charge = plays_from m laws c code readings words origin (suc e.steps) e.steps (behind_boot first) p (omega arith) there;
+        charge = plays_from given c code (suc e.steps) e.steps (behind_boot first) p (omega arith) there;
         point = there.point;
       }
 
 -- in one charge the spans follow one another
 pub spans_follow : {St : Type 0} (m : Model St) (c : Program) → SpansFollow m c
 spans_follow m c laws code readings s t h run u e one =
-    let k = of_charge m c laws code readings (Resting s) t h run e one in
-    let b = run.begins in
-    let d = first_undecided m laws readings s run.world b.stands u in
-    let sp = charge_spans m laws c code readings b.words (Resting s) (behind_boot (first_history m.marks run.world)) k.effects k.charge k.point d in
+    let given = setting m laws readings run.begins.words (Resting s) in
+    let k = of_charge given c code t h run e one in
+    let first = first_history m.marks run.world in
+    let d = first_undecided m laws readings s run.world run.begins.stands u in
+    let sp = charge_spans given c code (behind_boot first) k.effects k.charge k.point d in
     subst (λ h. AreConsecutive 0 h.completed h.since) (sym k.is)
-    (subst (λ ds. AreConsecutive 0 ds (observe m.marks k.effects (behind_boot (first_history m.marks run.world))).since) (sym sp.completed) (sp.follow d))
+    (subst (λ ds. AreConsecutive 0 ds (observe m.marks k.effects (behind_boot first)).since) (sym sp.completed) (sp.follow d))
 
 -- so do those behind a pending commit
 pub pending_spans_follow : {St : Type 0} (m : Model St) (c : Program) → PendingSpansFollow m c
 pending_spans_follow {St} m c laws code readings to t h run e one =
-    let k = of_charge m c laws code readings (Pending to) t h run e one in
-    let past = charge_past m laws c code readings run.begins.words (Pending to) (behind_boot first) k.effects k.charge k.point
-    (first_decided run.begins.stands.state run.begins.stands.phase) in
+    let given = setting m laws readings run.begins.words (Pending to) in
+    let k = of_charge given c code t h run e one in
+    let past = charge_past given c code (behind_boot first) k.effects k.charge k.point (first_decided run.begins.stands.state run.begins.stands.phase) in
     subst (λ h. FollowFirst h.completed h.since) (sym k.is) (follow _ past)
   where
     first : History
@@ -214,24 +223,22 @@ pending_spans_follow {St} m c laws code readings to t h run e one =
     first_decided z (DecidedPhase next d q w) = d
     first_decided z (CommittingPhase d p n w) = d
 
-    follow : (k : History) → SpansPast m laws c code readings run.begins.words (Pending to) (behind_boot first) k → FollowFirst k.completed k.since
+    follow : (k : History) → SpansPast (setting m laws readings run.begins.words (Pending to)) c code (behind_boot first) k → FollowFirst k.completed k.since
     follow k (NoDone a) = subst (λ ds. FollowFirst ds k.since) (sym a) tt
     follow k (PastDone d ds a f) = subst (λ l. FollowFirst l k.since) (sym a) f
 
 -- a charge of at least n bounds that is spent has at least n dones
 pub progress_law : {St : Type 0} (m : Model St) (c : Program) → ProgressLaw m c
 progress_law m c laws code readings origin p up n amount most spent =
-    let words = up.run.begins.words in
-    counts_from m laws c code readings words origin n amount spent.steps (behind_boot up.history) p spent.end
-    (ready m c laws code readings words origin p up) most spent.spends
+    let given = setting m laws readings up.run.begins.words origin in
+    counts_from given c code n amount (behind_boot up.history) p (ready given c code p up) most spent
 
 -- a fact of each store that a run makes
 pub stores_only : {St : Type 0} (m : Model St) (c : Program) (P : ℕ → ℕ → Type 0) → StoresOnly m c P
 stores_only m c P laws code scripts readings origin p up n =
-    let words = up.run.begins.words in
-    let r = ready m c laws code readings words origin p up in
-    charge_stores m laws c code readings words origin P scripts (behind_boot up.history) _
-    (plays_from m laws c code readings words origin (suc n) n (behind_boot up.history) p (omega arith) r) r.point
+    let given = setting m laws readings up.run.begins.words origin in
+    let r = ready given c code p up in
+    charge_stores given c code P scripts (behind_boot up.history) _ (plays_from given c code (suc n) n (behind_boot up.history) p (omega arith) r) r.point
 
 -- a run may begin with any readings
 pub runs_may_begin : {St : Type 0} (m : Model St) → RunsMayBegin m

@@ -32,13 +32,13 @@ use Rattle.compiled_model.specs.memory_map.declared.place.ScalarWidth.{ScalarWid
 use Rattle.compiled_model.specs.memory_map.declared.place.ScalarWidth.TheVariants.{OneWord, TwoWords}
 use Rattle.compiled_model.specs.memory_map.MemoryMap.{MemoryMap, TaskPlace}
 use Rattle.compiled_model.specs.memory_map.Places.{end_of, scalar_words, HasItsPlace, copy_regions, IsLaidOut}
-use Rattle.compiled_model.proofs.memory_map.Interface.{IsIn, within, before, scalar_copy, scalar_home}
+use Rattle.compiled_model.proofs.memory_map.Interface.{IsIn, within, before, copies_row, scalar_copy, scalar_home}
 
 -- ---- a scalar and its copy
 
 pub copy_is : (p : CheckedProgram) (l : MemoryMap) → IsLaidOut l → (v i a : ℕ) → IsIn copy_regions l.variables v i a → IsCopyWord (program_places p l) a
 copy_is p l h v i a c =
-    let b = within copy_regions l.copies.address l.variables (end_of l.copies) v i a h.copies c in
+    let b = within (copies_row l h) v i a c in
     let end = b.end in
     record { even = b.even; from = b.from; below = omega (arith, end) }
 
@@ -73,7 +73,7 @@ copies_differ : (l : MemoryMap) → IsLaidOut l → (s q : PrivateScalar) (i j :
     → s.number < q.number → i < scalar_words s.width → j < scalar_words q.width
     → 2 * i + s.copy ≡ 2 * j + q.copy → ⊥
 copies_differ l h s q i j a b lt is js e =
-    before copy_regions l.copies.address l.variables (end_of l.copies) s.number q.number i j (2 * j + q.copy) h.copies lt
+    before (copies_row l h) s.number q.number i j (2 * j + q.copy) lt
     (subst (λ c. IsIn copy_regions l.variables s.number i c) e (scalar_copy l s.number s.home s.copy s.width i a.place is))
     (scalar_copy l q.number q.home q.copy q.width j b.place js)
 

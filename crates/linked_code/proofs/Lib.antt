@@ -2,6 +2,7 @@ mod Parts
 mod Linked
 mod Rooms
 mod Stretches
+mod Above
 pub mod Interface
 pub use Rattle.boot_runtime.proofs.memory_map as memory_map
 pub use Rattle.boot_runtime.proofs.fram_board as fram_board

@@ -10,8 +10,7 @@ use Rattle.boot_runtime.specs.code_forms.Code.{Stands}
 use Rattle.boot_runtime.specs.code_forms.Placed.{placed}
 use Rattle.word_code.specs.array_versions.Program.{Program, nothing}
 use Rattle.word_code.specs.array_versions.Behaviour.{behaviour, started}
-use Rattle.word_code.specs.array_versions.Cost.{spent}
-use Rattle.word_code.specs.Code.{code_of}
+use Rattle.word_code.specs.Code.{code_of, code_spent}
 use Rattle.word_code.specs.Laws.{IsEntry, ComesTo}
 use Rattle.word_code.proofs.Interface.{code_does_as_program}
 use Rattle.boot_runtime.specs.runtime_effects.Places.{listed}
@@ -147,7 +146,7 @@ module _ (l : MemoryMap) (programs : List Program) (fits : CodeFits l programs) 
   -- what a task's body does on FRAM and inputs
   abbrev pub DoesBody : Core → ℕ → (ℕ → ℕ) → Inputs → Type 0
   DoesBody v k g inputs =
-      let b = behaviour (program k) (started g inputs) in ComesTo code (spent (program k) (started g inputs)) v b.effects b.end
+      let b = behaviour (program k) (started g inputs) in ComesTo code (code_spent (program k) (started g inputs)) v b.effects b.end
 
   -- where a task is entered, its code does as its word program
   pub body_there : (v : Core) (k : ℕ) (g : ℕ → ℕ) (inputs : Inputs) → Enters (entry_at tasks k).code stack_top g inputs v → k < length programs

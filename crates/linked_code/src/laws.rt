@@ -1,6 +1,6 @@
 //! Laws of the code of a compiled source. The functions do nothing: their contracts are the laws.
 
-ghost use Rattle.linked_code.specs.Laws.{LinkedIsCode, LinkedStands};
+ghost use Rattle.linked_code.specs.Laws.{LinkedIsCode, LinkedStands, LinkedKeepsAbove};
 ghost use Rattle.linked_code.specs.Rooms.{LayoutsHaveRoom};
 
 /// Where it has its room, the code is instructions at even addresses, and ends where the layout's code does, at the latest.
@@ -19,4 +19,10 @@ pub fn linked_code_stands()
 /// allowance has for its task.
 pub fn layouts_have_room()
     ensures { LayoutsHaveRoom }
+{}
+
+/// No part of the code names a word of RAM below where its stack begins: boot and commit name none, and a task's code none below its locals.
+#[tactic(auto, using(crate::proofs::Above::linked_keeps_above))]
+pub fn linked_code_keeps_above_its_stacks()
+    ensures { LinkedKeepsAbove }
 {}

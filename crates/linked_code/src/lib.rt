@@ -3,4 +3,6 @@
 
 mod laws;
 
-pub use laws::{layouts_have_room, linked_code_stands, linked_is_code};
+pub use laws::{
+    layouts_have_room, linked_code_keeps_above_its_stacks, linked_code_stands, linked_is_code,
+};

@@ -9,7 +9,7 @@ use Rattle.array_versions.specs.machine_effects.World.{put}
 use Rattle.array_versions.proofs.machine_effects.Interface.{put_other}
 use Rattle.task_ast.specs.declared.names.Variable.TheVariants.{Shared}
 use Rattle.source_values.specs.Values.{Variables, word_at, with_word}
-use Rattle.source_values.specs.Statements.{Attempt, goes_on}
+use Rattle.source_values.specs.Statements.{Attempt, Outcome, goes_on}
 use Rattle.array_versions.specs.declared.operations.PlainOperation.{PlainOperation}
 use Rattle.array_versions.specs.Operations.{plain_word}
 use Rattle.array_versions.specs.Behaviour.{WordState, Behaviour, goes_on as going_on, then_on, is_place, word_listed, versioned_stored, behaviour}
@@ -35,26 +35,31 @@ use Rattle.lower.proofs.Versioned.{element_set, again_stored, again_list, after_
 use Rattle.lower.proofs.Versioned.{mark_keeps_words, elements_have_next, first_stored_at, first_emits, first_list, pushed_of, push_listed}
 use Rattle.lower.proofs.Ends.{Does}
 
--- what is asked where statements begin that emit and list so much: the state stands for the attempt, and there is room
-pub record Begins (z : Scene) (m : Attempt) (listed : List Element) (w : WordState) (emitting : ℕ) (count most : ℕ → ℕ) : Type 0 where
+-- where statements begin that emit and list so much: an attempt, the elements that it has listed, a state that stands for it, and how many
+-- elements of each array may be listed behind them; there is room
+pub record Start (z : Scene) (emitting : ℕ) (count : ℕ → ℕ) : Type 0 where
+  pub m : Attempt
+  pub listed : List Element
+  pub w : WordState
+  pub most : ℕ → ℕ
   pub stands : StandsFor z.p m listed w
   pub number : w.fram (word_place z.p.map Version) ≡ z.ver
   pub emits : length m.emitted + emitting ≤ z.room.emits
   pub lists : (v : ℕ) → listed_of v listed + count v ≤ most v
   pub within : (v : ℕ) → most v ≤ z.stores v
 
-pub few_listed : (z : Scene) (m : Attempt) (listed : List Element) (w : WordState) (emits : ℕ) (count most : ℕ → ℕ) → Begins z m listed w emits count most
-    → (v : ℕ) → listed_of v listed ≤ most v
-few_listed z m listed w emits count most h v = let a = h.lists v in omega (arith, a)
+-- what a behaviour does from there
+abbrev pub DoesFrom : {z : Scene} {n : ℕ} {count : ℕ → ℕ} → Start z n count → Behaviour → Outcome → Type 0
+DoesFrom {z} here = Does z here.w.fram here.most here.w.stack
 
-pub list_fits : (z : Scene) (m : Attempt) (listed : List Element) (w : WordState) (emits : ℕ) (count most : ℕ → ℕ) → Begins z m listed w emits count most
-    → length listed + private_words z.p.privates ≤ z.room.list
-list_fits z m listed w emits count most h =
-    z.has_room listed h.stands.list.are_listed (λ v. let a = h.lists v in let b = h.within v in omega (arith, a, b))
+pub few_listed : {z : Scene} {n : ℕ} {count : ℕ → ℕ} (here : Start z n count) (v : ℕ) → listed_of v here.listed ≤ here.most v
+few_listed here v = let a = here.lists v in omega (arith, a)
 
-pub few_emitted : (z : Scene) (m : Attempt) (listed : List Element) (w : WordState) (emits : ℕ) (count most : ℕ → ℕ) → Begins z m listed w emits count most
-    → length m.emitted ≤ z.room.emits
-few_emitted z m listed w emits count most h = let a = h.emits in omega (arith, a)
+pub list_fits : {z : Scene} {n : ℕ} {count : ℕ → ℕ} (here : Start z n count) → length here.listed + private_words z.p.privates ≤ z.room.list
+list_fits {z} here = z.has_room here.listed here.stands.list.are_listed (λ v. let a = here.lists v in let b = here.within v in omega (arith, a, b))
+
+pub few_emitted : {z : Scene} {n : ℕ} {count : ℕ → ℕ} (here : Start z n count) → length here.m.emitted ≤ z.room.emits
+few_emitted here = let a = here.emits in omega (arith, a)
 
 -- past the end nothing changes
 past_set : (p : Places) (n i v elements len : ℕ) (c : ArrayCopies) (m : Variables) (f : ℕ → ℕ) (locals : ℕ → Option ℕ) → IsArrayAt p n elements len (Some c)
@@ -68,8 +73,10 @@ past_set p n i v elements len c m f locals at past h =
     (λ x is. h.elements x is ∙ sym (word_past m n i v x.array x.index row short))
 
 -- a store to an element of array n
-module _ (z : Scene) (n i v elements len : ℕ) (c : ArrayCopies) (w : WordState) (m : Attempt) (listed : List Element) (left : List ℕ) (most : ℕ → ℕ)
-    (at : IsArrayAt z.p n elements len (Some c)) (h : Begins z m listed w 0 (λ u. if n == u then 1 else 0) most) where
+module _ (z : Scene) (n i v elements len : ℕ) (c : ArrayCopies) (at : IsArrayAt z.p n elements len (Some c))
+    (h : Start z 0 (λ u. if n == u then 1 else 0)) (left : List ℕ) where
+  open h use {m, listed, w, most}
+
   abbrev place : ArrayPlace
   place = array_place elements len c
 
@@ -133,7 +140,7 @@ module _ (z : Scene) (n i v elements len : ℕ) (c : ArrayCopies) (w : WordState
           list = h.stands.list;
           readings = refl;
         };
-        few = few_listed z m listed w 0 (λ u. if n == u then 1 else 0) most h;
+        few = few_listed h;
       })
 
   -- the version word is VER
@@ -143,7 +150,7 @@ module _ (z : Scene) (n i v elements len : ℕ) (c : ArrayCopies) (w : WordState
       let f = w.fram in
       let is = is_copied l in
       let now = again_stored p z.room x v f z.apart is marked in
-      let fits = list_fits z m listed w 0 (λ u. if n == u then 1 else 0) most h in
+      let fits = list_fits h in
       let Q : ℕ → Type 0 = λ a. put f a v (word_place p.map Version) ≡ put f a v (version_address p x) in
       let same = subst Q (copy_is p x elements len c at) (now.number ∙ sym now.mark) ∙ ap (put f (2 * i + c.copies) v) (version_is p x elements len c at) in
       let P : ℕ → Type 0 = λ a. WentOn p (bounds z f most) w.stack (Store a v ∷ []) (with_readings left (record w { fram = put f a v })) after in
@@ -154,12 +161,12 @@ module _ (z : Scene) (n i v elements len : ℕ) (c : ArrayCopies) (w : WordState
         listed = listed;
         stands = record {
           variables = element_set p z.room x v m.variables f (put f (copy_address p x) v) w.locals is now h.stands.variables;
-          emitted = same_emits p z.room m.emitted f (put f (copy_address p x) v) (few_emitted z m listed w 0 (λ u. if n == u then 1 else 0) most h)
+          emitted = same_emits p z.room m.emitted f (put f (copy_address p x) v) (few_emitted h)
               (spot_emits p z.room (copy x) v f z.apart is) h.stands.emitted;
           list = same_list p z.room listed f (put f (copy_address p x) v) (omega (arith, fits)) (again_list p z.room x v f z.apart is) h.stands.list;
           readings = refl;
         };
-        few = few_listed z m listed w 0 (λ u. if n == u then 1 else 0) most h;
+        few = few_listed h;
       }))
 
   -- there is room for one more in the list
@@ -207,7 +214,7 @@ module _ (z : Scene) (n i v elements len : ℕ) (c : ArrayCopies) (w : WordState
         listed = listed ++ x ∷ [];
         stands = record {
           variables = element_set p z.room x v m.variables f g w.locals is now h.stands.variables;
-          emitted = same_emits p z.room m.emitted f g (few_emitted z m listed w 0 (λ u. if n == u then 1 else 0) most h)
+          emitted = same_emits p z.room m.emitted f g (few_emitted h)
               (first_emits p z.room x v f g apart is lists.elsewhere) h.stands.emitted;
           list = first_list p z.room listed x v f g apart is fits unmarked h.stands.list now
               (lists.pairs ∙ ap (λ l. l ++ element_pair p x ∷ []) pairs) lists.have;

@@ -69,15 +69,15 @@ beside m n x = record { words = m + x.words; cycles = n + x.cycles }
 abbrev StepCosts : Step → ℕ → ℕ → Type 0
 StepCosts s m n = (step_words s ≤ m) × (step_cycles s ≤ n)
 
-read_costs : (p : Places) (x : Variable) → StepCosts (read_step p x) 2 5
+read_costs : (p : Places) (x : Variable) → StepCosts (read_step p x) 4 5
 read_costs p (Shared v) = (omega arith, omega arith)
 read_costs p (Local n) = (omega arith, omega arith)
 
-write_costs : (p : Places) (x : Variable) → StepCosts (write_step p x) 2 5
+write_costs : (p : Places) (x : Variable) → StepCosts (write_step p x) 4 5
 write_costs p (Shared v) = (omega arith, omega arith)
 write_costs p (Local n) = (omega arith, omega arith)
 
-update_costs : (p : Places) (o : PlainOperation) (x : Variable) → StepCosts (update_step p o x) 6 10
+update_costs : (p : Places) (o : PlainOperation) (x : Variable) → StepCosts (update_step p o x) 8 10
 update_costs p o (Shared v) = (omega arith, omega arith)
 update_costs p o (Local n) = (omega arith, omega arith)
 
@@ -467,7 +467,7 @@ long_setting_keeps p s x e =
     most_wider Int = omega arith
     most_wider Unsigned = omega arith
 
-    writes : (x : Variable) → Keeps (write_long p x) (record { words = 4; cycles = 10 })
+    writes : (x : Variable) → Keeps (write_long p x) (record { words = 5; cycles = 10 })
     writes (Shared v) = (omega arith, omega arith)
     writes (Local n) = (omega arith, omega arith)
 

@@ -135,9 +135,18 @@ module _ (room : ℕ) (a : ℕ → Bool) where
     turned = λ d c h held failed x y. h failed held y x;
   }
 
+-- a well-formed expression with room above so many words, whose locals are assigned
+abbrev Ready : List SharedDeclaration → (ℕ → Bool) → ℕ → CheckedExpression → Type 0
+Ready shared a d e = FitsAbove shared d e × Reads (Assigned a) e
+
+-- so is the right side of an operator
+right_ready : (shared : List SharedDeclaration) (a : ℕ → Bool) (d : ℕ) (op : PlacedOperator) (b e : CheckedExpression) → Ready shared a d (t.binary op b e)
+    → Ready shared a d e
+right_ready shared a d op b e r = (right_fits shared d op b e r.0, r.1.1)
+
 expression_way : (p : Places) → PlacesOfWords p → (shared : List SharedDeclaration) (d : ℕ) (a : ℕ → Bool) (e : CheckedExpression) (next : Place → Type 0)
-    → FitsAbove shared d e → Reads (Assigned a) e → next (at (suc d) a) → EachWay enough (lowered_expression p e) next (at d a)
-expression_way p words shared d a e next f r h = (lowering_has (ways enough a) p words shared d e f.0 f.1 r).word next h
+    → Ready shared a d e → next (at (suc d) a) → EachWay enough (lowered_expression p e) next (at d a)
+expression_way p words shared d a e next r h = (lowering_has (ways enough a) p words shared d e r.0.0 r.0.1 r.1).word next h
 
 -- ---- locals
 
@@ -277,54 +286,55 @@ module _ (p : Places) (words : PlacesOfWords p) (shared : List SharedDeclaration
   write_behind u a x e next c h = write_way u a x next c (λ b d. h b (subst (λ v. Covers v b) (sym (behind_expression u e (write x ∷ []))) d))
 
   -- an expression's value is set
-  setting_way : (u a : ℕ → Bool) (x : VariableName) (e : CheckedExpression) (next : Place → Type 0) → FitsAbove shared 0 e → Covers u a
-      → Reads (Assigned a) e → Written u x e next → EachWay enough (setting p x.variable e) next (at 0 a)
-  setting_way u a x e next f c r h =
+  setting_way : (u a : ℕ → Bool) (x : VariableName) (e : CheckedExpression) (next : Place → Type 0) → Ready shared a 0 e → Covers u a
+      → Written u x e next → EachWay enough (setting p x.variable e) next (at 0 a)
+  setting_way u a x e next r c h =
       joined_way enough (lowered_expression p e) (one (write_step p x.variable)) next (at 0 a)
-      (expression_way p words shared 0 a e _ f r (write_behind u a x e next c h))
+      (expression_way p words shared 0 a e _ r (write_behind u a x e next c h))
 
   -- so is one of two words
-  long_setting_way : (u a : ℕ → Bool) (x : VariableName) (e : CheckedExpression) (next : Place → Type 0) → FitsAbove shared 0 e → Covers u a
-      → Reads (Assigned a) e → Written u x e next → EachWay enough (long_setting p x.variable e) next (at 0 a)
-  long_setting_way u a x e next f c r h =
+  long_setting_way : (u a : ℕ → Bool) (x : VariableName) (e : CheckedExpression) (next : Place → Type 0) → Ready shared a 0 e → Covers u a
+      → Written u x e next → EachWay enough (long_setting p x.variable e) next (at 0 a)
+  long_setting_way u a x e next r c h =
+      let two = two_fit enough 0 e r.0.1 in
       joined_way enough (lowered_long p e) (write_long p x.variable) next (at 0 a)
-      (long_has (ways enough a) 0 (widened_type e) (lowering p e) (two_fit enough 0 e f.1) (lowering_has (ways enough a) p words shared 0 e f.0 f.1 r)
+      (long_has (ways enough a) 0 (widened_type e) (lowering p e) two (lowering_has (ways enough a) p words shared 0 e r.0.0 r.0.1 r.1)
       (EachWay enough (write_long p x.variable) next)
-      (long_write_way u a x next (two_fit enough 0 e f.1) c (λ b d. h b (subst (λ v. Covers v b) (sym (behind_expression u e (write x ∷ []))) d))))
+      (long_write_way u a x next two c (λ b d. h b (subst (λ v. Covers v b) (sym (behind_expression u e (write x ∷ []))) d))))
 
   sides_set_way : (u a : ℕ → Bool) (x : VariableName) (op : PlacedOperator) (b e : CheckedExpression) (o : Option PlainOperation) (next : Place → Type 0)
-      → updating x.variable op.operator b ≡ o → FitsAbove shared 0 (t.binary op b e) → Covers u a → Reads (Assigned a) (t.binary op b e)
+      → updating x.variable op.operator b ≡ o → Ready shared a 0 (t.binary op b e) → Covers u a
       → Written u x (t.binary op b e) next → EachWay enough (sides_set p x.variable op b e o) next (at 0 a)
-  sides_set_way u a x op b e None next is f c r h = setting_way u a x (t.binary op b e) next f c r h
-  sides_set_way u a x op b e (Some o) next is f c r h =
+  sides_set_way u a x op b e None next is r c h = setting_way u a x (t.binary op b e) next r c h
+  sides_set_way u a x op b e (Some o) next is r c h =
       let update = is_update x.variable op.operator b o is in
-      let own : ReadOf (Assigned a) x.variable = subst (ReadOf (Assigned a)) update.same (subst (Reads (Assigned a)) update.is r.0) in
+      let own : ReadOf (Assigned a) x.variable = subst (ReadOf (Assigned a)) update.same (subst (Reads (Assigned a)) update.is r.1.0) in
       joined_way enough (lowered_expression p e) (one (update_step p o x.variable)) next (at 0 a)
-      (expression_way p words shared 0 a e _ (right_fits shared 0 op b e f) r.1
+      (expression_way p words shared 0 a e _ (right_ready shared a 0 op b e r)
       (update_way a o x.variable next own (write_behind u a x (t.binary op b e) next c h)))
 
   -- the first clause makes it a proof by cases
-  assignment_way : (u a : ℕ → Bool) (x : VariableName) (e : CheckedExpression) (next : Place → Type 0) → FitsAbove shared 0 e → Covers u a
-      → Reads (Assigned a) e → Written u x e next → EachWay enough (assignment p x.variable e) next (at 0 a)
-  assignment_way u a x (t.binary op b e) next f c r h = by_type (joined_type (type_of b) (type_of e))
+  assignment_way : (u a : ℕ → Bool) (x : VariableName) (e : CheckedExpression) (next : Place → Type 0) → Ready shared a 0 e → Covers u a
+      → Written u x e next → EachWay enough (assignment p x.variable e) next (at 0 a)
+  assignment_way u a x (t.binary op b e) next r c h = by_type (joined_type (type_of b) (type_of e))
     where
       by_type : (of : WordType) → EachWay enough (sides_set p x.variable op b e (of_words of (updating x.variable op.operator b))) next (at 0 a)
-      by_type Long = setting_way u a x (t.binary op b e) next f c r h
-      by_type Int = sides_set_way u a x op b e (updating x.variable op.operator b) next refl f c r h
-      by_type Unsigned = sides_set_way u a x op b e (updating x.variable op.operator b) next refl f c r h
-  assignment_way u a x e next f c r h = setting_way u a x e next f c r h
+      by_type Long = setting_way u a x (t.binary op b e) next r c h
+      by_type Int = sides_set_way u a x op b e (updating x.variable op.operator b) next refl r c h
+      by_type Unsigned = sides_set_way u a x op b e (updating x.variable op.operator b) next refl r c h
+  assignment_way u a x e next r c h = setting_way u a x e next r c h
 
-  typed_assignment_way : (u a : ℕ → Bool) (of : WordType) (x : VariableName) (e : CheckedExpression) (next : Place → Type 0) → FitsAbove shared 0 e
-      → Covers u a → Reads (Assigned a) e → Written u x e next → EachWay enough (scalar_assignment p of x.variable e) next (at 0 a)
-  typed_assignment_way u a Long x e next f c r h = long_setting_way u a x e next f c r h
-  typed_assignment_way u a Int x e next f c r h = assignment_way u a x e next f c r h
-  typed_assignment_way u a Unsigned x e next f c r h = assignment_way u a x e next f c r h
+  typed_assignment_way : (u a : ℕ → Bool) (of : WordType) (x : VariableName) (e : CheckedExpression) (next : Place → Type 0) → Ready shared a 0 e
+      → Covers u a → Written u x e next → EachWay enough (scalar_assignment p of x.variable e) next (at 0 a)
+  typed_assignment_way u a Long x e next r c h = long_setting_way u a x e next r c h
+  typed_assignment_way u a Int x e next r c h = assignment_way u a x e next r c h
+  typed_assignment_way u a Unsigned x e next r c h = assignment_way u a x e next r c h
 
   assigned_way : (u a : ℕ → Bool) (of : WordType) (x : VariableName) (e : CheckedExpression) (next : Place → Type 0) → FitsAbove shared 0 e
       → Covers u a → Safe u (names_read e ++ write x ∷ []) → Written u x e next
       → EachWay enough (scalar_assignment p of x.variable e) next (at 0 a)
   assigned_way u a of x e next f c s h =
-      typed_assignment_way u a of x e next f c (reads_assigned shared u a e c f.0 (safe_expression u e (write x ∷ []) s).0) h
+      typed_assignment_way u a of x e next (f, reads_assigned shared u a e c f.0 (safe_expression u e (write x ∷ []) s).0) c h
 
   entries_way : (count list : ℕ) (runs : List Run) (next : Place → Type 0) (o : Place) → next o
       → EachWay enough (entries count list runs) next o
@@ -339,29 +349,26 @@ module _ (p : Places) (words : PlacesOfWords p) (shared : List SharedDeclaration
       (entries_way (word_place p.map ListLength) p.map.list.address (runs_of p.privates) (EachWay enough close next) o even)
 
   -- an index and a value, and a step behind both
-  index_and_value_way : (a : ℕ → Bool) (index e : CheckedExpression) (s : Step) (next : Place → Type 0) → FitsAbove shared 0 index
-      → FitsAbove shared 1 e → Reads (Assigned a) index → Reads (Assigned a) e → EachStepWay enough s next (at 2 a)
-      → EachWay enough (joined (index_and_value p index e) (one s)) next (at 0 a)
-  index_and_value_way a index e s next f g q r h =
+  index_and_value_way : (a : ℕ → Bool) (index e : CheckedExpression) (s : Step) (next : Place → Type 0) → Ready shared a 0 index → Ready shared a 1 e
+      → EachStepWay enough s next (at 2 a) → EachWay enough (joined (index_and_value p index e) (one s)) next (at 0 a)
+  index_and_value_way a index e s next q r h =
       joined_way enough (index_and_value p index e) (one s) next (at 0 a)
       (joined_way enough (lowered_expression p index) (lowered_expression p e) (EachWay enough (one s) next) (at 0 a)
-      (expression_way p words shared 0 a index _ f q (expression_way p words shared 1 a e _ g r h)))
+      (expression_way p words shared 0 a index _ q (expression_way p words shared 1 a e _ r h)))
 
   element_sides_way : (a : ℕ → Bool) (x : Variable) (index : CheckedExpression) (op : PlacedOperator) (b e : CheckedExpression) (o : Option PlainOperation)
-      (next : Place → Type 0) → FitsAbove shared 0 index → FitsAbove shared 1 (t.binary op b e)
-      → Reads (Assigned a) index → Reads (Assigned a) (t.binary op b e) → Moves enough 2 0 next (at 2 a)
+      (next : Place → Type 0) → Ready shared a 0 index → Ready shared a 1 (t.binary op b e) → Moves enough 2 0 next (at 2 a)
       → EachWay enough (element_sides_set p x index op b e o) next (at 0 a)
-  element_sides_way a x index op b e None next f g q r h = index_and_value_way a index (t.binary op b e) (store_step p x) next f g q r h
-  element_sides_way a x index op b e (Some o) next f g q r h =
-      index_and_value_way a index e (update_element_step p o x) next f (right_fits shared 1 op b e g) q r.1 h
+  element_sides_way a x index op b e None next q r h = index_and_value_way a index (t.binary op b e) (store_step p x) next q r h
+  element_sides_way a x index op b e (Some o) next q r h =
+      index_and_value_way a index e (update_element_step p o x) next q (right_ready shared a 1 op b e r) h
 
   -- the first clause makes it a proof by cases
-  element_assignment_way : (a : ℕ → Bool) (x : Variable) (index e : CheckedExpression) (next : Place → Type 0) → FitsAbove shared 0 index
-      → FitsAbove shared 1 e → Reads (Assigned a) index → Reads (Assigned a) e → Moves enough 2 0 next (at 2 a)
-      → EachWay enough (element_assignment p x index e) next (at 0 a)
-  element_assignment_way a x index (t.binary op b e) next f g q r h =
-      element_sides_way a x index op b e (of_words (joined_type (type_of b) (type_of e)) (element_updating x index op.operator b)) next f g q r h
-  element_assignment_way a x index e next f g q r h = index_and_value_way a index e (store_step p x) next f g q r h
+  element_assignment_way : (a : ℕ → Bool) (x : Variable) (index e : CheckedExpression) (next : Place → Type 0) → Ready shared a 0 index
+      → Ready shared a 1 e → Moves enough 2 0 next (at 2 a) → EachWay enough (element_assignment p x index e) next (at 0 a)
+  element_assignment_way a x index (t.binary op b e) next q r h =
+      element_sides_way a x index op b e (of_words (joined_type (type_of b) (type_of e)) (element_updating x index op.operator b)) next q r h
+  element_assignment_way a x index e next q r h = index_and_value_way a index e (store_step p x) next q r h
 
   -- of an index and a value
   element_assigned_way : (u a : ℕ → Bool) (x : VariableName) (index e : CheckedExpression) (next : Place → Type 0) → FitsAbove shared 0 index
@@ -372,7 +379,7 @@ module _ (p : Places) (words : PlacesOfWords p) (shared : List SharedDeclaration
   element_assigned_way u a x index e next f g array c s h =
       let first = safe_expression u index (names_read e ++ write x ∷ []) s in
       let second = safe_expression u e (write x ∷ []) first.1 in
-      element_assignment_way a x.variable index e next f g (reads_assigned shared u a index c f.0 first.0) (reads_assigned shared u a e c g.0 second.0)
+      element_assignment_way a x.variable index e next (f, reads_assigned shared u a index c f.0 first.0) (g, reads_assigned shared u a e c g.0 second.0)
       (by_variable x.variable refl array)
     where
       reaches : (v : ℕ) → x.variable ≡ Shared v → Covers (behind u (names_read index ++ (names_read e ++ write x ∷ []))) a
@@ -449,7 +456,7 @@ module _ (p : Places) (words : PlacesOfWords p) (shared : List SharedDeclaration
     statement_way (t.emit e) u a next is c h =
         let q = path.emit e (names_read e) (is_path e) in
         joined_way enough (lowered_expression p e) (one (emit_word (word_place p.map EmitCount) p.map.emits.address)) next (at 0 a)
-        (expression_way p words shared 0 a e _ is (reads_assigned shared u a e c is.0 (h.safe (names_read e) goes_on q))
+        (expression_way p words shared 0 a e _ (is, reads_assigned shared u a e c is.0 (h.safe (names_read e) goes_on q))
         (moves enough 1 0 1 0 a next (omega arith) (omega arith) (omega arith) (h.on (names_read e) q a (subst (λ v. Covers v a) (sym (behind_names u e)) c))))
     statement_way (t.transition task) u a next is c h = transition_way task.task next (at 0 a)
 

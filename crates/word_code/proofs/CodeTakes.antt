@@ -1,6 +1,6 @@
 -- How much code takes: its bytes, with those of the pushes that are owed for words that wait.
 use Rattle.word_code.proofs.Names.{◌≡◌, ℕ, zero, suc, ◌+◌, ◌-◌, ◌*◌, ◌<◌, ◌≤◌, List, [], ◌∷◌, ◌++◌, refl, arith, Bool, true, false, nat_le, nat_lt, ltb-true}
-use Rattle.word_code.proofs.Names.{eqb-true, ◌==◌, if◌then◌else◌, nat_tests, source_bytes, Form, Push, instruction_of, form_bytes, forms_bytes, instructions}
+use Rattle.word_code.proofs.Names.{max, eqb-true, ◌==◌, if◌then◌else◌, nat_tests, source_bytes, Form, Push, instruction_of, form_bytes, forms_bytes, instructions}
 use Rattle.word_code.proofs.Names.{forms_bytes-append, ShiftOperation, Left, Right, SignedRight, right_words, shift_words, Waiting, waiting_source, flushed}
 use Rattle.word_code.proofs.Names.{top_of, source_from, below_top, any_held, cleared, kept, number_source, four_from, five_from, top_to_four, top_to_five}
 use Rattle.word_code.proofs.Names.{two_to_registers, repeated, double, halve, right_code, shift_by, last_bit, shift_code, shift_middle, AreInstructions}
@@ -61,6 +61,33 @@ push_short _ = omega arith
 pub source_short : (os : List Waiting) → source_bytes (source_from (top_of os)) + kept_bytes (below_top os) ≤ kept_bytes os
 source_short (waiting.Number n ∷ os) = omega (arith, number_bytes n)
 source_short _ = omega arith
+
+-- ---- the place of the stack
+
+-- the bytes of what sets it, for locals below a number
+abbrev pub set_bytes : ℕ → ℕ
+set_bytes locals = if nat_lt 8 locals then 4 else 0
+
+pub set_small : (n : ℕ) → set_bytes n ≤ 4
+set_small n = by (nat_lt 8 n)
+  where
+    by : (b : Bool) → (if b then 4 else 0) ≤ 4
+    by true = omega arith
+    by false = omega arith
+
+-- of the greater of two numbers they are those of one of them
+pub set_most : (a b : ℕ) → set_bytes (max a b) ≤ set_bytes a + set_bytes b
+set_most a b = by (nat_lt 8 (max a b)) (nat_lt 8 a) (nat_lt 8 b) refl refl refl
+  where
+    by : (x y z : Bool) → nat_lt 8 (max a b) ≡ x → nat_lt 8 a ≡ y → nat_lt 8 b ≡ z
+        → (if x then 4 else 0) ≤ (if y then 4 else 0) + (if z then 4 else 0)
+    by false y z e f g = omega arith
+    by true true z e f g = omega arith
+    by true false true e f g = omega arith
+    by true false false e f g =
+        let less : 8 < max a b = ltb-true 8 (max a b) e in
+        let few : a ≤ 8 = grind (arith, nat_tests) in let less_b : b ≤ 8 = grind (arith, nat_tests) in
+        absurd (let no : max a b ≤ 8 = omega (arith, few, less_b) in omega (arith, less, no))
 
 -- ---- shifts
 

@@ -9,3 +9,7 @@ pub use Rattle.word_code.proofs.Lengths.{code_short, code_are, inner_takes, pass
 pub use Rattle.word_code.proofs.UpdateBytes.{inside_bytes, reads_bytes}
 -- The code of a word program does what the program does, within the cycles of the way that it takes.
 pub use Rattle.word_code.proofs.Whole.{code_does_as_program}
+-- The locals that a program names are below a number where the greatest of them is.
+pub use Rattle.word_code.proofs.Locals.{program_below, program_least}
+-- The code of a program is made of forms of tasks' code, and has each fact that all of them have.
+pub use Rattle.word_code.proofs.TaskForms.{code_is_of_task_forms, code_names_ram_from, each-append, each_weaker}

@@ -26,7 +26,8 @@ use Rattle.array_versions.proofs.Interface.{right_low}
 use Rattle.word_code.proofs.UpdateBytes.{ways_bytes, checked_bytes, known_bytes, reads_bytes, first_bytes, inside_bytes, near_size}
 use Rattle.word_code.proofs.CodeTakes.{Are, Takes, are-append, behind, so_takes, either_takes, nothing_takes, number_bytes, kept_bytes_of, kept_bytes}
 use Rattle.word_code.proofs.CodeTakes.{source_short, shift_takes, shift_most, flushed_takes, cleared_takes, five_takes, four_takes, top_to_four_takes}
-use Rattle.word_code.proofs.CodeTakes.{top_to_five_takes, two_takes}
+use Rattle.word_code.proofs.CodeTakes.{top_to_five_takes, two_takes, set_bytes, set_small, set_most}
+use Rattle.word_code.proofs.Names.{max, stack_set, step_locals, test_locals, locals_of}
 use Rattle.word_code.proofs.LongLengths.{long_takes}
 
 -- ---- the parts of steps
@@ -131,7 +132,7 @@ turn_end_takes n below =
     (record { are = (tt, (tt, (tt, (tt, tt)))); bytes = omega (arith, number_bytes below) })
 
 -- turns have ten words more than their body
-turns_takes : {m : ℕ} (n below : ℕ) (body : List Form) → Takes body 0 m → Takes (turns_code n below body) 0 (m + 20)
+turns_takes : {j m : ℕ} (n below : ℕ) (body : List Form) → Takes body j m → Takes (turns_code n below body) j (m + 20)
 turns_takes n below body x =
     let turn = body ++ turn_end n below in
     so_takes (behind (behind x (turn_end_takes n below)) (back_takes (nat_le (size turn) 511) (size turn) refl)) (omega arith)
@@ -268,7 +269,7 @@ in_place_takes (Some k) sure o place list os =
 -- ---- steps
 
 -- code behind the pushes of all that waits
-behind_flushed : {ms : List Form} {n : ℕ} (os : List Waiting) → Takes ms 0 n → Takes (flushed os ++ ms) 0 (n + kept_bytes os)
+behind_flushed : {ms : List Form} {j n : ℕ} (os : List Waiting) → Takes ms j n → Takes (flushed os ++ ms) j (n + kept_bytes os)
 behind_flushed os x = so_takes (behind (flushed_takes os) x) (omega arith)
 
 -- a statement's instruction behind the pushes of what waits below its source
@@ -291,9 +292,15 @@ update_takes o n x =
     either_takes (nat_lt n 8) (λ b. source_bytes x + 12) (record { are = (tt, tt); bytes = omega arith })
     (record { are = (tt, (tt, (tt, (tt, tt)))); bytes = omega arith })
 
+-- what sets the place of the stack
+set_takes : (locals : ℕ) → Takes (stack_set locals) 0 (set_bytes locals)
+set_takes locals =
+    either_takes (nat_lt 8 locals) (λ b. if b then 4 else 0) (record { are = (tt, tt); bytes = omega arith }) (nothing_takes 0 0 (omega arith))
+
 -- steps with no word waiting in front of them, and then those that wait behind them are pushed
-block_takes : (bs : List Bound) (p : Program) → Takes (steps_code bs [] p) (kept_bytes (waiting_after [] p)) (2 * words_of p + 0)
-    → Takes (block_code bs p) 0 (2 * words_of p)
+block_takes : (bs : List Bound) (p : Program)
+    → Takes (steps_code bs [] p) (set_bytes (locals_of p) + kept_bytes (waiting_after [] p)) (2 * words_of p + 0)
+    → Takes (block_code bs p) (set_bytes (locals_of p)) (2 * words_of p)
 block_takes bs p x = so_takes (behind x (flushed_takes (waiting_after [] p))) (omega arith)
 
 holds_takes : (os : List Waiting) (when : Bool) (d : ℕ) → Takes (holds_code os when d) 0 (10 + kept_bytes os)
@@ -317,21 +324,28 @@ compares_takes os c when d =
     record { are = (compare_is c x, decide.are); bytes = omega (arith, decide.bytes, compare_length c x) } in
     so_takes (behind (behind (compare_sides_take (is_turned c) os) (flushed_takes (kept (below_top (below_top os))))) tail) (omega arith)
 
+-- where no local is named nothing is left for the place of the stack
+no_local : {ms : List Form} {j n : ℕ} → Takes ms j n → Takes ms (0 + j) n
+no_local x = so_takes x (omega arith)
+
+-- steps leave the bytes with which the place of the stack is set, where they name a local that stands in RAM
 mutual
-  step_takes : (bs : List Bound) (s : Step) (os : List Waiting) → Takes (step_code bs os s) (kept_bytes (waiting_behind os s))
-      (2 * step_words s + kept_bytes os)
+  step_takes : (bs : List Bound) (s : Step) (os : List Waiting)
+      → Takes (step_code bs os s) (set_bytes (step_locals s) + kept_bytes (waiting_behind os s)) (2 * step_words s + kept_bytes os)
   step_takes bs (number w) os = nothing_takes _ _ (omega arith)
   step_takes bs (load a) os = nothing_takes _ _ (omega arith)
-  step_takes bs (keep a) os = keep_takes (any_at a (below_top os)) a os
+  step_takes bs (keep a) os = no_local (keep_takes (any_at a (below_top os)) a os)
   step_takes bs (update o a) os = behind_below 4 os (record { are = (tt, tt); bytes = omega arith })
-  step_takes bs (local n) os = local_takes (nat_lt n 8) n os
-  step_takes bs (set_local n) os = behind_below 4 os (record { are = (tt, tt); bytes = omega (arith, target_bytes_most n (nat_lt n 8)) })
-  step_takes bs (update_local o n) os = behind_below 12 os (update_takes o n (source_from (top_of os)))
+  step_takes bs (local n) os = so_takes (local_takes (nat_lt n 8) n os) (omega (arith, set_small (n + 1)))
+  step_takes bs (set_local n) os =
+      so_takes (behind_below 4 os (record { are = (tt, tt); bytes = omega (arith, target_bytes_most n (nat_lt n 8)) })) (omega (arith, set_small (n + 1)))
+  step_takes bs (update_local o n) os =
+      so_takes (behind_below 12 os (update_takes o n (source_from (top_of os)))) (omega (arith, set_small (n + 1)))
   step_takes bs (unary o) os = so_takes (behind (top_to_five_takes os) (unary_takes o)) (omega arith)
-  step_takes bs (binary o) os = operation_takes o os
+  step_takes bs (binary o) os = no_local (operation_takes o os)
   step_takes bs (shift o k) os = so_takes (behind (top_to_four_takes os) (shift_takes o k)) (omega arith)
-  step_takes bs (long operation) os = long_takes operation os
-  step_takes bs (element base n) os = element_takes (is_inside bs (top_of os) n) base n os
+  step_takes bs (long operation) os = no_local (long_takes operation os)
+  step_takes bs (element base n) os = no_local (element_takes (is_inside bs (top_of os) n) base n os)
   step_takes bs (emit_word count buffer) os =
       so_takes (behind (behind (top_to_five_takes os) (flushed_takes (kept (below_top os)))) (emit_takes count buffer)) (omega arith)
   step_takes bs (list_entry count list home copy words) os = behind_flushed os (entry_takes count list home copy words (words == 1))
@@ -348,49 +362,63 @@ mutual
       so_takes (behind (cleared_takes os) take) (omega arith)
   step_takes bs (truth t) os =
       let push : Takes truth_code 0 6 = record { are = search arith; bytes = omega arith } in
-      behind_flushed os (so_takes (behind (test_takes bs t false 2) push) (omega arith))
+      so_takes (behind_flushed os (behind (test_fits bs t false 2) push)) (omega arith)
   step_takes bs (choose t taken otherwise) os =
       let other = block_takes bs otherwise (steps_takes bs otherwise []) in
       let over = pass_takes (size (block_code bs otherwise)) in
       let first = behind (block_takes bs taken (steps_takes bs taken [])) over in
-      let test = test_takes bs t false (size (block_code bs taken ++ pass_over (size (block_code bs otherwise)))) in
-      behind_flushed os (so_takes (behind test (behind first other)) (omega arith))
+      let test = test_fits bs t false (size (block_code bs taken ++ pass_over (size (block_code bs otherwise)))) in
+      let ways = max (locals_of taken) (locals_of otherwise) in
+      so_takes (behind_flushed os (behind test (behind first other)))
+      (omega (arith, set_most (test_locals t) ways, set_most (locals_of taken) (locals_of otherwise)))
   step_takes bs (repeat n from below body) os =
       let inner = bound_of n below ∷ bs in
       let turns = turns_takes n below (block_code inner body) (block_takes inner body (steps_takes inner body [])) in
-      let some = either_takes (nat_lt from below) (λ b. 2 * words_of body + 20) turns (nothing_takes 0 (2 * words_of body + 20) (omega arith)) in
-      behind_flushed os (so_takes (behind (number_takes n from) some) (omega arith))
+      let left = set_bytes (locals_of body) in
+      let most = 2 * words_of body + 20 in
+      let some = either_takes (nat_lt from below) (λ b. most) turns (nothing_takes left most (omega (arith, set_small (locals_of body)))) in
+      so_takes (behind_flushed os (behind (number_takes n from) some)) (omega (arith, set_most (n + 1) (locals_of body), set_small (n + 1)))
   step_takes bs (store_number a w) os = behind_flushed os (record { are = (tt, tt); bytes = omega (arith, number_bytes w) })
   step_takes bs (move_word from to) os = behind_flushed os (record { are = (tt, tt); bytes = omega arith })
   step_takes bs (jump to) os = behind_flushed os (record { are = (tt, tt); bytes = omega arith })
 
-  pub test_takes : (bs : List Bound) (t : Test) (when : Bool) (d : ℕ) → Takes (test_code bs t when d) 0 (2 * test_words t)
-  test_takes bs (holds p) when d = so_takes (behind (steps_takes bs p []) (holds_takes (waiting_after [] p) when d)) (omega arith)
-  test_takes bs (compares c p) when d = so_takes (behind (steps_takes bs p []) (compares_takes (waiting_after [] p) c when d)) (omega arith)
-  test_takes bs (both t u) when d =
+  test_fits : (bs : List Bound) (t : Test) (when : Bool) (d : ℕ) → Takes (test_code bs t when d) (set_bytes (test_locals t)) (2 * test_words t)
+  test_fits bs (holds p) when d = so_takes (behind (steps_takes bs p []) (holds_takes (waiting_after [] p) when d)) (omega arith)
+  test_fits bs (compares c p) when d = so_takes (behind (steps_takes bs p []) (compares_takes (waiting_after [] p) c when d)) (omega arith)
+  test_fits bs (both t u) when d =
       let second = test_code bs u when d in
-      so_takes (behind (test_takes bs t false (size second + (if not when then d else 0))) (test_takes bs u when d)) (omega arith)
-  test_takes bs (either t u) when d =
+      so_takes (behind (test_fits bs t false (size second + (if not when then d else 0))) (test_fits bs u when d))
+      (omega (arith, set_most (test_locals t) (test_locals u)))
+  test_fits bs (either t u) when d =
       let second = test_code bs u when d in
-      so_takes (behind (test_takes bs t true (size second + (if when then d else 0))) (test_takes bs u when d)) (omega arith)
-  test_takes bs (fails t) when d = test_takes bs t (not when) d
+      so_takes (behind (test_fits bs t true (size second + (if when then d else 0))) (test_fits bs u when d))
+      (omega (arith, set_most (test_locals t) (test_locals u)))
+  test_fits bs (fails t) when d = test_fits bs t (not when) d
 
-  steps_takes : (bs : List Bound) (p : Program) (os : List Waiting) → Takes (steps_code bs os p) (kept_bytes (waiting_after os p))
-      (2 * words_of p + kept_bytes os)
+  steps_takes : (bs : List Bound) (p : Program) (os : List Waiting)
+      → Takes (steps_code bs os p) (set_bytes (locals_of p) + kept_bytes (waiting_after os p)) (2 * words_of p + kept_bytes os)
   steps_takes bs nothing os = nothing_takes _ _ (omega arith)
-  steps_takes bs (step first more) os = so_takes (behind (step_takes bs first os) (steps_takes bs more (waiting_behind os first))) (omega arith)
+  steps_takes bs (step first more) os =
+      so_takes (behind (step_takes bs first os) (steps_takes bs more (waiting_behind os first)))
+      (omega (arith, set_most (step_locals first) (locals_of more)))
 
 -- ---- programs
 
 -- the code is instructions, and no longer than its words are counted
+pub test_takes : (bs : List Bound) (t : Test) (when : Bool) (d : ℕ) → Takes (test_code bs t when d) 0 (2 * test_words t)
+test_takes bs t when d = so_takes (test_fits bs t when d) (omega arith)
+
 pub inner_takes : (bs : List Bound) (p : Program) → Takes (block_code bs p) 0 (2 * words_of p)
-inner_takes bs p = block_takes bs p (steps_takes bs p [])
+inner_takes bs p = so_takes (block_takes bs p (steps_takes bs p [])) (omega arith)
+
+whole_takes : (p : Program) → Takes (code_of p) 0 (2 * words_of p)
+whole_takes p = so_takes (behind (set_takes (locals_of p)) (block_takes [] p (steps_takes [] p []))) (omega arith)
 
 pub code_short : (p : Program) → forms_bytes (code_of p) ≤ 2 * words_of p
-code_short p = omega (arith, (inner_takes [] p).bytes)
+code_short p = omega (arith, (whole_takes p).bytes)
 
 pub code_are : (p : Program) → Are (code_of p)
-code_are p = (inner_takes [] p).are
+code_are p = (whole_takes p).are
 
 pub instructions_length : (ms : List Form) → 2 * length (instruction_words (instructions ms)) ≡ forms_bytes ms
 instructions_length [] = refl

@@ -1,6 +1,7 @@
 mod Names
 mod Stretches
 mod Memory
+mod Locals
 mod Follows
 mod Parts
 mod Registers
@@ -32,6 +33,7 @@ mod CodeTakes
 mod LongLengths
 mod Lengths
 mod Whole
+mod TaskForms
 pub mod Interface
 pub use Rattle.array_versions.proofs as array_versions
 pub use Rattle.code_forms.proofs as code_forms

@@ -70,7 +70,7 @@ module _ (z : Setting) where
       let all = ram_turn_end n below in
       let word = in_ram (local_words u.work) u.ram n b ∙ i.memory.vars n k lt q in
       let next : (u.ram a + 1 + 0) % 0x10000 ≡ k + 1 = omega (arith, word) in
-      let needs = local_needs z n lt in
+      let needs = local_needs z n b lt in
       let end : pc + 10 + form_bytes last ≡ pc + forms_bytes all = omega arith in
       let added = straight z ms 8 u (end_of u (forms_run ms u).status) [] 8 (Has z R4 (pc + 10) (with_local n (k + 1) w) (k + 1)) (tt, (tt, (tt, tt)))
       (stands_at z.code pc ms u (first_forms z.code pc 3 all h) i.at) ((needs, tt), ((tt, tt), ((tt, needs), tt))) refl (omega arith)

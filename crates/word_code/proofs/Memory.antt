@@ -1,7 +1,7 @@
--- The stack and the locals: the first eight in registers, the others in RAM.
+-- The stack and the locals: the first eight in registers, the others in RAM, above the stack.
 use Rattle.word_code.proofs.Names.{◌≡◌, ℕ, zero, suc, ◌+◌, ◌-◌, ◌*◌, ◌<◌, ◌≤◌, List, [], ◌∷◌, length, get_or, Option, Some, refl, sym, ap, ◌∙◌, subst, arith}
 use Rattle.word_code.proofs.Names.{Bool, true, false, nat_eq, nat_lt, eq-eqb, ne_eqb, if◌then◌else◌, nat_tests, same_Some, put, IsFram, IsRam}
-use Rattle.word_code.proofs.Names.{put_same, put_other, work_number, HasPushRoom, is_place, assigned, local_register, local_address}
+use Rattle.word_code.proofs.Names.{put_same, put_other, work_number, HasPushRoom, is_place, assigned, local_register, local_address, stack_base, eqb-true}
 use Rattle.word_code.proofs.Stretches.{Setting}
 pub use Rattle.array_versions.specs.alp_words.Words.{AreWords, HoldsWords}
 
@@ -13,6 +13,11 @@ StackIs ram sp (v ∷ vs) = (ram sp ≡ v) × StackIs ram (sp + 2) vs
 stack_put : (ram : ℕ → ℕ) (a w sp : ℕ) (vs : List ℕ) → a < sp → StackIs ram sp vs → StackIs (put ram a w) sp vs
 stack_put ram a w sp [] l h = tt
 stack_put ram a w sp (v ∷ vs) l h = (put_other ram a w sp (λ e. omega arith) ∙ h.0, stack_put ram a w (sp + 2) vs (omega arith) h.1)
+
+-- a word above the stack is put
+stack_below : (ram : ℕ → ℕ) (a w sp : ℕ) (vs : List ℕ) → sp + 2 * length vs ≤ a → StackIs ram sp vs → StackIs (put ram a w) sp vs
+stack_below ram a w sp [] l h = tt
+stack_below ram a w sp (v ∷ vs) l h = (put_other ram a w sp (λ e. omega arith) ∙ h.0, stack_below ram a w (sp + 2) vs (omega arith) h.1)
 
 pub place_is : (a : ℕ) → is_place a ≡ true → IsFram a
 place_is a h = record { even = grind (arith, nat_tests); low = grind (arith, nat_tests); high = grind (arith, nat_tests) }
@@ -56,9 +61,19 @@ in_register work ram n e =
 pub in_ram : (words : List ℕ) (ram : ℕ → ℕ) (n : ℕ) → nat_lt n 8 ≡ false → ram (local_address n) ≡ local_word words ram n
 in_ram words ram n e = ap (λ b. if b then get_or words n 0 else ram (local_address n)) (sym e)
 
--- the locals, and the stack down from 2400
+-- two locals stand at one address where they are one local
+address_same : (k n : ℕ) → n < 0x1200 → nat_eq (local_address k) (local_address n) ≡ nat_eq k n
+address_same k n l = by (nat_eq k n) refl
+  where
+    by : (b : Bool) → nat_eq k n ≡ b → nat_eq (local_address k) (local_address n) ≡ b
+    by true e = let same : k ≡ n = eqb-true k n e in eq-eqb (local_address k) (local_address n) (ap local_address same)
+    by false e =
+        ne_eqb (local_address k) (local_address n)
+        (λ q. let same : k ≡ n = omega (arith, q, l) in let is = eq-eqb k n same in let no = e in absurd (cc))
+
+-- the locals, and the stack down from its base
 pub record Memory (z : Setting) (sp : ℕ) (ram : ℕ → ℕ) (words vs : List ℕ) (ls : ℕ → Option ℕ) : Type 0 where
-  pub depth : sp + 2 * length vs ≡ 0x2400
+  pub depth : sp + 2 * length vs ≡ stack_base z.locals
   pub fits : length vs ≤ z.room
   pub stack : StackIs ram sp vs
   pub vars : (n v : ℕ) → n < z.locals → ls n ≡ Some v → local_word words ram n ≡ v
@@ -74,8 +89,8 @@ module _ (z : Setting) where
   pub push_needs : {sp : ℕ} {ram : ℕ → ℕ} {words vs : List ℕ} {ls : ℕ → Option ℕ} → Memory z sp ram words vs ls → length vs < z.room → HasPushRoom sp
   push_needs m l = let d = m.depth in let r = z.roomy in record { even = omega arith; low = omega arith; high = omega arith }
 
-  pub local_needs : (n : ℕ) → n < z.locals → IsRam (local_address n)
-  local_needs n l = let r = z.roomy in record { even = omega arith; low = omega arith; high = omega arith }
+  pub local_needs : (n : ℕ) → nat_lt n 8 ≡ false → n < z.locals → IsRam (local_address n)
+  local_needs n e l = let r = z.roomy in let m = from_eight n e in record { even = omega arith; low = omega arith; high = omega arith }
 
   pub push_memory : {sp : ℕ} {ram : ℕ → ℕ} {words vs : List ℕ} {ls : ℕ → Option ℕ} (v : ℕ) → Memory z sp ram words vs ls → length vs < z.room
       → Memory z (sp - 2) (put ram (sp - 2) v) words (v ∷ vs) ls
@@ -127,8 +142,8 @@ module _ (z : Setting) where
   pub set_ram : (sp n v : ℕ) (ram : ℕ → ℕ) (words vs : List ℕ) (ls : ℕ → Option ℕ) → nat_lt n 8 ≡ false → n < z.locals → Memory z sp ram words vs ls
       → Memory z sp (put ram (local_address n) v) words vs (assigned ls n v)
   set_ram sp n v ram words vs ls e lt m =
-      let d = m.depth in let f = m.fits in let r = z.roomy in
-      assign sp n v ram (put ram (local_address n) v) words words vs ls m (stack_put ram (local_address n) v sp vs (omega arith) m.stack)
+      let d = m.depth in let h = from_eight n e in
+      assign sp n v ram (put ram (local_address n) v) words words vs ls m (stack_below ram (local_address n) v sp vs (omega arith) m.stack)
       (λ k. by (nat_lt k 8) k refl)
     where
       by : (b : Bool) (k : ℕ) → nat_lt k 8 ≡ b → (if b then get_or words k 0 else put ram (local_address n) v (local_address k))
@@ -138,5 +153,4 @@ module _ (z : Setting) where
           let other : nat_eq k n ≡ false = ne_eqb k n (λ q. omega arith) in
           ap (λ b. if b then v else get_or words k 0) (sym other)
       by false k t =
-          let same : nat_eq (local_address k) (local_address n) ≡ nat_eq k n = grind (arith, nat_tests) in
-          ap (λ b. if b then v else ram (local_address k)) same
+          let r = z.roomy in ap (λ b. if b then v else ram (local_address k)) (address_same k n (omega (arith, r, lt)))

@@ -3,7 +3,7 @@
 pub use Rattle.std.proofs.Common.{◌≡◌, ℕ, ◌+◌, ◌*◌, ◌%◌, ◌<◌, ◌==◌, not, List, [], ◌∷◌, ◌++◌, refl, sym, ap, ◌∙◌, subst, arith, Bool, true, false, ◌≤◌, nat_lt}
 pub use Rattle.std.proofs.Common.{nat_le, if◌then◌else◌, Some, ap₂, suc, ◌-◌, length, drop, get_or, append_assoc, append-nil, ◌/◌, eq-eqb, ne_eqb, eqb-true}
 pub use Rattle.std.proofs.Common.{zero, length-append, Option, None, ltb-true, ◌&&◌, ◌≢◌, ◌||◌, lt-ltb, nat_eq, suc-add, ◌^◌, bit_and, bit_xor, ◌⊎◌, inl, inr}
-pub use Rattle.std.proofs.Common.{⊎_elim, w16, le-leb, le-ltb, All}
+pub use Rattle.std.proofs.Common.{⊎_elim, w16, le-leb, le-ltb, All, max}
 pub use Rattle.std.proofs.Math.Bool.{not-not}
 pub use Rattle.std.proofs.lemmas.Bool.{both_ways, and_parts, cases_eq}
 pub use Rattle.std.proofs.lemmas.Bool.Decides.{nat_tests}
@@ -36,7 +36,7 @@ pub use Rattle.code_forms.specs.Code.{Stands, forms_bytes, forms_run, Runs, Star
 pub use Rattle.code_forms.specs.Forms.{R4, R5, Core, Number, Constant, ToRegister, ToIndexed, Form, Move, Calculate, Update, form_bytes, Register}
 pub use Rattle.code_forms.specs.Forms.{instruction_of, Push, Fram, Ram, ToFram, Source, Jump, Skip, Branch, source_bytes, ToRam, target_bytes, WorkRegister, R6}
 pub use Rattle.code_forms.specs.Forms.{R7, work_number, Indexed, HasPushRoom, source_operand, source_value, source_read, SourceNeeds, board_of, Modify, sensed}
-pub use Rattle.code_forms.specs.Forms.{flags_after, form_step, FormNeeds, IsNotMov}
+pub use Rattle.code_forms.specs.Forms.{flags_after, form_step, FormNeeds, IsNotMov, SetStack}
 pub use Rattle.code_forms.specs.Placed.{instructions, words_of as instruction_words, AreInstructions}
 -- word programs
 pub use Rattle.array_versions.proofs.Interface.{put_words, Leaves, leaves, plain_small, Matches, GoesWell, matches_local, start_matches, step_well, well}
@@ -51,7 +51,7 @@ pub use Rattle.array_versions.specs.Cost.{spent_on, unary_words, binary_words, r
 pub use Rattle.array_versions.specs.Cost.{unary_cycles, binary_cycles, top_spent, spent_by_top, spent_by_two, step_spent, test_spent, spent}
 pub use Rattle.array_versions.specs.Form.{StepLocalsBelow, TestLocalsBelow, LocalsBelow, StepSpares, Spares, Place, start, assigning, Moves, EachTurn}
 pub use Rattle.array_versions.specs.Form.{EachStepWay, EachTestWay, EachWay, TestSpares, StepLoopsCount, TestLoopsCount, LoopsCount, StepOfWords, TestOfWords}
-pub use Rattle.array_versions.specs.Form.{OfWords}
+pub use Rattle.array_versions.specs.Form.{OfWords, step_locals, test_locals, locals_of}
 pub use Rattle.array_versions.specs.Operations.{is_true, compare_words, unary_word, plain_word, binary_word, shift_word, shifted_word}
 pub use Rattle.array_versions.specs.Program.{Step, Test, Program, number, load, keep, update, local, set_local, update_local, unary, binary, shift, long}
 pub use Rattle.array_versions.specs.Program.{element, emit_word, list_entry, versioned_read, versioned_write, versioned_update, sense, truth, choose, repeat}
@@ -71,6 +71,7 @@ pub use Rattle.array_versions.specs.declared.program.ListPlace.{ListPlace}
 -- this room's own definitions
 pub use Rattle.word_code.specs.Code.{number_source, check_code, zero_code, fetch_code, element_code, emit_code, pair_code, entry_code, compare_form, holding}
 pub use Rattle.word_code.specs.Code.{failing, jump_over, decision, waiting_source, flushed, top_of, below_top, any_held, repeated, size, waiting_behind}
+pub use Rattle.word_code.specs.Code.{stack_base, stack_set, stack_cycles, code_spent}
 pub use Rattle.word_code.specs.Code.{step_code, steps_code, local_address, local_target, source_from, cleared, kept, four_from, top_number, element_at, stays}
 pub use Rattle.word_code.specs.Code.{sides, right_source, top_power, two_code, power_code, five_from, top_to_four, top_to_five, two_to_registers, unary_middle}
 pub use Rattle.word_code.specs.Code.{binary_middle, plain_instruction, update_code, double, halve, right_code, shift_by, last_bit, shift_code, shift_middle}

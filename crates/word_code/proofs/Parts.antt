@@ -35,7 +35,7 @@ module _ (z : Setting) where
       let ms = Push (Ram (local_address n)) ∷ [] in
       let same = in_ram (local_words u.work) u.ram n e ∙ i.memory.vars n v f q in
       straight z ms 5 u (end_of u (forms_run ms u).status) [] 5 _ (tt, tt) (stands_at z.code pc ms u h i.at)
-      ((local_needs z n f, push_needs z i.memory s), tt) refl (omega arith)
+      ((local_needs z n e f, push_needs z i.memory s), tt) refl (omega arith)
       (record {
         at = omega (arith, i.at);
         memory =
@@ -126,7 +126,7 @@ module _ (z : Setting) where
       let price = cycles_of (instruction_of m) in
       let to : u.pc + (2 + source_bytes s + 2) ≡ pc + forms_bytes (m ∷ []) = omega (arith, k.at) in
       let after : ℕ → Core = λ y. record t { pc = u.pc + (2 + source_bytes s + 2); ram = put t.ram (local_address n) y } in
-      hop z m most u (after v) [] price _ (ap z.code k.at ∙ h.0) (k.needs, local_needs z n lt) (ap (λ y. Goes [] price (after y)) k.value) q
+      hop z m most u (after v) [] price _ (ap z.code k.at ∙ h.0) (k.needs, local_needs z n e lt) (ap (λ y. Goes [] price (after y)) k.value) q
       (record { at = to; memory = set_ram z t.sp n v t.ram (local_words t.work) vs w.locals e lt i.memory; fram = i.fram; inputs = i.inputs })
 
   pub set_part : (x : Option Waiting) (n v pc : ℕ) (vs : List ℕ) (w : WordState) (u : Core) → n < z.locals

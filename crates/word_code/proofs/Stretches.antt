@@ -1,17 +1,17 @@
 -- Stretches of code that stays, with room for locals and a stack.
 use Rattle.word_code.proofs.Names.{subst, ◌≡◌, ℕ, ◌+◌, ◌*◌, ◌≤◌, List, [], ◌++◌, Some, arith, forms_bytes, stands_front, stands_back, forms_bytes-append}
 use Rattle.word_code.proofs.Names.{Effect, Goes, Stops, At, stretch, Code, Core, Form, instruction_of, form_step, FormNeeds, Stands, AreStraight, forms_run}
-use Rattle.word_code.proofs.Names.{FormsNeed, IsTidy, Runs, Starves}
+use Rattle.word_code.proofs.Names.{FormsNeed, IsTidy, Runs, Starves, stack_base}
 use Rattle.array_versions.specs.msp_step.declared.machine.Stop.TheVariants as stop
 use Rattle.code_forms.proofs.Interface as blocks
 
--- some code, and how much of RAM the locals and the stack may take
+-- some code, how many locals it has, and how many words its stack may take, which begins below those of them that stand in RAM
 pub record Setting : Type 0 where
   pub code : Code
   pub tidy : IsTidy code
   pub locals : ℕ
   pub room : ℕ
-  pub roomy : 0x1C20 + 2 * (locals + room) ≤ 0x2400
+  pub roomy : 0x1C20 + 2 * room ≤ stack_base locals
 
 -- straight code comes to where its forms do
 pub straight : (z : Setting) (ms : List Form) (most : ℕ) (u t : Core) (es : List Effect) (c : ℕ) (P : Core → Type 0) → AreStraight ms → Stands z.code u.pc ms

@@ -65,7 +65,7 @@ module _ (z : Setting) where
       runs_on z (to_five_part z x pc w v vs u (h.0, tt) k) (λ t j.
       let i = j.is in
       straight z ms 3 t (end_of t (forms_run ms t).status) [] 3 _ (tt, tt)
-      (stands_at z.code mid ms t h.1 i.at) ((local_needs z n lt, tt), tt) refl (omega arith)
+      (stands_at z.code mid ms t h.1 i.at) ((local_needs z n b lt, tt), tt) refl (omega arith)
       (record {
         is = record { at = omega (arith, i.at); memory = i.memory; fram = i.fram; inputs = i.inputs };
         held = record { four = in_ram (local_words t.work) t.ram n b ∙ i.memory.vars n y lt q; five = j.held };
@@ -79,7 +79,7 @@ module _ (z : Setting) where
       let ms = Move (Register R4) (ToRam (local_address n)) ∷ [] in
       let i = k.is in
       straight z ms 4 t (end_of t (forms_run ms t).status) [] 4 _ (tt, tt) (stands_at z.code pc ms t (h, tt) i.at)
-      ((tt, local_needs z n lt), tt) refl (omega arith)
+      ((tt, local_needs z n b lt), tt) refl (omega arith)
       (record {
         at = omega (arith, i.at);
         memory =

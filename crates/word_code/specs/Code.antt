@@ -1,5 +1,5 @@
 -- The code of a word program, which does the same wherever it stands: the stack is at SP, its top first, below the words that wait to be pushed; the
--- locals stand in R8 to R15 and, from the ninth on, in RAM; R4 to R7 are for work.
+-- locals stand in R8 to R15 and, from the ninth on, in RAM above the stack; R4 to R7 are for work.
 use Rattle.std.specs.Prelude.{ℕ, zero, suc, ◌+◌, ◌-◌, ◌*◌, ◌/◌, Bool, true, false, not, List, [], ◌∷◌, ◌++◌, get_or, ◌==◌, if◌then◌else◌, nat_le, nat_lt, ◌&&◌}
 use Rattle.std.specs.Prelude.{◌^◌, Option, Some, None}
 use Rattle.std.specs.Int.{w16, trailing_zeros}
@@ -16,7 +16,7 @@ use Rattle.array_versions.specs.msp_step.declared.effect.Modification.TheVariant
 use Rattle.array_versions.specs.msp_step.msp_isa.alp_words.Words.{word_sum}
 use Rattle.code_forms.specs.Forms as forms
 use Rattle.code_forms.specs.Forms.{WorkRegister, R4, R5, R6, R7, R8, R9, R10, R11, R12, R13, R14, R15, Register, Number, Constant, Fram, Ram, Indexed, Popped}
-use Rattle.code_forms.specs.Forms.{Source, ToRegister, ToFram, ToRam, ToIndexed, Target, Form, Move, Calculate, Update, Push, Modify, Jump, Skip, Branch}
+use Rattle.code_forms.specs.Forms.{Source, ToRegister, ToFram, ToRam, ToIndexed, Target, Form, Move, Calculate, Update, Push, Modify, SetStack, Jump, Skip, Branch}
 use Rattle.code_forms.specs.Code.{forms_bytes}
 use Rattle.word_code.specs.declared.bounds.Bound.{Bound}
 use Rattle.word_code.specs.declared.waiting.Waiting.{Waiting}
@@ -38,6 +38,9 @@ use Rattle.array_versions.specs.declared.operations.LongOperation.TheVariants as
 use Rattle.array_versions.specs.Program.{Step, Test, Program, number, load, keep, update, local, set_local, update_local, unary, binary, shift, long, element}
 use Rattle.array_versions.specs.Program.{emit_word, list_entry, versioned_read, versioned_write, versioned_update, sense, truth, choose, repeat, store_number}
 use Rattle.array_versions.specs.Program.{move_word, jump, holds, compares, both, either, fails, nothing, step}
+use Rattle.array_versions.specs.Form.{locals_of}
+use Rattle.array_versions.specs.Behaviour.{WordState}
+use Rattle.array_versions.specs.Cost.{spent}
 
 -- the registers of the first eight locals
 abbrev pub local_registers : List WorkRegister
@@ -47,9 +50,21 @@ local_registers = R8 ∷ R9 ∷ R10 ∷ R11 ∷ R12 ∷ R13 ∷ R14 ∷ R15 ∷ 
 abbrev pub local_register : ℕ → WorkRegister
 local_register n = get_or local_registers n R15
 
--- where any other local stands in RAM
+-- where any other local stands in RAM: the ninth in its last word, each other one a word below the one before
 abbrev pub local_address : ℕ → ℕ
-local_address n = 0x1C20 + 2 * n
+local_address n = 0x240E - 2 * n
+
+-- where the stack of a program begins whose locals are below this number: right below those that stand in RAM
+abbrev pub stack_base : ℕ → ℕ
+stack_base locals = 0x2400 - 2 * (locals - 8)
+
+-- SP is set there, where some stand in RAM; else it is at the end of RAM from an attempt's start on
+abbrev pub stack_set : ℕ → List Form
+stack_set locals = if nat_lt 8 locals then SetStack (stack_base locals) ∷ [] else []
+
+-- the cycles for that, at most
+abbrev pub stack_cycles : ℕ
+stack_cycles = 2
 
 -- a local as what MOV writes
 abbrev pub local_target : ℕ → Target
@@ -921,6 +936,10 @@ abbrev mutual
 abbrev pub block_code : List Bound → Program → List Form
 block_code bs p = steps_code bs [] p ++ flushed (waiting_after [] p)
 
--- the code of a program
+-- the code of a program: the stack has its place, and then its steps
 abbrev pub code_of : Program → List Form
-code_of p = block_code [] p
+code_of p = stack_set (locals_of p) ++ block_code [] p
+
+-- its cycles from a state on, at most, on the way that the program takes
+abbrev pub code_spent : Program → WordState → ℕ
+code_spent p s = stack_cycles + spent p s

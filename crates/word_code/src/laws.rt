@@ -1,6 +1,7 @@
 //! Laws of the code of word programs. The functions do nothing: their contracts are the laws.
 
 ghost use Rattle.word_code.specs.Laws.{CodeDoesAsProgram, RunsStayWithin, StarvingStaysWithin, CodeHasItsBytes, CodeHasItsWords, CodeIsInstructions};
+ghost use Rattle.word_code.specs.TaskForms.{CodeIsOfTaskForms, CodeNamesRamFrom};
 
 /// The code of a whole program makes the program's effects within the cycles of the way that it takes, and comes to the program's end: behind its
 /// jump, or to an instruction that wants a reading where none is left.
@@ -21,4 +22,11 @@ pub fn code_has_its_words()
     ensures bytes { CodeHasItsBytes }
     ensures words { CodeHasItsWords }
     ensures instructions { CodeIsInstructions }
+{}
+
+/// The code of a program names no word of RAM below the place of its stack, sets SP there alone, and reads and writes RAM else at SP.
+#[tactic(auto, using(crate::proofs::TaskForms::code_is_of_task_forms, crate::proofs::TaskForms::code_names_ram_from))]
+pub fn code_keeps_above_its_stack()
+    ensures forms { CodeIsOfTaskForms }
+    ensures ram { CodeNamesRamFrom }
 {}

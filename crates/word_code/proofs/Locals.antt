@@ -1,0 +1,77 @@
+-- The locals that a program names, by the greatest of them; and the place of the stack below them.
+use Rattle.word_code.proofs.Names.{◌≡◌, ℕ, ◌+◌, ◌≤◌, Bool, true, false, nat_lt, if◌then◌else◌, nat_tests, List, [], ◌∷◌, refl, arith}
+use Rattle.word_code.proofs.Names.{Step, Test, Program, local, set_local, update_local, truth, choose, repeat, holds, compares, both, either, fails, nothing, step}
+use Rattle.word_code.proofs.Names.{StepLocalsBelow, TestLocalsBelow, LocalsBelow, step_locals, test_locals, locals_of}
+use Rattle.word_code.proofs.Names.{Core, Form, SetStack, forms_bytes, Stands, Runs, stack_base, stack_set, stack_cycles}
+use Rattle.word_code.proofs.Stretches.{Setting, hop, nothing_run, dearer}
+
+-- ---- each local is below a number where the greatest is
+
+mutual
+  step_below : (k : ℕ) (s : Step) → step_locals s ≤ k → StepLocalsBelow k s
+  step_below k (local n) l = omega (arith, l)
+  step_below k (set_local n) l = omega (arith, l)
+  step_below k (update_local o n) l = omega (arith, l)
+  step_below k (truth t) l = test_below k t l
+  step_below k (choose t p q) l =
+      (test_below k t (omega (arith, l)), program_below k p (omega (arith, l)), program_below k q (omega (arith, l)))
+  step_below k (repeat n from below p) l = (omega (arith, l), program_below k p (omega (arith, l)))
+  step_below k _ l = tt
+
+  test_below : (k : ℕ) (t : Test) → test_locals t ≤ k → TestLocalsBelow k t
+  test_below k (holds p) l = program_below k p l
+  test_below k (compares o p) l = program_below k p l
+  test_below k (both t u) l = (test_below k t (omega (arith, l)), test_below k u (omega (arith, l)))
+  test_below k (either t u) l = (test_below k t (omega (arith, l)), test_below k u (omega (arith, l)))
+  test_below k (fails t) l = test_below k t l
+
+  pub program_below : (k : ℕ) (p : Program) → locals_of p ≤ k → LocalsBelow k p
+  program_below k nothing l = tt
+  program_below k (step s p) l = (step_below k s (omega (arith, l)), program_below k p (omega (arith, l)))
+
+-- and the other way round
+mutual
+  step_least : (k : ℕ) (s : Step) → StepLocalsBelow k s → step_locals s ≤ k
+  step_least k (local n) h = omega (arith, h)
+  step_least k (set_local n) h = omega (arith, h)
+  step_least k (update_local o n) h = omega (arith, h)
+  step_least k (truth t) h = test_least k t h
+  step_least k (choose t p q) h = omega (arith, test_least k t h.0, program_least k p h.1, program_least k q h.2)
+  step_least k (repeat n from below p) h = omega (arith, h.0, program_least k p h.1)
+  step_least k _ h = omega arith
+
+  test_least : (k : ℕ) (t : Test) → TestLocalsBelow k t → test_locals t ≤ k
+  test_least k (holds p) h = program_least k p h
+  test_least k (compares o p) h = program_least k p h
+  test_least k (both t u) h = omega (arith, test_least k t h.0, test_least k u h.1)
+  test_least k (either t u) h = omega (arith, test_least k t h.0, test_least k u h.1)
+  test_least k (fails t) h = test_least k t h
+
+  pub program_least : (k : ℕ) (p : Program) → LocalsBelow k p → locals_of p ≤ k
+  program_least k nothing h = omega arith
+  program_least k (step s p) h = omega (arith, step_least k s h.0, program_least k p h.1)
+
+-- ---- the place of the stack
+
+-- the machine with its stack there, behind the code that sets it
+pub record HasStack (pc base : ℕ) (u t : Core) : Type 0 where
+  pub at : t.pc ≡ pc
+  pub sp : t.sp ≡ base
+  pub fram : t.fram ≡ u.fram
+  pub inputs : t.inputs ≡ u.inputs
+
+set_by : (z : Setting) (locals : ℕ) (b : Bool) (u : Core) → nat_lt 8 locals ≡ b → u.sp ≡ 0x2400
+    → (let ms : List Form = if b then SetStack (stack_base locals) ∷ [] else [] in Stands z.code u.pc ms
+    → Runs z.code [] stack_cycles u (HasStack (u.pc + forms_bytes ms) (stack_base locals) u))
+set_by z locals true u e sp h =
+    let base = stack_base locals in
+    let t : Core = record u { pc = u.pc + 4; sp = base } in
+    hop z (SetStack base) 2 u t [] 2 (HasStack (u.pc + 4) base u) h.0 (omega arith) refl (omega arith)
+    (record { at = refl; sp = refl; fram = refl; inputs = refl })
+set_by z locals false u e sp h =
+    let few : locals ≤ 8 = grind (arith, nat_tests) in
+    dearer z (omega arith) (nothing_run z (record { at = omega arith; sp = omega (arith, sp, few); fram = refl; inputs = refl }))
+
+pub stack_part : (z : Setting) (locals : ℕ) (u : Core) → u.sp ≡ 0x2400 → Stands z.code u.pc (stack_set locals)
+    → Runs z.code [] stack_cycles u (HasStack (u.pc + forms_bytes (stack_set locals)) (stack_base locals) u)
+stack_part z locals u sp h = set_by z locals (nat_lt 8 locals) u refl sp h
