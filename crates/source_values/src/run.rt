@@ -53,7 +53,13 @@ impl Model for SourceRun {
 
     ghost Value = { RunState };
 
-    ghost view = { λ r. record { before = rows_of r.before.items; shared = r.scratch.shared.base; written = r.written; emitted = r.emitted.items; task = r.task } };
+    ghost view = { λ r. record {
+      before = rows_of r.before.items;
+      shared = r.scratch.shared.base;
+      written = r.written;
+      emitted = r.emitted.items;
+      task = r.task;
+    } };
 
     ghost invariant = { λ r. (map length (rows_of r.before.items) ≡ map length r.scratch.shared.base)
         × (r.scratch.shared.rows ≡ r.scratch.shared.base)
