@@ -47,7 +47,7 @@ pub struct SourceRun {
 
 impl Model for SourceRun {
     ghost use Rattle.std.specs.Prelude.{◌≡◌, map, length};
-    ghost use Rattle.source_values.specs.Runs.{RunState};
+    ghost use Rattle.source_values.specs.Running.{RunState};
     ghost use Rattle.source_values.specs.View.{rows_of};
     ghost use Rattle.source_values.specs.Marks.{Covers};
 
