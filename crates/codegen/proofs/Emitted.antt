@@ -4,7 +4,7 @@ use Rattle.codegen.proofs.Names.{Some, ◌==◌, add-one, rules, subst, Bool, tr
 use Rattle.codegen.proofs.Names.{slice_index_or, on_ok_weaker, Word, Instr, Two, Form, Push, instruction_of, instructions, instruction_words}
 use Rattle.codegen.proofs.Names.{instructions-append, Comparison, PlainOperation, ArrayPlace, ListPlace, Step, Test, Program, local, set_local, update_local}
 use Rattle.codegen.proofs.Names.{versioned_read, versioned_write, versioned_update, truth, choose, repeat, holds, compares, both, either, fails, nothing, step}
-use Rattle.codegen.proofs.Names.{step_of, steps_of, test_of, StepLocalsBelow, TestLocalsBelow, LocalsBelow, Bound, Waiting, waiting_source, flushed, top_of}
+use Rattle.codegen.proofs.Names.{step_of, steps_of, test_of, Bound, Waiting, waiting_source, flushed, top_of}
 use Rattle.codegen.proofs.Names.{below_top, repeated, size, waiting_behind, step_code, steps_code, TwoOp}
 use Rattle.word_code.specs.array_versions.declared.program.WordStep.{WordStep, the_lemmas}
 use Rattle.word_code.specs.array_versions.declared.program.WordStep.TheVariants.{VersionedRead, VersionedWrite, VersionedUpdate, Choose}
@@ -16,7 +16,8 @@ use Rattle.std.specs.Result.{OnOk}
 use Rattle.std.specs.declared.alloc.Global.{Global}
 use Rattle.std.specs.declared.boxed.Box.{Box}
 use Rattle.std.specs.declared.vec.Vec.{Vec}
-use Rattle.word_code.proofs.Interface.{test_takes, size_words}
+use Rattle.word_code.proofs.Interface.{test_takes, size_words, program_least}
+use Rattle.word_code.specs.array_versions.Form.{IsWhole, locals_of}
 
 -- ---- one level of a step and of a test
 
@@ -171,24 +172,6 @@ pub test_items : (bs : List Bound) (t : Test) (when : Bool) (d : ℕ) (own : Lis
     → length (instruction_words own) ≤ test_words t
 test_items bs t when d own e = omega (arith, own_words own (test_code bs t when d) e, (test_takes bs t when d).bytes)
 
--- more room for locals
-mutual
-  step_locals_up : (a b : ℕ) (s : Step) → a ≤ b → StepLocalsBelow a s → StepLocalsBelow b s
-  step_locals_up a b (local n) l h = omega (arith, h)
-  step_locals_up a b (set_local n) l h = omega (arith, h)
-  step_locals_up a b (update_local o n) l h = omega (arith, h)
-  step_locals_up a b (truth c) l h = test_locals_up a b c l h
-  step_locals_up a b (choose c p q) l h = (test_locals_up a b c l h.0, locals_up a b p l h.1, locals_up a b q l h.2)
-  step_locals_up a b (repeat n from below p) l h = (omega (arith, h.0), locals_up a b p l h.1)
-  step_locals_up a b _ l h = tt
-
-  test_locals_up : (a b : ℕ) (c : Test) → a ≤ b → TestLocalsBelow a c → TestLocalsBelow b c
-  test_locals_up a b (holds p) l h = locals_up a b p l h
-  test_locals_up a b (compares o p) l h = locals_up a b p l h
-  test_locals_up a b (both c d) l h = (test_locals_up a b c l h.0, test_locals_up a b d l h.1)
-  test_locals_up a b (either c d) l h = (test_locals_up a b c l h.0, test_locals_up a b d l h.1)
-  test_locals_up a b (fails c) l h = test_locals_up a b c l h
-
-  pub locals_up : (a b : ℕ) (p : Program) → a ≤ b → LocalsBelow a p → LocalsBelow b p
-  locals_up a b nothing l h = tt
-  locals_up a b (step s p) l h = (step_locals_up a b s l h.0, locals_up a b p l h.1)
+-- of a whole program no local is further up than RAM has room
+pub whole_locals : (p : Program) → IsWhole p → locals_of p ≤ 1008
+whole_locals p whole = omega (arith, program_least whole.locals p whole.low_locals, whole.fits)

@@ -47,7 +47,16 @@ use Rattle.compiled_runs.specs.Program.{placed_code, IsBooting, IsStarting, comp
 use Rattle.compiled_runs.specs.Laws.{CanRun, CodeKeepsTheLaws}
 use Rattle.compiled_runs.proofs.Steps.{code_takes}
 
-module _ (p : CheckedProgram) (l : MemoryMap) (r : CanRun p l) (laws : ModelLaws (compiled_model p l)) where
+-- a source with its layout, whose code can run and which keeps the laws of a model
+record Source : Type 0 where
+  program : CheckedProgram
+  map : MemoryMap
+  can : CanRun program map
+  laws : ModelLaws (compiled_model program map)
+
+module _ (source : Source) where
+  open source use {program as p, map as l, can as r, laws}
+
   abbrev m : Model State
   m = compiled_model p l
 
@@ -177,8 +186,21 @@ module _ (p : CheckedProgram) (l : MemoryMap) (r : CanRun p l) (laws : ModelLaws
       }
   decided_behind s x inputs Short q d t = absurd (let e = d.is in cc (t, e))
 
-  module _ (s : State) (accepted : List ℕ) (u : Core) (words : InputsAreWords u.inputs)
-      (und : m.Undecided s (record { fram = u.fram; accepted = accepted })) where
+  -- an undecided world, and a machine with its FRAM from which the start of an attempt is reached
+  record Attempting : Type 0 where
+    state : State
+    accepted : List ℕ
+    core : Core
+    words : InputsAreWords core.inputs
+    undecided : m.Undecided state (record { fram = core.fram; accepted = accepted })
+    steps : ℕ
+    cycles : ℕ
+    few : cycles ≤ 6
+    comes : Comes code [] steps cycles core (IsAt start_at core.fram core.inputs)
+
+  module _ (at : Attempting) where
+    open at use {state as s, accepted, core as u, words, undecided as und, steps, cycles, few, comes}
+
     abbrev x : World
     x = record { fram = u.fram; accepted = accepted }
 
@@ -231,85 +253,84 @@ module _ (p : CheckedProgram) (l : MemoryMap) (r : CanRun p l) (laws : ModelLaws
     abbrev script_by : End → ProgramEffects
     script_by e = with_commit m u.fram u.inputs (program_effects (es ++ b.effects) (has_jumped e))
 
-    module _ (steps cycles : ℕ) (few : cycles ≤ 6) (a : Comes code [] steps cycles u (IsAt start_at u.fram u.inputs)) where
-      abbrev clears : Bool
-      clears = is_at_end l u.fram
+    abbrev clears : Bool
+    clears = is_at_end l u.fram
 
-      abbrev to_steps : ℕ
-      to_steps = steps + start_steps clears l.versions.words (length (privates k))
+    abbrev to_steps : ℕ
+    to_steps = steps + start_steps clears l.versions.words (length (privates k))
 
-      abbrev to_cycles : ℕ
-      to_cycles = cycles + start_cycles clears l.versions.words (length (privates k))
+    abbrev to_cycles : ℕ
+    to_cycles = cycles + start_cycles clears l.versions.words (length (privates k))
 
-      -- the bound has room for the clearing in each attempt
-      at_most : start_cycles clears l.versions.words (length (privates k)) ≤ start_cycles true l.versions.words (length (privates k))
-      at_most = clearing_is_dearest clears l.versions.words (length (privates k))
+    -- the bound has room for the clearing in each attempt
+    at_most : start_cycles clears l.versions.words (length (privates k)) ≤ start_cycles true l.versions.words (length (privates k))
+    at_most = clearing_is_dearest clears l.versions.words (length (privates k))
 
-      there : Comes code es to_steps to_cycles u (Enters (entry_at tasks k).code stack_top g u.inputs)
-      there = to_task l (lowered l p) r.fits are_whole u steps cycles a program_named (und.is_open.words (word_place l Version))
+    there : Comes code es to_steps to_cycles u (Enters (entry_at tasks k).code stack_top g u.inputs)
+    there = to_task l (lowered l p) r.fits are_whole u steps cycles comes program_named (und.is_open.words (word_place l Version))
 
-      body : DoesBody l (lowered l p) r.fits are_whole there.end k g u.inputs
-      body = body_there l (lowered l p) r.fits are_whole there.end k g u.inputs there.holds program_named start_words words
+    body : DoesBody l (lowered l p) r.fits are_whole there.end k g u.inputs
+    body = body_there l (lowered l p) r.fits are_whole there.end k g u.inputs there.holds program_named start_words words
 
-      jumps_on : (to : ℕ) (w : WordState) → b.end ≡ Jumps to w → to ≡ l.commit.address
-          → Runs code b.effects (code_spent (task_program p l k) (started g u.inputs)) there.end (HasJumped to w)
-          → IsDecidedBehind s u.fram (es ++ b.effects) → Makes c m.delay (cost k) (script_by (Jumps to w)) (board_of u)
-      jumps_on to w e t q d =
-          let by = subst (EndsByEffects (started g u.inputs) b.effects) e (behaves_by_effects (task_program p l k) (started g u.inputs)) in
-          let same : w.fram ≡ f = by.0 ∙ sym (fram_after-append es b.effects u.fram) in
-          let v = q.end in
-          let fits : FitsCommit s.task f = subst (FitsCommit s.task) d.fram (fits_commit s d.next d.world d.decided) in
-          let arrived : IsAt l.commit.address f v.inputs v = record { pc = q.holds.pc ∙ t; fram = q.holds.fram ∙ same; inputs = refl } in
-          let h = commit_there l (lowered l p) r.fits are_whole v f v.inputs arrived fits.can fits.base in
-          let n = f (word_place l ListLength) in let ws = length (listed l f) in let o = f (word_place l EmitCount) in
-          let one = join (exec code) to_steps q.steps es b.effects to_cycles q.cycles (board_of u) (board_of there.end) (board_of v) there.leads q.leads in
-          let all = join (exec code) (to_steps + q.steps) (commit_steps n ws o) (es ++ b.effects) (commit_effects l f)
-          (to_cycles + q.cycles) (commit_cycles n ws o) (board_of u) (board_of v) (board_of h.end) one h.leads in
-          let list : n ≤ (program_places p l).list_capacity k = subst (λ j. n ≤ (program_places p l).list_capacity j) (sym is_current) fits.list in
-          let words : ws ≤ (program_places p l).list_capacity k = subst (λ j. ws ≤ (program_places p l).list_capacity j) (sym is_current) fits.words in
-          let emits : o ≤ (program_places p l).emit_capacity k = subst (λ j. o ≤ (program_places p l).emit_capacity j) (sym is_current) fits.emits in
-          let most = within in let start_most = at_most in let body_most = q.within in
-          let dearest = commit_grows n ((program_places p l).list_capacity k) ws ((program_places p l).list_capacity k) o
-          ((program_places p l).emit_capacity k) list words emits in
-          record {
-            steps = to_steps + q.steps + commit_steps n ws o;
-            cycles = to_cycles + q.cycles + commit_cycles n ws o;
-            ends = λ z. record {
-              end = board_of h.end;
-              within = omega (arith, few, most, start_most, body_most, dearest);
-              leads = all;
-              at_start = record { core = h.end; is = refl; pc = h.holds.pc };
-            };
-            lacks = λ z. absurd (cc (z));
-          }
+    jumps_on : (to : ℕ) (w : WordState) → b.end ≡ Jumps to w → to ≡ l.commit.address
+        → Runs code b.effects (code_spent (task_program p l k) (started g u.inputs)) there.end (HasJumped to w)
+        → IsDecidedBehind s u.fram (es ++ b.effects) → Makes c m.delay (cost k) (script_by (Jumps to w)) (board_of u)
+    jumps_on to w e t q d =
+        let by = subst (EndsByEffects (started g u.inputs) b.effects) e (behaves_by_effects (task_program p l k) (started g u.inputs)) in
+        let same : w.fram ≡ f = by.0 ∙ sym (fram_after-append es b.effects u.fram) in
+        let v = q.end in
+        let fits : FitsCommit s.task f = subst (FitsCommit s.task) d.fram (fits_commit s d.next d.world d.decided) in
+        let arrived : IsAt l.commit.address f v.inputs v = record { pc = q.holds.pc ∙ t; fram = q.holds.fram ∙ same; inputs = refl } in
+        let h = commit_there l (lowered l p) r.fits are_whole v f v.inputs arrived fits.can fits.base in
+        let n = f (word_place l ListLength) in let ws = length (listed l f) in let o = f (word_place l EmitCount) in
+        let one = join (exec code) to_steps q.steps es b.effects to_cycles q.cycles (board_of u) (board_of there.end) (board_of v) there.leads q.leads in
+        let all = join (exec code) (to_steps + q.steps) (commit_steps n ws o) (es ++ b.effects) (commit_effects l f)
+        (to_cycles + q.cycles) (commit_cycles n ws o) (board_of u) (board_of v) (board_of h.end) one h.leads in
+        let list : n ≤ (program_places p l).list_capacity k = subst (λ j. n ≤ (program_places p l).list_capacity j) (sym is_current) fits.list in
+        let words : ws ≤ (program_places p l).list_capacity k = subst (λ j. ws ≤ (program_places p l).list_capacity j) (sym is_current) fits.words in
+        let emits : o ≤ (program_places p l).emit_capacity k = subst (λ j. o ≤ (program_places p l).emit_capacity j) (sym is_current) fits.emits in
+        let most = within in let start_most = at_most in let body_most = q.within in
+        let dearest = commit_grows n ((program_places p l).list_capacity k) ws ((program_places p l).list_capacity k) o
+        ((program_places p l).emit_capacity k) list words emits in
+        record {
+          steps = to_steps + q.steps + commit_steps n ws o;
+          cycles = to_cycles + q.cycles + commit_cycles n ws o;
+          ends = λ z. record {
+            end = board_of h.end;
+            within = omega (arith, few, most, start_most, body_most, dearest);
+            leads = all;
+            at_start = record { core = h.end; is = refl; pc = h.holds.pc };
+          };
+          lacks = λ z. absurd (cc (z));
+        }
 
-      lacks_on : Starves code b.effects (code_spent (task_program p l k) (started g u.inputs)) there.end
-          → Makes c m.delay (cost k) (script_by Lacks) (board_of u)
-      lacks_on q =
-          let all = join_stall (exec code) to_steps q.steps es b.effects to_cycles q.cycles (board_of u) (board_of there.end) q.price stop.NoReading
-          there.leads q.stalls in
-          let most = within in let start_most = at_most in let body_most = q.within in
-          let all' : Stalls (exec code) (to_steps + q.steps) ((es ++ b.effects) ++ []) (to_cycles + q.cycles) (board_of u) q.price stop.NoReading =
-          subst (λ y. Stalls (exec code) (to_steps + q.steps) y (to_cycles + q.cycles) (board_of u) q.price stop.NoReading)
-          (sym (append-nil (es ++ b.effects))) all in
-          record {
-            steps = to_steps + q.steps;
-            cycles = to_cycles + q.cycles;
-            ends = λ z. absurd (cc (z));
-            lacks = λ z. record { price = q.price; within = omega (arith, few, most, start_most, body_most); stalls = all' };
-          }
+    lacks_on : Starves code b.effects (code_spent (task_program p l k) (started g u.inputs)) there.end
+        → Makes c m.delay (cost k) (script_by Lacks) (board_of u)
+    lacks_on q =
+        let all = join_stall (exec code) to_steps q.steps es b.effects to_cycles q.cycles (board_of u) (board_of there.end) q.price stop.NoReading
+        there.leads q.stalls in
+        let most = within in let start_most = at_most in let body_most = q.within in
+        let all' : Stalls (exec code) (to_steps + q.steps) ((es ++ b.effects) ++ []) (to_cycles + q.cycles) (board_of u) q.price stop.NoReading =
+        subst (λ y. Stalls (exec code) (to_steps + q.steps) y (to_cycles + q.cycles) (board_of u) q.price stop.NoReading)
+        (sym (append-nil (es ++ b.effects))) all in
+        record {
+          steps = to_steps + q.steps;
+          cycles = to_cycles + q.cycles;
+          ends = λ z. absurd (cc (z));
+          lacks = λ z. record { price = q.price; within = omega (arith, few, most, start_most, body_most); stalls = all' };
+        }
 
-      by_end : (e : End) → b.end ≡ e → LeavesFor l.commit.address e
-          → ComesTo code (code_spent (task_program p l k) (started g u.inputs)) there.end b.effects e → Makes c m.delay (cost k) (script_by e) (board_of u)
-      by_end (Jumps to w) e t q =
-          jumps_on to w e t q (decided_behind s x u.inputs (m.task s u.inputs) (m.attempt u.fram u.inputs) contract (ap has_jumped e))
-      by_end Lacks e t q = lacks_on q
-      by_end (GoesOn w) e t q = absurd t
-      by_end Strays e t q = absurd t
-      by_end Broken e t q = absurd t
+    by_end : (e : End) → b.end ≡ e → LeavesFor l.commit.address e
+        → ComesTo code (code_spent (task_program p l k) (started g u.inputs)) there.end b.effects e → Makes c m.delay (cost k) (script_by e) (board_of u)
+    by_end (Jumps to w) e t q =
+        jumps_on to w e t q (decided_behind s x u.inputs (m.task s u.inputs) (m.attempt u.fram u.inputs) contract (ap has_jumped e))
+    by_end Lacks e t q = lacks_on q
+    by_end (GoesOn w) e t q = absurd t
+    by_end Strays e t q = absurd t
+    by_end Broken e t q = absurd t
 
-      made : Makes c m.delay (cost s.task) (with_commit m u.fram u.inputs (m.attempt u.fram u.inputs)) (board_of u)
-      made = subst (λ t. Makes c m.delay (cost t) (script_by b.end) (board_of u)) is_current (by_end b.end refl leaves body)
+    made : Makes c m.delay (cost s.task) (with_commit m u.fram u.inputs (m.attempt u.fram u.inputs)) (board_of u)
+    made = subst (λ t. Makes c m.delay (cost t) (script_by b.end) (board_of u)) is_current (by_end b.end refl leaves body)
 
   makes_from : (s : State) (x : World) (b : MachineBoard) → ReachesStart b → b.fram ≡ x.fram → InputsAreWords b.inputs → m.Undecided s x
       → Makes c m.delay (cost s.task) (with_commit m b.fram b.inputs (m.attempt b.fram b.inputs)) b
@@ -320,7 +341,17 @@ module _ (p : CheckedProgram) (l : MemoryMap) (r : CanRun p l) (laws : ModelLaws
       subst (λ g. m.Undecided s (record { fram = g; accepted = x.accepted })) f und in
       let words' : InputsAreWords u.inputs = subst (λ q. InputsAreWords q.inputs) k.is words in
       subst (λ q. Makes c m.delay (cost s.task) (with_commit m q.fram q.inputs (m.attempt q.fram q.inputs)) q) (sym k.is)
-      (made s x.accepted u words' und' k.steps k.cycles k.within k.comes)
+      (made (record {
+        state = s;
+        accepted = x.accepted;
+        core = u;
+        words = words';
+        undecided = und';
+        steps = k.steps;
+        cycles = k.cycles;
+        few = k.within;
+        comes = k.comes;
+      }))
 
   makes_boot : (s : State) (x : World) (b : MachineBoard) → IsBooting l b → b.fram ≡ x.fram → InputsAreWords b.inputs → m.Undecided s x
       → Makes c m.delay (cost s.task) (with_commit m b.fram b.inputs (m.attempt b.fram b.inputs)) b
@@ -329,10 +360,12 @@ module _ (p : CheckedProgram) (l : MemoryMap) (r : CanRun p l) (laws : ModelLaws
       makes_from s x b (from_boot b k zero) same words und
 
 pub code_keeps_the_laws : CodeKeepsTheLaws
-code_keeps_the_laws p l r laws = record {
-  changes = λ s. code_changes_by_effects (placed_code p l) s;
-  takes_cycles = λ s. code_takes (placed_code p l) s;
-  makes_boot = makes_boot p l r laws;
-  makes_attempt = λ s x b k. makes_from p l r laws s x b (from_start p l r laws b k);
-  makes_commit = makes_commit p l r laws;
-}
+code_keeps_the_laws p l r laws =
+    let source : Source = record { program = p; map = l; can = r; laws = laws } in
+    record {
+      changes = λ s. code_changes_by_effects (placed_code p l) s;
+      takes_cycles = λ s. code_takes (placed_code p l) s;
+      makes_boot = makes_boot source;
+      makes_attempt = λ s x b k. makes_from source s x b (from_start source b k);
+      makes_commit = makes_commit source;
+    }

@@ -47,7 +47,6 @@ address_word a ws h l = (
 )
 
 name_byte_inked : (b : ℕ) → is_name_byte b ≡ true → 36 < b
-unfolding is_letter
 name_byte_inked b h = grind (arith, nat_tests, h)
 
 name_inked : (bs : List ℕ) → list_all is_name_byte bs ≡ true → Inked bs

@@ -1,18 +1,15 @@
 -- Names of variables and tasks.
 use Rattle.std.specs.Prelude.{ℕ, ◌==◌, ◌&&◌, ◌||◌, Bool, false, nat_le, if◌then◌else◌, List, [], ◌∷◌, length, Option, Some, None}
 use Rattle.std.specs.List.{list_all}
-
--- a digit
-abbrev pub is_digit : ℕ → Bool
-is_digit b = nat_le 48 b && nat_le b 57
+use Rattle.std.specs.Char.{is_ascii_digit, is_ascii_alphabetic}
 
 -- a letter in either case, or `_`
-unfoldable pub is_letter : ℕ → Bool
-is_letter b = (nat_le 65 b && nat_le b 90) || ((nat_le 97 b && nat_le b 122) || (b == 95))
+abbrev pub is_letter : ℕ → Bool
+is_letter b = is_ascii_alphabetic b || b == 95
 
 -- a letter, a digit or `_`
 abbrev pub is_name_byte : ℕ → Bool
-is_name_byte b = is_letter b || is_digit b
+is_name_byte b = is_letter b || is_ascii_digit b
 
 -- 1 to 31 letters, digits and `_`, of which the first is no digit
 abbrev pub is_name : List ℕ → Bool

@@ -23,17 +23,16 @@ impl Model for Name {
     ghost invariant = { λ n. is_name n.bytes.items ≡ true };
 }
 
-#[tactic(auto, unfolding(crate::specs::Names::is_letter))]
 fn is_letter(b: u8) -> bool
     ensures { result ≡ is_letter b }
 {
-    matches!(b, b'A'..=b'Z' | b'a'..=b'z' | b'_')
+    b.is_ascii_alphabetic() || b == b'_'
 }
 
 fn is_name_byte(b: u8) -> bool
     ensures { result ≡ is_name_byte b }
 {
-    is_letter(b) || (b >= b'0' && b <= b'9')
+    is_letter(b) || b.is_ascii_digit()
 }
 
 fn all_name_bytes(text: &[u8]) -> bool

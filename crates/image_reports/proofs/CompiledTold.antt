@@ -1,9 +1,9 @@
 -- A run of a compiled source is told by the source.
 use Rattle.std.proofs.Common.{◌∙◌, refl, sym, ap}
-use Rattle.image_laws.specs.crash_rules.Runs.{Program}
-use Rattle.image_laws.specs.compiled_model.Parts.{compiled_model}
-use Rattle.compiled_laws.proofs.compiled_bounds.Interface.{bound_is_the_sources}
-use Rattle.image_laws.proofs.source_runs.Interface.{runs_are_told}
+use Rattle.crash_rules.specs.Runs.{Program}
+use Rattle.compiled_model.specs.Parts.{compiled_model}
+use Rattle.compiled_bounds.proofs.Interface.{bound_is_the_sources}
+use Rattle.source_runs.proofs.Interface.{runs_are_told}
 use Rattle.image_reports.specs.CompiledLaws.{ModelsAreOfSources, CompiledRunsAreTold}
 use Rattle.image_reports.proofs.Tasks.{transits, is_short}
 

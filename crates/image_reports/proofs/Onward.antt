@@ -2,57 +2,57 @@
 use Rattle.std.proofs.Common.{◌≡◌, ◌≢◌, ℕ, zero, ◌+◌, ◌*◌, ◌%◌, ◌<◌, ◌≤◌, ◌==◌, Bool, true, false, if◌then◌else◌, refl, sym, ap, ◌∙◌, subst, arith}
 use Rattle.std.proofs.Common.{List, [], ◌∷◌, ◌++◌, length, take, drop, All, append_assoc, length-take-le}
 use Rattle.std.proofs.lemmas.List.{take-append-drop}
-use Rattle.image_laws.specs.msp_isa.Encoding.{encoding}
-use Rattle.image_laws.specs.msp_step.Registers.{registers_of}
-use Rattle.image_laws.specs.image_text.ImageValue.{ImageValue}
-use Rattle.image_laws.specs.fram_board.Board.{BoardValue, PowerState, powered, started, filled}
-use Rattle.image_laws.specs.fram_board.Saved.{TakesNextBehind}
-use Rattle.image_laws.specs.fram_board.Steps.{IsPowerState}
-use Rattle.image_laws.specs.fram_board.Effects.{Effect}
-use Rattle.image_laws.specs.fram_board.Run.{BoardCharge, PowerUp, Moment, RunOutcome}
-use Rattle.image_laws.proofs.fram_board.Interface.{fill_is_a_power_state}
-use Rattle.image_laws.specs.machine_effects.World.{World, fram_after, IsPrefix}
-use Rattle.image_laws.specs.machine_effects.Going.{going, continued}
-use Rattle.image_laws.specs.machine_effects.Machine.{MachineBoard, fram_of}
-use Rattle.image_laws.specs.machine_effects.Runs.{last_board}
-use Rattle.image_laws.specs.code_forms.Placed.{words_of, Holds}
-use Rattle.image_laws.specs.cost_bound.declared.allowance.Allow.{Allow}
-use Rattle.image_laws.specs.source_values.Runs.{CheckedProgram, State}
-use Rattle.image_laws.specs.source_meaning.Acceptance.{IsAcceptedText}
-use Rattle.image_laws.specs.source_maps.Maps.{map_of}
-use Rattle.image_laws.proofs.source_runs.Interface.{read_off}
-use Rattle.image_laws.specs.memory_map.declared.words.RuntimeWord.TheVariants.{Gate, Version}
-use Rattle.image_laws.specs.memory_map.MemoryMap.{MemoryMap, word_place}
-use Rattle.image_laws.specs.runtime_effects.Stages.{commit_effects}
-use Rattle.image_laws.specs.boot_runtime.Entries.{task_entries}
-use Rattle.image_laws.specs.boot_runtime.Listing.{privates_in}
-use Rattle.image_laws.specs.crash_rules.Model.{IsElsewhere, Model, ModelLaws, Inputs, program_effects, with_commit, attempt_from, script}
-use Rattle.image_laws.specs.crash_rules.History.{History, first_history, inputs_from}
-use Rattle.image_laws.specs.crash_rules.Runs.{Program, Charge, Charged}
-use Rattle.image_laws.specs.crash_rules.Laws.{Origin, Phase, UndecidedPhase, DecidedPhase, CommittingPhase, StandsFor, Begins, PowersUpBehind, ScriptsStore}
-use Rattle.image_laws.proofs.machine_effects.Interface.{power_up_keeps_words}
-use Rattle.image_laws.proofs.crash_rules.Interface.{world_fram, never_lost, sent_once, pending_sends, stops_short, stores_only}
-use Rattle.image_laws.specs.run_charges.View.{outside_of, IsMomentFrom, PowersUp, Instructs, AreMoments}
-use Rattle.image_laws.specs.run_charges.Charges.{AreInstructionMoments, IsPlacedProgram}
-use Rattle.image_laws.specs.run_charges.Laws.{IsRunOfWords}
-use Rattle.image_laws.proofs.run_charges.Interface.{follows_keeps, are_behind, front_moments, run_front, instructions_reach, PlacedProgram, is_powered, leads}
-use Rattle.image_laws.proofs.run_charges.Interface.{reached_on, Counts, moments_count}
-use Rattle.image_laws.specs.model_runs.Runs.{BearsModel, no_delay, Progresses}
-use Rattle.image_laws.specs.model_runs.EventLaws.{StartsWith}
-use Rattle.image_laws.proofs.model_runs.Interface.{stood, AtFront, at_front, starts_hold, fronts_are_lawful, makes_progress}
-use Rattle.image_laws.specs.stands_for.StandsFor.{HoldsWords, IsSound, SoundAtRest, SoundPending}
-use Rattle.image_laws.proofs.stands_for.Interface.{commit_stores_there, each_weaker}
-use Rattle.image_laws.specs.compiled_model.Places.{program_places}
-use Rattle.image_laws.specs.compiled_model.Parts.{compiled_model}
-use Rattle.compiled_laws.specs.compiled_bounds.Laws.{KeepsCapacities}
-use Rattle.compiled_laws.proofs.compiled_bounds.Interface.{bound_is_the_sources, capacities_are_kept}
-use Rattle.image_laws.specs.compiled_runs.Program.{source_code, placed_code, compiled_program}
-use Rattle.image_laws.proofs.compiled_runs.Interface.{code_keeps_the_laws, code_is_placed, power_ups_raise_version, runs_leave_the_code}
+use Rattle.msp_isa.specs.Encoding.{encoding}
+use Rattle.msp_step.specs.Registers.{registers_of}
+use Rattle.image_text.specs.ImageValue.{ImageValue}
+use Rattle.fram_board.specs.Board.{BoardValue, PowerState, powered, started, filled}
+use Rattle.fram_board.specs.Saved.{TakesNextBehind}
+use Rattle.fram_board.specs.Steps.{IsPowerState}
+use Rattle.fram_board.specs.Effects.{Effect}
+use Rattle.fram_board.specs.Run.{BoardCharge, PowerUp, Moment, RunOutcome}
+use Rattle.fram_board.proofs.Interface.{fill_is_a_power_state}
+use Rattle.machine_effects.specs.World.{World, fram_after, IsPrefix}
+use Rattle.machine_effects.specs.Going.{going, continued}
+use Rattle.machine_effects.specs.Machine.{MachineBoard, fram_of}
+use Rattle.machine_effects.specs.Runs.{last_board}
+use Rattle.code_forms.specs.Placed.{words_of, Holds}
+use Rattle.cost_bound.specs.declared.allowance.Allow.{Allow}
+use Rattle.source_values.specs.Runs.{CheckedProgram, State}
+use Rattle.source_meaning.specs.Acceptance.{IsAcceptedText}
+use Rattle.source_maps.specs.Maps.{map_of}
+use Rattle.source_runs.proofs.Interface.{read_off}
+use Rattle.memory_map.specs.declared.words.RuntimeWord.TheVariants.{Gate, Version}
+use Rattle.memory_map.specs.MemoryMap.{MemoryMap, word_place}
+use Rattle.runtime_effects.specs.Stages.{commit_effects}
+use Rattle.boot_runtime.specs.Entries.{task_entries}
+use Rattle.boot_runtime.specs.Listing.{privates_in}
+use Rattle.crash_rules.specs.Model.{IsElsewhere, Model, ModelLaws, Inputs, program_effects, with_commit, attempt_from, script}
+use Rattle.crash_rules.specs.History.{History, first_history, inputs_from}
+use Rattle.crash_rules.specs.Runs.{Program, Charge, Charged}
+use Rattle.crash_rules.specs.Laws.{Origin, Phase, UndecidedPhase, DecidedPhase, CommittingPhase, StandsFor, Begins, PowersUpBehind, ScriptsStore}
+use Rattle.machine_effects.proofs.Interface.{power_up_keeps_words}
+use Rattle.crash_rules.proofs.Interface.{world_fram, never_lost, sent_once, pending_sends, stops_short, stores_only}
+use Rattle.run_charges.specs.View.{outside_of, IsMomentFrom, PowersUp, Instructs, AreMoments}
+use Rattle.run_charges.specs.Charges.{AreInstructionMoments, IsPlacedProgram}
+use Rattle.run_charges.specs.Laws.{IsRunOfWords}
+use Rattle.run_charges.proofs.Interface.{follows_keeps, are_behind, front_moments, run_front, instructions_reach, PlacedProgram, is_powered, leads}
+use Rattle.run_charges.proofs.Interface.{reached_on, Counts, moments_count}
+use Rattle.model_runs.specs.Runs.{BearsModel, no_delay, Progresses}
+use Rattle.model_runs.specs.EventLaws.{StartsWith}
+use Rattle.model_runs.proofs.Interface.{stood, AtFront, at_front, starts_hold, fronts_are_lawful, makes_progress}
+use Rattle.stands_for.specs.StandsFor.{HoldsWords, IsSound, SoundAtRest, SoundPending}
+use Rattle.stands_for.proofs.Interface.{commit_stores_there, each_weaker}
+use Rattle.compiled_model.specs.Places.{program_places}
+use Rattle.compiled_model.specs.Parts.{compiled_model}
+use Rattle.compiled_bounds.specs.Laws.{KeepsCapacities}
+use Rattle.compiled_bounds.proofs.Interface.{bound_is_the_sources, capacities_are_kept}
+use Rattle.compiled_runs.specs.Program.{source_code, placed_code, compiled_program}
+use Rattle.compiled_runs.proofs.Interface.{code_keeps_the_laws, code_is_placed, power_ups_raise_version, runs_leave_the_code}
 use Rattle.compiled_laws.specs.Ready.{IsReadyToRun}
 use Rattle.compiled_laws.proofs.Interface.{sources_are_ready}
 use Rattle.image_laws.specs.Compiled.{IsCompiled}
 use Rattle.image_laws.specs.Laws.{IsFreshImage}
-use Rattle.image_laws.specs.source_runs.Tells.{at_first, EachChargePays}
+use Rattle.source_runs.specs.Tells.{at_first, EachChargePays}
 use Rattle.image_laws.proofs.Interface.{laid_out, images_are_fresh}
 use Rattle.image_reports.specs.ImageLaw.{runtime_marks, start_due, attempt_due, all_due, VersionsBelow, KeepsCode, FetchesCode, IsRaisedSoon, RaisesVersion}
 use Rattle.image_reports.specs.Resumed.{BelongsTo, known_from, HoldsFrom}

@@ -1,41 +1,41 @@
 -- Each run of a state that belongs to the image of an accepted text keeps the laws.
 use Rattle.std.proofs.Common.{◌≡◌, ◌<◌, ◌≤◌, ◌%◌, ◌^◌, ◌==◌, if◌then◌else◌, ℕ, refl, sym, ap, ◌∙◌, subst, arith, Option, Some, List, ◌++◌, length, drop, All}
 use Rattle.std.proofs.Math.Seq.{drop-append_seam}
-use Rattle.image_laws.specs.image_map.MapValue.{MapValue}
-use Rattle.image_laws.specs.image_text.ImageValue.{ImageValue}
-use Rattle.image_laws.specs.fram_board.Board.{BoardValue, started}
-use Rattle.image_laws.specs.fram_board.Run.{BoardCharge, RunOutcome, Run}
-use Rattle.image_laws.specs.board_run.History.{start_with, start_of}
-use Rattle.image_laws.specs.board_run.Report.{report_of}
-use Rattle.image_laws.specs.machine_effects.World.{World, world_after}
-use Rattle.image_laws.specs.machine_effects.Machine.{fram_of}
-use Rattle.image_laws.proofs.machine_effects.Interface.{fresh_is_whole}
-use Rattle.image_laws.specs.cost_bound.declared.allowance.Allow.{Allow}
-use Rattle.image_laws.specs.source_values.Runs.{CheckedProgram, State}
-use Rattle.image_laws.specs.source_meaning.Acceptance.{IsAcceptedText}
-use Rattle.image_laws.proofs.source_meaning.Interface.{accepted_texts_run}
-use Rattle.image_laws.specs.source_maps.Maps.{map_of}
-use Rattle.image_laws.specs.source_runs.Resumed.{HasTransition}
-use Rattle.image_laws.specs.source_runs.Laws.{ResumedRunIsTold}
-use Rattle.image_laws.proofs.source_runs.Interface.{resumed_runs_are_told}
-use Rattle.image_laws.specs.memory_map.declared.words.RuntimeWord.TheVariants.{Gate}
-use Rattle.image_laws.specs.memory_map.MemoryMap.{MemoryMap, word_place}
-use Rattle.image_laws.specs.runtime_effects.Stages.{commit_effects}
-use Rattle.image_laws.specs.crash_rules.Model.{Model}
-use Rattle.image_laws.specs.crash_rules.History.{first_history}
-use Rattle.image_laws.specs.crash_rules.Runs.{Program}
-use Rattle.image_laws.specs.crash_rules.Laws.{Origin, Resting, Pending, StandsFor}
-use Rattle.image_laws.proofs.crash_rules.Interface.{runs_may_begin}
-use Rattle.image_laws.specs.run_charges.Charges.{ArePowerStates}
-use Rattle.image_laws.specs.run_charges.Laws.{IsRunOfWords}
-use Rattle.image_laws.specs.model_runs.Runs.{BearsModel, all_amounts}
-use Rattle.image_laws.proofs.model_runs.Interface.{stops_where_short}
-use Rattle.image_laws.specs.stands_for.StandsFor.{IsSound, SoundAtRest, SoundPending, IsAtRest, IsPendingCommit}
-use Rattle.image_laws.proofs.stands_for.Interface.{unsent_are_few}
-use Rattle.image_laws.specs.compiled_model.Places.{program_places}
-use Rattle.image_laws.specs.compiled_model.View.{state_in, state_left}
-use Rattle.image_laws.specs.compiled_model.Parts.{compiled_model}
-use Rattle.image_laws.specs.compiled_runs.Program.{compiled_program}
+use Rattle.image_map.specs.MapValue.{MapValue}
+use Rattle.image_text.specs.ImageValue.{ImageValue}
+use Rattle.fram_board.specs.Board.{BoardValue, started}
+use Rattle.fram_board.specs.Run.{BoardCharge, RunOutcome, Run}
+use Rattle.board_run.specs.History.{start_with, start_of}
+use Rattle.board_run.specs.Report.{report_of}
+use Rattle.machine_effects.specs.World.{World, world_after}
+use Rattle.machine_effects.specs.Machine.{fram_of}
+use Rattle.machine_effects.proofs.Interface.{fresh_is_whole}
+use Rattle.cost_bound.specs.declared.allowance.Allow.{Allow}
+use Rattle.source_values.specs.Runs.{CheckedProgram, State}
+use Rattle.source_meaning.specs.Acceptance.{IsAcceptedText}
+use Rattle.source_meaning.proofs.Interface.{accepted_texts_run}
+use Rattle.source_maps.specs.Maps.{map_of}
+use Rattle.source_runs.specs.Resumed.{HasTransition}
+use Rattle.source_runs.specs.Laws.{ResumedRunIsTold}
+use Rattle.source_runs.proofs.Interface.{resumed_runs_are_told}
+use Rattle.memory_map.specs.declared.words.RuntimeWord.TheVariants.{Gate}
+use Rattle.memory_map.specs.MemoryMap.{MemoryMap, word_place}
+use Rattle.runtime_effects.specs.Stages.{commit_effects}
+use Rattle.crash_rules.specs.Model.{Model}
+use Rattle.crash_rules.specs.History.{first_history}
+use Rattle.crash_rules.specs.Runs.{Program}
+use Rattle.crash_rules.specs.Laws.{Origin, Resting, Pending, StandsFor}
+use Rattle.crash_rules.proofs.Interface.{runs_may_begin}
+use Rattle.run_charges.specs.Charges.{ArePowerStates}
+use Rattle.run_charges.specs.Laws.{IsRunOfWords}
+use Rattle.model_runs.specs.Runs.{BearsModel, all_amounts}
+use Rattle.model_runs.proofs.Interface.{stops_where_short}
+use Rattle.stands_for.specs.StandsFor.{IsSound, SoundAtRest, SoundPending, IsAtRest, IsPendingCommit}
+use Rattle.stands_for.proofs.Interface.{unsent_are_few}
+use Rattle.compiled_model.specs.Places.{program_places}
+use Rattle.compiled_model.specs.View.{state_in, state_left}
+use Rattle.compiled_model.specs.Parts.{compiled_model}
+use Rattle.compiled_runs.specs.Program.{compiled_program}
 use Rattle.compiled_laws.specs.Ready.{IsReadyToRun}
 use Rattle.compiled_laws.proofs.Interface.{sources_are_ready}
 use Rattle.image_laws.specs.Compiled.{IsCompiled}

@@ -3,16 +3,16 @@ use Rattle.std.proofs.Common.{◌≡◌, ℕ, ◌<◌, refl, sym, ap, subst, Lis
 use Rattle.std.proofs.lemmas.List.Elements.{All-get_or}
 use Rattle.std.proofs.lemmas.Option.{slice_get-get_or}
 use Rattle.std.specs.Prelude.{slice_get}
-use Rattle.image_laws.specs.task_ast.Tree.{Task, end}
-use Rattle.image_laws.specs.task_ast.declared.names.VariableName.{VariableName}
-use Rattle.image_laws.specs.task_ast.declared.names.TaskName.{TaskName}
-use Rattle.image_laws.specs.source_values.Values.{◌>>?◌}
-use Rattle.image_laws.specs.source_values.Statements.{Outcome, goes_on, to_task, short, run_block}
-use Rattle.image_laws.specs.source_values.Runs.{CheckedProgram, State, Transition, Completion, TransitionComes, EndsWell, body_of, fresh_attempt, attempt_of}
-use Rattle.image_laws.specs.source_values.Runs.{completion_of, exactly, transition_of, state_after}
-use Rattle.image_laws.specs.source_values.Running.{IsRunnable}
-use Rattle.image_laws.specs.crash_rules.Model.{Inputs, no_inputs, Ends, Short}
-use Rattle.image_laws.specs.compiled_model.Parts.{outcome_of, whole_task}
+use Rattle.task_ast.specs.Tree.{Task, end}
+use Rattle.task_ast.specs.declared.names.VariableName.{VariableName}
+use Rattle.task_ast.specs.declared.names.TaskName.{TaskName}
+use Rattle.source_values.specs.Values.{◌>>?◌}
+use Rattle.source_values.specs.Statements.{Outcome, goes_on, to_task, short, run_block}
+use Rattle.source_values.specs.Runs.{CheckedProgram, State, Transition, Completion, TransitionComes, EndsWell, body_of, fresh_attempt, attempt_of}
+use Rattle.source_values.specs.Runs.{completion_of, exactly, transition_of, state_after}
+use Rattle.source_values.specs.Running.{IsRunnable}
+use Rattle.crash_rules.specs.Model.{Inputs, no_inputs, Ends, Short}
+use Rattle.compiled_model.specs.Parts.{outcome_of, whole_task}
 
 -- a transition of a task that takes all its readings
 abbrev pub IsTransitionTo : State → State → Option Transition → Type 0

@@ -1,14 +1,14 @@
 -- A word on which no step stores is, behind any charges, as it was in front of them.
 use Rattle.std.proofs.Common.{◌≡◌, ℕ, refl, ap, ◌∙◌, List, [], ◌∷◌}
-use Rattle.image_laws.specs.machine_effects.World.{EachStore}
-use Rattle.image_laws.specs.machine_effects.Going.{going}
-use Rattle.image_laws.specs.machine_effects.Machine.{MachineBoard}
-use Rattle.image_laws.specs.machine_effects.Laws.{ChangesByEffects}
-use Rattle.image_laws.specs.crash_rules.Model.{IsElsewhere, Marks}
-use Rattle.image_laws.specs.crash_rules.History.{History, observe, behind_boot}
-use Rattle.image_laws.specs.crash_rules.Runs.{Program, Charge, Charged}
-use Rattle.image_laws.proofs.crash_rules.Interface.{changed}
-use Rattle.image_laws.proofs.stands_for.Interface.{elsewhere_same}
+use Rattle.machine_effects.specs.World.{EachStore}
+use Rattle.machine_effects.specs.Going.{going}
+use Rattle.machine_effects.specs.Machine.{MachineBoard}
+use Rattle.machine_effects.specs.Laws.{ChangesByEffects}
+use Rattle.crash_rules.specs.Model.{IsElsewhere, Marks}
+use Rattle.crash_rules.specs.History.{History, observe, behind_boot}
+use Rattle.crash_rules.specs.Runs.{Program, Charge, Charged}
+use Rattle.crash_rules.proofs.Interface.{changed}
+use Rattle.stands_for.proofs.Interface.{elsewhere_same}
 
 module _ (a : ℕ) (c : Program) (changes : (s : MachineBoard) → ChangesByEffects s (c.step s)) (marks : Marks) where
   -- wherever charges lead, a further one stores elsewhere

@@ -1,44 +1,44 @@
 -- What holds of each run of the image of an accepted source, on the board itself, cut wherever power fails: the effects since the last
 -- boot or done, what the board stands for, the words accepted, the counts, the code that is fetched, how it ends, and its report.
 use Rattle.std.specs.Prelude.{◌≡◌, ◌≢◌, ℕ, ◌+◌, ◌*◌, ◌^◌, ◌%◌, ◌<◌, ◌≤◌, ◌==◌, true, if◌then◌else◌, List, [], ◌∷◌, ◌++◌, length, All}
-use Rattle.image_laws.specs.msp_isa.declared.instructions.Instr.{Instr}
-use Rattle.image_laws.specs.msp_isa.Encoding.{encoding}
-use Rattle.image_laws.specs.msp_step.Registers.{registers_of}
-use Rattle.image_laws.specs.msp_step.declared.machine.Stop.{Stop}
-use Rattle.image_laws.specs.msp_step.declared.machine.Stop.TheVariants as stop
-use Rattle.image_laws.specs.image_text.ImageValue.{ImageValue}
-use Rattle.image_laws.specs.fram_board.Board.{BoardValue, fresh, IsNextInstruction}
-use Rattle.image_laws.specs.fram_board.Effects.{Effect}
-use Rattle.image_laws.specs.fram_board.Run.{BoardCharge, PowerUp, Moment, Stopped, RunOutcome, Run, accepted_words}
-use Rattle.image_laws.specs.board_run.History.{start_of}
-use Rattle.image_laws.specs.board_run.Report.{report_of}
-use Rattle.image_laws.specs.machine_effects.World.{World, fram_after, IsPrefix}
-use Rattle.image_laws.specs.machine_effects.Machine.{fram_of}
-use Rattle.image_laws.specs.machine_effects.Runs.{last_board}
-use Rattle.image_laws.specs.code_forms.Placed.{Holds}
-use Rattle.image_laws.specs.cost_bound.declared.allowance.Allow.{Allow}
-use Rattle.image_laws.specs.source_values.Runs.{CheckedProgram, State, first_state}
-use Rattle.image_laws.specs.source_meaning.Acceptance.{IsAcceptedText}
-use Rattle.image_laws.specs.source_runs.Tells.{at_first, EachChargePays, IsToldBySource}
-use Rattle.image_laws.specs.source_maps.Maps.{map_of}
-use Rattle.image_laws.specs.memory_map.declared.words.RuntimeWord.TheVariants.{CurrentTask, Gate, Version}
-use Rattle.image_laws.specs.memory_map.MemoryMap.{MemoryMap, word_place}
-use Rattle.image_laws.specs.array_versions.Behaviour.{behaviour, started}
-use Rattle.image_laws.specs.runtime_effects.Stages.{commit_effects, start_effects, pending_effects, boot_effects}
-use Rattle.image_laws.specs.boot_runtime.Entries.{task_entries}
-use Rattle.image_laws.specs.boot_runtime.Listing.{privates_in}
-use Rattle.image_laws.specs.crash_rules.Model.{Marks, Inputs, CommitContract}
-use Rattle.image_laws.specs.crash_rules.History.{History, first_history, inputs_from}
-use Rattle.image_laws.specs.crash_rules.Laws.{Resting, StandsFor, AcceptedWords}
-use Rattle.image_laws.specs.run_charges.View.{outside_of}
-use Rattle.image_laws.specs.run_charges.Charges.{ArePowerStates, AreInstructionMoments, observed}
-use Rattle.image_laws.specs.memory_map.Laws.{AreApart}
-use Rattle.image_laws.specs.stands_for.StandsFor.{RestsAt, UndecidedAt, DecidedFrom}
-use Rattle.image_laws.specs.compiled_model.Places.{program_places}
-use Rattle.image_laws.specs.compiled_model.View.{state_view}
-use Rattle.image_laws.specs.compiled_model.Parts.{task_program, has_jumped, compiled_model}
-use Rattle.compiled_laws.specs.compiled_bounds.Laws.{KeepsCapacities}
-use Rattle.image_laws.specs.model_runs.Runs.{IsShort, all_amounts}
+use Rattle.msp_isa.specs.declared.instructions.Instr.{Instr}
+use Rattle.msp_isa.specs.Encoding.{encoding}
+use Rattle.msp_step.specs.Registers.{registers_of}
+use Rattle.msp_step.specs.declared.machine.Stop.{Stop}
+use Rattle.msp_step.specs.declared.machine.Stop.TheVariants as stop
+use Rattle.image_text.specs.ImageValue.{ImageValue}
+use Rattle.fram_board.specs.Board.{BoardValue, fresh, IsNextInstruction}
+use Rattle.fram_board.specs.Effects.{Effect}
+use Rattle.fram_board.specs.Run.{BoardCharge, PowerUp, Moment, Stopped, RunOutcome, Run, accepted_words}
+use Rattle.board_run.specs.History.{start_of}
+use Rattle.board_run.specs.Report.{report_of}
+use Rattle.machine_effects.specs.World.{World, fram_after, IsPrefix}
+use Rattle.machine_effects.specs.Machine.{fram_of}
+use Rattle.machine_effects.specs.Runs.{last_board}
+use Rattle.code_forms.specs.Placed.{Holds}
+use Rattle.cost_bound.specs.declared.allowance.Allow.{Allow}
+use Rattle.source_values.specs.Runs.{CheckedProgram, State, first_state}
+use Rattle.source_meaning.specs.Acceptance.{IsAcceptedText}
+use Rattle.source_runs.specs.Tells.{at_first, EachChargePays, IsToldBySource}
+use Rattle.source_maps.specs.Maps.{map_of}
+use Rattle.memory_map.specs.declared.words.RuntimeWord.TheVariants.{CurrentTask, Gate, Version}
+use Rattle.memory_map.specs.MemoryMap.{MemoryMap, word_place}
+use Rattle.array_versions.specs.Behaviour.{behaviour, started}
+use Rattle.runtime_effects.specs.Stages.{commit_effects, start_effects, pending_effects, boot_effects}
+use Rattle.boot_runtime.specs.Entries.{task_entries}
+use Rattle.boot_runtime.specs.Listing.{privates_in}
+use Rattle.crash_rules.specs.Model.{Marks, Inputs, CommitContract}
+use Rattle.crash_rules.specs.History.{History, first_history, inputs_from}
+use Rattle.crash_rules.specs.Laws.{Resting, StandsFor, AcceptedWords}
+use Rattle.run_charges.specs.View.{outside_of}
+use Rattle.run_charges.specs.Charges.{ArePowerStates, AreInstructionMoments, observed}
+use Rattle.memory_map.specs.Laws.{AreApart}
+use Rattle.stands_for.specs.StandsFor.{RestsAt, UndecidedAt, DecidedFrom}
+use Rattle.compiled_model.specs.Places.{program_places}
+use Rattle.compiled_model.specs.View.{state_view}
+use Rattle.compiled_model.specs.Parts.{task_program, has_jumped, compiled_model}
+use Rattle.compiled_bounds.specs.Laws.{KeepsCapacities}
+use Rattle.model_runs.specs.Runs.{IsShort, all_amounts}
 use Rattle.image_laws.specs.Words.{code_words}
 use Rattle.image_laws.specs.Compiled.{IsCompiled}
 use Rattle.image_laws.specs.Laws.{fresh_world}

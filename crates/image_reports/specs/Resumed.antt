@@ -1,40 +1,40 @@
 -- What holds of each run of an accepted source's image that goes on from a saved state, on the board itself, beside what holds from its
 -- fresh board.
 use Rattle.std.specs.Prelude.{◌≡◌, ℕ, ◌^◌, ◌%◌, ◌<◌, ◌≤◌, ◌==◌, true, if◌then◌else◌, List, [], ◌++◌, length, drop, All}
-use Rattle.image_laws.specs.msp_step.declared.machine.Stop.{Stop}
-use Rattle.image_laws.specs.msp_step.declared.machine.Stop.TheVariants as stop
-use Rattle.image_laws.specs.memory_map.address_space.Limits.{fram_words}
-use Rattle.image_laws.specs.image_map.MapValue.{MapValue}
-use Rattle.image_laws.specs.image_text.ImageValue.{ImageValue}
-use Rattle.image_laws.specs.fram_board.Board.{BoardValue, started}
-use Rattle.image_laws.specs.fram_board.Saved.{TakesNextBehind}
-use Rattle.image_laws.specs.fram_board.Run.{BoardCharge, Moment, Stopped, RunOutcome, Run, accepted_words}
-use Rattle.image_laws.specs.board_run.History.{start_of}
-use Rattle.image_laws.specs.board_run.Report.{report_of}
-use Rattle.image_laws.specs.machine_effects.World.{World, world_after, IsPrefix}
-use Rattle.image_laws.specs.machine_effects.Machine.{fram_of}
-use Rattle.image_laws.specs.machine_effects.Runs.{last_board}
-use Rattle.image_laws.specs.cost_bound.declared.allowance.Allow.{Allow}
-use Rattle.image_laws.specs.source_values.Runs.{CheckedProgram, State, Transition}
-use Rattle.image_laws.specs.source_meaning.Acceptance.{IsAcceptedText}
-use Rattle.image_laws.specs.source_runs.Tells.{at_first, EachChargePays}
-use Rattle.image_laws.specs.source_runs.Resumed.{IsToldFrom, IsToldBehind}
-use Rattle.image_laws.specs.source_maps.Maps.{map_of}
-use Rattle.image_laws.specs.memory_map.declared.words.RuntimeWord.TheVariants.{CurrentTask, Gate}
-use Rattle.image_laws.specs.memory_map.MemoryMap.{MemoryMap, word_place}
-use Rattle.image_laws.specs.runtime_effects.Stages.{commit_effects}
-use Rattle.image_laws.specs.crash_rules.Model.{IsBetween}
-use Rattle.image_laws.specs.crash_rules.History.{History, first_history, inputs_from}
-use Rattle.image_laws.specs.crash_rules.Laws.{Origin, Resting, Pending, StandsFor, AcceptedWords}
-use Rattle.image_laws.specs.run_charges.View.{outside_of}
-use Rattle.image_laws.specs.run_charges.Charges.{ArePowerStates, observed}
-use Rattle.image_laws.specs.stands_for.StandsFor.{UndecidedAt, IsSound}
-use Rattle.image_laws.specs.compiled_model.Places.{program_places}
-use Rattle.image_laws.specs.compiled_model.View.{state_view, state_in, state_left}
-use Rattle.image_laws.specs.compiled_model.Parts.{compiled_model}
-use Rattle.compiled_laws.specs.compiled_bounds.Laws.{KeepsCapacities}
-use Rattle.image_laws.specs.model_runs.Events.{words_between}
-use Rattle.image_laws.specs.model_runs.Runs.{IsShort, all_amounts}
+use Rattle.msp_step.specs.declared.machine.Stop.{Stop}
+use Rattle.msp_step.specs.declared.machine.Stop.TheVariants as stop
+use Rattle.address_space.specs.Limits.{fram_words}
+use Rattle.image_map.specs.MapValue.{MapValue}
+use Rattle.image_text.specs.ImageValue.{ImageValue}
+use Rattle.fram_board.specs.Board.{BoardValue, started}
+use Rattle.fram_board.specs.Saved.{TakesNextBehind}
+use Rattle.fram_board.specs.Run.{BoardCharge, Moment, Stopped, RunOutcome, Run, accepted_words}
+use Rattle.board_run.specs.History.{start_of}
+use Rattle.board_run.specs.Report.{report_of}
+use Rattle.machine_effects.specs.World.{World, world_after, IsPrefix}
+use Rattle.machine_effects.specs.Machine.{fram_of}
+use Rattle.machine_effects.specs.Runs.{last_board}
+use Rattle.cost_bound.specs.declared.allowance.Allow.{Allow}
+use Rattle.source_values.specs.Runs.{CheckedProgram, State, Transition}
+use Rattle.source_meaning.specs.Acceptance.{IsAcceptedText}
+use Rattle.source_runs.specs.Tells.{at_first, EachChargePays}
+use Rattle.source_runs.specs.Resumed.{IsToldFrom, IsToldBehind}
+use Rattle.source_maps.specs.Maps.{map_of}
+use Rattle.memory_map.specs.declared.words.RuntimeWord.TheVariants.{CurrentTask, Gate}
+use Rattle.memory_map.specs.MemoryMap.{MemoryMap, word_place}
+use Rattle.runtime_effects.specs.Stages.{commit_effects}
+use Rattle.crash_rules.specs.Model.{IsBetween}
+use Rattle.crash_rules.specs.History.{History, first_history, inputs_from}
+use Rattle.crash_rules.specs.Laws.{Origin, Resting, Pending, StandsFor, AcceptedWords}
+use Rattle.run_charges.specs.View.{outside_of}
+use Rattle.run_charges.specs.Charges.{ArePowerStates, observed}
+use Rattle.stands_for.specs.StandsFor.{UndecidedAt, IsSound}
+use Rattle.compiled_model.specs.Places.{program_places}
+use Rattle.compiled_model.specs.View.{state_view, state_in, state_left}
+use Rattle.compiled_model.specs.Parts.{compiled_model}
+use Rattle.compiled_bounds.specs.Laws.{KeepsCapacities}
+use Rattle.model_runs.specs.Events.{words_between}
+use Rattle.model_runs.specs.Runs.{IsShort, all_amounts}
 use Rattle.image_laws.specs.Compiled.{IsCompiled}
 use Rattle.image_laws.specs.Laws.{fresh_world}
 use Rattle.image_reports.specs.ImageLaw.{runtime_marks, start_due, all_due, VersionsBelow, KeepsCode, FetchesCode, RaisesVersion}

@@ -11,12 +11,12 @@ use Rattle.task_ast.specs.declared.PlacedOperator.{PlacedOperator}
 use Rattle.task_ast.specs.declared.names.Variable.{Variable}
 use Rattle.task_ast.specs.declared.names.Variable.TheVariants.{Shared, Local}
 use Rattle.cost_bound.specs.Allowance.{CheckedTask}
-use Rattle.source_values.specs.Values.{word_at, with_word, converted, value_of, holds}
+use Rattle.source_values.specs.Values.{Attempt, Evaluated, evaluated, made_of, truth_word, word_at, with_word, converted, value_of, holds}
 use Rattle.source_values.specs.Statements as source
-use Rattle.source_values.specs.Statements.{Attempt, Outcome, goes_on, to_task, if_value, run_statement, run_choice, run_block, statement_emits, choice_emits}
+use Rattle.source_values.specs.Statements.{Outcome, goes_on, to_task, if_value, with_value, run_statement, run_choice, run_block, statement_emits, choice_emits}
 use Rattle.source_values.specs.Statements.{block_emits}
 use Rattle.cost_bound.specs.Counts.{statement_count, choice_count, block_count, is_shared, is_store_to, stores_of}
-use Rattle.source_values.proofs.Interface.{more_turns}
+use Rattle.source_values.proofs.Interface.{IsBehind, made_behind, more_turns}
 use Rattle.task_ast.specs.Types.{IsOneWord, type_of, joined_type}
 use Rattle.task_ast.specs.declared.WordType.{WordType}
 use Rattle.task_ast.specs.declared.WordType.TheVariants.{Unsigned, Int, Long}
@@ -27,7 +27,7 @@ use Rattle.array_versions.specs.Operations.{plain_word}
 use Rattle.array_versions.specs.Program.{Program, keep, emit_word, versioned_write, versioned_update, choose, repeat, nothing, step, joined}
 use Rattle.array_versions.specs.Behaviour as words
 use Rattle.array_versions.specs.Behaviour.{WordState, Behaviour, behind_effects, then_on, local_updated, is_place, at_place, stored, with_local, word_emitted}
-use Rattle.array_versions.specs.Behaviour.{with_readings, way_by_top, tested, behaviour}
+use Rattle.array_versions.specs.Behaviour.{with_readings, pushed, way_by_top, tested, behaviour}
 use Rattle.array_versions.proofs.Interface.{joined_go_on, joined_assoc, decided_by_truth}
 use Rattle.lower.specs.Lowered.{update_step, write_long, setting, long_setting, updating, of_words, sides_set, scalar_assignment, lowering, lowered_long, one}
 use Rattle.lower.specs.Lowered.{write_step, written_array, list_place, store_step, update_element_step, loop_local, assignment, index_and_value}
@@ -39,12 +39,12 @@ use Rattle.checked_trees.proofs.Interface.{local_word, assignment_writes, store_
 use Rattle.path_sums.specs.Sums.{statement_sum, choice_sum, block_sum}
 use Rattle.path_sums.specs.Access.{summary}
 use Rattle.lower.proofs.Declared.{IsTarget, IsLongTarget, IsTargetOf, local_target, target_of, array_target}
-use Rattle.lower.specs.Agreement.{HoldVariables, IsWrittenArray, StandsFor, Scene}
-use Rattle.lower.specs.Agreement.{at_variable, at_emit_count, in_buffer, valued, long_valued, converted_to, truth_of, AgreesWithValue}
-use Rattle.lower.specs.Agreement.{AgreesWithLong, BlocksAgree}
+use Rattle.lower.specs.Agreement.{HoldVariables, HoldEmits, IsWrittenArray, StandsFor, Scene}
+use Rattle.lower.specs.Agreement.{at_variable, at_emit_count, in_buffer, valued, long_valued, in_state, converted_to, truth_of, AgreesAt}
+use Rattle.lower.specs.Agreement.{AgreesWithValue, AgreesWithLong, BlocksAgree}
 use Rattle.lower.proofs.Addresses.{fram_place, placed, spot_place, first_address}
 use Rattle.lower.proofs.Updates.{is_update, update_goes_on, is_element_update, element_update_goes_on, is_of_words, joined_words}
-use Rattle.lower.proofs.Assigned.{word_value, word_as_value, if_same, if_converted, both_assigned, assigned_as, same_conversion, words_commute}
+use Rattle.lower.proofs.Assigned.{both_behind, word_value, word_as_value, if_same, if_converted, both_assigned, assigned_as, same_conversion, words_commute}
 use Rattle.lower.proofs.Values.{small_modulo, holds_bit, truth_pushed}
 use Rattle.lower.proofs.Longs.{test_agrees}
 use Rattle.lower.proofs.EachExpression.{high_is, lowering_agrees, expressions_agree, longs_agree}
@@ -53,7 +53,7 @@ use Rattle.lower.proofs.Stored.{same_variables, same_list, same_emits, spot_list
 use Rattle.lower.proofs.Stored.{emit_list, emitted_emits, few_entries}
 use Rattle.lower.proofs.Neighbours.{runs_are_few}
 use Rattle.lower.proofs.Transitions.{transition_behaves}
-use Rattle.lower.proofs.Ends.{Does, does_then, does_alone, does_at, does_value}
+use Rattle.lower.proofs.Ends.{Does, does_then, does_alone, does_at}
 use Rattle.lower.proofs.Elements.{Start, DoesFrom, few_listed, list_fits, few_emitted, store_does, element_update_does}
 use Rattle.memory_map.specs.MemoryMap.{MemoryMap, TaskPlace, word_place}
 use Rattle.memory_map.specs.declared.words.RuntimeWord.TheVariants.{ListLength, EmitCount}
@@ -62,23 +62,22 @@ use Rattle.memory_map.proofs.Interface.{word_even, first_word, privates_few}
 use Rattle.memory_map.specs.Spots.{address_of, scalar_address, IsScalarWord, scalar}
 
 module _ (z : Scene) where
-  -- ---- assignments
+  -- ---- steps that take a value, where statements begin
 
   -- a word of a shared scalar is set
-  word_kept_does : (i j a : ℕ) {n : ℕ} {count : ℕ → ℕ} (here : Start z n count) (v : ℕ) (left : List ℕ)
+  word_kept_does : (i j a : ℕ) {n : ℕ} {count : ℕ → ℕ} (here : Start z n count) (v : ℕ)
       → a ≡ scalar_address z.p i j → IsScalarWord z.p i j → z.written i ≡ true
-      → DoesFrom here (behaviour (one (keep a)) (valued here.w (v, left))) (goes_on (source.assigned (record here.m { left = left }) (Shared i) j v))
-  word_kept_does i j a here v left e is ok =
+      → DoesFrom here (behaviour (one (keep a)) (pushed v here.w)) (goes_on (source.assigned here.m (Shared i) j v))
+  word_kept_does i j a here v e is ok =
       let p = z.p in
       let f = here.w.fram in
       let at = scalar_address p i j in
-      let u : WordState = with_readings left here.w in
-      let o : Outcome = goes_on (source.assigned (record here.m { left = left }) (Shared i) j v) in
-      let Kept : ℕ → Type 0 = λ b. Does z f here.most here.w.stack (behaviour (one (keep b)) (valued here.w (v, left))) o in
+      let o : Outcome = goes_on (source.assigned here.m (Shared i) j v) in
+      let Kept : ℕ → Type 0 = λ b. Does z f here.most here.w.stack (behaviour (one (keep b)) (pushed v here.w)) o in
       let P : Behaviour → Type 0 = λ b. Does z f here.most here.w.stack (then_on b (behaviour nothing)) o in
       let fits = list_fits here in
       subst Kept (sym e)
-      (subst P (sym (placed at (words.goes_on (Store at v ∷ []) (stored at v u)) (spot_place p z.room (scalar i j) z.apart z.even is))) (record {
+      (subst P (sym (placed at (words.goes_on (Store at v ∷ []) (stored at v here.w)) (spot_place p z.room (scalar i j) z.apart z.even is))) (record {
         stores = (at_variable i j is ok refl, tt);
         stack_kept = refl;
         listed = here.listed;
@@ -87,15 +86,14 @@ module _ (z : Scene) where
           emitted = same_emits p z.room here.m.emitted f _ (few_emitted here)
               (spot_emits p z.room (scalar i j) v f z.apart is) here.stands.emitted;
           list = same_list p z.room here.listed f _ (omega (arith, fits)) (spot_list p z.room (scalar i j) v f z.apart is (λ x e. cc)) here.stands.list;
-          readings = refl;
+          readings = here.stands.readings;
         };
         few = few_listed here;
       }))
 
-  write_does : (x : Variable) {n : ℕ} {count : ℕ → ℕ} (here : Start z n count) (v : ℕ) (left : List ℕ)
-      → IsTarget z.p z.written x
-      → DoesFrom here (behaviour (one (write_step z.p x)) (valued here.w (v, left))) (goes_on (source.assigned (record here.m { left = left }) x 0 v))
-  write_does (Local i) here v left k = record {
+  write_does : (x : Variable) {n : ℕ} {count : ℕ → ℕ} (here : Start z n count) (v : ℕ) → IsTarget z.p z.written x
+      → DoesFrom here (behaviour (one (write_step z.p x)) (pushed v here.w)) (goes_on (source.assigned here.m x 0 v))
+  write_does (Local i) here v k = record {
     stores = tt;
     stack_kept = refl;
     listed = here.listed;
@@ -103,99 +101,42 @@ module _ (z : Scene) where
       variables = local_holds z.p i v here.m.variables here.w.fram here.w.locals k here.stands.variables;
       emitted = here.stands.emitted;
       list = here.stands.list;
-      readings = refl;
+      readings = here.stands.readings;
     };
     few = few_listed here;
   }
-  write_does (Shared i) here v left k =
-      word_kept_does i 0 (address_of z.p i) here v left (sym (first_address z.p i)) (first_word z.p i k.0) k.1
-
-  value_agrees : (e : CheckedExpression) {n : ℕ} {count : ℕ → ℕ} (here : Start z n count) → WellFormedExpression z.shared e
-      → AgreesWithValue here.w (behaviour (lowered_expression z.p e) here.w) (word_value e here.m.variables here.m.left)
-  value_agrees e here fits =
-      let P : List ℕ → Type 0 = λ l. AgreesWithValue here.w (behaviour (lowered_expression z.p e) here.w) (word_value e here.m.variables l) in
-      subst P here.stands.readings (expressions_agree z.shared z.p z.room e here.m.variables here.w z.apart z.even z.declared fits here.stands.variables)
-
-  -- a variable of one word is set to a value as one word
-  abbrev Sets : {n : ℕ} {count : ℕ → ℕ} → Variable → CheckedExpression → Start z n count → Program → Type 0
-  Sets x e here q =
-      DoesFrom here (behaviour q here.w) (if_value (word_value e here.m.variables here.m.left) here.m (λ v s. goes_on (source.assigned s x 0 v)))
-
-  setting_does : (x : Variable) (e : CheckedExpression) {n : ℕ} {count : ℕ → ℕ} (here : Start z n count)
-      → WellFormedExpression z.shared e → IsTarget z.p z.written x
-      → Sets x e here (setting z.p x e)
-  setting_does x e here fits target =
-      let P : Behaviour → Type 0 = λ b. DoesFrom here b
-      (if_value (word_value e here.m.variables here.m.left) here.m (λ v s. goes_on (source.assigned s x 0 v))) in
-      subst P (sym (joined_go_on (lowered_expression z.p e) (one (write_step z.p x)) here.w))
-      (does_value z here.most here.w.stack here.w (behaviour (lowered_expression z.p e) here.w) (word_value e here.m.variables here.m.left)
-      (behaviour (one (write_step z.p x))) here.m
-      (λ v s. goes_on (source.assigned s x 0 v))
-      (value_agrees e here fits) (λ y. write_does x here y.0 y.1 target))
+  write_does (Shared i) here v k =
+      word_kept_does i 0 (address_of z.p i) here v (sym (first_address z.p i)) (first_word z.p i k.0) k.1
 
   -- a local that has a word has what the operation gives of it
   local_updated_does : (op : PlainOperation) (i v : ℕ) (o : Option ℕ) {n : ℕ} {count : ℕ → ℕ} (here : Start z n count)
-      (left : List ℕ) → i < 256 → ((u : ℕ) → o ≡ Some u → word_at here.m.variables (Local i) 0 ≡ u)
-      → DoesFrom here (then_on (local_updated op (i % 65536) v o (with_readings left here.w)) (behaviour nothing))
-      (goes_on (source.assigned (record here.m { left = left }) (Local i) 0 (plain_word op (word_at here.m.variables (Local i) 0) v)))
-  local_updated_does op i v None here left few is = tt
-  local_updated_does op i v (Some u) here left few is =
-      let P : ℕ → Type 0 = λ x. DoesFrom here (behaviour (one (write_step z.p (Local i))) (valued here.w (plain_word op u v, left)))
-      (goes_on (source.assigned (record here.m { left = left }) (Local i) 0 (plain_word op x v))) in
-      subst P (sym (is u refl)) (write_does (Local i) here (plain_word op u v) left few)
+      → i < 256 → ((u : ℕ) → o ≡ Some u → word_at here.m.variables (Local i) 0 ≡ u)
+      → DoesFrom here (then_on (local_updated op (i % 65536) v o here.w) (behaviour nothing))
+      (goes_on (source.assigned here.m (Local i) 0 (plain_word op (word_at here.m.variables (Local i) 0) v)))
+  local_updated_does op i v None here few is = tt
+  local_updated_does op i v (Some u) here few is =
+      let P : ℕ → Type 0 = λ x. DoesFrom here (behaviour (one (write_step z.p (Local i))) (pushed (plain_word op u v) here.w))
+      (goes_on (source.assigned here.m (Local i) 0 (plain_word op x v))) in
+      subst P (sym (is u refl)) (write_does (Local i) here (plain_word op u v) few)
 
-  update_does : (op : PlainOperation) (x : Variable) {n : ℕ} {count : ℕ → ℕ} (here : Start z n count) (v : ℕ)
-      (left : List ℕ) → IsTarget z.p z.written x
-      → DoesFrom here (behaviour (one (update_step z.p op x)) (valued here.w (v, left)))
-      (goes_on (source.assigned (record here.m { left = left }) x 0 (plain_word op (word_at here.m.variables x 0) v)))
-  update_does op (Local i) here v left k =
+  update_does : (op : PlainOperation) (x : Variable) {n : ℕ} {count : ℕ → ℕ} (here : Start z n count) (v : ℕ) → IsTarget z.p z.written x
+      → DoesFrom here (behaviour (one (update_step z.p op x)) (pushed v here.w))
+      (goes_on (source.assigned here.m x 0 (plain_word op (word_at here.m.variables x 0) v)))
+  update_does op (Local i) here v k =
       let small = small_modulo i k in
-      local_updated_does op i v (here.w.locals (i % 65536)) here left k
-      (λ u e. here.stands.variables.locals i u (ap here.w.locals (sym small) ∙ e))
-  update_does op (Shared i) here v left k =
-      let a = address_of z.p i in
-      let u = plain_word op (here.w.fram a) v in
-      let P : ℕ → Type 0 = λ x. DoesFrom here (behaviour (one (write_step z.p (Shared i))) (valued here.w (u, left)))
-      (goes_on (source.assigned (record here.m { left = left }) (Shared i) 0 x)) in
+      local_updated_does op i v (here.w.locals (i % 65536)) here k (λ u e. here.stands.variables.locals i u (ap here.w.locals (sym small) ∙ e))
+  update_does op (Shared i) here v k =
+      let u = plain_word op (here.w.fram (address_of z.p i)) v in
+      let P : ℕ → Type 0 = λ x. DoesFrom here (behaviour (one (write_step z.p (Shared i))) (pushed u here.w))
+      (goes_on (source.assigned here.m (Shared i) 0 x)) in
       let held = first_held z.p i here.m.variables here.w.fram here.w.locals here.stands.variables k.0 in
-      subst P (ap (λ x. plain_word op x v) held) (write_does (Shared i) here u left k)
-
-  -- in place, where both sides are of one word
-  sides_do : (x : Variable) (op : PlacedOperator) (a b : CheckedExpression) (o : Option PlainOperation) {n : ℕ} {count : ℕ → ℕ} (here : Start z n count)
-      → of_words (joined_type (type_of a) (type_of b)) (updating x op.operator a) ≡ o
-      → WellFormedExpression z.shared (t.binary op a b) → IsTarget z.p z.written x
-      → Sets x (t.binary op a b) here (sides_set z.p x op a b o)
-  sides_do x op a b None here is fits target = setting_does x (t.binary op a b) here fits target
-  sides_do x op a b (Some o) here is fits target =
-      let word = is_of_words (joined_type (type_of a) (type_of b)) (updating x op.operator a) o is in
-      let types = joined_words (type_of a) (type_of b) word.word in
-      let whole = one_word.binary_word op.operator (type_of a) (type_of b) types.0 types.1 in
-      let given : ℕ → Attempt → Outcome = λ v s. goes_on (source.assigned s x 0 v) in
-      let next : ℕ → Attempt → Outcome = λ v s. goes_on (source.assigned s x 0 (plain_word o (word_at here.m.variables x 0) v)) in
-      let last = one (update_step z.p o x) in
-      let value = word_value b here.m.variables here.m.left in
-      let same = ap (λ r. if_value r here.m given) (word_as_value (t.binary op a b) here.m.variables here.m.left whole)
-      ∙ update_goes_on x op a b o here.m (is_update x op.operator a o word.is) types.0 types.1
-      ∙ sym (ap (λ r. if_value r here.m next) (word_as_value b here.m.variables here.m.left types.1)) in
-      subst (DoesFrom here (behaviour (sides_set z.p x op a b (Some o)) here.w)) (sym same)
-      (subst (λ r. DoesFrom here r (if_value value here.m next)) (sym (joined_go_on (lowered_expression z.p b) last here.w))
-      (does_value z here.most here.w.stack here.w (behaviour (lowered_expression z.p b) here.w) value (behaviour last) here.m next
-      (value_agrees b here fits.1) (λ y. update_does o x here y.0 y.1 target)))
-
-  -- by the kind of the expression: the first clause makes it a proof by cases
-  assignment_does : (x : Variable) (e : CheckedExpression) {n : ℕ} {count : ℕ → ℕ} (here : Start z n count)
-      → WellFormedExpression z.shared e → IsTarget z.p z.written x
-      → Sets x e here (assignment z.p x e)
-  assignment_does x (t.binary op a b) here fits target =
-      sides_do x op a b (of_words (joined_type (type_of a) (type_of b)) (updating x op.operator a)) here refl fits target
-  assignment_does x e here fits target = setting_does x e here fits target
+      subst P (ap (λ x. plain_word op x v) held) (write_does (Shared i) here u k)
 
   -- both words of a long, the high one first
-  write_long_does : (x : Variable) {n : ℕ} {count : ℕ → ℕ} (here : Start z n count) (v : ℕ) (left : List ℕ)
-      → IsLongTarget z.p z.written x
-      → DoesFrom here (behaviour (write_long z.p x) (long_valued here.w (v, left))) (goes_on (both_assigned (record here.m { left = left }) x v))
-  write_long_does (Local i) here v left k = absurd k
-  write_long_does (Shared i) here v left k =
+  write_long_does : (x : Variable) {n : ℕ} {count : ℕ → ℕ} (here : Start z n count) (v : ℕ) → IsLongTarget z.p z.written x
+      → DoesFrom here (behaviour (write_long z.p x) (pushed (v / 65536) (pushed (v % 65536) here.w))) (goes_on (both_assigned here.m x v))
+  write_long_does (Local i) here v k = absurd k
+  write_long_does (Shared i) here v k =
       let p = z.p in
       let f = here.w.fram in
       let first : IsScalarWord p i 0 = let is = k.0 in omega (arith, is) in
@@ -204,10 +145,10 @@ module _ (z : Scene) where
       let low = v % 65536 in
       let high = v / 65536 in
       let once = put f b high in
-      let u : WordState = with_readings left (record here.w { stack = low ∷ here.w.stack }) in
-      let t : WordState = with_readings left (record here.w { fram = once }) in
-      let o : Outcome = goes_on (both_assigned (record here.m { left = left }) (Shared i) v) in
-      let Kept : ℕ → ℕ → Type 0 = λ c d. Does z f here.most here.w.stack (behaviour (step (keep c) (one (keep d))) (long_valued here.w (v, left))) o in
+      let u : WordState = pushed low here.w in
+      let t : WordState = record here.w { fram = once } in
+      let o : Outcome = goes_on (both_assigned here.m (Shared i) v) in
+      let Kept : ℕ → ℕ → Type 0 = λ c d. Does z f here.most here.w.stack (behaviour (step (keep c) (one (keep d))) (pushed high u)) o in
       let P : Behaviour → Type 0 = λ c. Does z f here.most here.w.stack (then_on c (behaviour (one (keep a)))) o in
       let Q : Behaviour → Type 0 = λ c. Does z f here.most here.w.stack (behind_effects (Store b high ∷ []) (then_on c (behaviour nothing))) o in
       let kept_high = placed b (words.goes_on (Store b high ∷ []) (stored b high u)) (spot_place p z.room (scalar i 1) z.apart z.even k.0) in
@@ -228,35 +169,191 @@ module _ (z : Scene) where
               (scalar_set p z.room i 0 low (with_word here.m.variables (Shared i) 1 high) once here.w.locals z.apart first variables);
           emitted = same_emits p z.room here.m.emitted once _ few (spot_emits p z.room (scalar i 0) low once z.apart first) emitted;
           list = same_list p z.room here.listed once _ room (spot_list p z.room (scalar i 0) low once z.apart first (λ x e. cc)) list;
-          readings = refl;
+          readings = here.stands.readings;
         };
         few = few_listed here;
       }))))
 
+  -- so many stores to the elements of one variable
+  abbrev one_store : Variable → ℕ → ℕ
+  one_store x u = if is_shared u x then 1 else 0
+
+  store_step_does : (x : Variable) (i v : ℕ) (here : Start z 0 (one_store x)) → IsWrittenArray z.p x
+      → DoesFrom here (behaviour (one (store_step z.p x)) (pushed v (pushed i here.w))) (goes_on (source.assigned here.m x i v))
+  store_step_does (Shared n) i v here k =
+      let P : Option VariablePlace → Type 0 =
+      λ o. DoesFrom here (behaviour (one (versioned_write (written_array o) (list_place z.p))) (pushed v (pushed i here.w)))
+      (goes_on (source.assigned here.m (Shared n) i v)) in
+      subst P (sym k.3.place) (store_does z n i v k.0 k.1 k.2 k.3 here)
+  store_step_does (Local n) i v here k = absurd k
+
+  update_step_does : (op : PlainOperation) (x : Variable) (i v : ℕ) (here : Start z 0 (one_store x)) → IsWrittenArray z.p x
+      → DoesFrom here (behaviour (one (update_element_step z.p op x)) (pushed v (pushed i here.w)))
+      (goes_on (source.assigned here.m x i (plain_word op (word_at here.m.variables x i) v)))
+  update_step_does op (Shared n) i v here k =
+      let u = plain_word op (word_at here.m.variables (Shared n) i) v in
+      let P : Option VariablePlace → Type 0 =
+      λ o. DoesFrom here (behaviour (one (versioned_update op (written_array o) (list_place z.p))) (pushed v (pushed i here.w)))
+      (goes_on (source.assigned here.m (Shared n) i u)) in
+      subst P (sym k.3.place) (element_update_does z n i u k.0 k.1 k.2 k.3 here op v refl)
+  update_step_does op (Local n) i v here k = absurd k
+
+  -- ---- emits
+
+  buffer_even : (n : ℕ) → (2 * n + z.p.map.emits.address) % 2 ≡ 0
+  buffer_even n = let h = z.even.emits in omega (arith, h)
+
+  buffer_place : (n : ℕ) → n < z.room.emits → is_place (2 * n + z.p.map.emits.address) ≡ true
+  buffer_place n h = let apart = z.apart in fram_place (2 * n + z.p.map.emits.address) (buffer_even n) (omega (arith, apart)) (omega (arith, apart, h))
+
+  emit_does : {count : ℕ → ℕ} (here : Start z 1 count) (v : ℕ)
+      → DoesFrom here (behaviour (one (emit_word (word_place z.p.map EmitCount) z.p.map.emits.address)) (pushed v here.w))
+      (goes_on (record here.m { emitted = here.m.emitted ++ v ∷ [] }))
+  emit_does here v =
+      let p = z.p in
+      let apart = z.apart in
+      let m = here.m in
+      let f = here.w.fram in
+      let count = word_place p.map EmitCount in
+      let n = f count in
+      let a = 2 * n + p.map.emits.address in
+      let o = goes_on (record m { emitted = m.emitted ++ v ∷ [] }) in
+      let counted = here.stands.emitted.emit_count in
+      let few = here.emits in
+      let fits = list_fits here in
+      let below : n < z.room.emits = omega (arith, counted, few) in
+      let last : Behaviour = words.goes_on (Store a v ∷ Store count (n + 1) ∷ []) (stored count (n + 1) (stored a v here.w)) in
+      let is : word_emitted count p.map.emits.address v here.w ≡ last =
+      placed count (at_place a last) (fram_place count (word_even z.p.map EmitCount z.even.row) (omega (arith, apart)) (omega (arith, apart)))
+      ∙ placed a last (buffer_place n below) in
+      let P : Behaviour → Type 0 = λ b. DoesFrom here (then_on b (behaviour nothing)) o in
+      subst P (sym is) (record {
+        stores = (in_buffer n below refl, (at_emit_count refl (omega (arith, below)), tt));
+        stack_kept = refl;
+        listed = here.listed;
+        stands = record {
+          variables =
+              same_variables p m.variables f (after_emit p n v (n + 1) f) here.w.locals (emit_spots p z.room n v (n + 1) f apart below)
+              here.stands.variables;
+          emitted = emitted_emits p z.room v m.emitted f apart here.stands.emitted;
+          list = same_list p z.room here.listed f (after_emit p n v (n + 1) f) (omega (arith, fits)) (emit_list p z.room n v (n + 1) f apart below)
+              here.stands.list;
+          readings = here.stands.readings;
+        };
+        few = few_listed here;
+      })
+
+  -- ---- behind a value
+
+  -- the variables and the emitted words are as they were, and the readings left are those of the attempt behind the value
+  abbrev behind_value : {n : ℕ} {count : ℕ → ℕ} (here : Start z n count) (u : Attempt) → IsBehind here.m u → Start z n count
+  behind_value {n} here u is = record {
+    m = u;
+    listed = here.listed;
+    w = with_readings u.left here.w;
+    most = here.most;
+    stands = record {
+      variables = subst (λ v. HoldVariables z.p v here.w.fram here.w.locals) (sym is.variables) here.stands.variables;
+      emitted = subst (λ es. HoldEmits z.p es here.w.fram) (sym is.emitted) here.stands.emitted;
+      list = here.stands.list;
+      readings = refl;
+    };
+    number = here.number;
+    emits = subst (λ es. length {A = ℕ} es + n ≤ z.room.emits) (sym is.emitted) here.emits;
+    lists = here.lists;
+    within = here.within;
+  }
+
+  -- a program that leaves what is made of the value of an expression, and what goes on from there
+  made_does : (f : ℕ → ℕ) (e : CheckedExpression) {n : ℕ} {count : ℕ → ℕ} (here : Start z n count) (there : Evaluated → WordState) (b : Behaviour)
+      (next : WordState → Behaviour) (more : ℕ → Attempt → Outcome) → AgreesAt there b (made_of f (value_of e here.m))
+      → ((v : ℕ) (u : Attempt) → IsBehind here.m u → DoesFrom here (next (there (evaluated v u))) (more v u))
+      → DoesFrom here (then_on b next) (if_value (made_of f (value_of e here.m)) more)
+  made_does f e here there b next more agrees k =
+      does_at z here.most here.w.stack here.w there b (made_of f (value_of e here.m)) next more agrees
+      (λ x is. k x.value x.behind (made_behind f e here.m x is))
+
+  value_agrees : (e : CheckedExpression) {n : ℕ} {count : ℕ → ℕ} (here : Start z n count) → WellFormedExpression z.shared e
+      → AgreesWithValue here.w (behaviour (lowered_expression z.p e) here.w) (word_value e here.m)
+  value_agrees e here fits =
+      let P : List ℕ → Type 0 = λ l. AgreesWithValue here.w (behaviour (lowered_expression z.p e) here.w) (word_value e (record here.m { left = l })) in
+      subst P here.stands.readings (expressions_agree z.shared z.p z.room e here.m here.w z.apart z.even z.declared fits here.stands.variables)
+
+  -- what a program does with a word on the stack, behind a value
+  abbrev DoesWith : {n : ℕ} {count : ℕ → ℕ} → Start z n count → Program → (ℕ → Attempt → Outcome) → Type 0
+  DoesWith here last more =
+      (v : ℕ) (u : Attempt) → IsBehind here.m u → DoesFrom here (behaviour last (pushed v (with_readings u.left here.w))) (more v u)
+
+  -- the value of an expression as one word, and a program that takes it
+  value_taken : (e : CheckedExpression) {n : ℕ} {count : ℕ → ℕ} (here : Start z n count) (last : Program) (more : ℕ → Attempt → Outcome)
+      → WellFormedExpression z.shared e → DoesWith here last more
+      → DoesFrom here (behaviour (joined (lowered_expression z.p e) last) here.w) (if_value (word_value e here.m) more)
+  value_taken e here last more fits k =
+      let q = lowered_expression z.p e in
+      subst (λ b. DoesFrom here b (if_value (word_value e here.m) more)) (sym (joined_go_on q last here.w))
+      (made_does (converted (type_of e) Unsigned) e here (valued here.w) (behaviour q here.w) (behaviour last) more (value_agrees e here fits) k)
+
+  -- ---- assignments
+
+  -- a variable of one word is set to a value as one word
+  abbrev Sets : {n : ℕ} {count : ℕ → ℕ} → Variable → CheckedExpression → Start z n count → Program → Type 0
+  Sets x e here q = DoesFrom here (behaviour q here.w) (if_value (word_value e here.m) (λ v s. goes_on (source.assigned s x 0 v)))
+
+  setting_does : (x : Variable) (e : CheckedExpression) {n : ℕ} {count : ℕ → ℕ} (here : Start z n count)
+      → WellFormedExpression z.shared e → IsTarget z.p z.written x
+      → Sets x e here (setting z.p x e)
+  setting_does x e here fits target =
+      value_taken e here (one (write_step z.p x)) (λ v s. goes_on (source.assigned s x 0 v)) fits
+      (λ v u is. write_does x (behind_value here u is) v target)
+
+  -- in place, where both sides are of one word
+  sides_do : (x : Variable) (op : PlacedOperator) (a b : CheckedExpression) (o : Option PlainOperation) {n : ℕ} {count : ℕ → ℕ} (here : Start z n count)
+      → of_words (joined_type (type_of a) (type_of b)) (updating x op.operator a) ≡ o
+      → WellFormedExpression z.shared (t.binary op a b) → IsTarget z.p z.written x
+      → Sets x (t.binary op a b) here (sides_set z.p x op a b o)
+  sides_do x op a b None here is fits target = setting_does x (t.binary op a b) here fits target
+  sides_do x op a b (Some o) here is fits target =
+      let word = is_of_words (joined_type (type_of a) (type_of b)) (updating x op.operator a) o is in
+      let types = joined_words (type_of a) (type_of b) word.word in
+      let whole = one_word.binary_word op.operator (type_of a) (type_of b) types.0 types.1 in
+      let given : ℕ → Attempt → Outcome = λ v s. goes_on (source.assigned s x 0 v) in
+      let next : ℕ → Attempt → Outcome = λ v s. goes_on (source.assigned s x 0 (plain_word o (word_at s.variables x 0) v)) in
+      let same = ap (λ r. if_value r given) (word_as_value (t.binary op a b) here.m whole)
+      ∙ update_goes_on x op a b o here.m (is_update x op.operator a o word.is) types.0 types.1
+      ∙ sym (ap (λ r. if_value r next) (word_as_value b here.m types.1)) in
+      subst (DoesFrom here (behaviour (sides_set z.p x op a b (Some o)) here.w)) (sym same)
+      (value_taken b here (one (update_step z.p o x)) next fits.1 (λ v u is. update_does o x (behind_value here u is) v target))
+
+  -- by the kind of the expression: the first clause makes it a proof by cases
+  assignment_does : (x : Variable) (e : CheckedExpression) {n : ℕ} {count : ℕ → ℕ} (here : Start z n count)
+      → WellFormedExpression z.shared e → IsTarget z.p z.written x
+      → Sets x e here (assignment z.p x e)
+  assignment_does x (t.binary op a b) here fits target =
+      sides_do x op a b (of_words (joined_type (type_of a) (type_of b)) (updating x op.operator a)) here refl fits target
+  assignment_does x e here fits target = setting_does x e here fits target
+
   long_setting_does : (x : Variable) (e : CheckedExpression) {n : ℕ} {count : ℕ → ℕ} (here : Start z n count)
       → WellFormedExpression z.shared e → IsLongTarget z.p z.written x
       → DoesFrom here (behaviour (long_setting z.p x e) here.w)
-      (if_value (converted_to (type_of e) Long (value_of e here.m.variables here.m.left)) here.m (λ v s. goes_on (both_assigned s x v)))
+      (if_value (converted_to (type_of e) Long (value_of e here.m)) (λ v s. goes_on (both_assigned s x v)))
   long_setting_does x e here fits target =
-      let value : List ℕ → Option (ℕ × List ℕ) = λ l. converted_to (type_of e) Long (value_of e here.m.variables l) in
+      let value : List ℕ → Option Evaluated = λ l. converted_to (type_of e) Long (value_of e (record here.m { left = l })) in
       let given : ℕ → Attempt → Outcome = λ v s. goes_on (both_assigned s x v) in
       let q = lowered_long z.p e in
       let agrees = subst (λ l. AgreesWithLong here.w (behaviour q here.w) (value l)) here.stands.readings
-      (longs_agree z.shared z.p z.room e here.m.variables here.w z.apart z.even z.declared fits here.stands.variables) in
-      subst (λ b. DoesFrom here b (if_value (value here.m.left) here.m given)) (sym (joined_go_on q (write_long z.p x) here.w))
-      (does_at z here.most here.w.stack here.w (long_valued here.w) (behaviour q here.w) (value here.m.left) (behaviour (write_long z.p x)) here.m given agrees
-      (λ y. write_long_does x here y.0 y.1 target))
+      (longs_agree z.shared z.p z.room e here.m here.w z.apart z.even z.declared fits here.stands.variables) in
+      subst (λ b. DoesFrom here b (if_value (value here.m.left) given)) (sym (joined_go_on q (write_long z.p x) here.w))
+      (made_does (converted (type_of e) Long) e here (long_valued here.w) (behaviour q here.w) (behaviour (write_long z.p x)) given agrees
+      (λ v u is. write_long_does x (behind_value here u is) v target))
 
   -- a variable of one word takes the value as one word
   word_assigned_does : (of : WordType) (x : Variable) (e : CheckedExpression) {n : ℕ} {count : ℕ → ℕ} (here : Start z n count) → IsOneWord of
       → WellFormedExpression z.shared e → IsTarget z.p z.written x
-      → DoesFrom here (behaviour (assignment z.p x e) here.w)
-      (if_value (value_of e here.m.variables here.m.left) here.m (λ v s. goes_on (assigned_as of s x (type_of e) v)))
+      → DoesFrom here (behaviour (assignment z.p x e) here.w) (with_value e here.m (λ v s. goes_on (assigned_as of s x (type_of e) v)))
   word_assigned_does of x e here word fits target =
-      let o = value_of e here.m.variables here.m.left in
+      let o = value_of e here.m in
       subst (DoesFrom here (behaviour (assignment z.p x e) here.w))
-      (if_converted (type_of e) Unsigned o here.m (λ v s. goes_on (source.assigned s x 0 v))
-      ∙ if_same o here.m _ _ (λ v s. ap goes_on (same v s)))
+      (if_converted (type_of e) Unsigned o (λ v s. goes_on (source.assigned s x 0 v)) ∙ if_same o _ _ (λ v s. ap goes_on (same v s)))
       (assignment_does x e here fits target)
     where
       same : (v : ℕ) (s : Attempt) → source.assigned s x 0 (converted (type_of e) Unsigned v) ≡ assigned_as of s x (type_of e) v
@@ -266,92 +363,59 @@ module _ (z : Scene) where
   -- an assignment to a scalar of a type
   scalar_does : (of : WordType) (x : Variable) (e : CheckedExpression) {n : ℕ} {count : ℕ → ℕ} (here : Start z n count)
       → WellFormedExpression z.shared e → IsTargetOf z.p z.written of x
-      → DoesFrom here (behaviour (scalar_assignment z.p of x e) here.w)
-      (if_value (value_of e here.m.variables here.m.left) here.m (λ v s. goes_on (assigned_as of s x (type_of e) v)))
+      → DoesFrom here (behaviour (scalar_assignment z.p of x e) here.w) (with_value e here.m (λ v s. goes_on (assigned_as of s x (type_of e) v)))
   scalar_does Long x e here fits target =
       subst (DoesFrom here (behaviour (long_setting z.p x e) here.w))
-      (if_converted (type_of e) Long (value_of e here.m.variables here.m.left) here.m (λ v s. goes_on (both_assigned s x v)))
+      (if_converted (type_of e) Long (value_of e here.m) (λ v s. goes_on (both_assigned s x v)))
       (long_setting_does x e here fits target)
   scalar_does Int x e here fits target = word_assigned_does Int x e here tt fits target
   scalar_does Unsigned x e here fits target = word_assigned_does Unsigned x e here tt fits target
 
   -- ---- stores to elements
 
-  -- so many stores to the elements of one variable
-  abbrev one_store : Variable → ℕ → ℕ
-  one_store x u = if is_shared u x then 1 else 0
-
-  store_step_does : (x : Variable) (i v : ℕ) (left : List ℕ) (here : Start z 0 (one_store x)) → IsWrittenArray z.p x
-      → DoesFrom here (behaviour (one (store_step z.p x)) (with_readings left (record here.w { stack = v ∷ i ∷ here.w.stack })))
-      (goes_on (source.assigned (record here.m { left = left }) x i v))
-  store_step_does (Shared n) i v left here k =
-      let P : Option VariablePlace → Type 0 =
-      λ o. DoesFrom here
-      (behaviour (one (versioned_write (written_array o) (list_place z.p))) (with_readings left (record here.w { stack = v ∷ i ∷ here.w.stack })))
-      (goes_on (source.assigned (record here.m { left = left }) (Shared n) i v)) in
-      subst P (sym k.3.place) (store_does z n i v k.0 k.1 k.2 k.3 here left)
-  store_step_does (Local n) i v left here k = absurd k
-
-  update_step_does : (op : PlainOperation) (x : Variable) (i v : ℕ) (left : List ℕ) (here : Start z 0 (one_store x)) → IsWrittenArray z.p x
-      → DoesFrom here (behaviour (one (update_element_step z.p op x)) (with_readings left (record here.w { stack = v ∷ i ∷ here.w.stack })))
-      (goes_on (source.assigned (record here.m { left = left }) x i (plain_word op (word_at here.m.variables x i) v)))
-  update_step_does op (Shared n) i v left here k =
-      let u = plain_word op (word_at here.m.variables (Shared n) i) v in
-      let P : Option VariablePlace → Type 0 =
-      λ o. DoesFrom here
-      (behaviour (one (versioned_update op (written_array o) (list_place z.p))) (with_readings left (record here.w { stack = v ∷ i ∷ here.w.stack })))
-      (goes_on (source.assigned (record here.m { left = left }) (Shared n) i u)) in
-      subst P (sym k.3.place) (element_update_does z n i u k.0 k.1 k.2 k.3 here left op v refl)
-  update_step_does op (Local n) i v left here k = absurd k
-
-  -- an index and a value, and what a step does with both
+  -- an index and a value, and what a program does with both
   index_and_value_do : (index e : CheckedExpression) (last : Program) (given : ℕ → ℕ → Attempt → Outcome) {n : ℕ} {count : ℕ → ℕ} (here : Start z n count)
       → WellFormedExpression z.shared index → WellFormedExpression z.shared e
-      → ((i v : ℕ) (left : List ℕ) → DoesFrom here (behaviour last (with_readings left (record here.w { stack = v ∷ i ∷ here.w.stack })))
-      (given i v (record here.m { left = left })))
+      → ((i v : ℕ) (u : Attempt) → IsBehind here.m u
+      → DoesFrom here (behaviour last (pushed v (pushed i (with_readings u.left here.w)))) (given i v u))
       → DoesFrom here (behaviour (joined (index_and_value z.p index e) last) here.w)
-      (if_value (word_value index here.m.variables here.m.left) here.m (λ i s. if_value (word_value e s.variables s.left) s (given i)))
+      (if_value (word_value index here.m) (λ i s. if_value (word_value e s) (given i)))
   index_and_value_do index e last given here of_index of_e k =
-      let w = here.w in
-      let m = here.m in
       let first = lowered_expression z.p index in
       let second = lowered_expression z.p e in
-      let more : ℕ → Attempt → Outcome = λ i s. if_value (word_value e s.variables s.left) s (given i) in
-      let P : Behaviour → Type 0 = λ b. DoesFrom here b (if_value (word_value index m.variables m.left) m more) in
-      subst P (sym (ap (λ q. behaviour q w) (joined_assoc first second last) ∙ joined_go_on first (joined second last) w))
-      (does_value z here.most w.stack w (behaviour first w) (word_value index m.variables m.left) (behaviour (joined second last)) m more
-      (value_agrees index here of_index)
-      (λ i.
-      let u : WordState = valued w i in
-      let n : Attempt = record m { left = i.1 } in
-      let Q : Behaviour → Type 0 = λ b. DoesFrom here b (more i.0 n) in
+      let more : ℕ → Attempt → Outcome = λ i s. if_value (word_value e s) (given i) in
+      let P : Program → Type 0 = λ q. DoesFrom here (behaviour q here.w) (if_value (word_value index here.m) more) in
+      subst P (sym (joined_assoc first second last))
+      (value_taken index here (joined second last) more of_index
+      (λ i s is.
+      let behind = behind_value here s is in
+      let u : WordState = pushed i behind.w in
+      let Q : Behaviour → Type 0 = λ b. DoesFrom here b (more i s) in
       subst Q (sym (joined_go_on second last u))
-      (does_value z here.most w.stack u (behaviour second u) (word_value e n.variables n.left) (behaviour last) n (given i.0)
-      (expressions_agree z.shared z.p z.room e m.variables u z.apart z.even z.declared of_e here.stands.variables)
-      (λ v. k i.0 v.0 v.1))))
+      (does_at z here.most here.w.stack u (valued u) (behaviour second u) (word_value e s) (behaviour last) (given i)
+      (expressions_agree z.shared z.p z.room e s u z.apart z.even z.declared of_e behind.stands.variables)
+      (λ x given. k i x.value x.behind (both_behind is (made_behind (converted (type_of e) Unsigned) e s x given))))))
 
   -- an assignment to an element does what the source's does: the index and the value are taken as one word
   abbrev stored_word : Variable → CheckedExpression → ℕ → Attempt → Outcome
-  stored_word x e i s = if_value (word_value e s.variables s.left) s (λ v s. goes_on (source.assigned s x i v))
+  stored_word x e i s = if_value (word_value e s) (λ v s. goes_on (source.assigned s x i v))
 
   abbrev AssignsElement : (x : Variable) → CheckedExpression → CheckedExpression → Start z 0 (one_store x) → Program → Type 0
-  AssignsElement x index e here q =
-      DoesFrom here (behaviour q here.w) (if_value (word_value index here.m.variables here.m.left) here.m (stored_word x e))
+  AssignsElement x index e here q = DoesFrom here (behaviour q here.w) (if_value (word_value index here.m) (stored_word x e))
 
   element_setting_does : (x : Variable) (index e : CheckedExpression) (here : Start z 0 (one_store x)) → IsWrittenArray z.p x
       → WellFormedExpression z.shared index → WellFormedExpression z.shared e → AssignsElement x index e here (element_setting z.p x index e)
   element_setting_does x index e here array of_index of_e =
       index_and_value_do index e (one (store_step z.p x)) (λ i v s. goes_on (source.assigned s x i v)) here of_index of_e
-      (λ i v left. store_step_does x i v left here array)
+      (λ i v u is. store_step_does x i v (behind_value here u is) array)
 
   -- what is given of an index and of a value, as of expressions of one word
   as_values : (index e : CheckedExpression) (m : Attempt) (given : ℕ → ℕ → Attempt → Outcome) → IsOneWord (type_of index) → IsOneWord (type_of e)
-      → if_value (word_value index m.variables m.left) m (λ i s. if_value (word_value e s.variables s.left) s (given i))
-      ≡ if_value (value_of index m.variables m.left) m (λ i s. if_value (value_of e s.variables s.left) s (given i))
+      → if_value (word_value index m) (λ i s. if_value (word_value e s) (given i)) ≡ with_value index m (λ i s. with_value e s (given i))
   as_values index e m given of_index of_e =
-      let more : ℕ → Attempt → Outcome = λ i s. if_value (value_of e s.variables s.left) s (given i) in
-      if_same (word_value index m.variables m.left) m _ more (λ i s. ap (λ r. if_value r s (given i)) (word_as_value e s.variables s.left of_e))
-      ∙ ap (λ r. if_value r m more) (word_as_value index m.variables m.left of_index)
+      let more : ℕ → Attempt → Outcome = λ i s. with_value e s (given i) in
+      if_same (word_value index m) _ more (λ i s. ap (λ r. if_value r (given i)) (word_as_value e s of_e))
+      ∙ ap (λ r. if_value r more) (word_as_value index m of_index)
 
   -- in place, where both sides are of one word
   element_sides_do : (x : Variable) (index : CheckedExpression) (op : PlacedOperator) (a b : CheckedExpression) (o : Option PlainOperation)
@@ -369,13 +433,13 @@ module _ (z : Scene) where
       let u = is_element_update x index op.operator a o word.is in
       let element = subst (WellFormedExpression z.shared) u.is of_e.0 in
       let given : ℕ → ℕ → Attempt → Outcome = λ i v s. goes_on (source.assigned s x i v) in
-      let next : ℕ → ℕ → Attempt → Outcome = λ i v s. goes_on (source.assigned s x i (plain_word o (word_at m.variables x i) v)) in
+      let next : ℕ → ℕ → Attempt → Outcome = λ i v s. goes_on (source.assigned s x i (plain_word o (word_at s.variables x i) v)) in
       let same = as_values index (t.binary op a b) m given index_word whole
       ∙ element_update_goes_on x index op a b o m u (record { index = index_word; other = element.3; left = types.0; right = types.1 })
       ∙ sym (as_values index b m next index_word types.1) in
       subst (DoesFrom here (behaviour (element_sides_set z.p x index op a b (Some o)) here.w)) (sym same)
       (index_and_value_do index b (one (update_element_step z.p o x)) next here of_index of_e.1
-      (λ i v left. update_step_does o x i v left here array))
+      (λ i v u is. update_step_does o x i v (behind_value here u is) array))
 
   -- by the kind of the expression: the first clause makes it a proof by cases
   element_does : (x : Variable) (index e : CheckedExpression) (here : Start z 0 (one_store x)) → IsWrittenArray z.p x
@@ -389,62 +453,13 @@ module _ (z : Scene) where
   element_store_does : (x : Variable) (index e : CheckedExpression) (here : Start z 0 (one_store x)) → IsWrittenArray z.p x
       → WellFormedExpression z.shared index → IsOneWord (type_of index) → WellFormedExpression z.shared e
       → DoesFrom here (behaviour (element_assignment z.p x index e) here.w)
-      (if_value (value_of index here.m.variables here.m.left) here.m
-      (λ i s. if_value (value_of e s.variables s.left) s (λ v s. goes_on (source.assigned s x i (source.word_of e v)))))
+      (with_value index here.m (λ i s. with_value e s (λ v s. goes_on (source.assigned s x i (source.word_of e v)))))
   element_store_does x index e here array of_index index_word of_e =
-      let m = here.m in
       let given : ℕ → ℕ → Attempt → Outcome = λ i v s. goes_on (source.assigned s x i v) in
-      let same = ap (λ r. if_value r m (stored_word x e)) (word_as_value index m.variables m.left index_word)
-      ∙ if_same (value_of index m.variables m.left) m (stored_word x e) _
-      (λ i s. if_converted (type_of e) Unsigned (value_of e s.variables s.left) s (given i)) in
+      let same = ap (λ r. if_value r (stored_word x e)) (word_as_value index here.m index_word)
+      ∙ if_same (value_of index here.m) (stored_word x e) _ (λ i s. if_converted (type_of e) Unsigned (value_of e s) (given i)) in
       subst (DoesFrom here (behaviour (element_assignment z.p x index e) here.w)) same
       (element_does x index e here array of_index index_word of_e)
-
-  -- ---- emits
-
-  buffer_even : (n : ℕ) → (2 * n + z.p.map.emits.address) % 2 ≡ 0
-  buffer_even n = let h = z.even.emits in omega (arith, h)
-
-  buffer_place : (n : ℕ) → n < z.room.emits → is_place (2 * n + z.p.map.emits.address) ≡ true
-  buffer_place n h = let apart = z.apart in fram_place (2 * n + z.p.map.emits.address) (buffer_even n) (omega (arith, apart)) (omega (arith, apart, h))
-
-  emit_does : {count : ℕ → ℕ} (here : Start z 1 count) (v : ℕ) (left : List ℕ)
-      → DoesFrom here (behaviour (one (emit_word (word_place z.p.map EmitCount) z.p.map.emits.address)) (valued here.w (v, left)))
-      (goes_on (record here.m { emitted = here.m.emitted ++ v ∷ []; left = left }))
-  emit_does here v left =
-      let p = z.p in
-      let apart = z.apart in
-      let m = here.m in
-      let f = here.w.fram in
-      let count = word_place p.map EmitCount in
-      let n = f count in
-      let a = 2 * n + p.map.emits.address in
-      let u : WordState = with_readings left here.w in
-      let o = goes_on (record m { emitted = m.emitted ++ v ∷ []; left = left }) in
-      let counted = here.stands.emitted.emit_count in
-      let few = here.emits in
-      let fits = list_fits here in
-      let below : n < z.room.emits = omega (arith, counted, few) in
-      let last : Behaviour = words.goes_on (Store a v ∷ Store count (n + 1) ∷ []) (stored count (n + 1) (stored a v u)) in
-      let is : word_emitted count p.map.emits.address v u ≡ last =
-      placed count (at_place a last) (fram_place count (word_even z.p.map EmitCount z.even.row) (omega (arith, apart)) (omega (arith, apart)))
-      ∙ placed a last (buffer_place n below) in
-      let P : Behaviour → Type 0 = λ b. DoesFrom here (then_on b (behaviour nothing)) o in
-      subst P (sym is) (record {
-        stores = (in_buffer n below refl, (at_emit_count refl (omega (arith, below)), tt));
-        stack_kept = refl;
-        listed = here.listed;
-        stands = record {
-          variables =
-              same_variables p m.variables f (after_emit p n v (n + 1) f) here.w.locals (emit_spots p z.room n v (n + 1) f apart below)
-              here.stands.variables;
-          emitted = emitted_emits p z.room v m.emitted f apart here.stands.emitted;
-          list = same_list p z.room here.listed f (after_emit p n v (n + 1) f) (omega (arith, fits)) (emit_list p z.room n v (n + 1) f apart below)
-              here.stands.list;
-          readings = refl;
-        };
-        few = few_listed here;
-      })
 
   -- ---- transitions
 
@@ -560,57 +575,49 @@ module _ (z : Scene) where
   either_does false here taken otherwise o q h k = k
 
   -- a choice by a value is one by its truth
-  by_truth : (o : Option (ℕ × List ℕ)) (m : Attempt) (f g : Attempt → Outcome)
-      → if_value (truth_of o) m (λ v s. if holds v then f s else g s) ≡ if_value o m (λ v s. if holds v then f s else g s)
-  by_truth None m f g = refl
-  by_truth (Some x) m f g =
-      let s : Attempt = record m { left = x.1 } in
-      ap (λ b. if b then f s else g s) (holds_bit (holds x.0))
+  by_truth : (o : Option Evaluated) (f g : Attempt → Outcome)
+      → if_value (truth_of o) (λ v s. if holds v then f s else g s) ≡ if_value o (λ v s. if holds v then f s else g s)
+  by_truth None f g = refl
+  by_truth (Some x) f g = ap (λ b. if b then f x.behind else g x.behind) (holds_bit (holds x.value))
 
-  -- one way of a choice does what the source runs, from any readings on
+  -- one way of a choice does what the source runs, from any attempt behind the condition on
   abbrev WayDoes : {n : ℕ} {count : ℕ → ℕ} → Start z n count → Program → (Attempt → Outcome) → Type 0
-  WayDoes here q run = (left : List ℕ) → DoesFrom here (behaviour q (with_readings left here.w)) (run (record here.m { left = left }))
+  WayDoes here q run = (u : Attempt) → IsBehind here.m u → DoesFrom here (behaviour q (with_readings u.left here.w)) (run u)
 
   -- a choice, where both ways do
   choice_of_ways : (e : CheckedExpression) {n : ℕ} {count : ℕ → ℕ} (here : Start z n count) (taken otherwise : Program) (f g : Attempt → Outcome)
       → WellFormedExpression z.shared e → WayDoes here taken f → WayDoes here otherwise g
       → DoesFrom here (behaviour (one (choose (lowered_test z.p e) taken otherwise)) here.w)
-      (if_value (value_of e here.m.variables here.m.left) here.m (λ v s. if holds v then f s else g s))
+      (with_value e here.m (λ v s. if holds v then f s else g s))
   choice_of_ways e here taken otherwise f g fits a b =
       let w = here.w in
       let m = here.m in
       let c = lowered_test z.p e in
-      let o = value_of e m.variables m.left in
+      let o = value_of e m in
       let run : ℕ → Attempt → Outcome = λ v s. if holds v then f s else g s in
       let ways = way_by_top (behaviour taken) (behaviour otherwise) in
       let decided = decided_by_truth c (behaviour taken) (behaviour otherwise) w in
-      let agrees = subst (λ l. AgreesWithValue w (truth_pushed c w) (truth_of (value_of e m.variables l))) here.stands.readings
-      (test_agrees (type_of e) w (lowering z.p e) (value_of e m.variables w.inputs.readings)
-      (lowering_agrees z.shared z.p z.room e m.variables w z.apart z.even z.declared fits here.stands.variables)) in
-      does_alone z w.fram here.most w.stack (tested c (behaviour taken) (behaviour otherwise) w) (if_value o m run)
-      (subst (λ r. DoesFrom here r (if_value o m run)) (sym decided)
-      (subst (DoesFrom here (then_on (truth_pushed c w) ways)) (by_truth o m f g)
-      (does_value z here.most w.stack w (truth_pushed c w) (truth_of o) ways m run agrees (λ y.
-      let u : WordState = with_readings y.1 w in
-      let n : Attempt = record m { left = y.1 } in
-      either_does (holds y.0) here (behaviour taken u) (behaviour otherwise u) (f n) (g n) (a y.1) (b y.1)))))
+      let agrees = subst (λ l. AgreesWithValue w (truth_pushed c w) (truth_of (value_of e (record m { left = l })))) here.stands.readings
+      (test_agrees (type_of e) w (lowering z.p e) (value_of e (in_state w m))
+      (lowering_agrees z.shared z.p z.room e m w z.apart z.even z.declared fits here.stands.variables)) in
+      does_alone z w.fram here.most w.stack (tested c (behaviour taken) (behaviour otherwise) w) (if_value o run)
+      (subst (λ r. DoesFrom here r (if_value o run)) (sym decided)
+      (subst (DoesFrom here (then_on (truth_pushed c w) ways)) (by_truth o f g)
+      (made_does truth_word e here (valued w) (truth_pushed c w) ways run agrees (λ v u is.
+      let s : WordState = with_readings u.left w in
+      either_does (holds v) here (behaviour taken s) (behaviour otherwise s) (f u) (g u) (a u is) (b u is)))))
 
-  -- with other readings left, for statements that emit and list no more
-  abbrev with_left : {n : ℕ} {count : ℕ → ℕ} (here : Start z n count) (left : List ℕ) (k : ℕ) (fewer : ℕ → ℕ) → k ≤ n → ((v : ℕ) → fewer v ≤ count v)
+  -- for statements that emit and list no more
+  abbrev with_fewer : {n : ℕ} {count : ℕ → ℕ} (here : Start z n count) (k : ℕ) (fewer : ℕ → ℕ) → k ≤ n → ((v : ℕ) → fewer v ≤ count v)
       → Start z k fewer
-  with_left here left k fewer l less =
+  with_fewer here k fewer l less =
       let e = here.emits in
       record {
-        m = record here.m { left = left };
+        m = here.m;
         listed = here.listed;
-        w = with_readings left here.w;
+        w = here.w;
         most = here.most;
-        stands = record {
-          variables = here.stands.variables;
-          emitted = here.stands.emitted;
-          list = here.stands.list;
-          readings = refl;
-        };
+        stands = here.stands;
         number = here.number;
         emits = omega (arith, e, l);
         lists = λ v. let a = here.lists v in let b = less v in omega (arith, a, b);
@@ -649,17 +656,10 @@ module _ (z : Scene) where
           emitted = block_emitted body;
         }) here
     statement_does (t.emit e) here fits writes =
-        let w = here.w in
-        let m = here.m in
         let last = one (emit_word (word_place z.p.map EmitCount) z.p.map.emits.address) in
         let given : ℕ → Attempt → Outcome = λ v s. goes_on (record s { emitted = s.emitted ++ v ∷ [] }) in
-        let value = word_value e m.variables m.left in
-        let P : Behaviour → Type 0 = λ b. DoesFrom here b (run_statement (t.emit e) m) in
-        subst P (sym (joined_go_on (lowered_expression z.p e) last w))
-        (subst (DoesFrom here (then_on (behaviour (lowered_expression z.p e) w) (behaviour last)))
-        (if_converted (type_of e) Unsigned (value_of e m.variables m.left) m given)
-        (does_value z here.most w.stack w (behaviour (lowered_expression z.p e) w) value (behaviour last) m given
-        (value_agrees e here fits.0) (λ y. emit_does here y.0 y.1)))
+        subst (DoesFrom here (behaviour (joined (lowered_expression z.p e) last) here.w)) (if_converted (type_of e) Unsigned (value_of e here.m) given)
+        (value_taken e here last given fits.0 (λ v u is. emit_does (behind_value here u is) v))
     statement_does (t.transition task) here fits writes = transition_does task.task here
 
     choice_does : (c : CheckedChoice) (here : Start z (choice_emits c) (λ v. choice_count (is_store_to v) c)) → WellFormedChoice z.shared c
@@ -669,9 +669,11 @@ module _ (z : Scene) where
     choice_does (t.otherwise block) here fits writes = block_does block here fits writes
     choice_does (t.test e block more) here fits writes =
         choice_of_ways e here (lowered_block z.p block) (lowered_choice z.p more) (run_block block) (run_choice more) fits.0
-        (λ left. block_does block (with_left here left (block_emits block) (λ v. block_count (is_store_to v) block) (omega arith) (λ v. omega arith)) fits.1
+        (λ u is. block_does block
+        (with_fewer (behind_value here u is) (block_emits block) (λ v. block_count (is_store_to v) block) (omega arith) (λ v. omega arith)) fits.1
         (λ v k. writes v (taken_writes v e block more k)))
-        (λ left. choice_does more (with_left here left (choice_emits more) (λ v. choice_count (is_store_to v) more) (omega arith) (λ v. omega arith)) fits.2
+        (λ u is. choice_does more
+        (with_fewer (behind_value here u is) (choice_emits more) (λ v. choice_count (is_store_to v) more) (omega arith) (λ v. omega arith)) fits.2
         (λ v k. writes v (passed_writes v e block more k)))
 
     block_does : (b : CheckedBlock) (here : Start z (block_emits b) (λ v. block_count (is_store_to v) b)) → WellFormedBlock z.shared b

@@ -11,9 +11,8 @@ use Rattle.task_ast.specs.declared.WordType.{WordType}
 use Rattle.task_ast.specs.declared.WordType.TheVariants.{Unsigned, Long}
 use Rattle.task_ast.specs.declared.names.Variable.{Variable}
 use Rattle.task_ast.specs.declared.names.Variable.TheVariants.{Shared, Local}
-use Rattle.array_versions.specs.alp_words.Words.{bit}
-use Rattle.source_values.specs.Values.{◌>>?◌, Variables, word_at, converted, holds, value_of}
-use Rattle.source_values.specs.Statements.{Attempt, Outcome, goes_on, to_task, short, run_block, block_emits}
+use Rattle.source_values.specs.Values.{Variables, Attempt, Evaluated, word_at, converted, made_of, truth_word, value_of}
+use Rattle.source_values.specs.Statements.{Outcome, goes_on, to_task, short, run_block, block_emits}
 use Rattle.array_versions.specs.Behaviour.{WordState, with_readings, End, GoesOn, Jumps, Short, Strays, Broken, Behaviour, behaviour}
 use Rattle.cost_bound.specs.Counts.{stores_of}
 use Rattle.memory_map.specs.MemoryMap.{word_place}
@@ -144,17 +143,17 @@ transition_effects p task entries base =
 
 -- ---- an expression
 
--- the state with a value on top of the stack, and these readings left
-abbrev pub valued : WordState → ℕ × List ℕ → WordState
-valued w x = with_readings x.1 (record w { stack = x.0 ∷ w.stack })
+-- the state with a value on top of the stack, and the readings left that the attempt behind it has
+abbrev pub valued : WordState → Evaluated → WordState
+valued w x = with_readings x.behind.left (record w { stack = x.value ∷ w.stack })
 
 -- the same with a value as a long: its high word is on top
-abbrev pub long_valued : WordState → ℕ × List ℕ → WordState
-long_valued w x = with_readings x.1 (record w { stack = x.0 / 65536 ∷ (x.0 % 65536 ∷ w.stack) })
+abbrev pub long_valued : WordState → Evaluated → WordState
+long_valued w x = with_readings x.behind.left (record w { stack = x.value / 65536 ∷ (x.value % 65536 ∷ w.stack) })
 
 -- the end leaves the state that a value makes, or is short where there is none. A program that reads a local before it is assigned is
 -- broken, and then nothing is said
-abbrev pub EndsAt : (ℕ × List ℕ → WordState) → End → Option (ℕ × List ℕ) → Type 0
+abbrev pub EndsAt : (Evaluated → WordState) → End → Option Evaluated → Type 0
 EndsAt there (GoesOn s) (Some x) = s ≡ there x
 EndsAt there (GoesOn s) None = ⊥
 EndsAt there Short (Some x) = ⊥
@@ -164,46 +163,46 @@ EndsAt there Strays o = ⊥
 EndsAt there Broken o = Unit {0}
 
 -- a program takes readings alone, and ends as an expression does: with the state that its value makes, or short of readings
-abbrev pub AgreesAt : (ℕ × List ℕ → WordState) → Behaviour → Option (ℕ × List ℕ) → Type 0
+abbrev pub AgreesAt : (Evaluated → WordState) → Behaviour → Option Evaluated → Type 0
 AgreesAt there b o = OnlyTakes b.effects × EndsAt there b.end o
 
 -- the same with the value pushed
-abbrev pub AgreesWithValue : WordState → Behaviour → Option (ℕ × List ℕ) → Type 0
+abbrev pub AgreesWithValue : WordState → Behaviour → Option Evaluated → Type 0
 AgreesWithValue w b o = AgreesAt (valued w) b o
 
 -- the same with the value pushed as a long
-abbrev pub AgreesWithLong : WordState → Behaviour → Option (ℕ × List ℕ) → Type 0
+abbrev pub AgreesWithLong : WordState → Behaviour → Option Evaluated → Type 0
 AgreesWithLong w b o = AgreesAt (long_valued w) b o
 
+-- an attempt with the readings left that a state has
+abbrev pub in_state : WordState → Attempt → Attempt
+in_state w m = record m { left = w.inputs.readings }
+
 -- a value of one type as one of another
-abbrev pub converted_to : WordType → WordType → Option (ℕ × List ℕ) → Option (ℕ × List ℕ)
-converted_to from to o = o >>? λ x. Some (converted from to x.0, x.1)
+abbrev pub converted_to : WordType → WordType → Option Evaluated → Option Evaluated
+converted_to s t o = made_of (converted s t) o
 
 -- the program of an expression leaves its value, as one word
 abbrev pub ExpressionsAgree : Type 0
-ExpressionsAgree = (shared : List SharedDeclaration) (p : Places) (room : Room) (e : CheckedExpression) (m : Variables) (w : WordState)
-    → AreApart p room → AreEven p → AsDeclared shared p → WellFormedExpression shared e → HoldVariables p m w.fram w.locals
-    → AgreesWithValue w (behaviour (lowered_expression p e) w) (converted_to (type_of e) Unsigned (value_of e m w.inputs.readings))
+ExpressionsAgree = (shared : List SharedDeclaration) (p : Places) (room : Room) (e : CheckedExpression) (m : Attempt) (w : WordState)
+    → AreApart p room → AreEven p → AsDeclared shared p → WellFormedExpression shared e → HoldVariables p m.variables w.fram w.locals
+    → AgreesWithValue w (behaviour (lowered_expression p e) w) (converted_to (type_of e) Unsigned (value_of e (in_state w m)))
 
 -- and the other its value as a long
 abbrev pub LongsAgree : Type 0
-LongsAgree = (shared : List SharedDeclaration) (p : Places) (room : Room) (e : CheckedExpression) (m : Variables) (w : WordState)
-    → AreApart p room → AreEven p → AsDeclared shared p → WellFormedExpression shared e → HoldVariables p m w.fram w.locals
-    → AgreesWithLong w (behaviour (lowered_long p e) w) (converted_to (type_of e) Long (value_of e m w.inputs.readings))
+LongsAgree = (shared : List SharedDeclaration) (p : Places) (room : Room) (e : CheckedExpression) (m : Attempt) (w : WordState)
+    → AreApart p room → AreEven p → AsDeclared shared p → WellFormedExpression shared e → HoldVariables p m.variables w.fram w.locals
+    → AgreesWithLong w (behaviour (lowered_long p e) w) (converted_to (type_of e) Long (value_of e (in_state w m)))
 
 -- a value as 1 where it isn't 0, else 0
-abbrev pub truth_value : ℕ × List ℕ → Option (ℕ × List ℕ)
-truth_value x = Some (bit (holds x.0), x.1)
-
--- the same of a value, if there is one
-abbrev pub truth_of : Option (ℕ × List ℕ) → Option (ℕ × List ℕ)
-truth_of o = o >>? truth_value
+abbrev pub truth_of : Option Evaluated → Option Evaluated
+truth_of o = made_of truth_word o
 
 -- the test of an expression holds where its value isn't 0
 abbrev pub TestsAgree : Type 0
-TestsAgree = (shared : List SharedDeclaration) (p : Places) (room : Room) (e : CheckedExpression) (m : Variables) (w : WordState)
-    → AreApart p room → AreEven p → AsDeclared shared p → WellFormedExpression shared e → HoldVariables p m w.fram w.locals
-    → AgreesWithValue w (behaviour (one (truth (lowered_test p e))) w) (truth_of (value_of e m w.inputs.readings))
+TestsAgree = (shared : List SharedDeclaration) (p : Places) (room : Room) (e : CheckedExpression) (m : Attempt) (w : WordState)
+    → AreApart p room → AreEven p → AsDeclared shared p → WellFormedExpression shared e → HoldVariables p m.variables w.fram w.locals
+    → AgreesWithValue w (behaviour (one (truth (lowered_test p e))) w) (truth_of (value_of e (in_state w m)))
 
 -- ---- statements
 

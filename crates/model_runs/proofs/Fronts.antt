@@ -43,11 +43,11 @@ module _ {St : Type 0} (m : Model St) (c : Program) (readings : List ℕ) (origi
   at_front ms front = front_reached stood b first (ready_at_first front.whole front.words) ms front
 
   -- a run came there, as the crash theorem takes it
-  pub has_run : (t : BoardValue) (h : History) → AtFront t h → HasRun m c readings origin (outside_of t) h
+  abbrev pub has_run : (t : BoardValue) (h : History) → AtFront t h → HasRun m c readings origin (outside_of t) h
   has_run t h at = record { world = x; start = outside_of b; begins = bears.begins; charges = at.charges; leads = at.charged }
 
   -- and a further power-up follows
-  pub powers_up : (t : BoardValue) (h : History) (at : AtFront t h) (start : PowerState) (ok : IsPowerState start)
+  abbrev pub powers_up : (t : BoardValue) (h : History) (at : AtFront t h) (start : PowerState) (ok : IsPowerState start)
       → PowersUpBehind m c readings origin (outside_of (powered t start))
   powers_up t h at start ok = record {
     board = outside_of t;

@@ -6,7 +6,7 @@ use Rattle.fram_board.specs.Run.{Moment, Charges, RunOutcome, run_outcome, Board
 use Rattle.machine_effects.specs.World.{World}
 use Rattle.crash_rules.specs.Model.{Model, bound}
 use Rattle.crash_rules.specs.History.{History, behind_boot, first_history}
-use Rattle.crash_rules.specs.Runs.{Program}
+use Rattle.crash_rules.specs.Runs.{Program, IsSpentFrom}
 use Rattle.crash_rules.specs.Laws.{Origin}
 use Rattle.crash_rules.proofs.Interface.{progress_law}
 use Rattle.run_charges.specs.View.{outside_of}
@@ -29,7 +29,8 @@ module _ {St : Type 0} (m : Model St) (c : Program) (readings : List ℕ) (origi
       → ChargeRun d.measure d.amount (powered t d.start) (run_outcome ms Charges end)
       → PaysFor (bound m) (m.delay (outside_of (powered t d.start)).inputs) d h (observed m.marks ms (behind_boot h))
   pays t h at d ok ms end one e count enough =
-      let spent = record { steps = length ms; end = outside_of end; spends = is_spent on t h at.ready d ok ms end one e } in
+      let spent : IsSpentFrom c.step d.amount (outside_of (powered t d.start)) =
+      record { steps = length ms; end = outside_of end; spends = is_spent on t h at.ready d ok ms end one e } in
       let more = progress_law m c bears.model bears.program readings origin (outside_of (powered t d.start))
       (powers_up m c readings origin x b bears t h at d.start ok) count d.amount enough spent in
       let P : History → Type 0 = λ z. count + length h.completed ≤ length z.completed in

@@ -12,7 +12,7 @@ use Rattle.machine_effects.proofs.Interface.{power_up_keeps_words}
 use Rattle.crash_rules.specs.Model.{Model, Marks}
 use Rattle.crash_rules.specs.History.{Done, History, is_done, is_decide, with_effect, behind_boot, behind_done, behind_decide, behind_gate, observe_one}
 use Rattle.crash_rules.specs.History.{observe, first_history}
-use Rattle.crash_rules.specs.Runs.{Program, Charge, Charged}
+use Rattle.crash_rules.specs.Runs.{Program, Charge}
 use Rattle.crash_rules.specs.Laws.{Origin, Resting, Pending, HasRun, AreConsecutive, FollowFirst}
 use Rattle.crash_rules.proofs.Interface.{spans_follow, pending_spans_follow}
 use Rattle.run_charges.specs.View.{outside_of, outside_effects}

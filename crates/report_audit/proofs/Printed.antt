@@ -84,7 +84,6 @@ IsNamed (Some name) = is_name name ≡ true
 
 -- the bytes of a name are those of a word
 named_bytes : (b : ℕ) (bs : List ℕ) → list_all is_name_byte (b ∷ bs) ≡ true → (36 < b) × Inked bs
-unfolding is_letter
 named_bytes b [] h = let one = (and_parts (is_name_byte b) true h).0 in (grind (arith, nat_tests, one), tt)
 named_bytes b (c ∷ bs) h =
     let both = and_parts (is_name_byte b) (list_all is_name_byte (c ∷ bs)) h in

@@ -1,5 +1,6 @@
 -- What a run of a program needs, and begins with.
 use Rattle.std.specs.Prelude.{◌≡◌, ℕ, ◌<◌, ◌≤◌, List, [], map, length, All}
+use Rattle.source_values.specs.Marks.{no_marks}
 use Rattle.source_values.specs.Runs.{CheckedProgram, EmitsFit, RunState, TransitionComes, initial_rows}
 
 -- each shared variable has as many words as it starts with
@@ -17,4 +18,10 @@ pub record IsRunnable (program : CheckedProgram) : Type 0 where
 
 -- a run of which no transition was made
 abbrev pub fresh_run : CheckedProgram → RunState
-fresh_run program = record { before = initial_rows program; shared = initial_rows program; emitted = []; task = program.entry.task }
+fresh_run program = record {
+  before = initial_rows program;
+  shared = initial_rows program;
+  written = no_marks;
+  emitted = [];
+  task = program.entry.task;
+}

@@ -10,7 +10,8 @@ use Rattle.runtime_effects.specs.Places.{CopyPair, entry_bytes, entries_from}
 use Rattle.runtime_effects.proofs.Interface.{entries_alike}
 use Rattle.stands_for.specs.Layout.{ProgramPlaces, StateView, IsSharedWord, IsAmong, HaveRoom}
 use Rattle.stands_for.specs.StandsFor.{HoldsWords, AcceptedFrom, SendsAndCloses, CopiesHome}
-use Rattle.runtime_effects.specs.memory_map.MemoryMap.{MemoryMap, word_place}
+use Rattle.stands_for.proofs.Sends.{next_base}
+use Rattle.runtime_effects.specs.memory_map.MemoryMap.{word_place}
 use Rattle.runtime_effects.specs.memory_map.declared.words.RuntimeWord.TheVariants.{CurrentTask, NextTask, Gate, ListLength, EmitCount, Base, SentBase, Version}
 use Rattle.runtime_effects.specs.memory_map.Laws.{AreApart}
 
@@ -27,10 +28,6 @@ put_words f a w h k b =
 pub same_number : (a j i : ℕ) → j ≤ 256 → i ≤ 256 → (a + i) % 0x10000 ≡ (a + j) % 0x10000 → i ≡ j
 same_number a j i hj hi e = omega arith
 
--- the number behind the last word of a commit
-abbrev pub next_base : MemoryMap → (ℕ → ℕ) → ℕ
-next_base m f = (f (word_place m SentBase) + f (word_place m EmitCount)) % 0x10000
-
 -- a change of FRAM that leaves all words but shared ones, CUR and BASE
 abbrev pub LeavesRuntime : ProgramPlaces → World → World → Type 0
 LeavesRuntime l x y = (a : ℕ) → (IsSharedWord l a → ⊥) → (a ≡ word_place l.map CurrentTask → ⊥) → (a ≡ word_place l.map Base → ⊥) → y.fram a ≡ x.fram a
@@ -39,13 +36,26 @@ LeavesRuntime l x y = (a : ℕ) → (IsSharedWord l a → ⊥) → (a ≡ word_p
 abbrev pub LeavesAll : ProgramPlaces → World → World → Type 0
 LeavesAll l x y = (a : ℕ) → (a ≡ word_place l.map CurrentTask → ⊥) → (a ≡ word_place l.map Base → ⊥) → y.fram a ≡ x.fram a
 
-module _ {St : Type 0} (l : ProgramPlaces) (apart : AreApart l.map) (room : HaveRoom l) (v : StateView St) (s next : St) (es : List ℕ) where
+-- a transition from a state to the next one, with the words that it sends, where a program's places are
+pub record Transition (St : Type 0) : Type 0 where
+  pub places : ProgramPlaces
+  pub apart : AreApart places.map
+  pub room : HaveRoom places
+  pub view : StateView St
+  pub from : St
+  pub to : St
+  pub emits : List ℕ
+  pub is_task : view.task from < places.tasks
+
+module _ {St : Type 0} (t : Transition St) where
+  open t use {places as l, apart, room, view as v, from as s, to as next, emits as es, is_task}
+
   abbrev pub Sends : ℕ → World → Type 0
   Sends k x = SendsAndCloses l v s next es k x
 
   -- the emitted words have room
   pub few_emits : (k : ℕ) (x : World) → Sends k x → length es ≤ l.map.emits.words
-  few_emits k x d = let a = d.within_emits in let b = room.emits (v.task s) d.is_task in omega (arith, a, b)
+  few_emits k x d = let a = d.within_emits in let b = room.emits (v.task s) is_task in omega (arith, a, b)
 
   -- a change that sets CUR and BASE only to what the next state has, and leaves the runtime's other words, keeps what is to be sent
   pub keeps_sends : (k k' : ℕ) (x y : World) → HoldsWords y.fram → LeavesRuntime l x y
@@ -184,54 +194,53 @@ module _ {St : Type 0} (l : ProgramPlaces) (apart : AreApart l.map) (room : Have
           bears i x y d.0 (λ a c e. refl) d.1,
         )
 
--- the words that are copied home
-module _ {St : Type 0} (l : ProgramPlaces) (apart : AreApart l.map) (room : HaveRoom l) (v : StateView St) (s next : St) (ps : List CopyPair)
-    (is_task : v.task s < l.tasks) where
-  abbrev Home : World → Type 0
-  Home x = CopiesHome l v s next ps x
+  -- the words that are copied home
+  module _ (ps : List CopyPair) where
+    abbrev Home : World → Type 0
+    Home x = CopiesHome l v s next ps x
 
-  -- the list has room
-  pub few : (x : World) → Home x → x.fram (word_place l.map ListLength) ≤ l.map.entries
-  few x d = let a = d.within_list in let b = room.list (v.task s) is_task in omega (arith, a, b)
+    -- the list has room
+    pub few : (x : World) → Home x → x.fram (word_place l.map ListLength) ≤ l.map.entries
+    few x d = let a = d.within_list in let b = room.list (v.task s) is_task in omega (arith, a, b)
 
-  pub few_words : (x : World) → Home x → length ps ≤ l.map.entries
-  few_words x d = let a = d.within_words in let b = room.list (v.task s) is_task in omega (arith, a, b)
+    pub few_words : (x : World) → Home x → length ps ≤ l.map.entries
+    few_words x d = let a = d.within_words in let b = room.list (v.task s) is_task in omega (arith, a, b)
 
-  -- a change that leaves the runtime's words, and sets shared words only to what the next state has
-  pub keeps_home : (x y : World) → LeavesRuntime l x y → ((a : ℕ) → IsSharedWord l a → (y.fram a ≡ x.fram a) ⊎ (y.fram a ≡ v.word next a)) → Home x → Home y
-  keeps_home x y same moves d =
-      let m = l.map in
-      let cln : y.fram (word_place m ListLength) ≡ x.fram (word_place m ListLength) =
-      same (word_place m ListLength) (λ h. omega (arith, apart, h)) (λ e. omega (arith, apart, e)) (λ e. omega (arith, apart, e)) in
-      let small = few x d in
-      let list : (a : ℕ) → m.list.address ≤ a → a < m.list.address + entry_bytes * x.fram (word_place m ListLength)
-      → y.fram a ≡ x.fram a = λ a lo hi. same a (λ h. omega (arith, apart, h, small, hi)) (λ e. omega (arith, apart, e, lo))
-      (λ e. omega (arith, apart, e, lo)) in
-      record {
-        pairs_listed = ap (λ n. entries_from n m.list.address y.fram) cln ∙ entries_alike (x.fram (word_place m ListLength)) m.list.address x.fram y.fram list
-            ∙ d.pairs_listed;
-        entries = λ i h.
-            let below : i < x.fram (word_place m ListLength) = subst (λ n. i < n) cln h in
-            subst (λ n. 0 < n) (sym (list (m.list.address + entry_bytes * i + 4) (omega arith) (omega (arith, below)))) (d.entries i below);
-        within_list = subst (λ n. n ≤ l.list_capacity (v.task s)) (sym cln) d.within_list;
-        within_words = d.within_words;
-        homes = d.homes;
-        copies = d.copies;
-        copied = λ p h. let c = d.copies p h in same p.copy (λ q. omega (arith, apart, q, c)) (λ e. omega (arith, apart, e, c))
-            (λ e. omega (arith, apart, e, c)) ∙ d.copied p h;
-        either = λ p h. ⊎_elim (λ e. ⊎_elim (λ o. inl (e ∙ o)) (λ o. inr (e ∙ o)) (d.either p h)) (λ e. inr e) (moves p.home (d.homes p h));
-        others = λ a sh none. ⊎_elim (λ e. e ∙ d.others a sh none) (λ e. e) (moves a sh);
-      }
+    -- a change that leaves the runtime's words, and sets shared words only to what the next state has
+    pub keeps_home : (x y : World) → LeavesRuntime l x y → ((a : ℕ) → IsSharedWord l a → (y.fram a ≡ x.fram a) ⊎ (y.fram a ≡ v.word next a)) → Home x → Home y
+    keeps_home x y same moves d =
+        let m = l.map in
+        let cln : y.fram (word_place m ListLength) ≡ x.fram (word_place m ListLength) =
+        same (word_place m ListLength) (λ h. omega (arith, apart, h)) (λ e. omega (arith, apart, e)) (λ e. omega (arith, apart, e)) in
+        let small = few x d in
+        let list : (a : ℕ) → m.list.address ≤ a → a < m.list.address + entry_bytes * x.fram (word_place m ListLength)
+        → y.fram a ≡ x.fram a = λ a lo hi. same a (λ h. omega (arith, apart, h, small, hi)) (λ e. omega (arith, apart, e, lo))
+        (λ e. omega (arith, apart, e, lo)) in
+        record {
+          pairs_listed = ap (λ n. entries_from n m.list.address y.fram) cln ∙ entries_alike (x.fram (word_place m ListLength)) m.list.address x.fram y.fram list
+              ∙ d.pairs_listed;
+          entries = λ i h.
+              let below : i < x.fram (word_place m ListLength) = subst (λ n. i < n) cln h in
+              subst (λ n. 0 < n) (sym (list (m.list.address + entry_bytes * i + 4) (omega arith) (omega (arith, below)))) (d.entries i below);
+          within_list = subst (λ n. n ≤ l.list_capacity (v.task s)) (sym cln) d.within_list;
+          within_words = d.within_words;
+          homes = d.homes;
+          copies = d.copies;
+          copied = λ p h. let c = d.copies p h in same p.copy (λ q. omega (arith, apart, q, c)) (λ e. omega (arith, apart, e, c))
+              (λ e. omega (arith, apart, e, c)) ∙ d.copied p h;
+          either = λ p h. ⊎_elim (λ e. ⊎_elim (λ o. inl (e ∙ o)) (λ o. inr (e ∙ o)) (d.either p h)) (λ e. inr e) (moves p.home (d.homes p h));
+          others = λ a sh none. ⊎_elim (λ e. e ∙ d.others a sh none) (λ e. e) (moves a sh);
+        }
 
-  -- stores to CUR and BASE leave them
-  pub bears_home : (x y : World) → LeavesAll l x y → Home x → Home y
-  bears_home x y same d =
-      keeps_home x y (λ a n c e. same a c e) (λ a sh. inl (same a (λ e. omega (arith, apart, sh, e)) (λ e. omega (arith, apart, sh, e)))) d
+    -- stores to CUR and BASE leave them
+    pub bears_home : (k : ℕ) (x y : World) → Sends k x → LeavesAll l x y → Home x → Home y
+    bears_home k x y sent same d =
+        keeps_home x y (λ a n c e. same a c e) (λ a sh. inl (same a (λ e. omega (arith, apart, sh, e)) (λ e. omega (arith, apart, sh, e)))) d
 
-  -- a word is copied home
-  pub copy_home : (x : World) (p : CopyPair) → IsAmong ps p → Home x → Home (world_after_one (Store p.home (x.fram p.copy)) x)
-  copy_home x p h d =
-      let f = x.fram in let a = p.home in let w = f p.copy in
-      keeps_home x (world_after_one (Store a w) x)
-      (λ b n c e. put_other f a w b (λ q. n (subst (IsSharedWord l) (sym q) (d.homes p h))))
-      (λ b sh. ⊎_elim (λ q. inr (q.1 ∙ d.copied p h ∙ ap (v.word next) (sym q.0))) (λ q. inl q.1) (put_either f a w b)) d
+    -- a word is copied home
+    pub copy_home : (x : World) (p : CopyPair) → IsAmong ps p → Home x → Home (world_after_one (Store p.home (x.fram p.copy)) x)
+    copy_home x p h d =
+        let f = x.fram in let a = p.home in let w = f p.copy in
+        keeps_home x (world_after_one (Store a w) x)
+        (λ b n c e. put_other f a w b (λ q. n (subst (IsSharedWord l) (sym q) (d.homes p h))))
+        (λ b sh. ⊎_elim (λ q. inr (q.1 ∙ d.copied p h ∙ ap (v.word next) (sym q.0))) (λ q. inl q.1) (put_either f a w b)) d

@@ -11,7 +11,8 @@ use Rattle.crash_rules.specs.Model.{Inputs, HoldsThroughout, IsElsewhere, IsBetw
 use Rattle.stands_for.specs.Layout.{ProgramPlaces, StateView, IsSharedWord, IsAmong, HaveRoom}
 use Rattle.stands_for.specs.StandsFor.{HoldsWords, words_at, RestsAt, IsAtRest, IsPendingCommit, CommittingTo}
 use Rattle.stands_for.specs.Program.{ProgramParts, program_model, IsCommitStore}
-use Rattle.stands_for.proofs.Keeps.{put_words, next_base}
+use Rattle.stands_for.proofs.Sends.{next_base}
+use Rattle.stands_for.proofs.Keeps.{put_words}
 use Rattle.stands_for.proofs.Walks.{commit_before, commit_is, commit_takes, commit_stores_so}
 use Rattle.stands_for.proofs.Behind.{CopiesAreApart, copies_behind, copies_related, closed, closed_other, behind_commit, words_length, IsSent, emits_received}
 use Rattle.runtime_effects.specs.memory_map.MemoryMap.{MemoryMap, word_place}

@@ -23,7 +23,7 @@ use Rattle.layout_facts.specs.compiled_model.Parts.{task_program, outcome_of, wh
 use Rattle.layout_facts.specs.compiled_model.Needs.{LeavesFor}
 use Rattle.task_attempts.specs.Laws.{IsBelowCode}
 use Rattle.task_attempts.proofs.Rows.{HasRows, block_rows}
-use Rattle.layout_facts.proofs.source_meaning.Interface.{emits_same}
+use Rattle.source_meaning.proofs.Interface.{emits_same}
 use Rattle.task_attempts.proofs.Quiet.{stores_each, stores_as, quiet_through}
 use Rattle.task_attempts.proofs.Tasks.{body_is, program_is}
 use Rattle.task_attempts.proofs.Stores.{Safe, StoresOf, task_safe, emits_fit}

@@ -35,10 +35,10 @@ use Rattle.layout_facts.proofs.Interface.{each_is_one_word, scalar_declared, pla
 use Rattle.layout_facts.proofs.Interface.{places_are_as_declared, written_arrays_have_copies}
 use Rattle.layout_facts.proofs.Interface.{shared_words_are_of_variables, words_of_variables_are_shared, lists_have_room, privates_are_theirs, elements_stand}
 use Rattle.layout_facts.proofs.Interface.{task_places_are_apart, task_places_are_even, view_has_their_words, rows_fit_places}
-use Rattle.layout_facts.specs.whole_programs.Laws.{IsLaidOutText}
+use Rattle.whole_programs.specs.Laws.{IsLaidOutText}
 use Rattle.checked_trees.specs.WellFormed.{WellFormedBlock}
 use Rattle.checked_trees.proofs.Interface.{task_checked}
-use Rattle.layout_facts.proofs.whole_programs.Interface.{tasks_are_whole, privates_are_few}
+use Rattle.whole_programs.proofs.Interface.{tasks_are_whole, privates_are_few}
 
 -- rows have the places' lengths
 abbrev pub FitPlaces : MemoryMap → List (List ℕ) → Type 0

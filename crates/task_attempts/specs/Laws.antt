@@ -19,7 +19,7 @@ use Rattle.layout_facts.specs.compiled_model.Places.{program_places}
 use Rattle.layout_facts.specs.compiled_model.View.{state_view}
 use Rattle.layout_facts.specs.compiled_model.Parts.{program_parts, compiled_model, task_program}
 use Rattle.layout_facts.specs.compiled_model.Needs.{LeavesFor}
-use Rattle.layout_facts.specs.whole_programs.Laws.{IsLaidOutText}
+use Rattle.whole_programs.specs.Laws.{IsLaidOutText}
 
 -- what holds of each accepted text with a plan and a layout, whose runs go on
 abbrev OfTexts : (CheckedProgram → MemoryMap → Type 0) → Type 0

@@ -2,45 +2,45 @@
 use Rattle.std.proofs.Common.{◌≡◌, ℕ, suc, ◌+◌, ◌/◌, ◌%◌, ◌<◌, ◌≤◌, ◌||◌, Bool, false, List, [], ◌∷◌, Option, Some, None, arith, slice_get}
 use Rattle.std.proofs.lemmas.Bool.{or_parts}
 use Rattle.std.specs.List.{AllByRecursion}
-use Rattle.lower.specs.alp_words.Words.{IsWord}
-use Rattle.lower.specs.task_ast.Tree as t
-use Rattle.lower.specs.task_ast.Paths.{CheckedExpression, CheckedStatement, CheckedChoice, CheckedBlock}
-use Rattle.lower.specs.task_ast.declared.SharedDeclaration.{SharedDeclaration}
-use Rattle.lower.specs.task_ast.declared.WordType.{WordType}
-use Rattle.lower.specs.task_ast.declared.WordType.TheVariants.{Unsigned, Int, Long}
-use Rattle.lower.specs.task_ast.declared.BinaryOperator.{BinaryOperator}
-use Rattle.lower.specs.task_ast.declared.ShiftOperator.{ShiftOperator}
-use Rattle.lower.specs.task_ast.declared.ShiftOperator.TheVariants as shift_operator
-use Rattle.lower.specs.task_ast.declared.UnaryOperator.{UnaryOperator}
-use Rattle.lower.specs.task_ast.declared.UnaryOperator.TheVariants as unary_operator
-use Rattle.lower.specs.task_ast.declared.PlacedOperator.{PlacedOperator}
-use Rattle.lower.specs.task_ast.declared.ShortCircuitOperator.{ShortCircuitOperator}
-use Rattle.lower.specs.task_ast.declared.ShortCircuitOperator.TheVariants.{And as BothHold, Or as OneHolds}
-use Rattle.lower.specs.task_ast.declared.names.Variable.{Variable}
-use Rattle.lower.specs.task_ast.declared.names.Variable.TheVariants.{Shared, Local}
-use Rattle.lower.specs.path_checks.Loops.{is_same_local, statement_assigns, choice_assigns, block_assigns}
-use Rattle.lower.specs.source_values.Values.{joined_type, type_of}
-use Rattle.lower.specs.array_versions.declared.operations.UnaryOperation.{UnaryOperation}
-use Rattle.lower.specs.array_versions.declared.operations.UnaryOperation.TheVariants.{Negate, Complement}
-use Rattle.lower.specs.array_versions.declared.operations.BinaryOperation.{BinaryOperation}
-use Rattle.lower.specs.array_versions.declared.operations.BinaryOperation.TheVariants.{Plain}
-use Rattle.lower.specs.array_versions.declared.operations.PlainOperation.{PlainOperation}
-use Rattle.lower.specs.array_versions.declared.operations.PlainOperation.TheVariants.{Subtract, And, Xor, Or}
-use Rattle.lower.specs.array_versions.declared.operations.Comparison.{Comparison}
-use Rattle.lower.specs.array_versions.declared.operations.Comparison.TheVariants.{CommonBit}
-use Rattle.lower.specs.array_versions.declared.operations.ShiftOperation.{ShiftOperation}
-use Rattle.lower.specs.array_versions.declared.operations.LongOperation.TheVariants as with_longs
-use Rattle.lower.specs.array_versions.declared.program.ArrayPlace.{ArrayPlace}
-use Rattle.lower.specs.array_versions.declared.program.ListPlace.{ListPlace}
-use Rattle.lower.specs.array_versions.Program.{Step, Test, Program, number, load, keep, local, set_local, update_local, unary, binary, shift, long, element}
-use Rattle.lower.specs.array_versions.Program.{update, emit_word, list_entry, versioned_read, sense, truth, choose, repeat, store_number, move_word, jump}
-use Rattle.lower.specs.array_versions.Program.{holds, compares, both, either, fails, nothing, step, joined}
-use Rattle.lower.specs.array_versions.Form.{ArrayOfWords, ListOfWords, StepOfWords}
-use Rattle.lower.specs.memory_map.MemoryMap.{word_place}
-use Rattle.lower.specs.memory_map.declared.words.RuntimeWord.TheVariants.{NextTask, Gate, ListLength, EmitCount, Base, SentBase, Version}
-use Rattle.lower.specs.memory_map.declared.place.VariablePlace.{VariablePlace}
-use Rattle.lower.specs.memory_map.declared.place.VariablePlace.TheVariants.{Scalar, Array}
-use Rattle.lower.specs.memory_map.Spots.{Places, address_of}
+use Rattle.alp_words.specs.Words.{IsWord}
+use Rattle.task_ast.specs.Tree as t
+use Rattle.task_ast.specs.Paths.{CheckedExpression, CheckedStatement, CheckedChoice, CheckedBlock}
+use Rattle.task_ast.specs.declared.SharedDeclaration.{SharedDeclaration}
+use Rattle.task_ast.specs.declared.WordType.{WordType}
+use Rattle.task_ast.specs.declared.WordType.TheVariants.{Unsigned, Int, Long}
+use Rattle.task_ast.specs.declared.BinaryOperator.{BinaryOperator}
+use Rattle.task_ast.specs.declared.ShiftOperator.{ShiftOperator}
+use Rattle.task_ast.specs.declared.ShiftOperator.TheVariants as shift_operator
+use Rattle.task_ast.specs.declared.UnaryOperator.{UnaryOperator}
+use Rattle.task_ast.specs.declared.UnaryOperator.TheVariants as unary_operator
+use Rattle.task_ast.specs.declared.PlacedOperator.{PlacedOperator}
+use Rattle.task_ast.specs.declared.ShortCircuitOperator.{ShortCircuitOperator}
+use Rattle.task_ast.specs.declared.ShortCircuitOperator.TheVariants.{And as BothHold, Or as OneHolds}
+use Rattle.task_ast.specs.declared.names.Variable.{Variable}
+use Rattle.task_ast.specs.declared.names.Variable.TheVariants.{Shared, Local}
+use Rattle.path_checks.specs.Loops.{is_same_local, statement_assigns, choice_assigns, block_assigns}
+use Rattle.source_values.specs.Values.{joined_type, type_of}
+use Rattle.array_versions.specs.declared.operations.UnaryOperation.{UnaryOperation}
+use Rattle.array_versions.specs.declared.operations.UnaryOperation.TheVariants.{Negate, Complement}
+use Rattle.array_versions.specs.declared.operations.BinaryOperation.{BinaryOperation}
+use Rattle.array_versions.specs.declared.operations.BinaryOperation.TheVariants.{Plain}
+use Rattle.array_versions.specs.declared.operations.PlainOperation.{PlainOperation}
+use Rattle.array_versions.specs.declared.operations.PlainOperation.TheVariants.{Subtract, And, Xor, Or}
+use Rattle.array_versions.specs.declared.operations.Comparison.{Comparison}
+use Rattle.array_versions.specs.declared.operations.Comparison.TheVariants.{CommonBit}
+use Rattle.array_versions.specs.declared.operations.ShiftOperation.{ShiftOperation}
+use Rattle.array_versions.specs.declared.operations.LongOperation.TheVariants as with_longs
+use Rattle.array_versions.specs.declared.program.ArrayPlace.{ArrayPlace}
+use Rattle.array_versions.specs.declared.program.ListPlace.{ListPlace}
+use Rattle.array_versions.specs.Program.{Step, Test, Program, number, load, keep, local, set_local, update_local, unary, binary, shift, long, element}
+use Rattle.array_versions.specs.Program.{update, emit_word, list_entry, versioned_read, sense, truth, choose, repeat, store_number, move_word, jump}
+use Rattle.array_versions.specs.Program.{holds, compares, both, either, fails, nothing, step, joined}
+use Rattle.array_versions.specs.Form.{ArrayOfWords, ListOfWords, StepOfWords}
+use Rattle.memory_map.specs.MemoryMap.{word_place}
+use Rattle.memory_map.specs.declared.words.RuntimeWord.TheVariants.{NextTask, Gate, ListLength, EmitCount, Base, SentBase, Version}
+use Rattle.memory_map.specs.declared.place.VariablePlace.{VariablePlace}
+use Rattle.memory_map.specs.declared.place.VariablePlace.TheVariants.{Scalar, Array}
+use Rattle.memory_map.specs.Spots.{Places, address_of}
 use Rattle.lower.specs.declared.runs.Run.{Run}
 use Rattle.lower.specs.Runs.{runs_of}
 use Rattle.lower.specs.declared.operations.BinaryMeaning.{BinaryMeaning}
@@ -587,7 +587,7 @@ module _ (p : Places) (G : EachStep p) (words : PlacesOfWords p) (shared : List 
     loop_has : (v : Variable) (from below : ℕ) (b : CheckedBlock) → IsLocal v → IsApart G.spared v → IsWord from → IsWord below
         → block_assigns v b ≡ false → WellFormedBlock shared b → G.of_program (lowered_block p b)
         → G.of_step (repeat (loop_local v) from below (lowered_block p b))
-    loop_has (Shared v) from below b local a i j s is h = absurd local
+    loop_has (Shared v) from below b low a i j s is h = absurd low
     loop_has (Local n) from below b low a i j s is h = G.counted n from below (lowered_block p b) low a i j (body_has n b low s is) h
 
     mutual

@@ -3,21 +3,21 @@ use Rattle.std.proofs.Common.{◌≡◌, ℕ, ◌≤◌, List, [], ◌∷◌, ma
 use Rattle.std.specs.Prelude.{All, Bool, Option, IsSomeAnd, slice_get}
 use Rattle.std.proofs.lemmas.List.Elements.{All-weaker, All-head, All-tail}
 use Rattle.std.proofs.lemmas.Option.{slice_get_within}
-use Rattle.lower.proofs.path_sums.Interface.{writes_some}
-use Rattle.lower.specs.task_ast.declared.Extent.{Extent}
-use Rattle.lower.specs.task_ast.declared.Extent.TheVariants as extent
-use Rattle.lower.specs.task_ast.declared.SharedDeclaration.{SharedDeclaration}
-use Rattle.lower.specs.task_ast.declared.names.Variable.TheVariants.{Shared}
-use Rattle.lower.specs.cost_bound.Counts.{block_assigns}
-use Rattle.lower.specs.cost_bound.Allowance.{scalar_part}
-use Rattle.lower.specs.memory_map.declared.place.VariablePlace.{VariablePlace}
-use Rattle.lower.specs.memory_map.declared.place.VariablePlace.TheVariants.{Scalar, Array}
-use Rattle.lower.specs.memory_map.declared.place.PrivateScalar.{PrivateScalar}
-use Rattle.lower.specs.memory_map.Places.{scalar_words, HasItsPlace}
-use Rattle.lower.specs.memory_map.Spots.{private_words, words_at}
+use Rattle.path_sums.proofs.Interface.{writes_some}
+use Rattle.task_ast.specs.declared.Extent.{Extent}
+use Rattle.task_ast.specs.declared.Extent.TheVariants as extent
+use Rattle.task_ast.specs.declared.SharedDeclaration.{SharedDeclaration}
+use Rattle.task_ast.specs.declared.names.Variable.TheVariants.{Shared}
+use Rattle.cost_bound.specs.Counts.{block_assigns}
+use Rattle.cost_bound.specs.Allowance.{scalar_part}
+use Rattle.memory_map.specs.declared.place.VariablePlace.{VariablePlace}
+use Rattle.memory_map.specs.declared.place.VariablePlace.TheVariants.{Scalar, Array}
+use Rattle.memory_map.specs.declared.place.PrivateScalar.{PrivateScalar}
+use Rattle.memory_map.specs.Places.{scalar_words, HasItsPlace}
+use Rattle.memory_map.specs.Spots.{private_words, words_at}
 use Rattle.privatise.specs.Layouts.{IsPlaceOf}
-use Rattle.privatise.specs.war_analysis.Plans.{is_scalar, IsScalarAt, IsPrivateIn}
-use Rattle.privatise.proofs.war_analysis.Interface.{element, words_of_all, HasWords, marked_are_counted}
+use Rattle.war_analysis.specs.Plans.{is_scalar, IsScalarAt, IsPrivateIn}
+use Rattle.war_analysis.proofs.Interface.{element, words_of_all, HasWords, marked_are_counted}
 use Rattle.whole_programs.specs.Laws.{PrivatesAreFew}
 use Rattle.checked_trees.proofs.Interface.{all_at, task_checked, block_assigned}
 

@@ -2,13 +2,13 @@
 use Rattle.std.proofs.Common.{◌≡◌, ℕ, ◌%◌, ◌==◌, ◌<◌, false, List, refl, sym, subst, arith}
 use Rattle.std.specs.Prelude.{◌≢◌}
 use Rattle.std.proofs.lemmas.Bool.Decides.{nat_tests}
-use Rattle.lower.specs.task_ast.Paths.{CheckedBlock}
-use Rattle.lower.specs.task_ast.declared.SharedDeclaration.{SharedDeclaration}
-use Rattle.lower.specs.task_ast.declared.names.Variable.TheVariants.{Local}
-use Rattle.lower.specs.path_checks.Loops.{block_assigns}
-use Rattle.lower.specs.array_versions.Program.{Step, Program, nothing, step, joined}
-use Rattle.lower.specs.array_versions.Form.{StepSpares, TestSpares, Spares}
-use Rattle.lower.specs.memory_map.Spots.{Places}
+use Rattle.task_ast.specs.Paths.{CheckedBlock}
+use Rattle.task_ast.specs.declared.SharedDeclaration.{SharedDeclaration}
+use Rattle.task_ast.specs.declared.names.Variable.TheVariants.{Local}
+use Rattle.path_checks.specs.Loops.{block_assigns}
+use Rattle.array_versions.specs.Program.{Step, Program, nothing, step, joined}
+use Rattle.array_versions.specs.Form.{StepSpares, TestSpares, Spares}
+use Rattle.memory_map.specs.Spots.{Places}
 use Rattle.lower.specs.Lowered.{lowered_block}
 use Rattle.checked_trees.specs.WellFormed.{WellFormedBlock}
 use Rattle.whole_programs.proofs.Placed.{PlacesOfWords}

@@ -1,12 +1,12 @@
 -- Each step of a task's program: its locals are below 256, its loops count, and its numbers are words.
 use Rattle.std.proofs.Common.{ℕ, ◌%◌, ◌<◌, List, arith}
-use Rattle.lower.specs.alp_words.Words.{IsWord}
-use Rattle.lower.specs.task_ast.Paths.{CheckedBlock}
-use Rattle.lower.specs.task_ast.declared.SharedDeclaration.{SharedDeclaration}
-use Rattle.lower.specs.array_versions.Program.{Step, Test, Program, nothing, step, joined}
-use Rattle.lower.specs.array_versions.Form.{StepLocalsBelow, TestLocalsBelow, LocalsBelow, StepLoopsCount, TestLoopsCount, LoopsCount, StepOfWords}
-use Rattle.lower.specs.array_versions.Form.{TestOfWords, OfWords, Spares}
-use Rattle.lower.specs.memory_map.Spots.{Places}
+use Rattle.alp_words.specs.Words.{IsWord}
+use Rattle.task_ast.specs.Paths.{CheckedBlock}
+use Rattle.task_ast.specs.declared.SharedDeclaration.{SharedDeclaration}
+use Rattle.array_versions.specs.Program.{Step, Test, Program, nothing, step, joined}
+use Rattle.array_versions.specs.Form.{StepLocalsBelow, TestLocalsBelow, LocalsBelow, StepLoopsCount, TestLoopsCount, LoopsCount, StepOfWords}
+use Rattle.array_versions.specs.Form.{TestOfWords, OfWords, Spares}
+use Rattle.memory_map.specs.Spots.{Places}
 use Rattle.lower.specs.Lowered.{lowered_block}
 use Rattle.checked_trees.specs.WellFormed.{WellFormedBlock}
 use Rattle.whole_programs.proofs.Placed.{PlacesOfWords}

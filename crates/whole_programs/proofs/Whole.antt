@@ -2,17 +2,17 @@
 use Rattle.std.proofs.Common.{◌≡◌, ◌%◌, ℕ, suc, List, [], ◌∷◌, Some, refl, arith, slice_get}
 use Rattle.std.specs.Prelude.{All}
 use Rattle.std.proofs.lemmas.List.Elements.{All-nil, All-cons}
-use Rattle.lower.specs.task_ast.Tree.{Task}
-use Rattle.lower.specs.task_ast.Paths.{CheckedBlock}
-use Rattle.lower.specs.task_ast.declared.SharedDeclaration.{SharedDeclaration}
-use Rattle.lower.specs.task_ast.declared.names.VariableName.{VariableName}
-use Rattle.lower.specs.task_ast.declared.names.TaskName.{TaskName}
-use Rattle.lower.specs.memory_map.MemoryMap.{MemoryMap, TaskPlace}
-use Rattle.lower.specs.memory_map.Places.{HasItsPlace}
-use Rattle.lower.proofs.memory_map.Interface.{even_of}
-use Rattle.lower.specs.array_versions.Program as word
-use Rattle.lower.specs.array_versions.Form.{IsWhole, OfWords}
-use Rattle.lower.specs.memory_map.Spots.{Places, places_of}
+use Rattle.task_ast.specs.Tree.{Task}
+use Rattle.task_ast.specs.Paths.{CheckedBlock}
+use Rattle.task_ast.specs.declared.SharedDeclaration.{SharedDeclaration}
+use Rattle.task_ast.specs.declared.names.VariableName.{VariableName}
+use Rattle.task_ast.specs.declared.names.TaskName.{TaskName}
+use Rattle.memory_map.specs.MemoryMap.{MemoryMap, TaskPlace}
+use Rattle.memory_map.specs.Places.{HasItsPlace}
+use Rattle.memory_map.proofs.Interface.{even_of}
+use Rattle.array_versions.specs.Program as word
+use Rattle.array_versions.specs.Form.{IsWhole, OfWords}
+use Rattle.memory_map.specs.Spots.{Places, places_of}
 use Rattle.lower.specs.Seen.{some_path_writes, map_seen}
 use Rattle.lower.specs.Lowered.{lowered_block, lowered_task, lowered_tasks}
 use Rattle.lower.proofs.Interface.{privates_seen, seen_laid_out}
