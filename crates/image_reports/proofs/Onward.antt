@@ -39,7 +39,7 @@ use Rattle.run_charges.proofs.Interface.{follows_keeps, are_behind, front_moment
 use Rattle.run_charges.proofs.Interface.{reached_on, Counts, moments_count}
 use Rattle.model_runs.specs.Runs.{BearsModel, no_delay, Progresses}
 use Rattle.model_runs.specs.EventLaws.{StartsWith}
-use Rattle.model_runs.proofs.Interface.{stood, AtFront, at_front, starts_hold, fronts_are_lawful, makes_progress}
+use Rattle.model_runs.proofs.Interface.{stood, AtFront, at_front, powers_up, starts_hold, fronts_are_lawful, makes_progress}
 use Rattle.stands_for.specs.StandsFor.{HoldsWords, IsSound, SoundAtRest, SoundPending}
 use Rattle.stands_for.proofs.Interface.{commit_stores_there, each_weaker}
 use Rattle.compiled_model.specs.Places.{program_places}
@@ -183,23 +183,11 @@ module _ (text : List ℕ) (p : CheckedProgram) (allow : Allow) (image : ImageVa
   abbrev first : History
   first = first_history (runtime_marks l) x
 
-  -- a power-up behind charges, as the crash theorem takes it
-  powered_behind : (es : List Charge) (t : MachineBoard) (k : History) → Charged program (runtime_marks l) (outside_of b) first es t k
-      → (q : MachineBoard) → program.IsPoweredUp q → q.fram ≡ t.fram → q.inputs.readings ≡ t.inputs.readings
-      → PowersUpBehind model program readings origin q
-  powered_behind es t k charged q up fram left = record {
-    board = t;
-    history = k;
-    run = record { world = x; start = outside_of b; begins = bearing.begins; charges = es; leads = charged };
-    powered = up;
-    fram = fram;
-    readings_left = left;
-  }
-
   -- a charge stops for want of a reading alone, wherever charges lead
   stops_at_readings : StopsAtReadings program (runtime_marks l) (outside_of b) first
   stops_at_readings es t k charged q up fram left n price e halted =
-      (stops_short model program ready.model bearing.program readings origin q (powered_behind es t k charged q up fram left) n price e halted).0
+      let behind = powers_up model program readings origin x b bearing es t k charged q up fram left in
+      (stops_short model program ready.model bearing.program readings origin q behind n price e halted).0
 
   -- no step stores on the code or behind it
   never_there : (a : ℕ) → l.boot.address ≤ a → NeverThere a program bearing.program.changes (runtime_marks l) (outside_of b) first
@@ -213,7 +201,8 @@ module _ (text : List ℕ) (p : CheckedProgram) (allow : Allow) (image : ImageVa
             each_weaker _ P (λ d w h. let low = h.below in omega (arith, low, apart)) _ (commit_stores_there (program_places p l) y apart d.pending);
       } in
       each_weaker P (IsElsewhere a) (λ d w low e. omega (arith, low, from, e)) _
-      (stores_only model program P ready.model bearing.program scripts readings origin q (powered_behind es t k charged q up fram left) n)
+      (stores_only model program P ready.model bearing.program scripts readings origin q
+      (powers_up model program readings origin x b bearing es t k charged q up fram left) n)
 
   abbrev on : PlacedProgram
   on = stood model program readings origin x b bearing

@@ -1,5 +1,5 @@
 -- A run that stops stops where the source is short.
-use Rattle.std.proofs.Common.{◌≡◌, ◌<◌, ℕ, false, sym, ap, ◌∙◌, subst, List}
+use Rattle.std.proofs.Common.{◌≡◌, ◌<◌, ℕ, false, refl, sym, ap, ◌∙◌, subst, List, []}
 use Rattle.msp_step.specs.declared.machine.Stop.{Stop}
 use Rattle.msp_step.specs.declared.machine.Stop.TheVariants as stop
 use Rattle.fram_board.specs.Board.{BoardValue}
@@ -12,30 +12,28 @@ use Rattle.crash_rules.specs.Runs.{Program}
 use Rattle.crash_rules.specs.Laws.{Origin, IsSettled, Reaches, Phase, UndecidedPhase, DecidedPhase, CommittingPhase, PowersUpBehind}
 use Rattle.crash_rules.proofs.Interface.{stops_short}
 use Rattle.run_charges.specs.View.{outside_of}
-use Rattle.run_charges.proofs.Interface.{HaltsIn, run_halts}
+use Rattle.run_charges.proofs.Interface.{run_front, StopsBehind, run_halts}
 use Rattle.model_runs.specs.Runs.{BearsModel, history_behind, IsShort}
 use Rattle.model_runs.specs.Laws.{StopsWhereShort}
-use Rattle.model_runs.proofs.Fronts.{stood, ready_at_first, has_run}
+use Rattle.model_runs.proofs.Fronts.{stood, at_front, powers_up}
 
 module _ {St : Type 0} (m : Model St) (c : Program) (readings : List ℕ) (origin : Origin St) (x : World) (b : BoardValue)
     (bears : BearsModel m c readings origin x b) where
+  abbrev first : History
+  first = first_history m.marks x
+
   -- the state of the last done is that of a task, and nothing is pending
   phase_task : (k : History) (z : St) → k.decided ≡ false → Phase m readings origin z k → (m.task_number z < m.tasks) × IsSettled origin k.completed
   phase_task k z d (UndecidedPhase u settled w) = (bears.model.undecided_task z k.world w, settled)
   phase_task k z d (DecidedPhase next u t w) = absurd (cc (u, d))
   phase_task k z d (CommittingPhase u p n w) = absurd (cc (u, d))
 
-  stopped : (r : RunOutcome) (e : Stop) → HaltsIn (stood m c readings origin x b bears) b (first_history m.marks x) r e
+  stopped : (r : RunOutcome) (e : Stop) → StopsBehind (stood m c readings origin x b bears) b first first r.moments e
       → (e ≡ stop.NoReading) × IsShort m readings origin (history_behind m x r.moments)
-  stopped r e l =
-      let up : PowersUpBehind m c readings origin l.start = record {
-        board = outside_of l.there;
-        history = l.before;
-        run = has_run m c readings origin x b bears l.there l.before l.at;
-        powered = l.is_powered;
-        fram = l.fram;
-        readings_left = l.readings;
-      } in
+  stopped r e stops =
+      let l = stops.halts in
+      let up : PowersUpBehind m c readings origin l.start =
+      powers_up m c readings origin x b bears l.at.charges (outside_of l.there) l.before l.at.charged l.start l.is_powered l.fram l.readings in
       let s = stops_short m c bears.model bears.program readings origin l.start up l.steps l.price e l.halts in
       let st = s.1.0 in
       let behind = observe m.marks (going c.step l.steps l.start).effects (behind_boot l.before) in
@@ -43,15 +41,16 @@ module _ {St : Type 0} (m : Model St) (c : Program) (readings : List ℕ) (origi
         s.0,
         record {
           state = st.state;
-          settled = subst (IsSettled origin) l.same.completed task.1;
-          reached = subst (λ ds. Reaches m readings origin ds st.state) l.same.completed st.reached;
+          settled = subst (IsSettled origin) stops.same.completed task.1;
+          reached = subst (λ ds. Reaches m readings origin ds st.state) stops.same.completed st.reached;
           is_task = task.0;
-          short = ap (λ n. m.task st.state (inputs_from readings n)) (sym l.same.since) ∙ s.1.2;
+          short = ap (λ n. m.task st.state (inputs_from readings n)) (sym stops.same.since) ∙ s.1.2;
         },
       )
 
 -- a run stops for want of a reading alone, and only where the source is short
 pub stops_where_short : {St : Type 0} (m : Model St) (c : Program) → StopsWhereShort m c
 stops_where_short m c readings origin x cs b r run bears e h =
-    let ready = ready_at_first m c readings origin x b bears run.whole run.words in
-    stopped m c readings origin x b bears r e (run_halts (stood m c readings origin x b bears) cs b r (first_history m.marks x) run ready e h)
+    let first = first_history m.marks x in
+    let at = at_front m c readings origin x b bears [] (run_front cs b r [] r.moments run refl) in
+    stopped m c readings origin x b bears r e (run_halts (stood m c readings origin x b bears) b first cs b first r run.starts run.run at e h)

@@ -1,18 +1,18 @@
 -- Fronts of a run whose code is a program of a model.
-use Rattle.std.proofs.Common.{ℕ, refl, List}
-use Rattle.fram_board.specs.Board.{BoardValue, PowerState, powered}
-use Rattle.fram_board.specs.Steps.{IsPowerState}
+use Rattle.std.proofs.Common.{◌≡◌, ℕ, refl, List}
+use Rattle.fram_board.specs.Board.{BoardValue}
 use Rattle.fram_board.specs.Run.{Moment}
+use Rattle.machine_effects.specs.Machine.{MachineBoard}
 use Rattle.machine_effects.specs.World.{World}
 use Rattle.machine_effects.specs.View.{IsWhole, IsOfWords}
 use Rattle.machine_effects.specs.Runs.{last_board}
 use Rattle.crash_rules.specs.Model.{Model}
 use Rattle.crash_rules.specs.History.{History, first_history}
-use Rattle.crash_rules.specs.Runs.{Program}
+use Rattle.crash_rules.specs.Runs.{Program, Charge, Charged}
 use Rattle.crash_rules.specs.Laws.{Origin, IsLawful, Matches, HasRun, PowersUpBehind}
 use Rattle.crash_rules.proofs.Interface.{crash_theorem}
 use Rattle.run_charges.specs.View.{outside_of, IsFront}
-use Rattle.run_charges.proofs.Interface.{PlacedProgram, Ready, is_powered, same_fram, same_readings, Reached, front_reached, run_front}
+use Rattle.run_charges.proofs.Interface.{PlacedProgram, Ready, Reached, front_reached, run_front}
 use Rattle.model_runs.specs.Runs.{BearsModel, history_behind}
 use Rattle.model_runs.specs.Laws.{FrontsAreLawful}
 
@@ -42,29 +42,23 @@ module _ {St : Type 0} (m : Model St) (c : Program) (readings : List ℕ) (origi
   pub at_front : (ms : List Moment) → IsFront b ms → AtFront (last_board b ms) (history_behind m x ms)
   at_front ms front = front_reached stood b first (ready_at_first front.whole front.words) ms front
 
-  -- a run came there, as the crash theorem takes it
-  abbrev pub has_run : (t : BoardValue) (h : History) → AtFront t h → HasRun m c readings origin (outside_of t) h
-  has_run t h at = record { world = x; start = outside_of b; begins = bears.begins; charges = at.charges; leads = at.charged }
+  -- a run that came so far, and a power-up behind it, as the crash theorem takes them
+  abbrev pub has_run : (es : List Charge) (t : MachineBoard) (h : History) → Charged c m.marks (outside_of b) first es t h → HasRun m c readings origin t h
+  has_run es t h charged = record { world = x; start = outside_of b; begins = bears.begins; charges = es; leads = charged }
 
-  -- and a further power-up follows
-  abbrev pub powers_up : (t : BoardValue) (h : History) (at : AtFront t h) (start : PowerState) (ok : IsPowerState start)
-      → PowersUpBehind m c readings origin (outside_of (powered t start))
-  powers_up t h at start ok = record {
-    board = outside_of t;
-    history = h;
-    run = has_run t h at;
-    powered = is_powered stood t h at.ready start ok;
-    fram = same_fram stood t h at.ready start ok;
-    readings_left = same_readings stood t h at.ready start ok;
-  }
+  abbrev pub powers_up : (es : List Charge) (t : MachineBoard) (h : History) → Charged c m.marks (outside_of b) first es t h → (q : MachineBoard)
+      → c.IsPoweredUp q → q.fram ≡ t.fram → q.inputs.readings ≡ t.inputs.readings → PowersUpBehind m c readings origin q
+  powers_up es t h charged q up fram left =
+      record { board = t; history = h; run = has_run es t h charged; powered = up; fram = fram; readings_left = left }
 
   -- what a model says holds there
   pub lawful_front : (ms : List Moment) → IsFront b ms
       → IsLawful m readings origin (history_behind m x ms) × Matches readings (outside_of (last_board b ms)) (history_behind m x ms)
   lawful_front ms front =
-      let t = last_board b ms in
+      let t = outside_of (last_board b ms) in
       let h = history_behind m x ms in
-      crash_theorem m c bears.model bears.program readings origin (outside_of t) h (has_run t h (at_front ms front))
+      let at = at_front ms front in
+      crash_theorem m c bears.model bears.program readings origin t h (has_run at.charges t h at.charged)
 
 pub fronts_are_lawful : {St : Type 0} (m : Model St) (c : Program) → FrontsAreLawful m c
 fronts_are_lawful m c readings origin x cs b r run bears ms rest e =

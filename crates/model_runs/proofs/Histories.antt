@@ -47,7 +47,7 @@ together_on m x b c h k follows t =
       same = t.same;
       tells = record {
         fram = t.tells.fram ∙ ap (λ s. s.fram) (sym keeps.outside);
-        accepted = t.tells.accepted ∙ ap next_number (sym keeps.receiver);
+        accepted = t.tells.accepted ∙ sym keeps.number;
         taken = t.tells.taken ∙ sym keeps.taken;
       };
     }

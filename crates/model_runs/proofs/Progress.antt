@@ -7,11 +7,12 @@ use Rattle.machine_effects.specs.World.{World}
 use Rattle.crash_rules.specs.Model.{Model, bound}
 use Rattle.crash_rules.specs.History.{History, behind_boot, first_history}
 use Rattle.crash_rules.specs.Runs.{Program, IsSpentFrom}
-use Rattle.crash_rules.specs.Laws.{Origin}
+use Rattle.crash_rules.specs.Laws.{Origin, PowersUpBehind}
 use Rattle.crash_rules.proofs.Interface.{progress_law}
 use Rattle.run_charges.specs.View.{outside_of}
 use Rattle.run_charges.specs.Charges.{ArePowerStates, observed}
-use Rattle.run_charges.proofs.Interface.{PlacedProgram, run_front, first_start, other_starts, spent_seen, spent_reached, is_spent}
+use Rattle.run_charges.proofs.Interface.{PlacedProgram, run_front, first_start, other_starts, is_powered, same_fram, same_readings, spent_seen}
+use Rattle.run_charges.proofs.Interface.{spent_reached, is_spent}
 use Rattle.model_runs.specs.Runs.{BearsModel, PaysFor, Progresses, AllSpent, SpentOne, StoppedIn}
 use Rattle.model_runs.specs.Laws.{MakesProgress}
 use Rattle.model_runs.proofs.Fronts.{stood, AtFront, at_front, powers_up}
@@ -31,8 +32,10 @@ module _ {St : Type 0} (m : Model St) (c : Program) (readings : List ℕ) (origi
   pays t h at d ok ms end one e count enough =
       let spent : IsSpentFrom c.step d.amount (outside_of (powered t d.start)) =
       record { steps = length ms; end = outside_of end; spends = is_spent on t h at.ready d ok ms end one e } in
-      let more = progress_law m c bears.model bears.program readings origin (outside_of (powered t d.start))
-      (powers_up m c readings origin x b bears t h at d.start ok) count d.amount enough spent in
+      let up : PowersUpBehind m c readings origin (outside_of (powered t d.start)) =
+      powers_up m c readings origin x b bears at.charges (outside_of t) h at.charged (outside_of (powered t d.start))
+      (is_powered on t h at.ready d.start ok) (same_fram on t h at.ready d.start ok) (same_readings on t h at.ready d.start ok) in
+      let more = progress_law m c bears.model bears.program readings origin (outside_of (powered t d.start)) up count d.amount enough spent in
       let P : History → Type 0 = λ z. count + length h.completed ≤ length z.completed in
       subst P (spent_seen on t h at.ready d ok ms end one) more
 

@@ -21,7 +21,7 @@ use Rattle.run_charges.specs.Laws.{IsRunOfWords}
 use Rattle.run_charges.proofs.Interface.{first_start, charge_moments, charge_instructs, instructions_reach, begun, charged_once}
 use Rattle.model_runs.specs.Runs.{BearsModel, history_behind, AreInOrder, AreInOrderPast}
 use Rattle.model_runs.specs.Laws.{SpansAreInOrder, SpansPastAreInOrder}
-use Rattle.model_runs.proofs.Fronts.{stood, ready_at_first}
+use Rattle.model_runs.proofs.Fronts.{stood, ready_at_first, has_run}
 
 -- each done's span goes forwards
 abbrev GoForwards : List Done → Type 0
@@ -107,13 +107,8 @@ module _ {St : Type 0} (m : Model St) (c : Program) (readings : List ℕ) (origi
       let k = observed m.marks ms (behind_boot first) in
       let e : Charge = record { powered = p; steps = length ms } in
       law (outside_of (last_board (powered b d.start) ms)) k
-      (record {
-        world = x;
-        start = outside_of b;
-        begins = bears.begins;
-        charges = e ∷ [];
-        leads = charged_once on b first ready d.start ok ms are reach;
-      }) refl e refl
+      (has_run m c readings origin x b bears (e ∷ []) (outside_of (last_board (powered b d.start) ms)) k
+      (charged_once on b first ready d.start ok ms are reach)) refl e refl
       (moments_forwards m.marks ms (behind_boot first) (first_forwards m.marks x)).dones
 
   run_in_order : (cs : List BoardCharge) (t : BoardValue) (o : RunOutcome) → Run cs t o → cs ≡ d ∷ [] → t ≡ b → InOrder o.moments

@@ -14,7 +14,7 @@ use Rattle.run_charges.specs.View.{outside_of}
 use Rattle.run_charges.proofs.Interface.{run_front}
 use Rattle.model_runs.specs.Runs.{history_behind}
 use Rattle.model_runs.specs.Laws.{WordsStayWithin}
-use Rattle.model_runs.proofs.Fronts.{at_front}
+use Rattle.model_runs.proofs.Fronts.{at_front, powers_up}
 
 module _ (P : ℕ → ℕ → Type 0) (a most : ℕ) (few : (w : ℕ) → P a w → w ≤ most) where
   put_within : (f : ℕ → ℕ) (d w : ℕ) → P d w → f a ≤ most → (if a == d then w else f a) ≤ most
@@ -56,12 +56,6 @@ words_stay_within m c P readings origin x cs b r run bears scripts a most few fi
     let Q : (ℕ → ℕ) → Type 0 = λ f. f a ≤ most in
     charges_within P a most few c bears.program.changes m.marks at.charges (outside_of b) (outside_of (last_board b ms))
     (first_history m.marks x) (history_behind m x ms)
-    (λ es t k charged p up fram left n. stores_only m c P bears.model bears.program scripts readings origin p (record {
-      board = t;
-      history = k;
-      run = record { world = x; start = outside_of b; begins = bears.begins; charges = es; leads = charged };
-      powered = up;
-      fram = fram;
-      readings_left = left;
-    }) n)
+    (λ es t k charged p up fram left n. stores_only m c P bears.model bears.program scripts readings origin p
+    (powers_up m c readings origin x b bears es t k charged p up fram left) n)
     at.charged (subst Q (sym bears.begins.fram) first)

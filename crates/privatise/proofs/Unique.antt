@@ -249,8 +249,7 @@ one_layout p allow h plans a b planned x y = λ j. record {
     tasks : a.tasks ≡ b.tasks
     tasks = same_tasks p.shared a.variables p.tasks plans a.tasks b.tasks a.code.address (end_of a.code)
         (behind a.code.address a.code.words (total (body_words p.shared) p.tasks) x.code)
-        (of_tasks p.shared p.tasks plans a.tasks planned.count x.tasks.count x.tasks.each, x.rules.privates, x.rules.code)
-        (
+        (of_tasks p.shared p.tasks plans a.tasks planned.count x.tasks.count x.tasks.each, x.rules.privates, x.rules.code) (
           of_tasks p.shared p.tasks plans b.tasks planned.count y.tasks.count y.tasks.each,
           subst (λ vs. All (λ t. All (HasItsPlace vs) t.privates) b.tasks) (sym variables) y.rules.privates,
           subst (λ r. AreInOrder r.address (map (λ t. t.code) b.tasks) (end_of r)) (sym code) y.rules.code,

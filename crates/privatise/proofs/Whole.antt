@@ -73,10 +73,22 @@ pub sizes_add : (p : CheckedProgram) (allow : Allow) (s : Sizes) → IsAllowed p
     → (row_words + commit_words + 3 * allow.list + allow.emits + allow.versions + s.homes + s.copies + s.boot + s.code) + 1 ≡ words_of p
 sizes_add p allow s a k =
     let given : Amounts = record {
-      list = allow.list; emits = allow.emits; versions = allow.versions; homes = s.homes; copies = s.copies; boot = s.boot; code = s.code;
+      list = allow.list;
+      emits = allow.emits;
+      versions = allow.versions;
+      homes = s.homes;
+      copies = s.copies;
+      boot = s.boot;
+      code = s.code;
     } in
     adds_up p given (λ j. record {
-      list = a.list j; emits = a.emits j; versions = a.versions j; homes = k.homes j; copies = k.copies j; boot = k.boot j; code = k.code j;
+      list = a.list j;
+      emits = a.emits j;
+      versions = a.versions j;
+      homes = k.homes j;
+      copies = k.copies j;
+      boot = k.boot j;
+      code = k.code j;
     })
 
 below_top : (n w : ℕ) → n + 1 ≡ w → w ≤ 22000 → fram_first + 2 * n ≤ reset_vector

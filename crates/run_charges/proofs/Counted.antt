@@ -37,7 +37,7 @@ counts_on b c h ws f k =
       whole = keeps.whole k.whole;
       words = keeps.words k.words;
       accepted = k.accepted;
-      count = k.count ∙ ap next_number (sym keeps.receiver);
+      count = k.count ∙ sym keeps.number;
       taken = k.taken ∙ sym keeps.taken;
     }
 

@@ -3,16 +3,16 @@
 -- What stays of a board until the next moment begins.
 pub use Rattle.run_charges.proofs.View.{Keeps, follows_keeps, no_gap}
 -- The moments of a run, one behind the other, and what each of its instructions does to the machine.
-pub use Rattle.run_charges.proofs.Moments.{charge_moments, charge_last, first_start, other_starts, are_behind, front_moments, instructions_reach}
-pub use Rattle.run_charges.proofs.Moments.{AtMostOne, NoWrite, AStore, AnOutside, OneWrite, told, whole_after, words_after}
+pub use Rattle.run_charges.proofs.Moments.{charge_moments, charge_last, charge_instructs, first_start, other_starts, are_behind, front_moments}
+pub use Rattle.run_charges.proofs.Moments.{instructions_reach, AtMostOne, NoWrite, AStore, AnOutside, OneWrite, told, whole_after, words_after}
 pub use Rattle.run_charges.proofs.Moments.{fram_changed, one_write, words_accepted, words_counted, readings_stay, readings_counted}
 -- Each front of a run is one by its moments alone.
 pub use Rattle.run_charges.proofs.Charges.{run_front}
 -- Charges of a program that stands in FRAM, and the boards to which they lead.
-pub use Rattle.run_charges.proofs.Programs.{last-append, observed-append, PlacedProgram, Ready, ready_on, begun, is_powered, same_fram, same_readings}
+pub use Rattle.run_charges.proofs.Programs.{observed-append, PlacedProgram, Ready, ready_on, begun, is_powered, same_fram, same_readings}
 pub use Rattle.run_charges.proofs.Programs.{leads, charged_once, Reached, reached_on, front_reached}
--- The charge in which a run stops, and one that is spent.
-pub use Rattle.run_charges.proofs.Stopped.{charge_instructs, SameDones, HaltsIn, run_halts}
+-- A charge that is spent, and the one in which a run stops.
 pub use Rattle.run_charges.proofs.Spent.{spent_seen, spent_reached, is_spent}
+pub use Rattle.run_charges.proofs.Stopped.{SameDones, StopsBehind, run_halts}
 -- The words accepted and the readings taken are those of the board.
 pub use Rattle.run_charges.proofs.Counted.{Counts, moments_count, front_counts}

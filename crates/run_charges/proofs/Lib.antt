@@ -3,7 +3,7 @@ mod Moments
 mod Counted
 mod Charges
 mod Programs
-mod Stopped
 mod Spent
+mod Stopped
 pub mod Interface
 pub use Rattle.code_forms.proofs as code_forms

@@ -53,6 +53,14 @@ charge_last m left b r (TooDear _ _ i pos c dear) e = refl
 charge_last m left b r (Refused _ _ i x pos c paid a) e = absurd cc
 charge_last m left b r (run.Executed _ _ i done rest pos c paid a h) e = charge_last m (left - price m i) (executed b i).board rest h e
 
+-- the moments of a charge are instructions
+pub charge_instructs : (m : Measure) (left : ℕ) (b : BoardValue) (r : RunOutcome) → ChargeRun m left b r → AreInstructionMoments r.moments
+charge_instructs m left b r (Spent _ _ none) = tt
+charge_instructs m left b r (NoInstruction _ _ e pos h) = tt
+charge_instructs m left b r (TooDear _ _ i pos c dear) = tt
+charge_instructs m left b r (Refused _ _ i e pos c paid a) = tt
+charge_instructs m left b r (run.Executed _ _ i done rest pos c paid a h) = (tt, charge_instructs m (left - price m i) (executed b i).board rest h)
+
 are-append : (b : BoardValue) (ms ns : List Moment) → AreMoments b ms → AreMoments (last_board b ms) ns → AreMoments b (ms ++ ns)
 are-append b [] ns h k = k
 are-append b (m ∷ ms) ns h k = (h.0, h.1, are-append m.after ms ns h.2 k)

@@ -51,7 +51,8 @@ action_observed marks PowerUp es k h = absurd h
 action_observed marks (Execute done offered) es k h = refl
 
 -- moments that are instructions are observed by their effects
-pub instructions_observed : (marks : Marks) (ms : List Moment) (k : History) → AreInstructionMoments ms → observed marks ms k ≡ observe marks (moments_effects ms) k
+pub instructions_observed : (marks : Marks) (ms : List Moment) (k : History) → AreInstructionMoments ms
+    → observed marks ms k ≡ observe marks (moments_effects ms) k
 instructions_observed marks [] k h = refl
 instructions_observed marks (m ∷ ms) k h =
     let es = outside_effects m in
@@ -207,44 +208,39 @@ module _ (on : PlacedProgram) where
       pub charged_once : Charged on.program marks (outside_of b) h (record { powered = begun; steps = steps } ∷ []) (outside_of end) behind
       charged_once = (is_powered, same_fram, same_readings, (outside_of end, leads, (refl, sym seen)))
 
-  -- charges of a board that is ready
-  charged : (b : BoardValue) (h : History) (fs : List ChargeFront) → Ready b h → AreMachineCharges b fs
-      → Charged on.program marks (outside_of b) h (charges_of fs) (outside_of (board_behind_all b fs)) (observed marks (moments_of fs) h)
-  charged b h [] ready all = (refl, refl)
-  charged b h (f ∷ fs) ready all =
+  -- charges of a board that is ready, and the board behind them
+  record LeadsOn (b : BoardValue) (h : History) (fs : List ChargeFront) : Type 0 where
+    pub charged : Charged on.program marks (outside_of b) h (charges_of fs) (outside_of (board_behind_all b fs)) (observed marks (moments_of fs) h)
+    pub ready : Ready (board_behind_all b fs) (observed marks (moments_of fs) h)
+
+  lead_on : (b : BoardValue) (h : History) (fs : List ChargeFront) → Ready b h → AreMachineCharges b fs → LeadsOn b h fs
+  lead_on b h [] ready all = record { charged = (refl, refl); ready = ready }
+  lead_on b h (f ∷ fs) ready all =
       let c = all.0 in
       let ms = f.instructions in
       let keeps = follows_keeps b f.before c.follows in
       let here = ready_on b f.before h c.follows ready in
       let end = board_behind f in
       let k = observed marks ms (behind_boot h) in
-      let rest = charged end k fs (ready_behind f.before h here f.start c.start ms c.instructions c.reaches) all.1 in
-      let P : History → Type 0 = λ j. Charged on.program marks (outside_of end) j (charges_of fs) (outside_of (board_behind_all end fs))
-      (observed marks (ms ++ moments_of fs) (behind_boot h)) in
-      let Q : History → Type 0 = λ j. Charged on.program marks (outside_of end) k (charges_of fs) (outside_of (board_behind_all end fs)) j in (
-        is_powered f.before h here f.start c.start,
-        same_fram f.before h here f.start c.start ∙ ap (λ s. s.fram) keeps.outside,
-        same_readings f.before h here f.start c.start ∙ ap (λ s. s.inputs.readings) keeps.outside,
-        (
-          outside_of end,
-          leads f.before h here f.start c.start ms c.instructions c.reaches,
-          subst P (sym (seen f.before h here f.start c.start ms c.instructions c.reaches))
-              (subst Q (sym (observed-append marks ms (moments_of fs) (behind_boot h))) rest),
-        ),
-      )
-
-  -- the board behind them is ready too
-  ready_behind_all : (b : BoardValue) (h : History) (fs : List ChargeFront) → Ready b h → AreMachineCharges b fs
-      → Ready (board_behind_all b fs) (observed marks (moments_of fs) h)
-  ready_behind_all b h [] ready all = ready
-  ready_behind_all b h (f ∷ fs) ready all =
-      let c = all.0 in
-      let ms = f.instructions in
-      let here = ready_on b f.before h c.follows ready in
-      let P : History → Type 0 = λ k. Ready (board_behind_all (board_behind f) fs) k in
-      subst P (sym (observed-append marks ms (moments_of fs) (behind_boot h)))
-      (ready_behind_all (board_behind f) (observed marks ms (behind_boot h)) fs
-      (ready_behind f.before h here f.start c.start ms c.instructions c.reaches) all.1)
+      let rest = lead_on end k fs (ready_behind f.before h here f.start c.start ms c.instructions c.reaches) all.1 in
+      let last = outside_of (board_behind_all end fs) in
+      let joined = sym (observed-append marks ms (moments_of fs) (behind_boot h)) in
+      let P : History → Type 0 = λ j. Charged on.program marks (outside_of end) j (charges_of fs) last (observed marks (ms ++ moments_of fs) (behind_boot h)) in
+      let Q : History → Type 0 = λ j. Charged on.program marks (outside_of end) k (charges_of fs) last j in
+      let R : History → Type 0 = λ j. Ready (board_behind_all end fs) j in
+      record {
+        charged = (
+          is_powered f.before h here f.start c.start,
+          same_fram f.before h here f.start c.start ∙ ap (λ s. s.fram) keeps.outside,
+          same_readings f.before h here f.start c.start ∙ ap (λ s. s.inputs.readings) keeps.outside,
+          (
+            outside_of end,
+            leads f.before h here f.start c.start ms c.instructions c.reaches,
+            subst P (sym (seen f.before h here f.start c.start ms c.instructions c.reaches)) (subst Q joined rest.charged),
+          ),
+        );
+        ready = subst R joined rest.ready;
+      }
 
   -- a board to which charges of the program lead
   pub record Reached (b : BoardValue) (h : History) (t : BoardValue) (k : History) : Type 0 where
@@ -268,14 +264,11 @@ module _ (on : PlacedProgram) where
   front_reached b h ready ms front =
       let all = front_charges b ms front in
       let fs = all.charges in
+      let led = lead_on b h fs ready all.machine in
       let there : last_board b ms ≡ board_behind_all b fs = ap (last_board b) all.moments ∙ last_behind b fs in
       let P : BoardValue → Type 0 = λ t. Reached b h t (observed marks ms h) in
       let Q : List Moment → Type 0 = λ l. Reached b h (board_behind_all b fs) (observed marks l h) in
-      subst P (sym there) (subst Q (sym all.moments) (record {
-        charges = charges_of fs;
-        charged = charged b h fs ready all.machine;
-        ready = ready_behind_all b h fs ready all.machine;
-      }))
+      subst P (sym there) (subst Q (sym all.moments) (record { charges = charges_of fs; charged = led.charged; ready = led.ready }))
 
   -- the same, said of the charges of the front
   front_charged : (b : BoardValue) (h : History) → Ready b h → (ms : List Moment) → IsFront b ms → IsChargedBy on.program marks b h ms
@@ -283,7 +276,7 @@ module _ (on : PlacedProgram) where
       let all = front_charges b ms front in
       let P : List Moment → Type 0 = λ l. Charged on.program marks (outside_of b) h (charges_of all.charges)
       (outside_of (board_behind_all b all.charges)) (observed marks l h) in
-      record { front = all; charged = subst P (sym all.moments) (charged b h all.charges ready all.machine) }
+      record { front = all; charged = subst P (sym all.moments) (lead_on b h all.charges ready all.machine).charged }
 
 -- each front of a run is charges of the program
 pub fronts_are_charged : (c : Program) → FrontsAreCharged c

@@ -22,10 +22,9 @@ use Rattle.crash_rules.specs.Runs.{Charge, Charged, IsSpent, Spends}
 use Rattle.crash_rules.proofs.Interface.{goes_on}
 use Rattle.run_charges.specs.View.{outside_of}
 use Rattle.run_charges.specs.Charges.{AreInstructionMoments, observed}
-use Rattle.run_charges.proofs.Moments.{charge_moments, charge_last, instructions_reach}
+use Rattle.run_charges.proofs.Moments.{charge_moments, charge_last, charge_instructs, instructions_reach}
 use Rattle.run_charges.proofs.Programs.{PlacedProgram, Ready, begun, leaves_code, program_runs, seen, ready_behind, charged_once}
 use Rattle.run_charges.proofs.Programs.{Reached, charged_join}
-use Rattle.run_charges.proofs.Stopped.{charge_instructs}
 
 -- a step that takes, or would take, so many cycles
 abbrev IsPriced : ℕ → MachineOutcome → Type 0

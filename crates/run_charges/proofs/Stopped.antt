@@ -1,79 +1,24 @@
 -- The charge in which a run stops.
-use Rattle.std.proofs.Common.{◌≡◌, ℕ, suc, ◌-◌, refl, sym, ap, ◌∙◌, subst, List, [], ◌∷◌, ◌++◌, length, map, append_assoc}
+use Rattle.std.proofs.Common.{◌≡◌, ℕ, suc, sym, ap, ◌∙◌, subst, List, [], ◌∷◌, ◌++◌, length, map}
 use Rattle.msp_step.specs.declared.machine.Stop.{Stop}
-use Rattle.fram_board.specs.Board.{BoardValue, powered, executed}
+use Rattle.fram_board.specs.Board.{BoardValue, powered}
 use Rattle.fram_board.specs.Steps.{IsPowerState}
 use Rattle.fram_board.specs.Effects.{Effect, Take}
-use Rattle.fram_board.specs.Run.{Measure, price, Moment, Charges, Stopped, RunOutcome, run_outcome, BoardCharge, ChargeRun, Spent, NoInstruction}
-use Rattle.fram_board.specs.Run.{TooDear, Refused, Executed, Run, Over, Next, Last, power_up_of}
+use Rattle.fram_board.specs.Run.{Moment, Stopped, RunOutcome, run_outcome, BoardCharge, ChargeRun, Run, Over, Next, Last, power_up_of}
 use Rattle.machine_effects.specs.World.{EachStore}
 use Rattle.machine_effects.specs.Going.{Halted, stretch, going}
 use Rattle.machine_effects.specs.Machine.{MachineBoard}
-use Rattle.machine_effects.specs.Runs.{moments_effects, moments_cycles, last_board, StopsAs}
+use Rattle.machine_effects.specs.Runs.{moments_effects, moments_cycles, StopsAs}
 use Rattle.machine_effects.proofs.Interface.{power_up_keeps_words, charges_alike}
 use Rattle.crash_rules.specs.Model.{IsElsewhere, Marks}
 use Rattle.crash_rules.specs.History.{History, observe, behind_boot}
 use Rattle.crash_rules.proofs.Interface.{observe-append, observe_quiet, with_effects}
 use Rattle.run_charges.specs.View.{outside_of}
-use Rattle.run_charges.specs.Charges.{ArePowerStates, AreInstructionMoments, observed}
-use Rattle.run_charges.specs.Laws.{IsRunOfWords}
-use Rattle.run_charges.proofs.Moments.{first_start, other_starts, charge_last}
-use Rattle.run_charges.proofs.Charges.{run_front}
-use Rattle.run_charges.proofs.Programs.{last-append, observed-append, instructions_observed, PlacedProgram, Ready, begun, is_powered, same_fram}
-use Rattle.run_charges.proofs.Programs.{same_readings, program_runs, Reached, front_reached}
-
--- the moments of a charge are instructions
-pub charge_instructs : (m : Measure) (left : ℕ) (b : BoardValue) (r : RunOutcome) → ChargeRun m left b r → AreInstructionMoments r.moments
-charge_instructs m left b r (Spent _ _ none) = tt
-charge_instructs m left b r (NoInstruction _ _ e pos h) = tt
-charge_instructs m left b r (TooDear _ _ i pos c dear) = tt
-charge_instructs m left b r (Refused _ _ i e pos c paid a) = tt
-charge_instructs m left b r (Executed _ _ i done rest pos c paid a h) = (tt, charge_instructs m (left - price m i) (executed b i).board rest h)
-
--- a run that stopped: the charge in which it did, and the moments before it
-record LastCharge (b : BoardValue) (r : RunOutcome) (e : Stop) : Type 0 where
-  pub before : List Moment
-  pub there : BoardValue
-  pub at : last_board b before ≡ there
-  pub charge : BoardCharge
-  pub own : List Moment
-  pub moments : r.moments ≡ before ++ power_up_of there charge.start ∷ own
-  pub start : IsPowerState charge.start
-  pub end : BoardValue
-  pub stops : ChargeRun charge.measure charge.amount (powered there charge.start) (run_outcome own (Stopped e) end)
-
-last_charge : (cs : List BoardCharge) (b : BoardValue) (r : RunOutcome) → ArePowerStates cs → Run cs b r → (e : Stop) → r.ending ≡ Stopped e
-    → LastCharge b r e
-last_charge cs b r ok (Over _) e h = absurd cc
-last_charge cs b r ok (Next c ds _ ms end rest one k) e h =
-    let l = last_charge ds end rest (other_starts c ds ok) k e h in
-    let there : last_board (powered b c.start) ms ≡ end = charge_last c.measure c.amount (powered b c.start) (run_outcome ms Charges end) one refl in
-    record {
-      before = power_up_of b c.start ∷ (ms ++ l.before);
-      there = l.there;
-      at = last-append (powered b c.start) ms l.before ∙ ap (λ t. last_board t l.before) there ∙ l.at;
-      charge = l.charge;
-      own = l.own;
-      moments = ap (λ q. power_up_of b c.start ∷ (ms ++ q)) l.moments
-          ∙ ap (λ q. power_up_of b c.start ∷ q) (sym (append_assoc ms l.before (power_up_of l.there l.charge.start ∷ l.own)));
-      start = l.start;
-      end = l.end;
-      stops = l.stops;
-    }
-last_charge cs b r ok (Last c ds _ ms x end one) e h =
-    let same : x ≡ e = cc h in
-    let P : Stop → Type 0 = λ y. ChargeRun c.measure c.amount (powered b c.start) (run_outcome ms (Stopped y) end) in
-    record {
-      before = [];
-      there = b;
-      at = refl;
-      charge = c;
-      own = ms;
-      moments = refl;
-      start = first_start c ds ok;
-      end = end;
-      stops = subst P same one;
-    }
+use Rattle.run_charges.specs.Charges.{ArePowerStates, observed}
+use Rattle.run_charges.proofs.Moments.{first_start, other_starts, charge_instructs}
+use Rattle.run_charges.proofs.Programs.{observed-append, instructions_observed, PlacedProgram, begun, is_powered, same_fram, same_readings, program_runs}
+use Rattle.run_charges.proofs.Programs.{Reached}
+use Rattle.run_charges.proofs.Spent.{spent_reached}
 
 takes_elsewhere : (gate : ℕ) (ws : List ℕ) → EachStore (IsElsewhere gate) (map (λ w. Take w) ws)
 takes_elsewhere gate [] = tt
@@ -93,11 +38,11 @@ taken_more marks es ws h =
     record { completed = ap (λ k. k.completed) all; since = ap (λ k. k.since) all }
 
 module _ (on : PlacedProgram) where
-  -- the program halts in a charge, in which the run stops, behind charges that lead to it
-  pub record HaltsIn (b : BoardValue) (h : History) (r : RunOutcome) (e : Stop) : Type 0 where
+  -- the program halts in a charge, to which charges lead from a board and its history
+  pub record HaltsIn (b : BoardValue) (first : History) (e : Stop) : Type 0 where
     pub there : BoardValue
     pub before : History
-    pub at : Reached on b h there before
+    pub at : Reached on b first there before
     pub start : MachineBoard
     pub is_powered : on.program.IsPoweredUp start
     pub fram : start.fram ≡ (outside_of there).fram
@@ -105,58 +50,70 @@ module _ (on : PlacedProgram) where
     pub steps : ℕ
     pub price : ℕ
     pub halts : (going on.program.step steps start).status ≡ Halted price e
-    pub same : SameDones (observed on.marks r.moments h) (observe on.marks (going on.program.step steps start).effects (behind_boot before))
 
-  module _ (b : BoardValue) (h : History) (r : RunOutcome) (e : Stop) (l : LastCharge b r e) (before : History)
-      (known : observed on.marks l.before h ≡ before) (at : Reached on b h l.there before) where
+  -- moments behind which a run stops, from a history on
+  pub record StopsBehind (b : BoardValue) (first known : History) (ms : List Moment) (e : Stop) : Type 0 where
+    pub halts : HaltsIn b first e
+    pub same : SameDones (observed on.marks ms known)
+        (observe on.marks (going on.program.step halts.steps halts.start).effects (behind_boot halts.before))
+
+  -- the charge in which it does
+  module _ (b : BoardValue) (first : History) (t : BoardValue) (h : History) (at : Reached on b first t h) (d : BoardCharge) (ok : IsPowerState d.start)
+      (ms : List Moment) (e : Stop) (end : BoardValue) (one : ChargeRun d.measure d.amount (powered t d.start) (run_outcome ms (Stopped e) end)) where
+    abbrev stopped : RunOutcome
+    stopped = run_outcome ms (Stopped e) end
+
     abbrev start : MachineBoard
-    start = begun on l.there before at.ready l.charge.start l.start
+    start = begun on t h at.ready d.start ok
 
-    stops_as : StopsAs l.charge.measure l.charge.amount (powered l.there l.charge.start) (run_outcome l.own (Stopped e) l.end) e
-    stops_as = charges_alike l.charge.measure l.charge.amount (powered l.there l.charge.start) (run_outcome l.own (Stopped e) l.end)
-        (power_up_keeps_words l.there l.charge.start at.ready.whole at.ready.words l.start).0 l.stops
+    stops_as : StopsAs d.measure d.amount (powered t d.start) stopped e
+    stops_as = charges_alike d.measure d.amount (powered t d.start) stopped (power_up_keeps_words t d.start at.ready.whole at.ready.words ok).0 one
 
     abbrev steps : ℕ
-    steps = suc (length l.own)
+    steps = suc (length ms)
 
-    made : stretch (moments_effects l.own ++ map (λ w. Take w) stops_as.last_taken) (moments_cycles l.own) (Halted stops_as.price e)
+    made : stretch (moments_effects ms ++ map (λ w. Take w) stops_as.last_taken) (moments_cycles ms) (Halted stops_as.price e)
         ≡ going on.program.step steps start
-    made = program_runs on l.there before at.ready l.charge.start l.start steps _ stops_as.run
+    made = program_runs on t h at.ready d.start ok steps _ stops_as.run
 
-    same : SameDones (observed on.marks r.moments h) (observe on.marks (going on.program.step steps start).effects (behind_boot before))
+    same : SameDones (observed on.marks ms (behind_boot h)) (observe on.marks (going on.program.step steps start).effects (behind_boot h))
     same =
-        let es = moments_effects l.own in
-        let now : observed on.marks r.moments h ≡ observe on.marks es (behind_boot before) =
-        ap (λ ms. observed on.marks ms h) l.moments
-        ∙ observed-append on.marks l.before (power_up_of l.there l.charge.start ∷ l.own) h
-        ∙ ap (λ k. observed on.marks l.own (behind_boot k)) known
-        ∙ instructions_observed on.marks l.own (behind_boot before)
-        (charge_instructs l.charge.measure l.charge.amount (powered l.there l.charge.start) (run_outcome l.own (Stopped e) l.end) l.stops) in
-        let P : History → Type 0 = λ k. SameDones k (observe on.marks (going on.program.step steps start).effects (behind_boot before)) in
-        let Q : List Effect → Type 0 = λ fs. SameDones (observe on.marks es (behind_boot before)) (observe on.marks fs (behind_boot before)) in
-        subst P (sym now) (subst Q (ap (λ q. q.effects) made) (taken_more on.marks es stops_as.last_taken (behind_boot before)))
+        let k = behind_boot h in
+        let P : History → Type 0 = λ j. SameDones j (observe on.marks (going on.program.step steps start).effects k) in
+        let Q : List Effect → Type 0 = λ es. SameDones (observe on.marks (moments_effects ms) k) (observe on.marks es k) in
+        subst P (sym (instructions_observed on.marks ms k (charge_instructs d.measure d.amount (powered t d.start) stopped one)))
+        (subst Q (ap (λ q. q.effects) made) (taken_more on.marks (moments_effects ms) stops_as.last_taken k))
 
-    halts_in : HaltsIn b h r e
-    halts_in = record {
-      there = l.there;
-      before = before;
-      at = at;
-      start = start;
-      is_powered = is_powered on l.there before at.ready l.charge.start l.start;
-      fram = same_fram on l.there before at.ready l.charge.start l.start;
-      readings = same_readings on l.there before at.ready l.charge.start l.start;
-      steps = steps;
-      price = stops_as.price;
-      halts = sym (ap (λ q. q.status) made);
+    stops_behind : StopsBehind b first h (power_up_of t d.start ∷ ms) e
+    stops_behind = record {
+      halts = record {
+        there = t;
+        before = h;
+        at = at;
+        start = start;
+        is_powered = is_powered on t h at.ready d.start ok;
+        fram = same_fram on t h at.ready d.start ok;
+        readings = same_readings on t h at.ready d.start ok;
+        steps = steps;
+        price = stops_as.price;
+        halts = sym (ap (λ q. q.status) made);
+      };
       same = same;
     }
 
-  -- where a run stops the program halts
-  pub run_halts : (cs : List BoardCharge) (b : BoardValue) (r : RunOutcome) (h : History) → IsRunOfWords cs b r → Ready on b h → (e : Stop)
-      → r.ending ≡ Stopped e → HaltsIn b h r e
-  run_halts cs b r h run ready e ends =
-      let l = last_charge cs b r run.starts run.run e ends in
-      let front = run_front cs b r l.before (power_up_of l.there l.charge.start ∷ l.own) run l.moments in
-      let before = observed on.marks l.before h in
-      let P : BoardValue → Type 0 = λ t. Reached on b h t before in
-      halts_in b h r e l before refl (subst P l.at (front_reached on b h ready l.before front))
+  -- where a run stops the program halts, from a board on to which charges lead
+  pub run_halts : (b : BoardValue) (first : History) (cs : List BoardCharge) (t : BoardValue) (h : History) (r : RunOutcome) → ArePowerStates cs → Run cs t r
+      → Reached on b first t h → (e : Stop) → r.ending ≡ Stopped e → StopsBehind b first h r.moments e
+  run_halts b first cs t h r ok (Over _) at e ends = absurd cc
+  run_halts b first cs t h r ok (Next d ds _ ms end rest one more) at e ends =
+      let start = first_start d ds ok in
+      let next = spent_reached on t h at.ready d start ms end one b first at.charges at.charged in
+      let k = observed on.marks ms (behind_boot h) in
+      let l = run_halts b first ds end k rest (other_starts d ds ok) more next e ends in
+      let s = l.halts in
+      let P : History → Type 0 = λ j. SameDones j (observe on.marks (going on.program.step s.steps s.start).effects (behind_boot s.before)) in
+      record { halts = s; same = subst P (sym (observed-append on.marks ms rest.moments (behind_boot h))) l.same }
+  run_halts b first cs t h r ok (Last d ds _ ms x end one) at e ends =
+      let P : Stop → Type 0 = λ y. StopsBehind b first h (power_up_of t d.start ∷ ms) y in
+      let stop : x ≡ e = cc ends in
+      subst P stop (stops_behind b first t h at d (first_start d ds ok) ms x end one)

@@ -99,7 +99,7 @@ words_counted : (b : BoardValue) (ms : List Moment) → AreMoments b ms
     → (last_board b ms).receiver.accepted ≡ b.receiver.accepted + length (accepted_words ms)
 words_counted b [] all = omega arith
 words_counted b (m ∷ ms) all =
-    let same = ap (λ r. r.accepted) (follows_keeps b m.before all.0).receiver in
+    let same = (follows_keeps b m.before all.0).heard in
     let one = moment_counted m.before m all.1 in
     let more = words_counted m.after ms all.2 in
     let both = length-append (accepted_by m.action) (accepted_words ms) in

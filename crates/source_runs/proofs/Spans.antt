@@ -1,27 +1,27 @@
 -- The spans of the transitions of a run, read off its moments, are those of the dones that are read off its effects; and so each of its
 -- charges pays for its transitions.
-use Rattle.std.proofs.Common.{◌≡◌, ℕ, ◌+◌, ◌*◌, ◌≤◌, refl, sym, ap, ap₂, ◌∙◌, subst, arith, Bool, true, false, cond, if◌then◌else◌, List, [], ◌∷◌, ◌++◌}
-use Rattle.std.proofs.Common.{length, map, append_assoc, append-nil, length-append, Some, Ok}
+use Rattle.std.proofs.Common.{◌≡◌, ℕ, ◌+◌, refl, sym, ap, ap₂, ◌∙◌, subst, arith, Bool, true, false, cond, if◌then◌else◌, List, [], ◌∷◌, ◌++◌}
+use Rattle.std.proofs.Common.{length, append_assoc, append-nil, length-append, Ok}
 use Rattle.std.proofs.lemmas.List.{length-map, map-append}
 use Rattle.msp_isa.specs.declared.instructions.Instr.{Instr}
 use Rattle.image_map.specs.MapValue.{MapValue}
 use Rattle.image_map.specs.Kept.{IsMap}
 use Rattle.fram_board.specs.declared.board.Stepped.{Stepped}
-use Rattle.fram_board.specs.Board.{BoardValue, PowerState, powered, executed, IsNextInstruction}
-use Rattle.fram_board.specs.Run.{Moment, moment_of, power_up_of, Charges, RunOutcome, run_outcome, after_moments, BoardCharge}
+use Rattle.fram_board.specs.Board.{BoardValue, powered, executed, IsNextInstruction}
+use Rattle.fram_board.specs.Run.{Moment, moment_of, power_up_of, Charges, RunOutcome, run_outcome, BoardCharge}
 use Rattle.board_run.specs.History.{noted, is_done, word_in}
 use Rattle.board_run.specs.History as board
 use Rattle.board_run.specs.Report.{after_all}
 use Rattle.machine_effects.specs.World.{World}
 use Rattle.machine_effects.specs.Runs.{last_board}
 use Rattle.crash_rules.specs.Model.{Marks}
-use Rattle.crash_rules.specs.History.{Done, History, is_decide, behind_boot, behind_decide, behind_done, behind_gate, first_history, observe}
+use Rattle.crash_rules.specs.History.{History, is_decide, behind_decide, behind_done, behind_gate, first_history}
 use Rattle.crash_rules.proofs.Interface.{with_effects}
 use Rattle.run_charges.specs.View.{outside_effects, IsMomentFrom, PowersUp, Instructs, AreMoments}
 use Rattle.run_charges.specs.Charges.{ArePowerStates, behind_moment, observed}
 use Rattle.run_charges.specs.Laws.{IsRunOfWords}
 use Rattle.run_charges.proofs.Interface.{no_gap, charge_moments, charge_last, first_start, other_starts, front_moments}
-use Rattle.model_runs.specs.Events.{marks_of, SaysTheSame}
+use Rattle.model_runs.specs.Events.{marks_of}
 use Rattle.model_runs.specs.EventLaws.{StartsWith}
 use Rattle.model_runs.proofs.Interface.{Together, together_on, observed_so, moment_leads, moments_lead, first_histories_are_the_same}
 use Rattle.source_report.specs.SourceReport.{Committed}

@@ -1,5 +1,5 @@
 -- A model of the crash theorem that is a source's, and a board that begins with it.
-use Rattle.std.specs.Prelude.{◌≡◌, ◌<◌, All, Some}
+use Rattle.std.specs.Prelude.{◌≡◌, ℕ, ◌<◌, List, All, Some}
 use Rattle.image_map.specs.MapValue.{MapValue}
 use Rattle.image_map.specs.Kept.{IsMap}
 use Rattle.fram_board.specs.Board.{BoardValue}
