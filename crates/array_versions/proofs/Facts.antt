@@ -1,7 +1,9 @@
 -- What holds of each program's effects and ends: each is a fact of chains.
-use Rattle.std.proofs.Common.{◌≡◌, ℕ, ◌<◌, List, ◌∷◌, ◌++◌, Option, Some, refl, sym, ap, ◌∙◌, append-nil, ne_eqb, if◌then◌else◌}
-use Rattle.machine_effects.specs.fram_board.Effects.{Effect}
+use Rattle.std.proofs.Common.{◌≡◌, ℕ, ◌<◌, List, [], ◌∷◌, ◌++◌, Option, Some, refl, sym, ap, ◌∙◌, append-nil, ne_eqb, if◌then◌else◌}
+use Rattle.machine_effects.specs.fram_board.Effects.{Effect, Take}
 use Rattle.machine_effects.specs.World.{fram_after, readings_taken, EachStore}
+use Rattle.machine_effects.specs.Inputs.{TakesExactly}
+use Rattle.machine_effects.proofs.Interface.{takes_nothing, takes_behind_store, takes_through}
 use Rattle.array_versions.specs.Program.{Step, Program}
 use Rattle.array_versions.specs.Behaviour.{WordState, End, GoesOn, Jumps, Short, Strays, Broken, step_behaviour, behaviour}
 use Rattle.array_versions.specs.Form.{StepOfWords, OfWords, Spares}
@@ -28,22 +30,22 @@ module _ {W : Type 0} {spared : ℕ → Type 0} where
   run_stores (stacks vs l q) x = run_stores q x
   run_stores (assigns n v d l q) x = run_stores q x
   run_stores (stores a v l q) x = (l x, run_stores q x)
-  run_stores (takes r rs e q) x = (tt, run_stores q x)
+  run_stores (takes r left e q) x = (tt, run_stores q x)
 
   run_leaves : {s t : WordState} {es : List Effect} → Run W spared s es t → (n : ℕ) → spared n → t.locals n ≡ s.locals n
   run_leaves stays n y = refl
   run_leaves (stacks vs l q) n y = run_leaves q n y
   run_leaves (assigns {s = s} m v d l q) n y = run_leaves q n y ∙ ap (λ b. if b then Some v else s.locals n) (ne_eqb n m (λ e. d n y (sym e)))
   run_leaves (stores a v l q) n y = run_leaves q n y
-  run_leaves (takes r rs e q) n y = run_leaves q n y
+  run_leaves (takes r left e q) n y = run_leaves q n y
 
   run_effects : {s t : WordState} {es : List Effect} → Run W spared s es t
-      → (t.fram ≡ fram_after es s.fram) × (readings_taken es ++ t.readings ≡ s.readings)
-  run_effects stays = (refl, refl)
+      → (t.fram ≡ fram_after es s.fram) × TakesExactly es s.inputs t.inputs
+  run_effects {s = s} stays = (refl, takes_nothing s.inputs)
   run_effects (stacks vs l q) = run_effects q
   run_effects (assigns n v d l q) = run_effects q
-  run_effects (stores a v l q) = run_effects q
-  run_effects (takes r rs e q) = let k = run_effects q in (k.0, ap (λ l. r ∷ l) k.1 ∙ sym e)
+  run_effects {s = s} {t = t} (stores {es = es} a v l q) = let k = run_effects q in (k.0, takes_behind_store a v es s.inputs t.inputs k.1)
+  run_effects {s = s} {t = t} (takes {es = es} r left e q) = let k = run_effects q in (k.0, takes_through (Take r ∷ []) es s.inputs left t.inputs e k.1)
 
 -- ---- at ends
 
@@ -68,7 +70,7 @@ module _ (W : Type 0) (spared : ℕ → Type 0) where
   ends_by_effects s es (GoesOn t) q = run_effects q
   ends_by_effects s es (Jumps to t) q = run_effects q
   ends_by_effects s es Short q =
-      let k = run_effects q.1 in sym (append-nil (readings_taken es)) ∙ ap (λ l. readings_taken es ++ l) (sym q.2) ∙ k.1
+      let k = run_effects q.1 in sym (append-nil (readings_taken es)) ∙ ap (λ l. readings_taken es ++ l) (sym q.2) ∙ k.1.readings
   ends_by_effects s es _ q = tt
 
 -- ---- of programs
@@ -100,7 +102,7 @@ leaves n o p s h e =
     by_end (GoesOn t) l = l ∙ e
     by_end _ l = tt
 
--- a program changes FRAM and readings as its effects say
+-- a program changes FRAM and the inputs as its effects say
 pub behaves_by_effects : BehavesByEffects
 behaves_by_effects p s =
     let b = behaviour p s in ends_by_effects (OfWords p × IsStateOfWords s) (λ m. Spares m p) s b.effects b.end (runs p s)

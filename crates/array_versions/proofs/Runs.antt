@@ -1,8 +1,10 @@
 -- What each program does, as a chain of what its steps do to a state: said once by the cases of steps. A fact of all programs is an induction over chains.
-use Rattle.std.proofs.Common.{◌≡◌, ℕ, zero, suc, ◌+◌, ◌-◌, ◌%◌, ◌==◌, ◌<◌, List, [], ◌∷◌, ◌++◌, Option, Some, None, Bool, true, false, refl, arith}
+use Rattle.std.proofs.Common.{◌≡◌, ℕ, zero, suc, ◌+◌, ◌-◌, ◌%◌, ◌==◌, ◌<◌, List, [], ◌∷◌, ◌++◌, Option, Some, None, Bool, true, false, refl, sym, arith}
 use Rattle.std.proofs.Common.{◌≢◌, if◌then◌else◌}
 use Rattle.machine_effects.specs.alp_words.Words.{AreWords}
 use Rattle.machine_effects.specs.fram_board.Effects.{Effect, Store, Take}
+use Rattle.machine_effects.specs.Inputs.{Inputs, TakesExactly}
+use Rattle.machine_effects.proofs.Interface.{taken_is_word}
 use Rattle.array_versions.specs.declared.operations.PlainOperation.{PlainOperation}
 use Rattle.array_versions.specs.Operations.{unary_word, plain_word, binary_word, shift_word, is_true, compare_words, long_pops, long_result}
 use Rattle.array_versions.specs.Program.{Step, Test, Program, number, load, keep, update, local, set_local, update_local, unary, binary, shift, long, element}
@@ -15,7 +17,7 @@ use Rattle.array_versions.specs.Behaviour.{way_by_top, way_by_two, turns, step_b
 use Rattle.array_versions.specs.Form.{StepSpares, TestSpares, Spares, StepOfWords, TestOfWords, OfWords}
 use Rattle.array_versions.specs.Laws.{IsStateOfWords}
 use Rattle.array_versions.proofs.Words.{unary_small, plain_small, binary_small, shift_small, long_words, on_words, stack_words, stored_words, local_words}
-use Rattle.array_versions.proofs.Words.{reading_words, reading_word}
+use Rattle.array_versions.proofs.Words.{input_words}
 use Rattle.array_versions.proofs.Parts.{Writes, astray, done, writes, Pushes, off, on_top, Known, loads, element_pushes, versioned_pushes, word_writes}
 use Rattle.array_versions.proofs.Parts.{emitted_writes, entry_writes, versioned_writes, updated_writes}
 
@@ -27,7 +29,7 @@ pub data Run (W : Type 0) (spared : ℕ → Type 0) : WordState → List Effect 
   assigns : {s t : WordState} {es : List Effect} (n v : ℕ) → ((m : ℕ) → spared m → n ≢ m) → (W → v < 0x10000) → Run W spared (with_local n v s) es t
       → Run W spared s es t
   stores : {s t : WordState} {es : List Effect} (a v : ℕ) → (W → v < 0x10000) → Run W spared (stored a v s) es t → Run W spared s (Store a v ∷ es) t
-  takes : {s t : WordState} {es : List Effect} (r : ℕ) (rs : List ℕ) → s.readings ≡ r ∷ rs → Run W spared (record s { readings = rs }) es t
+  takes : {s t : WordState} {es : List Effect} (r : ℕ) (left : Inputs) → TakesExactly (Take r ∷ []) s.inputs left → Run W spared (record s { inputs = left }) es t
       → Run W spared s (Take r ∷ es) t
 
 -- one chain behind another
@@ -37,7 +39,7 @@ run_behind stays r = r
 run_behind (stacks vs l q) r = stacks vs l (run_behind q r)
 run_behind (assigns n v d l q) r = assigns n v d l (run_behind q r)
 run_behind (stores a v l q) r = stores a v l (run_behind q r)
-run_behind (takes x xs e q) r = takes x xs e (run_behind q r)
+run_behind (takes x left e q) r = takes x left e (run_behind q r)
 
 -- from words it leads to words
 pub run_words : {W : Type 0} {spared : ℕ → Type 0} {s t : WordState} {es : List Effect} → Run W spared s es t → W → IsStateOfWords s → IsStateOfWords t
@@ -45,14 +47,14 @@ run_words stays x i = i
 run_words (stacks {s = s} vs l q) x i = run_words q x (stack_words s vs i (l x))
 run_words (assigns {s = s} n v d l q) x i = run_words q x (local_words s n v i (l x))
 run_words (stores {s = s} a v l q) x i = run_words q x (stored_words s a v i (l x))
-run_words (takes {s = s} r rs e q) x i = run_words q x (reading_words s r rs e i)
+run_words (takes {s = s} r left e q) x i = run_words q x (input_words s r left e i)
 
 module _ (W : Type 0) (spared : ℕ → Type 0) where
   -- how far a chain leads that ends so: where a reading is wanted, to a state with none left
   abbrev pub Reaches : WordState → List Effect → End → Type 0
   Reaches s es (GoesOn t) = Run W spared s es t
   Reaches s es (Jumps to t) = Run W spared s es t
-  Reaches s es Short = (t : WordState) × Run W spared s es t × (t.readings ≡ [])
+  Reaches s es Short = (t : WordState) × Run W spared s es t × (t.inputs.readings ≡ [])
   Reaches s es Strays = (t : WordState) × Run W spared s es t
   Reaches s es Broken = (t : WordState) × Run W spared s es t
 
@@ -129,10 +131,12 @@ module _ (W : Type 0) (spared : ℕ → Type 0) where
   updated_does op n v None s d l h = (s, stays)
   updated_does op n v (Some u) s d l h = assigns n (plain_word op u v) d (λ x. plain_small op u v (h u refl x) (l x)) stays
 
-  reading_does : (rs : List ℕ) (s : WordState) → s.readings ≡ rs → Known W s → Does s (reading_pushed rs s)
+  reading_does : (rs : List ℕ) (s : WordState) → s.inputs.readings ≡ rs → Known W s → Does s (reading_pushed rs s)
   reading_does [] s e i = (s, stays, e)
   reading_does (r ∷ rs) s e i =
-      takes r rs e (stacks (r ∷ s.stack) (λ x. (reading_word s r rs e (i x), (i x).stack)) stays)
+      let left : Inputs = record s.inputs { readings = rs } in
+      let taken : TakesExactly (Take r ∷ []) s.inputs left = record { readings = sym e } in
+      takes r left taken (stacks (r ∷ s.stack) (λ x. (taken_is_word r s.inputs left taken (i x).inputs, (i x).stack)) stays)
 
   turns_do : (m n k : ℕ) (body : WordState → Behaviour) (s : WordState) → ((x : ℕ) → spared x → n ≢ x) → (W → k + m < 0x10000) → Leads body → Known W s
       → Does s (turns m n k body s)
@@ -182,7 +186,7 @@ module _ (W : Type 0) (spared : ℕ → Type 0) where
         two_popped s (versioned_stored place list) i (λ u v k l t j. part_writes (versioned_writes W place list u v t l j))
     step_does (versioned_update op place list) s h d i =
         two_popped s (versioned_updated op place list) i (λ u v k l t j. part_writes (updated_writes W op place list u v t l j))
-    step_does sense s h d i = reading_does s.readings s refl i
+    step_does sense s h d i = reading_does s.inputs.readings s refl i
     step_does (truth t) s h d i = test_does t s (number_pushed 1) (number_pushed 0) h d i (λ u j. push u 1 j (λ x. omega arith))
         (λ u j. push u 0 j (λ x. omega arith))
     step_does (choose t taken otherwise) s h d i =

@@ -3,6 +3,7 @@ use Rattle.std.proofs.Common.{◌≡◌, ℕ, zero, suc, ◌+◌, ◌-◌, ◌%�
 use Rattle.std.proofs.Common.{nat_eq, refl, sym, ap, ◌∙◌, subst, arith, eq-eqb, if◌then◌else◌}
 use Rattle.std.proofs.lemmas.List.{length-append}
 use Rattle.machine_effects.specs.fram_board.Effects.{Effect}
+use Rattle.machine_effects.specs.Inputs.{Inputs}
 use Rattle.array_versions.specs.declared.operations.PlainOperation.{PlainOperation}
 use Rattle.array_versions.specs.declared.operations.LongOperation.{LongOperation}
 use Rattle.array_versions.specs.declared.operations.LongOperation.TheVariants.{ShiftLeft}
@@ -158,14 +159,20 @@ Leads mid next go = (q : Place) (s : WordState) → mid q → Matches q s → Go
 number_leads : (room n : ℕ) (next : Place → Type 0) → Leads (Moves room 0 1 next) next (number_pushed n)
 number_leads room n next q s h m = moved_well room 0 1 next q s _ h m (omega arith) refl
 
+-- where an answer leads: the places that are fit for what follows it
+pub record Answer (next : Place → Type 0) : Type 1 where
+  pub fit : Place → Type 0
+  pub go : WordState → Behaviour
+  pub leads : Leads fit next go
+
 -- one of two ways, behind words that are popped
-popped_well : (c : Bool) (d : ℕ) (vs : List ℕ) (held failed next : Place → Type 0) (go other : WordState → Behaviour) (q : Place) (s : WordState)
-    → held (at_depth d q) × failed (at_depth d q) → Matches q s → length vs ≡ d → Leads held next go → Leads failed next other
-    → GoesWell next (if c then go (with_stack vs s) else other (with_stack vs s)).end
-popped_well c d vs held failed next go other q s h m e f g =
+popped_well : (c : Bool) (d : ℕ) (vs : List ℕ) (next : Place → Type 0) (held failed : Answer next) (q : Place) (s : WordState)
+    → held.fit (at_depth d q) × failed.fit (at_depth d q) → Matches q s → length vs ≡ d
+    → GoesWell next (if c then held.go (with_stack vs s) else failed.go (with_stack vs s)).end
+popped_well c d vs next held failed q s h m e =
     let t = with_stack vs s in
     let n = matches_depth q s vs d m e in
-    either_well c next (go t) (other t) (f (at_depth d q) t h.0 n) (g (at_depth d q) t h.1 n)
+    either_well c next (held.go t) (failed.go t) (held.leads (at_depth d q) t h.0 n) (failed.leads (at_depth d q) t h.1 n)
 
 turns_well : (body : (Place → Type 0) → Place → Type 0) (run : WordState → Behaviour)
     → ((next : Place → Type 0) (q : Place) (s : WordState) → body next q → Matches q s → GoesWell next (run s).end)
@@ -237,13 +244,13 @@ mutual
       two_well next s.stack _ (omega (arith, h.0, m.depth)) (λ i v vs e.
       let t = with_stack vs s in
       written_well next (updated_writes ⊥ op place list i v t (λ x. absurd x) (unknown t)) (λ f. moved_well room 2 0 next q s _ h m (omega arith) refl))
-  step_well room sense next q s h m = reading_well room s.readings next q s h m
+  step_well room sense next q s h m = reading_well room s.inputs.readings next q s h m
   step_well room (truth t) next q s h m =
-      test_well room t (Moves room 0 1 next) (Moves room 0 1 next) next (number_pushed 1) (number_pushed 0) q s h m
-      (number_leads room 1 next) (number_leads room 0 next)
+      let pushes : ℕ → Answer next = λ n. record { fit = Moves room 0 1 next; go = number_pushed n; leads = number_leads room n next } in
+      test_well room t next (pushes 1) (pushes 0) q s h m
   step_well room (choose t taken otherwise) next q s h m =
-      test_well room t (EachWay room taken next) (EachWay room otherwise next) next (behaviour taken) (behaviour otherwise) q s h m
-      (well room taken next) (well room otherwise next)
+      test_well room t next (record { fit = EachWay room taken next; go = behaviour taken; leads = well room taken next })
+      (record { fit = EachWay room otherwise next; go = behaviour otherwise; leads = well room otherwise next }) q s h m
   step_well room (repeat n from below body) next q s h m =
       turns_well (EachWay room body) (behaviour body) (well room body) (below - from) n from next q s h m
   step_well room (store_number a w) next q s h m =
@@ -253,23 +260,23 @@ mutual
   step_well room (jump to) next q s h m = jump_well (to % 2 == 0) to next s (eq-eqb (to % 2) 0 h)
 
   -- a test along each way
-  pub test_well : (room : ℕ) (t : Test) (held failed next : Place → Type 0) (go other : WordState → Behaviour) (q : Place) (s : WordState)
-      → EachTestWay room t held failed q → Matches q s → Leads held next go → Leads failed next other → GoesWell next (tested t go other s).end
-  test_well room (holds p) held failed next go other q s h m f g =
-      then_well (Moves room 1 0 (λ r. held r × failed r)) next (behaviour p s) (way_by_top go other) (well room p _ q s h m)
+  pub test_well : (room : ℕ) (t : Test) (next : Place → Type 0) (held failed : Answer next) (q : Place) (s : WordState)
+      → EachTestWay room t held.fit failed.fit q → Matches q s → GoesWell next (tested t held.go failed.go s).end
+  test_well room (holds p) next held failed q s h m =
+      then_well (Moves room 1 0 (λ r. held.fit r × failed.fit r)) next (behaviour p s) (way_by_top held.go failed.go) (well room p _ q s h m)
       (λ r u k n. top_well next u.stack _ (omega (arith, k.0, n.depth)) (λ v vs e.
-      popped_well (is_true v) (r.depth - 1 + 0) vs held failed next go other r u k.2 n (omega (arith, n.depth)) f g))
-  test_well room (compares op p) held failed next go other q s h m f g =
-      then_well (Moves room 2 0 (λ r. held r × failed r)) next (behaviour p s) (way_by_two op go other) (well room p _ q s h m)
+      popped_well (is_true v) (r.depth - 1 + 0) vs next held failed r u k.2 n (omega (arith, n.depth))))
+  test_well room (compares op p) next held failed q s h m =
+      then_well (Moves room 2 0 (λ r. held.fit r × failed.fit r)) next (behaviour p s) (way_by_two op held.go failed.go) (well room p _ q s h m)
       (λ r u k n. two_well next u.stack _ (omega (arith, k.0, n.depth)) (λ x y vs e.
-      popped_well (compare_words op x y) (r.depth - 2 + 0) vs held failed next go other r u k.2 n (omega (arith, n.depth)) f g))
-  test_well room (both t u) held failed next go other q s h m f g =
-      test_well room t (EachTestWay room u held failed) failed next (tested u go other) other q s h m
-      (λ r v k n. test_well room u held failed next go other r v k n f g) g
-  test_well room (either t u) held failed next go other q s h m f g =
-      test_well room t held (EachTestWay room u held failed) next go (tested u go other) q s h m f
-      (λ r v k n. test_well room u held failed next go other r v k n f g)
-  test_well room (fails t) held failed next go other q s h m f g = test_well room t failed held next other go q s h m g f
+      popped_well (compare_words op x y) (r.depth - 2 + 0) vs next held failed r u k.2 n (omega (arith, n.depth))))
+  test_well room (both t u) next held failed q s h m =
+      let second : Answer next = record { fit = EachTestWay room u held.fit failed.fit; go = tested u held.go failed.go; leads = test_well room u next held failed } in
+      test_well room t next second failed q s h m
+  test_well room (either t u) next held failed q s h m =
+      let second : Answer next = record { fit = EachTestWay room u held.fit failed.fit; go = tested u held.go failed.go; leads = test_well room u next held failed } in
+      test_well room t next held second q s h m
+  test_well room (fails t) next held failed q s h m = test_well room t next failed held q s h m
 
   -- a program along each way
   pub well : (room : ℕ) (p : Program) (next : Place → Type 0) (q : Place) (s : WordState) → EachWay room p next q → Matches q s
@@ -280,13 +287,13 @@ mutual
       (λ p t g w. well room more next p t g w)
 
 -- the state that an attempt starts with
-pub start_matches : (fram : ℕ → ℕ) (readings : List ℕ) → Matches start (started fram readings)
-start_matches fram readings = record { depth = refl; assigned = λ n e. absurd (let f = e in (cc)) }
+pub start_matches : (fram : ℕ → ℕ) (inputs : Inputs) → Matches start (started fram inputs)
+start_matches fram inputs = record { depth = refl; assigned = λ n e. absurd (let f = e in (cc)) }
 
 -- a whole program jumps, or is short of readings, or comes to an address that isn't in FRAM
 pub whole_ends_soundly : WholeEndsSoundly
-whole_ends_soundly p fram readings h = by_end (behaviour p (started fram readings)).end
-    (well h.room p (λ q. ⊥) start (started fram readings) h.ways (start_matches fram readings))
+whole_ends_soundly p fram inputs h = by_end (behaviour p (started fram inputs)).end
+    (well h.room p (λ q. ⊥) start (started fram inputs) h.ways (start_matches fram inputs))
   where
     by_end : (e : End) → GoesWell (λ q. ⊥) e → IsSound e
     by_end (GoesOn t) g = g.1

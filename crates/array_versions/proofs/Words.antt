@@ -7,7 +7,10 @@ use Rattle.std.proofs.lemmas.Nat.{and_le_l, or_lt, xor_lt}
 use Rattle.std.proofs.lemmas.Option.{same_Some}
 use Rattle.machine_effects.specs.alp_words.Words.{AreWords, is_negative}
 use Rattle.machine_effects.specs.alp_words.declared.Width.TheVariants.{Word}
+use Rattle.machine_effects.specs.fram_board.Effects.{Take}
 use Rattle.machine_effects.specs.World.{put}
+use Rattle.machine_effects.specs.Inputs.{Inputs, TakesExactly}
+use Rattle.machine_effects.proofs.Interface.{left_are_words}
 use Rattle.array_versions.specs.declared.operations.UnaryOperation.{UnaryOperation}
 use Rattle.array_versions.specs.declared.operations.UnaryOperation.TheVariants.{Negate, Complement}
 use Rattle.array_versions.specs.declared.operations.BinaryOperation.{BinaryOperation}
@@ -145,23 +148,20 @@ assigned_by false o v z l h q = h z q
 
 -- a state with another stack of words
 pub stack_words : (s : WordState) (vs : List ℕ) → IsStateOfWords s → AreWords vs → IsStateOfWords (with_stack vs s)
-stack_words s vs w h = record { stack = h; locals = w.locals; fram = w.fram; readings = w.readings }
+stack_words s vs w h = record { stack = h; locals = w.locals; fram = w.fram; inputs = w.inputs }
 
 pub stored_words : (s : WordState) (a v : ℕ) → IsStateOfWords s → v < 0x10000 → IsStateOfWords (stored a v s)
-stored_words s a v w h = record { stack = w.stack; locals = w.locals; fram = put_words s.fram a v w.fram h; readings = w.readings }
+stored_words s a v w h = record { stack = w.stack; locals = w.locals; fram = put_words s.fram a v w.fram h; inputs = w.inputs }
 
 -- a local that is set to a word
 pub local_words : (s : WordState) (n v : ℕ) → IsStateOfWords s → v < 0x10000 → IsStateOfWords (with_local n v s)
 local_words s n v w h =
-    record { stack = w.stack; locals = λ m z q. assigned_by (nat_eq m n) (s.locals m) v z h (w.locals m) q; fram = w.fram; readings = w.readings }
+    record { stack = w.stack; locals = λ m z q. assigned_by (nat_eq m n) (s.locals m) v z h (w.locals m) q; fram = w.fram; inputs = w.inputs }
 
 -- a reading less
-pub reading_words : (s : WordState) (r : ℕ) (rs : List ℕ) → s.readings ≡ r ∷ rs → IsStateOfWords s → IsStateOfWords (record s { readings = rs })
-reading_words s r rs e w = let both = subst AreWords e w.readings in record { stack = w.stack; locals = w.locals; fram = w.fram; readings = both.1 }
-
--- and it is a word
-pub reading_word : (s : WordState) (r : ℕ) (rs : List ℕ) → s.readings ≡ r ∷ rs → IsStateOfWords s → r < 0x10000
-reading_word s r rs e w = let both = subst AreWords e w.readings in both.0
+pub input_words : (s : WordState) (r : ℕ) (left : Inputs) → TakesExactly (Take r ∷ []) s.inputs left → IsStateOfWords s
+    → IsStateOfWords (record s { inputs = left })
+input_words s r left e w = record { stack = w.stack; locals = w.locals; fram = w.fram; inputs = left_are_words (Take r ∷ []) s.inputs left e w.inputs }
 
 -- a place is an address
 pub place_high : (a : ℕ) → is_place a ≡ true → a < 0x10000

@@ -1,9 +1,10 @@
--- What a word program does from a state on: its effects, and how it ends. Both depend on FRAM and the readings at its start.
+-- What a word program does from a state on: its effects, and how it ends. Both depend on FRAM and the inputs at its start.
 use Rattle.std.specs.Prelude.{ℕ, zero, suc, ◌+◌, ◌-◌, ◌*◌, ◌%◌, ◌==◌, ◌&&◌, Bool, nat_eq, nat_lt, if◌then◌else◌, List, [], ◌∷◌, ◌++◌, Option, Some}
 use Rattle.std.specs.Prelude.{None}
 use Rattle.machine_effects.specs.fram_board.Bus.{is_fram}
 use Rattle.machine_effects.specs.fram_board.Effects.{Effect, Store, Take}
 use Rattle.machine_effects.specs.World.{put}
+use Rattle.machine_effects.specs.Inputs.{Inputs}
 use Rattle.array_versions.specs.declared.program.ArrayPlace.{ArrayPlace}
 use Rattle.array_versions.specs.declared.program.ListPlace.{ListPlace}
 use Rattle.array_versions.specs.declared.operations.PlainOperation.{PlainOperation}
@@ -21,11 +22,11 @@ pub record WordState : Type 0 where
   pub stack : List ℕ  -- its top first
   pub locals : ℕ → Option ℕ  -- none: not assigned yet
   pub fram : ℕ → ℕ  -- the word at each even address
-  pub readings : List ℕ  -- the readings that are left
+  pub inputs : Inputs  -- what is ready
 
 -- the state at the start of an attempt: nothing on the stack, and no local assigned
-abbrev pub started : (ℕ → ℕ) → List ℕ → WordState
-started fram readings = record { stack = []; locals = λ n. None; fram = fram; readings = readings }
+abbrev pub started : (ℕ → ℕ) → Inputs → WordState
+started fram inputs = record { stack = []; locals = λ n. None; fram = fram; inputs = inputs }
 
 -- how steps end: behind the last one; by a jump; where a reading is wanted and none is left; where an address isn't that of a
 -- word of FRAM; or where a word is taken from an empty stack, a local is read before it is assigned, or a jump goes to an odd address
@@ -125,10 +126,14 @@ abbrev pub local_updated : PlainOperation → ℕ → ℕ → Option ℕ → Wor
 local_updated op n v None s = broken
 local_updated op n v (Some u) s = goes_on [] (with_local n (plain_word op u v) s)
 
+-- the state with these readings left
+abbrev pub with_readings : List ℕ → WordState → WordState
+with_readings rs s = record s { inputs = record s.inputs { readings = rs } }
+
 -- takes the next reading and pushes it
 abbrev pub reading_pushed : List ℕ → WordState → Behaviour
 reading_pushed [] s = behaves [] Short
-reading_pushed (r ∷ rs) s = goes_on (Take r ∷ []) (pushed r (record s { readings = rs }))
+reading_pushed (r ∷ rs) s = goes_on (Take r ∷ []) (pushed r (with_readings rs s))
 
 -- stores a word
 abbrev pub word_stored : ℕ → ℕ → WordState → Behaviour
@@ -276,7 +281,7 @@ abbrev mutual
   step_behaviour (versioned_read place list) s = with_top s.stack (λ i vs. versioned_pushed place list i (with_stack vs s))
   step_behaviour (versioned_write place list) s = with_two s.stack (λ i v vs. versioned_stored place list i v (with_stack vs s))
   step_behaviour (versioned_update op place list) s = with_two s.stack (λ i v vs. versioned_updated op place list i v (with_stack vs s))
-  step_behaviour sense s = reading_pushed s.readings s
+  step_behaviour sense s = reading_pushed s.inputs.readings s
   step_behaviour (truth t) s = tested t (number_pushed 1) (number_pushed 0) s
   step_behaviour (choose t taken otherwise) s = tested t (behaviour taken) (behaviour otherwise) s
   step_behaviour (repeat n from below body) s = turns (below - from) n from (behaviour body) s

@@ -1,8 +1,9 @@
 -- What holds of the behaviour of word programs.
-use Rattle.std.specs.Prelude.{ℕ, ◌≡◌, ◌+◌, ◌<◌, ◌≤◌, List, ◌++◌, Some}
+use Rattle.std.specs.Prelude.{ℕ, ◌≡◌, ◌+◌, ◌<◌, ◌≤◌, List, Some}
 use Rattle.std.specs.List.{AllByRecursion}
 use Rattle.machine_effects.specs.fram_board.Effects.{Effect}
 use Rattle.machine_effects.specs.World.{fram_after, readings_taken}
+use Rattle.machine_effects.specs.Inputs.{Inputs, InputsAreWords, TakesExactly}
 use Rattle.array_versions.specs.Program.{Program, joined}
 use Rattle.array_versions.specs.Behaviour.{WordState, started, End, GoesOn, Jumps, Short, Strays, Broken, behaviour, then_on}
 use Rattle.array_versions.specs.Form.{IsWhole, OfWords}
@@ -28,11 +29,11 @@ JoinedSpend = (p q : Program) (s : WordState) → spent (joined p q) s ≡ spent
 abbrev pub WaysKeepToCycles : Type 0
 WaysKeepToCycles = (p : Program) (s : WordState) → spent p s ≤ cycles_of p
 
--- FRAM and the readings left at an end are what the effects make of those at the start
+-- FRAM and the inputs left at an end are what the effects make of those at the start
 abbrev pub EndsByEffects : WordState → List Effect → End → Type 0
-EndsByEffects s es (GoesOn t) = (t.fram ≡ fram_after es s.fram) × (readings_taken es ++ t.readings ≡ s.readings)
-EndsByEffects s es (Jumps to t) = (t.fram ≡ fram_after es s.fram) × (readings_taken es ++ t.readings ≡ s.readings)
-EndsByEffects s es Short = readings_taken es ≡ s.readings
+EndsByEffects s es (GoesOn t) = (t.fram ≡ fram_after es s.fram) × TakesExactly es s.inputs t.inputs
+EndsByEffects s es (Jumps to t) = (t.fram ≡ fram_after es s.fram) × TakesExactly es s.inputs t.inputs
+EndsByEffects s es Short = readings_taken es ≡ s.inputs.readings
 EndsByEffects s es Strays = Unit {0}
 EndsByEffects s es Broken = Unit {0}
 
@@ -50,14 +51,14 @@ IsSound Broken = ⊥
 
 -- a whole program jumps, or is short of readings, or comes to an address that isn't in FRAM
 abbrev pub WholeEndsSoundly : Type 0
-WholeEndsSoundly = (p : Program) (fram : ℕ → ℕ) (readings : List ℕ) → IsWhole p → IsSound (behaviour p (started fram readings)).end
+WholeEndsSoundly = (p : Program) (fram : ℕ → ℕ) (inputs : Inputs) → IsWhole p → IsSound (behaviour p (started fram inputs)).end
 
 -- all that a state holds are words
 pub record IsStateOfWords (s : WordState) : Type 0 where
   pub stack : AllByRecursion (λ v. v < 0x10000) s.stack
   pub locals : (n v : ℕ) → s.locals n ≡ Some v → v < 0x10000
   pub fram : (a : ℕ) → s.fram a < 0x10000
-  pub readings : AllByRecursion (λ v. v < 0x10000) s.readings
+  pub inputs : InputsAreWords s.inputs
 
 -- where an end has a state, all in it are words
 abbrev pub EndsInWords : End → Type 0

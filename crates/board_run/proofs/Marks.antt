@@ -1,12 +1,13 @@
 -- Marks on the words of the FRAM.
-use Rattle.std.proofs.Common.{◌≡◌, ◌<◌, ◌≤◌, ◌+◌, arith, ℕ, zero, suc, refl, sym, ◌∙◌, ap, subst, ⊎_elim, Bool, true, false}
+use Rattle.std.proofs.Common.{◌≡◌, ◌<◌, ◌≤◌, ◌+◌, arith, ℕ, zero, suc, Option, Some, None, refl, sym, ◌∙◌, ap, subst, ⊎_elim, Bool, true, false}
 use Rattle.std.proofs.Common.{List, [], ◌∷◌, length, length-set, drop, drop-cons, get_or, slice_index, slice_index_or, slice_set, nat_lt, Contains}
 use Rattle.std.proofs.lemmas.Bool.{cases_eq, cases_lt}
 use Rattle.std.proofs.lemmas.Bool.Decides.{nat_tests}
 use Rattle.std.proofs.lemmas.List.{get_or-set_same, get_or-set_other, ext_get_or}
 use Rattle.std.proofs.lemmas.List.Elements.{Contains-append_cases}
-use Rattle.image_text.specs.address_space.Limits.{fram_words}
-use Rattle.board_run.specs.Shadow.{ShadowValue, IsShadow, IsMarked, AreRest, Covers}
+use Rattle.std.specs.Prelude.{unwrap_or}
+use Rattle.image_text.specs.address_space.Limits.{fram_first, fram_words, place_of}
+use Rattle.board_run.specs.Shadow.{ShadowValue, IsShadow, IsMarked, IsWritten, AreRest, Covers}
 
 -- a mark that is cleared is gone, and none is new
 unset : (xs : List Bool) (i : ℕ) → slice_index_or (slice_set xs i false) i false ≡ false
@@ -162,3 +163,8 @@ pub rest_next : (ws : List ℕ) (ms : List Bool) (fram places : List ℕ) (k pla
 rest_next ws ms fram places k place word len inside is cut r =
     let P : List ℕ → Type 0 = λ xs. AreRest ws ms fram xs in
     rest_put ws ms fram (drop (k + 1) places) place word len inside is (subst P cut r)
+
+-- an instruction wrote a word of the FRAM, by the address that it wrote, or 0
+pub writes_there : (wrote : Option ℕ) → fram_first ≤ unwrap_or wrote 0 → (i : ℕ) × IsWritten wrote i
+writes_there None high = absurd (omega (arith, high))
+writes_there (Some a) high = (place_of a, (high, refl))

@@ -1,5 +1,6 @@
 -- The lines of a transition, part by part.
-use Rattle.std.proofs.Common.{◌≡◌, ℕ, List, [], ◌++◌, ap, sym, subst, ◌∙◌, Option, Result, IsErr, flat_map, true, false, if◌then◌else◌, append-nil}
+use Rattle.std.proofs.Common.{◌≡◌, ℕ, zero, suc, List, [], ◌++◌, refl, arith, ap, ap₂, sym, subst, ◌∙◌, Option, Result, IsErr, flat_map, true, false, not, ◌&&◌, ne_eqb}
+use Rattle.std.proofs.Common.{if◌then◌else◌, append-nil}
 use Rattle.std.specs.Io.KnownBytes.{Appends}
 use Rattle.alp_io.specs.Count.{risen}
 use Rattle.alp_io.specs.Sink.{AppendsProperPrefix, Writes}
@@ -62,3 +63,19 @@ pub decided_gate : (m : MapValue) (h : History) (b : BoardValue) (now : ℕ) →
 decided_gate m h b now e f =
     ap (λ t. record (if t then decided h b else h) { gate = now }) (sym f)
     ∙ ap (λ t. record (if t then completed m h b else (if is_decide h.gate now then decided h b else h)) { gate = now }) (sym e)
+
+-- GATE that is as it was neither decides nor ends anything
+no_event : (gate : ℕ) → (is_done gate gate ≡ false) × (is_decide gate gate ≡ false)
+no_event zero = (refl, refl)
+no_event (suc zero) = (refl, refl)
+no_event (suc (suc n)) =
+    let not_one = ne_eqb (suc (suc n)) 1 (λ e. omega (arith, e)) in
+    (ap₂ (λ p q. p && q) (ne_eqb (suc (suc n)) 0 (λ e. omega (arith, e))) not_one, ap (λ q. q && not q) not_one)
+
+same_gate : (m : MapValue) (h : History) (b : BoardValue) → gated m h b h.gate ≡ h
+same_gate m h b =
+    ap (λ t. record (if t then completed m h b else if is_decide h.gate h.gate then decided h b else h) { gate = h.gate }) (no_event h.gate).0
+    ∙ ap (λ t. record (if t then decided h b else h) { gate = h.gate }) (no_event h.gate).1
+
+pub still_gated : (m : MapValue) (h k : History) (b : BoardValue) (gate : ℕ) → h.gate ≡ gate → h ≡ k → h ≡ gated m k b gate
+still_gated m h k b gate is same = sym (same_gate m h b) ∙ ap (gated m h b) is ∙ ap (λ x. gated m x b gate) same

@@ -1,13 +1,14 @@
 -- What a watch keeps.
-use Rattle.std.specs.Prelude.{◌≡◌, ℕ, ◌+◌, ◌*◌, ◌-◌, ◌<◌, true, List, [], ◌∷◌, ◌++◌, Option, Some, None, option_map}
+use Rattle.std.specs.Prelude.{◌≡◌, ℕ, ◌+◌, ◌*◌, ◌-◌, ◌<◌, Bool, true, List, [], ◌∷◌, ◌++◌, Option, Some, None, option_map}
 use Rattle.image_text.specs.image_map.declared.parts.ValueType.{ValueType}
 use Rattle.image_text.specs.image_map.declared.parts.Variable.{Variable}
 use Rattle.image_text.specs.image_map.MapValue.{MapValue, IsFramWord}
 use Rattle.board_run.specs.declared.state.State.{State}
 use Rattle.board_run.specs.declared.seen.Seen.{Seen}
 use Rattle.board_run.specs.declared.numbers.PlacedNumber.{PlacedNumber}
-use Rattle.board_run.specs.History.{History, SharedNumber, array_words, scalar_number, shared_numbers, values_in, changed_lines}
-use Rattle.board_run.specs.Shadow.{ShadowValue, Covers, CoversBut}
+use Rattle.image_text.specs.address_space.Limits.{place_of}
+use Rattle.board_run.specs.History.{History, SharedNumber, word_in, array_words, scalar_number, shared_numbers, values_in, changed_lines}
+use Rattle.board_run.specs.Shadow.{ShadowValue, IsWritten, Covers, CoversBut}
 
 -- the shared numbers of a map in the words of a shadow
 abbrev pub shared_in : Option MapValue → List ℕ → List ℕ
@@ -61,22 +62,30 @@ HasIndex (v ∷ vs) i = i < number_count v.length
 abbrev pub seen_so : Seen → History
 seen_so s = history_of (option_map (λ m. m.now) s.map) s.state
 
--- with a map, the shadow covers a FRAM
-abbrev pub FollowsBy : Option MapValue → ShadowValue → List ℕ → Type 0
-FollowsBy None s fram = Unit {0}
-FollowsBy (Some m) s fram = Covers s fram
+-- a word is GATE of a FRAM, if GATE is known
+abbrev pub IsGateIfKnown : MapValue → Bool → ℕ → List ℕ → Type 0
+IsGateIfKnown m is_known gate fram = is_known ≡ true → gate ≡ word_in fram m.words.gate
+
+-- the same where an instruction didn't write it
+abbrev pub IsGateUnlessWritten : MapValue → Option ℕ → Bool → ℕ → List ℕ → Type 0
+IsGateUnlessWritten m wrote is_known gate fram = (IsWritten wrote (place_of m.words.gate) → ⊥) → IsGateIfKnown m is_known gate fram
+
+-- with a map, the shadow covers a FRAM, and GATE is known or to be looked at
+abbrev pub FollowsBy : Option MapValue → ShadowValue → Bool → ℕ → List ℕ → Type 0
+FollowsBy None s is_known gate fram = Unit {0}
+FollowsBy (Some m) s is_known gate fram = Covers s fram × IsGateIfKnown m is_known gate fram
 
 -- the same but for the word that an instruction wrote
-abbrev pub FollowsButBy : Option MapValue → Option ℕ → ShadowValue → List ℕ → Type 0
-FollowsButBy None wrote s fram = Unit {0}
-FollowsButBy (Some m) wrote s fram = CoversBut wrote s fram
+abbrev pub FollowsButBy : Option MapValue → Option ℕ → ShadowValue → Bool → ℕ → List ℕ → Type 0
+FollowsButBy None wrote s is_known gate fram = Unit {0}
+FollowsButBy (Some m) wrote s is_known gate fram = CoversBut wrote s fram × IsGateUnlessWritten m wrote is_known gate fram
 
 -- what is seen follows a FRAM
 abbrev pub Follows : Seen → List ℕ → Type 0
-Follows s fram = FollowsBy (option_map (λ m. m.now) s.map) s.state.shadow fram
+Follows s fram = FollowsBy (option_map (λ m. m.now) s.map) s.state.shadow s.state.is_gate_known s.state.gate fram
 
 abbrev pub FollowsBut : Option ℕ → Seen → List ℕ → Type 0
-FollowsBut wrote s fram = FollowsButBy (option_map (λ m. m.now) s.map) wrote s.state.shadow fram
+FollowsBut wrote s fram = FollowsButBy (option_map (λ m. m.now) s.map) wrote s.state.shadow s.state.is_gate_known s.state.gate fram
 
 -- the lines of shared numbers whose words were otherwise before
 abbrev pub told_lines : List ℕ → List ℕ → List SharedNumber → List ℕ

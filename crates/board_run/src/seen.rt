@@ -40,6 +40,7 @@ impl<'a> Seen<'a> {
         ensures follows { (fram : List ℕ) → Follows self.new fram }
     {
         self.state.shadow.mark_all();
+        self.state.is_gate_known = false;
     }
 
     /// The sum of all shared numbers at the last done, modulo 65536; 0 without a map.

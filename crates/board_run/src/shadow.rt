@@ -2,10 +2,9 @@
 ghost use Rattle.std.specs.Prelude.{◌≡◌, ℕ, ◌+◌, ◌*◌, ◌<◌, ◌≤◌, true, false, List, [], All, IfOk, length, replicate, slice_index_or, slice_set};
 ghost use Rattle.image_text.specs.address_space.Limits.{IsFramWord, fram_first, fram_words, place_of};
 ghost use Rattle.board_run.specs.History.{word_in, number_at};
-ghost use Rattle.board_run.specs.Shadow.{HasLengths, IsMarked, IsShadow, AreRest, Covers, CoversBut};
+ghost use Rattle.board_run.specs.Shadow.{HasLengths, IsMarked, IsShadow, IsWritten, AreRest, Covers, CoversBut};
 
 use crate::numbers::long_of;
-use crate::state::word;
 use arrayvec::ArrayVec;
 use fram_board::Board;
 use image_text::address_space::{FRAM_FIRST, FRAM_WORDS, fram_index};
@@ -33,6 +32,8 @@ pub struct Shadow {
     places: ArrayVec<u16, 64>,
     // Whether a place that is marked may be missing in the list.
     full: bool,
+    // Whether all were marked.
+    all: bool,
 }
 
 impl Model for Shadow {
@@ -74,6 +75,14 @@ fn set_all(marks: &mut Vec<bool>, is_marked: bool)
     marks.fill(is_marked);
 }
 
+// Clears all marks.
+fn clear(marks: &mut Vec<bool>)
+    ensures count { length marks.new.items ≡ length marks.old.items }
+    ensures none { (i : ℕ) → slice_index_or marks.new.items i false ≡ true → ⊥ }
+{
+    set_all(marks, false);
+}
+
 // The words at these places, which are those that differ or are marked, become those of the FRAM, and lose their marks.
 fn follow_places(
     words: &mut Vec<u16>,
@@ -81,17 +90,18 @@ fn follow_places(
     blocks: &mut Vec<bool>,
     regions: &mut Vec<bool>,
     places: &[u16],
-    board: &Board,
+    fram: &[u16],
 )
     requires lengths { HasLengths words.old.items marks.old.items blocks.old.items regions.old.items }
     requires inside { All (λ p. p < fram_words) places.now }
-    requires rest { AreRest words.old.items marks.old.items board.now.fram places.now }
+    requires fram { length fram.now ≡ fram_words }
+    requires rest { AreRest words.old.items marks.old.items fram.now places.now }
     ensures lengths { HasLengths words.new.items marks.new.items blocks.new.items regions.new.items }
-    ensures rest { AreRest words.new.items marks.new.items board.now.fram [] }
+    ensures rest { AreRest words.new.items marks.new.items fram.now [] }
 {
     for listed in places {
         let place = usize::from(*listed);
-        words[place] = word(board, FRAM_FIRST + 2 * place as u16);
+        words[place] = fram[place];
         marks[place] = false;
         blocks[place / BLOCK] = false;
         regions[place / REGION] = false;
@@ -111,6 +121,7 @@ impl Shadow {
             regions: no_marks(alloc, REGIONS)?,
             places: ArrayVec::new(),
             full: false,
+            all: false,
         })
     }
 
@@ -177,17 +188,21 @@ impl Shadow {
         }
     }
 
-    /// Marks the word that an instruction wrote, if it stands in the FRAM.
+    /// Marks the word that an instruction wrote, if it stands in the FRAM; answers whether it does.
     #[inline(always)]
-    pub fn note_write(&mut self, wrote: Option<u16>)
+    pub fn note_write(&mut self, wrote: Option<u16>) -> bool
         ensures words { self.new.words ≡ self.old.words }
         ensures covers { (fram : List ℕ) → CoversBut wrote self.old fram → Covers self.new fram }
+        ensures in_fram { result ≡ true → (i : ℕ) × IsWritten wrote i }
+        ensures elsewhere { result ≡ false → (i : ℕ) → IsWritten wrote i → ⊥ }
     {
         // No word of the FRAM stands at 0.
         let address = wrote.unwrap_or(0);
-        if address >= FRAM_FIRST {
-            self.mark(address);
+        if address < FRAM_FIRST {
+            return false;
         }
+        self.mark(address);
+        true
     }
 
     /// Marks all words.
@@ -199,6 +214,7 @@ impl Shadow {
         set_all(&mut self.blocks, true);
         set_all(&mut self.regions, true);
         self.full = true;
+        self.all = true;
     }
 
     // A place behind this one before which none is marked; this one exactly where it is marked itself.
@@ -279,12 +295,11 @@ impl Shadow {
         ensures words { self.new.words ≡ board.now.fram }
         ensures none { (i : ℕ) → IsMarked self.new i → ⊥ }
     {
-        // Tells the proof how long both are.
-        let _taken = board.taken();
+        let fram = board.fram();
         self.whole();
         let mut place = self.next(0, FRAM_WORDS);
         while place < FRAM_WORDS {
-            self.put(place, word(board, FRAM_FIRST + 2 * place as u16));
+            self.put(place, fram[place]);
             place = self.next(place + 1, FRAM_WORDS);
         }
     }
@@ -306,17 +321,26 @@ impl Shadow {
         requires listed { self.old.full ≡ false }
         ensures { self.new.words ≡ board.now.fram }
     {
-        // Tells the proof how long both are.
-        let _taken = board.taken();
         follow_places(
             &mut self.words,
             &mut self.marks,
             &mut self.blocks,
             &mut self.regions,
             self.places.as_slice(),
-            board,
+            board.fram(),
         );
         self.places.clear();
+    }
+
+    // All words become those of the FRAM, and no mark is left.
+    fn follow_all(&mut self, board: &Board)
+        ensures { self.new.words ≡ board.now.fram }
+    {
+        self.whole();
+        self.words.copy_from_slice(board.fram());
+        clear(&mut self.marks);
+        self.forget();
+        self.all = false;
     }
 
     /// The words become those of the FRAM, and no mark is left.
@@ -324,7 +348,9 @@ impl Shadow {
         requires { Covers self.old board.now.fram }
         ensures { self.new.words ≡ board.now.fram }
     {
-        if self.full {
+        if self.all {
+            self.follow_all(board);
+        } else if self.full {
             self.follow_marked(board);
             self.forget();
         } else {

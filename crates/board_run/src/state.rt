@@ -14,6 +14,7 @@ use crate::shadow::Shadow;
 use alp_io::{Failed, Report, Sink};
 use arrayvec::ArrayVec;
 use fram_board::{Board, Stepped};
+use image_text::address_space::fram_index;
 use image_text::{Image, Map, Variable};
 use std::alloc::{AllocError, Global};
 
@@ -22,6 +23,8 @@ use std::alloc::{AllocError, Global};
 pub struct State {
     /// GATE.
     pub gate: u16,
+    /// Whether that is GATE of the board.
+    pub is_gate_known: bool,
     /// How many transitions were completed.
     pub completed: u64,
     /// CUR at the last done.
@@ -44,7 +47,7 @@ pub fn word(board: &Board, address: u16) -> u16
     requires { IsFramWord address }
     ensures { result ≡ word_in board.now.fram address }
 {
-    board.word(address).unwrap()
+    board.fram()[fram_index(address)]
 }
 
 // The number of the FRAM at an address.
@@ -211,13 +214,14 @@ impl State {
     ghost use Rattle.fram_board.specs.Run.{word_list};
     ghost use Rattle.board_run.specs.History.{with_word, with_words, transition_lines, completed, decided, gated, is_done, behind_instruction};
     ghost use Rattle.board_run.specs.History.{instruction_lines, start_with, start_of};
-    ghost use Rattle.board_run.specs.State.{history_of};
+    ghost use Rattle.board_run.specs.State.{history_of, IsGateUnlessWritten};
 
     // A word more was accepted.
     fn keep(&mut self, w: u16)
         ensures history { (m : Option MapValue) → history_of m self.new ≡ with_word (history_of m self.old) w }
         ensures shadow { self.new.shadow ≡ self.old.shadow }
         ensures gate { self.new.gate ≡ self.old.gate }
+        ensures known { self.new.is_gate_known ≡ self.old.is_gate_known }
     {
         if self.accepted.len() < 256 {
             self.accepted.push(w);
@@ -313,18 +317,24 @@ impl State {
         board: &Board,
         report: &mut Report<'_, S>,
     ) -> Result<(), Failed>
-        requires { CoversBut done.now.wrote self.old.shadow board.now.fram }
+        requires covers { CoversBut done.now.wrote self.old.shadow board.now.fram }
+        requires gate { IsGateUnlessWritten map.now done.now.wrote self.old.is_gate_known self.old.gate board.now.fram }
         ensures same_sink { report.new.sink.ghost_name ≡ report.old.sink.ghost_name }
         ensures history { OnOk result (history_of (Some map.now) self.new ≡
             behind_instruction (Some map.now) (history_of (Some map.now) self.old) (word_list done.now.accepted) board.now) }
         ensures covers { OnOk result (Covers self.new.shadow board.now.fram) }
+        ensures gate { OnOk result (self.new.gate ≡ word_in board.now.fram map.now.words.gate) }
         ensures bytes { Writes (S.contents report.old.sink.now) (S.contents report.new.sink.now) result
             (instruction_lines (Some map.now) (history_of (Some map.now) self.old) (word_list done.now.accepted) board.now) }
         ensures cause { HasCause (S.faults report.old.sink.now) (S.faults report.new.sink.now) result }
     {
-        map.rules();
-        self.shadow.note_write(done.wrote);
+        let in_fram = self.shadow.note_write(done.wrote);
         self.keep_accepted(done);
+        if self.is_gate_known && !in_fram {
+            return Ok(());
+        }
+        map.rules();
+        self.is_gate_known = true;
         let now = word(board, map.words().gate);
         self.note_gate(map, now, board, report)
     }
@@ -335,6 +345,7 @@ impl State {
         ensures history { (m : Option MapValue) → history_of m self.new ≡ with_words (history_of m self.old) (word_list done.now.accepted) }
         ensures shadow { self.new.shadow ≡ self.old.shadow }
         ensures gate { self.new.gate ≡ self.old.gate }
+        ensures known { self.new.is_gate_known ≡ self.old.is_gate_known }
     {
         if let Some(w) = done.accepted {
             self.keep(w);
@@ -359,6 +370,7 @@ impl State {
     {
         Ok(State {
             gate: 0,
+            is_gate_known: false,
             completed: 0,
             task: 0,
             shadow: Shadow::of(alloc, image.words())?,

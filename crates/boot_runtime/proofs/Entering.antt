@@ -84,7 +84,7 @@ module _ (code : Code) (tidy : IsTidy code) where
   pub dispatched : (m : MemoryMap) (p q k : ℕ) (ts : List TaskEntry) (u : Core) → AreInFram m → u.pc ≡ p → Stands code p (dispatch m)
       → Stands code (p + 14) (ladder_to q ts)
       → p + 14 + 4 * length ts < 0x10000 → q % 2 ≡ 0 → (entry_at ts k).code % 2 ≡ 0 → u.fram (word_place m CurrentTask) ≡ k → k < length ts
-      → Comes code [] 6 12 u (Enters (rung_at q ts k) stack_top u.fram u.readings_left)
+      → Comes code [] 6 12 u (Enters (rung_at q ts k) stack_top u.fram u.inputs)
   dispatched m p q k ts u places e h r few even code_even c l =
       let hd = task_found m in
       let to = rung_at q ts k in
@@ -101,19 +101,19 @@ module _ (code : Code) (tidy : IsTidy code) where
       let level : u1.work 4 % 2 ≡ 0 = omega (arith, at4) in
       let b : Comes code [] 1 2 u1 (λ v. v ≡ u2) = one_form code tidy (SkipBy R4) u1 u2 [] 2 (λ v. v ≡ u2)
       (ap code there ∙ (stands_back code p hd (SkipBy R4 ∷ []) h).0) level refl refl in
-      let d : Comes code [] 1 3 u2 (Enters to stack_top u.fram u.readings_left) =
+      let d : Comes code [] 1 3 u2 (Enters to stack_top u.fram u.inputs) =
       one_form code tidy (Branch to) u2 u3 [] 3 _ (ap code at_rung ∙ rung_stands code ts (p + 14) q k r l)
       (rung_even (stub_at q ts k) (entry_at ts k).code (entry_at ts k).privates (stub_is_even q ts k even) code_even) refl
-      (record { pc = refl; sp = refl; fram = refl; readings_left = refl }) in
+      (record { pc = refl; sp = refl; fram = refl; inputs = refl }) in
       then_on code 4 2 7 5 u u1 _ [] [] a (then_on code 1 1 2 3 u1 u2 _ [] [] b d)
 
   -- a stub: the private scalars are copied, and to the task's code
   pub copied : (xs : List CopyPair) (p to : ℕ) (u : Core) → u.pc ≡ p → u.sp ≡ stack_top → Stands code p (copies_in xs ++ (Branch to ∷ []))
       → All ArePairWords xs → to % 2 ≡ 0
-      → let es = copied_in xs u.fram in Comes code es (1 + length xs) (3 + 6 * length xs) u (Enters to stack_top (fram_after es u.fram) u.readings_left)
+      → let es = copied_in xs u.fram in Comes code es (1 + length xs) (3 + 6 * length xs) u (Enters to stack_top (fram_after es u.fram) u.inputs)
   copied [] p to u e s h ok even =
       let t : Core = record u { pc = to } in
-      one_form code tidy (Branch to) u t [] 3 _ (ap code e ∙ h.0) even refl (record { pc = refl; sp = s; fram = refl; readings_left = refl })
+      one_form code tidy (Branch to) u t [] 3 _ (ap code e ∙ h.0) even refl (record { pc = refl; sp = s; fram = refl; inputs = refl })
   copied (x ∷ xs) p to u e s h ok even =
       let f = u.fram in
       let g = put f x.copy (f x.home) in
@@ -133,6 +133,6 @@ module _ (code : Code) (tidy : IsTidy code) where
       → All ArePairWords xs → to % 2 ≡ 0
       → let es = copied_in xs u.fram in
       Comes code es (if_any (length xs) 1 + length xs) (if_any (length xs) 3 + 6 * length xs) u
-      (Enters to stack_top (fram_after es u.fram) u.readings_left)
-  entered [] stub to u e s h ok even = nothing code u _ (record { pc = e; sp = s; fram = refl; readings_left = refl })
+      (Enters to stack_top (fram_after es u.fram) u.inputs)
+  entered [] stub to u e s h ok even = nothing code u _ (record { pc = e; sp = s; fram = refl; inputs = refl })
   entered (x ∷ xs) stub to u e s h ok even = copied (x ∷ xs) stub to u e s h ok even

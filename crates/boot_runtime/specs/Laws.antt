@@ -38,13 +38,13 @@ pub record IsBoot (code : Code) (m : MemoryMap) (commit : ℕ) (tasks : List Tas
 -- from the boot's address on, whatever the registers: with GATE 1 it comes to the commit, and does nothing else
 abbrev pub PendingCommitIsFound : Type 0
 PendingCommitIsFound = (code : Code) (m : MemoryMap) (commit : ℕ) (tasks : List TaskEntry) (at : ℕ) (u : Core) → IsBoot code m commit tasks at
-    → u.pc ≡ at → u.fram (word_place m Gate) ≡ 1 → Comes code [] 3 9 u (IsAt commit u.fram u.readings_left)
+    → u.pc ≡ at → u.fram (word_place m Gate) ≡ 1 → Comes code [] 3 9 u (IsAt commit u.fram u.inputs)
 
 -- else to the attempt's start
 abbrev pub AttemptIsFound : Type 0
 AttemptIsFound = (code : Code) (m : MemoryMap) (commit : ℕ) (tasks : List TaskEntry) (at : ℕ) (u : Core) → IsBoot code m commit tasks at
     → u.pc ≡ at → u.fram (word_place m Gate) < 0x10000 → u.fram (word_place m Gate) ≢ 1
-    → Comes code [] 2 6 u (IsAt (start_address at) u.fram u.readings_left)
+    → Comes code [] 2 6 u (IsAt (start_address at) u.fram u.inputs)
 
 -- from the attempt's start on, whatever the registers: where CUR names a task it makes exactly the start, and comes to the task's
 -- code with nothing on the stack, in a number of steps and of cycles that depends on its private scalars alone, and on the version
@@ -56,7 +56,7 @@ StartIsMade = (code : Code) (m : MemoryMap) (commit : ℕ) (tasks : List TaskEnt
     let clears = is_at_end m u.fram in
     let es = start_effects m (privates_in tasks) u.fram in
     Comes code es (start_steps clears m.versions.words (length t.privates)) (start_cycles clears m.versions.words (length t.privates)) u
-    (Enters t.code stack_top (fram_after es u.fram) u.readings_left)
+    (Enters t.code stack_top (fram_after es u.fram) u.inputs)
 
 -- from the boot's address on, whatever the registers: where GATE isn't 1 and VER isn't at its end, the fifth instruction raises VER, and
 -- is the first that stores
@@ -65,7 +65,7 @@ VersionIsRaised = (code : Code) (m : MemoryMap) (commit : ℕ) (tasks : List Tas
     → u.pc ≡ at → u.fram (word_place m Gate) < 0x10000 → u.fram (word_place m Gate) ≢ 1 → u.fram (word_place m Version) < 0xFFFF
     → let raised = u.fram (word_place m Version) + 1 in
     Comes code (Store (word_place m Version) raised ∷ []) 5 16 u
-    (IsAt (start_address at + 36) (put u.fram (word_place m Version) raised) u.readings_left)
+    (IsAt (start_address at + 36) (put u.fram (word_place m Version) raised) u.inputs)
 
 -- a start without clearing takes 33 cycles at most, and 6 for each word of a private scalar, whatever the arrays
 abbrev pub StartsAreShort : Type 0

@@ -17,8 +17,8 @@ use Rattle.task_check.specs.declared.occurrence.Occurrence.{Occurrence}
 use Rattle.task_check.specs.Occurrences.{and_front, expression_names, value_names, statement_names, choice_names, names_up_to, task_names, shared_names}
 use Rattle.task_check.specs.Occurrences.{program_names}
 use Rattle.task_check.specs.Scope.{shared_in}
-use Rattle.checked_trees.specs.Needs.{StatementFits, ChoiceFits, BlockFits}
-use Rattle.checked_trees.specs.Uses.{IsExtentOf, HasItsExtent}
+use Rattle.checked_trees.specs.WellFormed.{IsExtentOf, HasItsExtent}
+use Rattle.checked_trees.proofs.Fits.{StatementFits, ChoiceFits, BlockFits}
 
 -- a name with a type and an extent is that of the declaration of its number
 pub record IsDeclaration (shared : List SharedDeclaration) (n : ℕ) (name : Span) (of : WordType) (e : Extent) : Type 0 where
@@ -96,44 +96,44 @@ value_none types None behind h = h
 value_none types (Some e) behind h = expression_none types e behind h
 
 mutual
-  statement_none : (room : ℕ) (types : Span → WordType) (end : ℕ) (x : Statement Span Span) (behind : List Occurrence) → StatementFits room x
+  statement_none : (types : Span → WordType) (end : ℕ) (x : Statement Span Span) (behind : List Occurrence) → StatementFits x
       → DeclareNone behind → DeclareNone (statement_names types end x behind)
-  statement_none room types end (t.declare of s value) behind f h =
+  statement_none types end (t.declare of s value) behind f h =
       in_front (value_names types value behind) s (role.Local of (length behind) end) (value_none types value behind h) f.0
-  statement_none room types end (t.assign s e) behind f h = in_front (expression_names types e behind) s role.Scalar (expression_none types e behind h) tt
-  statement_none room types end (t.store s index e) behind f h =
+  statement_none types end (t.assign s e) behind f h = in_front (expression_names types e behind) s role.Scalar (expression_none types e behind h) tt
+  statement_none types end (t.store s index e) behind f h =
       element_none types s index (expression_names types index (expression_names types e behind))
       (expression_none types index (expression_names types e behind) (expression_none types e behind h))
-  statement_none room types end (t.choose c) behind f h = choice_none room types c behind f h
-  statement_none room types end (t.loop v from w below u body) behind f h =
+  statement_none types end (t.choose c) behind f h = choice_none types c behind f h
+  statement_none types end (t.loop v from w below u body) behind f h =
       in_front _ v role.Counter
-      (in_front _ w role.Counter (in_front _ u role.Counter (block_none room types (length behind) body behind f.2 h) tt) tt) tt
-  statement_none room types end (t.emit e) behind f h = expression_none types e behind h
-  statement_none room types end (t.transition s) behind f h = in_front behind s role.Target h tt
+      (in_front _ w role.Counter (in_front _ u role.Counter (block_none types (length behind) body behind f.0 h) tt) tt) tt
+  statement_none types end (t.emit e) behind f h = expression_none types e behind h
+  statement_none types end (t.transition s) behind f h = in_front behind s role.Target h tt
 
-  choice_none : (room : ℕ) (types : Span → WordType) (c : Choice Span Span) (behind : List Occurrence) → ChoiceFits room c → DeclareNone behind
+  choice_none : (types : Span → WordType) (c : Choice Span Span) (behind : List Occurrence) → ChoiceFits c → DeclareNone behind
       → DeclareNone (choice_names types c behind)
-  choice_none room types t.nothing behind f h = h
-  choice_none room types (t.otherwise b) behind f h = block_none room types (length behind) b behind f h
-  choice_none room types (t.test e b more) behind f h =
+  choice_none types t.nothing behind f h = h
+  choice_none types (t.otherwise b) behind f h = block_none types (length behind) b behind f h
+  choice_none types (t.test e b more) behind f h =
       let rest = choice_names types more behind in
       expression_none types e (names_up_to types (length rest) b rest)
-      (block_none room types (length rest) b rest f.1 (choice_none room types more behind f.2 h))
+      (block_none types (length rest) b rest f.1 (choice_none types more behind f.2 h))
 
-  block_none : (room : ℕ) (types : Span → WordType) (end : ℕ) (b : Block Span Span) (behind : List Occurrence) → BlockFits room b → DeclareNone behind
+  block_none : (types : Span → WordType) (end : ℕ) (b : Block Span Span) (behind : List Occurrence) → BlockFits b → DeclareNone behind
       → DeclareNone (names_up_to types end b behind)
-  block_none room types end t.end behind f h = h
-  block_none room types end (t.step s more) behind f h =
-      statement_none room types end s (names_up_to types end more behind) f.0 (block_none room types end more behind f.1 h)
+  block_none types end t.end behind f h = h
+  block_none types end (t.step s more) behind f h =
+      statement_none types end s (names_up_to types end more behind) f.0 (block_none types end more behind f.1 h)
 
-tasks_none : (room : ℕ) (types : Span → WordType) (ts : List (Task Span Span)) (behind : List Occurrence) → All (λ task. BlockFits room task.body) ts
+tasks_none : (types : Span → WordType) (ts : List (Task Span Span)) (behind : List Occurrence) → All (λ task. BlockFits task.body) ts
     → DeclareNone behind → DeclareNone (task_names types ts behind)
-tasks_none room types [] behind f h = h
-tasks_none room types (k ∷ more) behind f h =
+tasks_none types [] behind f h = h
+tasks_none types (k ∷ more) behind f h =
     let rest = task_names types more behind in
-    let here = All-head (λ task. BlockFits room task.body) k more f in
-    let others = tasks_none room types more behind (All-tail (λ task. BlockFits room task.body) k more f) h in
-    in_front (names_up_to types (length rest) k.body rest) k.name role.Task (block_none room types (length rest) k.body rest here others) tt
+    let here = All-head (λ task. BlockFits task.body) k more f in
+    let others = tasks_none types more behind (All-tail (λ task. BlockFits task.body) k more f) h in
+    in_front (names_up_to types (length rest) k.body rest) k.name role.Task (block_none types (length rest) k.body rest here others) tt
 
 -- names that declare none, in front of which stand such
 behind_declared : (shared : List SharedDeclaration) (xs front : List Occurrence) → DeclareNone xs → Declared shared front → Declared shared (xs ++ front)
@@ -173,11 +173,11 @@ append_none : (xs : List Occurrence) → xs ++ [] ≡ xs
 append_none [] = refl
 append_none (x ∷ xs) = ap (λ l. x ∷ l) (append_none xs)
 
-pub program_declared : (room : ℕ) (source : List ℕ) (p : Program Span Span) → All HasItsExtent p.shared → All (λ task. BlockFits room task.body) p.tasks
+pub program_declared : (source : List ℕ) (p : Program Span Span) → All HasItsExtent p.shared → All (λ task. BlockFits task.body) p.tasks
     → Declared p.shared (program_names source p)
 unfolding program_names
-program_declared room source p typed f =
+program_declared source p typed f =
     let types = shared_type source p.shared in
     let behind = task_names types p.tasks (and_front [] p.entry role.Target) in
-    let none = tasks_none room types p.tasks (and_front [] p.entry role.Target) f (tt, tt) in
+    let none = tasks_none types p.tasks (and_front [] p.entry role.Target) f (tt, tt) in
     subst (Declared p.shared) (append_none (shared_names p.shared behind)) (shared_declared [] p.shared behind [] typed none tt refl)

@@ -1,6 +1,6 @@
 mod Tokens
+mod Fits
 mod Grammar
-mod Sources
 mod Declared
 mod Symbols
 mod NameTypes
@@ -8,7 +8,6 @@ mod Widths
 mod Walk
 mod Tasks
 mod Paths
-mod Loops
 mod Written
 mod Checked
 pub mod Interface

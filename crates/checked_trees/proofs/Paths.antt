@@ -1,5 +1,6 @@
 -- Paths: each part of a task has one, and what a path leaves unassigned.
-use Rattle.std.proofs.Common.{◌≡◌, ℕ, zero, suc, ◌-◌, Bool, true, false, List, [], ◌∷◌, ◌++◌, Some, None, refl, ap, subst, ◌∙◌, if◌then◌else◌}
+use Rattle.std.proofs.Common.{◌≡◌, ℕ, zero, suc, ◌-◌, Bool, true, false, List, [], ◌∷◌, ◌++◌, Some, None, refl, sym, ap, subst, ◌∙◌, if◌then◌else◌}
+use Rattle.alp_text.specs.declared.lines.Span.{Span}
 use Rattle.task_ast.specs.Tree as t
 use Rattle.task_ast.specs.Paths.{CheckedExpression, CheckedStatement, CheckedChoice, CheckedBlock, Access, read, write, unset, End, goes_on, goes_to}
 use Rattle.task_ast.specs.Paths.{ExpressionPath, StatementPath, ChoicePath, TurnsPath, BlockPath}
@@ -8,7 +9,7 @@ use Rattle.task_ast.specs.declared.names.Variable.{Variable}
 use Rattle.task_ast.specs.declared.names.Variable.TheVariants.{Shared, Local}
 use Rattle.task_ast.specs.declared.names.VariableName.{VariableName}
 use Rattle.path_checks.specs.Loops.{is_local}
-use Rattle.path_checks.specs.Unassigned.{is_unassigned}
+use Rattle.path_checks.specs.Unassigned.{is_unassigned, ReadsUnassigned}
 
 -- ---- each part has a path
 
@@ -128,7 +129,7 @@ pub behind_expression : (u : ℕ → Bool) (e : CheckedExpression) (ys : List Ac
 behind_expression u e ys = behind_both u (names_read e) ys ∙ ap (λ v. behind v ys) (behind_names u e)
 
 -- the same as the checks see it
-pub behind_is : (u : ℕ → Bool) (xs : List Access) (x : ℕ) → behind u xs x ≡ is_unassigned (u x) x xs
+behind_is : (u : ℕ → Bool) (xs : List Access) (x : ℕ) → behind u xs x ≡ is_unassigned (u x) x xs
 behind_is u [] x = refl
 behind_is u (read n ∷ xs) x = behind_is u xs x
 behind_is u (write n ∷ xs) x = behind_is (written u n) xs x
@@ -158,12 +159,12 @@ pub safe_expression : (u : ℕ → Bool) (e : CheckedExpression) (ys : List Acce
 safe_expression u e ys h = let r = safe_both u (names_read e) ys h in (r.0, subst (λ v. Safe v ys) (behind_names u e) r.1)
 
 -- no local is read in these accesses while it is unassigned
-abbrev pub ReadsNone : (ℕ → Bool) → List Access → Type 0
+abbrev ReadsNone : (ℕ → Bool) → List Access → Type 0
 ReadsNone u xs =
     (before : List Access) (n : VariableName) (more : List Access)
     (x : ℕ) → xs ≡ before ++ read n ∷ more → n.variable ≡ Local x → behind u before x ≡ true → ⊥
 
-pub safe_of : (u : ℕ → Bool) (xs : List Access) → ReadsNone u xs → Safe u xs
+safe_of : (u : ℕ → Bool) (xs : List Access) → ReadsNone u xs → Safe u xs
 safe_of u [] none = tt
 safe_of u (read n ∷ xs) none = (here n.variable refl, safe_of u xs (λ before m more x e. none (read n ∷ before) m more x (ap (λ ys. read n ∷ ys) e)))
   where
@@ -176,3 +177,17 @@ safe_of u (read n ∷ xs) none = (here n.variable refl, safe_of u xs (λ before 
     here (Local x) is = assigned x (u x) is refl
 safe_of u (write n ∷ xs) none = safe_of (written u n) xs (λ before m more x e. none (write n ∷ before) m more x (ap (λ ys. write n ∷ ys) e))
 safe_of u (unset n ∷ xs) none = safe_of (forgotten u n) xs (λ before m more x e. none (unset n ∷ before) m more x (ap (λ ys. unset n ∷ ys) e))
+
+-- no path of a task reads an unassigned local
+pub safe_paths : (b : CheckedBlock) → ((s : Span) → ReadsUnassigned b s → ⊥) → (xs : List Access) (end : End) → BlockPath b xs end → Safe (λ x. true) xs
+safe_paths b none xs end q = safe_of (λ x. true) xs (λ before n more x cut is unassigned. none n.span (record {
+  x = x;
+  name = n;
+  is_x = is;
+  place = refl;
+  before = before;
+  after = more;
+  end = end;
+  path = subst (λ ys. BlockPath b ys end) cut q;
+  unassigned = sym (behind_is (λ x. true) before x) ∙ unassigned;
+}))

@@ -27,7 +27,7 @@ use Rattle.task_check.specs.Scope.{or_global}
 use Rattle.task_check.specs.Scope.{meaning}
 use Rattle.task_check.specs.LookedUp.{symbol_by, behind, symbol_at}
 use Rattle.task_check.specs.Faults.{line_at, first_fault, limit_fault, is_too_many}
-use Rattle.checked_trees.specs.Uses.{IsOfType}
+use Rattle.checked_trees.specs.WellFormed.{IsOfType}
 use Rattle.checked_trees.proofs.Declared.{IsDeclaration, DeclaresOf, Declared}
 
 -- a symbol is of a shared variable as it was declared, or of one of 256 locals, and its type is that of one

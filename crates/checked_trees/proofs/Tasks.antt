@@ -1,7 +1,7 @@
--- The names of each task are used as they were declared, and its operators have operands of their types.
-use Rattle.std.proofs.Common.{◌≡◌, ℕ, ◌&&◌, not, Bool, false, List, [], ◌∷◌, ◌++◌, length, map, Some, None, All, refl, sym, ap, ◌∙◌, subst, append_assoc}
-use Rattle.std.proofs.Common.{append-nil, inl, inr}
-use Rattle.std.proofs.lemmas.List.Elements.{All-nil, All-cons}
+-- The statements of each task are well-formed.
+use Rattle.std.proofs.Common.{◌≡◌, ℕ, ◌+◌, ◌≤◌, ◌&&◌, not, max, Bool, true, false, List, [], ◌∷◌, ◌++◌, length, map, Some, None, All, refl}
+use Rattle.std.proofs.Common.{sym, ap, ap₂, ◌∙◌, subst, append_assoc, append-nil, inl, inr}
+use Rattle.std.proofs.lemmas.List.Elements.{All-nil, All-cons, All-head, All-tail}
 use Rattle.alp_text.specs.declared.lines.Span.{Span}
 use Rattle.task_ast.specs.declared.SharedDeclaration.{SharedDeclaration}
 use Rattle.task_ast.specs.declared.names.Variable.{Variable}
@@ -25,12 +25,13 @@ use Rattle.task_check.specs.Occurrences.{operator_role, count_role, element_fron
 use Rattle.task_check.specs.Occurrences.{and_front, expression_names, statement_names, choice_names, names_up_to, task_names, shared_names, program_names}
 use Rattle.task_check.specs.LookedUp.{expression_back, statement_back, choice_back, block_back, task_back, expression_variables}
 use Rattle.task_check.specs.LookedUp.{statement_variables, choice_variables, block_variables, task_variables}
-use Rattle.checked_trees.specs.Uses.{IsWordName, IsLocal, ExpressionUses, StatementUses, ChoiceUses, BlockUses}
-use Rattle.checked_trees.specs.UseLaws.{NamesAreUsedAsDeclared}
-use Rattle.checked_trees.specs.StackLaws.{enough}
+use Rattle.source_meaning.specs.Acceptance.{Checks}
+use Rattle.checked_trees.specs.WellFormed.{IsWordName, IsLocal, stack_words, enough, HasRoom, WellFormedExpression, WellFormedStatement}
+use Rattle.checked_trees.specs.WellFormed.{WellFormedChoice, WellFormedBlock}
+use Rattle.checked_trees.proofs.Tokens.{are_sound}
 use Rattle.checked_trees.proofs.Declared.{program_declared}
-use Rattle.checked_trees.proofs.Grammar.{program_typed}
-use Rattle.checked_trees.proofs.Sources.{tree_fits}
+use Rattle.checked_trees.proofs.Grammar.{program_fits, program_typed}
+use Rattle.checked_trees.proofs.Fits.{IsOfWords, StatementFits, ChoiceFits, BlockFits}
 use Rattle.checked_trees.proofs.Walk.{array, named, operands, use_of, uses_in, AreUsed, AreClean, variables_used}
 use Rattle.checked_trees.proofs.Widths.{IsAsWide, one_word_of, joined_as_wide, unary_as_wide, binary_as_wide, not_refused}
 
@@ -41,6 +42,21 @@ uses_append (o ∷ xs) ys = ap (λ l. l ++ use_of o.span o.role) (uses_append xs
 -- one more name in front
 front_uses : (behind : List Occurrence) (s : Span) (r : Role) → uses_in (and_front behind s r) ≡ use_of s r ++ uses_in behind
 front_uses behind s r = uses_append behind (record { span = s; role = r } ∷ [])
+
+-- the names that are looked up change nothing on the stack
+same_words : (e : CheckedExpression) → stack_words (expression_back e) ≡ stack_words e
+same_words (t.number w) = refl
+same_words (t.long_number w) = refl
+same_words (t.name x) = refl
+same_words (t.element x index) = same_words index
+same_words t.sense = refl
+same_words (t.unary op e) = ap (λ n. n + 2) (same_words e)
+same_words (t.binary op a b) = ap₂ (λ m n. max m (n + 2)) (same_words a) (same_words b)
+same_words (t.shift op e count) = same_words e
+same_words (t.short_circuit op a b) = ap₂ max (same_words a) (same_words b)
+
+has_room : (beneath : ℕ) (e : CheckedExpression) → HasRoom beneath (expression_back e) → HasRoom beneath e
+has_room beneath e h = subst (λ n. n + beneath ≤ enough) (same_words e) h
 
 module _ (shared : List SharedDeclaration) (types : Span → WordType) where
   -- the first of these names and the others, by the uses of the names
@@ -60,45 +76,46 @@ module _ (shared : List SharedDeclaration) (types : Span → WordType) where
   abbrev IsTyped : CheckedExpression → Type 0
   IsTyped e = IsAsWide (type_of e) (expression_type types (expression_back e))
 
-  expression_split : (e : CheckedExpression) (behind : List Occurrence) (vs : List TypedVariable)
+  -- an expression of words, by the uses of its names, and what is behind it
+  expression_split : (e : CheckedExpression) (behind : List Occurrence) (vs : List TypedVariable) → IsOfWords (expression_back e)
       → AreUsed shared types (uses_in (expression_names types (expression_back e) behind)) (expression_variables e vs)
-      → ExpressionUses shared e × IsTyped e × AreUsed shared types (uses_in behind) vs
-  expression_split (t.number n) behind vs h = (tt, λ w. w, h)
-  expression_split (t.long_number n) behind vs h = (tt, λ w. w, h)
-  expression_split (t.name v) behind vs h =
+      → WellFormedExpression shared e × IsTyped e × AreUsed shared types (uses_in behind) vs
+  expression_split (t.number n) behind vs w h = (w, λ e. e, h)
+  expression_split (t.long_number n) behind vs w h = (w, λ e. e, h)
+  expression_split (t.name v) behind vs w h =
       let a = step_front behind v.span role.Scalar _ h in
       ((a.0.0, a.0.1), a.0.2, a.1)
-  expression_split (t.element v index) behind vs h =
+  expression_split (t.element v index) behind vs w h =
       let inner = expression_back index in
       let a = element_split v.span inner (expression_names types inner behind) _ h in
-      let b = expression_split index behind vs a.1.1 in
+      let b = expression_split index behind vs w a.1.1 in
       let word = one_word_of (type_of index) (expression_type types inner) b.1 a.1.0 in
       ((a.0.0, b.0, a.0.1, word), a.0.2, b.2)
-  expression_split t.sense behind vs h = (tt, λ w. w, h)
-  expression_split (t.unary op a) behind vs h =
-      let x = expression_split a behind vs h in
+  expression_split t.sense behind vs w h = (tt, λ e. e, h)
+  expression_split (t.unary op a) behind vs w h =
+      let x = expression_split a behind vs w h in
       (x.0, unary_as_wide op (type_of a) (expression_type types (expression_back a)) x.1, x.2)
-  expression_split (t.binary op a b) behind vs h =
+  expression_split (t.binary op a b) behind vs w h =
       let s = expression_type types (expression_back a) in
       let u = expression_type types (expression_back b) in
       let here = operator_role op.operator (joined_type s u) in
       let second = expression_names types (expression_back b) behind in
-      let l = expression_split a (and_front second op.span here) (expression_variables b vs) h in
+      let l = expression_split a (and_front second op.span here) (expression_variables b vs) w.0 h in
       let m = step_front second op.span here _ l.2 in
-      let r = expression_split b behind vs m.1 in
+      let r = expression_split b behind vs w.1 m.1 in
       let wide = joined_as_wide (type_of a) (type_of b) s u l.1 r.1 in (
         (l.0, r.0, not_refused op.operator (joined_type (type_of a) (type_of b)) (joined_type s u) wide m.0),
         binary_as_wide op.operator (type_of a) (type_of b) s u l.1 r.1,
         r.2,
       )
-  expression_split (t.shift op a count) behind vs h =
+  expression_split (t.shift op a count) behind vs w h =
       let here = count_role count.value (expression_type types (expression_back a)) in
-      let l = expression_split a (and_front behind count.span here) vs h in
-      (l.0, l.1, (step_front behind count.span here vs l.2).1)
-  expression_split (t.short_circuit op a b) behind vs h =
-      let l = expression_split a (expression_names types (expression_back b) behind) (expression_variables b vs) h in
-      let r = expression_split b behind vs l.2 in
-      ((l.0, r.0), λ w. w, r.2)
+      let l = expression_split a (and_front behind count.span here) vs w.0 h in
+      ((l.0, w.1), l.1, (step_front behind count.span here vs l.2).1)
+  expression_split (t.short_circuit op a b) behind vs w h =
+      let l = expression_split a (expression_names types (expression_back b) behind) (expression_variables b vs) w.0 h in
+      let r = expression_split b behind vs w.1 l.2 in
+      ((l.0, r.0), λ e. e, r.2)
 
   -- the variable of a loop that is no bad one is a local
   loop_local : (a b c : VariableName) (body : CheckedBlock) → (is_good_loop a b c body ≡ false → ⊥) → IsWordName shared a.variable → IsLocal a.variable
@@ -108,90 +125,110 @@ module _ (shared : List SharedDeclaration) (types : Span → WordType) where
       by (Shared n) y z k none h = absurd (none refl)
       by (Local n) y z k none h = h
 
+  -- which its body leaves alone
+  body_spares : (a b c : VariableName) (body : CheckedBlock) → (is_good_loop a b c body ≡ false → ⊥) → block_assigns a.variable body ≡ false
+  body_spares a b c body none =
+      by (is_same_local a.variable b.variable && is_same_local a.variable c.variable) (block_assigns a.variable body) none
+    where
+      by : (x k : Bool) → ((x && not k) ≡ false → ⊥) → k ≡ false
+      by true true none = absurd (none refl)
+      by false true none = absurd (none refl)
+      by x false none = refl
+
   mutual
-    statement_split : (end : ℕ) (x : CheckedStatement) (behind : List Occurrence) (vs : List TypedVariable)
+    statement_split : (end : ℕ) (x : CheckedStatement) (behind : List Occurrence) (vs : List TypedVariable) → StatementFits (statement_back x)
         → ((s : Span) → BadLoopInStatement x s → ⊥)
         → AreUsed shared types (uses_in (statement_names types end (statement_back x) behind)) (statement_variables x vs)
-        → StatementUses shared x × AreUsed shared types (uses_in behind) vs
-    statement_split end (t.declare of v None) behind vs none h =
+        → WellFormedStatement shared x × AreUsed shared types (uses_in behind) vs
+    statement_split end (t.declare of v None) behind vs f none h =
         let a = step_front behind v.span (role.Local of (length behind) end) _ h in
         (a.0.0, a.1)
-    statement_split end (t.declare of v (Some e)) behind vs none h =
+    statement_split end (t.declare of v (Some e)) behind vs f none h =
         let a = step_front (expression_names types (expression_back e) behind) v.span (role.Local of (length behind) end) _ h in
-        let b = expression_split e behind vs a.1 in
-        ((a.0.0, b.0, a.0.1), b.2)
-    statement_split end (t.assign v e) behind vs none h =
+        let b = expression_split e behind vs f.1.0 a.1 in
+        ((a.0.0, b.0, a.0.1, has_room 0 e f.1.1), b.2)
+    statement_split end (t.assign v e) behind vs f none h =
         let a = step_front (expression_names types (expression_back e) behind) v.span role.Scalar _ h in
-        let b = expression_split e behind vs a.1 in
-        ((a.0.0, b.0, a.0.1), b.2)
-    statement_split end (t.store v index e) behind vs none h =
+        let b = expression_split e behind vs f.0 a.1 in
+        ((a.0.0, b.0, a.0.1, has_room 0 e f.1), b.2)
+    statement_split end (t.store v index e) behind vs f none h =
         let inner = expression_back index in
         let a = element_split v.span inner (expression_names types inner (expression_names types (expression_back e) behind)) _ h in
-        let b = expression_split index (expression_names types (expression_back e) behind) (expression_variables e vs) a.1.1 in
-        let c = expression_split e behind vs b.2 in
-        ((a.0.0, b.0, c.0, one_word_of (type_of index) (expression_type types inner) b.1 a.1.0), c.2)
-    statement_split end (t.choose c) behind vs none h = choice_split c behind vs none h
-    statement_split end (t.loop v from w below u body) behind vs none h =
+        let b = expression_split index (expression_names types (expression_back e) behind) (expression_variables e vs) f.0.0 a.1.1 in
+        let c = expression_split e behind vs f.1.0 b.2 in
+        let word = one_word_of (type_of index) (expression_type types inner) b.1 a.1.0 in
+        ((a.0.0, b.0, c.0, word, has_room 0 index f.0.1, has_room 1 e f.1.1), c.2)
+    statement_split end (t.choose c) behind vs f none h = choice_split c behind vs f none h
+    statement_split end (t.loop v from w below u body) behind vs f none h =
         let inner = names_up_to types (length behind) (block_back body) behind in
         let a = step_front (and_front (and_front inner u.span role.Counter) w.span role.Counter) v.span role.Counter _ h in
         let b = step_front (and_front inner u.span role.Counter) w.span role.Counter _ a.1 in
         let c = step_front inner u.span role.Counter _ b.1 in
-        let d = block_split (length behind) body behind vs (λ s x. none s (inr x)) c.1 in
-        ((loop_local v w u body (λ e. none v.span (inl (refl, e))) a.0.0, d.0), d.1)
-    statement_split end (t.emit e) behind vs none h = let a = expression_split e behind vs h in (a.0, a.2)
-    statement_split end (t.transition n) behind vs none h = (tt, step_front behind n.span role.Target vs h)
+        let d = block_split (length behind) body behind vs f.0 (λ s x. none s (inr x)) c.1 in
+        let good : is_good_loop v w u body ≡ false → ⊥ = λ e. none v.span (inl (refl, e)) in
+        ((loop_local v w u body good a.0.0, d.0, f.1, f.2, body_spares v w u body good), d.1)
+    statement_split end (t.emit e) behind vs f none h = let a = expression_split e behind vs f.0 h in ((a.0, has_room 0 e f.1), a.2)
+    statement_split end (t.transition n) behind vs f none h = (tt, step_front behind n.span role.Target vs h)
 
-    choice_split : (c : CheckedChoice) (behind : List Occurrence) (vs : List TypedVariable) → ((s : Span) → BadLoopInChoice c s → ⊥)
-        → AreUsed shared types (uses_in (choice_names types (choice_back c) behind)) (choice_variables c vs) → ChoiceUses shared c
+    choice_split : (c : CheckedChoice) (behind : List Occurrence) (vs : List TypedVariable) → ChoiceFits (choice_back c)
+        → ((s : Span) → BadLoopInChoice c s → ⊥)
+        → AreUsed shared types (uses_in (choice_names types (choice_back c) behind)) (choice_variables c vs) → WellFormedChoice shared c
         × AreUsed shared types (uses_in behind) vs
-    choice_split t.nothing behind vs none h = (tt, h)
-    choice_split (t.otherwise b) behind vs none h = block_split (length behind) b behind vs none h
-    choice_split (t.test e b more) behind vs none h =
+    choice_split t.nothing behind vs f none h = (tt, h)
+    choice_split (t.otherwise b) behind vs f none h = block_split (length behind) b behind vs f none h
+    choice_split (t.test e b more) behind vs f none h =
         let rest = choice_names types (choice_back more) behind in
-        let x = expression_split e (names_up_to types (length rest) (block_back b) rest) (block_variables b (choice_variables more vs)) h in
-        let y = block_split (length rest) b rest (choice_variables more vs) (λ s i. none s (inl i)) x.2 in
-        let z = choice_split more behind vs (λ s i. none s (inr i)) y.1 in
-        ((x.0, y.0, z.0), z.1)
+        let x = expression_split e (names_up_to types (length rest) (block_back b) rest) (block_variables b (choice_variables more vs)) f.0.0 h in
+        let y = block_split (length rest) b rest (choice_variables more vs) f.1 (λ s i. none s (inl i)) x.2 in
+        let z = choice_split more behind vs f.2 (λ s i. none s (inr i)) y.1 in
+        ((x.0, y.0, z.0, has_room 0 e f.0.1), z.1)
 
-    block_split : (end : ℕ) (b : CheckedBlock) (behind : List Occurrence) (vs : List TypedVariable) → ((s : Span) → BadLoopIn b s → ⊥)
-        → AreUsed shared types (uses_in (names_up_to types end (block_back b) behind)) (block_variables b vs) → BlockUses shared b
+    block_split : (end : ℕ) (b : CheckedBlock) (behind : List Occurrence) (vs : List TypedVariable) → BlockFits (block_back b)
+        → ((s : Span) → BadLoopIn b s → ⊥)
+        → AreUsed shared types (uses_in (names_up_to types end (block_back b) behind)) (block_variables b vs) → WellFormedBlock shared b
         × AreUsed shared types (uses_in behind) vs
-    block_split end t.end behind vs none h = (tt, h)
-    block_split end (t.step x more) behind vs none h =
-        let a = statement_split end x (names_up_to types end (block_back more) behind) (block_variables more vs) (λ s i. none s (inl i)) h in
-        let b = block_split end more behind vs (λ s i. none s (inr i)) a.1 in
+    block_split end t.end behind vs f none h = (tt, h)
+    block_split end (t.step x more) behind vs f none h =
+        let a = statement_split end x (names_up_to types end (block_back more) behind) (block_variables more vs) f.0 (λ s i. none s (inl i)) h in
+        let b = block_split end more behind vs f.1 (λ s i. none s (inr i)) a.1 in
         ((a.0, b.0), b.1)
 
   tasks_split : (ks : List (Task VariableName TaskName)) (behind : List Occurrence) (vs : List TypedVariable)
-      → ((s : Span) → SomeTask ks (λ task. BadLoopIn task.body s) → ⊥)
-      → AreUsed shared types (uses_in (task_names types (map task_back ks) behind)) (task_variables ks vs) → All (λ task. BlockUses shared task.body) ks
-  tasks_split [] behind vs none h = All-nil (λ task. BlockUses shared task.body)
-  tasks_split (k ∷ more) behind vs none h =
+      → All (λ task. BlockFits task.body) (map task_back ks) → ((s : Span) → SomeTask ks (λ task. BadLoopIn task.body s) → ⊥)
+      → AreUsed shared types (uses_in (task_names types (map task_back ks) behind)) (task_variables ks vs)
+      → All (λ task. WellFormedBlock shared task.body) ks
+  tasks_split [] behind vs f none h = All-nil (λ task. WellFormedBlock shared task.body)
+  tasks_split (k ∷ more) behind vs f none h =
       let rest = task_names types (map task_back more) behind in
+      let here = All-head (λ task. BlockFits task.body) (task_back k) (map task_back more) f in
+      let others = All-tail (λ task. BlockFits task.body) (task_back k) (map task_back more) f in
       let a = step_front (names_up_to types (length rest) (block_back k.body) rest) k.name role.Task _ h in
-      let b = block_split (length rest) k.body rest (task_variables more vs) (λ s i. none s (inl i)) a in
-      All-cons (λ task. BlockUses shared task.body) k more b.0 (tasks_split more behind vs (λ s i. none s (inr i)) b.1)
+      let b = block_split (length rest) k.body rest (task_variables more vs) here (λ s i. none s (inl i)) a in
+      All-cons (λ task. WellFormedBlock shared task.body) k more b.0 (tasks_split more behind vs others (λ s i. none s (inr i)) b.1)
 
 shared_uses : (ds : List SharedDeclaration) (behind : List Occurrence) → uses_in (shared_names ds behind) ≡ uses_in behind
 shared_uses [] behind = refl
 shared_uses (d ∷ more) behind = front_uses (shared_names more behind) d.name (role.Shared d.word_type d.extent) ∙ shared_uses more behind
 
--- each name is used as it is declared
-pub names_are_used_as_declared : NamesAreUsedAsDeclared
+-- the statements of each task of a source that no check refuses are well-formed
+pub statements_are_well_formed : (text : List ℕ) (program : Program VariableName TaskName) → Checks text program
+    → All (λ task. WellFormedBlock program.shared task.body) program.tasks
 unfolding program_names
-names_are_used_as_declared text p checks =
+statements_are_well_formed text p checks =
     let tree = checks.tree in
     let h = checks.checks in
     let e = h.named.looked_up.places in
     let names = program_names text tree in
     let clean : AreClean text names names = record { names = h.named.names; uses = h.named.uses; limits = h.limits } in
-    let typed = program_typed checks.parses.words tree checks.parses.grammar in
-    let declared = program_declared enough text tree typed (tree_fits text p checks) in
+    let words = checks.parses.words in
+    let fits = program_fits words tree checks.parses.grammar (are_sound text words checks.parses.lexes) in
+    let declared = program_declared text tree (program_typed words tree checks.parses.grammar) fits in
     let used = variables_used text tree.shared names names declared declared clean in
     let on = subst (λ vs. AreUsed tree.shared (shared_type text tree.shared) (uses_in names) vs) (sym h.named.looked_up.variables) used in
     let back =
     subst (λ q. AreUsed q.shared (shared_type text q.shared) (uses_in (program_names text q)) (task_variables p.tasks [])) (sym e) on in
     let types = shared_type text p.shared in
     let behind = task_names types (map task_back p.tasks) (and_front [] p.entry.span role.Target) in
-    tasks_split p.shared types p.tasks (and_front [] p.entry.span role.Target) [] h.paths.loops
+    tasks_split p.shared types p.tasks (and_front [] p.entry.span role.Target) []
+    (subst (λ q. All (λ task. BlockFits task.body) q.tasks) (sym e) fits) h.paths.loops
     (subst (λ us. AreUsed p.shared types us (task_variables p.tasks [])) (shared_uses p.shared behind) back)

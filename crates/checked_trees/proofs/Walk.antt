@@ -19,7 +19,7 @@ use Rattle.task_check.specs.Faults.{line_at, first_fault, is_repeated, is_unknow
 use Rattle.task_check.specs.Faults.{limit_fault}
 use Rattle.task_check.specs.SharedTypes.{type_in, shared_type}
 use Rattle.task_check.proofs.Interface.{no_fault, no_name_fault}
-use Rattle.checked_trees.specs.Uses.{IsWordName, IsArrayName, IsLocal, IsOfType}
+use Rattle.checked_trees.specs.WellFormed.{IsWordName, IsArrayName, IsLocal, IsOfType}
 use Rattle.checked_trees.proofs.Declared.{Declared}
 use Rattle.checked_trees.proofs.Symbols.{AreSound, Few, front_clean, here_clean, symbol_sound}
 use Rattle.checked_trees.proofs.NameTypes.{Typed, symbol_typed, as_wide}

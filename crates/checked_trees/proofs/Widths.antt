@@ -1,5 +1,11 @@
 -- Which types are long where others are.
-use Rattle.std.proofs.Common.{◌≡◌, true, false, refl}
+use Rattle.std.proofs.Common.{◌≡◌, true, false, List, Option, Some, None, refl}
+use Rattle.std.specs.Prelude.{slice_get, IsSomeAnd}
+use Rattle.task_ast.specs.declared.Extent.{Extent}
+use Rattle.task_ast.specs.declared.Extent.TheVariants as extent
+use Rattle.task_ast.specs.declared.SharedDeclaration.{SharedDeclaration}
+use Rattle.task_ast.specs.declared.names.Variable.{Variable}
+use Rattle.task_ast.specs.declared.names.Variable.TheVariants.{Shared, Local}
 use Rattle.task_ast.specs.declared.WordType.{WordType}
 use Rattle.task_ast.specs.declared.WordType.TheVariants.{Unsigned, Int, Long}
 use Rattle.task_ast.specs.declared.UnaryOperator.{UnaryOperator}
@@ -8,6 +14,9 @@ use Rattle.task_ast.specs.declared.BinaryOperator.{BinaryOperator}
 use Rattle.task_ast.specs.declared.BinaryOperator.TheVariants.{Multiply, Divide, Remainder, Add, Subtract, And, Xor, Or}
 use Rattle.task_ast.specs.Types.{is_long, IsOneWord, joined_type, quotient_type, binary_type, unary_type}
 use Rattle.task_check.specs.Occurrences.{is_refused}
+use Rattle.source_values.specs.Runs.{is_long_extent}
+use Rattle.war_analysis.specs.Plans.{is_scalar}
+use Rattle.checked_trees.specs.WellFormed.{IsOfType, IsLocal, IsArrayName}
 
 -- where the first type is long, the second is
 abbrev pub IsAsWide : WordType → WordType → Type 0
@@ -78,3 +87,26 @@ not_refused Multiply s t h e = not_long s t h e
 not_refused Divide s t h e = not_long s t h e
 not_refused Remainder s t h e = not_long s t h e
 not_refused _ s t h e = refl
+
+-- ---- names of a type
+
+-- an array isn't long
+pub array_word : (shared : List SharedDeclaration) (of : WordType) (x : Variable) → IsArrayName shared x → IsOfType shared of x → IsOneWord of
+array_word shared Int x h t = tt
+array_word shared Unsigned x h t = tt
+array_word shared Long (Local n) h t = absurd h
+array_word shared Long (Shared v) h t = by (slice_get shared v) h t
+  where
+    no_array : (e : Extent) → is_scalar e ≡ false → is_long_extent e ≡ true → ⊥
+    no_array (extent.Scalar w) h t = let never : true ≡ false = h in cc
+    no_array (extent.Long n) h t = let never : true ≡ false = h in cc
+    no_array (extent.Array n) h t = let never : false ≡ true = t in cc
+
+    by : (o : Option SharedDeclaration) → IsSomeAnd o (λ d. is_scalar d.extent ≡ false) → IsSomeAnd o (λ d. is_long_extent d.extent ≡ true) → ⊥
+    by None h t = h
+    by (Some d) h t = no_array d.extent h t
+
+-- nor is a local
+pub local_word : (shared : List SharedDeclaration) (of : WordType) (x : Variable) → IsLocal x → IsOfType shared of x → IsOneWord of
+local_word shared of (Shared v) h t = absurd h
+local_word shared of (Local n) h t = t

@@ -13,7 +13,7 @@ use Rattle.path_sums.specs.Access.{is_same, summary, summary_unit, summary_read,
 use Rattle.path_sums.specs.Reaches.{statement_falls_through, choice_falls_through, block_falls_through}
 use Rattle.path_sums.specs.declared.access.AccessSummary.{AccessSummary}
 use Rattle.cost_bound.specs.Counts.{is_shared, statement_assigns, choice_assigns, block_assigns}
-use Rattle.checked_trees.specs.Uses.{IsLocal, StatementUses, ChoiceUses, BlockUses}
+use Rattle.checked_trees.specs.WellFormed.{IsLocal, WellFormedStatement, WellFormedChoice, WellFormedBlock}
 
 -- ---- tests
 
@@ -223,7 +223,8 @@ module _ (v : ℕ) where
     mutual
       unfolding summary
 
-      statement_assigned : (s : CheckedStatement) → StatementUses shared s → (statement_sum (summary (Shared v)) s).writes ≡ true → statement_assigns v s ≡ true
+      statement_assigned : (s : CheckedStatement) → WellFormedStatement shared s → (statement_sum (summary (Shared v)) s).writes ≡ true
+          → statement_assigns v s ≡ true
       statement_assigned (t.declare _ n None) u h = absurd (let never : false ≡ true = h in cc)
       statement_assigned (t.declare _ n (Some e)) u h =
           let wrote = is_assigned n e _ refl h in
@@ -243,7 +244,7 @@ module _ (v : ℕ) where
       statement_assigned (t.emit e) u h = let never : false ≡ true = sym (expression_writes_nothing (Shared v) e) ∙ h in absurd (cc)
       statement_assigned (t.transition _) u h = absurd (let never : false ≡ true = h in cc)
 
-      choice_assigned : (c : CheckedChoice) → ChoiceUses shared c → (choice_sum (summary (Shared v)) c).writes ≡ true → choice_assigns v c ≡ true
+      choice_assigned : (c : CheckedChoice) → WellFormedChoice shared c → (choice_sum (summary (Shared v)) c).writes ≡ true → choice_assigns v c ≡ true
       choice_assigned t.nothing u h = absurd (let never : false ≡ true = h in cc)
       choice_assigned (t.otherwise b) u h = block_assigned b u h
       choice_assigned (t.test e b more) u h =
@@ -251,7 +252,7 @@ module _ (v : ℕ) where
           either (block_sum (summary (Shared v)) b).writes (choice_sum (summary (Shared v)) more).writes (block_assigns v b) (choice_assigns v more)
           (block_assigned b u.1) (choice_assigned more u.2) some
 
-      pub block_assigned : (b : CheckedBlock) → BlockUses shared b → (block_sum (summary (Shared v)) b).writes ≡ true → block_assigns v b ≡ true
+      pub block_assigned : (b : CheckedBlock) → WellFormedBlock shared b → (block_sum (summary (Shared v)) b).writes ≡ true → block_assigns v b ≡ true
       block_assigned t.end u h = absurd (let never : false ≡ true = h in cc)
       block_assigned (t.step s more) u h =
           front_or_behind (statement_sum (summary (Shared v)) s).writes (statement_sum (summary (Shared v)) s).falls_through

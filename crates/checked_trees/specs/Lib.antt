@@ -1,4 +1,2 @@
-pub mod Uses
-pub mod UseLaws
-pub mod Needs
-pub mod StackLaws
+pub mod WellFormed
+pub mod Laws

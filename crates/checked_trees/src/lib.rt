@@ -3,4 +3,4 @@
 
 mod laws;
 
-pub use laws::{expressions_have_room, names_are_used_as_declared};
+pub use laws::sources_are_well_formed;

@@ -42,7 +42,7 @@ use Rattle.code_forms.specs.Laws.{FormsDoAsInstructions}
 use Rattle.code_forms.proofs.Registers.{set_pc, set_sp, set_work, get_work, high, number, set_flags, flags_back, is_on, no_port}
 
 abbrev inside : Core → MachineBus
-inside u = record { fram = u.fram; ram = u.ram; readings_left = u.readings_left; outnum = u.outnum; log = [] }
+inside u = record { fram = u.fram; ram = u.ram; inputs = u.inputs; outnum = u.outnum; log = [] }
 
 abbrev regs_in : Core → ℕ → Registers
 regs_in u p = register_file p u.sp u.flags u.work
@@ -361,7 +361,8 @@ sets_stack n u c h =
     ∙ rw (set_sp (u.pc + 4) u.sp n n u.flags u.work e) refl
 
 sense_on : (b : WorkRegister) (u : Core) (ws : List ℕ) → IsCodeAddress u.pc
-    → step_with (Some (instruction_of (Sense b))) (board_of (record u { readings_left = ws })) ≡ outcome_of_core (sensed ws b (record u { readings_left = ws }))
+    → let v : Core = record u { inputs = record u.inputs { readings = ws } } in
+    step_with (Some (instruction_of (Sense b))) (board_of v) ≡ outcome_of_core (sensed ws b v)
 unfolding effect
 sense_on b u [] c = let on = is_on u.pc u.sp u.flags u.work in rw on refl
 sense_on b u (w ∷ ws) c =
@@ -378,7 +379,7 @@ sense_on b u (w ∷ ws) c =
     ) refl
 
 senses : (b : WorkRegister) (u : Core) → IsCodeAddress u.pc → step_with (Some (instruction_of (Sense b))) (board_of u) ≡ outcome_of_core (form_step (Sense b) u)
-senses b u c = sense_on b u u.readings_left c
+senses b u c = sense_on b u u.inputs.readings c
 
 by_sign : (b : Bool) (o : ℕ) → ((2 * o + (if b then 0 else 0x10000 - 0x800)) % 0x10000) % 2 ≡ 0
 by_sign true o = omega arith

@@ -11,7 +11,7 @@ use Rattle.machine_effects.specs.msp_step.Effect.{word_sum}
 use Rattle.machine_effects.specs.msp_step.Step.{off_bit, FetchedAt, IsStopped, IsCurrentInstruction}
 use Rattle.machine_effects.proofs.msp_step.Interface.{same_current, not_stopped}
 use Rattle.machine_effects.specs.fram_board.Bus.{is_word, is_ram}
-use Rattle.machine_effects.specs.fram_board.Effects.{Effect, Store, Take, Send}
+use Rattle.machine_effects.specs.fram_board.Effects.{Effect, Store, Take, Outside}
 use Rattle.machine_effects.specs.World.{put, fram_after_one, fram_after, OfStore, EachStore}
 use Rattle.machine_effects.specs.Going.{Goes, Stops, Halted, stretch, after_effects, continued, going}
 use Rattle.machine_effects.specs.Machine.{MachineBoard, MachineOutcome, MachineStretch, machine_bus, machine_opened, machine_fetched, machine_executed}
@@ -143,7 +143,7 @@ holds_put f p a w (v ∷ ws) out h =
 holds_store : (f : ℕ → ℕ) (p : ℕ) (ws : List ℕ) (e : Effect) → OfStore (IsOutside p (length ws)) e → Holds f p ws → Holds (fram_after_one e f) p ws
 holds_store f p ws (Store a w) s h = holds_put f p a w ws s h
 holds_store f p ws (Take w) s h = h
-holds_store f p ws (Send n w) s h = h
+holds_store f p ws (Outside o) s h = h
 
 -- words on which no store falls stay
 pub holds_stores : (es : List Effect) (f : ℕ → ℕ) (p : ℕ) (ws : List ℕ) → EachStore (IsOutside p (length ws)) es → Holds f p ws → Holds (fram_after es f) p ws

@@ -31,8 +31,9 @@ use Rattle.machine_effects.specs.msp_step.declared.machine.Stop.TheVariants as s
 use Rattle.machine_effects.specs.msp_step.Registers.{Registers}
 use Rattle.machine_effects.specs.msp_step.Effect.{status_with, operated, Operated, modification_of, writes_destination, word_sum, distance, is_met}
 use Rattle.machine_effects.specs.fram_board.Bus.{sensor_port, number_port, data_port}
-use Rattle.machine_effects.specs.fram_board.Effects.{Store, Take, Send}
+use Rattle.machine_effects.specs.fram_board.Effects.{Store, Take, Outside, Offered}
 use Rattle.machine_effects.specs.World.{put}
+use Rattle.machine_effects.specs.Inputs.{Inputs}
 use Rattle.machine_effects.specs.Going.{StepOutcome, Goes, Stops, Stretch}
 use Rattle.machine_effects.specs.Machine.{MachineBoard, MachineOutcome, IsFram, IsRam}
 
@@ -89,7 +90,7 @@ pub record Core : Type 0 where
   pub work : ℕ → ℕ  -- by the register's number
   pub fram : ℕ → ℕ
   pub ram : ℕ → ℕ
-  pub readings_left : List ℕ
+  pub inputs : Inputs
   pub outnum : ℕ
 
 -- the register file of these registers
@@ -98,7 +99,7 @@ register_file pc sp f work = λ n. if n == 0 then pc else if n == 1 then sp else
 
 -- the machine
 abbrev pub board_of : Core → MachineBoard
-board_of u = record { registers = register_file u.pc u.sp u.flags u.work; fram = u.fram; ram = u.ram; readings_left = u.readings_left; outnum = u.outnum }
+board_of u = record { registers = register_file u.pc u.sp u.flags u.work; fram = u.fram; ram = u.ram; inputs = u.inputs; outnum = u.outnum }
 
 -- no flag is set
 abbrev pub clear_flags : Flags
@@ -113,7 +114,7 @@ core_of s = record {
   work = s.registers;
   fram = s.fram;
   ram = s.ram;
-  readings_left = s.readings_left;
+  inputs = s.inputs;
   outnum = s.outnum;
 }
 
@@ -237,7 +238,7 @@ target_written (ToIndexed b x) c v u =
     Goes (Store a v ∷ []) c (record u { fram = put u.fram a v })
 target_written (ToPointed b) c v u = Goes (Store (u.work (work_number b)) v ∷ []) c (record u { fram = put u.fram (u.work (work_number b)) v })
 target_written ToOutnum c v u = Goes [] c (record u { outnum = v })
-target_written ToOutdata c v u = Goes (Send u.outnum v ∷ []) c u
+target_written ToOutdata c v u = Goes (Outside (Offered u.outnum v) ∷ []) c u
 
 -- what it needs
 abbrev pub TargetNeeds : Target → Core → Type 0
@@ -316,7 +317,7 @@ calculated op b o u = record u { flags = flags_after o.flags u.flags; work = if 
 -- a reading taken into a register; where none is left the machine stops, at the instruction's price
 abbrev pub sensed : List ℕ → WorkRegister → Core → CoreOutcome
 sensed [] b u = Stops [] 3 stop.NoReading
-sensed (w ∷ ws) b u = Goes (Take w ∷ []) 3 (record u { pc = u.pc + 4; work = put u.work (work_number b) w; readings_left = ws })
+sensed (w ∷ ws) b u = Goes (Take w ∷ []) 3 (record u { pc = u.pc + 4; work = put u.work (work_number b) w; inputs = record u.inputs { readings = ws } })
 
 -- what a form does
 abbrev pub form_step : Form → Core → CoreOutcome
@@ -343,7 +344,7 @@ form_step (Modify m b) u =
     let o = modification_of m Word (u.work (work_number b)) u.flags in
     Goes [] 1 (record u { pc = u.pc + 2; flags = flags_after o.flags u.flags; work = put u.work (work_number b) o.value })
 form_step (SetStack n) u = Goes [] 2 (record u { pc = u.pc + 4; sp = n })
-form_step (Sense b) u = sensed u.readings_left b u
+form_step (Sense b) u = sensed u.inputs.readings b u
 form_step (Jump c offset) u = Goes [] 2 (record u { pc = if is_met c u.flags then word_sum (u.pc + 2) (distance offset) else u.pc + 2 })
 form_step (Skip n) u =
     let o = operated Add Word (u.pc + 4) n u.flags in

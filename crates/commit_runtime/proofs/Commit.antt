@@ -4,12 +4,13 @@ use Rattle.std.proofs.Common.{arith, append_assoc}
 use Rattle.std.specs.List.{All}
 use Rattle.std.proofs.lemmas.List.Elements.{All-same, All-weaker}
 use Rattle.runtime_code.specs.msp_step.Effect.{word_sum, distance}
-use Rattle.runtime_code.specs.fram_board.Effects.{Effect, Store, Send}
+use Rattle.runtime_code.specs.fram_board.Effects.{Effect, Store, Outside, Offered}
 use Rattle.runtime_code.specs.machine_effects.World.{fram_after}
+use Rattle.runtime_code.specs.machine_effects.Inputs.{Inputs}
 use Rattle.runtime_code.specs.machine_effects.Machine.{Code, IsFram}
 use Rattle.runtime_code.proofs.machine_effects.Interface.{fram_after-append}
 use Rattle.runtime_code.specs.code_forms.Forms.{Core, Form, Branch, instruction_of}
-use Rattle.runtime_code.specs.code_forms.Code.{Stands, IsTidy, forms_run, forms_bytes}
+use Rattle.runtime_code.specs.code_forms.Code.{Stands, IsTidy, forms_run}
 use Rattle.runtime_code.proofs.code_forms.Interface.{stands_at, stands_front, stands_back, forms_at, end_of}
 use Rattle.runtime_code.specs.runtime_effects.Places.{CopyPair, run_pairs, entries_from, listed}
 use Rattle.runtime_code.specs.runtime_effects.Stages.{copied_home, sends, emits_sent, commit_closed, commit_effects}
@@ -17,8 +18,8 @@ use Rattle.runtime_code.specs.runtime_effects.Needs.{AreInFram, IsRegion, IsOutO
 use Rattle.runtime_code.proofs.runtime_effects.Interface.{run_length, entries_alike}
 use Rattle.runtime_code.specs.Comes.{Comes, IsAt}
 use Rattle.runtime_code.specs.Counted.{if_any}
-use Rattle.runtime_code.proofs.Interface.{straight, one_form, recounted, nothing, then_on, comes_on, moved_to, chain}
-use Rattle.runtime_code.proofs.Interface.{if_any_grows, tested, one_less, begun, turn_stands, jumps_to, passes, begins, goes_back, leaves}
+use Rattle.runtime_code.proofs.Interface.{straight, one_form, recounted, nothing, then_on, comes_on, moved_to, known_at}
+use Rattle.runtime_code.proofs.Interface.{if_any_grows, tested, one_less, begun, Loop, turn_stands, jumps_to, passes, begins, goes_back, leaves}
 use Rattle.commit_runtime.specs.Listing.{copies_begin, entry_begin, word_loop, copy_loop, sends_begin, send_turn, send_loop, closing, commit_forms}
 use Rattle.commit_runtime.specs.Listing.{commit_steps, commit_cycles}
 use Rattle.commit_runtime.specs.Laws.{CommitIsMade}
@@ -52,20 +53,24 @@ module _ (code : Code) (tidy : IsTidy code) (m : MemoryMap) (places : AreInFram 
     abbrev copied : ℕ
     copied = p + 30
 
-    copy_there : word_sum (p + 2 + 2) (distance 13) ≡ copied
-    copy_there = omega arith
-
     to_count : word_sum (p + 14 + 2) (distance 3) ≡ p + 22
     to_count = omega arith
 
-    entries_counted : p + 2 + 2 + 4 + forms_bytes entry_turn ≡ p + 26
-    entries_counted = omega arith
-
-    copy_back : word_sum (p + 26 + 2 + 2) (distance (0x400 - 11)) ≡ p + 2 + 2 + 4
-    copy_back = omega arith
-
-    behind_copies : p + 26 + 2 + 2 ≡ copied
-    behind_copies = omega arith
+    abbrev copies_loop : Loop code
+    copies_loop = record {
+      at = p;
+      address = m.list.address;
+      over = 13;
+      back = 0x400 - 11;
+      count = p + 26;
+      end = copied;
+      turn = entry_turn;
+      stands = stands;
+      passed = omega arith;
+      turned = omega arith;
+      again = omega arith;
+      out = omega arith;
+    }
 
     reads_there : Stands code (p + 2 + 2 + 4) entry_begin
     reads_there = subst (λ x. Stands code x entry_begin) (omega arith) (forms_at code p 3 3 (copy_loop m) stands)
@@ -74,34 +79,34 @@ module _ (code : Code) (tidy : IsTidy code) (m : MemoryMap) (places : AreInFram 
     words_there = forms_at code p 6 5 (copy_loop m) stands
 
     -- behind an entry's words: one entry less, and to the next one
-    goes_to_next : (n q : ℕ) (g : ℕ → ℕ) (rs : List ℕ) (v : Core) → suc (suc n) < 0x10000 → BehindWords (p + 26) (suc (suc n)) q g rs v
-        → Comes code [] 2 3 v (λ t. BehindWords (p + 2 + 2 + 4) (suc n) q g rs t)
-    goes_to_next n q g rs v l h =
+    goes_to_next : (n q : ℕ) (g : ℕ → ℕ) (inputs : Inputs) (v : Core) → suc (suc n) < 0x10000 → BehindWords (p + 26) (suc (suc n)) q g inputs v
+        → Comes code [] 2 3 v (λ t. BehindWords (p + 2 + 2 + 4) (suc n) q g inputs t)
+    goes_to_next n q g inputs v l h =
         let count = h.entries_left in
         let t : Core = record (one_less v) { pc = p + 2 + 2 + 4 } in
         then_on code 2 0 3 0 v t _ [] []
-        (goes_back code tidy p m.list.address 13 (0x400 - 11) (p + 26) copied entry_turn stands copy_there entries_counted copy_back behind_copies n v h.at.pc
+        (goes_back code tidy copies_loop n v h.at.pc
         count (omega (arith, count, l)))
         (nothing code t _ (record {
-          at = record { pc = refl; fram = h.at.fram; readings_left = h.at.readings_left };
+          at = record { pc = refl; fram = h.at.fram; inputs = h.at.inputs };
           entries_left = omega (arith, count, l);
           next_entry = h.next_entry;
         }))
 
     -- behind the last one's words
-    leaves_copies : (q : ℕ) (g : ℕ → ℕ) (rs : List ℕ) (v : Core) → BehindWords (p + 26) 1 q g rs v → Comes code [] 2 3 v (IsAt copied g rs)
-    leaves_copies q g rs v h =
+    leaves_copies : (q : ℕ) (g : ℕ → ℕ) (inputs : Inputs) (v : Core) → BehindWords (p + 26) 1 q g inputs v → Comes code [] 2 3 v (IsAt copied g inputs)
+    leaves_copies q g inputs v h =
         let t : Core = record (one_less v) { pc = copied } in
         then_on code 2 0 3 0 v t _ [] []
-        (leaves code tidy p m.list.address 13 (0x400 - 11) (p + 26) copied entry_turn stands copy_there entries_counted copy_back behind_copies v h.at.pc
+        (leaves code tidy copies_loop v h.at.pc
         h.entries_left)
-        (nothing code t _ (record { pc = refl; fram = h.at.fram; readings_left = h.at.readings_left }))
+        (nothing code t _ (record { pc = refl; fram = h.at.fram; inputs = h.at.inputs }))
 
     -- an entry is read, and its words go home
     turn : (q : ℕ) (f : ℕ → ℕ) (u : Core) → u.pc ≡ p + 2 + 2 + 4 → u.work 5 ≡ q → u.fram ≡ f → IsFram q → IsFram (q + 2) → IsFram (q + 4)
         → q + 6 < 0x10000 → f (q + 4) < 0x10000 → All (IsCopied m) (run_pairs (f (q + 4)) (f q) (f (q + 2)))
         → let es = copied_home (run_pairs (f (q + 4)) (f q) (f (q + 2))) f in
-        Comes code es (6 + f (q + 4) * 4) (11 + f (q + 4) * 9) u (BehindWords (p + 26) (u.work 4) (q + 6) (fram_after es f) u.readings_left)
+        Comes code es (6 + f (q + 4) * 4) (11 + f (q + 4) * 9) u (BehindWords (p + 26) (u.work 4) (q + 6) (fram_after es f) u.inputs)
     turn q f u e at fr w1 w2 w3 top l ok =
         let k = f (q + 4) in
         let u1 = end_of u (forms_run entry_begin u).status in
@@ -121,32 +126,32 @@ module _ (code : Code) (tidy : IsTidy code) (m : MemoryMap) (places : AreInFram 
         let es = copied_home (run_pairs k (f q) (f (q + 2))) f in
         let next : u2.work 5 ≡ q + 6 = omega (arith, at) in
         let there : p + 14 + 12 ≡ p + 26 = omega arith in
-        let c1 : Comes code es (2 + k * 4) (3 + k * 9) u2 (BehindWords (p + 26) (u.work 4) (q + 6) (fram_after es f) u.readings_left) =
-        subst (λ x. Comes code es (2 + k * 4) (3 + k * 9) u2 (BehindWords (p + 26) (u.work 4) x (fram_after es f) u.readings_left)) next
-        (subst (λ x. Comes code es (2 + k * 4) (3 + k * 9) u2 (BehindWords x (u.work 4) (u2.work 5) (fram_after es f) u.readings_left)) there c) in
+        let c1 : Comes code es (2 + k * 4) (3 + k * 9) u2 (BehindWords (p + 26) (u.work 4) (q + 6) (fram_after es f) u.inputs) =
+        subst (λ x. Comes code es (2 + k * 4) (3 + k * 9) u2 (BehindWords (p + 26) (u.work 4) x (fram_after es f) u.inputs)) next
+        (subst (λ x. Comes code es (2 + k * 4) (3 + k * 9) u2 (BehindWords x (u.work 4) (u2.work 5) (fram_after es f) u.inputs)) there c) in
         recounted code es (3 + (1 + (2 + k * 4))) (6 + k * 4) (6 + (2 + (3 + k * 9))) (11 + k * 9) u _ (omega arith) (omega arith)
         (then_on code 3 (1 + (2 + k * 4)) 6 (2 + (3 + k * 9)) u u1 _ [] es a (then_on code 1 (2 + k * 4) 2 (3 + k * 9) u1 u2 _ [] es b c1))
 
     -- the words of these entries go home, up to the end of the loop
-    abbrev GoHome : List CopyPair → (ℕ → ℕ) → List ℕ → ℕ → ℕ → Core → Type 0
-    GoHome xs f rs steps cycles u = Comes code (copied_home xs f) steps cycles u (IsAt copied (fram_after (copied_home xs f) f) rs)
+    abbrev GoHome : List CopyPair → (ℕ → ℕ) → Inputs → ℕ → ℕ → Core → Type 0
+    GoHome xs f inputs steps cycles u = Comes code (copied_home xs f) steps cycles u (IsAt copied (fram_after (copied_home xs f) f) inputs)
 
     -- an entry, and from behind its words on the entries that are left, in steps and cycles by their words
     entry_then : (n q : ℕ) (f : ℕ → ℕ) (u : Core) (steps cycles : ℕ → ℕ) → u.pc ≡ p + 2 + 2 + 4 → u.work 5 ≡ q → u.fram ≡ f → InList q (suc n)
         → length (entries_from (suc n) q f) < 0x10000 → All (IsCopied m) (entries_from (suc n) q f)
         → (let g = fram_after (copied_home (run_pairs (f (q + 4)) (f q) (f (q + 2))) f) f in
         let ys = entries_from n (q + 6) g in
-        (t : Core) → BehindWords (p + 26) (u.work 4) (q + 6) g u.readings_left t → length ys < 0x10000 → All (IsCopied m) ys
-        → GoHome ys g u.readings_left (steps (length ys)) (cycles (length ys)) t)
+        (t : Core) → BehindWords (p + 26) (u.work 4) (q + 6) g u.inputs t → length ys < 0x10000 → All (IsCopied m) ys
+        → GoHome ys g u.inputs (steps (length ys)) (cycles (length ys)) t)
         → let left = length (entries_from n (q + 6) f) in
-        GoHome (entries_from (suc n) q f) f u.readings_left (6 + f (q + 4) * 4 + steps left) (11 + f (q + 4) * 9 + cycles left) u
+        GoHome (entries_from (suc n) q f) f u.inputs (6 + f (q + 4) * 4 + steps left) (11 + f (q + 4) * 9 + cycles left) u
     entry_then n q f u steps cycles e d fr i few ok after =
         let run = run_pairs (f (q + 4)) (f q) (f (q + 2)) in
         let rest = entries_from n (q + 6) f in
         let k = f (q + 4) in
         let es = copied_home run f in
         let g = fram_after es f in
-        let rs = u.readings_left in
+        let inputs = u.inputs in
         let long = run_length k (f q) (f (q + 2)) in
         let both = length-append run rest in
         let even = i.even in let low = i.low in let top = i.high in let end = places.list.high in
@@ -163,21 +168,21 @@ module _ (code : Code) (tidy : IsTidy code) (m : MemoryMap) (places : AreInFram 
         let ys = entries_from n (q + 6) g in
         let x = steps (length rest) in let y = cycles (length rest) in
         let fs = copied_home rest g in
-        let next : (t : Core) → BehindWords (p + 26) (u.work 4) (q + 6) g rs t → GoHome rest g rs x y t = λ t h.
-        subst (λ xs. GoHome xs g rs (steps (length xs)) (cycles (length xs)) t) stays
+        let next : (t : Core) → BehindWords (p + 26) (u.work 4) (q + 6) g inputs t → GoHome rest g inputs x y t = λ t h.
+        subst (λ xs. GoHome xs g inputs (steps (length xs)) (cycles (length xs)) t) stays
         (after t h (subst (λ xs. length xs < 0x10000) (sym stays) (omega (arith, few, long, both))) (All-same (IsCopied m) ys rest stays later)) in
-        let whole = comes_on code (6 + k * 4) x (11 + k * 9) y u (BehindWords (p + 26) (u.work 4) (q + 6) g rs) (IsAt copied (fram_after fs g) rs) es fs a
+        let whole = comes_on code (6 + k * 4) x (11 + k * 9) y u (BehindWords (p + 26) (u.work 4) (q + 6) g inputs) (IsAt copied (fram_after fs g) inputs) es fs a
         next in
         let all = copied_home (run ++ rest) f in
         let effects : es ++ fs ≡ all = sym (copied_behind run rest f) in
         let memory : fram_after fs g ≡ fram_after all f = sym (fram_after-append es fs f) ∙ ap (λ l. fram_after l f) effects in
-        subst (λ h. Comes code all (6 + k * 4 + x) (11 + k * 9 + y) u (IsAt copied h rs)) memory
-        (subst (λ l. Comes code l (6 + k * 4 + x) (11 + k * 9 + y) u (IsAt copied (fram_after fs g) rs)) effects whole)
+        subst (λ h. Comes code all (6 + k * 4 + x) (11 + k * 9 + y) u (IsAt copied h inputs)) memory
+        (subst (λ l. Comes code l (6 + k * 4 + x) (11 + k * 9 + y) u (IsAt copied (fram_after fs g) inputs)) effects whole)
 
     -- from a turn on, the entries that are left
     copying : (n q : ℕ) (f : ℕ → ℕ) (u : Core) → u.pc ≡ p + 2 + 2 + 4 → u.work 4 ≡ suc n → u.work 5 ≡ q → u.fram ≡ f → suc n < 0x10000
         → InList q (suc n) → length (entries_from (suc n) q f) < 0x10000 → All (IsCopied m) (entries_from (suc n) q f)
-        → let xs = entries_from (suc n) q f in GoHome xs f u.readings_left (8 + n * 8 + length xs * 4) (14 + n * 14 + length xs * 9) u
+        → let xs = entries_from (suc n) q f in GoHome xs f u.inputs (8 + n * 8 + length xs * 4) (14 + n * 14 + length xs * 9) u
     copying zero q f u e c d fr l i few ok =
         let k = f (q + 4) in
         let run = run_pairs k (f q) (f (q + 2)) in
@@ -188,7 +193,7 @@ module _ (code : Code) (tidy : IsTidy code) (m : MemoryMap) (places : AreInFram 
         recounted code (copied_home xs f) (6 + k * 4 + 2) (8 + 0 * 8 + length xs * 4) (11 + k * 9 + 3) (14 + 0 * 14 + length xs * 9) u _
         (omega (arith, long, both)) (omega (arith, long, both))
         (entry_then zero q f u (λ _. 2) (λ _. 3) e d fr i few ok
-        (λ t h few all. leaves_copies (q + 6) g u.readings_left t
+        (λ t h few all. leaves_copies (q + 6) g u.inputs t
         (record { at = h.at; entries_left = h.entries_left ∙ c; next_entry = h.next_entry })))
     copying (suc n) q f u e c d fr l i few ok =
         let k = f (q + 4) in
@@ -197,18 +202,18 @@ module _ (code : Code) (tidy : IsTidy code) (m : MemoryMap) (places : AreInFram 
         let g = fram_after (copied_home run f) f in
         let xs = entries_from (suc (suc n)) q f in
         let ys = entries_from (suc n) (q + 6) g in
-        let rs = u.readings_left in
+        let inputs = u.inputs in
         let long = run_length k (f q) (f (q + 2)) in
         let both = length-append run rest in
         let even = i.even in let low = i.low in let top = i.high in
         let i' : InList (q + 6) (suc n) = record { even = omega (arith, even); low = omega (arith, low); high = omega (arith, top) } in
         let x : ℕ → ℕ = λ words. 8 + n * 8 + words * 4 in
         let y : ℕ → ℕ = λ words. 14 + n * 14 + words * 9 in
-        let after : (t : Core) → BehindWords (p + 26) (u.work 4) (q + 6) g rs t → length ys < 0x10000 → All (IsCopied m) ys
-        → GoHome ys g rs (2 + x (length ys)) (3 + y (length ys)) t = λ t h few all.
-        comes_on code 2 (x (length ys)) 3 (y (length ys)) t (BehindWords (p + 2 + 2 + 4) (suc n) (q + 6) g rs) _ [] (copied_home ys g)
-        (goes_to_next n (q + 6) g rs t l (record { at = h.at; entries_left = h.entries_left ∙ c; next_entry = h.next_entry }))
-        (λ v j. subst (λ left. GoHome ys g left (x (length ys)) (y (length ys)) v) j.at.readings_left
+        let after : (t : Core) → BehindWords (p + 26) (u.work 4) (q + 6) g inputs t → length ys < 0x10000 → All (IsCopied m) ys
+        → GoHome ys g inputs (2 + x (length ys)) (3 + y (length ys)) t = λ t h few all.
+        comes_on code 2 (x (length ys)) 3 (y (length ys)) t (BehindWords (p + 2 + 2 + 4) (suc n) (q + 6) g inputs) _ [] (copied_home ys g)
+        (goes_to_next n (q + 6) g inputs t l (record { at = h.at; entries_left = h.entries_left ∙ c; next_entry = h.next_entry }))
+        (λ v j. subst (λ left. GoHome ys g left (x (length ys)) (y (length ys)) v) j.at.inputs
         (copying n (q + 6) g v j.at.pc j.entries_left j.next_entry j.at.fram (omega (arith, l)) i' few all)) in
         recounted code (copied_home xs f) (6 + k * 4 + (2 + x (length rest))) (8 + suc n * 8 + length xs * 4) (11 + k * 9 + (3 + y (length rest)))
         (14 + suc n * 14 + length xs * 9) u _ (omega (arith, long, both)) (omega (arith, long, both))
@@ -217,12 +222,12 @@ module _ (code : Code) (tidy : IsTidy code) (m : MemoryMap) (places : AreInFram 
     -- from its test on, all of them
     copies : (n : ℕ) (u : Core) → u.pc ≡ p → u.work 4 ≡ n → n < 0x10000 → InList m.list.address n
         → let xs = entries_from n m.list.address u.fram in length xs < 0x10000 → All (IsCopied m) xs
-        → GoHome xs u.fram u.readings_left (2 + if_any n 1 + n * 8 + length xs * 4) (3 + if_any n 2 + n * 14 + length xs * 9) u
+        → GoHome xs u.fram u.inputs (2 + if_any n 1 + n * 8 + length xs * 4) (3 + if_any n 2 + n * 14 + length xs * 9) u
     copies zero u e c l i few ok =
         let t : Core = record (tested u) { pc = copied } in
         then_on code 2 0 3 0 u t _ [] []
-        (passes code tidy p m.list.address 13 (0x400 - 11) (p + 26) copied entry_turn stands copy_there entries_counted copy_back behind_copies u e c)
-        (nothing code t _ (record { pc = refl; fram = refl; readings_left = refl }))
+        (passes code tidy copies_loop u e c)
+        (nothing code t _ (record { pc = refl; fram = refl; inputs = refl }))
     copies (suc n) u e c l i few ok =
         let xs = entries_from (suc n) m.list.address u.fram in
         let t = begun p m.list.address u in
@@ -230,12 +235,11 @@ module _ (code : Code) (tidy : IsTidy code) (m : MemoryMap) (places : AreInFram 
         recounted code (copied_home xs u.fram) (3 + x) (2 + 1 + suc n * 8 + length xs * 4) (5 + y) (3 + 2 + suc n * 14 + length xs * 9) u _
         (omega arith) (omega arith)
         (then_on code 3 x 5 y u t _ [] (copied_home xs u.fram)
-        (begins code tidy p m.list.address 13 (0x400 - 11) (p + 26) copied entry_turn stands copy_there entries_counted copy_back behind_copies u e
-        (omega (arith, c, l)) (omega (arith, c)))
+        (begins code tidy copies_loop u e (omega (arith, c, l)) (omega (arith, c)))
         (copying n m.list.address u.fram t refl c refl refl l i few ok))
 
   -- behind the sends: the number behind that of the last word
-  record BehindSends (address number : ℕ) (memory : ℕ → ℕ) (left : List ℕ) (u : Core) : Type 0 where
+  record BehindSends (address number : ℕ) (memory : ℕ → ℕ) (left : Inputs) (u : Core) : Type 0 where
     pub at : IsAt address memory left u
     pub next_number : u.work 7 ≡ number
 
@@ -243,52 +247,55 @@ module _ (code : Code) (tidy : IsTidy code) (m : MemoryMap) (places : AreInFram 
     abbrev sent : ℕ
     sent = p + 22
 
-    send_there : word_sum (p + 2 + 2) (distance 9) ≡ sent
-    send_there = omega arith
-
-    sends_counted : p + 2 + 2 + 4 + forms_bytes send_turn ≡ p + 18
-    sends_counted = omega arith
-
-    send_back : word_sum (p + 18 + 2 + 2) (distance (0x400 - 7)) ≡ p + 2 + 2 + 4
-    send_back = omega arith
-
-    behind_sends : p + 18 + 2 + 2 ≡ sent
-    behind_sends = omega arith
+    abbrev sends_loop : Loop code
+    sends_loop = record {
+      at = p;
+      address = m.emits.address;
+      over = 9;
+      back = 0x400 - 7;
+      count = p + 18;
+      end = sent;
+      turn = send_turn;
+      stands = stands;
+      passed = omega arith;
+      turned = omega arith;
+      again = omega arith;
+      out = omega arith;
+    }
 
     -- a word is sent
     one_sent : (u : Core) → u.pc ≡ p + 2 + 2 + 4 → IsFram (u.work 5) → u.work 5 + 2 < 0x10000
-        → Comes code (Send (u.work 7) (u.fram (u.work 5)) ∷ []) 3 10 u (λ v. v ≡ end_of u (forms_run send_turn u).status)
+        → Comes code (Outside (Offered (u.work 7) (u.fram (u.work 5))) ∷ []) 3 10 u (λ v. v ≡ end_of u (forms_run send_turn u).status)
     one_sent u e word room =
         let t = end_of u (forms_run send_turn u).status in
-        straight code tidy send_turn 3 u t (Send (u.work 7) (u.fram (u.work 5)) ∷ []) 10 (λ v. v ≡ t) (tt, (tt, (tt, tt)))
+        straight code tidy send_turn 3 u t (Outside (Offered (u.work 7) (u.fram (u.work 5))) ∷ []) 10 (λ v. v ≡ t) (tt, (tt, (tt, tt)))
         (stands_at code (p + 2 + 2 + 4) send_turn u
-        (turn_stands code tidy p m.emits.address 9 (0x400 - 7) (p + 18) sent send_turn stands send_there sends_counted send_back behind_sends) e)
+        (turn_stands code tidy sends_loop) e)
         ((tt, tt), (((word, room), tt), ((tt, tt), tt))) refl refl refl
 
     -- from a turn on, the words that are left
     sending : (n : ℕ) (u : Core) → u.pc ≡ p + 2 + 2 + 4 → u.work 4 ≡ suc n → suc n < 0x10000 → InEmits (u.work 5) (suc n)
         → Comes code (sends (suc n) (u.work 7) (u.work 5) u.fram) (5 + n * 5) (13 + n * 13) u
-        (BehindSends sent ((u.work 7 + suc n) % 0x10000) u.fram u.readings_left)
+        (BehindSends sent ((u.work 7 + suc n) % 0x10000) u.fram u.inputs)
     sending zero u e c l i =
         let low = i.low in let top = i.high in let end = places.emits.high in
         let w = in_region m.emits.address (2 * m.emits.words) (u.work 5) places.emits low (omega (arith, top)) i.even in
         let u1 = end_of u (forms_run send_turn u).status in
         let t : Core = record (one_less u1) { pc = sent } in
-        let es : List Effect = Send (u.work 7) (u.fram (u.work 5)) ∷ [] in
+        let es : List Effect = Outside (Offered (u.work 7) (u.fram (u.work 5))) ∷ [] in
         then_on code 3 2 10 3 u u1 _ es [] (one_sent u e w (omega (arith, top, end)))
         (then_on code 2 0 3 0 u1 t _ [] []
-        (leaves code tidy p m.emits.address 9 (0x400 - 7) (p + 18) sent send_turn stands send_there sends_counted send_back behind_sends u1
-        (omega (arith, e)) c)
-        (nothing code t _ (record { at = record { pc = refl; fram = refl; readings_left = refl }; next_number = omega arith })))
+        (leaves code tidy sends_loop u1 (omega (arith, e)) c)
+        (nothing code t _ (record { at = record { pc = refl; fram = refl; inputs = refl }; next_number = omega arith })))
     sending (suc n) u e c l i =
         let even = i.even in let low = i.low in let top = i.high in let end = places.emits.high in
         let w = in_region m.emits.address (2 * m.emits.words) (u.work 5) places.emits low (omega (arith, top)) even in
         let u1 = end_of u (forms_run send_turn u).status in
         let t : Core = record (one_less u1) { pc = p + 2 + 2 + 4 } in
-        let es : List Effect = Send (u.work 7) (u.fram (u.work 5)) ∷ [] in
+        let es : List Effect = Outside (Offered (u.work 7) (u.fram (u.work 5))) ∷ [] in
         let k = (u.work 7 + 1 + 0) % 0x10000 in
         let To : ℕ → ℕ → Type 0 = λ from last. Comes code (sends (suc n) from (u.work 5 + 2) u.fram) (5 + n * 5) (13 + n * 13) t
-        (BehindSends sent last u.fram u.readings_left) in
+        (BehindSends sent last u.fram u.inputs) in
         let first : k ≡ (u.work 7 + 1) % 0x10000 = omega arith in
         let last : (k + suc n) % 0x10000 ≡ (u.work 7 + suc (suc n)) % 0x10000 = omega arith in
         let r : To ((u.work 7 + 1) % 0x10000) ((u.work 7 + suc (suc n)) % 0x10000) =
@@ -298,31 +305,29 @@ module _ (code : Code) (tidy : IsTidy code) (m : MemoryMap) (places : AreInFram 
         recounted code _ (3 + (2 + (5 + n * 5))) (5 + suc n * 5) (10 + (3 + (13 + n * 13))) (13 + suc n * 13) u _ (omega arith) (omega arith)
         (then_on code 3 (2 + (5 + n * 5)) 10 (3 + (13 + n * 13)) u u1 _ es _ (one_sent u e w (omega (arith, top, end)))
         (then_on code 2 (5 + n * 5) 3 (13 + n * 13) u1 t _ [] _
-        (goes_back code tidy p m.emits.address 9 (0x400 - 7) (p + 18) sent send_turn stands send_there sends_counted send_back behind_sends n u1
-        (omega (arith, e)) c (omega (arith, c, l))) r))
+        (goes_back code tidy sends_loop n u1 (omega (arith, e)) c (omega (arith, c, l))) r))
 
     -- from its test on, all of them
     sends_all : (n : ℕ) (u : Core) → u.pc ≡ p → u.work 4 ≡ n → n < 0x10000 → InEmits m.emits.address n → u.work 7 < 0x10000
         → Comes code (sends n (u.work 7) m.emits.address u.fram) (2 + if_any n 1 + n * 5) (3 + if_any n 2 + n * 13) u
-        (BehindSends sent ((u.work 7 + n) % 0x10000) u.fram u.readings_left)
+        (BehindSends sent ((u.work 7 + n) % 0x10000) u.fram u.inputs)
     sends_all zero u e c l i word =
         let t : Core = record (tested u) { pc = sent } in
         then_on code 2 0 3 0 u t _ [] []
-        (passes code tidy p m.emits.address 9 (0x400 - 7) (p + 18) sent send_turn stands send_there sends_counted send_back behind_sends u e c)
-        (nothing code t _ (record { at = record { pc = refl; fram = refl; readings_left = refl }; next_number = omega (arith, word) }))
+        (passes code tidy sends_loop u e c)
+        (nothing code t _ (record { at = record { pc = refl; fram = refl; inputs = refl }; next_number = omega (arith, word) }))
     sends_all (suc n) u e c l i word =
         let t = begun p m.emits.address u in
         let es = sends (suc n) (u.work 7) m.emits.address u.fram in
         recounted code es (3 + (5 + n * 5)) (2 + 1 + suc n * 5) (5 + (13 + n * 13)) (3 + 2 + suc n * 13) u _ (omega arith) (omega arith)
         (then_on code 3 (5 + n * 5) 5 (13 + n * 13) u t _ [] es
-        (begins code tidy p m.emits.address 9 (0x400 - 7) (p + 18) sent send_turn stands send_there sends_counted send_back behind_sends u e
-        (omega (arith, c, l)) (omega (arith, c)))
+        (begins code tidy sends_loop u e (omega (arith, c, l)) (omega (arith, c)))
         (sending n t refl c l i))
 
   -- the entries, from the first instruction on
   copy_part : (p : ℕ) (u : Core) → p + 40 < 0x10000 → u.pc ≡ p → Stands code p (copies_begin m) → Stands code (p + 4) (copy_loop m) → CanCommit m u.fram
       → let n = u.fram (word_place m ListLength) in let k = length (listed m u.fram) in let es = copied_home (listed m u.fram) u.fram in
-      Comes code es (3 + if_any n 1 + n * 8 + k * 4) (6 + if_any n 2 + n * 14 + k * 9) u (IsAt (p + 34) (fram_after es u.fram) u.readings_left)
+      Comes code es (3 + if_any n 1 + n * 8 + k * 4) (6 + if_any n 2 + n * 14 + k * 9) u (IsAt (p + 34) (fram_after es u.fram) u.inputs)
   copy_part p u high e h l can =
       let u1 = end_of u (forms_run (copies_begin m) u).status in
       let n = u.fram (word_place m ListLength) in
@@ -336,14 +341,14 @@ module _ (code : Code) (tidy : IsTidy code) (m : MemoryMap) (places : AreInFram 
       let b = copies (p + 4) (omega (arith, high)) l n u1 (omega (arith, e)) refl (omega (arith, few, end))
       (record { even = places.list.even; low = omega arith; high = omega (arith, few) }) (omega (arith, words, end)) can.copies in
       recounted code es (1 + x) (3 + if_any n 1 + n * 8 + k * 4) (3 + y) (6 + if_any n 2 + n * 14 + k * 9) u _ (omega arith) (omega arith)
-      (moved_to code _ (p + 34) _ _ u es (fram_after es u.fram) u.readings_left (omega arith) (then_on code 1 x 3 y u u1 _ [] es a b))
+      (moved_to code _ (p + 34) _ _ u es (fram_after es u.fram) u.inputs (omega arith) (then_on code 1 x 3 y u u1 _ [] es a b))
 
   -- the sends
   send_part : (p : ℕ) (u : Core) → p + 40 < 0x10000 → u.pc ≡ p → Stands code p (sends_begin m) → Stands code (p + 4 + 4) (send_loop m)
       → u.fram (word_place m EmitCount) ≤ m.emits.words → u.fram (word_place m SentBase) < 0x10000
       → let n = u.fram (word_place m EmitCount) in
       Comes code (emits_sent m u.fram) (4 + if_any n 1 + n * 5) (9 + if_any n 2 + n * 13) u
-      (BehindSends (p + 30) ((u.fram (word_place m SentBase) + n) % 0x10000) u.fram u.readings_left)
+      (BehindSends (p + 30) ((u.fram (word_place m SentBase) + n) % 0x10000) u.fram u.inputs)
   send_part p u high e h l few word =
       let u1 = end_of u (forms_run (sends_begin m) u).status in
       let n = u.fram (word_place m EmitCount) in
@@ -355,8 +360,8 @@ module _ (code : Code) (tidy : IsTidy code) (m : MemoryMap) (places : AreInFram 
       ((places.words SentBase, tt), ((places.words EmitCount, tt), tt)) refl refl refl in
       let x = 2 + if_any n 1 + n * 5 in let y = 3 + if_any n 2 + n * 13 in
       let there : p + 4 + 4 + 22 ≡ p + 30 = omega arith in
-      let b : Comes code es x y u1 (BehindSends (p + 30) number u.fram u.readings_left) =
-      subst (λ q. Comes code es x y u1 (BehindSends q number u.fram u.readings_left)) there
+      let b : Comes code es x y u1 (BehindSends (p + 30) number u.fram u.inputs) =
+      subst (λ q. Comes code es x y u1 (BehindSends q number u.fram u.inputs)) there
       (sends_all (p + 4 + 4) (omega (arith, high)) l n u1 (omega (arith, e)) refl (omega (arith, few, end))
       (record { even = places.emits.even; low = omega arith; high = omega (arith, few) }) word) in
       recounted code es (2 + x) (4 + if_any n 1 + n * 5) (6 + y) (9 + if_any n 2 + n * 13) u _ (omega arith) (omega arith)
@@ -369,7 +374,7 @@ module _ (code : Code) (tidy : IsTidy code) (m : MemoryMap) (places : AreInFram 
   -- they are made, and the branch
   close_part : (p start number : ℕ) (u : Core) → u.pc ≡ p → start % 2 ≡ 0 → Stands code p (closing m ++ (Branch start ∷ [])) → u.work 7 ≡ number
       → let es = closed_with (u.fram (word_place m NextTask)) number in
-      Comes code es 4 17 u (IsAt start (fram_after es u.fram) u.readings_left)
+      Comes code es 4 17 u (IsAt start (fram_after es u.fram) u.inputs)
   close_part p start number u e even h is =
       let u1 = end_of u (forms_run (closing m) u).status in
       let f = u.fram in
@@ -381,15 +386,15 @@ module _ (code : Code) (tidy : IsTidy code) (m : MemoryMap) (places : AreInFram 
       let a : Comes code (es (u.work 7)) 3 14 u (λ v. v ≡ u1) = straight code tidy (closing m) 3 u u1 (es (u.work 7)) 14 (λ v. v ≡ u1) (tt, (tt, (tt, tt)))
       (stands_at code p (closing m) u (stands_front code p (closing m) (Branch start ∷ []) h) e)
       ((places.words NextTask, places.words CurrentTask), ((tt, places.words Base), ((tt, places.words Gate), tt))) refl refl refl in
-      let b : Comes code [] 1 3 u1 (IsAt start (fram_after (es (u.work 7)) f) u.readings_left) =
-      one_form code tidy (Branch start) u1 t [] 3 _ (ap code there ∙ at) even refl (record { pc = refl; fram = refl; readings_left = refl }) in
-      subst (λ k. Comes code (es k) 4 17 u (IsAt start (fram_after (es k) f) u.readings_left)) is (then_on code 3 1 14 3 u u1 _ (es (u.work 7)) [] a b)
+      let b : Comes code [] 1 3 u1 (IsAt start (fram_after (es (u.work 7)) f) u.inputs) =
+      one_form code tidy (Branch start) u1 t [] 3 _ (ap code there ∙ at) even refl (record { pc = refl; fram = refl; inputs = refl }) in
+      subst (λ k. Comes code (es k) 4 17 u (IsAt start (fram_after (es k) f) u.inputs)) is (then_on code 3 1 14 3 u u1 _ (es (u.work 7)) [] a b)
 
   commit_runs : (p start : ℕ) (u : Core) → p + 82 < 0x10000 → start % 2 ≡ 0 → Stands code p (commit_forms m start) → u.pc ≡ p → CanCommit m u.fram
       → u.fram (word_place m SentBase) < 0x10000
       → let n = u.fram (word_place m ListLength) in let ws = length (listed m u.fram) in let k = u.fram (word_place m EmitCount) in let es =
       commit_effects m u.fram in
-      Comes code es (commit_steps n ws k) (commit_cycles n ws k) u (IsAt start (fram_after es u.fram) u.readings_left)
+      Comes code es (commit_steps n ws k) (commit_cycles n ws k) u (IsAt start (fram_after es u.fram) u.inputs)
   commit_runs p start u high even h e can word =
       let f = u.fram in
       let xs = listed m f in
@@ -399,7 +404,7 @@ module _ (code : Code) (tidy : IsTidy code) (m : MemoryMap) (places : AreInFram 
       let ws = length xs in
       let k = f (word_place m EmitCount) in
       let base = f (word_place m SentBase) in
-      let rs = u.readings_left in
+      let inputs = u.inputs in
       let closes = closing m ++ (Branch start ∷ []) in
       let h1 = stands_back code p (copies_begin m) (copy_loop m ++ (sends_begin m ++ (send_loop m ++ closes))) h in
       let l1 : Stands code (p + 4) (copy_loop m) = stands_front code _ (copy_loop m) (sends_begin m ++ (send_loop m ++ closes)) h1 in
@@ -423,41 +428,39 @@ module _ (code : Code) (tidy : IsTidy code) (m : MemoryMap) (places : AreInFram 
       let number = (base + k) % 0x10000 in
       let x1 = 3 + if_any n 1 + n * 8 + ws * 4 in let y1 = 6 + if_any n 2 + n * 14 + ws * 9 in
       let x2 = 4 + if_any k 1 + k * 5 in let y2 = 9 + if_any k 2 + k * 13 in
-      let b : (v : Core) → v.pc ≡ p + 34 → v.fram ≡ g → v.readings_left ≡ rs → Comes code ss x2 y2 v (BehindSends (p + 64) number g rs) =
-      λ v at is left.
-      let Q : List Effect → ℕ → ℕ → (ℕ → ℕ) → List ℕ → Type 0 = λ es s o q l. Comes code es (4 + if_any o 1 + o * 5) (9 + if_any o 2 + o * 13) v
+      let b : (v : Core) → IsAt (p + 34) g inputs v → Comes code ss x2 y2 v (BehindSends (p + 64) number g inputs) =
+      λ v j.
+      let Q : List Effect → ℕ → ℕ → (ℕ → ℕ) → Inputs → Type 0 = λ es s o q l. Comes code es (4 + if_any o 1 + o * 5) (9 + if_any o 2 + o * 13) v
       (BehindSends (p + 64) ((s + o) % 0x10000) q l) in
       let there : p + 34 + 30 ≡ p + 64 = omega arith in
-      let few_now : v.fram (word_place m EmitCount) ≤ m.emits.words = subst (λ q. q (word_place m EmitCount) ≤ m.emits.words) (sym is)
+      let few_now : v.fram (word_place m EmitCount) ≤ m.emits.words = subst (λ q. q (word_place m EmitCount) ≤ m.emits.words) (sym j.fram)
       (subst (λ o. o ≤ m.emits.words) (sym en) few) in
-      let word_now : v.fram (word_place m SentBase) < 0x10000 = subst (λ q. q (word_place m SentBase) < 0x10000) (sym is)
+      let word_now : v.fram (word_place m SentBase) < 0x10000 = subst (λ q. q (word_place m SentBase) < 0x10000) (sym j.fram)
       (subst (λ s. s < 0x10000) (sym sb) word) in
       let o = v.fram (word_place m EmitCount) in
-      let r : Q (emits_sent m v.fram) (v.fram (word_place m SentBase)) o v.fram v.readings_left =
+      let r : Q (emits_sent m v.fram) (v.fram (word_place m SentBase)) o v.fram v.inputs =
       subst (λ q. Comes code (emits_sent m v.fram) (4 + if_any o 1 + o * 5) (9 + if_any o 2 + o * 13) v
-      (BehindSends q ((v.fram (word_place m SentBase) + o) % 0x10000) v.fram v.readings_left)) there
-      (send_part (p + 34) v (omega (arith, high)) at s2 l3 few_now word_now) in
-      let r1 : Q (emits_sent m g) (g (word_place m SentBase)) (g (word_place m EmitCount)) g rs =
-      subst (λ l. Q (emits_sent m g) (g (word_place m SentBase)) (g (word_place m EmitCount)) g l) left
-      (subst (λ q. Q (emits_sent m q) (q (word_place m SentBase)) (q (word_place m EmitCount)) q v.readings_left) is r) in
-      subst (λ es. Q es base k g rs) sends_same (subst (λ o. Q (emits_sent m g) base o g rs) en
-      (subst (λ s. Q (emits_sent m g) s (g (word_place m EmitCount)) g rs) sb r1)) in
-      let ab = chain code x1 x2 y1 y2 (p + 34) u cs ss g rs (BehindSends (p + 64) number g rs) a b in
+      (BehindSends q ((v.fram (word_place m SentBase) + o) % 0x10000) v.fram v.inputs)) there
+      (send_part (p + 34) v (omega (arith, high)) j.pc s2 l3 few_now word_now) in
+      let r1 : Q (emits_sent m g) (g (word_place m SentBase)) (g (word_place m EmitCount)) g inputs =
+      known_at (λ q l. Q (emits_sent m q) (q (word_place m SentBase)) (q (word_place m EmitCount)) q l) j r in
+      subst (λ es. Q es base k g inputs) sends_same (subst (λ o. Q (emits_sent m g) base o g inputs) en
+      (subst (λ s. Q (emits_sent m g) s (g (word_place m EmitCount)) g inputs) sb r1)) in
+      let ab = comes_on code x1 x2 y1 y2 u (IsAt (p + 34) g inputs) (BehindSends (p + 64) number g inputs) cs ss a b in
       let ls = commit_closed m f in
-      let d : (v : Core) → BehindSends (p + 64) number g rs v → Comes code ls 4 17 v (IsAt start (fram_after ls g) rs) =
+      let d : (v : Core) → BehindSends (p + 64) number g inputs v → Comes code ls 4 17 v (IsAt start (fram_after ls g) inputs) =
       λ v j.
-      let R : ℕ → (ℕ → ℕ) → List ℕ → Type 0 = λ next q l. Comes code (closed_with next number) 4 17 v
+      let R : ℕ → (ℕ → ℕ) → Inputs → Type 0 = λ next q l. Comes code (closed_with next number) 4 17 v
       (IsAt start (fram_after (closed_with next number) q) l) in
       let r = close_part (p + 64) start number v j.at.pc even c4 j.next_number in
-      subst (λ next. R next g rs) nx (subst (λ l. R (g (word_place m NextTask)) g l) j.at.readings_left
-      (subst (λ q. R (q (word_place m NextTask)) q v.readings_left) j.at.fram r)) in
-      let abd = comes_on code (x1 + x2) 4 (y1 + y2) 17 u (BehindSends (p + 64) number g rs) (IsAt start (fram_after ls g) rs) (cs ++ ss) ls ab d in
+      subst (λ next. R next g inputs) nx (known_at (λ q l. R (q (word_place m NextTask)) q l) j.at r) in
+      let abd = comes_on code (x1 + x2) 4 (y1 + y2) 17 u (BehindSends (p + 64) number g inputs) (IsAt start (fram_after ls g) inputs) (cs ++ ss) ls ab d in
       let es : (cs ++ ss) ++ ls ≡ commit_effects m f = append_assoc cs ss ls in
       let fs : fram_after ls g ≡ fram_after (commit_effects m f) f =
       sym (fram_after-append cs (ss ++ ls) f ∙ fram_after-append ss ls g ∙ ap (fram_after ls) (sends_keep k base m.emits.address f g)) in
       recounted code (commit_effects m f) (x1 + x2 + 4) (commit_steps n ws k) (y1 + y2 + 17) (commit_cycles n ws k) u _ (omega arith) (omega arith)
-      (subst (λ x. Comes code (commit_effects m f) (x1 + x2 + 4) (y1 + y2 + 17) u (IsAt start x rs)) fs
-      (subst (λ x. Comes code x (x1 + x2 + 4) (y1 + y2 + 17) u (IsAt start (fram_after ls g) rs)) es abd))
+      (subst (λ x. Comes code (commit_effects m f) (x1 + x2 + 4) (y1 + y2 + 17) u (IsAt start x inputs)) fs
+      (subst (λ x. Comes code x (x1 + x2 + 4) (y1 + y2 + 17) u (IsAt start (fram_after ls g) inputs)) es abd))
 
 pub commit_is_made : CommitIsMade
 commit_is_made code m at start u tidy places high even h e can word = commit_runs code tidy m places at start u high even h e can word

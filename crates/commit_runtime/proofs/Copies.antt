@@ -2,7 +2,7 @@
 use Rattle.std.proofs.Common.{◌≡◌, ◌≢◌, ℕ, zero, suc, ◌+◌, ◌*◌, ◌%◌, ◌<◌, ◌≤◌, ◌⊎◌, inl, inr, List, [], ◌∷◌, ◌++◌, refl, sym, ap, ◌∙◌, arith}
 use Rattle.std.specs.List.{All}
 use Rattle.std.proofs.lemmas.List.Elements.{All-nil, All-cons, All-head, All-tail, All-weaker}
-use Rattle.runtime_code.specs.fram_board.Effects.{Store, Send}
+use Rattle.runtime_code.specs.fram_board.Effects.{Store, Outside, Offered}
 use Rattle.runtime_code.specs.machine_effects.World.{put, fram_after}
 use Rattle.runtime_code.proofs.machine_effects.Interface.{put_other}
 use Rattle.runtime_code.specs.runtime_effects.Places.{CopyPair}
@@ -46,8 +46,8 @@ region_stays xs f p bytes a out low high =
 pub sends_alike : (n k p : ℕ) (f g : ℕ → ℕ) → ((a : ℕ) → p ≤ a → a < p + 2 * n → g a ≡ f a) → sends n k p g ≡ sends n k p f
 sends_alike zero k p f g h = refl
 sends_alike (suc n) k p f g h =
-    ap (λ w. Send k w ∷ sends n ((k + 1) % 0x10000) (p + 2) g) (h p (omega arith) (omega arith))
-    ∙ ap (λ es. Send k (f p) ∷ es) (sends_alike n ((k + 1) % 0x10000) (p + 2) f g (λ a l m. h a (omega (arith, l)) (omega (arith, m))))
+    ap (λ w. Outside (Offered k w) ∷ sends n ((k + 1) % 0x10000) (p + 2) g) (h p (omega arith) (omega arith))
+    ∙ ap (λ es. Outside (Offered k (f p)) ∷ es) (sends_alike n ((k + 1) % 0x10000) (p + 2) f g (λ a l m. h a (omega (arith, l)) (omega (arith, m))))
 
 -- sends leave FRAM
 pub sends_keep : (n k p : ℕ) (f g : ℕ → ℕ) → fram_after (sends n k p f) g ≡ g

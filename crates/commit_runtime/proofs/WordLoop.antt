@@ -10,6 +10,7 @@ use Rattle.runtime_code.specs.msp_isa.declared.instructions.Condition.TheVariant
 use Rattle.runtime_code.specs.msp_step.Effect.{word_sum, distance}
 use Rattle.runtime_code.specs.fram_board.Effects.{Effect, Store}
 use Rattle.runtime_code.specs.machine_effects.World.{put, fram_after}
+use Rattle.runtime_code.specs.machine_effects.Inputs.{Inputs}
 use Rattle.runtime_code.specs.machine_effects.Going.{Goes}
 use Rattle.runtime_code.specs.machine_effects.Machine.{Code, IsFram}
 use Rattle.runtime_code.specs.code_forms.Forms.{Core, Form, Move, Calculate, Jump, R6, R7, R8, Constant, PointedNext, ToPointed, instruction_of}
@@ -24,7 +25,7 @@ use Rattle.commit_runtime.specs.Listing.{word_loop}
 use Rattle.memory_map.specs.MemoryMap.{MemoryMap}
 
 -- behind an entry's words: the entries that are left and the place of the next one are as they were
-pub record BehindWords (address entries next : ℕ) (memory : ℕ → ℕ) (left : List ℕ) (u : Core) : Type 0 where
+pub record BehindWords (address entries next : ℕ) (memory : ℕ → ℕ) (left : Inputs) (u : Core) : Type 0 where
   pub at : IsAt address memory left u
   pub entries_left : u.work 4 ≡ entries
   pub next_entry : u.work 5 ≡ next
@@ -93,11 +94,11 @@ module _ (code : Code) (tidy : IsTidy code) (m : MemoryMap) (p : ℕ) (high : p 
   pub words_home : (n home copy : ℕ) (f : ℕ → ℕ) (u : Core) → u.pc ≡ p + 8 → u.work 8 ≡ n → u.work 6 ≡ home → u.work 7 ≡ copy → u.fram ≡ f
       → n < 0x10000 → All (IsCopied m) (run_pairs n home copy)
       → let es = copied_home (run_pairs n home copy) f in
-      Comes code es (2 + n * 4) (3 + n * 9) u (BehindWords (p + 12) (u.work 4) (u.work 5) (fram_after es f) u.readings_left)
+      Comes code es (2 + n * 4) (3 + n * 9) u (BehindWords (p + 12) (u.work 4) (u.work 5) (fram_after es f) u.inputs)
   words_home zero home copy f u e c d s fr l ok =
       let t : Core = record (counted u) { pc = p + 12 } in
       then_on code 2 0 3 0 u t _ [] [] (counts false u e (none_left (u.work 8) c))
-      (nothing code t _ (record { at = record { pc = refl; fram = fr; readings_left = refl }; entries_left = refl; next_entry = refl }))
+      (nothing code t _ (record { at = record { pc = refl; fram = fr; inputs = refl }; entries_left = refl; next_entry = refl }))
   words_home (suc n) home copy f u e c d s fr l ok =
       let first : CopyPair = record { home = home; copy = copy } in
       let rest = run_pairs n (home + 2) (copy + 2) in
@@ -122,10 +123,10 @@ module _ (code : Code) (tidy : IsTidy code) (m : MemoryMap) (p : ℕ) (high : p 
       let r = words_home n next_home (copy + 2) g u2 (omega arith) (omega (arith, c, l)) refl (ap (λ x. x + 2) s) same_fram (omega (arith, l))
       (All-same (IsCopied m) (run_pairs n next_home (copy + 2)) rest same words) in
       let Rest : List CopyPair → Type 0 = λ xs. Comes code (copied_home xs g) (2 + n * 4) (3 + n * 9) u2
-      (BehindWords (p + 12) (u.work 4) (u.work 5) (fram_after (copied_home xs g) g) u.readings_left) in
+      (BehindWords (p + 12) (u.work 4) (u.work 5) (fram_after (copied_home xs g) g) u.inputs) in
       let r' : Rest rest = subst Rest same r in
       let all = fram_after (copied_home rest g) g in
       recounted code _ (2 + (2 + (2 + n * 4))) (2 + suc n * 4) (3 + (6 + (3 + n * 9))) (3 + suc n * 9) u _ (omega arith) (omega arith)
       (then_on code 2 (2 + (2 + n * 4)) 3 (6 + (3 + n * 9)) u u1 _ [] _ a
-      (subst (λ l. Comes code (l ++ copied_home rest g) (2 + (2 + n * 4)) (6 + (3 + n * 9)) u1 (BehindWords (p + 12) (u.work 4) (u.work 5) all u.readings_left))
+      (subst (λ l. Comes code (l ++ copied_home rest g) (2 + (2 + n * 4)) (6 + (3 + n * 9)) u1 (BehindWords (p + 12) (u.work 4) (u.work 5) all u.inputs))
       same_effects (then_on code 2 (2 + n * 4) 6 (3 + n * 9) u1 u2 _ done _ b r')))

@@ -22,7 +22,7 @@ CommitIsMade = (code : Code) (m : MemoryMap) (at start : ℕ) (u : Core) → IsT
     let words = length (listed m u.fram) in
     let emits = u.fram (word_place m EmitCount) in
     let es = commit_effects m u.fram in
-    Comes code es (commit_steps entries words emits) (commit_cycles entries words emits) u (IsAt start (fram_after es u.fram) u.readings_left)
+    Comes code es (commit_steps entries words emits) (commit_cycles entries words emits) u (IsAt start (fram_after es u.fram) u.inputs)
 
 -- the code's length
 abbrev pub CommitIsShort : Type 0

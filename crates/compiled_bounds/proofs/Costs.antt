@@ -3,6 +3,7 @@ use Rattle.std.proofs.Common.{◌≡◌, ℕ, ◌+◌, ◌*◌, ◌≤◌, sym, 
 use Rattle.std.proofs.lemmas.Option.{slice_get-map, get_or_from_slice_get}
 use Rattle.std.specs.Option.{option_map}
 use Rattle.std.specs.Prelude.{slice_get}
+use Rattle.compiled_model.specs.machine_effects.Inputs.{Inputs}
 use Rattle.compiled_model.specs.cost_bound.Table.{cycles_column, block_price}
 use Rattle.compiled_model.specs.cost_bound.Counts.{emits_of}
 use Rattle.compiled_model.specs.cost_bound.Allowance.{CheckedProgram, CheckedTask, IsAllowed, list_of, scalars_of, task_bound, versions_of}
@@ -51,7 +52,7 @@ all_within v1 v2 privates scalars body price list emits v e b =
     omega (arith, v, e, b, clears, copies, lists, sends)
 
 module _ (p : CheckedProgram) (allow : Allow) (plans : List TaskPlanValue) (l : MemoryMap) (allowed : IsAllowed p allow) (few : PrivatesAreCounted p l)
-    (layout : IsLayout p allow plans l) (t : ℕ) (fram : ℕ → ℕ) (readings : List ℕ) (task : CheckedTask) (own : TaskPlace)
+    (layout : IsLayout p allow plans l) (t : ℕ) (fram : ℕ → ℕ) (inputs : Inputs) (task : CheckedTask) (own : TaskPlace)
     (at_task : slice_get p.tasks t ≡ Some task) (at_own : slice_get l.tasks t ≡ Some own) where
   body_is : task_body p t ≡ task.body
   body_is = ap body_of at_task
@@ -74,10 +75,10 @@ module _ (p : CheckedProgram) (allow : Allow) (plans : List TaskPlanValue) (l : 
       let same = ap (scalars_of p.shared) body_is in
       omega (arith, counted, mine, same)
 
-  body_costs : spent (task_program p l t) (started fram readings)
+  body_costs : spent (task_program p l t) (started fram inputs)
       ≤ block_price cycles_column (task_body p t) + 26 * length (privates_in (task_entries l) t)
   body_costs =
-      let w : WordState = started fram readings in
+      let w : WordState = started fram inputs in
       let q : Program = lowered_task l own task.body in
       let a = blocks_keep_to_cycles (places_of (map_seen task.body l) own) task.body w in
       let b = entries_cost (map_seen task.body l) own (behaviour q w).end in
@@ -87,19 +88,19 @@ module _ (p : CheckedProgram) (allow : Allow) (plans : List TaskPlanValue) (l : 
       let f = privates_few own.privates in
       omega (arith, a, b, c, d, e, f)
 
-  within : whole_cycles p l t fram readings ≤ task_bound (versions_of p) p.shared (task_body p t)
+  within : whole_cycles p l t fram inputs ≤ task_bound (versions_of p) p.shared (task_body p t)
   within =
       all_within l.versions.words (versions_of p) (length (privates_in (task_entries l) t)) (scalars_of p.shared (task_body p t))
-      (spent (task_program p l t) (started fram readings)) (block_price cycles_column (task_body p t))
+      (spent (task_program p l t) (started fram inputs)) (block_price cycles_column (task_body p t))
       (list_of p.shared (task_body p t)) (emits_of (task_body p t)) (layout.versions ∙ allowed.versions) privates_are body_costs
 
 pub tasks_keep_to_the_bound : TasksKeepToTheBound
 tasks_keep_to_the_bound p allow plans l allowed few layout = record {
-  within = λ t fram readings below words are_words.
+  within = λ t fram inputs below words are_words.
       let task = element p.tasks t below in
       let count = layout.tasks.count in
       let own = element l.tasks t (omega (arith, below, count)) in
-      within p allow plans l allowed few layout t fram readings task.0 own.0 task.1 own.1;
+      within p allow plans l allowed few layout t fram inputs task.0 own.0 task.1 own.1;
   commits = λ t below. subst (λ n. 9 + commit_cycles l.entries l.entries l.emits.words ≤ n) (sym (bound_is_the_sources p l))
       (commit_within_bound p l.entries l.emits.words (omega (arith, below)) (layout.list ∙ allowed.list) (layout.emits ∙ allowed.emits));
 }

@@ -1,9 +1,9 @@
 -- What a compiled source's bound pays for, and what its runtime's words hold at most.
-use Rattle.std.specs.Prelude.{◌≡◌, ℕ, ◌+◌, ◌*◌, ◌<◌, ◌≤◌, List, ◌++◌, All}
+use Rattle.std.specs.Prelude.{◌≡◌, ℕ, ◌+◌, ◌*◌, ◌<◌, ◌≤◌, List, ◌++◌}
 use Rattle.compiled_model.specs.fram_board.Board.{BoardValue}
 use Rattle.compiled_model.specs.fram_board.Run.{BoardCharge, Moment, RunOutcome}
 use Rattle.compiled_model.specs.machine_effects.World.{World, EachStore}
-use Rattle.compiled_model.specs.machine_effects.Machine.{fram_of}
+use Rattle.compiled_model.specs.machine_effects.Inputs.{Inputs, InputsAreWords}
 use Rattle.compiled_model.specs.machine_effects.Runs.{last_board}
 use Rattle.compiled_model.specs.cost_bound.declared.allowance.Allow.{Allow}
 use Rattle.compiled_model.specs.cost_bound.Allowance.{CheckedProgram, IsAllowed, bound_of}
@@ -13,9 +13,10 @@ use Rattle.compiled_model.specs.linked_code.Rooms.{PrivatesAreCounted}
 use Rattle.compiled_model.specs.memory_map.declared.words.RuntimeWord.TheVariants.{ListLength, EmitCount, Version}
 use Rattle.compiled_model.specs.memory_map.MemoryMap.{MemoryMap, word_place}
 use Rattle.compiled_model.specs.privatise.Layouts.{IsLayout}
-use Rattle.compiled_model.specs.crash_rules.Model.{IsWord, bound}
+use Rattle.compiled_model.specs.crash_rules.Model.{bound}
 use Rattle.compiled_model.specs.crash_rules.Runs.{Program}
 use Rattle.compiled_model.specs.crash_rules.Laws.{Origin}
+use Rattle.model_runs.specs.run_charges.View.{outside_of}
 use Rattle.model_runs.specs.run_charges.Laws.{IsRunOfWords}
 use Rattle.compiled_model.specs.memory_map.Laws.{AreApart}
 use Rattle.compiled_model.specs.stands_for.StandsFor.{UndecidedAt}
@@ -48,12 +49,12 @@ pub record CountsFit (l : MemoryMap) (a w : ℕ) : Type 0 where
 
 -- each attempt stores so
 abbrev pub AttemptsFit : CheckedProgram → MemoryMap → Type 0
-AttemptsFit p l = (s : State) (x : World) (readings : List ℕ) → All IsWord readings → UndecidedAt (program_places p l) (state_view p l) s x
-    → EachStore (CountsFit l) ((compiled_model p l).attempt x.fram readings).effects
+AttemptsFit p l = (s : State) (x : World) (inputs : Inputs) → InputsAreWords inputs → UndecidedAt (program_places p l) (state_view p l) s x
+    → EachStore (CountsFit l) ((compiled_model p l).attempt x.fram inputs).effects
 
 -- at each board of a run the capacities are kept, where they are at first
 abbrev pub CapacitiesAreKept : Program → Type 0
 CapacitiesAreKept c = (p : CheckedProgram) (l : MemoryMap) → AreApart l → AttemptsFit p l
     → (readings : List ℕ) (origin : Origin State) (x : World) (cs : List BoardCharge) (b : BoardValue) (r : RunOutcome)
     → IsRunOfWords cs b r → BearsModel (compiled_model p l) c readings origin x b → KeepsCapacities l x.fram
-    → (ms rest : List Moment) → r.moments ≡ ms ++ rest → KeepsCapacities l (fram_of (last_board b ms).fram)
+    → (ms rest : List Moment) → r.moments ≡ ms ++ rest → KeepsCapacities l (outside_of (last_board b ms)).fram

@@ -1,5 +1,6 @@
 -- The crash theorem on compiled sources.
-use Rattle.std.proofs.Common.{◌*◌, ◌≤◌, sym, subst}
+use Rattle.std.proofs.Common.{◌*◌, ◌≤◌, sym, subst, arith}
+use Rattle.task_attempts.specs.crash_rules.Model.{bound}
 use Rattle.task_attempts.proofs.crash_rules.Interface.{crash_theorem, stops_short, sent_once, spans_follow, progress_law}
 use Rattle.task_attempts.specs.compiled_model.Parts.{compiled_model}
 use Rattle.compiled_bounds.proofs.Interface.{bound_is_the_sources}
@@ -23,9 +24,9 @@ runs_stand text p allow plans l laid = crash_theorem (compiled_model p l) (compi
     (code_keeps text p allow plans l laid)
 
 pub runs_stop : RunsStopWhereTheSourceIsShort
-runs_stop text p allow plans l laid readings origin x s begins charges t k runs b up fram left n price e halted =
+runs_stop text p allow plans l laid readings origin b up n price e halted =
     let r = stops_short (compiled_model p l) (compiled_program p l) (sources_keep_the_laws text p allow plans l laid) (code_keeps text p allow plans l laid)
-    readings origin x s begins charges t k runs b up fram left n price e halted in
+    readings origin b up n price e halted in
     (r.0, (r.1.0, r.1.2))
 
 pub words_are_sent_once : WordsAreSentOnce
@@ -36,7 +37,7 @@ reads_in_order text p allow plans l laid = spans_follow (compiled_model p l) (co
     (code_keeps text p allow plans l laid)
 
 pub bounds_pay : BoundsPayForTransitions
-bounds_pay text p allow plans l laid readings origin x s begins charges t k runs b q up fram left n amount steps pays spends =
+bounds_pay text p allow plans l laid readings origin b up n amount pays spent =
+    let own : n * bound (compiled_model p l) ≤ amount = subst (λ c. n * c ≤ amount) (sym (bound_is_the_sources p l)) pays in
     progress_law (compiled_model p l) (compiled_program p l) (sources_keep_the_laws text p allow plans l laid) (code_keeps text p allow plans l laid)
-    readings origin x s begins charges t k runs b q up fram left n amount steps
-    (subst (λ c. n * c ≤ amount) (sym (bound_is_the_sources p l)) pays) spends
+    readings origin b up n amount (omega (arith, own)) spent

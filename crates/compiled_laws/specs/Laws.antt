@@ -1,5 +1,5 @@
 -- What holds of each accepted source that is compiled, whatever its runs.
-use Rattle.std.specs.Prelude.{◌≡◌, ℕ, ◌+◌, ◌*◌, ◌≤◌, List, [], ◌∷◌, length, drop}
+use Rattle.std.specs.Prelude.{◌≡◌, ℕ, ◌+◌, ◌*◌, ◌≤◌, List, [], ◌∷◌, length}
 use Rattle.task_attempts.specs.msp_step.declared.machine.Stop.{Stop}
 use Rattle.task_attempts.specs.msp_step.declared.machine.Stop.TheVariants as stop
 use Rattle.task_attempts.specs.machine_effects.World.{World}
@@ -10,12 +10,11 @@ use Rattle.task_attempts.specs.cost_bound.declared.allowance.Allow.{Allow}
 use Rattle.task_attempts.specs.cost_bound.Allowance.{bound_of}
 use Rattle.task_attempts.specs.war_analysis.PlanValue.{TaskPlanValue}
 use Rattle.task_attempts.specs.source_values.Runs.{CheckedProgram, State}
-use Rattle.task_attempts.specs.memory_map.declared.words.RuntimeWord.TheVariants.{Gate}
-use Rattle.task_attempts.specs.memory_map.MemoryMap.{MemoryMap, word_place}
+use Rattle.task_attempts.specs.memory_map.MemoryMap.{MemoryMap}
 use Rattle.task_attempts.specs.crash_rules.Model.{ModelLaws, Short}
-use Rattle.task_attempts.specs.crash_rules.History.{History, observe, behind_boot, first_history}
-use Rattle.task_attempts.specs.crash_rules.Runs.{ProgramLaws, Charge, Spends}
-use Rattle.task_attempts.specs.crash_rules.Laws.{Origin, Resting, StandsFor, IsLawful, Matches, Begins, RunsTo, AcceptedWords, AreConsecutive}
+use Rattle.task_attempts.specs.crash_rules.History.{History, observe, behind_boot, first_history, inputs_from}
+use Rattle.task_attempts.specs.crash_rules.Runs.{ProgramLaws, Charge, IsSpentFrom}
+use Rattle.task_attempts.specs.crash_rules.Laws.{Origin, Resting, StandsFor, IsLawful, Matches, Begins, HasRun, PowersUpBehind, AcceptedWords, AreConsecutive}
 use Rattle.compiled_bounds.specs.run_charges.Charges.{AlwaysLeaves}
 use Rattle.task_attempts.specs.compiled_model.Parts.{compiled_model}
 use Rattle.compiled_runs.specs.Program.{source_code, compiled_program}
@@ -37,25 +36,24 @@ CodeKeepsTheLaws = OfSources (λ p l. ProgramLaws (compiled_model p l) (compiled
 -- no run changes the code
 abbrev pub CodeStays : Type 0
 CodeStays = OfSources (λ p l. (readings : List ℕ) (origin : Origin State) (x : World) (s : MachineBoard) → Begins (compiled_model p l) readings origin x s
-    → AlwaysLeaves (compiled_program p l) l.boot.address (length (words_of (source_code p l))) (word_place l Gate) s (first_history (word_place l Gate) x))
+    → AlwaysLeaves (compiled_program p l) l.boot.address (length (words_of (source_code p l))) (compiled_model p l).marks s
+    (first_history (compiled_model p l).marks x))
 
 -- After any charges, each cut behind any number of instructions, from any boards that power-ups leave: the board stands for a run of
 -- the source, and the effects since the last boot or done are a prefix of the start, the task and the commit there
 abbrev pub RunsStandForTheSource : Type 0
-RunsStandForTheSource = OfSources (λ p l. (readings : List ℕ) (origin : Origin State) (x : World) (s : MachineBoard)
-    → Begins (compiled_model p l) readings origin x s
-    → (charges : List Charge) (t : MachineBoard) (h : History) → RunsTo (compiled_model p l) (compiled_program p l) x s charges t h
+RunsStandForTheSource = OfSources (λ p l. (readings : List ℕ) (origin : Origin State) (t : MachineBoard) (h : History)
+    → HasRun (compiled_model p l) (compiled_program p l) readings origin t h
     → IsLawful (compiled_model p l) readings origin h × Matches readings t h)
 
 -- it stops for want of a reading alone, and only where the source is short
 abbrev pub RunsStopWhereTheSourceIsShort : Type 0
-RunsStopWhereTheSourceIsShort = OfSources (λ p l. (readings : List ℕ) (origin : Origin State) (x : World) (s : MachineBoard)
-    → Begins (compiled_model p l) readings origin x s
-    → (charges : List Charge) (t : MachineBoard) (h : History) → RunsTo (compiled_model p l) (compiled_program p l) x s charges t h
-    → (b : MachineBoard) → (compiled_program p l).IsPoweredUp b → b.fram ≡ t.fram → b.readings_left ≡ t.readings_left
+RunsStopWhereTheSourceIsShort = OfSources (λ p l. (readings : List ℕ) (origin : Origin State) (b : MachineBoard)
+    → (up : PowersUpBehind (compiled_model p l) (compiled_program p l) readings origin b)
     → (n price : ℕ) (e : Stop) → (going (compiled_program p l).step n b).status ≡ Halted price e
-    → let k = observe (word_place l Gate) (going (compiled_program p l).step n b).effects (behind_boot h) in
-    (e ≡ stop.NoReading) × ((st : StandsFor (compiled_model p l) readings origin k) × ((compiled_model p l).task st.state (drop k.since readings) ≡ Short)))
+    → let k = observe (compiled_model p l).marks (going (compiled_program p l).step n b).effects (behind_boot up.history) in
+    (e ≡ stop.NoReading) × ((st : StandsFor (compiled_model p l) readings origin k)
+    × ((compiled_model p l).task st.state (inputs_from readings k.since) ≡ Short)))
 
 -- words are accepted only between a decide and its done, each once
 abbrev pub WordsAreSentOnce : Type 0
@@ -64,17 +62,14 @@ WordsAreSentOnce = OfSources (λ p l. (readings : List ℕ) (origin : Origin Sta
 
 -- in one charge the committed readings of the transitions follow one another, from the first reading on
 abbrev pub OneChargeReadsInOrder : Type 0
-OneChargeReadsInOrder = OfSources (λ p l. (readings : List ℕ) (s0 : State) (x : World) (s : MachineBoard)
-    → Begins (compiled_model p l) readings (Resting s0) x s
-    → (compiled_model p l).Undecided s0 x
-    → (e : Charge) (t : MachineBoard) (h : History) → RunsTo (compiled_model p l) (compiled_program p l) x s (e ∷ []) t h
-    → AreConsecutive 0 h.completed h.since)
+OneChargeReadsInOrder = OfSources (λ p l. (readings : List ℕ) (s : State) (t : MachineBoard) (h : History)
+    → (run : HasRun (compiled_model p l) (compiled_program p l) readings (Resting s) t h)
+    → (compiled_model p l).Undecided s run.world → (e : Charge) → run.charges ≡ e ∷ [] → AreConsecutive 0 h.completed h.since)
 
 -- a charge of at least n bounds that is spent has at least n dones
 abbrev pub BoundsPayForTransitions : Type 0
-BoundsPayForTransitions = OfSources (λ p l. (readings : List ℕ) (origin : Origin State) (x : World) (s : MachineBoard)
-    → Begins (compiled_model p l) readings origin x s
-    → (charges : List Charge) (t : MachineBoard) (h : History) → RunsTo (compiled_model p l) (compiled_program p l) x s charges t h
-    → (b q : MachineBoard) → (compiled_program p l).IsPoweredUp b → b.fram ≡ t.fram → b.readings_left ≡ t.readings_left
-    → (n amount steps : ℕ) → n * bound_of p ≤ amount → Spends (compiled_program p l).step amount steps b q
-    → n + length h.completed ≤ length (observe (word_place l Gate) (going (compiled_program p l).step steps b).effects (behind_boot h)).completed)
+BoundsPayForTransitions = OfSources (λ p l. (readings : List ℕ) (origin : Origin State) (b : MachineBoard)
+    → (up : PowersUpBehind (compiled_model p l) (compiled_program p l) readings origin b)
+    → (n amount : ℕ) → n * bound_of p ≤ amount → (spent : IsSpentFrom (compiled_program p l).step amount b)
+    → n + length up.history.completed
+    ≤ length (observe (compiled_model p l).marks (going (compiled_program p l).step spent.steps b).effects (behind_boot up.history)).completed)

@@ -1,6 +1,7 @@
 -- What the code of a compiled source needs of its tasks, beyond the laws of the model: their cycles, and where they leave for.
-use Rattle.std.specs.Prelude.{◌≡◌, ℕ, ◌+◌, ◌<◌, ◌≤◌, true, List, length, All}
+use Rattle.std.specs.Prelude.{◌≡◌, ℕ, ◌+◌, ◌<◌, ◌≤◌, true, length}
 use Rattle.linked_code.specs.machine_effects.World.{World, EachStore}
+use Rattle.linked_code.specs.machine_effects.Inputs.{Inputs, InputsAreWords}
 use Rattle.linked_code.specs.cost_bound.Allowance.{task_bound, versions_of, list_of}
 use Rattle.linked_code.specs.cost_bound.Counts.{emits_of}
 use Rattle.lower.specs.source_values.Runs.{CheckedProgram, State, task_body}
@@ -11,7 +12,7 @@ use Rattle.linked_code.specs.memory_map.MemoryMap.{MemoryMap}
 use Rattle.linked_code.specs.boot_runtime.Entries.{task_entries}
 use Rattle.linked_code.specs.boot_runtime.Listing.{privates_in, start_cycles}
 use Rattle.linked_code.specs.commit_runtime.Listing.{commit_cycles}
-use Rattle.stands_for.specs.crash_rules.Model.{IsWord, bound}
+use Rattle.stands_for.specs.crash_rules.Model.{bound}
 use Rattle.stands_for.specs.StandsFor.{HoldsWords, UndecidedAt, StartedAt}
 use Rattle.compiled_model.specs.Places.{program_places}
 use Rattle.compiled_model.specs.View.{state_view}
@@ -19,16 +20,16 @@ use Rattle.compiled_model.specs.Parts.{task_program, compiled_model}
 
 -- a task, from a power-up up to the end of its commit: a boot, which takes 9 cycles at most, a start with the clearing of the version
 -- words, the body and the commit, of as many entries as words: each may be a run of its own
-abbrev pub whole_cycles : CheckedProgram → MemoryMap → ℕ → (ℕ → ℕ) → List ℕ → ℕ
-whole_cycles p l t fram readings =
-    9 + start_cycles true l.versions.words (length (privates_in (task_entries l) t)) + code_spent (task_program p l t) (started fram readings)
+abbrev pub whole_cycles : CheckedProgram → MemoryMap → ℕ → (ℕ → ℕ) → Inputs → ℕ
+whole_cycles p l t fram inputs =
+    9 + start_cycles true l.versions.words (length (privates_in (task_entries l) t)) + code_spent (task_program p l t) (started fram inputs)
     + commit_cycles (list_of p.shared (task_body p t)) (list_of p.shared (task_body p t)) (emits_of (task_body p t))
 
--- each task keeps to its bound, whatever FRAM holds and whatever the readings are; and where there is a task, a boot with the commit of a
+-- each task keeps to its bound, whatever FRAM holds and whatever the inputs are; and where there is a task, a boot with the commit of a
 -- full list and full buffer keeps to the greatest
 pub record CostsAreWithin (p : CheckedProgram) (l : MemoryMap) : Type 0 where
-  pub within : (t : ℕ) (fram : ℕ → ℕ) (readings : List ℕ) → t < length p.tasks → HoldsWords fram → All IsWord readings
-      → whole_cycles p l t fram readings ≤ task_bound (versions_of p) p.shared (task_body p t)
+  pub within : (t : ℕ) (fram : ℕ → ℕ) (inputs : Inputs) → t < length p.tasks → HoldsWords fram → InputsAreWords inputs
+      → whole_cycles p l t fram inputs ≤ task_bound (versions_of p) p.shared (task_body p t)
   pub commits : (t : ℕ) → t < length p.tasks → 9 + commit_cycles l.entries l.entries l.emits.words ≤ bound (compiled_model p l)
 
 -- a program's end: it leaves for an address, or is short of readings
@@ -41,9 +42,9 @@ LeavesFor address Broken = ⊥
 
 -- from a started attempt on, each task leaves for the commit, or is short of readings
 pub record TasksLeave (p : CheckedProgram) (l : MemoryMap) : Type 0 where
-  pub leave : (s : State) (x : World) (readings : List ℕ) → All IsWord readings
+  pub leave : (s : State) (x : World) (inputs : Inputs) → InputsAreWords inputs
       → StartedAt (program_places p l) (state_view p l) s (privates_in (task_entries l) s.task) x
-      → LeavesFor l.commit.address (behaviour (task_program p l s.task) (started x.fram readings)).end
+      → LeavesFor l.commit.address (behaviour (task_program p l s.task) (started x.fram inputs)).end
 
 -- each task's program is one of which code can be made
 pub record ProgramsAreWhole (p : CheckedProgram) (l : MemoryMap) : Type 0 where
@@ -52,5 +53,5 @@ pub record ProgramsAreWhole (p : CheckedProgram) (l : MemoryMap) : Type 0 where
 
 -- each attempt stores below an address alone
 pub record AttemptsStoreBelow (p : CheckedProgram) (l : MemoryMap) (end : ℕ) : Type 0 where
-  pub below : (s : State) (x : World) (readings : List ℕ) → All IsWord readings → UndecidedAt (program_places p l) (state_view p l) s x
-      → EachStore (λ a w. a < end) ((compiled_model p l).attempt x.fram readings).effects
+  pub below : (s : State) (x : World) (inputs : Inputs) → InputsAreWords inputs → UndecidedAt (program_places p l) (state_view p l) s x
+      → EachStore (λ a w. a < end) ((compiled_model p l).attempt x.fram inputs).effects

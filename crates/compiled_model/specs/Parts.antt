@@ -1,5 +1,6 @@
 -- A compiled source as the crash theorem takes it: its tasks, its start, its tasks' programs, and the cycles that each is allowed.
-use Rattle.std.specs.Prelude.{ℕ, Bool, true, false, List, ◌++◌, Option, Some, None, get_or}
+use Rattle.std.specs.Prelude.{ℕ, Bool, true, false, ◌++◌, Option, Some, None, get_or}
+use Rattle.linked_code.specs.machine_effects.Inputs.{Inputs}
 use Rattle.linked_code.specs.cost_bound.Allowance.{task_bound, versions_of}
 use Rattle.lower.specs.source_values.Runs.{CheckedProgram, State, Completion, completion_of, attempt_of, task_body}
 use Rattle.linked_code.specs.array_versions.Program.{Program, nothing}
@@ -14,14 +15,14 @@ use Rattle.stands_for.specs.Program.{ProgramParts, program_model}
 use Rattle.compiled_model.specs.Places.{program_places}
 use Rattle.compiled_model.specs.View.{state_view}
 
--- the state behind a whole task, with the readings left over
+-- the state behind a whole task, with what is left over of the inputs
 abbrev pub outcome_of : State → Option Completion → Outcome State
 outcome_of s None = Short
-outcome_of s (Some c) = Ends (record { shared = c.shared; task = c.next; emitted = s.emitted ++ c.emitted }) c.left
+outcome_of s (Some c) = Ends (record { shared = c.shared; task = c.next; emitted = s.emitted ++ c.emitted }) (record { readings = c.left })
 
--- a state's current task, run whole on readings
-abbrev pub whole_task : CheckedProgram → State → List ℕ → Outcome State
-whole_task p s readings = outcome_of s (completion_of (attempt_of p s.task s.shared readings))
+-- a state's current task, run whole on inputs
+abbrev pub whole_task : CheckedProgram → State → Inputs → Outcome State
+whole_task p s inputs = outcome_of s (completion_of (attempt_of p s.task s.shared inputs.readings))
 
 -- whether a program came to its jump
 abbrev pub has_jumped : End → Bool
@@ -45,7 +46,7 @@ program_parts p l = record {
   task = whole_task p;
   cost = λ t. task_bound (versions_of p) p.shared (task_body p t);
   start = start_effects l (privates_in (task_entries l));
-  body = λ t fram readings. effects_of (behaviour (task_program p l t) (started fram readings));
+  body = λ t fram inputs. effects_of (behaviour (task_program p l t) (started fram inputs));
 }
 
 -- the source with its layout, as the crash theorem takes it

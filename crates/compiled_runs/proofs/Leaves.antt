@@ -9,6 +9,7 @@ use Rattle.compiled_model.proofs.code_forms.Interface.{powered_has_a_core}
 use Rattle.compiled_model.specs.lower.Lowered.{lowered}
 use Rattle.compiled_model.specs.crash_rules.Model.{IsElsewhere}
 use Rattle.compiled_model.specs.crash_rules.Runs.{ProgramLaws}
+use Rattle.compiled_model.specs.crash_rules.Laws.{PowersUpBehind, ScriptsStore}
 use Rattle.compiled_model.proofs.crash_rules.Interface.{stops_short, stores_only}
 use Rattle.compiled_model.proofs.stands_for.Interface.{each_weaker, commit_stores_there}
 use Rattle.compiled_model.proofs.linked_code.Interface.{linked_is_code}
@@ -40,6 +41,14 @@ code_is_placed p l f =
 
 pub runs_leave_the_code : RunsLeaveTheCode
 runs_leave_the_code p l r laws below readings origin x s begins charges t k charged q powered fram left n =
+    let up : PowersUpBehind (compiled_model p l) (compiled_program p l) readings origin q = record {
+      board = t;
+      history = k;
+      run = record { world = x; start = s; begins = begins; charges = charges; leads = charged };
+      powered = powered;
+      fram = fram;
+      readings_left = left;
+    } in
     let m = compiled_model p l in
     let c = compiled_program p l in
     let own : ProgramLaws m c = code_keeps_the_laws p l r laws in
@@ -49,14 +58,18 @@ runs_leave_the_code p l r laws below readings origin x s begins charges t k char
     let boot = (apart_of l r.fits.rules).boot in
     let end = (linked_is_code l (lowered l p) r.fits).end in
     let high = r.fits.high in
-    let stores = stores_only m c P laws own (λ st y rs w u. below.below st y rs w u)
-    (λ to y d. each_weaker _ P (λ a w h. let b = h.below in omega (arith, b, copies, boot)) _ (commit_stores_there places y r.apart d.pending))
-    readings origin x s begins charges t k charged q powered fram left n in
+    let scripts : ScriptsStore m P = record {
+      recoveries = λ st y u. tt;
+      attempts = below.below;
+      commits = λ to y inputs d. each_weaker _ P (λ a w h. let b = h.below in omega (arith, b, copies, boot)) _
+          (commit_stores_there places y r.apart d.pending);
+    } in
+    let stores = stores_only m c P laws own scripts readings origin q up n in
     record {
       code = record {
         stores = each_weaker P (IsOutside l.boot.address (length (words_of (source_code p l)))) (λ a w h. inl h) _ stores;
         stands = λ price pc word e.
-            let d = stops_short m c laws own readings origin x s begins charges t k charged q powered fram left n price (stop.Illegal pc word) e in
+            let d = stops_short m c laws own readings origin q up n price (stop.Illegal pc word) e in
             let no = d.0 in absurd (cc (no));
       };
       vector = each_weaker P (IsElsewhere 0xFFFE) (λ a w h e. omega (arith, h, e, end, high)) _ stores;

@@ -1,11 +1,12 @@
 -- The code makes each attempt and each commit within the task's bound.
-use Rattle.std.proofs.Common.{◌≡◌, ◌<◌, ◌≤◌, ◌+◌, ℕ, Bool, true, List, [], ◌∷◌, ◌++◌, length, refl, sym, ap, ◌∙◌, subst, inl, inr, All, arith, append-nil}
+use Rattle.std.proofs.Common.{◌≡◌, ◌<◌, ◌≤◌, ◌+◌, ℕ, Bool, true, List, [], ◌∷◌, ◌++◌, length, refl, sym, ap, ◌∙◌, subst, arith, append-nil}
 use Rattle.compiled_model.specs.msp_step.declared.machine.Stop.TheVariants as stop
 use Rattle.compiled_model.specs.fram_board.Effects.{Effect, Store}
 use Rattle.compiled_model.specs.machine_effects.World.{World, put, fram_after, world_after, world_after_one}
+use Rattle.compiled_model.specs.machine_effects.Inputs.{Inputs, InputsAreWords}
 use Rattle.compiled_model.specs.machine_effects.Going.{Stalls}
 use Rattle.compiled_model.specs.machine_effects.Machine.{Code, MachineBoard, exec}
-use Rattle.compiled_model.proofs.machine_effects.Interface.{join, join_stall, code_changes_by_effects, fram_after-append, put_same}
+use Rattle.compiled_model.proofs.machine_effects.Interface.{join, join_stall, code_changes_by_effects, fram_after-append}
 use Rattle.compiled_model.specs.code_forms.Forms.{Core, board_of}
 use Rattle.compiled_model.specs.code_forms.Code.{Runs, Starves}
 use Rattle.compiled_model.proofs.crash_rules.Interface.{world_fram}
@@ -29,8 +30,8 @@ use Rattle.compiled_model.specs.boot_runtime.Listing.{TaskEntry, entry_at, priva
 use Rattle.compiled_model.proofs.boot_runtime.Interface.{clearing_is_dearest}
 use Rattle.compiled_model.specs.commit_runtime.Listing.{commit_steps, commit_cycles}
 use Rattle.compiled_model.specs.lower.Lowered.{lowered}
-use Rattle.compiled_model.specs.crash_rules.Model.{Model, Outcome, Ends, Short, ProgramEffects, program_effects, IsWord, bound, ModelLaws, AttemptContract}
-use Rattle.compiled_model.specs.crash_rules.Model.{CommitKeeps, with_commit}
+use Rattle.compiled_model.specs.crash_rules.Model.{Model, Outcome, Ends, Short, ProgramEffects, program_effects, bound, ModelLaws, AttemptContract}
+use Rattle.compiled_model.specs.crash_rules.Model.{with_commit}
 use Rattle.compiled_model.specs.crash_rules.Runs.{Program, Makes}
 use Rattle.compiled_model.specs.stands_for.Program.{StartContract}
 use Rattle.compiled_model.specs.stands_for.StandsFor.{HoldsWords, StartedAt}
@@ -42,14 +43,20 @@ use Rattle.compiled_model.specs.Needs.{whole_cycles, LeavesFor}
 use Rattle.compiled_model.specs.linked_code.Linked.{ProgramsAreWhole}
 use Rattle.compiled_model.proofs.commit_runtime.Interface.{commit_grows}
 use Rattle.compiled_model.proofs.linked_code.Interface.{programs_count, to_start, to_task, DoesBody, body_there, commit_there, to_commit}
-use Rattle.compiled_runs.specs.Program.{placed_code, IsAtEntry, compiled_program}
+use Rattle.compiled_runs.specs.Program.{placed_code, IsBooting, IsStarting, compiled_program}
 use Rattle.compiled_runs.specs.Laws.{CanRun, CodeKeepsTheLaws}
 use Rattle.compiled_runs.proofs.Steps.{code_takes}
 
-behind_last : (es : List Effect) (a w : ℕ) (f : ℕ → ℕ) → fram_after (es ++ Store a w ∷ []) f a ≡ w
-behind_last es a w f = ap (λ g. g a) (fram_after-append es (Store a w ∷ []) f) ∙ put_same (fram_after es f) a w
+-- a source with its layout, whose code can run and which keeps the laws of a model
+record Source : Type 0 where
+  program : CheckedProgram
+  map : MemoryMap
+  can : CanRun program map
+  laws : ModelLaws (compiled_model program map)
 
-module _ (p : CheckedProgram) (l : MemoryMap) (r : CanRun p l) (laws : ModelLaws (compiled_model p l)) where
+module _ (source : Source) where
+  open source use {program as p, map as l, can as r, laws}
+
   abbrev m : Model State
   m = compiled_model p l
 
@@ -84,16 +91,18 @@ module _ (p : CheckedProgram) (l : MemoryMap) (r : CanRun p l) (laws : ModelLaws
     pub steps : ℕ
     pub cycles : ℕ
     pub within : cycles ≤ 6
-    pub comes : Comes code [] steps cycles core (IsAt start_at core.fram core.readings_left)
+    pub comes : Comes code [] steps cycles core (IsAt start_at core.fram core.inputs)
 
-  reaches_start : (b : MachineBoard) → IsAtEntry l b → b.fram (word_place l Gate) ≡ 0 → ReachesStart b
-  reaches_start b (inl k) z =
+  from_boot : (b : MachineBoard) → IsBooting l b → b.fram (word_place l Gate) ≡ 0 → ReachesStart b
+  from_boot b k z =
       let zero : k.core.fram (word_place l Gate) ≡ 0 = ap (λ s. s.fram (word_place l Gate)) (sym k.is) ∙ z in
       record { core = k.core; is = k.is; steps = 2; cycles = 6; within = omega arith; comes = to_start l (lowered l p) r.fits are_whole k.core k.pc zero }
-  reaches_start b (inr k) z =
+
+  from_start : (b : MachineBoard) → IsStarting l b → ReachesStart b
+  from_start b k =
       let u = k.core in
-      let here : IsAt start_at u.fram u.readings_left u = record { pc = k.pc; fram = refl; readings_left = refl } in
-      record { core = u; is = k.is; steps = 0; cycles = 0; within = omega arith; comes = no_steps code u (IsAt start_at u.fram u.readings_left) here }
+      let here : IsAt start_at u.fram u.inputs u = record { pc = k.pc; fram = refl; inputs = refl } in
+      record { core = u; is = k.is; steps = 0; cycles = 0; within = omega arith; comes = no_steps code u (IsAt start_at u.fram u.inputs) here }
 
   abbrev cost : ℕ → ℕ
   cost k = m.task_cost k
@@ -101,15 +110,6 @@ module _ (p : CheckedProgram) (l : MemoryMap) (r : CanRun p l) (laws : ModelLaws
   -- what the start of an attempt keeps
   start_keeps : StartContract (program_places p l) (state_view p l) privates (start_effects l privates)
   start_keeps = numbered_starts State (program_places p l) (state_view p l) privates r.apart r.privates
-
-  -- behind a commit the code is at the start of an attempt, where GATE is 0
-  behind_commit : (to : State) (x : World) → m.Committing to x → (v : Core) (rs : List ℕ)
-      → IsAt start_at (fram_after (commit_effects l x.fram) x.fram) rs v → IsAtEntry l (board_of v)
-  behind_commit to x d v rs h =
-      let k : CommitKeeps m (m.Committing to) to x = laws.commits to x d in
-      let gate : v.fram (word_place l Gate) ≡ 0 =
-      ap (λ f. f (word_place l Gate)) h.fram ∙ ap (λ es. fram_after es x.fram (word_place l Gate)) k.is ∙ behind_last k.before (word_place l Gate) 0 x.fram in
-      inr (record { core = v; is = refl; pc = h.pc; gate = λ e. omega (arith, gate, e) })
 
   -- the room of the list and of the words to send, and the number of the first
   record FitsCommit (k : ℕ) (f : ℕ → ℕ) : Type 0 where
@@ -121,19 +121,19 @@ module _ (p : CheckedProgram) (l : MemoryMap) (r : CanRun p l) (laws : ModelLaws
 
   fits_commit : (s next : State) (x : World) → m.Decided s next x → FitsCommit s.task x.fram
   fits_commit s next x d =
-      let e = d.decided.emit_count in let k = d.decided.within_emits in
+      let e = d.decided.sends.emit_count in let k = d.decided.sends.within_emits in
       record {
         can = pending_can_commit (program_places p l) x r.apart (laws.decided_committing s next x d).pending;
-        list = d.decided.within_list;
-        words = d.decided.within_words;
+        list = d.decided.home.within_list;
+        words = d.decided.home.within_words;
         emits = omega (arith, e, k);
-        base = d.decided.words (word_place l SentBase);
+        base = d.decided.sends.words (word_place l SentBase);
       }
 
   -- a pending commit, from a boot on: the list and the words to send have room, and the bound has the cycles for all that has
   commit_from_boot : (to : State) (accepted : List ℕ) (u : Core) → u.pc ≡ l.boot.address
       → (d : m.Committing to (record { fram = u.fram; accepted = accepted }))
-      → Makes c (bound m) (program_effects (m.commit u.fram) true) (board_of u)
+      → Makes c m.delay (bound m) (program_effects (m.commit u.fram u.inputs) true) (board_of u)
   commit_from_boot to accepted u e d =
       let x : World = record { fram = u.fram; accepted = accepted } in
       let q = d.pending in
@@ -146,22 +146,23 @@ module _ (p : CheckedProgram) (l : MemoryMap) (r : CanRun p l) (laws : ModelLaws
       record {
         steps = 3 + commit_steps n ws k;
         cycles = 9 + commit_cycles n ws k;
-        ends = λ t. (omega (arith, dearest, most), (board_of a.end, a.leads, behind_commit to x d a.end u.readings_left a.holds));
+        ends = λ t. record {
+          end = board_of a.end;
+          within = omega (arith, dearest, most);
+          leads = a.leads;
+          at_start = record { core = a.end; is = refl; pc = a.holds.pc };
+        };
         lacks = λ t. absurd (cc (t));
       }
 
-  makes_commit : (to : State) (x : World) (b : MachineBoard) → IsAtEntry l b → b.fram ≡ x.fram → m.Committing to x
-      → Makes c (bound m) (program_effects (m.commit b.fram) true) b
-  makes_commit to x b (inl k) e d =
+  makes_commit : (to : State) (x : World) (b : MachineBoard) → IsBooting l b → b.fram ≡ x.fram → m.Committing to x
+      → Makes c m.delay (bound m) (program_effects (m.commit b.fram b.inputs) true) b
+  makes_commit to x b k e d =
       let u = k.core in
       let f : x.fram ≡ u.fram = sym e ∙ ap (λ q. q.fram) k.is in
       let d' : m.Committing to (record { fram = u.fram; accepted = x.accepted }) =
       subst (λ g. m.Committing to (record { fram = g; accepted = x.accepted })) f d in
-      subst (λ q. Makes c (bound m) (program_effects (m.commit q.fram) true) q) (sym k.is) (commit_from_boot to x.accepted u k.pc d')
-  makes_commit to x b (inr k) e d =
-      let one : x.fram (word_place l Gate) ≡ 1 = d.pending.gate in
-      let f : k.core.fram (word_place l Gate) ≡ 1 = ap (λ q. q.fram (word_place l Gate)) (sym k.is) ∙ ap (λ g. g (word_place l Gate)) e ∙ one in
-      absurd (k.gate f)
+      subst (λ q. Makes c m.delay (bound m) (program_effects (m.commit q.fram q.inputs) true) q) (sym k.is) (commit_from_boot to x.accepted u k.pc d')
 
   -- an attempt that comes to its end is decided
   record IsDecidedBehind (s : State) (f : ℕ → ℕ) (es : List Effect) : Type 0 where
@@ -170,9 +171,9 @@ module _ (p : CheckedProgram) (l : MemoryMap) (r : CanRun p l) (laws : ModelLaws
     pub decided : m.Decided s next world
     pub fram : world.fram ≡ fram_after es f
 
-  decided_behind : (s : State) (x : World) (rs : List ℕ) (o : Outcome State) (q : ProgramEffects) → AttemptContract m s rs x o q → q.ends ≡ true
+  decided_behind : (s : State) (x : World) (inputs : Inputs) (o : Outcome State) (q : ProgramEffects) → AttemptContract m s inputs x o q → q.ends ≡ true
       → IsDecidedBehind s x.fram q.effects
-  decided_behind s x rs (Ends next left) q d t =
+  decided_behind s x inputs (Ends next left) q d t =
       let before = d.before in
       let es : List Effect = Store (word_place l Gate) 1 ∷ [] in
       record {
@@ -183,10 +184,23 @@ module _ (p : CheckedProgram) (l : MemoryMap) (r : CanRun p l) (laws : ModelLaws
             ∙ sym (fram_after-append before es x.fram)
             ∙ ap (λ k. fram_after k.effects x.fram) (sym d.is);
       }
-  decided_behind s x rs Short q d t = absurd (let e = d.is in cc (t, e))
+  decided_behind s x inputs Short q d t = absurd (let e = d.is in cc (t, e))
 
-  module _ (s : State) (accepted : List ℕ) (u : Core) (words : All IsWord u.readings_left)
-      (und : m.Undecided s (record { fram = u.fram; accepted = accepted })) where
+  -- an undecided world, and a machine with its FRAM from which the start of an attempt is reached
+  record Attempting : Type 0 where
+    state : State
+    accepted : List ℕ
+    core : Core
+    words : InputsAreWords core.inputs
+    undecided : m.Undecided state (record { fram = core.fram; accepted = accepted })
+    steps : ℕ
+    cycles : ℕ
+    few : cycles ≤ 6
+    comes : Comes code [] steps cycles core (IsAt start_at core.fram core.inputs)
+
+  module _ (at : Attempting) where
+    open at use {state as s, accepted, core as u, words, undecided as und, steps, cycles, few, comes}
+
     abbrev x : World
     x = record { fram = u.fram; accepted = accepted }
 
@@ -200,7 +214,7 @@ module _ (p : CheckedProgram) (l : MemoryMap) (r : CanRun p l) (laws : ModelLaws
     g = fram_after es u.fram
 
     abbrev b : Behaviour
-    b = behaviour (task_program p l k) (started g u.readings_left)
+    b = behaviour (task_program p l k) (started g u.inputs)
 
     abbrev f : ℕ → ℕ
     f = fram_after (es ++ b.effects) u.fram
@@ -225,116 +239,133 @@ module _ (p : CheckedProgram) (l : MemoryMap) (r : CanRun p l) (laws : ModelLaws
 
     leaves : LeavesFor l.commit.address b.end
     leaves =
-        let a = r.leave.leave s (world_after es x) u.readings_left words is_started in
-        subst (λ t. LeavesFor l.commit.address (behaviour (task_program p l t) (started g u.readings_left)).end) (sym is_current)
-        (subst (λ h. LeavesFor l.commit.address (behaviour (task_program p l s.task) (started h u.readings_left)).end) started_fram a)
+        let a = r.leave.leave s (world_after es x) u.inputs words is_started in
+        subst (λ t. LeavesFor l.commit.address (behaviour (task_program p l t) (started g u.inputs)).end) (sym is_current)
+        (subst (λ h. LeavesFor l.commit.address (behaviour (task_program p l s.task) (started h u.inputs)).end) started_fram a)
 
-    within : whole_cycles p l k g u.readings_left ≤ cost k
-    within = r.costs.within k g u.readings_left named start_words words
+    within : whole_cycles p l k g u.inputs ≤ cost k
+    within = r.costs.within k g u.inputs named start_words words
 
-    contract : AttemptContract m s u.readings_left x (m.task s u.readings_left) (m.attempt u.fram u.readings_left)
-    contract = laws.attempts s x u.readings_left words und
+    contract : AttemptContract m s u.inputs x (m.task s u.inputs) (m.attempt u.fram u.inputs)
+    contract = laws.attempts s x u.inputs words und
 
     -- the attempt's effects with its commit, by how its program ends
     abbrev script_by : End → ProgramEffects
-    script_by e = with_commit m u.fram (program_effects (es ++ b.effects) (has_jumped e))
+    script_by e = with_commit m u.fram u.inputs (program_effects (es ++ b.effects) (has_jumped e))
 
-    module _ (steps cycles : ℕ) (few : cycles ≤ 6) (a : Comes code [] steps cycles u (IsAt start_at u.fram u.readings_left)) where
-      abbrev clears : Bool
-      clears = is_at_end l u.fram
+    abbrev clears : Bool
+    clears = is_at_end l u.fram
 
-      abbrev to_steps : ℕ
-      to_steps = steps + start_steps clears l.versions.words (length (privates k))
+    abbrev to_steps : ℕ
+    to_steps = steps + start_steps clears l.versions.words (length (privates k))
 
-      abbrev to_cycles : ℕ
-      to_cycles = cycles + start_cycles clears l.versions.words (length (privates k))
+    abbrev to_cycles : ℕ
+    to_cycles = cycles + start_cycles clears l.versions.words (length (privates k))
 
-      -- the bound has room for the clearing in each attempt
-      at_most : start_cycles clears l.versions.words (length (privates k)) ≤ start_cycles true l.versions.words (length (privates k))
-      at_most = clearing_is_dearest clears l.versions.words (length (privates k))
+    -- the bound has room for the clearing in each attempt
+    at_most : start_cycles clears l.versions.words (length (privates k)) ≤ start_cycles true l.versions.words (length (privates k))
+    at_most = clearing_is_dearest clears l.versions.words (length (privates k))
 
-      there : Comes code es to_steps to_cycles u (Enters (entry_at tasks k).code stack_top g u.readings_left)
-      there = to_task l (lowered l p) r.fits are_whole u steps cycles a program_named (und.is_open.words (word_place l Version))
+    there : Comes code es to_steps to_cycles u (Enters (entry_at tasks k).code stack_top g u.inputs)
+    there = to_task l (lowered l p) r.fits are_whole u steps cycles comes program_named (und.is_open.words (word_place l Version))
 
-      body : DoesBody l (lowered l p) r.fits are_whole there.end k g u.readings_left
-      body = body_there l (lowered l p) r.fits are_whole there.end k g u.readings_left there.holds program_named start_words words
+    body : DoesBody l (lowered l p) r.fits are_whole there.end k g u.inputs
+    body = body_there l (lowered l p) r.fits are_whole there.end k g u.inputs there.holds program_named start_words words
 
-      jumps_on : (to : ℕ) (w : WordState) → b.end ≡ Jumps to w → to ≡ l.commit.address
-          → Runs code b.effects (code_spent (task_program p l k) (started g u.readings_left)) there.end (HasJumped to w)
-          → IsDecidedBehind s u.fram (es ++ b.effects) → Makes c (cost k) (script_by (Jumps to w)) (board_of u)
-      jumps_on to w e t q d =
-          let by = subst (EndsByEffects (started g u.readings_left) b.effects) e (behaves_by_effects (task_program p l k) (started g u.readings_left)) in
-          let same : w.fram ≡ f = by.0 ∙ sym (fram_after-append es b.effects u.fram) in
-          let v = q.end in
-          let fits : FitsCommit s.task f = subst (FitsCommit s.task) d.fram (fits_commit s d.next d.world d.decided) in
-          let arrived : IsAt l.commit.address f v.readings_left v = record { pc = q.holds.pc ∙ t; fram = q.holds.fram ∙ same; readings_left = refl } in
-          let h = commit_there l (lowered l p) r.fits are_whole v f v.readings_left arrived fits.can fits.base in
-          let n = f (word_place l ListLength) in let ws = length (listed l f) in let o = f (word_place l EmitCount) in
-          let at : IsAt start_at (fram_after (commit_effects l d.world.fram) d.world.fram) v.readings_left h.end =
-          subst (λ y. IsAt start_at (fram_after (commit_effects l y) y) v.readings_left h.end) (sym d.fram) h.holds in
-          let one = join (exec code) to_steps q.steps es b.effects to_cycles q.cycles (board_of u) (board_of there.end) (board_of v) there.leads q.leads in
-          let all = join (exec code) (to_steps + q.steps) (commit_steps n ws o) (es ++ b.effects) (commit_effects l f)
-          (to_cycles + q.cycles) (commit_cycles n ws o) (board_of u) (board_of v) (board_of h.end) one h.leads in
-          let list : n ≤ (program_places p l).list_capacity k = subst (λ j. n ≤ (program_places p l).list_capacity j) (sym is_current) fits.list in
-          let words : ws ≤ (program_places p l).list_capacity k = subst (λ j. ws ≤ (program_places p l).list_capacity j) (sym is_current) fits.words in
-          let emits : o ≤ (program_places p l).emit_capacity k = subst (λ j. o ≤ (program_places p l).emit_capacity j) (sym is_current) fits.emits in
-          let most = within in let start_most = at_most in let body_most = q.within in
-          let dearest = commit_grows n ((program_places p l).list_capacity k) ws ((program_places p l).list_capacity k) o
-          ((program_places p l).emit_capacity k) list words emits in
-          let entry = behind_commit d.next d.world (laws.decided_committing s d.next d.world d.decided) h.end v.readings_left at in
-          record {
-            steps = to_steps + q.steps + commit_steps n ws o;
-            cycles = to_cycles + q.cycles + commit_cycles n ws o;
-            ends = λ z. (omega (arith, few, most, start_most, body_most, dearest), (board_of h.end, all, entry));
-            lacks = λ z. absurd (cc (z));
-          }
+    jumps_on : (to : ℕ) (w : WordState) → b.end ≡ Jumps to w → to ≡ l.commit.address
+        → Runs code b.effects (code_spent (task_program p l k) (started g u.inputs)) there.end (HasJumped to w)
+        → IsDecidedBehind s u.fram (es ++ b.effects) → Makes c m.delay (cost k) (script_by (Jumps to w)) (board_of u)
+    jumps_on to w e t q d =
+        let by = subst (EndsByEffects (started g u.inputs) b.effects) e (behaves_by_effects (task_program p l k) (started g u.inputs)) in
+        let same : w.fram ≡ f = by.0 ∙ sym (fram_after-append es b.effects u.fram) in
+        let v = q.end in
+        let fits : FitsCommit s.task f = subst (FitsCommit s.task) d.fram (fits_commit s d.next d.world d.decided) in
+        let arrived : IsAt l.commit.address f v.inputs v = record { pc = q.holds.pc ∙ t; fram = q.holds.fram ∙ same; inputs = refl } in
+        let h = commit_there l (lowered l p) r.fits are_whole v f v.inputs arrived fits.can fits.base in
+        let n = f (word_place l ListLength) in let ws = length (listed l f) in let o = f (word_place l EmitCount) in
+        let one = join (exec code) to_steps q.steps es b.effects to_cycles q.cycles (board_of u) (board_of there.end) (board_of v) there.leads q.leads in
+        let all = join (exec code) (to_steps + q.steps) (commit_steps n ws o) (es ++ b.effects) (commit_effects l f)
+        (to_cycles + q.cycles) (commit_cycles n ws o) (board_of u) (board_of v) (board_of h.end) one h.leads in
+        let list : n ≤ (program_places p l).list_capacity k = subst (λ j. n ≤ (program_places p l).list_capacity j) (sym is_current) fits.list in
+        let words : ws ≤ (program_places p l).list_capacity k = subst (λ j. ws ≤ (program_places p l).list_capacity j) (sym is_current) fits.words in
+        let emits : o ≤ (program_places p l).emit_capacity k = subst (λ j. o ≤ (program_places p l).emit_capacity j) (sym is_current) fits.emits in
+        let most = within in let start_most = at_most in let body_most = q.within in
+        let dearest = commit_grows n ((program_places p l).list_capacity k) ws ((program_places p l).list_capacity k) o
+        ((program_places p l).emit_capacity k) list words emits in
+        record {
+          steps = to_steps + q.steps + commit_steps n ws o;
+          cycles = to_cycles + q.cycles + commit_cycles n ws o;
+          ends = λ z. record {
+            end = board_of h.end;
+            within = omega (arith, few, most, start_most, body_most, dearest);
+            leads = all;
+            at_start = record { core = h.end; is = refl; pc = h.holds.pc };
+          };
+          lacks = λ z. absurd (cc (z));
+        }
 
-      lacks_on : Starves code b.effects (code_spent (task_program p l k) (started g u.readings_left)) there.end
-          → Makes c (cost k) (script_by Lacks) (board_of u)
-      lacks_on q =
-          let all = join_stall (exec code) to_steps q.steps es b.effects to_cycles q.cycles (board_of u) (board_of there.end) q.price stop.NoReading
-          there.leads q.stalls in
-          let most = within in let start_most = at_most in let body_most = q.within in
-          let all' : Stalls (exec code) (to_steps + q.steps) ((es ++ b.effects) ++ []) (to_cycles + q.cycles) (board_of u) q.price stop.NoReading =
-          subst (λ y. Stalls (exec code) (to_steps + q.steps) y (to_cycles + q.cycles) (board_of u) q.price stop.NoReading)
-          (sym (append-nil (es ++ b.effects))) all in
-          record {
-            steps = to_steps + q.steps;
-            cycles = to_cycles + q.cycles;
-            ends = λ z. absurd (cc (z));
-            lacks = λ z. (q.price, omega (arith, few, most, start_most, body_most), all');
-          }
+    lacks_on : Starves code b.effects (code_spent (task_program p l k) (started g u.inputs)) there.end
+        → Makes c m.delay (cost k) (script_by Lacks) (board_of u)
+    lacks_on q =
+        let all = join_stall (exec code) to_steps q.steps es b.effects to_cycles q.cycles (board_of u) (board_of there.end) q.price stop.NoReading
+        there.leads q.stalls in
+        let most = within in let start_most = at_most in let body_most = q.within in
+        let all' : Stalls (exec code) (to_steps + q.steps) ((es ++ b.effects) ++ []) (to_cycles + q.cycles) (board_of u) q.price stop.NoReading =
+        subst (λ y. Stalls (exec code) (to_steps + q.steps) y (to_cycles + q.cycles) (board_of u) q.price stop.NoReading)
+        (sym (append-nil (es ++ b.effects))) all in
+        record {
+          steps = to_steps + q.steps;
+          cycles = to_cycles + q.cycles;
+          ends = λ z. absurd (cc (z));
+          lacks = λ z. record { price = q.price; within = omega (arith, few, most, start_most, body_most); stalls = all' };
+        }
 
-      by_end : (e : End) → b.end ≡ e → LeavesFor l.commit.address e
-          → ComesTo code (code_spent (task_program p l k) (started g u.readings_left)) there.end b.effects e → Makes c (cost k) (script_by e) (board_of u)
-      by_end (Jumps to w) e t q =
-          let rs = u.readings_left in jumps_on to w e t q (decided_behind s x rs (m.task s rs) (m.attempt u.fram rs) contract (ap has_jumped e))
-      by_end Lacks e t q = lacks_on q
-      by_end (GoesOn w) e t q = absurd t
-      by_end Strays e t q = absurd t
-      by_end Broken e t q = absurd t
+    by_end : (e : End) → b.end ≡ e → LeavesFor l.commit.address e
+        → ComesTo code (code_spent (task_program p l k) (started g u.inputs)) there.end b.effects e → Makes c m.delay (cost k) (script_by e) (board_of u)
+    by_end (Jumps to w) e t q =
+        jumps_on to w e t q (decided_behind s x u.inputs (m.task s u.inputs) (m.attempt u.fram u.inputs) contract (ap has_jumped e))
+    by_end Lacks e t q = lacks_on q
+    by_end (GoesOn w) e t q = absurd t
+    by_end Strays e t q = absurd t
+    by_end Broken e t q = absurd t
 
-      attempt_from : Makes c (cost s.task) (with_commit m u.fram (m.attempt u.fram u.readings_left)) (board_of u)
-      attempt_from = subst (λ t. Makes c (cost t) (script_by b.end) (board_of u)) is_current (by_end b.end refl leaves body)
+    made : Makes c m.delay (cost s.task) (with_commit m u.fram u.inputs (m.attempt u.fram u.inputs)) (board_of u)
+    made = subst (λ t. Makes c m.delay (cost t) (script_by b.end) (board_of u)) is_current (by_end b.end refl leaves body)
 
-  makes_attempt : (s : State) (x : World) (b : MachineBoard) → IsAtEntry l b → b.fram ≡ x.fram → All IsWord b.readings_left → m.Undecided s x
-      → Makes c (cost s.task) (with_commit m b.fram (m.attempt b.fram b.readings_left)) b
-  makes_attempt s x b e same words und =
-      let zero : b.fram (word_place l Gate) ≡ 0 = ap (λ f. f (word_place l Gate)) same ∙ laws.undecided_gate s x und in
-      let k = reaches_start b e zero in
+  makes_from : (s : State) (x : World) (b : MachineBoard) → ReachesStart b → b.fram ≡ x.fram → InputsAreWords b.inputs → m.Undecided s x
+      → Makes c m.delay (cost s.task) (with_commit m b.fram b.inputs (m.attempt b.fram b.inputs)) b
+  makes_from s x b k same words und =
       let u = k.core in
       let f : x.fram ≡ u.fram = sym same ∙ ap (λ q. q.fram) k.is in
       let und' : m.Undecided s (record { fram = u.fram; accepted = x.accepted }) =
       subst (λ g. m.Undecided s (record { fram = g; accepted = x.accepted })) f und in
-      let words' : All IsWord u.readings_left = subst (λ q. All IsWord q.readings_left) k.is words in
-      subst (λ q. Makes c (cost s.task) (with_commit m q.fram (m.attempt q.fram q.readings_left)) q) (sym k.is)
-      (attempt_from s x.accepted u words' und' k.steps k.cycles k.within k.comes)
+      let words' : InputsAreWords u.inputs = subst (λ q. InputsAreWords q.inputs) k.is words in
+      subst (λ q. Makes c m.delay (cost s.task) (with_commit m q.fram q.inputs (m.attempt q.fram q.inputs)) q) (sym k.is)
+      (made (record {
+        state = s;
+        accepted = x.accepted;
+        core = u;
+        words = words';
+        undecided = und';
+        steps = k.steps;
+        cycles = k.cycles;
+        few = k.within;
+        comes = k.comes;
+      }))
+
+  makes_boot : (s : State) (x : World) (b : MachineBoard) → IsBooting l b → b.fram ≡ x.fram → InputsAreWords b.inputs → m.Undecided s x
+      → Makes c m.delay (cost s.task) (with_commit m b.fram b.inputs (m.attempt b.fram b.inputs)) b
+  makes_boot s x b k same words und =
+      let zero : b.fram (word_place l Gate) ≡ 0 = ap (λ f. f (word_place l Gate)) same ∙ laws.undecided_gate s x und in
+      makes_from s x b (from_boot b k zero) same words und
 
 pub code_keeps_the_laws : CodeKeepsTheLaws
-code_keeps_the_laws p l r laws = record {
-  changes = λ s. code_changes_by_effects (placed_code p l) s;
-  takes_cycles = λ s. code_takes (placed_code p l) s;
-  enters = λ s h. inl h;
-  makes_attempt = makes_attempt p l r laws;
-  makes_commit = makes_commit p l r laws;
-}
+code_keeps_the_laws p l r laws =
+    let source : Source = record { program = p; map = l; can = r; laws = laws } in
+    record {
+      changes = λ s. code_changes_by_effects (placed_code p l) s;
+      takes_cycles = λ s. code_takes (placed_code p l) s;
+      makes_boot = makes_boot source;
+      makes_attempt = λ s x b k. makes_from source s x b (from_start source b k);
+      makes_commit = makes_commit source;
+    }

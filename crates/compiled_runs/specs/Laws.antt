@@ -59,7 +59,8 @@ PowerUpsRaiseVersion = (p : CheckedProgram) (l : MemoryMap) → CanRun p l → (
 abbrev pub RunsLeaveTheCode : Type 0
 RunsLeaveTheCode = (p : CheckedProgram) (l : MemoryMap) → CanRun p l → ModelLaws (compiled_model p l) → AttemptsStoreBelow p l l.boot.address
     → (readings : List ℕ) (origin : Origin State) (x : World) (s : MachineBoard) → Begins (compiled_model p l) readings origin x s
-    → AlwaysLeaves (compiled_program p l) l.boot.address (length (words_of (source_code p l))) (word_place l Gate) s (first_history (word_place l Gate) x)
+    → AlwaysLeaves (compiled_program p l) l.boot.address (length (words_of (source_code p l))) (compiled_model p l).marks s
+    (first_history (compiled_model p l).marks x)
 
 -- the layout of a source that costs no more than it may has room for its code
 abbrev pub SourcesHaveRoom : Type 0

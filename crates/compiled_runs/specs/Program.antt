@@ -1,12 +1,11 @@
 -- A compiled source as a program on the machine.
-use Rattle.std.specs.Prelude.{◌≡◌, ◌≢◌, ◌⊎◌, List}
+use Rattle.std.specs.Prelude.{◌≡◌, List}
 use Rattle.compiled_model.specs.msp_isa.declared.instructions.Instr.{Instr}
 use Rattle.compiled_model.specs.machine_effects.Machine.{Code, MachineBoard, exec}
 use Rattle.compiled_model.specs.code_forms.Forms.{Core, board_of}
 use Rattle.compiled_model.specs.code_forms.Placed.{placed}
 use Rattle.compiled_model.specs.source_values.Runs.{CheckedProgram}
-use Rattle.compiled_model.specs.memory_map.declared.words.RuntimeWord.TheVariants.{Gate}
-use Rattle.compiled_model.specs.memory_map.MemoryMap.{MemoryMap, word_place}
+use Rattle.compiled_model.specs.memory_map.MemoryMap.{MemoryMap}
 use Rattle.compiled_model.specs.runtime_code.Addresses.{start_address}
 use Rattle.compiled_model.specs.lower.Lowered.{lowered}
 use Rattle.compiled_model.specs.crash_rules.Runs.{Program}
@@ -26,17 +25,12 @@ pub record IsBooting (l : MemoryMap) (b : MachineBoard) : Type 0 where
   pub is : b ≡ board_of core
   pub pc : core.pc ≡ l.boot.address
 
--- the same, at the start of an attempt, where GATE isn't 1
+-- the same, at the start of an attempt
 pub record IsStarting (l : MemoryMap) (b : MachineBoard) : Type 0 where
   pub core : Core
   pub is : b ≡ board_of core
   pub pc : core.pc ≡ start_address l.boot.address
-  pub gate : core.fram (word_place l Gate) ≢ 1
-
--- where all that is to be done begins: at the boot, and at the start of an attempt
-abbrev pub IsAtEntry : MemoryMap → MachineBoard → Type 0
-IsAtEntry l b = IsBooting l b ⊎ IsStarting l b
 
 -- the code of a source, as a program that runs
 abbrev pub compiled_program : CheckedProgram → MemoryMap → Program
-compiled_program p l = record { step = exec (placed_code p l); AtEntry = IsAtEntry l; IsPoweredUp = IsBooting l }
+compiled_program p l = record { step = exec (placed_code p l); IsPoweredUp = IsBooting l; AtStart = IsStarting l }

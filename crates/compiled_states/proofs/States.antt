@@ -38,7 +38,7 @@ use Rattle.image_reports.specs.image_laws.Compiled.{IsCompiled}
 use Rattle.image_reports.specs.image_laws.Laws.{IsFreshImage}
 use Rattle.image_reports.proofs.image_laws.Interface.{laid_out, images_are_fresh}
 use Rattle.image_reports.proofs.image_laws.compiled_runs.Interface.{code_is_placed}
-use Rattle.image_reports.specs.ImageLaw.{KeepsCode}
+use Rattle.image_reports.specs.ImageLaw.{runtime_marks, KeepsCode}
 use Rattle.image_reports.specs.Resumed.{BelongsTo, known_from, IsToldOnward, IsResumedRun}
 use Rattle.image_reports.proofs.Interface.{made, images_belong, of_words, images_resume}
 use Rattle.compiled_states.specs.Worlds.{world_of, MayHaveAccepted, HasFramWords, HasCodeWords, board_of, LeavesItsStates}
@@ -166,13 +166,13 @@ module _ (text : List ℕ) (p : CheckedProgram) (allow : Allow) (image : ImageVa
   -- the FRAM of each board is whole
   fram_length : (ms rest : List Moment) → r.moments ≡ ms ++ rest → length (last_board first ms).fram ≡ 24064
   fram_length ms rest e =
-      let gate = word_place c.layout Gate in
+      let marks = runtime_marks c.layout in
       let own : IsRunOfWords cs first r =
       of_words text p allow image ok c s.image.words whole.count whole.are_words s.receiver accepted number
       (as_world text p allow image ok c s accepted number whole b) cs starts readings words few r run in
-      let none : Counts first (first_history gate x) accepted =
+      let none : Counts first (first_history marks x) accepted =
       record { whole = own.whole; words = own.words; accepted = refl; count = omega (arith, number); taken = refl } in
-      (moments_count gate first (first_history gate x) accepted ms none (front_moments cs first r ms rest starts run e)).whole.board.fram
+      (moments_count marks first (first_history marks x) accepted ms none (front_moments cs first r ms rest starts run e)).whole.board.fram
 
   board_belongs : (ms rest : List Moment) → r.moments ≡ ms ++ rest → Belongs image (saved (last_board first ms) s.image.map)
   board_belongs ms rest e =

@@ -1,34 +1,39 @@
 -- What is made from a boot or a done on, cut anywhere, keeps what a history stands for.
 use Rattle.std.proofs.Common.{◌≡◌, ℕ, ◌+◌, List, [], ◌∷◌, ◌++◌, length, drop, refl, sym, ap, ◌∙◌, subst, ⊎_elim, inl, inr, ◌⊎◌, arith, true, false, cond, ◌==◌}
-use Rattle.std.proofs.Common.{append_assoc, append-nil, All}
+use Rattle.std.proofs.Common.{append_assoc, append-nil, All, Bool}
 use Rattle.std.proofs.lemmas.List.Elements.{All-drop}
 use Rattle.machine_effects.specs.fram_board.Effects.{Effect, Store}
 use Rattle.machine_effects.specs.World.{World, world_after, fram_after, readings_taken, IsPrefix, EachStore}
 use Rattle.machine_effects.proofs.Interface.{world_after-append}
-use Rattle.crash_rules.specs.Model.{Model, ModelLaws, Outcome, Ends, Short, ProgramEffects, program_effects, readings_left, IsWord, IsElsewhere, with_commit}
-use Rattle.crash_rules.specs.Model.{script, Decides, RunsShort, AttemptContract, CommitKeeps}
-use Rattle.crash_rules.specs.History.{Done, History, with_effect, behind_decide, behind_done, observe_one, observe, behind_boot, decided_readings}
-use Rattle.crash_rules.specs.History.{done_readings}
+use Rattle.crash_rules.specs.Model.{Model, ModelLaws, Outcome, Ends, Short, ProgramEffects, program_effects, IsWord, IsElsewhere}
+use Rattle.crash_rules.specs.Model.{Inputs, InputsAreWords, inputs_behind, inputs_taken, no_inputs, with_commit, attempt_from, script, Decides, RunsShort}
+use Rattle.crash_rules.specs.Model.{AttemptContract, CommitKeeps}
+use Rattle.crash_rules.specs.History.{Done, History, with_effect, behind_decide, behind_done, observe_one, observe, behind_boot, inputs_from}
+use Rattle.crash_rules.specs.History.{decided_inputs, done_inputs}
 use Rattle.crash_rules.specs.Laws.{Origin, Resting, Pending, SourceRun, HasNoSpan, Reaches, IsPending, IsSettled, Transits, Phase, UndecidedPhase, DecidedPhase}
 use Rattle.crash_rules.specs.Laws.{CommittingPhase, StandsFor, IsLawful, AreConsecutive}
 use Rattle.crash_rules.proofs.Lists.{world_fram, each_prefix, holds_prefix, holds_end, prefix_cases, prefix_one, nothing_first, range_of}
+use Rattle.crash_rules.proofs.Front.{in_front}
 use Rattle.crash_rules.proofs.Observed.{observe-append, with_effects, observe_quiet, observe_done, observe_decide}
 
--- charges as whole scripts and a prefix of one
-pub data ChargeEffects {St : Type 0} (m : Model St) : (ℕ → ℕ) → List ℕ → List Effect → Type 0 where
-  partial : {f : ℕ → ℕ} {readings : List ℕ} {es : List Effect} → IsPrefix es (script m f readings).effects → ChargeEffects m f readings es
-  complete : {f : ℕ → ℕ} {readings : List ℕ} {es : List Effect} → (script m f readings).ends ≡ true
-      → ChargeEffects m (fram_after (script m f readings).effects f) (readings_left (script m f readings).effects readings) es
-      → ChargeEffects m f readings ((script m f readings).effects ++ es)
+-- a model that keeps its laws, the readings of a run, and how it begins
+pub record Setting (St : Type 0) : Type 1 where
+  pub model : Model St
+  pub laws : ModelLaws model
+  pub readings : List ℕ
+  pub words : All IsWord readings
+  pub origin : Origin St
 
-module _ {St : Type 0} (m : Model St) (laws : ModelLaws m) (readings : List ℕ) (words : All IsWord readings) where
-  run_more : (s t u : St) (ds : List Done) (d : Done) → SourceRun m readings s ds t → m.task t (done_readings readings d) ≡ Ends u [] → m.Rests u d.world
+module _ {St : Type 0} (given : Setting St) where
+  open given use {model as m, laws, readings, words, origin}
+
+  run_more : (s t u : St) (ds : List Done) (d : Done) → SourceRun m readings s ds t → m.task t (done_inputs readings d) ≡ Ends u no_inputs → m.Rests u d.world
       → SourceRun m readings s (ds ++ d ∷ []) u
-  run_more s t u [] d h e r = (u, ap (λ x. m.task x (done_readings readings d)) (sym h) ∙ e, r, refl)
+  run_more s t u [] d h e r = (u, ap (λ x. m.task x (done_inputs readings d)) (sym h) ∙ e, r, refl)
   run_more s t u (c ∷ ds) d h e r = (h.0, h.1, h.2, run_more h.0 t u ds d h.3 e r)
 
   -- one transition more
-  reaches_more : (o : Origin St) (ds : List Done) (s next : St) (d : Done) → Reaches m readings o ds s → Transits m o ds (done_readings readings d) s next
+  reaches_more : (o : Origin St) (ds : List Done) (s next : St) (d : Done) → Reaches m readings o ds s → Transits m o ds (done_inputs readings d) s next
       → m.Rests next d.world → Reaches m readings o (ds ++ d ∷ []) next
   reaches_more (Resting a) ds s next d h t r = run_more a s next ds d h t r
   reaches_more (Pending a) [] s next d h t r = absurd t
@@ -47,495 +52,553 @@ module _ {St : Type 0} (m : Model St) (laws : ModelLaws m) (readings : List ℕ)
   settled_more (Pending a) (c ∷ ds) d = tt
 
   -- where nothing is pending, transitions are the task's
-  transits_task : (o : Origin St) (ds : List Done) (rs : List ℕ) (s next : St) → IsSettled o ds → m.task s rs ≡ Ends next [] → Transits m o ds rs s next
+  transits_task : (o : Origin St) (ds : List Done) (rs : Inputs) (s next : St) → IsSettled o ds → m.task s rs ≡ Ends next no_inputs → Transits m o ds rs s next
   transits_task (Resting a) ds rs s next k e = e
   transits_task (Pending a) [] rs s next k e = absurd k
   transits_task (Pending a) (c ∷ ds) rs s next k e = e
 
-  module _ (origin : Origin St) where
-    -- a history that follows its script would also with these effects more
-    abbrev pub MayGoOn : History → List Effect → Type 0
-    MayGoOn v es = IsPrefix (v.effects ++ es) (script m v.start.fram (drop v.since readings)).effects
+  -- a history that follows its script would also with these effects more
+  abbrev pub MayGoOn : History → List Effect → Type 0
+  MayGoOn v es = IsPrefix (v.effects ++ es) (script m v.booted v.start.fram (inputs_from readings v.since)).effects
 
-    -- its world is that of its effects
-    abbrev pub IsTold : History → Type 0
-    IsTold v = v.world ≡ world_after v.effects v.start
+  -- its world is that of its effects
+  abbrev pub IsTold : History → Type 0
+  IsTold v = v.world ≡ world_after v.effects v.start
 
-    -- the done at the end of a history that was decided
-    abbrev pub done_of : History → World → Done
-    done_of v x = record { span_from = v.span_from; span_to = v.span_to; world = x }
+  -- the done at the end of a history that was decided
+  abbrev pub done_of : History → World → Done
+  done_of v x = record { span_from = v.span_from; span_to = v.span_to; world = x }
 
-    -- from v to k no done came, or one, at which no reading more was taken
-    pub data Grows (v k : History) : Type 0 where
-      Stayed : k.completed ≡ v.completed → k.since ≡ v.since → Grows v k
-      Finished : k.completed ≡ v.completed ++ done_of v k.world ∷ [] → k.since ≡ v.taken → Grows v k
+  -- from v to k no done came, or one, at which no reading more was taken
+  pub data Grows (v k : History) : Type 0 where
+    Stayed : k.completed ≡ v.completed → k.since ≡ v.since → Grows v k
+    Finished : k.completed ≡ v.completed ++ done_of v k.world ∷ [] → k.since ≡ v.taken → Grows v k
 
-    -- right behind a boot or a done
-    pub record Point (h : History) : Type 0 where
-      pub stands : StandsFor m readings origin h
-      pub since : h.since ≡ h.taken
-      pub start : h.start ≡ h.world
-      pub none : h.effects ≡ []
+  -- undecided at a state, with nothing to recover
+  pub record IsReady (h : History) (s : St) : Type 0 where
+    pub undecided : h.decided ≡ false
+    pub settled : m.Settled s h.world
 
-    pub record Part (v k : History) : Type 0 where
-      pub lawful : IsLawful m readings origin k
-      pub grows : Grows v k
+  -- right behind a boot or a done
+  pub record Point (h : History) : Type 0 where
+    pub stands : StandsFor m readings origin h
+    pub since : h.since ≡ h.taken
+    pub start : h.start ≡ h.world
+    pub none : h.effects ≡ []
+    pub ready : h.booted ≡ false → IsReady h stands.state
 
-    -- a commit's end
-    pub record Whole (v k : History) : Type 0 where
-      pub point : Point k
-      pub completed : k.completed ≡ v.completed ++ done_of v k.world ∷ []
-      pub taken : k.taken ≡ v.taken
-      pub undecided : k.decided ≡ false
+  pub record Part (v k : History) : Type 0 where
+    pub lawful : IsLawful m readings origin k
+    pub grows : Grows v k
 
-    pub point_lawful : (h : History) → Point h → IsLawful m readings origin h
-    point_lawful h p =
-        record {
-          world = sym p.start ∙ ap (λ es. world_after es h.start) (sym p.none);
-          stands = p.stands;
-          follows = subst (λ es. IsPrefix es (script m h.start.fram (drop h.since readings)).effects) (sym p.none) (nothing_first _);
-        }
+  -- a commit's end
+  pub record Whole (v k : History) : Type 0 where
+    pub point : Point k
+    pub completed : k.completed ≡ v.completed ++ done_of v k.world ∷ []
+    pub taken : k.taken ≡ v.taken
+    pub undecided : k.decided ≡ false
+    pub behind_done : k.booted ≡ false
 
-    told_more : (v : History) (es : List Effect) → IsTold v → world_after es v.world ≡ world_after (v.effects ++ es) v.start
-    told_more v es t = ap (world_after es) t ∙ sym (world_after-append v.effects es v.start)
+  pub point_lawful : (h : History) → Point h → IsLawful m readings origin h
+  point_lawful h p =
+      record {
+        world = sym p.start ∙ ap (λ es. world_after es h.start) (sym p.none);
+        stands = p.stands;
+        follows = subst (λ es. IsPrefix es (script m h.booted h.start.fram (inputs_from readings h.since)).effects) (sym p.none) (nothing_first _);
+      }
 
-    quiet_part : (s : St) (v : History) (es : List Effect) → EachStore (IsElsewhere m.gate) es → IsTold v → MayGoOn v es
-        → Reaches m readings origin v.completed s → Phase m readings origin s (with_effects es v) → Part v (observe m.gate es v)
-    quiet_part s v es q told go reached phase =
-        subst (Part v) (sym (observe_quiet m.gate es v q))
+  told_more : (v : History) (es : List Effect) → IsTold v → world_after es v.world ≡ world_after (v.effects ++ es) v.start
+  told_more v es t = ap (world_after es) t ∙ sym (world_after-append v.effects es v.start)
+
+  quiet_part : (s : St) (v : History) (es : List Effect) → EachStore (IsElsewhere m.marks.gate) es → IsTold v → MayGoOn v es
+      → Reaches m readings origin v.completed s → Phase m readings origin s (with_effects es v) → Part v (observe m.marks es v)
+  quiet_part s v es q told go reached phase =
+      subst (Part v) (sym (observe_quiet m.marks es v q))
+      (record {
+        lawful = record { world = told_more v es told; stands = record { state = s; reached = reached; phase = phase }; follows = go };
+        grows = Stayed refl refl;
+      })
+
+  -- a commit that is due: what its effects keep, and what its done comes to
+  pub record IsDue (v : History) (s next : St) (Kept : World → Type 0) : Type 0 where
+    pub decided : v.decided ≡ true
+    pub reached : Reaches m readings origin v.completed s
+    pub holds : Kept v.world
+    pub committing : (y : World) → Kept y → m.Committing next y
+    pub contract : (inputs : Inputs) → CommitKeeps m Kept next inputs v.world
+    pub phase : (es : List Effect) → Kept (world_after es v.world) → Phase m readings origin s (with_effects es v)
+    pub done : (y : World) → m.Rests next y → Reaches m readings origin (v.completed ++ done_of v y ∷ []) next
+
+  -- behind a decide
+  due_decided : (v : History) (s next : St) → Reaches m readings origin v.completed s → v.decided ≡ true
+      → Transits m origin v.completed (decided_inputs readings v) s next → m.Decided s next v.world → IsDue v s next (m.Decided s next)
+  due_decided v s next reached g t d =
+      record {
+        decided = g;
+        reached = reached;
+        holds = d;
+        committing = laws.decided_committing s next;
+        contract = laws.decided_commits s next v.world d;
+        phase = λ es h. DecidedPhase next g t h;
+        done = λ y r. reaches_more origin v.completed s next (done_of v y) reached t r;
+      }
+
+  -- at the start of the run
+  due_first : (v : History) (to : St) → Reaches m readings origin v.completed to → v.decided ≡ true → IsPending origin v.completed
+      → HasNoSpan v.span_from v.span_to → m.Committing to v.world → IsDue v to to (m.Committing to)
+  due_first v to reached g p n d =
+      record {
+        decided = g;
+        reached = reached;
+        holds = d;
+        committing = λ y h. h;
+        contract = λ inputs. laws.commits to v.world inputs d;
+        phase = λ es h. CommittingPhase g p n h;
+        done = λ y r. reaches_first origin v.completed to (done_of v y) reached p n r;
+      }
+
+  module _ (s next : St) (Kept : World → Type 0) (v : History) (due : IsDue v s next Kept) (inputs : Inputs) where
+    abbrev keeps : CommitKeeps m Kept next inputs v.world
+    keeps = due.contract inputs
+
+    abbrev before : List Effect
+    before = keeps.before
+
+    -- a commit, whole
+    commit_end : Whole v (observe m.marks (before ++ Store m.marks.gate 0 ∷ []) v)
+    commit_end =
+        let p = keeps in
+        let u = with_effects before v in
+        let k = behind_done (with_effect (Store m.marks.gate 0) u) in
+        let y = world_after before v.world in
+        let one : u.world.fram m.marks.gate ≡ 1 = laws.committing_gate next y (due.committing y (holds_end Kept before v.world p.kept)) in
+        let is : observe m.marks (before ++ Store m.marks.gate 0 ∷ []) v ≡ k = observe-append m.marks before (Store m.marks.gate 0 ∷ []) v
+        ∙ ap (observe_one m.marks (Store m.marks.gate 0)) (observe_quiet m.marks before v p.elsewhere) ∙ observe_done m.marks u one in
+        let none : length (readings_taken before) ≡ 0 = ap length p.takes_none in
+        let there : m.Settled next k.world = laws.rests_settled next k.world p.rests in
+        subst (Whole v) (sym is)
         (record {
-          lawful = record { world = told_more v es told; stands = record { state = s; reached = reached; phase = phase }; follows = go };
-          grows = Stayed refl refl;
+          point = record {
+            stands = record {
+              state = next;
+              reached = due.done k.world p.rests;
+              phase = UndecidedPhase refl (settled_more origin v.completed (done_of v k.world)) (laws.settled_undecided next k.world there);
+            };
+            since = refl;
+            start = refl;
+            none = refl;
+            ready = λ z. record { undecided = refl; settled = there };
+          };
+          completed = refl;
+          taken = omega (arith, none);
+          undecided = refl;
+          behind_done = refl;
         })
 
-    -- a commit that is due: what its effects keep, and what its done comes to
-    pub record IsDue (v : History) (s next : St) (Kept : World → Type 0) : Type 0 where
-      pub decided : v.decided ≡ true
-      pub reached : Reaches m readings origin v.completed s
-      pub holds : Kept v.world
-      pub committing : (y : World) → Kept y → m.Committing next y
-      pub contract : CommitKeeps m Kept next v.world
-      pub phase : (es : List Effect) → Kept (world_after es v.world) → Phase m readings origin s (with_effects es v)
-      pub done : (y : World) → m.Rests next y → Reaches m readings origin (v.completed ++ done_of v y ∷ []) next
+    commit_whole : Whole v (observe m.marks (m.commit v.world.fram inputs) v)
+    commit_whole = subst (λ l. Whole v (observe m.marks l v)) (sym keeps.is) commit_end
 
-    -- behind a decide
-    due_decided : (v : History) (s next : St) → Reaches m readings origin v.completed s → v.decided ≡ true
-        → Transits m origin v.completed (decided_readings readings v) s next → m.Decided s next v.world → IsDue v s next (m.Decided s next)
-    due_decided v s next reached g t d =
-        record {
-          decided = g;
-          reached = reached;
-          holds = d;
-          committing = laws.decided_committing s next;
-          contract = laws.decided_commits s next v.world d;
-          phase = λ es h. DecidedPhase next g t h;
-          done = λ y r. reaches_more origin v.completed s next (done_of v y) reached t r;
-        }
+    commit_quiet : (es : List Effect) → IsPrefix es before → IsTold v → MayGoOn v es → Part v (observe m.marks es v)
+    commit_quiet es h told go =
+        quiet_part s v es (each_prefix (IsElsewhere m.marks.gate) es before h keeps.elsewhere) told go due.reached
+        (due.phase es (holds_prefix Kept es before v.world h keeps.kept))
 
-    -- at the start of the run
-    due_first : (v : History) (to : St) → Reaches m readings origin v.completed to → v.decided ≡ true → IsPending origin v.completed
-        → HasNoSpan v.span_from v.span_to → m.Committing to v.world → IsDue v to to (m.Committing to)
-    due_first v to reached g p n d =
-        record {
-          decided = g;
-          reached = reached;
-          holds = d;
-          committing = λ y h. h;
-          contract = laws.commits to v.world d;
-          phase = λ es h. CommittingPhase g p n h;
-          done = λ y r. reaches_first origin v.completed to (done_of v y) reached p n r;
-        }
+    whole_part : (k : History) → Whole v k → Part v k
+    whole_part k w = record { lawful = point_lawful k w.point; grows = Finished w.completed (w.point.since ∙ w.taken) }
 
-    module _ (s next : St) (Kept : World → Type 0) (v : History) (due : IsDue v s next Kept) where
-      abbrev before : List Effect
-      before = due.contract.before
-
-      -- a commit, whole
-      commit_end : Whole v (observe m.gate (before ++ Store m.gate 0 ∷ []) v)
-      commit_end =
-          let p = due.contract in
-          let u = with_effects before v in
-          let k = behind_done (with_effect (Store m.gate 0) u) in
-          let y = world_after before v.world in
-          let one : u.world.fram m.gate ≡ 1 = laws.committing_gate next y (due.committing y (holds_end Kept before v.world p.kept)) in
-          let is : observe m.gate (before ++ Store m.gate 0 ∷ []) v ≡ k = observe-append m.gate before (Store m.gate 0 ∷ []) v
-          ∙ ap (observe_one m.gate (Store m.gate 0)) (observe_quiet m.gate before v p.elsewhere) ∙ observe_done m.gate u one in
-          let none : length (readings_taken before) ≡ 0 = ap length p.takes_none in
-          subst (Whole v) (sym is)
-          (record {
-            point = record {
-              stands = record {
-                state = next;
-                reached = due.done k.world p.rests;
-                phase = UndecidedPhase refl (settled_more origin v.completed (done_of v k.world)) (laws.rests_undecided next k.world p.rests);
-              };
-              since = refl;
-              start = refl;
-              none = refl;
-            };
-            completed = refl;
-            taken = omega (arith, none);
-            undecided = refl;
-          })
-
-      commit_whole : Whole v (observe m.gate (m.commit v.world.fram) v)
-      commit_whole = subst (λ l. Whole v (observe m.gate l v)) (sym due.contract.is) commit_end
-
-      commit_quiet : (es : List Effect) → IsPrefix es before → IsTold v → MayGoOn v es → Part v (observe m.gate es v)
-      commit_quiet es h told go =
-          quiet_part s v es (each_prefix (IsElsewhere m.gate) es before h due.contract.elsewhere) told go due.reached
-          (due.phase es (holds_prefix Kept es before v.world h due.contract.kept))
-
-      whole_part : (k : History) → Whole v k → Part v k
-      whole_part k w = record { lawful = point_lawful k w.point; grows = Finished w.completed (w.point.since ∙ w.taken) }
-
-      -- a commit, cut anywhere
-      commit_part : (es : List Effect) → IsPrefix es (m.commit v.world.fram) → IsTold v → MayGoOn v es → Part v (observe m.gate es v)
-      commit_part es pre told go =
-          ⊎_elim
-          (λ h. commit_quiet es h told go)
-          (λ h. ⊎_elim
-          (λ e. commit_quiet es (record { rest = []; joins = append-nil es ∙ h.1 ∙ ap (λ l. before ++ l) e ∙ append-nil before }) told go)
-          (λ e. subst (λ l. Part v (observe m.gate l v)) (sym (h.1 ∙ ap (λ l. before ++ l) e)) (whole_part _ commit_end))
-          (prefix_one h.0 (Store m.gate 0) h.2))
-          (prefix_cases es before (Store m.gate 0 ∷ []) (subst (λ l. IsPrefix es l) due.contract.is pre))
-
-    -- a done behind a decide
-    pub record Next (h k : History) : Type 0 where
-      pub point : Point k
-      pub done : Done
-      pub completed : k.completed ≡ h.completed ++ done ∷ []
-      pub undecided : k.decided ≡ false
-      pub span : h.decided ≡ false → (done.span_from ≡ h.since) × (done.span_to ≡ k.since)
-      pub since : h.decided ≡ true → k.since ≡ h.taken
-
-    -- from h no done came, or the dones follow one another
-    pub record Spans (h k : History) : Type 0 where
-      pub dones : List Done
-      pub completed : k.completed ≡ h.completed ++ dones
-      pub follow : h.decided ≡ false → AreConsecutive h.since dones k.since
-
-    pub record Cut (h k : History) : Type 0 where
-      pub lawful : IsLawful m readings origin k
-      pub spans : Spans h k
-
-    part_grows : (h v k : History) → v.completed ≡ h.completed → v.since ≡ h.since → v.span_from ≡ h.since → v.span_to ≡ v.taken → Grows v k → Spans h k
-    part_grows h v k c s f t (Stayed a b) = record { dones = []; completed = a ∙ c ∙ sym (append-nil h.completed); follow = λ z. sym (b ∙ s) }
-    part_grows h v k c s f t (Finished a b) = record {
-      dones = done_of v k.world ∷ [];
-      completed = a
-          ∙ ap (λ l. l ++ done_of v k.world ∷ []) c;
-      follow = λ z. (f, t ∙ sym b);
-    }
-
-    stayed_spans : (h k : History) → Part h k → h.decided ≡ true → Spans h k
-    stayed_spans h k p d = stayed_by p.grows
-      where
-        clash : (h.decided ≡ false → AreConsecutive h.since [] k.since)
-        clash z = absurd (cc (d, z))
-
-        stayed_by : Grows h k → Spans h k
-        stayed_by (Stayed a b) = record { dones = []; completed = a ∙ sym (append-nil h.completed); follow = clash }
-        stayed_by (Finished a b) = record { dones = done_of h k.world ∷ []; completed = a; follow = λ z. absurd (cc (d, z)) }
-
-    module _ (s next : St) (left : List ℕ) (h : History) (r : ProgramEffects) (reached : Reaches m readings origin h.completed s)
-        (settled : IsSettled origin h.completed) (nd : h.decided ≡ false) (pt : Point h) (c : Decides m s next left (drop h.taken readings) h.world r) where
-      abbrev to_gate : List Effect
-      to_gate = c.before ++ Store m.gate 1 ∷ []
-
-      -- the history behind the decide
-      abbrev at_gate : History
-      at_gate = behind_decide (with_effect (Store m.gate 1) (with_effects c.before h))
-
-      chose : observe m.gate to_gate h ≡ at_gate
-      chose =
-          let u = with_effects c.before h in
-          let z : u.world.fram m.gate ≡ 0 = laws.undecided_gate s (world_after c.before h.world) (holds_end (m.Undecided s) c.before h.world c.undecided) in
-          observe-append m.gate c.before (Store m.gate 1 ∷ []) h ∙ ap (observe_one m.gate (Store m.gate 1)) (observe_quiet m.gate c.before h c.elsewhere)
-          ∙ observe_decide m.gate u z
-
-      gate_world : world_after to_gate h.world ≡ at_gate.world
-      gate_world = world_after-append c.before (Store m.gate 1 ∷ []) h.world
-
-      taken_there : at_gate.taken ≡ h.taken + length (readings_taken c.before)
-      taken_there = omega arith
-
-      transits : Transits m origin h.completed (decided_readings readings at_gate) s next
-      transits =
-          let reads : readings_taken c.before ++ left ≡ drop h.since readings = c.reads ∙ ap (λ n. drop n readings) (sym pt.since) in
-          let to : at_gate.taken ≡ h.since + length (readings_taken c.before) = taken_there ∙ ap (λ n. n + length (readings_taken c.before)) (sym pt.since) in
-          transits_task origin h.completed _ s next settled (ap (m.task s) (range_of readings (readings_taken c.before) left h.since at_gate.taken reads to)
-          ∙ c.exact)
-
-      gate_due : IsDue at_gate s next (m.Decided s next)
-      gate_due = due_decided at_gate s next reached refl transits c.decided
-
-      gate_effects : at_gate.effects ≡ h.effects ++ to_gate
-      gate_effects = append_assoc h.effects c.before (Store m.gate 1 ∷ [])
-
-      gate_told : IsTold at_gate
-      gate_told = sym gate_world ∙ told_more h to_gate (point_lawful h pt).world ∙ ap (λ l. world_after l h.start) (sym gate_effects)
-
-      gate_goes : (fs : List Effect) → MayGoOn h (to_gate ++ fs) → MayGoOn at_gate fs
-      gate_goes fs g = subst (λ l. IsPrefix l (script m h.start.fram (drop h.since readings)).effects)
-          (sym (ap (λ l. l ++ fs) gate_effects ∙ append_assoc h.effects to_gate fs)) g
-
-      commit_there : m.commit (fram_after to_gate h.world.fram) ≡ m.commit at_gate.world.fram
-      commit_there = ap m.commit (sym (world_fram to_gate h.world) ∙ ap (λ x. x.fram) gate_world)
-
-      -- from the store to GATE on
-      past_gate : (es fs : List Effect) → es ≡ to_gate ++ fs → IsPrefix fs (m.commit (fram_after to_gate h.world.fram)) → MayGoOn h es
-          → Cut h (observe m.gate es h)
-      past_gate es fs e p go =
-          let k = commit_part s next (m.Decided s next) at_gate gate_due fs (subst (IsPrefix fs) commit_there p) gate_told
-          (gate_goes fs (subst (MayGoOn h) e go)) in
-          let is : observe m.gate es h ≡ observe m.gate fs at_gate = ap (λ l. observe m.gate l h) e ∙ observe-append m.gate to_gate fs h
-          ∙ ap (observe m.gate fs) chose in
-          subst (Cut h) (sym is) (record { lawful = k.lawful; spans = part_grows h at_gate _ refl refl refl refl k.grows })
-
-      -- up to it
-      before_gate : (es : List Effect) → IsPrefix es c.before → MayGoOn h es → Cut h (observe m.gate es h)
-      before_gate es p go =
-          let k = quiet_part s h es (each_prefix (IsElsewhere m.gate) es c.before p c.elsewhere) (point_lawful h pt).world go reached
-          (UndecidedPhase nd settled (holds_prefix (m.Undecided s) es c.before h.world p c.undecided)) in
-          cut_quiet es (each_prefix (IsElsewhere m.gate) es c.before p c.elsewhere) k.lawful
-        where
-          cut_quiet : (es : List Effect) → EachStore (IsElsewhere m.gate) es → IsLawful m readings origin (observe m.gate es h) → Cut h (observe m.gate es h)
-          cut_quiet es q l =
-              let is = observe_quiet m.gate es h q in
-              record {
-                lawful = l;
-                spans = record {
-                  dones = [];
-                  completed = ap (λ k. k.completed) is
-                      ∙ sym (append-nil h.completed);
-                  follow = λ z. sym (ap (λ k. k.since) is);
-                };
-              }
-
-      decides_part : (es : List Effect) → IsPrefix es (with_commit m h.world.fram r).effects → MayGoOn h es → Cut h (observe m.gate es h)
-      decides_part es p0 go =
-          let p : IsPrefix es (to_gate
-          ++ m.commit (fram_after to_gate h.world.fram)) = subst (λ q. IsPrefix es (with_commit m h.world.fram q).effects) c.is p0 in
-          ⊎_elim
-          (λ a. ⊎_elim
-          (λ b. before_gate es b go)
-          (λ b. ⊎_elim
-          (λ e. before_gate es (record { rest = []; joins = append-nil es ∙ b.1 ∙ ap (λ l. c.before ++ l) e ∙ append-nil c.before }) go)
-          (λ e. past_gate es [] (b.1 ∙ ap (λ l. c.before ++ l) e ∙ sym (append-nil to_gate)) (nothing_first _) go)
-          (prefix_one b.0 (Store m.gate 1) b.2))
-          (prefix_cases es c.before (Store m.gate 1 ∷ []) a))
-          (λ a. past_gate es a.0 a.1 a.2 go)
-          (prefix_cases es to_gate (m.commit (fram_after to_gate h.world.fram)) p)
-
-      decides_whole : Next h (observe m.gate (with_commit m h.world.fram r).effects h)
-      decides_whole =
-          let cm = m.commit (fram_after to_gate h.world.fram) in
-          let w0 = commit_whole s next (m.Decided s next) at_gate gate_due in
-          let k = observe m.gate cm at_gate in
-          let w : Whole at_gate k = subst (λ l. Whole at_gate (observe m.gate l at_gate)) (sym commit_there) w0 in
-          let is : observe m.gate (to_gate ++ cm) h ≡ k = observe-append m.gate to_gate cm h ∙ ap (observe m.gate cm) chose in
-          let all : Next h (observe m.gate (to_gate ++ cm) h) =
-          subst (Next h) (sym is) (record {
-            point = w.point;
-            done = done_of at_gate k.world;
-            completed = w.completed;
-            undecided = w.undecided;
-            span = λ z. (refl, sym w.taken ∙ sym w.point.since);
-            since = λ z. absurd (cc (nd, z));
-          }) in
-          subst (λ q. Next h (observe m.gate (with_commit m h.world.fram q).effects h)) (sym c.is) all
-
-    -- an attempt that runs short, and that comes to no end
-    pub short_effects : (s : St) (f : ℕ → ℕ) (x : World) (r : ProgramEffects) → RunsShort m s x r → (with_commit m f r).effects ≡ r.effects
-    short_effects s f x r c = ap (λ b. r.effects ++ cond b (m.commit (fram_after r.effects f)) []) c.is ∙ append-nil r.effects
-
-    short_part : (s : St) (h : History) (r : ProgramEffects) (es : List Effect) → Reaches m readings origin h.completed s → IsSettled origin h.completed
-        → h.decided ≡ false → Point h → RunsShort m s h.world r → IsPrefix es r.effects → MayGoOn h es → Cut h (observe m.gate es h)
-    short_part s h r es reached settled nd pt c p go =
-        let q = each_prefix (IsElsewhere m.gate) es r.effects p c.elsewhere in
-        let k = quiet_part s h es q (point_lawful h pt).world go reached
-        (UndecidedPhase nd settled (holds_prefix (m.Undecided s) es r.effects h.world p c.undecided)) in
-        let is = observe_quiet m.gate es h q in
-        record {
-          lawful = k.lawful;
-          spans = record {
-            dones = [];
-            completed = ap (λ k. k.completed) is
-                ∙ sym (append-nil h.completed);
-            follow = λ z. sym (ap (λ k. k.since) is);
-          };
-        }
-
-    attempt_part : (s : St) (h : History) (es : List Effect) (a : Outcome St) (r : ProgramEffects) → Reaches m readings origin h.completed s
-        → IsSettled origin h.completed → h.decided ≡ false → Point h → AttemptContract m s (drop h.taken readings) h.world a r
-        → IsPrefix es (with_commit m h.world.fram r).effects → MayGoOn h es → Cut h (observe m.gate es h)
-    attempt_part s h es (Ends next left) r reached settled nd pt c p go = decides_part s next left h r reached settled nd pt c es p go
-    attempt_part s h es Short r reached settled nd pt c p go = short_part s h r es reached settled nd pt c (subst (IsPrefix es)
-        (short_effects s h.world.fram h.world r c) p) go
-
-    attempt_whole : (s : St) (h : History) (a : Outcome St) (r : ProgramEffects) → Reaches m readings origin h.completed s → IsSettled origin h.completed
-        → h.decided ≡ false → Point h → AttemptContract m s (drop h.taken readings) h.world a r → r.ends ≡ true
-        → Next h (observe m.gate (with_commit m h.world.fram r).effects h)
-    attempt_whole s h (Ends next left) r reached settled nd pt c e = decides_whole s next left h r reached settled nd pt c
-    attempt_whole s h Short r reached settled nd pt c e = absurd (cc (c.is, e))
-
-    -- a point where all is undecided
-    pub record AtUndecided (h : History) : Type 0 where
-      pub state : St
-      pub reached : Reaches m readings origin h.completed state
-      pub undecided : h.decided ≡ false
-      pub settled : IsSettled origin h.completed
-      pub holds : m.Undecided state h.world
-
-    -- one where a commit is due, with the state that it leaves
-    pub record AtCommit (h : History) : Type 0 where
-      pub to : St
-      pub decided : h.decided ≡ true
-      pub holds : m.Committing to h.world
-      pub whole : Whole h (observe m.gate (m.commit h.world.fram) h)
-      pub part : (es : List Effect) → IsPrefix es (m.commit h.world.fram) → IsTold h → MayGoOn h es → Part h (observe m.gate es h)
-
-    at_commit : (h : History) (s next : St) (Kept : World → Type 0) → IsDue h s next Kept → AtCommit h
-    at_commit h s next Kept due =
-        record {
-          to = next;
-          decided = due.decided;
-          holds = due.committing h.world due.holds;
-          whole = commit_whole s next Kept h due;
-          part = commit_part s next Kept h due;
-        }
-
-    pub phase_of : (h : History) → StandsFor m readings origin h → (AtUndecided h) ⊎ (AtCommit h)
-    phase_of h st = by_phase st.state st.reached st.phase
-      where
-        by_phase : (s : St) → Reaches m readings origin h.completed s → Phase m readings origin s h → (AtUndecided h) ⊎ (AtCommit h)
-        by_phase s r (UndecidedPhase d k u) = inl (record { state = s; reached = r; undecided = d; settled = k; holds = u })
-        by_phase s r (DecidedPhase next d t u) = inr (at_commit h s next (m.Decided s next) (due_decided h s next r d t u))
-        by_phase s r (CommittingPhase d p n u) = inr (at_commit h s s (m.Committing s) (due_first h s r d p n u))
-
-    -- what the script is, by GATE
-    pub script_decided : (f : ℕ → ℕ) (rs : List ℕ) → f m.gate ≡ 1 → script m f rs ≡ program_effects (m.commit f) true
-    script_decided f rs e = ap (λ n. cond (n == 1) (program_effects (m.commit f) true) (with_commit m f (m.attempt f rs))) e
-
-    pub script_undecided : (f : ℕ → ℕ) (rs : List ℕ) → f m.gate ≡ 0 → script m f rs ≡ with_commit m f (m.attempt f rs)
-    script_undecided f rs e = ap (λ n. cond (n == 1) (program_effects (m.commit f) true) (with_commit m f (m.attempt f rs))) e
-
-    -- the script at a point
-    abbrev pub script_at : History → ProgramEffects
-    script_at h = script m h.world.fram (drop h.taken readings)
-
-    pub words_left : (h : History) → All IsWord (drop h.taken readings)
-    words_left h = All-drop IsWord h.taken readings words
-
-    owed : (h : History) (u : AtUndecided h) → AttemptContract m u.state (drop h.taken readings) h.world (m.task u.state (drop h.taken readings))
-        (m.attempt h.world.fram (drop h.taken readings))
-    owed h u = laws.attempts u.state h.world (drop h.taken readings) (words_left h) u.holds
-
-    script_u : (h : History) (u : AtUndecided h) → script_at h ≡ with_commit m h.world.fram (m.attempt h.world.fram (drop h.taken readings))
-    script_u h u = script_undecided h.world.fram (drop h.taken readings) (laws.undecided_gate u.state h.world u.holds)
-
-    script_d : (h : History) (d : AtCommit h) → script_at h ≡ program_effects (m.commit h.world.fram) true
-    script_d h d = script_decided h.world.fram (drop h.taken readings) (laws.committing_gate d.to h.world d.holds)
-
-    may_go_on : (h : History) (es : List Effect) → Point h → IsPrefix es (script_at h).effects → MayGoOn h es
-    may_go_on h es p pre =
-        subst (λ l. IsPrefix (l ++ es) (script m h.start.fram (drop h.since readings)).effects) (sym p.none)
-        (subst (λ x. IsPrefix es (script m x.fram (drop h.since readings)).effects) (sym p.start)
-        (subst (λ n. IsPrefix es (script m h.world.fram (drop n readings)).effects) (sym p.since) pre))
-
-    -- from a point on, the script cut anywhere
-    pub point_part : (h : History) (es : List Effect) → Point h → IsPrefix es (script_at h).effects → Cut h (observe m.gate es h)
-    point_part h es p pre =
-        let go = may_go_on h es p pre in
+    -- a commit, cut anywhere
+    commit_part : (es : List Effect) → IsPrefix es (m.commit v.world.fram inputs) → IsTold v → MayGoOn v es → Part v (observe m.marks es v)
+    commit_part es pre told go =
         ⊎_elim
-        (λ u. attempt_part u.state h es _ _ u.reached u.settled u.undecided p (owed h u) (subst (λ q. IsPrefix es q.effects) (script_u h u) pre) go)
-        (λ d.
-        let k = d.part es (subst (λ q. IsPrefix es q.effects) (script_d h d) pre) (point_lawful h p).world go in
-        record { lawful = k.lawful; spans = stayed_spans h _ k d.decided })
-        (phase_of h p.stands)
+        (λ h. commit_quiet es h told go)
+        (λ h. ⊎_elim
+        (λ e. commit_quiet es (record { rest = []; joins = append-nil es ∙ h.1 ∙ ap (λ l. before ++ l) e ∙ append-nil before }) told go)
+        (λ e. subst (λ l. Part v (observe m.marks l v)) (sym (h.1 ∙ ap (λ l. before ++ l) e)) (whole_part _ commit_end))
+        (prefix_one h.0 (Store m.marks.gate 0) h.2))
+        (prefix_cases es before (Store m.marks.gate 0 ∷ []) (subst (λ l. IsPrefix es l) keeps.is pre))
 
-    -- from a pending commit on no done comes, or one, at which no reading more was taken
-    pub point_grows : (h : History) (es : List Effect) → Point h → h.decided ≡ true → IsPrefix es (script_at h).effects → Grows h (observe m.gate es h)
-    point_grows h es p decided pre =
-        ⊎_elim {C = Grows h (observe m.gate es h)}
-        (λ u. absurd (cc (u.undecided, decided)))
-        (λ d. (d.part es (subst (λ q. IsPrefix es q.effects) (script_d h d) pre) (point_lawful h p).world (may_go_on h es p pre)).grows)
-        (phase_of h p.stands)
+  -- a done behind a decide
+  pub record Next (h k : History) : Type 0 where
+    pub point : Point k
+    pub done : Done
+    pub completed : k.completed ≡ h.completed ++ done ∷ []
+    pub undecided : k.decided ≡ false
+    pub behind_done : k.booted ≡ false
+    pub span : h.decided ≡ false → (done.span_from ≡ h.since) × (done.span_to ≡ k.since)
+    pub since : h.decided ≡ true → k.since ≡ h.taken
 
-    -- and the whole script
-    pub point_whole : (h : History) → Point h → (script_at h).ends ≡ true → Next h (observe m.gate (script_at h).effects h)
-    point_whole h p e =
+  -- from h no done came, or the dones follow one another
+  pub record Spans (h k : History) : Type 0 where
+    pub dones : List Done
+    pub completed : k.completed ≡ h.completed ++ dones
+    pub follow : h.decided ≡ false → AreConsecutive h.since dones k.since
+
+  pub record Cut (h k : History) : Type 0 where
+    pub lawful : IsLawful m readings origin k
+    pub spans : Spans h k
+
+  -- effects that store nothing to GATE are part of a script that goes on, and no done
+  quiet_cut : (s : St) (h : History) (es : List Effect) → EachStore (IsElsewhere m.marks.gate) es → IsTold h → MayGoOn h es
+      → Reaches m readings origin h.completed s → Phase m readings origin s (with_effects es h) → Cut h (observe m.marks es h)
+  quiet_cut s h es q told go reached phase =
+      let is = observe_quiet m.marks es h q in
+      record {
+        lawful = (quiet_part s h es q told go reached phase).lawful;
+        spans = record {
+          dones = [];
+          completed = ap (λ k. k.completed) is ∙ sym (append-nil h.completed);
+          follow = λ z. sym (ap (λ k. k.since) is);
+        };
+      }
+
+  part_grows : (h v k : History) → v.completed ≡ h.completed → v.since ≡ h.since → v.span_from ≡ h.since → v.span_to ≡ v.taken → Grows v k → Spans h k
+  part_grows h v k c s f t (Stayed a b) = record { dones = []; completed = a ∙ c ∙ sym (append-nil h.completed); follow = λ z. sym (b ∙ s) }
+  part_grows h v k c s f t (Finished a b) = record {
+    dones = done_of v k.world ∷ [];
+    completed = a
+        ∙ ap (λ l. l ++ done_of v k.world ∷ []) c;
+    follow = λ z. (f, t ∙ sym b);
+  }
+
+  stayed_spans : (h k : History) → Part h k → h.decided ≡ true → Spans h k
+  stayed_spans h k p d = stayed_by p.grows
+    where
+      clash : (h.decided ≡ false → AreConsecutive h.since [] k.since)
+      clash z = absurd (cc (d, z))
+
+      stayed_by : Grows h k → Spans h k
+      stayed_by (Stayed a b) = record { dones = []; completed = a ∙ sym (append-nil h.completed); follow = clash }
+      stayed_by (Finished a b) = record { dones = done_of h k.world ∷ []; completed = a; follow = λ z. absurd (cc (d, z)) }
+
+  -- the inputs at a point
+  abbrev pub inputs_at : History → Inputs
+  inputs_at h = inputs_from readings h.taken
+
+  -- a point where all is undecided
+  pub record AtUndecided (h : History) : Type 0 where
+    pub point : Point h
+    pub state : St
+    pub reached : Reaches m readings origin h.completed state
+    pub undecided : h.decided ≡ false
+    pub settled : IsSettled origin h.completed
+    pub holds : m.Undecided state h.world
+    pub ready : h.booted ≡ false → m.Settled state h.world
+
+  module _ (h : History) (u : AtUndecided h) (next : St) (left : Inputs) (r : ProgramEffects)
+      (c : Decides m u.state next left (inputs_at h) h.world r) where
+    abbrev s : St
+    s = u.state
+
+    abbrev pt : Point h
+    pt = u.point
+
+    abbrev to_gate : List Effect
+    to_gate = c.before ++ Store m.marks.gate 1 ∷ []
+
+    -- the history behind the decide
+    abbrev at_gate : History
+    at_gate = behind_decide (with_effect (Store m.marks.gate 1) (with_effects c.before h))
+
+    chose : observe m.marks to_gate h ≡ at_gate
+    chose =
+        let k = with_effects c.before h in
+        let z : k.world.fram m.marks.gate ≡ 0 = laws.undecided_gate s (world_after c.before h.world) (holds_end (m.Undecided s) c.before h.world c.undecided) in
+        observe-append m.marks c.before (Store m.marks.gate 1 ∷ []) h ∙ ap (observe_one m.marks (Store m.marks.gate 1)) (observe_quiet m.marks c.before h c.elsewhere)
+        ∙ observe_decide m.marks k z
+
+    gate_world : world_after to_gate h.world ≡ at_gate.world
+    gate_world = world_after-append c.before (Store m.marks.gate 1 ∷ []) h.world
+
+    taken_there : at_gate.taken ≡ h.taken + length (readings_taken c.before)
+    taken_there = omega arith
+
+    transits : Transits m origin h.completed (decided_inputs readings at_gate) s next
+    transits =
+        let reads : readings_taken c.before ++ left.readings ≡ drop h.since readings = c.reads.readings
+        ∙ ap (λ n. drop n readings) (sym pt.since) in
+        let to : at_gate.taken ≡ h.since + length (readings_taken c.before) = taken_there ∙ ap (λ n. n + length (readings_taken c.before)) (sym pt.since) in
+        let taken = range_of readings (readings_taken c.before) left.readings h.since at_gate.taken reads to in
+        let same : decided_inputs readings at_gate ≡ inputs_taken c.before = λ i. record { readings = taken i } in
+        transits_task origin h.completed _ s next u.settled (ap (m.task s) same ∙ c.exact)
+
+    gate_due : IsDue at_gate s next (m.Decided s next)
+    gate_due = due_decided at_gate s next u.reached refl transits c.decided
+
+    gate_effects : at_gate.effects ≡ h.effects ++ to_gate
+    gate_effects = append_assoc h.effects c.before (Store m.marks.gate 1 ∷ [])
+
+    gate_told : IsTold at_gate
+    gate_told = sym gate_world ∙ told_more h to_gate (point_lawful h pt).world ∙ ap (λ l. world_after l h.start) (sym gate_effects)
+
+    gate_goes : (fs : List Effect) → MayGoOn h (to_gate ++ fs) → MayGoOn at_gate fs
+    gate_goes fs g = subst (λ l. IsPrefix l (script m h.booted h.start.fram (inputs_from readings h.since)).effects)
+        (sym (ap (λ l. l ++ fs) gate_effects ∙ append_assoc h.effects to_gate fs)) g
+
+    -- what is left for the commit
+    abbrev inputs_there : Inputs
+    inputs_there = inputs_behind to_gate (inputs_at h)
+
+    abbrev commit_then : List Effect
+    commit_then = m.commit (fram_after to_gate h.world.fram) inputs_there
+
+    commit_there : commit_then ≡ m.commit at_gate.world.fram inputs_there
+    commit_there = ap (λ f. m.commit f inputs_there) (sym (world_fram to_gate h.world) ∙ ap (λ x. x.fram) gate_world)
+
+    -- from the store to GATE on
+    past_gate : (es fs : List Effect) → es ≡ to_gate ++ fs → IsPrefix fs commit_then → MayGoOn h es → Cut h (observe m.marks es h)
+    past_gate es fs e p go =
+        let k = commit_part s next (m.Decided s next) at_gate gate_due inputs_there fs (subst (IsPrefix fs) commit_there p) gate_told
+        (gate_goes fs (subst (MayGoOn h) e go)) in
+        let is : observe m.marks es h ≡ observe m.marks fs at_gate = ap (λ l. observe m.marks l h) e ∙ observe-append m.marks to_gate fs h
+        ∙ ap (observe m.marks fs) chose in
+        subst (Cut h) (sym is) (record { lawful = k.lawful; spans = part_grows h at_gate _ refl refl refl refl k.grows })
+
+    -- up to it
+    before_gate : (es : List Effect) → IsPrefix es c.before → MayGoOn h es → Cut h (observe m.marks es h)
+    before_gate es p go =
+        quiet_cut s h es (each_prefix (IsElsewhere m.marks.gate) es c.before p c.elsewhere) (point_lawful h pt).world go u.reached
+        (UndecidedPhase u.undecided u.settled (holds_prefix (m.Undecided s) es c.before h.world p c.undecided))
+
+    decides_part : (es : List Effect) → IsPrefix es (with_commit m h.world.fram (inputs_at h) r).effects → MayGoOn h es → Cut h (observe m.marks es h)
+    decides_part es p0 go =
+        let p : IsPrefix es (to_gate ++ commit_then) = subst (λ q. IsPrefix es (with_commit m h.world.fram (inputs_at h) q).effects) c.is p0 in
         ⊎_elim
-        (λ u.
-        let is = script_u h u in
-        subst (λ q. Next h (observe m.gate q.effects h)) (sym is) (attempt_whole u.state h _ _ u.reached u.settled u.undecided p (owed h u)
-        (subst (λ q. q.ends ≡ true) is e)))
-        (λ d.
-        let w = d.whole in
-        let n : Next h (observe m.gate (m.commit h.world.fram) h) = record {
+        (λ a. ⊎_elim
+        (λ b. before_gate es b go)
+        (λ b. ⊎_elim
+        (λ e. before_gate es (record { rest = []; joins = append-nil es ∙ b.1 ∙ ap (λ l. c.before ++ l) e ∙ append-nil c.before }) go)
+        (λ e. past_gate es [] (b.1 ∙ ap (λ l. c.before ++ l) e ∙ sym (append-nil to_gate)) (nothing_first _) go)
+        (prefix_one b.0 (Store m.marks.gate 1) b.2))
+        (prefix_cases es c.before (Store m.marks.gate 1 ∷ []) a))
+        (λ a. past_gate es a.0 a.1 a.2 go)
+        (prefix_cases es to_gate commit_then p)
+
+    decides_whole : Next h (observe m.marks (with_commit m h.world.fram (inputs_at h) r).effects h)
+    decides_whole =
+        let cm = commit_then in
+        let w0 = commit_whole s next (m.Decided s next) at_gate gate_due inputs_there in
+        let k = observe m.marks cm at_gate in
+        let w : Whole at_gate k = subst (λ l. Whole at_gate (observe m.marks l at_gate)) (sym commit_there) w0 in
+        let is : observe m.marks (to_gate ++ cm) h ≡ k = observe-append m.marks to_gate cm h ∙ ap (observe m.marks cm) chose in
+        let all : Next h (observe m.marks (to_gate ++ cm) h) =
+        subst (Next h) (sym is) (record {
           point = w.point;
-          done = done_of h _;
+          done = done_of at_gate k.world;
           completed = w.completed;
           undecided = w.undecided;
-          span = λ z. absurd (cc (d.decided, z));
-          since = λ z. w.point.since ∙ w.taken;
-        } in
-        subst (λ q. Next h (observe m.gate q.effects h)) (sym (script_d h d)) n)
-        (phase_of h p.stands)
+          behind_done = w.behind_done;
+          span = λ z. (refl, sym w.taken ∙ sym w.point.since);
+          since = λ z. let nd = u.undecided in absurd (cc (nd, z));
+        }) in
+        subst (λ q. Next h (observe m.marks (with_commit m h.world.fram (inputs_at h) q).effects h)) (sym c.is) all
 
-    -- a whole script makes something
-    pub point_some : (h : History) → Point h → (script_at h).ends ≡ true → (script_at h).effects ≡ [] → ⊥
-    point_some h p e none =
-        let n = point_whole h p e in
-        let same : h.completed ≡ h.completed ++ n.done ∷ [] = ap (λ l. (observe m.gate l h).completed) (sym none) ∙ n.completed in
-        no_longer h.completed n.done same
-      where
-        no_longer : (ds : List Done) (d : Done) → ds ≡ ds ++ d ∷ [] → ⊥
-        no_longer [] d q = cc q
-        no_longer (a ∷ ds) d q = no_longer ds d (cc q)
+  -- an attempt that runs short, and that comes to no end
+  pub short_effects : (s : St) (f : ℕ → ℕ) (inputs : Inputs) (x : World) (r : ProgramEffects) → RunsShort m s x r
+      → (with_commit m f inputs r).effects ≡ r.effects
+  short_effects s f inputs x r c =
+      ap (λ b. r.effects ++ cond b (m.commit (fram_after r.effects f) (inputs_behind r.effects inputs)) []) c.is ∙ append-nil r.effects
 
-    -- where the script doesn't come to its end, the source is short
-    pub record EndsShort (h : History) : Type 0 where
-      pub stands : StandsFor m readings origin h
-      pub undecided : h.decided ≡ false
-      pub short : m.task stands.state (drop h.since readings) ≡ Short
+  short_part : (h : History) (u : AtUndecided h) (r : ProgramEffects) (es : List Effect) → RunsShort m u.state h.world r → IsPrefix es r.effects
+      → MayGoOn h es → Cut h (observe m.marks es h)
+  short_part h u r es c p go =
+      quiet_cut u.state h es (each_prefix (IsElsewhere m.marks.gate) es r.effects p c.elsewhere) (point_lawful h u.point).world go u.reached
+      (UndecidedPhase u.undecided u.settled (holds_prefix (m.Undecided u.state) es r.effects h.world p c.undecided))
 
-    short_by : (h : History) (u : AtUndecided h) (a : Outcome St) → Point h → m.task u.state (drop h.taken readings) ≡ a
-        → AttemptContract m u.state (drop h.taken readings) h.world a (m.attempt h.world.fram (drop h.taken readings))
-        → (m.attempt h.world.fram (drop h.taken readings)).ends ≡ false
-        → EndsShort (observe m.gate (with_commit m h.world.fram (m.attempt h.world.fram (drop h.taken readings))).effects h)
-    short_by h u (Ends next left) p e c lacking = absurd (cc (ap (λ q. q.ends) c.is, lacking))
-    short_by h u Short p e c lacking =
-        let r = m.attempt h.world.fram (drop h.taken readings) in
-        let k : EndsShort (with_effects r.effects h) =
-        record {
-          stands = record {
-            state = u.state;
-            reached = u.reached;
-            phase = UndecidedPhase u.undecided u.settled (holds_end (m.Undecided u.state) r.effects h.world c.undecided);
-          };
-          undecided = u.undecided;
-          short = ap (λ n. m.task u.state (drop n readings)) p.since ∙ e;
-        } in
-        let is : observe m.gate (with_commit m h.world.fram r).effects h ≡ with_effects r.effects h = ap (λ l. observe m.gate l h)
-        (short_effects u.state h.world.fram h.world r c) ∙ observe_quiet m.gate r.effects h c.elsewhere in
-        subst EndsShort (sym is) k
+  attempt_part : (h : History) (u : AtUndecided h) (es : List Effect) (a : Outcome St) (r : ProgramEffects)
+      → AttemptContract m u.state (inputs_at h) h.world a r → IsPrefix es (with_commit m h.world.fram (inputs_at h) r).effects → MayGoOn h es
+      → Cut h (observe m.marks es h)
+  attempt_part h u es (Ends next left) r c p go = decides_part h u next left r c es p go
+  attempt_part h u es Short r c p go = short_part h u r es c (subst (IsPrefix es) (short_effects u.state h.world.fram (inputs_at h) h.world r c) p) go
 
-    pub point_short : (h : History) → Point h → (script_at h).ends ≡ false → EndsShort (observe m.gate (script_at h).effects h)
-    point_short h p lacking =
-        ⊎_elim
-        (λ u.
-        let is = script_u h u in
-        subst (λ q. EndsShort (observe m.gate q.effects h)) (sym is) (short_by h u _ p refl (owed h u) (subst (λ q. q.ends ≡ false) is lacking)))
-        (λ d. absurd (cc (ap (λ q. q.ends) (script_d h d), lacking)))
-        (phase_of h p.stands)
+  attempt_whole : (h : History) (u : AtUndecided h) (a : Outcome St) (r : ProgramEffects) → AttemptContract m u.state (inputs_at h) h.world a r
+      → r.ends ≡ true → Next h (observe m.marks (with_commit m h.world.fram (inputs_at h) r).effects h)
+  attempt_whole h u (Ends next left) r c e = decides_whole h u next left r c
+  attempt_whole h u Short r c e = absurd (cc (c.is, e))
 
-    -- a boot
-    pub booted : (h : History) → StandsFor m readings origin h → Point (behind_boot h)
-    booted h st = record { stands = record { state = st.state; reached = st.reached; phase = same st.phase }; since = refl; start = refl; none = refl }
-      where
-        same : Phase m readings origin st.state h → Phase m readings origin st.state (behind_boot h)
-        same (UndecidedPhase d k u) = UndecidedPhase d k u
-        same (DecidedPhase next d t u) = DecidedPhase next d t u
-        same (CommittingPhase d p n u) = CommittingPhase d p n u
+  -- one where a commit is due, with the state that it leaves; it is behind a boot
+  pub record AtCommit (h : History) : Type 0 where
+    pub to : St
+    pub decided : h.decided ≡ true
+    pub booted : h.booted ≡ false → ⊥
+    pub holds : m.Committing to h.world
+    pub whole : (inputs : Inputs) → Whole h (observe m.marks (m.commit h.world.fram inputs) h)
+    pub part : (inputs : Inputs) (es : List Effect) → IsPrefix es (m.commit h.world.fram inputs) → IsTold h → MayGoOn h es
+        → Part h (observe m.marks es h)
+
+  at_commit : (h : History) (s next : St) (Kept : World → Type 0) → IsDue h s next Kept → (h.booted ≡ false → h.decided ≡ false) → AtCommit h
+  at_commit h s next Kept due ready =
+      record {
+        to = next;
+        decided = due.decided;
+        booted = λ z. let u = ready z in let d = due.decided in absurd (cc (u, d));
+        holds = due.committing h.world due.holds;
+        whole = commit_whole s next Kept h due;
+        part = commit_part s next Kept h due;
+      }
+
+  pub phase_of : (h : History) → Point h → (AtUndecided h) ⊎ (AtCommit h)
+  phase_of h p = by_phase p.stands.state p.stands.reached p.stands.phase p.ready
+    where
+      by_phase : (s : St) → Reaches m readings origin h.completed s → Phase m readings origin s h → (h.booted ≡ false → IsReady h s)
+          → (AtUndecided h) ⊎ (AtCommit h)
+      by_phase s r (UndecidedPhase d k u) w =
+          inl (record { point = p; state = s; reached = r; undecided = d; settled = k; holds = u; ready = λ z. (w z).settled })
+      by_phase s r (DecidedPhase next d t u) w =
+          inr (at_commit h s next (m.Decided s next) (due_decided h s next r d t u) (λ z. (w z).undecided))
+      by_phase s r (CommittingPhase d p n u) w = inr (at_commit h s s (m.Committing s) (due_first h s r d p n u) (λ z. (w z).undecided))
+
+  -- what the script is, by GATE
+  abbrev undecided_script : Bool → (ℕ → ℕ) → Inputs → ProgramEffects
+  undecided_script booted f inputs = with_commit m f inputs (attempt_from m booted f inputs)
+
+  script_decided : (booted : Bool) (f : ℕ → ℕ) (inputs : Inputs) → f m.marks.gate ≡ 1
+      → script m booted f inputs ≡ program_effects (m.commit f inputs) true
+  script_decided booted f inputs e = ap (λ n. cond (n == 1) (program_effects (m.commit f inputs) true) (undecided_script booted f inputs)) e
+
+  script_undecided : (booted : Bool) (f : ℕ → ℕ) (inputs : Inputs) → f m.marks.gate ≡ 0
+      → script m booted f inputs ≡ undecided_script booted f inputs
+  script_undecided booted f inputs e = ap (λ n. cond (n == 1) (program_effects (m.commit f inputs) true) (undecided_script booted f inputs)) e
+
+  -- the script at a point, and the attempt of one where all is undecided
+  abbrev pub script_at : History → ProgramEffects
+  script_at h = script m h.booted h.world.fram (inputs_at h)
+
+  abbrev pub attempt_at : History → ProgramEffects
+  attempt_at h = attempt_from m h.booted h.world.fram (inputs_at h)
+
+  pub words_left : (h : History) → InputsAreWords (inputs_at h)
+  words_left h = record { readings = All-drop IsWord h.taken readings words }
+
+  -- behind a boot as behind a done an attempt keeps the contract
+  pub owed_from : (booted : Bool) (s : St) (x : World) (inputs : Inputs) → InputsAreWords inputs → m.Undecided s x
+      → (booted ≡ false → m.Settled s x) → AttemptContract m s inputs x (m.task s inputs) (attempt_from m booted x.fram inputs)
+  owed_from false s x inputs ws u k = laws.attempts s x inputs ws (k refl)
+  owed_from true s x inputs ws u k =
+      let r = laws.recovers s x u in
+      let rec : List Effect = m.recover x.fram in
+      let y : World = world_after rec x in
+      in_front m s x inputs rec (m.task s inputs) (m.attempt (fram_after rec x.fram) inputs) r.stays
+      (subst (λ f. AttemptContract m s inputs y (m.task s inputs) (m.attempt f inputs)) (world_fram rec x) (laws.attempts s y inputs ws r.settled))
+
+  owed : (h : History) (u : AtUndecided h) → AttemptContract m u.state (inputs_at h) h.world (m.task u.state (inputs_at h)) (attempt_at h)
+  owed h u = owed_from h.booted u.state h.world (inputs_at h) (words_left h) u.holds u.ready
+
+  pub script_u : (h : History) (u : AtUndecided h) → script_at h ≡ with_commit m h.world.fram (inputs_at h) (attempt_at h)
+  script_u h u = script_undecided h.booted h.world.fram (inputs_at h) (laws.undecided_gate u.state h.world u.holds)
+
+  pub script_d : (h : History) (d : AtCommit h) → script_at h ≡ program_effects (m.commit h.world.fram (inputs_at h)) true
+  script_d h d = script_decided h.booted h.world.fram (inputs_at h) (laws.committing_gate d.to h.world d.holds)
+
+  -- charges as whole scripts and a prefix of one
+  pub data ChargeEffects : History → List Effect → Type 0 where
+    partial : {h : History} {es : List Effect} → IsPrefix es (script_at h).effects → ChargeEffects h es
+    complete : {h : History} {es : List Effect} → (script_at h).ends ≡ true → ChargeEffects (observe m.marks (script_at h).effects h) es
+        → ChargeEffects h ((script_at h).effects ++ es)
+
+  may_go_on : (h : History) (es : List Effect) → Point h → IsPrefix es (script_at h).effects → MayGoOn h es
+  may_go_on h es p pre =
+      subst (λ l. IsPrefix (l ++ es) (script m h.booted h.start.fram (inputs_from readings h.since)).effects) (sym p.none)
+      (subst (λ x. IsPrefix es (script m h.booted x.fram (inputs_from readings h.since)).effects) (sym p.start)
+      (subst (λ n. IsPrefix es (script m h.booted h.world.fram (inputs_from readings n)).effects) (sym p.since) pre))
+
+  -- from a point on, the script cut anywhere
+  pub point_part : (h : History) (es : List Effect) → Point h → IsPrefix es (script_at h).effects → Cut h (observe m.marks es h)
+  point_part h es p pre =
+      let go = may_go_on h es p pre in
+      ⊎_elim
+      (λ u. attempt_part h u es _ _ (owed h u) (subst (λ q. IsPrefix es q.effects) (script_u h u) pre) go)
+      (λ d.
+      let k = d.part (inputs_at h) es (subst (λ q. IsPrefix es q.effects) (script_d h d) pre) (point_lawful h p).world go in
+      record { lawful = k.lawful; spans = stayed_spans h _ k d.decided })
+      (phase_of h p)
+
+  -- from a pending commit on no done comes, or one, at which no reading more was taken
+  pub point_grows : (h : History) (es : List Effect) → Point h → h.decided ≡ true → IsPrefix es (script_at h).effects → Grows h (observe m.marks es h)
+  point_grows h es p decided pre =
+      ⊎_elim {C = Grows h (observe m.marks es h)}
+      (λ u. absurd (cc (u.undecided, decided)))
+      (λ d. (d.part (inputs_at h) es (subst (λ q. IsPrefix es q.effects) (script_d h d) pre) (point_lawful h p).world (may_go_on h es p pre)).grows)
+      (phase_of h p)
+
+  -- and the whole script
+  pub point_whole : (h : History) → Point h → (script_at h).ends ≡ true → Next h (observe m.marks (script_at h).effects h)
+  point_whole h p e =
+      ⊎_elim
+      (λ u.
+      let is = script_u h u in
+      subst (λ q. Next h (observe m.marks q.effects h)) (sym is) (attempt_whole h u _ _ (owed h u)
+      (subst (λ q. q.ends ≡ true) is e)))
+      (λ d.
+      let w = d.whole (inputs_at h) in
+      let n : Next h (observe m.marks (m.commit h.world.fram (inputs_at h)) h) = record {
+        point = w.point;
+        done = done_of h _;
+        completed = w.completed;
+        undecided = w.undecided;
+        behind_done = w.behind_done;
+        span = λ z. absurd (cc (d.decided, z));
+        since = λ z. w.point.since ∙ w.taken;
+      } in
+      subst (λ q. Next h (observe m.marks q.effects h)) (sym (script_d h d)) n)
+      (phase_of h p)
+
+  -- a whole script makes something
+  pub point_some : (h : History) → Point h → (script_at h).ends ≡ true → (script_at h).effects ≡ [] → ⊥
+  point_some h p e none =
+      let n = point_whole h p e in
+      let same : h.completed ≡ h.completed ++ n.done ∷ [] = ap (λ l. (observe m.marks l h).completed) (sym none) ∙ n.completed in
+      no_longer h.completed n.done same
+    where
+      no_longer : (ds : List Done) (d : Done) → ds ≡ ds ++ d ∷ [] → ⊥
+      no_longer [] d q = cc q
+      no_longer (a ∷ ds) d q = no_longer ds d (cc q)
+
+  -- where the script doesn't come to its end, the source is short
+  pub record EndsShort (h : History) : Type 0 where
+    pub stands : StandsFor m readings origin h
+    pub undecided : h.decided ≡ false
+    pub short : m.task stands.state (inputs_from readings h.since) ≡ Short
+
+  short_by : (h : History) (u : AtUndecided h) (a : Outcome St) (r : ProgramEffects) → m.task u.state (inputs_at h) ≡ a
+      → AttemptContract m u.state (inputs_at h) h.world a r → r.ends ≡ false
+      → EndsShort (observe m.marks (with_commit m h.world.fram (inputs_at h) r).effects h)
+  short_by h u (Ends next left) r e c lacking = absurd (cc (ap (λ q. q.ends) c.is, lacking))
+  short_by h u Short r e c lacking =
+      let k : EndsShort (with_effects r.effects h) =
+      record {
+        stands = record {
+          state = u.state;
+          reached = u.reached;
+          phase = UndecidedPhase u.undecided u.settled (holds_end (m.Undecided u.state) r.effects h.world c.undecided);
+        };
+        undecided = u.undecided;
+        short = ap (λ n. m.task u.state (inputs_from readings n)) u.point.since ∙ e;
+      } in
+      let is : observe m.marks (with_commit m h.world.fram (inputs_at h) r).effects h ≡ with_effects r.effects h = ap (λ l. observe m.marks l h)
+      (short_effects u.state h.world.fram (inputs_at h) h.world r c) ∙ observe_quiet m.marks r.effects h c.elsewhere in
+      subst EndsShort (sym is) k
+
+  pub point_short : (h : History) → Point h → (script_at h).ends ≡ false → EndsShort (observe m.marks (script_at h).effects h)
+  point_short h p lacking =
+      ⊎_elim
+      (λ u.
+      let is = script_u h u in
+      subst (λ q. EndsShort (observe m.marks q.effects h)) (sym is)
+      (short_by h u _ (attempt_at h) refl (owed h u) (subst (λ q. q.ends ≡ false) is lacking)))
+      (λ d. absurd (cc (ap (λ q. q.ends) (script_d h d), lacking)))
+      (phase_of h p)
+
+  -- a boot
+  pub booted : (h : History) → StandsFor m readings origin h → Point (behind_boot h)
+  booted h st = record {
+    stands = record { state = st.state; reached = st.reached; phase = same st.phase };
+    since = refl;
+    start = refl;
+    none = refl;
+    ready = λ z. absurd (cc z);
+  }
+    where
+      same : Phase m readings origin st.state h → Phase m readings origin st.state (behind_boot h)
+      same (UndecidedPhase d k u) = UndecidedPhase d k u
+      same (DecidedPhase next d t u) = DecidedPhase next d t u
+      same (CommittingPhase d p n u) = CommittingPhase d p n u

@@ -11,7 +11,7 @@ use Rattle.machine_effects.specs.fram_board.Board.{BoardValue}
 use Rattle.machine_effects.specs.fram_board.Effects.{Effect, Store, Take, store_at, stores_of, sends_of}
 use Rattle.machine_effects.specs.World.{World, world_after_one, world_after, readings_taken, EachStore}
 use Rattle.machine_effects.proofs.Interface.{taking_takes, world_after-append}
-use Rattle.crash_rules.specs.Model.{IsElsewhere}
+use Rattle.crash_rules.specs.Model.{Marks, IsElsewhere}
 use Rattle.crash_rules.specs.History.{History, is_done, is_decide, with_effect, behind_decide, behind_done, behind_gate, observe_one, observe, Positions}
 use Rattle.crash_rules.specs.History.{Done, positions_of, positions_behind, EventsOfInstructions}
 use Rattle.crash_rules.proofs.Observed.{observe-append, with_effects, not_done, not_decide, observe_quiet, observed_taken}
@@ -87,33 +87,33 @@ gate_positions before now h =
       }) (positions_of h)) [ true ↦ refl | false ↦ refl ]
     ]
 
-module _ (gate : ℕ) (us : List Effect) (off : EachStore (IsElsewhere gate) us) (still : (x : World) → (world_after us x).fram ≡ x.fram)
+module _ (marks : Marks) (us : List Effect) (off : EachStore (IsElsewhere marks.gate) us) (still : (x : World) → (world_after us x).fram ≡ x.fram)
     (none : readings_taken us ≡ []) where
-  none_more : (k : History) → (observe gate us k).taken ≡ k.taken
-  none_more k = let z = ap length none in observed_taken gate us k ∙ omega (arith, z)
+  none_more : (k : History) → (observe marks us k).taken ≡ k.taken
+  none_more k = let z = ap length none in observed_taken marks us k ∙ omega (arith, z)
 
   record Behind (m : List Effect) (k : History) : Type 0 where
-    positions : positions_of (observe gate (m ++ us) k) ≡ positions_behind (k.world.fram gate)
-        ((world_after (m ++ us) k.world).fram gate) k.taken (positions_of k)
-    taken : (observe gate (m ++ us) k).taken ≡ k.taken
+    positions : positions_of (observe marks (m ++ us) k) ≡ positions_behind (k.world.fram marks.gate)
+        ((world_after (m ++ us) k.world).fram marks.gate) k.taken (positions_of k)
+    taken : (observe marks (m ++ us) k).taken ≡ k.taken
 
   without_store : (k : History) → Behind [] k
   without_store k = record {
-    positions = ap positions_of (observe_quiet gate us k off) ∙ sym (same_positions (k.world.fram gate) k.taken (positions_of k))
-        ∙ ap (λ n. positions_behind (k.world.fram gate) n k.taken (positions_of k)) (sym (ap (λ f. f gate) (still k.world)));
+    positions = ap positions_of (observe_quiet marks us k off) ∙ sym (same_positions (k.world.fram marks.gate) k.taken (positions_of k))
+        ∙ ap (λ n. positions_behind (k.world.fram marks.gate) n k.taken (positions_of k)) (sym (ap (λ f. f marks.gate) (still k.world)));
     taken = none_more k;
   }
 
   with_store : (a w : ℕ) (k : History) → Behind (Store a w ∷ []) k
   with_store a w k =
-      let one = observe_one gate (Store a w) k in
+      let one = observe_one marks (Store a w) k in
       let y = world_after_one (Store a w) k.world in
       let more : (with_effect (Store a w) k).taken ≡ k.taken = omega arith in
-      let same : one.taken ≡ k.taken = observed_taken gate (Store a w ∷ []) k ∙ omega arith in
+      let same : one.taken ≡ k.taken = observed_taken marks (Store a w ∷ []) k ∙ omega arith in
       record {
-        positions = ap positions_of (observe_quiet gate us one off) ∙ gate_positions (k.world.fram gate) (y.fram gate) (with_effect (Store a w) k)
-            ∙ ap (λ t. positions_behind (k.world.fram gate) (y.fram gate) t (positions_of k)) more
-            ∙ ap (λ n. positions_behind (k.world.fram gate) n k.taken (positions_of k)) (sym (ap (λ f. f gate) (still y)));
+        positions = ap positions_of (observe_quiet marks us one off) ∙ gate_positions (k.world.fram marks.gate) (y.fram marks.gate) (with_effect (Store a w) k)
+            ∙ ap (λ t. positions_behind (k.world.fram marks.gate) (y.fram marks.gate) t (positions_of k)) more
+            ∙ ap (λ n. positions_behind (k.world.fram marks.gate) n k.taken (positions_of k)) (sym (ap (λ f. f marks.gate) (still y)));
         taken = none_more one ∙ same;
       }
 
@@ -123,7 +123,7 @@ module _ (gate : ℕ) (us : List Effect) (off : EachStore (IsElsewhere gate) us)
 
 -- what is observed of each instruction
 pub events_of_instructions : EventsOfInstructions
-events_of_instructions gate b x h e from to =
+events_of_instructions marks b x h e from to =
     let ws = slice_range b.readings b.taken x.board.taken in
     let ts = map (λ w. Take w) ws in
     let m = stores_of x.answer x.board in
@@ -133,14 +133,14 @@ events_of_instructions gate b x h e from to =
     let len : length (readings_taken ts) ≡ x.board.taken - b.taken = ap length (taking_takes ws)
     ∙ length-take-le (x.board.taken - b.taken) (drop b.taken b.readings) room in
     let there : k.taken ≡ x.board.taken = omega (arith, e, len, from) in
-    let seen : observe gate ts h ≡ k = observe_quiet gate ts h (takes_store (IsElsewhere gate) ws) in
-    let all : observe gate (ts ++ (m ++ us)) h ≡ observe gate (m ++ us) k = observe-append gate ts (m ++ us) h ∙ ap (observe gate (m ++ us)) seen in
-    let r = behind_store gate us (sends_store (IsElsewhere gate) b.outnum x.offered) (sends_fram b.outnum x.offered)
+    let seen : observe marks ts h ≡ k = observe_quiet marks ts h (takes_store (IsElsewhere marks.gate) ws) in
+    let all : observe marks (ts ++ (m ++ us)) h ≡ observe marks (m ++ us) k = observe-append marks ts (m ++ us) h ∙ ap (observe marks (m ++ us)) seen in
+    let r = behind_store marks us (sends_store (IsElsewhere marks.gate) b.outnum x.offered) (sends_fram b.outnum x.offered)
     (sends_taken b.outnum x.offered) m k (one_of x.answer x.board) in
-    let now : ℕ = (world_after (m ++ us) k.world).fram gate in
+    let now : ℕ = (world_after (m ++ us) k.world).fram marks.gate in
     record {
-      positions = ap positions_of all ∙ r.positions ∙ ap (λ y. positions_behind (y.fram gate) now k.taken (positions_of h)) (takes_world ws h.world)
-          ∙ ap (λ y. positions_behind (h.world.fram gate) (y.fram gate) k.taken (positions_of h)) (sym (world_after-append ts (m ++ us) h.world))
-          ∙ ap (λ t. positions_behind (h.world.fram gate) ((world_after (ts ++ (m ++ us)) h.world).fram gate) t (positions_of h)) there;
+      positions = ap positions_of all ∙ r.positions ∙ ap (λ y. positions_behind (y.fram marks.gate) now k.taken (positions_of h)) (takes_world ws h.world)
+          ∙ ap (λ y. positions_behind (h.world.fram marks.gate) (y.fram marks.gate) k.taken (positions_of h)) (sym (world_after-append ts (m ++ us) h.world))
+          ∙ ap (λ t. positions_behind (h.world.fram marks.gate) ((world_after (ts ++ (m ++ us)) h.world).fram marks.gate) t (positions_of h)) there;
       taken = ap (λ q. q.taken) all ∙ r.taken ∙ there;
     }

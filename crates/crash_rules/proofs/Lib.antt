@@ -1,4 +1,5 @@
 mod Lists
+mod Front
 mod Observed
 mod Events
 mod Cuts

@@ -2,7 +2,7 @@
 use Rattle.std.proofs.Common.{◌≡◌, ℕ, ◌+◌, ◌-◌, List, [], ◌∷◌, ◌++◌, length, take, drop, refl, sym, ap, ◌∙◌, subst, ⊎_elim, inl, inr, ◌⊎◌, arith, append-nil}
 use Rattle.std.proofs.Math.Seq.{take-append_seam}
 use Rattle.std.specs.List.{slice_range}
-use Rattle.machine_effects.specs.fram_board.Effects.{Effect, Store, Take, Send}
+use Rattle.machine_effects.specs.fram_board.Effects.{Effect, Store, Take, Outside}
 use Rattle.machine_effects.specs.World.{World, world_after_one, world_after, fram_after_one, fram_after, IsPrefix, EachStore}
 use Rattle.machine_effects.proofs.Interface.{each_store-front}
 use Rattle.crash_rules.specs.Model.{HoldsThroughout}
@@ -10,7 +10,7 @@ use Rattle.crash_rules.specs.Model.{HoldsThroughout}
 one_fram : (e : Effect) (x : World) → (world_after_one e x).fram ≡ fram_after_one e x.fram
 one_fram (Store a w) x = refl
 one_fram (Take w) x = refl
-one_fram (Send n w) x = refl
+one_fram (Outside o) x = refl
 
 -- FRAM of the world behind effects
 pub world_fram : (es : List Effect) (x : World) → (world_after es x).fram ≡ fram_after es x.fram

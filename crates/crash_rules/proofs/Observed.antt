@@ -2,16 +2,16 @@
 use Rattle.std.proofs.Common.{◌≡◌, ℕ, zero, suc, ◌+◌, ◌≤◌, List, [], ◌∷◌, ◌++◌, length, refl, sym, ap, ap₂, ◌∙◌, arith, true, false, cond, ne_eqb, append_assoc}
 use Rattle.std.proofs.Common.{append-nil, length-append}
 use Rattle.std.specs.Prelude.{◌&&◌, ◌%◌, ◌==◌, not}
-use Rattle.machine_effects.specs.fram_board.Effects.{Effect, Store, Take, Send}
-use Rattle.machine_effects.specs.World.{World, received, world_after_one, world_after, readings_taken, OfStore, EachStore}
+use Rattle.machine_effects.specs.fram_board.Effects.{Effect, Store, Take, Outside, OutsideEffect, Offered}
+use Rattle.machine_effects.specs.World.{World, received, accepted_behind, world_after_one, world_after, readings_taken, OfStore, EachStore}
 use Rattle.machine_effects.proofs.Interface.{put_same, put_other}
-use Rattle.crash_rules.specs.Model.{IsElsewhere}
+use Rattle.crash_rules.specs.Model.{Marks, IsElsewhere}
 use Rattle.crash_rules.specs.History.{History, is_decide, is_done, with_effect, behind_decide, behind_done, behind_gate, observe_one, observe}
 
 -- the history behind two parts
-pub observe-append : (gate : ℕ) (es fs : List Effect) (h : History) → observe gate (es ++ fs) h ≡ observe gate fs (observe gate es h)
-observe-append gate [] fs h = refl
-observe-append gate (e ∷ es) fs h = observe-append gate es fs (observe_one gate e h)
+pub observe-append : (marks : Marks) (es fs : List Effect) (h : History) → observe marks (es ++ fs) h ≡ observe marks fs (observe marks es h)
+observe-append marks [] fs h = refl
+observe-append marks (e ∷ es) fs h = observe-append marks es fs (observe_one marks e h)
 
 -- a history with these effects, but for their events
 abbrev pub with_effects : List Effect → History → History
@@ -32,20 +32,20 @@ not_decide (suc (suc n)) = ap (λ q. q && not q) (ne_eqb (suc (suc n)) 1 (λ e. 
 pub unchanged : (v : ℕ) (h : History) → behind_gate v v h ≡ h
 unchanged v h = ap₂ (λ p q. cond p (behind_done h) (cond q (behind_decide h) h)) (not_done v) (not_decide v)
 
-same_gate : (gate : ℕ) (e : Effect) (x : World) → OfStore (IsElsewhere gate) e → (world_after_one e x).fram gate ≡ x.fram gate
-same_gate gate (Store a w) x h = put_other x.fram a w gate (λ q. h (sym q))
-same_gate gate (Take w) x h = refl
-same_gate gate (Send n w) x h = refl
+same_gate : (marks : Marks) (e : Effect) (x : World) → OfStore (IsElsewhere marks.gate) e → (world_after_one e x).fram marks.gate ≡ x.fram marks.gate
+same_gate marks (Store a w) x h = put_other x.fram a w marks.gate (λ q. h (sym q))
+same_gate marks (Take w) x h = refl
+same_gate marks (Outside o) x h = refl
 
-observe_one_quiet : (gate : ℕ) (e : Effect) (h : History) → OfStore (IsElsewhere gate) e → observe_one gate e h ≡ with_effect e h
-observe_one_quiet gate e h q = ap (λ n. behind_gate (h.world.fram gate) n (with_effect e h)) (same_gate gate e h.world q)
-    ∙ unchanged (h.world.fram gate) (with_effect e h)
+observe_one_quiet : (marks : Marks) (e : Effect) (h : History) → OfStore (IsElsewhere marks.gate) e → observe_one marks e h ≡ with_effect e h
+observe_one_quiet marks e h q = ap (λ n. behind_gate (h.world.fram marks.gate) n (with_effect e h)) (same_gate marks e h.world q)
+    ∙ unchanged (h.world.fram marks.gate) (with_effect e h)
 
 count_more : (e : Effect) (es : List Effect) (n : ℕ)
     → (n + length (readings_taken (e ∷ []))) + length (readings_taken es) ≡ n + length (readings_taken (e ∷ es))
 count_more (Store a w) es n = omega arith
 count_more (Take w) es n = omega arith
-count_more (Send k w) es n = omega arith
+count_more (Outside o) es n = omega arith
 
 joined : (e : Effect) (es : List Effect) (h : History) → with_effects es (with_effect e h) ≡ with_effects (e ∷ es) h
 joined e es h = ap₂ (λ t l. record h { world = world_after (e ∷ es) h.world; taken = t; effects = l }) (count_more e es h.taken)
@@ -57,17 +57,17 @@ none_seen h =
     ap₂ (λ t l. record h { taken = t; effects = l }) t (sym (append-nil h.effects))
 
 -- effects that store nothing to GATE are no events
-pub observe_quiet : (gate : ℕ) (es : List Effect) (h : History) → EachStore (IsElsewhere gate) es → observe gate es h ≡ with_effects es h
-observe_quiet gate [] h q = none_seen h
-observe_quiet gate (e ∷ es) h q = ap (observe gate es) (observe_one_quiet gate e h q.0) ∙ observe_quiet gate es (with_effect e h) q.1 ∙ joined e es h
+pub observe_quiet : (marks : Marks) (es : List Effect) (h : History) → EachStore (IsElsewhere marks.gate) es → observe marks es h ≡ with_effects es h
+observe_quiet marks [] h q = none_seen h
+observe_quiet marks (e ∷ es) h q = ap (observe marks es) (observe_one_quiet marks e h q.0) ∙ observe_quiet marks es (with_effect e h) q.1 ∙ joined e es h
 
 -- the store of 0 to a GATE of 1
-pub observe_done : (gate : ℕ) (h : History) → h.world.fram gate ≡ 1 → observe_one gate (Store gate 0) h ≡ behind_done (with_effect (Store gate 0) h)
-observe_done gate h e = ap₂ (λ b n. behind_gate b n (with_effect (Store gate 0) h)) e (put_same h.world.fram gate 0)
+pub observe_done : (marks : Marks) (h : History) → h.world.fram marks.gate ≡ 1 → observe_one marks (Store marks.gate 0) h ≡ behind_done (with_effect (Store marks.gate 0) h)
+observe_done marks h e = ap₂ (λ b n. behind_gate b n (with_effect (Store marks.gate 0) h)) e (put_same h.world.fram marks.gate 0)
 
 -- the store of 1 to a GATE of 0
-pub observe_decide : (gate : ℕ) (h : History) → h.world.fram gate ≡ 0 → observe_one gate (Store gate 1) h ≡ behind_decide (with_effect (Store gate 1) h)
-observe_decide gate h e = ap₂ (λ b n. behind_gate b n (with_effect (Store gate 1) h)) e (put_same h.world.fram gate 1)
+pub observe_decide : (marks : Marks) (h : History) → h.world.fram marks.gate ≡ 0 → observe_one marks (Store marks.gate 1) h ≡ behind_decide (with_effect (Store marks.gate 1) h)
+observe_decide marks h e = ap₂ (λ b n. behind_gate b n (with_effect (Store marks.gate 1) h)) e (put_same h.world.fram marks.gate 1)
 
 -- dones are never taken back
 gate_grows : (before now : ℕ) (h : History) → length h.completed ≤ length (behind_gate before now h).completed
@@ -79,11 +79,11 @@ gate_grows before now h =
           (cond b (behind_decide h) h).completed) [ true ↦ omega arith | false ↦ omega arith ]
     ]
 
-pub dones_grow : (gate : ℕ) (es : List Effect) (h : History) → length h.completed ≤ length (observe gate es h).completed
-dones_grow gate [] h = omega arith
-dones_grow gate (e ∷ es) h =
-    let a = gate_grows (h.world.fram gate) ((world_after_one e h.world).fram gate) (with_effect e h) in
-    let b = dones_grow gate es (observe_one gate e h) in omega (arith, a, b)
+pub dones_grow : (marks : Marks) (es : List Effect) (h : History) → length h.completed ≤ length (observe marks es h).completed
+dones_grow marks [] h = omega arith
+dones_grow marks (e ∷ es) h =
+    let a = gate_grows (h.world.fram marks.gate) ((world_after_one e h.world).fram marks.gate) (with_effect e h) in
+    let b = dones_grow marks es (observe_one marks e h) in omega (arith, a, b)
 
 taken_gate : (before now : ℕ) (h : History) → (behind_gate before now h).taken ≡ h.taken
 taken_gate before now h =
@@ -100,11 +100,11 @@ world_gate before now h =
     ]
 
 -- every reading taken is counted
-pub observed_taken : (gate : ℕ) (es : List Effect) (h : History) → (observe gate es h).taken ≡ h.taken + length (readings_taken es)
-observed_taken gate [] h = omega arith
-observed_taken gate (e ∷ es) h =
-    let a = observed_taken gate es (observe_one gate e h) in
-    let b = taken_gate (h.world.fram gate) ((world_after_one e h.world).fram gate) (with_effect e h) in
+pub observed_taken : (marks : Marks) (es : List Effect) (h : History) → (observe marks es h).taken ≡ h.taken + length (readings_taken es)
+observed_taken marks [] h = omega arith
+observed_taken marks (e ∷ es) h =
+    let a = observed_taken marks es (observe_one marks e h) in
+    let b = taken_gate (h.world.fram marks.gate) ((world_after_one e h.world).fram marks.gate) (with_effect e h) in
     let c = count_more e es h.taken in a ∙ ap (λ n. n + length (readings_taken es)) b ∙ c
 
 received_more : (n w : ℕ) (ws : List ℕ) → (more : List ℕ) × (received n w ws ≡ ws ++ more)
@@ -114,22 +114,25 @@ received_more n w ws =
       | false ↦ ([], sym (append-nil ws))
     ]
 
+accepted_grows : (o : OutsideEffect) (ws : List ℕ) → (more : List ℕ) × (accepted_behind o ws ≡ ws ++ more)
+accepted_grows (Offered n w) ws = received_more n w ws
+
 -- words that are accepted stay so
 world_more : (es : List Effect) (x : World) → (more : List ℕ) × ((world_after es x).accepted ≡ x.accepted ++ more)
 world_more [] x = ([], sym (append-nil x.accepted))
 world_more (Store a w ∷ es) x = world_more es (world_after_one (Store a w) x)
 world_more (Take w ∷ es) x = world_more es x
-world_more (Send n w ∷ es) x =
-    let one = received_more n w x.accepted in
-    let rest = world_more es (world_after_one (Send n w) x) in
+world_more (Outside o ∷ es) x =
+    let one = accepted_grows o x.accepted in
+    let rest = world_more es (world_after_one (Outside o) x) in
     (one.0 ++ rest.0, rest.1 ∙ ap (λ l. l ++ rest.0) one.1 ∙ append_assoc x.accepted one.0 rest.0)
 
 -- the world is what the effects make of it
-pub observed_world : (gate : ℕ) (es : List Effect) (h : History) → (observe gate es h).world ≡ world_after es h.world
-observed_world gate [] h = refl
-observed_world gate (e ∷ es) h = observed_world gate es (observe_one gate e h)
-    ∙ ap (world_after es) (world_gate (h.world.fram gate) ((world_after_one e h.world).fram gate) (with_effect e h))
+pub observed_world : (marks : Marks) (es : List Effect) (h : History) → (observe marks es h).world ≡ world_after es h.world
+observed_world marks [] h = refl
+observed_world marks (e ∷ es) h = observed_world marks es (observe_one marks e h)
+    ∙ ap (world_after es) (world_gate (h.world.fram marks.gate) ((world_after_one e h.world).fram marks.gate) (with_effect e h))
 
 -- so that accepted words stay so
-pub accepted_more : (gate : ℕ) (es : List Effect) (h : History) → (more : List ℕ) × ((observe gate es h).world.accepted ≡ h.world.accepted ++ more)
-accepted_more gate es h = let m = world_more es h.world in (m.0, ap (λ x. x.accepted) (observed_world gate es h) ∙ m.1)
+pub accepted_more : (marks : Marks) (es : List Effect) (h : History) → (more : List ℕ) × ((observe marks es h).world.accepted ≡ h.world.accepted ++ more)
+accepted_more marks es h = let m = world_more es h.world in (m.0, ap (λ x. x.accepted) (observed_world marks es h) ∙ m.1)

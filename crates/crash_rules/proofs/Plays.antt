@@ -1,6 +1,6 @@
 -- From whole scripts to any number of steps, and to any charges.
 use Rattle.std.proofs.Common.{◌≡◌, ℕ, zero, suc, ◌+◌, ◌-◌, ◌<◌, ◌≤◌, List, [], ◌∷◌, ◌++◌, length, drop, refl, sym, ap, ap₂, ◌∙◌, subst, ⊎_elim, arith, Bool}
-use Rattle.std.proofs.Common.{true, false, cond, nat_lt, append_assoc, append-nil, All, ltb-true, ltb-false}
+use Rattle.std.proofs.Common.{true, false, cond, nat_lt, append_assoc, ltb-true, ltb-false}
 use Rattle.std.proofs.lemmas.Bool.{cases_lt}
 use Rattle.std.proofs.lemmas.List.{drop-drop}
 use Rattle.machine_effects.specs.msp_step.declared.machine.Stop.{Stop}
@@ -9,19 +9,18 @@ use Rattle.machine_effects.specs.fram_board.Effects.{Effect, Store}
 use Rattle.machine_effects.specs.World.{World, world_after_one, world_after, fram_after, readings_taken, IsPrefix, EachStore}
 use Rattle.machine_effects.specs.Going.{At, Halted, stretch, after_effects, going, Leads, Stalls}
 use Rattle.machine_effects.specs.Machine.{MachineBoard}
-use Rattle.machine_effects.proofs.Interface.{world_after-append, each_store-append}
-use Rattle.crash_rules.specs.Model.{Model, ModelLaws, Outcome, Ends, Short, AttemptContract, ProgramEffects, program_effects, readings_left, IsWord, bound}
-use Rattle.crash_rules.specs.Model.{greatest, with_commit, script}
-use Rattle.crash_rules.specs.History.{History, Done, observe}
-use Rattle.crash_rules.specs.Runs.{Program, Makes, ProgramLaws}
-use Rattle.crash_rules.specs.Laws.{Origin, IsLawful, Matches, AreConsecutive}
+use Rattle.machine_effects.proofs.Interface.{world_after-append, each_store-append, behind_exactly}
+use Rattle.crash_rules.specs.Model.{Outcome, Ends, Short, AttemptContract, ProgramEffects, program_effects, bound, greatest}
+use Rattle.crash_rules.specs.Model.{Inputs, InputsAreWords, inputs_behind, with_commit, attempt_from}
+use Rattle.crash_rules.specs.History.{History, Done, observe, inputs_from}
+use Rattle.crash_rules.specs.Runs.{Program, AtEntry, Makes, ProgramLaws}
+use Rattle.crash_rules.specs.Laws.{IsLawful, Matches, AreConsecutive, ScriptsStore}
 use Rattle.crash_rules.proofs.Lists.{world_fram, each_prefix}
 use Rattle.crash_rules.proofs.Observed.{observe-append, observed_taken, observed_world}
-use Rattle.crash_rules.proofs.Cuts.{ChargeEffects, partial, complete, Point, Next, Grows, Stayed, Finished, Spans, EndsShort, done_of, point_part}
-use Rattle.crash_rules.proofs.Cuts.{point_grows, point_whole}
-use Rattle.crash_rules.proofs.Cuts.{point_some, point_short, phase_of}
-use Rattle.crash_rules.proofs.Cuts.{script_at, script_decided, script_undecided, words_left}
-use Rattle.crash_rules.proofs.Steps.{halts, fewer, leads_end, stalls_end, no_steps, Changed, changed, left_behind}
+use Rattle.crash_rules.proofs.Cuts.{Setting, ChargeEffects, partial, complete, Point, Next, Grows, Stayed, Finished, Spans, EndsShort, done_of, point_part}
+use Rattle.crash_rules.proofs.Cuts.{point_grows, point_whole, point_some, point_short, phase_of}
+use Rattle.crash_rules.proofs.Cuts.{script_at, script_u, script_d, words_left, short_effects, owed_from}
+use Rattle.crash_rules.proofs.Steps.{halts, fewer, leads_end, stalls_end, no_steps, Changed, changed}
 
 -- a task's cost is within the greatest
 pub below_greatest : (cost : ℕ → ℕ) (n k : ℕ) → k < n → cost k ≤ greatest cost n
@@ -41,49 +40,89 @@ below_greatest cost (suc n) k h =
     first_ones false e = omega arith
 
 -- what is made within so many cycles is made within more
-widen : (c : Program) (most more : ℕ) (p : ProgramEffects) (b : MachineBoard) → most ≤ more → Makes c most p b → Makes c more p b
-widen c most more p b le k =
+widen : (c : Program) (delay : Inputs → ℕ) (most more : ℕ) (p : ProgramEffects) (b : MachineBoard) → most ≤ more → Makes c delay most p b
+    → Makes c delay more p b
+widen c delay most more p b le k =
     record {
       steps = k.steps;
       cycles = k.cycles;
-      ends = λ e. let r = k.ends e in let l = r.0 in (omega (arith, l, le), r.1);
-      lacks = λ e. let r = k.lacks e in let l = r.1 in (r.0, omega (arith, l, le), r.2);
+      ends = λ e. let r = k.ends e in let l = r.within in record { end = r.end; within = omega (arith, l, le); leads = r.leads; at_start = r.at_start };
+      lacks = λ e. let r = k.lacks e in let l = r.within in record { price = r.price; within = omega (arith, l, le); stalls = r.stalls };
     }
 
-module _ {St : Type 0} (m : Model St) (laws : ModelLaws m) (c : Program) (code : ProgramLaws m c) (readings : List ℕ) (words : All IsWord readings)
-    (origin : Origin St) where
+-- by the value of a Bool
+pub by_value : {P : Type 0} (b : Bool) → (b ≡ true → P) → (b ≡ false → P) → P
+by_value true t f = t refl
+by_value false t f = f refl
+
+module _ {St : Type 0} (given : Setting St) (c : Program) (code : ProgramLaws given.model c) where
+  open given use {model as m, laws, readings, origin}
+
   abbrev pub AtPoint : History → Type 0
-  AtPoint h = Point m laws readings words origin h
+  AtPoint h = Point given h
 
-  abbrev pub scripted : MachineBoard → ProgramEffects
-  scripted b = script m b.fram b.readings_left
+  abbrev pub script_there : History → ProgramEffects
+  script_there h = script_at given h
 
-  same_script : (b : MachineBoard) (h : History) → Matches readings b h → script_at m laws readings words origin h ≡ scripted b
-  same_script b h k = ap₂ (script m) (sym k.fram) (sym k.readings_left)
+  abbrev pub IsCharge : History → List Effect → Type 0
+  IsCharge h es = ChargeEffects given h es
+
+  -- behind the whole script there
+  abbrev pub behind_script : History → History
+  behind_script h = observe m.marks (script_there h).effects h
+
+  -- a machine at an entry that holds what a history says
+  pub record IsThere (b : MachineBoard) (h : History) : Type 0 where
+    pub entry : AtEntry c h.booted b
+    pub matches : Matches readings b h
+    pub point : AtPoint h
+
+  abbrev inputs_there : History → Inputs
+  inputs_there h = inputs_from readings h.taken
+
+  inputs_are : (b : MachineBoard) (h : History) → Matches readings b h → b.inputs ≡ inputs_there h
+  inputs_are b h k = let left = k.readings_left in λ i. record { readings = left i }
+
+  -- an attempt from there on, behind a boot or a done, is made within the task's cost
+  makes_attempt : (booted : Bool) (s : St) (x : World) (b : MachineBoard) → AtEntry c booted b → b.fram ≡ x.fram → InputsAreWords b.inputs
+      → m.Undecided s x → (booted ≡ false → m.Settled s x)
+      → Makes c m.delay (m.task_cost (m.task_number s)) (with_commit m b.fram b.inputs (attempt_from m booted b.fram b.inputs)) b
+  makes_attempt true s x b en f ws u k = code.makes_boot s x b en f ws u
+  makes_attempt false s x b en f ws u k = code.makes_attempt s x b en f ws (k refl)
+
+  makes_commit : (booted : Bool) (to : St) (x : World) (b : MachineBoard) → AtEntry c booted b → b.fram ≡ x.fram → m.Committing to x
+      → (booted ≡ false → ⊥) → Makes c m.delay (bound m) (program_effects (m.commit b.fram b.inputs) true) b
+  makes_commit true to x b en f d k = code.makes_commit to x b en f d
+  makes_commit false to x b en f d k = absurd (k refl)
 
   -- at an entry the script is made, within the bound
-  pub makes_script : (h : History) (b : MachineBoard) → c.AtEntry b → Matches readings b h → AtPoint h → Makes c (bound m) (scripted b) b
-  makes_script h b en k p =
+  pub makes_script : (h : History) (b : MachineBoard) → IsThere b h → Makes c m.delay (bound m) (script_there h) b
+  makes_script h b t =
+      let f : b.fram ≡ h.world.fram = t.matches.fram in
+      let i : b.inputs ≡ inputs_there h = inputs_are b h t.matches in
       ⊎_elim
       (λ u.
-      let zero_there : b.fram m.gate ≡ 0 = ap (λ f. f m.gate) k.fram ∙ laws.undecided_gate u.state h.world u.holds in
-      let ws : All IsWord b.readings_left = subst (All IsWord) (sym k.readings_left) (words_left m laws readings words origin h) in
-      let mk = code.makes_attempt u.state h.world b en k.fram ws u.holds in
-      subst (λ q. Makes c (bound m) q b) (sym (script_undecided m laws readings words origin b.fram b.readings_left zero_there))
-      (widen c _ _ _ b (below_greatest m.task_cost m.tasks (m.task_number u.state) (laws.undecided_task u.state h.world u.holds)) mk))
+      let ws : InputsAreWords b.inputs = subst InputsAreWords (sym i) (words_left given h) in
+      let mk = makes_attempt h.booted u.state h.world b t.entry f ws u.holds u.ready in
+      let same : with_commit m b.fram b.inputs (attempt_from m h.booted b.fram b.inputs) ≡ script_there h =
+      ap₂ (λ g j. with_commit m g j (attempt_from m h.booted g j)) f i ∙ sym (script_u given h u) in
+      subst (λ q. Makes c m.delay (bound m) q b) same
+      (widen c m.delay _ _ _ b (below_greatest m.task_cost m.tasks (m.task_number u.state) (laws.undecided_task u.state h.world u.holds)) mk))
       (λ d.
-      let one_there : b.fram m.gate ≡ 1 = ap (λ f. f m.gate) k.fram ∙ laws.committing_gate d.to h.world d.holds in
-      subst (λ q. Makes c (bound m) q b) (sym (script_decided m laws readings words origin b.fram b.readings_left one_there))
-      (code.makes_commit d.to h.world b en k.fram d.holds))
-      (phase_of m laws readings words origin h p.stands)
+      let same : program_effects (m.commit b.fram b.inputs) true ≡ script_there h =
+      ap₂ (λ g j. program_effects (m.commit g j) true) f i ∙ sym (script_d given h d) in
+      subst (λ q. Makes c m.delay (bound m) q b) same (makes_commit h.booted d.to h.world b t.entry f d.holds d.booted))
+      (phase_of given h t.point)
 
   -- a board behind effects holds what the history behind them says
-  pub matches_more : (b t : MachineBoard) (h : History) (es : List Effect) → Matches readings b h → Changed b es t → Matches readings t (observe m.gate es h)
+  pub matches_more : (b t : MachineBoard) (h : History) (es : List Effect) → Matches readings b h → Changed b es t
+      → Matches readings t (observe m.marks es h)
   matches_more b t h es k ch =
       record {
-        fram = ch.fram ∙ ap (fram_after es) k.fram ∙ sym (world_fram es h.world) ∙ ap (λ x. x.fram) (sym (observed_world m.gate es h));
-        readings_left = left_behind c.step code.changes b t es ch ∙ ap (drop (length (readings_taken es))) k.readings_left
-            ∙ drop-drop (length (readings_taken es)) h.taken readings ∙ ap (λ n. drop n readings) (sym (observed_taken m.gate es h));
+        fram = ch.fram ∙ ap (fram_after es) k.fram ∙ sym (world_fram es h.world) ∙ ap (λ x. x.fram) (sym (observed_world m.marks es h));
+        readings_left = ap (λ i. i.readings) (sym (behind_exactly es b.inputs t.inputs ch.inputs))
+            ∙ ap (drop (length (readings_taken es))) k.readings_left ∙ drop-drop (length (readings_taken es)) h.taken readings
+            ∙ ap (λ n. drop n readings) (sym (observed_taken m.marks es h));
       }
 
   -- the end of a whole script: an entry again, and a point
@@ -91,36 +130,36 @@ module _ {St : Type 0} (m : Model St) (laws : ModelLaws m) (c : Program) (code :
     pub steps : ℕ
     pub cycles : ℕ
     pub board : MachineBoard
-    pub within : cycles ≤ bound m
-    pub leads : Leads c.step steps (scripted b).effects cycles b board
-    pub entry : c.AtEntry board
-    pub next : Next m laws readings words origin h (observe m.gate (scripted b).effects h)
-    pub matches : Matches readings board (observe m.gate (scripted b).effects h)
+    pub within : cycles + m.delay board.inputs ≤ bound m + m.delay b.inputs
+    pub leads : Leads c.step steps (script_there h).effects cycles b board
+    pub whole : (script_there h).ends ≡ true
+    pub next : Next given h (behind_script h)
+    pub there : IsThere board (behind_script h)
     pub some : 0 < steps
 
-  pub round : (h : History) (b : MachineBoard) → Matches readings b h → AtPoint h → (mk : Makes c (bound m) (scripted b) b) → (scripted b).ends ≡ true
+  pub round : (h : History) (b : MachineBoard) → IsThere b h → (mk : Makes c m.delay (bound m) (script_there h) b) → (script_there h).ends ≡ true
       → Round h b
-  round h b k p mk e =
+  round h b k mk e =
       let r = mk.ends e in
-      let t = r.1.0 in
-      let es = (scripted b).effects in
-      let same = same_script b h k in
-      let end = leads_end c.step mk.steps es mk.cycles b t r.1.1 in
-      let e0 : (script_at m laws readings words origin h).ends ≡ true = ap (λ q. q.ends) same ∙ e in
-      let n : Next m laws readings words origin h (observe m.gate es h) = subst
-      (λ q. Next m laws readings words origin h (observe m.gate q.effects h)) same (point_whole m laws readings words origin h p e0) in
+      let t = r.end in
+      let es = (script_there h).effects in
+      let end = leads_end c.step mk.steps es mk.cycles b t r.leads in
+      let n = point_whole given h k.point e in
       let ch : Changed b es t = subst (λ l. Changed b l t) (ap (λ q. q.effects) end) (changed c.step code.changes mk.steps b t (ap (λ q. q.status) end)) in
-      let none : mk.steps ≡ 0 → ⊥ = λ z. point_some m laws readings words origin h p e0 (ap (λ q. q.effects) same
-      ∙ no_steps c.step mk.steps es mk.cycles b t z r.1.1) in
+      let none : mk.steps ≡ 0 → ⊥ = λ z. point_some given h k.point e (no_steps c.step mk.steps es mk.cycles b t z r.leads) in
       record {
         steps = mk.steps;
         cycles = mk.cycles;
         board = t;
-        within = r.0;
-        leads = r.1.1;
-        entry = r.1.2;
+        within = r.within;
+        leads = r.leads;
+        whole = e;
         next = n;
-        matches = matches_more b t h es k ch;
+        there = record {
+          entry = subst (λ v. AtEntry c v t) (sym n.behind_done) r.at_start;
+          matches = matches_more b t h es k.matches ch;
+          point = n.point;
+        };
         some = ⊎_elim {C = 0 < mk.steps} (λ l. l) (λ l. absurd (none (omega (arith, l)))) (cases_lt 0 mk.steps);
       }
 
@@ -128,19 +167,18 @@ module _ {St : Type 0} (m : Model St) (laws : ModelLaws m) (c : Program) (code :
   part_of : (k n : ℕ) (b : MachineBoard) (es : List Effect) → (going c.step (k + n) b).effects ≡ es → IsPrefix (going c.step k b).effects es
   part_of k n b es e = subst (λ l. IsPrefix (going c.step k b).effects l) e (fewer c.step k n b).0
 
-  stalled : (k n cyc price : ℕ) (e : Stop) (b : MachineBoard) → Stalls c.step n (scripted b).effects cyc b price e
-      → ChargeEffects m b.fram b.readings_left (going c.step k b).effects
-  stalled k n cyc price e b st =
+  stalled : (k n cyc price : ℕ) (e : Stop) (h : History) (b : MachineBoard) → Stalls c.step n (script_there h).effects cyc b price e
+      → IsCharge h (going c.step k b).effects
+  stalled k n cyc price e h b st =
       let i : k + (n + 1) ≡ n + 1 + k = omega arith in
-      partial (part_of k (n + 1) b (scripted b).effects (ap (λ j. (going c.step j b).effects) i
-      ∙ ap (λ r. r.effects) (stalls_end c.step n (scripted b).effects cyc b price e st k)))
+      partial (part_of k (n + 1) b (script_there h).effects (ap (λ j. (going c.step j b).effects) i
+      ∙ ap (λ r. r.effects) (stalls_end c.step n (script_there h).effects cyc b price e st k)))
 
   -- past a whole script, what follows it
-  round_plays : (k : ℕ) (h : History) (b : MachineBoard) (r : Round h b) → (scripted b).ends ≡ true
-      → ((j : ℕ) → r.steps + j ≡ k → ChargeEffects m r.board.fram r.board.readings_left (going c.step j r.board).effects)
-      → ChargeEffects m b.fram b.readings_left (going c.step k b).effects
-  round_plays k h b r e next =
-      let es = (scripted b).effects in
+  round_plays : (k : ℕ) (h : History) (b : MachineBoard) (r : Round h b)
+      → ((j : ℕ) → r.steps + j ≡ k → IsCharge (behind_script h) (going c.step j r.board).effects) → IsCharge h (going c.step k b).effects
+  round_plays k h b r next =
+      let es = (script_there h).effects in
       let end = leads_end c.step r.steps es r.cycles b r.board r.leads in
       ⊎_elim
       (λ lt.
@@ -151,134 +189,99 @@ module _ {St : Type 0} (m : Model St) (laws : ModelLaws m) (c : Program) (code :
       let i : r.steps + j ≡ k = omega (arith, ge) in
       let is : es ++ (going c.step j r.board).effects ≡ (going c.step k b).effects = sym (ap (λ q. q.effects) (r.leads.by j))
       ∙ ap (λ n. (going c.step n b).effects) i in
-      let ch : Changed b es r.board = subst (λ l. Changed b l r.board) (ap (λ q. q.effects) end)
-      (changed c.step code.changes r.steps b r.board (ap (λ q. q.status) end)) in
-      let more : ChargeEffects m (fram_after es b.fram) (readings_left es b.readings_left)
-      (going c.step j r.board).effects = subst (λ l. ChargeEffects m (fram_after es b.fram) l (going c.step j r.board).effects)
-      (left_behind c.step code.changes b r.board es ch)
-      (subst (λ f. ChargeEffects m f r.board.readings_left (going c.step j r.board).effects) ch.fram (next j i)) in
-      subst (ChargeEffects m b.fram b.readings_left) is (complete e more))
+      subst (IsCharge h) is (complete r.whole (next j i)))
       (cases_lt k r.steps)
 
-  plays_end : (k : ℕ) (h : History) (b : MachineBoard) → Matches readings b h → AtPoint h → Makes c (bound m) (scripted b) b
-      → ((r : Round h b) (j : ℕ) → r.steps + j ≡ k → ChargeEffects m r.board.fram r.board.readings_left (going c.step j r.board).effects) → (v : Bool)
-      → (scripted b).ends ≡ v → ChargeEffects m b.fram b.readings_left (going c.step k b).effects
-  plays_end k h b mt p mk next true e = let r = round h b mt p mk e in round_plays k h b r e (next r)
-  plays_end k h b mt p mk next false e = let l = mk.lacks e in stalled k mk.steps mk.cycles l.0 stop.NoReading b l.2
+  pub plays_from : (fuel k : ℕ) (h : History) (b : MachineBoard) → k < fuel → IsThere b h → IsCharge h (going c.step k b).effects
+  plays_from zero k h b le t = absurd (omega (arith, le))
+  plays_from (suc fuel) k h b le t =
+      let mk = makes_script h b t in
+      by_value (script_there h).ends
+      (λ e. let r = round h b t mk e in let some = r.some in
+      round_plays k h b r (λ j i. plays_from fuel j (behind_script h) r.board (omega (arith, le, some, i)) r.there))
+      (λ e. let l = mk.lacks e in stalled k mk.steps mk.cycles l.price stop.NoReading h b l.stalls)
 
-  pub plays_from : (fuel k : ℕ) (h : History) (b : MachineBoard) → k < fuel → c.AtEntry b → Matches readings b h → AtPoint h
-      → ChargeEffects m b.fram b.readings_left (going c.step k b).effects
-  plays_from zero k h b le en mt p = absurd (omega (arith, le))
-  plays_from (suc fuel) k h b le en mt p =
-      plays_end k h b mt p (makes_script h b en mt p)
-      (λ r j i. let some = r.some in plays_from fuel j (observe m.gate (scripted b).effects h) r.board (omega (
-        arith,
-        le,
-        some,
-        i,
-      )) r.entry r.matches r.next.point)
-      (scripted b).ends refl
+  -- a history behind a whole script and more
+  behind_more : (es : List Effect) (h : History) → observe m.marks ((script_there h).effects ++ es) h ≡ observe m.marks es (behind_script h)
+  behind_more es h = observe-append m.marks (script_there h).effects es h
 
-  -- behind a whole script
-  record Behind (f : ℕ → ℕ) (rs : List ℕ) (h : History) : Type 0 where
-    history : History
-    is : history ≡ observe m.gate (script m f rs).effects h
-    fram : fram_after (script m f rs).effects f ≡ history.world.fram
-    readings_there : readings_left (script m f rs).effects rs ≡ drop history.taken readings
-    next : Next m laws readings words origin h history
-
-  behind : (f : ℕ → ℕ) (rs : List ℕ) (h : History) → f ≡ h.world.fram → rs ≡ drop h.taken readings → AtPoint h → (script m f rs).ends ≡ true → Behind f rs h
-  behind f rs h ef er p e =
-      let q = script m f rs in
-      let same : q ≡ script_at m laws readings words origin h = ap₂ (script m) ef er in
-      let k = observe m.gate q.effects h in
-      record {
-        history = k;
-        is = refl;
-        fram = ap (fram_after q.effects) ef ∙ sym (world_fram q.effects h.world) ∙ ap (λ x. x.fram) (sym (observed_world m.gate q.effects h));
-        readings_there = ap (drop (length (readings_taken q.effects))) er ∙ drop-drop (length (readings_taken q.effects)) h.taken readings
-            ∙ ap (λ n. drop n readings) (sym (observed_taken m.gate q.effects h));
-        next = subst (λ q. Next m laws readings words origin h (observe m.gate q.effects h)) (sym same)
-            (point_whole m laws readings words origin h p (ap (λ q. q.ends) (sym same) ∙ e));
-      }
+  whole_there : (h : History) → AtPoint h → (script_there h).ends ≡ true → Next given h (behind_script h)
+  whole_there h p e = point_whole given h p e
 
   -- what holds of each cut, over whole charges
-  pub charge_cut : (f : ℕ → ℕ) (rs : List ℕ) (es : List Effect) → ChargeEffects m f rs es → (h : History) → f ≡ h.world.fram → rs ≡ drop h.taken readings
-      → AtPoint h → IsLawful m readings origin (observe m.gate es h)
-  charge_cut f rs es (partial pre) h ef er p =
-      (point_part m laws readings words origin h es p (subst (λ q. IsPrefix es q.effects) (ap₂ (script m) ef er) pre)).lawful
-  charge_cut f rs es (complete {es = more} e ce) h ef er p =
-      let k = behind f rs h ef er p e in
-      let then_on = charge_cut _ _ more ce k.history k.fram k.readings_there k.next.point in
-      subst (IsLawful m readings origin) (ap (observe m.gate more) k.is ∙ sym (observe-append m.gate (script m f rs).effects more h)) then_on
+  pub charge_cut : (h : History) (es : List Effect) → IsCharge h es → AtPoint h → IsLawful m readings origin (observe m.marks es h)
+  charge_cut h es (partial pre) p = (point_part given h es p pre).lawful
+  charge_cut h es (complete {es = more} e ce) p =
+      subst (IsLawful m readings origin) (sym (behind_more more h)) (charge_cut (behind_script h) more ce (whole_there h p e).point)
 
   -- any number of steps from an entry on is lawful
-  pub lawful_from : (k : ℕ) (h : History) (b : MachineBoard) → c.AtEntry b → Matches readings b h → AtPoint h
-      → IsLawful m readings origin (observe m.gate (going c.step k b).effects h)
-  lawful_from k h b en mt p = charge_cut b.fram b.readings_left _ (plays_from (suc k) k h b (omega arith) en mt p) h mt.fram mt.readings_left p
+  pub lawful_from : (k : ℕ) (h : History) (b : MachineBoard) → IsThere b h → IsLawful m readings origin (observe m.marks (going c.step k b).effects h)
+  lawful_from k h b t = charge_cut h _ (plays_from (suc k) k h b (omega arith) t) t.point
 
   -- spans joined
   spans_join : (from : ℕ) (ds es : List Done) (mid to : ℕ) → AreConsecutive from ds mid → AreConsecutive mid es to → AreConsecutive from (ds ++ es) to
   spans_join from [] es mid to a b = subst (λ n. AreConsecutive n es to) (sym a) b
   spans_join from (d ∷ ds) es mid to a b = (a.0, spans_join d.span_to ds es mid to a.1 b)
 
-  pub charge_spans : (f : ℕ → ℕ) (rs : List ℕ) (es : List Effect) → ChargeEffects m f rs es → (h : History) → f ≡ h.world.fram → rs ≡ drop h.taken readings
-      → AtPoint h → h.decided ≡ false → Spans m laws readings words origin h (observe m.gate es h)
-  charge_spans f rs es (partial pre) h ef er p u =
-      (point_part m laws readings words origin h es p (subst (λ q. IsPrefix es q.effects) (ap₂ (script m) ef er) pre)).spans
-  charge_spans f rs es (complete {es = more} e ce) h ef er p u =
-      let k = behind f rs h ef er p e in
-      let n = k.next in
-      let r = charge_spans _ _ more ce k.history k.fram k.readings_there n.point n.undecided in
+  pub charge_spans : (h : History) (es : List Effect) → IsCharge h es → AtPoint h → h.decided ≡ false
+      → Spans given h (observe m.marks es h)
+  charge_spans h es (partial pre) p u = (point_part given h es p pre).spans
+  charge_spans h es (complete {es = more} e ce) p u =
+      let n = whole_there h p e in
+      let k = behind_script h in
+      let r = charge_spans k more ce n.point n.undecided in
       let sp = n.span u in
-      let one : AreConsecutive h.since (n.done ∷ []) k.history.since = (sp.0, sp.1) in
-      let s : Spans m laws readings words origin h (observe m.gate more k.history) =
+      let one : AreConsecutive h.since (n.done ∷ []) k.since = (sp.0, sp.1) in
+      let s : Spans given h (observe m.marks more k) =
       record {
         dones = (n.done ∷ []) ++ r.dones;
         completed = r.completed ∙ ap (λ l. l ++ r.dones) n.completed ∙ append_assoc h.completed (n.done ∷ []) r.dones;
-        follow = λ z. spans_join h.since (n.done ∷ []) r.dones k.history.since _ one (r.follow n.undecided);
+        follow = λ z. spans_join h.since (n.done ∷ []) r.dones k.since _ one (r.follow n.undecided);
       } in
-      subst (Spans m laws readings words origin h) (ap (observe m.gate more) k.is ∙ sym (observe-append m.gate (script m f rs).effects more h)) s
+      subst (Spans given h) (sym (behind_more more h)) s
 
   -- from a pending commit on no done comes, or one, behind which the dones follow one another
   pub data SpansPast (h k : History) : Type 0 where
     NoDone : k.completed ≡ h.completed → SpansPast h k
     PastDone : (d : Done) (ds : List Done) → k.completed ≡ h.completed ++ (d ∷ ds) → AreConsecutive h.taken ds k.since → SpansPast h k
 
-  pub charge_past : (f : ℕ → ℕ) (rs : List ℕ) (es : List Effect) → ChargeEffects m f rs es → (h : History) → f ≡ h.world.fram → rs ≡ drop h.taken readings
-      → AtPoint h → h.decided ≡ true → SpansPast h (observe m.gate es h)
-  charge_past f rs es (partial pre) h ef er p u =
-      past (point_grows m laws readings words origin h es p u (subst (λ q. IsPrefix es q.effects) (ap₂ (script m) ef er) pre))
+  pub charge_past : (h : History) (es : List Effect) → IsCharge h es → AtPoint h → h.decided ≡ true → SpansPast h (observe m.marks es h)
+  charge_past h es (partial pre) p u = past (point_grows given h es p u pre)
     where
-      past : Grows m laws readings words origin h (observe m.gate es h) → SpansPast h (observe m.gate es h)
+      past : Grows given h (observe m.marks es h) → SpansPast h (observe m.marks es h)
       past (Stayed a b) = NoDone a
-      past (Finished a b) = PastDone (done_of m laws readings words origin h (observe m.gate es h).world) [] a (sym b)
-  charge_past f rs es (complete {es = more} e ce) h ef er p u =
-      let k = behind f rs h ef er p e in
-      let n = k.next in
-      let r = charge_spans _ _ more ce k.history k.fram k.readings_there n.point n.undecided in
-      let end = observe m.gate more k.history in
+      past (Finished a b) = PastDone (done_of given h (observe m.marks es h).world) [] a (sym b)
+  charge_past h es (complete {es = more} e ce) p u =
+      let n = whole_there h p e in
+      let k = behind_script h in
+      let r = charge_spans k more ce n.point n.undecided in
+      let end = observe m.marks more k in
       let s : SpansPast h end = PastDone n.done r.dones
       (r.completed ∙ ap (λ l. l ++ r.dones) n.completed ∙ append_assoc h.completed (n.done ∷ []) r.dones)
       (subst (λ j. AreConsecutive j r.dones end.since) (n.since u) (r.follow n.undecided)) in
-      subst (SpansPast h) (ap (observe m.gate more) k.is ∙ sym (observe-append m.gate (script m f rs).effects more h)) s
+      subst (SpansPast h) (sym (behind_more more h)) s
 
   -- a machine that halts does so for want of a reading, where the source is short
   pub record HaltsShort (k : History) (e : Stop) : Type 0 where
     pub reading : e ≡ stop.NoReading
-    pub short : EndsShort m laws readings words origin k
+    pub short : EndsShort given k
 
-  round_halts : (k : ℕ) (h : History) (b : MachineBoard) (price : ℕ) (e : Stop) (r : Round h b) → (going c.step k b).status ≡ Halted price e
-      → ((j : ℕ) → r.steps + j ≡ k → (going c.step j r.board).status ≡ Halted price e
-      → HaltsShort (observe m.gate (going c.step j r.board).effects (observe m.gate (scripted b).effects h)) e)
-      → HaltsShort (observe m.gate (going c.step k b).effects h) e
+  -- a halt behind so many steps
+  abbrev pub Halts : ℕ → MachineBoard → ℕ → Stop → Type 0
+  Halts k b price e = (going c.step k b).status ≡ Halted price e
+
+  abbrev pub ShortBehind : ℕ → MachineBoard → History → Stop → Type 0
+  ShortBehind k b h e = HaltsShort (observe m.marks (going c.step k b).effects h) e
+
+  round_halts : (k : ℕ) (h : History) (b : MachineBoard) (price : ℕ) (e : Stop) (r : Round h b) → Halts k b price e
+      → ((j : ℕ) → r.steps + j ≡ k → Halts j r.board price e → ShortBehind j r.board (behind_script h) e) → ShortBehind k b h e
   round_halts k h b price e r x next =
-      let es = (scripted b).effects in
+      let es = (script_there h).effects in
       let end = leads_end c.step r.steps es r.cycles b r.board r.leads in
       ⊎_elim
       (λ lt.
       let i : k + (r.steps - k) ≡ r.steps = omega (arith, lt) in
-      let stays : (going c.step r.steps b).status ≡ Halted price e = ap (λ j. (going c.step j b).status) (sym i)
+      let stays : Halts r.steps b price e = ap (λ j. (going c.step j b).status) (sym i)
       ∙ ap (λ q. q.status) (halts c.step k (r.steps - k) b price e x) ∙ x in
       let led : (going c.step r.steps b).status ≡ At r.board = ap (λ q. q.status) end in
       absurd (cc (stays, led)))
@@ -286,84 +289,78 @@ module _ {St : Type 0} (m : Model St) (laws : ModelLaws m) (c : Program) (code :
       let j = k - r.steps in
       let i : r.steps + j ≡ k = omega (arith, ge) in
       let there : going c.step k b ≡ after_effects es r.cycles (going c.step j r.board) = ap (λ n. going c.step n b) (sym i) ∙ r.leads.by j in
-      let x2 : (going c.step j r.board).status ≡ Halted price e = sym (ap (λ q. q.status) there) ∙ x in
-      subst (λ k. HaltsShort k e) (sym (ap (λ q. observe m.gate q.effects h) there ∙ observe-append m.gate es (going c.step j r.board).effects h))
+      let x2 : Halts j r.board price e = sym (ap (λ q. q.status) there) ∙ x in
+      subst (λ k. HaltsShort k e) (sym (ap (λ q. observe m.marks q.effects h) there ∙ behind_more (going c.step j r.board).effects h))
       (next j i x2))
       (cases_lt k r.steps)
 
-  stall_halts : (k : ℕ) (h : History) (b : MachineBoard) (price : ℕ) (e : Stop) (n cyc p2 : ℕ) → Matches readings b h → AtPoint h
-      → Stalls c.step n (scripted b).effects cyc b p2 stop.NoReading → (scripted b).ends ≡ false → (going c.step k b).status ≡ Halted price e
-      → HaltsShort (observe m.gate (going c.step k b).effects h) e
-  stall_halts k h b price e n cyc p2 mt p st lacking x =
+  stall_halts : (k : ℕ) (h : History) (b : MachineBoard) (price : ℕ) (e : Stop) (mk : Makes c m.delay (bound m) (script_there h) b) → AtPoint h
+      → (script_there h).ends ≡ false → Halts k b price e → ShortBehind k b h e
+  stall_halts k h b price e mk p lacking x =
+      let es = (script_there h).effects in
+      let st = mk.lacks lacking in
+      let n = mk.steps in
       let i : n + 1 + k ≡ k + (n + 1) = omega arith in
-      let there : going c.step k b ≡ stretch (scripted b).effects cyc (Halted p2 stop.NoReading) = sym (halts c.step k (n + 1) b price e x)
-      ∙ ap (λ j. going c.step j b) (sym i) ∙ stalls_end c.step n (scripted b).effects cyc b p2 stop.NoReading st k in
-      let same = same_script b h mt in
-      let sh : EndsShort m laws readings words origin (observe m.gate (scripted b).effects h) = subst
-      (λ q. EndsShort m laws readings words origin (observe m.gate q.effects h)) same
-      (point_short m laws readings words origin h p (ap (λ q. q.ends) same ∙ lacking)) in
-      let status : Halted price e ≡ Halted p2 stop.NoReading = sym x ∙ ap (λ q. q.status) there in
+      let there : going c.step k b ≡ stretch es mk.cycles (Halted st.price stop.NoReading) = sym (halts c.step k (n + 1) b price e x)
+      ∙ ap (λ j. going c.step j b) (sym i) ∙ stalls_end c.step n es mk.cycles b st.price stop.NoReading st.stalls k in
+      let sh = point_short given h p lacking in
+      let status : Halted price e ≡ Halted st.price stop.NoReading = sym x ∙ ap (λ q. q.status) there in
       let reason : e ≡ stop.NoReading = cc status in
-      record { reading = reason; short = subst (λ q. EndsShort m laws readings words origin (observe m.gate q.effects h)) (sym there) sh }
+      record {
+        reading = reason;
+        short = subst (λ q. EndsShort given (observe m.marks q.effects h)) (sym there) sh;
+      }
 
-  halts_end : (k : ℕ) (h : History) (b : MachineBoard) (price : ℕ) (e : Stop) → Matches readings b h → AtPoint h → Makes c (bound m) (scripted b) b
-      → (going c.step k b).status ≡ Halted price e → ((r : Round h b) (j : ℕ) → r.steps + j ≡ k → (going c.step j r.board).status ≡ Halted price e
-      → HaltsShort (observe m.gate (going c.step j r.board).effects (observe m.gate (scripted b).effects h)) e) → (v : Bool) → (scripted b).ends ≡ v
-      → HaltsShort (observe m.gate (going c.step k b).effects h) e
-  halts_end k h b price e mt p mk x next true q = let r = round h b mt p mk q in round_halts k h b price e r x (next r)
-  halts_end k h b price e mt p mk x next false q = let l = mk.lacks q in stall_halts k h b price e mk.steps mk.cycles l.0 mt p l.2 q x
+  pub halted_from : (fuel k : ℕ) (h : History) (b : MachineBoard) (price : ℕ) (e : Stop) → k < fuel → IsThere b h → Halts k b price e
+      → ShortBehind k b h e
+  halted_from zero k h b price e le t x = absurd (omega (arith, le))
+  halted_from (suc fuel) k h b price e le t x =
+      let mk = makes_script h b t in
+      by_value (script_there h).ends
+      (λ q. let r = round h b t mk q in let some = r.some in
+      round_halts k h b price e r x (λ j i y. halted_from fuel j (behind_script h) r.board price e (omega (arith, le, some, i)) r.there y))
+      (λ q. stall_halts k h b price e mk t.point q x)
 
-  pub halted_from : (fuel k : ℕ) (h : History) (b : MachineBoard) (price : ℕ) (e : Stop) → k < fuel → c.AtEntry b → Matches readings b h → AtPoint h
-      → (going c.step k b).status ≡ Halted price e → HaltsShort (observe m.gate (going c.step k b).effects h) e
-  halted_from zero k h b price e le en mt p x = absurd (omega (arith, le))
-  halted_from (suc fuel) k h b price e le en mt p x =
-      halts_end k h b price e mt p (makes_script h b en mt p) x
-      (λ r j i y. let some = r.some in halted_from fuel j (observe m.gate (scripted b).effects h) r.board price e (omega (
-        arith,
-        le,
-        some,
-        i,
-      )) r.entry r.matches r.next.point y)
-      (scripted b).ends refl
-
-  -- where each attempt and each commit stores only so, any number of steps does
-  module _ (P : ℕ → ℕ → Type 0)
-      (attempts : (s : St) (x : World) (rs : List ℕ) → All IsWord rs → m.Undecided s x → EachStore P (m.attempt x.fram rs).effects)
-      (commits : (to : St) (x : World) → m.Committing to x → EachStore P (m.commit x.fram)) where
+  -- where each recovery, each attempt and each commit stores only so, any number of steps does
+  module _ (P : ℕ → ℕ → Type 0) (scripts : ScriptsStore m P) where
     -- an attempt with its commit stores so
-    attempt_stores : (s : St) (x : World) (rs : List ℕ) (a : Outcome St) (r : ProgramEffects) → AttemptContract m s rs x a r → EachStore P r.effects
-        → EachStore P (with_commit m x.fram r).effects
-    attempt_stores s x rs (Ends next left) r k q =
-        let es = k.before ++ Store m.gate 1 ∷ [] in
-        let y = world_after_one (Store m.gate 1) (world_after k.before x) in
-        let fr : fram_after es x.fram ≡ y.fram = sym (world_fram es x) ∙ ap (λ z. z.fram) (world_after-append k.before (Store m.gate 1 ∷ []) x) in
+    attempt_stores : (s : St) (x : World) (inputs : Inputs) (a : Outcome St) (r : ProgramEffects) → AttemptContract m s inputs x a r
+        → EachStore P r.effects → EachStore P (with_commit m x.fram inputs r).effects
+    attempt_stores s x inputs (Ends next left) r k q =
+        let es = k.before ++ Store m.marks.gate 1 ∷ [] in
+        let y = world_after_one (Store m.marks.gate 1) (world_after k.before x) in
+        let fr : fram_after es x.fram ≡ y.fram = sym (world_fram es x) ∙ ap (λ z. z.fram) (world_after-append k.before (Store m.marks.gate 1 ∷ []) x) in
+        let rest : Inputs = inputs_behind es inputs in
         let q2 : EachStore P es = subst (λ p. EachStore P p.effects) k.is q in
-        let both : EachStore P (with_commit m x.fram (program_effects es true)).effects = each_store-append P es (m.commit (fram_after es x.fram)) q2
-        (subst (λ f. EachStore P (m.commit f)) (sym fr) (commits next y (laws.decided_committing s next y k.decided))) in
-        subst (λ p. EachStore P (with_commit m x.fram p).effects) (sym k.is) both
-    attempt_stores s x rs Short r k q = subst (EachStore P) (sym (ap (λ b. r.effects ++ cond b (m.commit (fram_after r.effects x.fram)) []) k.is
-        ∙ append-nil r.effects)) q
+        let committed : EachStore P (m.commit (fram_after es x.fram) rest) =
+        subst (λ f. EachStore P (m.commit f rest)) (sym fr) (scripts.commits next y rest (laws.decided_committing s next y k.decided)) in
+        let both : EachStore P (with_commit m x.fram inputs (program_effects es true)).effects =
+        each_store-append P es (m.commit (fram_after es x.fram) rest) q2 committed in
+        subst (λ p. EachStore P (with_commit m x.fram inputs p).effects) (sym k.is) both
+    attempt_stores s x inputs Short r k q = subst (EachStore P) (sym (short_effects given s x.fram inputs x r k)) q
 
-    script_stores : (h : History) → AtPoint h → EachStore P (script_at m laws readings words origin h).effects
+    -- an attempt behind a boot or a done does
+    attempt_from_stores : (booted : Bool) (s : St) (x : World) (inputs : Inputs) → InputsAreWords inputs → m.Undecided s x
+        → (booted ≡ false → m.Settled s x) → EachStore P (attempt_from m booted x.fram inputs).effects
+    attempt_from_stores false s x inputs ws u k = scripts.attempts s x inputs ws (k refl)
+    attempt_from_stores true s x inputs ws u k =
+        let rec : List Effect = m.recover x.fram in
+        each_store-append P rec (m.attempt (fram_after rec x.fram) inputs).effects (scripts.recoveries s x u)
+        (subst (λ f. EachStore P (m.attempt f inputs).effects) (world_fram rec x) (scripts.attempts s (world_after rec x) inputs ws (laws.recovers s x u).settled))
+
+    script_stores : (h : History) → AtPoint h → EachStore P (script_there h).effects
     script_stores h p =
-        let rs = drop h.taken readings in
-        let ws = words_left m laws readings words origin h in
+        let i : Inputs = inputs_there h in
+        let ws = words_left given h in
         ⊎_elim
-        (λ u. subst (λ q. EachStore P q.effects)
-        (sym (script_undecided m laws readings words origin h.world.fram rs (laws.undecided_gate u.state h.world u.holds)))
-        (attempt_stores u.state h.world rs (m.task u.state rs) (m.attempt h.world.fram rs) (laws.attempts u.state h.world rs ws u.holds)
-        (attempts u.state h.world rs ws u.holds)))
-        (λ d. subst (λ q. EachStore P q.effects)
-        (sym (script_decided m laws readings words origin h.world.fram rs (laws.committing_gate d.to h.world d.holds)))
-        (commits d.to h.world d.holds))
-        (phase_of m laws readings words origin h p.stands)
+        (λ u. subst (λ q. EachStore P q.effects) (sym (script_u given h u))
+        (attempt_stores u.state h.world i (m.task u.state i) (attempt_from m h.booted h.world.fram i)
+        (owed_from given h.booted u.state h.world i ws u.holds u.ready)
+        (attempt_from_stores h.booted u.state h.world i ws u.holds u.ready)))
+        (λ d. subst (λ q. EachStore P q.effects) (sym (script_d given h d)) (scripts.commits d.to h.world i d.holds))
+        (phase_of given h p)
 
-    pub charge_stores : (f : ℕ → ℕ) (rs : List ℕ) (es : List Effect) → ChargeEffects m f rs es → (h : History) → f ≡ h.world.fram
-        → rs ≡ drop h.taken readings → AtPoint h → EachStore P es
-    charge_stores f rs es (partial pre) h ef er p = each_prefix P es (script m f rs).effects pre (subst (λ q. EachStore P q.effects)
-        (sym (ap₂ (script m) ef er)) (script_stores h p))
-    charge_stores f rs es (complete {es = more} e ce) h ef er p =
-        let q = script m f rs in
-        let k = behind f rs h ef er p e in
-        each_store-append P q.effects more (subst (λ q. EachStore P q.effects) (sym (ap₂ (script m) ef er)) (script_stores h p))
-        (charge_stores _ _ more ce k.history k.fram k.readings_there k.next.point)
+    pub charge_stores : (h : History) (es : List Effect) → IsCharge h es → AtPoint h → EachStore P es
+    charge_stores h es (partial pre) p = each_prefix P es (script_there h).effects pre (script_stores h p)
+    charge_stores h es (complete {es = more} e ce) p =
+        each_store-append P (script_there h).effects more (script_stores h p) (charge_stores (behind_script h) more ce (whole_there h p e).point)

@@ -1,13 +1,13 @@
 -- Steps of any machine, one after another.
-use Rattle.std.proofs.Common.{◌≡◌, ℕ, zero, suc, ◌+◌, ◌≤◌, List, [], ◌++◌, length, drop, refl, sym, ap, ap₂, ◌∙◌, subst, arith, append_assoc, append-nil}
+use Rattle.std.proofs.Common.{◌≡◌, ℕ, zero, suc, ◌+◌, ◌≤◌, List, [], ◌++◌, refl, sym, ap, ap₂, ◌∙◌, subst, arith, append_assoc, append-nil}
 use Rattle.std.proofs.Common.{suc-add, zero-add}
-use Rattle.std.proofs.Math.Seq.{drop-append_seam}
 use Rattle.machine_effects.specs.fram_board.Effects.{Effect}
-use Rattle.machine_effects.specs.World.{fram_after, readings_taken, IsPrefix}
+use Rattle.machine_effects.specs.World.{fram_after, IsPrefix}
+use Rattle.machine_effects.specs.Inputs.{TakesExactly}
 use Rattle.machine_effects.specs.Going.{StepOutcome, Goes, Stops, At, Halted, Stretch, stretch, after_effects, continued, going, Leads, Stalls}
 use Rattle.machine_effects.specs.Machine.{MachineBoard, MachineOutcome}
 use Rattle.machine_effects.specs.Laws.{ChangesByEffects}
-use Rattle.machine_effects.proofs.Interface.{after_after, fram_after-append, readings_taken-append}
+use Rattle.machine_effects.proofs.Interface.{after_after, fram_after-append, takes_nothing, takes_through}
 
 -- nothing in front
 after_nothing : {S X : Type 0} (r : Stretch S X) → r ≡ after_effects [] 0 r
@@ -77,10 +77,10 @@ module _ {S X : Type 0} (step : S → StepOutcome S X) where
   pub no_steps : (n : ℕ) (es : List Effect) (c : ℕ) (s t : S) → n ≡ 0 → Leads step n es c s t → es ≡ []
   no_steps n es c s t z l = sym (ap (λ r. r.effects) (leads_end n es c s t l)) ∙ ap (λ k. (going step k s).effects) z
 
--- what effects make of FRAM and the readings
+-- what effects make of FRAM and the inputs
 pub record Changed (s : MachineBoard) (es : List Effect) (t : MachineBoard) : Type 0 where
   pub fram : t.fram ≡ fram_after es s.fram
-  pub readings : readings_taken es ++ t.readings_left ≡ s.readings_left
+  pub inputs : TakesExactly es s.inputs t.inputs
 
 module _ (step : MachineBoard → MachineOutcome) (changes : (s : MachineBoard) → ChangesByEffects s (step s)) where
   changed_from : (n : ℕ) (s q : MachineBoard) (o : MachineOutcome) → ChangesByEffects s o
@@ -90,15 +90,12 @@ module _ (step : MachineBoard → MachineOutcome) (changes : (s : MachineBoard) 
       let k = ih t e in let fs = (going step n t).effects in
       record {
         fram = k.fram ∙ ap (fram_after fs) h.0 ∙ sym (fram_after-append es fs s.fram);
-        readings = ap (λ l. l ++ q.readings_left) (readings_taken-append es fs) ∙ append_assoc (readings_taken es) (readings_taken fs) q.readings_left
-            ∙ ap (λ l. readings_taken es ++ l) k.readings ∙ h.1;
+        inputs = takes_through es fs s.inputs t.inputs q.inputs h.1 k.inputs;
       }
   changed_from n s q (Stops es price x) h ih e = absurd cc
 
-  -- any number of steps changes FRAM and the readings by its effects
+  -- any number of steps changes FRAM and the inputs by its effects
   pub changed : (n : ℕ) (s q : MachineBoard) → (going step n s).status ≡ At q → Changed s (going step n s).effects q
-  changed zero s q e = let h : q ≡ s = cc e in record { fram = ap (λ b. b.fram) h; readings = ap (λ b. b.readings_left) h }
+  changed zero s q e =
+      let h : s ≡ q = cc e in subst (Changed s []) h (record { fram = refl; inputs = takes_nothing s.inputs })
   changed (suc n) s q e = changed_from n s q (step s) (changes s) (λ t g. changed n t q g) e
-
-  pub left_behind : (s q : MachineBoard) (es : List Effect) → Changed s es q → q.readings_left ≡ drop (length (readings_taken es)) s.readings_left
-  left_behind s q es h = sym (drop-append_seam (readings_taken es) q.readings_left) ∙ ap (drop (length (readings_taken es))) h.readings

@@ -1,37 +1,43 @@
 -- The laws of runs that are cut anywhere.
 use Rattle.std.proofs.Common.{◌≡◌, ℕ, suc, List, [], ◌∷◌, ◌++◌, refl, sym, ap, ◌==◌, ◌∙◌, subst, arith, true, false, All, append_assoc, append-nil}
+use Rattle.machine_effects.specs.msp_step.declared.machine.Stop.{Stop}
+use Rattle.machine_effects.specs.fram_board.Effects.{Effect}
 use Rattle.machine_effects.specs.World.{World}
-use Rattle.machine_effects.specs.Going.{going}
+use Rattle.machine_effects.specs.Going.{Halted, going}
 use Rattle.machine_effects.specs.Machine.{MachineBoard}
-use Rattle.crash_rules.specs.Model.{Model, ModelLaws, IsWord, IsBetween}
-use Rattle.crash_rules.specs.History.{Done, History, observe, behind_boot, first_history, decided_readings}
+use Rattle.crash_rules.specs.Model.{Model, ModelLaws, Marks, IsWord, IsBetween}
+use Rattle.crash_rules.specs.History.{Done, History, observe, behind_boot, first_history, decided_inputs}
 use Rattle.crash_rules.specs.Runs.{Program, ProgramLaws, Charge, Charged}
 use Rattle.crash_rules.specs.Laws.{Origin, Resting, Pending, Reaches, IsPending, IsSettled, Transits, Phase, UndecidedPhase, DecidedPhase, CommittingPhase}
-use Rattle.crash_rules.specs.Laws.{StandsFor}
-use Rattle.crash_rules.specs.Laws.{IsLawful, Matches, Begins, AcceptedDecided, AcceptedWords, AreConsecutive, CrashTheorem, StopsShort, NeverLost, SentOnce}
-use Rattle.crash_rules.specs.Laws.{PendingSends}
-use Rattle.crash_rules.specs.Laws.{SpansFollow, FollowFirst, PendingSpansFollow, ProgressLaw, StoresOnly, RunsMayBegin}
+use Rattle.crash_rules.specs.Laws.{StandsFor, IsLawful, Matches, Begins, HasRun, PowersUpBehind, AcceptedDecided, AcceptedWords, AreConsecutive, CrashTheorem}
+use Rattle.crash_rules.specs.Laws.{StopsShort, NeverLost, SentOnce, PendingSends, SpansFollow, FollowFirst, PendingSpansFollow, ProgressLaw, StoresOnly}
+use Rattle.crash_rules.specs.Laws.{RunsMayBegin}
 use Rattle.crash_rules.proofs.Lists.{nothing_first}
 use Rattle.crash_rules.proofs.Observed.{accepted_more}
-use Rattle.crash_rules.proofs.Cuts.{booted}
-use Rattle.crash_rules.proofs.Plays.{AtPoint, plays_from, lawful_from, matches_more, charge_spans, SpansPast, NoDone, PastDone, charge_past, charge_stores}
-use Rattle.crash_rules.proofs.Plays.{halted_from}
+use Rattle.crash_rules.proofs.Cuts.{Setting, booted}
+use Rattle.crash_rules.proofs.Plays.{AtPoint, IsThere, IsCharge, plays_from, lawful_from, matches_more, charge_spans, SpansPast, NoDone, PastDone, charge_past}
+use Rattle.crash_rules.proofs.Plays.{charge_stores, HaltsShort, halted_from}
 use Rattle.crash_rules.proofs.Progress.{counts_from}
 use Rattle.crash_rules.proofs.Steps.{changed}
 
-module _ {St : Type 0} (m : Model St) (c : Program) (laws : ModelLaws m) (code : ProgramLaws m c) (readings : List ℕ) (words : All IsWord readings)
-    (origin : Origin St) where
-  -- a power-up
-  powered_matches : (s p : MachineBoard) (h : History) → Matches readings s h → p.fram ≡ s.fram → p.readings_left ≡ s.readings_left
-      → Matches readings p (behind_boot h)
-  powered_matches s p h mt f l = record { fram = f ∙ mt.fram; readings_left = l ∙ mt.readings_left }
+module _ {St : Type 0} (given : Setting St) (c : Program) (code : ProgramLaws given.model c) where
+  open given use {model as m, readings, origin}
 
-  boot_point : (h : History) → IsLawful m readings origin h → AtPoint m laws c code readings words origin (behind_boot h)
-  boot_point h l = booted m laws readings words origin h l.stands
+  abbrev IsAt : MachineBoard → History → Type 0
+  IsAt p h = IsThere given c code p h
+
+  -- a power-up behind a lawful history
+  powered_there : (s p : MachineBoard) (h : History) → IsLawful m readings origin h → Matches readings s h → c.IsPoweredUp p → p.fram ≡ s.fram
+      → p.inputs.readings ≡ s.inputs.readings → IsAt p (behind_boot h)
+  powered_there s p h k mt up f l = record {
+    entry = up;
+    matches = record { fram = f ∙ mt.fram; readings_left = l ∙ mt.readings_left };
+    point = booted given h k.stands;
+  }
 
   -- charges keep what holds
   charged_on : (charges : List Charge) (s t : MachineBoard) (h k : History) → Matches readings s h → IsLawful m readings origin h
-      → Charged c m.gate s h charges t k → IsLawful m readings origin k × Matches readings t k
+      → Charged c m.marks s h charges t k → IsLawful m readings origin k × Matches readings t k
   charged_on [] s t h k mt l run = (
     subst (IsLawful m readings origin) (sym run.1) l,
     subst (λ b. Matches readings b k) (sym run.0)
@@ -40,53 +46,52 @@ module _ {St : Type 0} (m : Model St) (c : Program) (laws : ModelLaws m) (code :
   charged_on (e ∷ es) s t h k mt l run =
       let p = e.powered in
       let q = run.3.0 in
-      let mt2 = powered_matches s p h mt run.1 run.2 in
-      let en = code.enters p run.0 in
-      let pt = boot_point h l in
+      let there = powered_there s p h l mt run.0 run.1 run.2 in
       let made = (going c.step e.steps p).effects in
-      charged_on es q t (observe m.gate made (behind_boot h)) k
-      (matches_more m laws c code readings words origin p q (behind_boot h) made mt2 (changed c.step code.changes e.steps p q run.3.1))
-      (lawful_from m laws c code readings words origin e.steps (behind_boot h) p en mt2 pt) run.3.2
+      charged_on es q t (observe m.marks made (behind_boot h)) k
+      (matches_more given c code p q (behind_boot h) made there.matches (changed c.step code.changes e.steps p q run.3.1))
+      (lawful_from given c code e.steps (behind_boot h) p there) run.3.2
 
   begun : (x : World) (s : MachineBoard) → Begins m readings origin x s
-      → IsLawful m readings origin (first_history m.gate x) × Matches readings s (first_history m.gate x)
+      → IsLawful m readings origin (first_history m.marks x) × Matches readings s (first_history m.marks x)
   begun x s b = (record { world = refl; stands = b.stands; follows = nothing_first _ }, record { fram = b.fram; readings_left = b.readings_left })
 
-  -- a charge behind charges
-  record Ready (t p : MachineBoard) (h : History) : Type 0 where
-    entry : c.AtEntry p
-    matches : Matches readings p (behind_boot h)
-    point : AtPoint m laws c code readings words origin (behind_boot h)
+  ran : (t : MachineBoard) (h : History) → HasRun m c readings origin t h → IsLawful m readings origin h × Matches readings t h
+  ran t h run =
+      let first = begun run.world run.start run.begins in
+      charged_on run.charges run.start t (first_history m.marks run.world) h first.1 first.0 run.leads
 
-  ready : (x : World) (s : MachineBoard) → Begins m readings origin x s → (charges : List Charge) (t : MachineBoard) (h : History)
-      → Charged c m.gate s (first_history m.gate x) charges t h → (p : MachineBoard) → c.IsPoweredUp p → p.fram ≡ t.fram
-      → p.readings_left ≡ t.readings_left → Ready t p h
-  ready x s b charges t h run p up f l =
-      let start = begun x s b in
-      let k = charged_on charges s t (first_history m.gate x) h start.1 start.0 run in
-      record { entry = code.enters p up; matches = powered_matches t p h k.1 f l; point = boot_point h k.0 }
+  -- a charge behind charges
+  ready : (p : MachineBoard) (up : PowersUpBehind m c readings origin p) → IsAt p (behind_boot up.history)
+  ready p up = let k = ran up.board up.history up.run in powered_there up.board p up.history k.0 k.1 up.powered up.fram up.readings_left
+
+  -- a machine that halts, behind charges
+  halts_short : (p : MachineBoard) (up : PowersUpBehind m c readings origin p) (n price : ℕ) (e : Stop) → (going c.step n p).status ≡ Halted price e
+      → HaltsShort given c code (observe m.marks (going c.step n p).effects (behind_boot up.history)) e
+  halts_short p up n price e halted = halted_from given c code (suc n) n (behind_boot up.history) p price e (omega arith) (ready p up) halted
+
+-- the setting of a run
+abbrev setting : {St : Type 0} (m : Model St) → ModelLaws m → (readings : List ℕ) → All IsWord readings → (origin : Origin St) → Setting St
+setting m laws readings words origin = record { model = m; laws = laws; readings = readings; words = words; origin = origin }
 
 -- the crash theorem
 pub crash_theorem : {St : Type 0} (m : Model St) (c : Program) → CrashTheorem m c
-crash_theorem m c laws code readings origin x s b charges t h run =
-    let start = begun m c laws code readings b.words origin x s b in
-    charged_on m c laws code readings b.words origin charges s t (first_history m.gate x) h start.1 start.0 run
+crash_theorem m c laws code readings origin t h run = ran (setting m laws readings run.begins.words origin) c code t h run
 
 -- a machine stops for want of a reading alone, where the source is short too
 pub stops_short : {St : Type 0} (m : Model St) (c : Program) → StopsShort m c
-stops_short m c laws code readings origin x s b charges t h run p up f l n price e halted =
-    let r = ready m c laws code readings b.words origin x s b charges t h run p up f l in
-    let k = halted_from m laws c code readings b.words origin (suc n) n (behind_boot h) p price e (omega arith) r.entry r.matches r.point halted in
+stops_short m c laws code readings origin p up n price e halted =
+    let k = halts_short (setting m laws readings up.run.begins.words origin) c code p up n price e halted in
     (k.reading, (k.short.stands, k.short.undecided, k.short.short))
 
 -- where a decide came and no done since, or the first commit is pending, GATE is 1
 pub never_lost : {St : Type 0} (m : Model St) → NeverLost m
 never_lost {St} m laws readings origin h l d = by_phase l.stands.state l.stands.phase
   where
-    gate_is_set : h.world.fram m.gate ≡ 1 → (h.world.fram m.gate ≡ 1) × ((s : St) → m.Undecided s h.world → ⊥)
+    gate_is_set : h.world.fram m.marks.gate ≡ 1 → (h.world.fram m.marks.gate ≡ 1) × ((s : St) → m.Undecided s h.world → ⊥)
     gate_is_set one = (one, λ z u. let none = laws.undecided_gate z h.world u in omega (arith, one, none))
 
-    by_phase : (s : St) → Phase m readings origin s h → (h.world.fram m.gate ≡ 1) × ((s : St) → m.Undecided s h.world → ⊥)
+    by_phase : (s : St) → Phase m readings origin s h → (h.world.fram m.marks.gate ≡ 1) × ((s : St) → m.Undecided s h.world → ⊥)
     by_phase s (UndecidedPhase u k w) = absurd (cc (u, d))
     by_phase s (DecidedPhase next e t w) =
         gate_is_set (laws.committing_gate next h.world (laws.decided_committing s next h.world w))
@@ -94,7 +99,7 @@ never_lost {St} m laws readings origin h l d = by_phase l.stands.state l.stands.
 
 -- the words accepted in a commit, behind a decide and at the start of a run
 accepted_decided : {St : Type 0} (m : Model St) (readings : List ℕ) (h : History) (s next : St) (o : Origin St) (ds : List Done)
-    → Transits m o ds (decided_readings readings h) s next → IsBetween (m.emitted s) (m.emitted next) h.world.accepted → AcceptedDecided m readings o ds h s
+    → Transits m o ds (decided_inputs readings h) s next → IsBetween (m.emitted s) (m.emitted next) h.world.accepted → AcceptedDecided m readings o ds h s
 accepted_decided m readings h s next (Resting a) ds t b = (next, t, b)
 accepted_decided m readings h s next (Pending a) [] t b = absurd t
 accepted_decided m readings h s next (Pending a) (d ∷ ds) t b = (next, t, b)
@@ -117,23 +122,26 @@ sent_once {St} m laws readings origin h stands = by_phase stands.state stands.ph
         (accepted_first m readings h s origin h.completed p (laws.committing_words s h.world w))
 
 -- words that are accepted stay so
-charged_more : (c : Program) (gate : ℕ) (charges : List Charge) (s t : MachineBoard) (h k : History) → Charged c gate s h charges t k
+charged_more : (c : Program) (marks : Marks) (charges : List Charge) (s t : MachineBoard) (h k : History) → Charged c marks s h charges t k
     → (more : List ℕ) × (k.world.accepted ≡ h.world.accepted ++ more)
-charged_more c gate [] s t h k run = ([], ap (λ z. z.world.accepted) run.1 ∙ sym (append-nil h.world.accepted))
-charged_more c gate (e ∷ es) s t h k run =
+charged_more c marks [] s t h k run = ([], ap (λ z. z.world.accepted) run.1 ∙ sym (append-nil h.world.accepted))
+charged_more c marks (e ∷ es) s t h k run =
     let made = (going c.step e.steps e.powered).effects in
-    let one = accepted_more gate made (behind_boot h) in
-    let rest = charged_more c gate es run.3.0 t (observe gate made (behind_boot h)) k run.3.2 in
+    let one = accepted_more marks made (behind_boot h) in
+    let rest = charged_more c marks es run.3.0 t (observe marks made (behind_boot h)) k run.3.2 in
     (one.0 ++ rest.0, rest.1 ∙ ap (λ l. l ++ rest.0) one.1 ∙ append_assoc h.world.accepted one.0 rest.0)
 
 -- while the first commit is pending, words are accepted that its state has beyond those of the start
 pub pending_sends : {St : Type 0} (m : Model St) (c : Program) → PendingSends m c
-pending_sends {St} m c laws code readings to x s b charges t h run none =
-    let l = crash_theorem m c laws code readings (Pending to) x s b charges t h run in
+pending_sends {St} m c laws code readings to t h run none =
+    let l = crash_theorem m c laws code readings (Pending to) t h run in
     by_phase l.0.stands.state (subst (λ ds. Reaches m readings (Pending to) ds l.0.stands.state) none l.0.stands.reached) l.0.stands.phase
   where
+    x : World
+    x = run.world
+
     grown : (more : List ℕ) × (h.world.accepted ≡ x.accepted ++ more)
-    grown = charged_more c m.gate charges s t (first_history m.gate x) h run
+    grown = charged_more c m.marks run.charges run.start t (first_history m.marks x) h run.leads
 
     between : IsBetween [] (m.emitted to) h.world.accepted → IsBetween x.accepted (m.emitted to) h.world.accepted
     between w =
@@ -147,71 +155,90 @@ pending_sends {St} m c laws code readings to x s b charges t h run none =
     by_phase : (z : St) → z ≡ to → Phase m readings (Pending to) z h → IsBetween x.accepted (m.emitted to) h.world.accepted
     by_phase z e (UndecidedPhase u k w) = absurd (subst (IsSettled (Pending to)) none k)
     by_phase z e (DecidedPhase next u q w) =
-        absurd (subst (λ ds. Transits m (Pending to) ds (decided_readings readings h) z next) none q)
+        absurd (subst (λ ds. Transits m (Pending to) ds (decided_inputs readings h) z next) none q)
     by_phase z e (CommittingPhase u p n w) = between (laws.committing_words to h.world (subst (λ y. m.Committing y h.world) e w))
 
 first_undecided : {St : Type 0} (m : Model St) → ModelLaws m → (readings : List ℕ) (s0 : St) (x : World)
-    → StandsFor m readings (Resting s0) (first_history m.gate x) → m.Undecided s0 x → (first_history m.gate x).decided ≡ false
+    → StandsFor m readings (Resting s0) (first_history m.marks x) → m.Undecided s0 x → (first_history m.marks x).decided ≡ false
 first_undecided {St} m laws readings s0 x st u = by_phase st.state st.phase
   where
-    by_phase : (s : St) → Phase m readings (Resting s0) s (first_history m.gate x) → (first_history m.gate x).decided ≡ false
+    by_phase : (s : St) → Phase m readings (Resting s0) s (first_history m.marks x) → (first_history m.marks x).decided ≡ false
     by_phase s (UndecidedPhase d k w) = d
     by_phase s (DecidedPhase next e t w) =
         let one = laws.committing_gate next x (laws.decided_committing s next x w) in
         let none = laws.undecided_gate s0 x u in absurd (omega (arith, one, none))
     by_phase s (CommittingPhase e p n w) = absurd p
 
+-- a run of one charge
+module _ {St : Type 0} (given : Setting St) (c : Program) (code : ProgramLaws given.model c) (t : MachineBoard) (h : History)
+    (run : HasRun given.model c given.readings given.origin t h) where
+  open given use {model as m, readings, origin}
+
+  abbrev first : History
+  first = first_history m.marks run.world
+
+  record IsOfCharge : Type 0 where
+    effects : List Effect
+    is : h ≡ observe m.marks effects (behind_boot first)
+    charge : IsCharge given c code (behind_boot first) effects
+    point : AtPoint given c code (behind_boot first)
+
+  of_charge : (e : Charge) → run.charges ≡ e ∷ [] → IsOfCharge
+  of_charge e one =
+      let led : Charged c m.marks run.start first (e ∷ []) t h = subst (λ es. Charged c m.marks run.start first es t h) one run.leads in
+      let start = begun given c code run.world run.start run.begins in
+      let p = e.powered in
+      let there = powered_there given c code run.start p first start.0 start.1 led.0 led.1 led.2 in
+      record {
+        effects = (going c.step e.steps p).effects;
+        is = led.3.2.1;
+        charge = plays_from given c code (suc e.steps) e.steps (behind_boot first) p (omega arith) there;
+        point = there.point;
+      }
+
 -- in one charge the spans follow one another
 pub spans_follow : {St : Type 0} (m : Model St) (c : Program) → SpansFollow m c
-spans_follow m c laws code readings s0 x s b u e t h run =
-    let h0 = first_history m.gate x in
-    let start = begun m c laws code readings b.words (Resting s0) x s b in
-    let p = e.powered in
-    let mt = powered_matches m c laws code readings b.words (Resting s0) s p h0 start.1 run.1 run.2 in
-    let pt = boot_point m c laws code readings b.words (Resting s0) h0 start.0 in
-    let ce = plays_from m laws c code readings b.words (Resting s0) (suc e.steps) e.steps (behind_boot h0) p (omega arith) (code.enters p run.0) mt pt in
-    let d = first_undecided m laws readings s0 x b.stands u in
-    let sp = charge_spans m laws c code readings b.words (Resting s0) p.fram p.readings_left _ ce (behind_boot h0) mt.fram mt.readings_left pt d in
-    let is : h ≡ observe m.gate (going c.step e.steps p).effects (behind_boot h0) = run.3.2.1 in
-    subst (λ k. AreConsecutive 0 k.completed k.since) (sym is)
-    (subst (λ ds. AreConsecutive 0 ds (observe m.gate (going c.step e.steps p).effects (behind_boot h0)).since) (sym sp.completed) (sp.follow d))
+spans_follow m c laws code readings s t h run u e one =
+    let given = setting m laws readings run.begins.words (Resting s) in
+    let k = of_charge given c code t h run e one in
+    let first = first_history m.marks run.world in
+    let d = first_undecided m laws readings s run.world run.begins.stands u in
+    let sp = charge_spans given c code (behind_boot first) k.effects k.charge k.point d in
+    subst (λ h. AreConsecutive 0 h.completed h.since) (sym k.is)
+    (subst (λ ds. AreConsecutive 0 ds (observe m.marks k.effects (behind_boot first)).since) (sym sp.completed) (sp.follow d))
 
 -- so do those behind a pending commit
 pub pending_spans_follow : {St : Type 0} (m : Model St) (c : Program) → PendingSpansFollow m c
-pending_spans_follow {St} m c laws code readings to x s b e t h run =
-    let h0 = first_history m.gate x in
-    let start = begun m c laws code readings b.words (Pending to) x s b in
-    let p = e.powered in
-    let mt = powered_matches m c laws code readings b.words (Pending to) s p h0 start.1 run.1 run.2 in
-    let pt = boot_point m c laws code readings b.words (Pending to) h0 start.0 in
-    let ce = plays_from m laws c code readings b.words (Pending to) (suc e.steps) e.steps (behind_boot h0) p (omega arith) (code.enters p run.0) mt pt in
-    let past = charge_past m laws c code readings b.words (Pending to) p.fram p.readings_left _ ce (behind_boot h0) mt.fram mt.readings_left pt
-    (first_decided b.stands.state b.stands.phase) in
-    let is : h ≡ observe m.gate (going c.step e.steps p).effects (behind_boot h0) = run.3.2.1 in
-    subst (λ k. FollowFirst k.completed k.since) (sym is) (follow _ past)
+pending_spans_follow {St} m c laws code readings to t h run e one =
+    let given = setting m laws readings run.begins.words (Pending to) in
+    let k = of_charge given c code t h run e one in
+    let past = charge_past given c code (behind_boot first) k.effects k.charge k.point (first_decided run.begins.stands.state run.begins.stands.phase) in
+    subst (λ h. FollowFirst h.completed h.since) (sym k.is) (follow _ past)
   where
-    first_decided : (z : St) → Phase m readings (Pending to) z (first_history m.gate x) → (first_history m.gate x).decided ≡ true
+    first : History
+    first = first_history m.marks run.world
+
+    first_decided : (z : St) → Phase m readings (Pending to) z first → first.decided ≡ true
     first_decided z (UndecidedPhase d k w) = absurd k
     first_decided z (DecidedPhase next d q w) = d
     first_decided z (CommittingPhase d p n w) = d
 
-    follow : (k : History) → SpansPast m laws c code readings b.words (Pending to) (behind_boot (first_history m.gate x)) k → FollowFirst k.completed k.since
+    follow : (k : History) → SpansPast (setting m laws readings run.begins.words (Pending to)) c code (behind_boot first) k → FollowFirst k.completed k.since
     follow k (NoDone a) = subst (λ ds. FollowFirst ds k.since) (sym a) tt
     follow k (PastDone d ds a f) = subst (λ l. FollowFirst l k.since) (sym a) f
 
 -- a charge of at least n bounds that is spent has at least n dones
 pub progress_law : {St : Type 0} (m : Model St) (c : Program) → ProgressLaw m c
-progress_law m c laws code readings origin x s b charges t h run p q up f l n amount steps most sp =
-    let r = ready m c laws code readings b.words origin x s b charges t h run p up f l in
-    counts_from m laws c code readings b.words origin n amount steps (behind_boot h) p q r.entry r.matches r.point most sp
+progress_law m c laws code readings origin p up n amount most spent =
+    let given = setting m laws readings up.run.begins.words origin in
+    counts_from given c code n amount (behind_boot up.history) p (ready given c code p up) most spent
 
 -- a fact of each store that a run makes
 pub stores_only : {St : Type 0} (m : Model St) (c : Program) (P : ℕ → ℕ → Type 0) → StoresOnly m c P
-stores_only m c P laws code attempts commits readings origin x s b charges t h run p up f l n =
-    let r = ready m c laws code readings b.words origin x s b charges t h run p up f l in
-    charge_stores m laws c code readings b.words origin P attempts commits p.fram p.readings_left _
-    (plays_from m laws c code readings b.words origin (suc n) n (behind_boot h) p (omega arith) r.entry r.matches r.point)
-    (behind_boot h) r.matches.fram r.matches.readings_left r.point
+stores_only m c P laws code scripts readings origin p up n =
+    let given = setting m laws readings up.run.begins.words origin in
+    let r = ready given c code p up in
+    charge_stores given c code P scripts (behind_boot up.history) _ (plays_from given c code (suc n) n (behind_boot up.history) p (omega arith) r) r.point
 
 -- a run may begin with any readings
 pub runs_may_begin : {St : Type 0} (m : Model St) → RunsMayBegin m

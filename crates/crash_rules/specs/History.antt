@@ -1,12 +1,14 @@
 -- What is read off the effects of a run. Its events are those of the board's runs: a boot is a power-up; a decide is a write after
 -- which GATE is 1 and before which it wasn't; a done is one after which GATE is 0 and before which it was 1. Positions count the
 -- readings taken.
-use Rattle.std.specs.Prelude.{◌≡◌, ℕ, ◌+◌, ◌≤◌, ◌==◌, Bool, true, false, if◌then◌else◌, List, [], ◌∷◌, ◌++◌, length, map}
+use Rattle.std.specs.Prelude.{◌≡◌, ℕ, ◌+◌, ◌≤◌, ◌==◌, Bool, true, false, if◌then◌else◌, List, [], ◌∷◌, ◌++◌, length, drop, map}
 use Rattle.std.specs.List.{slice_range}
 use Rattle.machine_effects.specs.fram_board.Board.{BoardValue, BoardOutcome}
 use Rattle.machine_effects.specs.fram_board.Effects.{Effect, effects_of}
 pub use Rattle.machine_effects.specs.fram_board.Gate.{is_decide, is_done}
 use Rattle.machine_effects.specs.World.{World, world_after_one, world_after, readings_taken}
+use Rattle.machine_effects.specs.Inputs.{Inputs}
+use Rattle.crash_rules.specs.Model.{Marks}
 
 -- a done: the span of the decide before it, and FRAM and the accepted words behind it
 pub record Done : Type 0 where
@@ -18,6 +20,7 @@ pub record Done : Type 0 where
 pub record History : Type 0 where
   pub world : World  -- FRAM and the accepted words
   pub taken : ℕ  -- how many readings were taken
+  pub booted : Bool  -- whether no done came since the last boot
   pub since : ℕ  -- how many of them at the last boot or done
   pub start : World  -- the world at the last boot or done
   pub effects : List Effect  -- the effects since
@@ -41,6 +44,7 @@ behind_decide h = record h { span_from = h.since; span_to = h.taken; decided = t
 -- the history behind a done
 abbrev pub behind_done : History → History
 behind_done h = record h {
+  booted = false;
   since = h.taken;
   start = h.world;
   effects = [];
@@ -52,30 +56,31 @@ behind_done h = record h {
 abbrev pub behind_gate : ℕ → ℕ → History → History
 behind_gate before now h = if is_done before now then behind_done h else if is_decide before now then behind_decide h else h
 
--- the history behind one effect, where GATE is at this address
-abbrev pub observe_one : ℕ → Effect → History → History
-observe_one gate e h = behind_gate (h.world.fram gate) ((world_after_one e h.world).fram gate) (with_effect e h)
+-- the history behind one effect, by these marks
+abbrev pub observe_one : Marks → Effect → History → History
+observe_one marks e h = behind_gate (h.world.fram marks.gate) ((world_after_one e h.world).fram marks.gate) (with_effect e h)
 
 -- the history behind effects, the first one first
-abbrev pub observe : ℕ → List Effect → History → History
-observe gate [] h = h
-observe gate (e ∷ es) h = observe gate es (observe_one gate e h)
+abbrev pub observe : Marks → List Effect → History → History
+observe marks [] h = h
+observe marks (e ∷ es) h = observe marks es (observe_one marks e h)
 
 -- the history behind a boot
 abbrev pub behind_boot : History → History
-behind_boot h = record h { since = h.taken; start = h.world; effects = [] }
+behind_boot h = record h { booted = true; since = h.taken; start = h.world; effects = [] }
 
 -- the history of a run that begins with this world. Where GATE is 1 then, a transition is pending
-abbrev pub first_history : ℕ → World → History
-first_history gate x = record {
+abbrev pub first_history : Marks → World → History
+first_history marks x = record {
   world = x;
   taken = 0;
+  booted = true;
   since = 0;
   start = x;
   effects = [];
   span_from = 0;
   span_to = 0;
-  decided = x.fram gate == 1;
+  decided = x.fram marks.gate == 1;
   completed = [];
 }
 
@@ -86,6 +91,17 @@ decided_readings readings h = slice_range readings h.span_from h.span_to
 -- the committed readings of a done
 abbrev pub done_readings : List ℕ → Done → List ℕ
 done_readings readings d = slice_range readings d.span_from d.span_to
+
+-- what is left of a run's readings from a position on, as inputs
+abbrev pub inputs_from : List ℕ → ℕ → Inputs
+inputs_from readings from = record { readings = drop from readings }
+
+-- what the last decide took, and what a done committed
+abbrev pub decided_inputs : List ℕ → History → Inputs
+decided_inputs readings h = record { readings = decided_readings readings h }
+
+abbrev pub done_inputs : List ℕ → Done → Inputs
+done_inputs readings d = record { readings = done_readings readings d }
 
 -- the positions of a history: those at the last boot or done and of the last decide, and from where to where each done has its span
 pub record Positions : Type 0 where
@@ -112,12 +128,12 @@ positions_behind before now taken p =
 
 -- the events of an instruction by its effects are those by GATE before and behind it: of its effects its takes come first, and it
 -- has one store at most. So a history by effects has the positions of one that compares GATE between boards
-pub record IsOneEvent (gate : ℕ) (b : BoardValue) (x : BoardOutcome) (h : History) : Type 0 where
-  pub positions : positions_of (observe gate (effects_of b x) h) ≡ positions_behind (h.world.fram gate)
-      ((world_after (effects_of b x) h.world).fram gate) x.board.taken (positions_of h)
-  pub taken : (observe gate (effects_of b x) h).taken ≡ x.board.taken
+pub record IsOneEvent (marks : Marks) (b : BoardValue) (x : BoardOutcome) (h : History) : Type 0 where
+  pub positions : positions_of (observe marks (effects_of b x) h) ≡ positions_behind (h.world.fram marks.gate)
+      ((world_after (effects_of b x) h.world).fram marks.gate) x.board.taken (positions_of h)
+  pub taken : (observe marks (effects_of b x) h).taken ≡ x.board.taken
 
 -- so of each instruction that takes no more readings than there are
 abbrev pub EventsOfInstructions : Type 0
-EventsOfInstructions = (gate : ℕ) (b : BoardValue) (x : BoardOutcome) (h : History) → h.taken ≡ b.taken → b.taken ≤ x.board.taken
-    → x.board.taken ≤ length b.readings → IsOneEvent gate b x h
+EventsOfInstructions = (marks : Marks) (b : BoardValue) (x : BoardOutcome) (h : History) → h.taken ≡ b.taken → b.taken ≤ x.board.taken
+    → x.board.taken ≤ length b.readings → IsOneEvent marks b x h

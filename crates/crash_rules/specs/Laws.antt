@@ -5,9 +5,9 @@ use Rattle.machine_effects.specs.msp_step.declared.machine.Stop.TheVariants as s
 use Rattle.machine_effects.specs.World.{World, world_after, IsPrefix, EachStore}
 use Rattle.machine_effects.specs.Going.{Halted, going}
 use Rattle.machine_effects.specs.Machine.{MachineBoard}
-use Rattle.crash_rules.specs.Model.{Model, ModelLaws, Ends, Short, IsWord, IsBetween, bound, script}
-use Rattle.crash_rules.specs.History.{Done, History, observe, behind_boot, first_history, decided_readings, done_readings}
-use Rattle.crash_rules.specs.Runs.{Program, ProgramLaws, Charge, Charged, Spends}
+use Rattle.crash_rules.specs.Model.{Model, ModelLaws, Ends, Short, IsWord, IsBetween, Inputs, no_inputs, InputsAreWords, bound, script}
+use Rattle.crash_rules.specs.History.{Done, History, observe, behind_boot, first_history, inputs_from, decided_inputs, done_inputs}
+use Rattle.crash_rules.specs.Runs.{Program, ProgramLaws, Charge, Charged, IsSpentFrom}
 
 -- how a run begins: at a state, or with a commit that is pending, and the state that it leaves
 pub data Origin (St : Type 0) : Type 0 where
@@ -18,7 +18,7 @@ pub data Origin (St : Type 0) : Type 0 where
 -- readings; behind the done the world rests at the task's state
 abbrev pub SourceRun : {St : Type 0} → Model St → List ℕ → St → List Done → St → Type 0
 SourceRun m readings s [] t = t ≡ s
-SourceRun {St} m readings s (d ∷ ds) t = (u : St) × (m.task s (done_readings readings d) ≡ Ends u []) × m.Rests u d.world × SourceRun m readings u ds t
+SourceRun {St} m readings s (d ∷ ds) t = (u : St) × (m.task s (done_inputs readings d) ≡ Ends u no_inputs) × m.Rests u d.world × SourceRun m readings u ds t
 
 -- a commit that was pending at the start has no readings of its own
 abbrev pub HasNoSpan : ℕ → ℕ → Type 0
@@ -43,17 +43,17 @@ IsSettled (Resting s) ds = Unit {0}
 IsSettled (Pending to) [] = ⊥
 IsSettled (Pending to) (d ∷ ds) = Unit {0}
 
--- the transition to come leads from s to this next state by the task on these readings, once nothing is pending
-abbrev pub Transits : {St : Type 0} → Model St → Origin St → List Done → List ℕ → St → St → Type 0
-Transits m (Resting o) ds readings s next = m.task s readings ≡ Ends next []
-Transits m (Pending to) [] readings s next = ⊥
-Transits m (Pending to) (d ∷ ds) readings s next = m.task s readings ≡ Ends next []
+-- the transition to come leads from s to this next state by the task on these inputs, once nothing is pending
+abbrev pub Transits : {St : Type 0} → Model St → Origin St → List Done → Inputs → St → St → Type 0
+Transits m (Resting o) ds inputs s next = m.task s inputs ≡ Ends next no_inputs
+Transits m (Pending to) [] inputs s next = ⊥
+Transits m (Pending to) (d ∷ ds) inputs s next = m.task s inputs ≡ Ends next no_inputs
 
 -- the world is undecided at the state of the last done, or decided from it to what the task gives on the readings of the decide; or the
 -- commit that was pending at the start isn't done, and leaves the state
 pub data Phase {St : Type 0} (m : Model St) (readings : List ℕ) (origin : Origin St) (s : St) (h : History) : Type 0 where
   UndecidedPhase : h.decided ≡ false → IsSettled origin h.completed → m.Undecided s h.world → Phase m readings origin s h
-  DecidedPhase : (next : St) → h.decided ≡ true → Transits m origin h.completed (decided_readings readings h) s next → m.Decided s next h.world
+  DecidedPhase : (next : St) → h.decided ≡ true → Transits m origin h.completed (decided_inputs readings h) s next → m.Decided s next h.world
       → Phase m readings origin s h
   CommittingPhase : h.decided ≡ true → IsPending origin h.completed → HasNoSpan h.span_from h.span_to → m.Committing s h.world
       → Phase m readings origin s h
@@ -65,9 +65,9 @@ pub record StandsFor {St : Type 0} (m : Model St) (readings : List ℕ) (origin 
   pub phase : Phase m readings origin state h
 
 -- the effects since the last boot or done are a prefix of the script there: the commit, or the start, the task on the readings
--- from there on, and the commit
+-- from there on, and the commit; behind a boot the recovery in front of the start
 abbrev pub FollowsScript : {St : Type 0} → Model St → List ℕ → History → Type 0
-FollowsScript m readings h = IsPrefix h.effects (script m h.start.fram (drop h.since readings)).effects
+FollowsScript m readings h = IsPrefix h.effects (script m h.booted h.start.fram (inputs_from readings h.since)).effects
 
 -- what holds of each history of a run
 pub record IsLawful {St : Type 0} (m : Model St) (readings : List ℕ) (origin : Origin St) (h : History) : Type 0 where
@@ -78,19 +78,19 @@ pub record IsLawful {St : Type 0} (m : Model St) (readings : List ℕ) (origin :
 -- a machine that holds what a history says
 pub record Matches (readings : List ℕ) (s : MachineBoard) (h : History) : Type 0 where
   pub fram : s.fram ≡ h.world.fram
-  pub readings_left : s.readings_left ≡ drop h.taken readings
+  pub readings_left : s.inputs.readings ≡ drop h.taken readings
 
 -- a run may begin like this
 pub record Begins {St : Type 0} (m : Model St) (readings : List ℕ) (origin : Origin St) (x : World) (s : MachineBoard) : Type 0 where
   pub fram : s.fram ≡ x.fram
-  pub readings_left : s.readings_left ≡ readings
+  pub readings_left : s.inputs.readings ≡ readings
   pub words : All IsWord readings
-  pub stands : StandsFor m readings origin (first_history m.gate x)
+  pub stands : StandsFor m readings origin (first_history m.marks x)
 
 -- a run may begin with a world that is undecided at a state, and with one whose commit is pending
 pub record RunsBegin {St : Type 0} (m : Model St) (readings : List ℕ) : Type 0 where
-  pub resting : (s : St) (x : World) → m.Undecided s x → StandsFor m readings (Resting s) (first_history m.gate x)
-  pub pending : (to : St) (x : World) → m.Committing to x → StandsFor m readings (Pending to) (first_history m.gate x)
+  pub resting : (s : St) (x : World) → m.Undecided s x → StandsFor m readings (Resting s) (first_history m.marks x)
+  pub pending : (to : St) (x : World) → m.Committing to x → StandsFor m readings (Pending to) (first_history m.marks x)
 
 -- so it is with any readings
 abbrev pub RunsMayBegin : {St : Type 0} → Model St → Type 0
@@ -98,36 +98,51 @@ RunsMayBegin m = ModelLaws m → (readings : List ℕ) → RunsBegin m readings
 
 -- a run of charges from the start of a run on, with its history
 abbrev pub RunsTo : {St : Type 0} → Model St → Program → World → MachineBoard → List Charge → MachineBoard → History → Type 0
-RunsTo m c x s charges t h = Charged c m.gate s (first_history m.gate x) charges t h
+RunsTo m c x s charges t h = Charged c m.marks s (first_history m.marks x) charges t h
+
+-- a run that came to a board, with its history: any charges, each cut behind any number of steps
+pub record HasRun {St : Type 0} (m : Model St) (c : Program) (readings : List ℕ) (origin : Origin St) (t : MachineBoard) (h : History) : Type 0 where
+  pub world : World  -- how it began
+  pub start : MachineBoard
+  pub begins : Begins m readings origin world start
+  pub charges : List Charge
+  pub leads : RunsTo m c world start charges t h
+
+-- a board that a further power-up leaves behind a run: FRAM and the readings stay
+pub record PowersUpBehind {St : Type 0} (m : Model St) (c : Program) (readings : List ℕ) (origin : Origin St) (p : MachineBoard) : Type 0 where
+  pub board : MachineBoard
+  pub history : History
+  pub run : HasRun m c readings origin board history
+  pub powered : c.IsPoweredUp p
+  pub fram : p.fram ≡ board.fram
+  pub readings_left : p.inputs.readings ≡ board.inputs.readings
 
 -- after any charges, each cut behind any number of steps: the board stands for a run of the source, and the effects since the
 -- last boot or done follow the script
 abbrev pub CrashTheorem : {St : Type 0} → Model St → Program → Type 0
-CrashTheorem {St} m c = ModelLaws m → ProgramLaws m c → (readings : List ℕ) (origin : Origin St) (x : World) (s : MachineBoard) → Begins m readings origin x s
-    → (charges : List Charge) (t : MachineBoard) (h : History) → RunsTo m c x s charges t h → IsLawful m readings origin h × Matches readings t h
+CrashTheorem {St} m c = ModelLaws m → ProgramLaws m c → (readings : List ℕ) (origin : Origin St) (t : MachineBoard) (h : History)
+    → HasRun m c readings origin t h → IsLawful m readings origin h × Matches readings t h
 
 -- a machine stops for want of a reading alone, and there the source is short too: at the state of the last done, on the readings
 -- from the last boot or done on
 abbrev pub StopsShort : {St : Type 0} → Model St → Program → Type 0
-StopsShort {St} m c = ModelLaws m → ProgramLaws m c → (readings : List ℕ) (origin : Origin St) (x : World) (s : MachineBoard) → Begins m readings origin x s
-    → (charges : List Charge) (t : MachineBoard) (h : History) → RunsTo m c x s charges t h
-    → (p : MachineBoard) → c.IsPoweredUp p → p.fram ≡ t.fram → p.readings_left ≡ t.readings_left
-    → (n price : ℕ) (e : Stop) → (going c.step n p).status ≡ Halted price e
-    → let k = observe m.gate (going c.step n p).effects (behind_boot h) in
-    (e ≡ stop.NoReading) × ((st : StandsFor m readings origin k) × (k.decided ≡ false) × (m.task st.state (drop k.since readings) ≡ Short))
+StopsShort {St} m c = ModelLaws m → ProgramLaws m c → (readings : List ℕ) (origin : Origin St) (p : MachineBoard)
+    → (up : PowersUpBehind m c readings origin p) → (n price : ℕ) (e : Stop) → (going c.step n p).status ≡ Halted price e
+    → let k = observe m.marks (going c.step n p).effects (behind_boot up.history) in
+    (e ≡ stop.NoReading) × ((st : StandsFor m readings origin k) × (k.decided ≡ false) × (m.task st.state (inputs_from readings k.since) ≡ Short))
 
 -- where a decide came and no done since, or the first commit is still pending, GATE is 1, and the world is undecided at no state, whatever
 -- boots stand between
 abbrev pub NeverLost : {St : Type 0} → Model St → Type 0
 NeverLost {St} m = ModelLaws m → (readings : List ℕ) (origin : Origin St) (h : History) → IsLawful m readings origin h → h.decided ≡ true
-    → (h.world.fram m.gate ≡ 1) × ((s : St) → m.Undecided s h.world → ⊥)
+    → (h.world.fram m.marks.gate ≡ 1) × ((s : St) → m.Undecided s h.world → ⊥)
 
 -- the words accepted between a decide and its done: those of the state of the last done, with some of the task's words behind them. While
 -- the commit that was pending at the start isn't done: some of the first words of the state that it leaves
 abbrev pub AcceptedDecided : {St : Type 0} → Model St → List ℕ → Origin St → List Done → History → St → Type 0
 AcceptedDecided m readings (Pending to) [] h s = IsBetween [] (m.emitted s) h.world.accepted
 AcceptedDecided {St} m readings origin ds h s =
-    (next : St) × Transits m origin ds (decided_readings readings h) s next × IsBetween (m.emitted s) (m.emitted next) h.world.accepted
+    (next : St) × Transits m origin ds (decided_inputs readings h) s next × IsBetween (m.emitted s) (m.emitted next) h.world.accepted
 
 -- the accepted words are those of the state of the last done; between a decide and its done, these with some of the task's words
 -- behind them
@@ -143,9 +158,8 @@ SentOnce {St} m = ModelLaws m → (readings : List ℕ) (origin : Origin St) (h 
 -- while a commit that was pending at the start isn't done, the accepted words are those of the start, with some of those behind them that
 -- the state has beyond these which the commit leaves
 abbrev pub PendingSends : {St : Type 0} → Model St → Program → Type 0
-PendingSends {St} m c = ModelLaws m → ProgramLaws m c → (readings : List ℕ) (to : St) (x : World) (s : MachineBoard) → Begins m readings (Pending to) x s
-    → (charges : List Charge) (t : MachineBoard) (h : History) → RunsTo m c x s charges t h → h.completed ≡ []
-    → IsBetween x.accepted (m.emitted to) h.world.accepted
+PendingSends {St} m c = ModelLaws m → ProgramLaws m c → (readings : List ℕ) (to : St) (t : MachineBoard) (h : History)
+    → (run : HasRun m c readings (Pending to) t h) → h.completed ≡ [] → IsBetween run.world.accepted (m.emitted to) h.world.accepted
 
 -- dones whose spans follow one another, from a position to another
 abbrev pub AreConsecutive : ℕ → List Done → ℕ → Type 0
@@ -154,9 +168,9 @@ AreConsecutive from (d ∷ ds) to = (d.span_from ≡ from) × AreConsecutive d.s
 
 -- in one charge the spans follow one another, from the first reading on
 abbrev pub SpansFollow : {St : Type 0} → Model St → Program → Type 0
-SpansFollow {St} m c = ModelLaws m → ProgramLaws m c → (readings : List ℕ) (s0 : St) (x : World) (s : MachineBoard) → Begins m readings (Resting s0) x s
-    → m.Undecided s0 x
-    → (e : Charge) (t : MachineBoard) (h : History) → RunsTo m c x s (e ∷ []) t h → AreConsecutive 0 h.completed h.since
+SpansFollow {St} m c = ModelLaws m → ProgramLaws m c → (readings : List ℕ) (s : St) (t : MachineBoard) (h : History)
+    → (run : HasRun m c readings (Resting s) t h) → m.Undecided s run.world → (e : Charge) → run.charges ≡ e ∷ []
+    → AreConsecutive 0 h.completed h.since
 
 -- dones of which all but the first follow one another, from the first reading on up to a position
 abbrev pub FollowFirst : List Done → ℕ → Type 0
@@ -165,24 +179,22 @@ FollowFirst (d ∷ ds) to = AreConsecutive 0 ds to
 
 -- in one charge that begins with a pending commit the spans behind its done follow one another, from the first reading on
 abbrev pub PendingSpansFollow : {St : Type 0} → Model St → Program → Type 0
-PendingSpansFollow {St} m c = ModelLaws m → ProgramLaws m c → (readings : List ℕ) (to : St) (x : World) (s : MachineBoard)
-    → Begins m readings (Pending to) x s
-    → (e : Charge) (t : MachineBoard) (h : History) → RunsTo m c x s (e ∷ []) t h → FollowFirst h.completed h.since
+PendingSpansFollow {St} m c = ModelLaws m → ProgramLaws m c → (readings : List ℕ) (to : St) (t : MachineBoard) (h : History)
+    → (run : HasRun m c readings (Pending to) t h) → (e : Charge) → run.charges ≡ e ∷ [] → FollowFirst h.completed h.since
 
--- a charge of at least n bounds that is spent has at least n dones
+-- a charge of at least n bounds, and of the cycles that its inputs may delay commits, that is spent has at least n dones
 abbrev pub ProgressLaw : {St : Type 0} → Model St → Program → Type 0
-ProgressLaw {St} m c = ModelLaws m → ProgramLaws m c → (readings : List ℕ) (origin : Origin St) (x : World) (s : MachineBoard) → Begins m readings origin x s
-    → (charges : List Charge) (t : MachineBoard) (h : History) → RunsTo m c x s charges t h
-    → (p q : MachineBoard) → c.IsPoweredUp p → p.fram ≡ t.fram → p.readings_left ≡ t.readings_left
-    → (n amount steps : ℕ) → n * bound m ≤ amount → Spends c.step amount steps p q
-    → n + length h.completed ≤ length (observe m.gate (going c.step steps p).effects (behind_boot h)).completed
+ProgressLaw {St} m c = ModelLaws m → ProgramLaws m c → (readings : List ℕ) (origin : Origin St) (p : MachineBoard)
+    → (up : PowersUpBehind m c readings origin p) → (n amount : ℕ) → n * bound m + m.delay p.inputs ≤ amount → (spent : IsSpentFrom c.step amount p)
+    → n + length up.history.completed ≤ length (observe m.marks (going c.step spent.steps p).effects (behind_boot up.history)).completed
 
--- where each attempt and each commit stores only so, a run does
+-- each recovery, each attempt and each commit stores only so
+pub record ScriptsStore {St : Type 0} (m : Model St) (P : ℕ → ℕ → Type 0) : Type 0 where
+  pub recoveries : (s : St) (x : World) → m.Undecided s x → EachStore P (m.recover x.fram)
+  pub attempts : (s : St) (x : World) (inputs : Inputs) → InputsAreWords inputs → m.Settled s x → EachStore P (m.attempt x.fram inputs).effects
+  pub commits : (to : St) (x : World) (inputs : Inputs) → m.Committing to x → EachStore P (m.commit x.fram inputs)
+
+-- then a run does
 abbrev pub StoresOnly : {St : Type 0} → Model St → Program → (ℕ → ℕ → Type 0) → Type 0
-StoresOnly {St} m c P = ModelLaws m → ProgramLaws m c
-    → ((s : St) (x : World) (readings : List ℕ) → All IsWord readings → m.Undecided s x → EachStore P (m.attempt x.fram readings).effects)
-    → ((to : St) (x : World) → m.Committing to x → EachStore P (m.commit x.fram))
-    → (readings : List ℕ) (origin : Origin St) (x : World) (s : MachineBoard) → Begins m readings origin x s
-    → (charges : List Charge) (t : MachineBoard) (h : History) → RunsTo m c x s charges t h
-    → (p : MachineBoard) → c.IsPoweredUp p → p.fram ≡ t.fram → p.readings_left ≡ t.readings_left
-    → (n : ℕ) → EachStore P (going c.step n p).effects
+StoresOnly {St} m c P = ModelLaws m → ProgramLaws m c → ScriptsStore m P → (readings : List ℕ) (origin : Origin St) (p : MachineBoard)
+    → PowersUpBehind m c readings origin p → (n : ℕ) → EachStore P (going c.step n p).effects

@@ -60,7 +60,7 @@ pub fn one_charge_takes_readings_behind_a_commit<S: Compiled>()
     ensures { PendingSpansFollow S.model S.program }
 {}
 
-/// A charge of at least n bounds that is spent has at least n dones.
+/// A charge of at least n bounds, and of the cycles that its inputs may delay commits by, that is spent has at least n dones.
 pub fn n_bounds_have_n_dones<S: Compiled>()
     ensures { ProgressLaw S.model S.program }
 {}

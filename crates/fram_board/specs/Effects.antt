@@ -8,11 +8,15 @@ use Rattle.fram_board.specs.declared.receiver.Receiver.{Receiver}
 use Rattle.fram_board.specs.Bus.{is_fram}
 use Rattle.fram_board.specs.Board.{BoardValue, BoardOutcome, offered_to}
 
--- a store to FRAM, a reading taken, a word offered
+-- what a step does to something outside the board
+pub data OutsideEffect : Type 0 where
+  Offered : (number word : ℕ) → OutsideEffect  -- a word is offered to the receiver
+
+-- a store to FRAM, a reading taken, an effect outside the board
 pub data Effect : Type 0 where
   Store : (address word : ℕ) → Effect  -- a word of FRAM, at its even address
   Take : (reading : ℕ) → Effect
-  Send : (number word : ℕ) → Effect  -- a word is offered to the receiver
+  Outside : (effect : OutsideEffect) → Effect
 
 -- the readings taken
 abbrev pub takes_of : BoardValue → BoardOutcome → List Effect
@@ -31,7 +35,7 @@ stores_of (Err stop) after = []
 -- the word offered
 abbrev pub sends_of : ℕ → Option ℕ → List Effect
 sends_of number None = []
-sends_of number (Some w) = Send number w ∷ []
+sends_of number (Some w) = Outside (Offered number w) ∷ []
 
 -- the effects of a step, in order: its takes come before its store or its send
 abbrev pub effects_of : BoardValue → BoardOutcome → List Effect
@@ -42,14 +46,18 @@ abbrev pub stored : List Effect → List ℕ → List ℕ
 stored [] fram = fram
 stored (Store a w ∷ es) fram = stored es (slice_set fram (place_of a) w)
 stored (Take w ∷ es) fram = stored es fram
-stored (Send n w ∷ es) fram = stored es fram
+stored (Outside o ∷ es) fram = stored es fram
+
+-- the receiver after an effect outside the board
+abbrev pub receiver_behind : OutsideEffect → Receiver → Receiver
+receiver_behind (Offered n w) r = offered_to n r
 
 -- the receiver after the sends among them
 abbrev pub heard : List Effect → Receiver → Receiver
 heard [] r = r
 heard (Store a w ∷ es) r = heard es r
 heard (Take w ∷ es) r = heard es r
-heard (Send n w ∷ es) r = heard es (offered_to n r)
+heard (Outside o ∷ es) r = heard es (receiver_behind o r)
 
 -- the step changes FRAM by its stores, the receiver by its sends, and takes at most two readings
 pub record MakesItsEffects (b : BoardValue) (x : BoardOutcome) : Type 0 where

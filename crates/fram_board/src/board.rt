@@ -1,6 +1,7 @@
 //! The board.
 
 ghost use Rattle.std.specs.Prelude.{◌≡◌, ℕ, ◌+◌, ◌-◌, ◌^◌, ◌<◌, ◌≤◌, length, None, IfOk, IfErr, OnErr};
+ghost use Rattle.state_text.specs.address_space.Limits.{fram_words};
 ghost use Rattle.state_text.specs.image_text.ImageValue.{word_at};
 ghost use Rattle.fram_board.specs.Board.{accepted_word, receiver_after, started, fresh, next_number, powered, filled, executed, IsNextInstruction, IsStoppedBy};
 ghost use Rattle.fram_board.specs.Saved.{saved};
@@ -65,9 +66,8 @@ fn receive(devices: &mut Devices, receiver: &mut Receiver) -> Option<u16>
     ensures devices { devices.new ≡ record devices.old { offered = None } }
     ensures receiver { receiver.new ≡ receiver_after devices.old.outnum devices.old.offered receiver.old }
 {
-    let number = devices.number();
     match devices.take_offered() {
-        Some(word) => receiver.offer(number, word),
+        Some(word) => receiver.offer(devices.number(), word),
         None => None,
     }
 }
@@ -162,16 +162,20 @@ impl Board {
         let answer = execute(&mut self.cpu, &mut self.devices, instruction);
         // Tells the proof that the register file is whole.
         let _pc = self.cpu.reg(Reg::Pc);
+        let done = match answer {
+            Ok(done) => done,
+            Err(stop) => {
+                receive(&mut self.devices, &mut self.receiver);
+                return Err(stop);
+            }
+        };
         let accepted = receive(&mut self.devices, &mut self.receiver);
-        match answer {
-            Ok(done) => Ok(Stepped {
-                cycles: done.cycles,
-                wrote: done.wrote,
-                took: self.devices.taken() - before,
-                accepted,
-            }),
-            Err(stop) => Err(stop),
-        }
+        Ok(Stepped {
+            cycles: done.cycles,
+            wrote: done.wrote,
+            took: self.devices.taken() - before,
+            accepted,
+        })
     }
 
     /// One step: the instruction at PC is executed. Stops with the causes of `current_instruction` and of `execute`:
@@ -198,6 +202,14 @@ impl Board {
         ensures { result ≡ word_at self.now.fram address }
     {
         self.devices.fram_word(address)
+    }
+
+    /// All words of the FRAM, the first at 0x4400.
+    pub fn fram(&self) -> &[u16]
+        ensures value { result.now ≡ self.now.fram }
+        ensures len { length result.now ≡ fram_words }
+    {
+        self.devices.fram()
     }
 
     /// How many words the receiver accepted.

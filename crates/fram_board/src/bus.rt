@@ -245,7 +245,13 @@ impl Devices {
         ensures word { result ≡ self.old.offered }
         ensures cleared { self.new ≡ record self.old { offered = None } }
     {
-        self.offered.take()
+        match self.offered {
+            Some(word) => {
+                self.offered = None;
+                Some(word)
+            }
+            None => None,
+        }
     }
 
     fn take_reading(&mut self) -> Result<u16, Refused>

@@ -1,28 +1,28 @@
 -- The fresh board of a source's image begins with the source.
 use Rattle.std.proofs.Common.{◌<◌, ◌≤◌, ℕ, length, refl, sym, subst, List, All}
-use Rattle.image_laws.specs.cost_bound.declared.allowance.Allow.{Allow}
-use Rattle.image_laws.specs.energy_trace.TraceValue.{TraceValue}
-use Rattle.image_laws.specs.image_text.ImageValue.{ImageValue}
-use Rattle.image_laws.specs.fram_board.Board.{BoardValue, fresh}
-use Rattle.image_laws.specs.fram_board.Run.{BoardCharge, RunOutcome, Run}
-use Rattle.image_laws.specs.board_run.Charges.{charges_of}
-use Rattle.image_laws.specs.machine_effects.World.{World}
-use Rattle.image_laws.specs.machine_effects.View.{machine_of}
-use Rattle.image_laws.proofs.machine_effects.Interface.{fresh_is_whole}
-use Rattle.image_laws.specs.source_values.Runs.{CheckedProgram, first_state}
-use Rattle.image_laws.specs.crash_rules.Laws.{Resting, Begins}
-use Rattle.image_laws.proofs.crash_rules.Interface.{runs_may_begin}
-use Rattle.image_laws.specs.run_charges.Charges.{ArePowerStates, IsPlacedProgram}
-use Rattle.image_laws.specs.run_charges.Laws.{IsRunOfWords}
-use Rattle.image_laws.specs.memory_map.MemoryMap.{MemoryMap}
-use Rattle.image_laws.specs.compiled_model.Parts.{compiled_model}
-use Rattle.image_laws.specs.compiled_runs.Program.{source_code, compiled_program}
-use Rattle.image_laws.proofs.compiled_runs.Interface.{code_keeps_the_laws, code_is_placed, runs_leave_the_code}
-use Rattle.image_laws.specs.model_runs.Runs.{BearsModel}
-use Rattle.image_laws.specs.source_runs.Traces.{IsTraceOfWords}
-use Rattle.image_laws.specs.source_runs.Sources.{BeginsWithSource}
-use Rattle.image_laws.proofs.source_runs.Interface.{traces_are_few}
-use Rattle.image_laws.specs.source_maps.Maps.{map_of}
+use Rattle.cost_bound.specs.declared.allowance.Allow.{Allow}
+use Rattle.energy_trace.specs.TraceValue.{TraceValue}
+use Rattle.image_text.specs.ImageValue.{ImageValue}
+use Rattle.fram_board.specs.Board.{BoardValue, fresh}
+use Rattle.fram_board.specs.Run.{BoardCharge, RunOutcome, Run}
+use Rattle.board_run.specs.Charges.{charges_of}
+use Rattle.machine_effects.specs.World.{World}
+use Rattle.machine_effects.proofs.Interface.{fresh_is_whole}
+use Rattle.source_values.specs.Runs.{CheckedProgram, first_state}
+use Rattle.crash_rules.specs.Laws.{Resting, Begins}
+use Rattle.crash_rules.proofs.Interface.{runs_may_begin}
+use Rattle.run_charges.specs.View.{outside_of}
+use Rattle.run_charges.specs.Charges.{ArePowerStates, IsPlacedProgram}
+use Rattle.run_charges.specs.Laws.{IsRunOfWords}
+use Rattle.memory_map.specs.MemoryMap.{MemoryMap}
+use Rattle.compiled_model.specs.Parts.{compiled_model}
+use Rattle.compiled_runs.specs.Program.{source_code, compiled_program}
+use Rattle.compiled_runs.proofs.Interface.{code_keeps_the_laws, code_is_placed, runs_leave_the_code}
+use Rattle.model_runs.specs.Runs.{BearsModel}
+use Rattle.source_runs.specs.Traces.{IsTraceOfWords}
+use Rattle.source_runs.specs.Sources.{BeginsWithSource}
+use Rattle.source_runs.proofs.Interface.{traces_are_few}
+use Rattle.source_maps.specs.Maps.{map_of}
 use Rattle.image_laws.specs.Compiled.{IsCompiled}
 use Rattle.image_laws.specs.Laws.{fresh_world, IsFreshImage}
 use Rattle.compiled_laws.specs.Ready.{IsReadyToRun}
@@ -38,13 +38,13 @@ module _ (text : List ℕ) (p : CheckedProgram) (allow : Allow) (image : ImageVa
   abbrev b : BoardValue
   b = fresh image.words readings
 
-  abbrev pub begins : Begins (compiled_model p l) readings (Resting (first_state p)) x (machine_of b)
+  abbrev pub begins : Begins (compiled_model p l) readings (Resting (first_state p)) x (outside_of b)
   begins = record {
     fram = refl;
     readings_left = refl;
     words = words;
     stands = (runs_may_begin (compiled_model p l) ready.model readings).resting (first_state p) x
-        (ready.model.rests_undecided (first_state p) x new.rests);
+        (ready.model.settled_undecided (first_state p) x (ready.model.rests_settled (first_state p) x new.rests));
   }
 
   abbrev pub bears : BearsModel (compiled_model p l) (compiled_program p l) readings (Resting (first_state p)) x b
@@ -59,7 +59,7 @@ module _ (text : List ℕ) (p : CheckedProgram) (allow : Allow) (image : ImageVa
           instructions = source_code p l;
           placed = subst P (sym new.vector) (code_is_placed p l new.fits);
           holds = new.code;
-          leaves = runs_leave_the_code p l ready.code ready.model ready.stores readings (Resting (first_state p)) x (machine_of b) begins;
+          leaves = runs_leave_the_code p l ready.code ready.model ready.stores readings (Resting (first_state p)) x (outside_of b) begins;
         };
       }
 
@@ -67,7 +67,7 @@ module _ (text : List ℕ) (p : CheckedProgram) (allow : Allow) (image : ImageVa
   begins_with_source = record {
     bears = bears;
     starts = record { fram = refl; accepted = refl; taken = refl };
-    undecided = ready.model.rests_undecided (first_state p) x new.rests;
+    undecided = ready.model.settled_undecided (first_state p) x (ready.model.rests_settled (first_state p) x new.rests);
     words = new.has_words;
   }
 

@@ -1,29 +1,30 @@
 -- A run of an image keeps to the capacities of the runtime's buffers.
 use Rattle.std.proofs.Common.{◌≡◌, ◌<◌, ◌≤◌, ℕ, arith, List, ◌++◌, All}
-use Rattle.image_laws.specs.cost_bound.declared.allowance.Allow.{Allow}
-use Rattle.image_laws.specs.image_text.ImageValue.{ImageValue}
-use Rattle.image_laws.specs.fram_board.Board.{fresh}
-use Rattle.image_laws.specs.fram_board.Run.{BoardCharge, Moment, RunOutcome}
-use Rattle.image_laws.specs.board_run.Charges.{charges_of}
-use Rattle.image_laws.specs.machine_effects.Machine.{IsFram, fram_of}
-use Rattle.image_laws.specs.machine_effects.Runs.{last_board}
-use Rattle.image_laws.specs.source_values.Runs.{CheckedProgram, first_state}
-use Rattle.image_laws.specs.source_values.Running.{IsRunnable}
-use Rattle.image_laws.specs.source_meaning.Acceptance.{IsAcceptedText}
-use Rattle.image_laws.proofs.source_meaning.Interface.{accepted_texts_run}
-use Rattle.image_laws.specs.crash_rules.Laws.{Resting}
-use Rattle.image_laws.specs.run_charges.Laws.{IsRunOfWords}
-use Rattle.image_laws.specs.memory_map.declared.words.RuntimeWord.TheVariants.{Gate, ListLength, EmitCount}
-use Rattle.image_laws.specs.memory_map.MemoryMap.{MemoryMap, word_place}
-use Rattle.image_laws.proofs.memory_map.Interface.{apart_of}
-use Rattle.image_laws.proofs.runtime_code.Interface.{places_are_in_fram}
-use Rattle.image_laws.proofs.stands_for.Interface.{each_weaker}
-use Rattle.compiled_laws.specs.task_attempts.Laws.{IsBelowCode}
-use Rattle.compiled_laws.proofs.task_attempts.Interface.{stores_below_code}
-use Rattle.compiled_laws.specs.compiled_bounds.Laws.{KeepsCapacities, CountsFit, AttemptsFit}
-use Rattle.compiled_laws.proofs.compiled_bounds.Interface.{capacities_are_kept}
-use Rattle.image_laws.specs.compiled_runs.Program.{compiled_program}
-use Rattle.image_laws.specs.whole_programs.Laws.{IsLaidOutText}
+use Rattle.cost_bound.specs.declared.allowance.Allow.{Allow}
+use Rattle.image_text.specs.ImageValue.{ImageValue}
+use Rattle.fram_board.specs.Board.{fresh}
+use Rattle.fram_board.specs.Run.{BoardCharge, Moment, RunOutcome}
+use Rattle.board_run.specs.Charges.{charges_of}
+use Rattle.machine_effects.specs.Machine.{IsFram, fram_of}
+use Rattle.machine_effects.specs.Runs.{last_board}
+use Rattle.source_values.specs.Runs.{CheckedProgram, first_state}
+use Rattle.source_values.specs.Running.{IsRunnable}
+use Rattle.source_meaning.specs.Acceptance.{IsAcceptedText}
+use Rattle.source_meaning.proofs.Interface.{accepted_texts_run}
+use Rattle.crash_rules.specs.Laws.{Resting}
+use Rattle.run_charges.specs.View.{outside_of}
+use Rattle.run_charges.specs.Laws.{IsRunOfWords}
+use Rattle.memory_map.specs.declared.words.RuntimeWord.TheVariants.{Gate, ListLength, EmitCount}
+use Rattle.memory_map.specs.MemoryMap.{MemoryMap, word_place}
+use Rattle.memory_map.proofs.Interface.{apart_of}
+use Rattle.runtime_code.proofs.Interface.{places_are_in_fram}
+use Rattle.stands_for.proofs.Interface.{each_weaker}
+use Rattle.task_attempts.specs.Laws.{IsBelowCode}
+use Rattle.task_attempts.proofs.Interface.{stores_below_code}
+use Rattle.compiled_bounds.specs.Laws.{KeepsCapacities, CountsFit, AttemptsFit}
+use Rattle.compiled_bounds.proofs.Interface.{capacities_are_kept}
+use Rattle.compiled_runs.specs.Program.{compiled_program}
+use Rattle.whole_programs.specs.Laws.{IsLaidOutText}
 use Rattle.image_laws.specs.Compiled.{IsCompiled}
 use Rattle.image_laws.specs.Laws.{fresh_world}
 use Rattle.image_laws.proofs.Interface.{laid_out, images_are_fresh, zero_at, version}
@@ -67,7 +68,7 @@ module _ (text : List ℕ) (p : CheckedProgram) (allow : Allow) (image : ImageVa
   -- at each board of a run under any charges
   pub capacities_stay : (cs : List BoardCharge) (readings : List ℕ) → All (λ w. w < 0x10000) readings → (r : RunOutcome)
       → IsRunOfWords cs (fresh image.words readings) r → (ms rest : List Moment) → r.moments ≡ ms ++ rest
-      → KeepsCapacities l (fram_of (last_board (fresh image.words readings) ms).fram)
+      → KeepsCapacities l (outside_of (last_board (fresh image.words readings) ms)).fram
   capacities_stay cs readings words r run ms rest e =
       let ready = sources_are_ready text p allow c.plans l laid in
       let new = images_are_fresh text p allow image ok c in

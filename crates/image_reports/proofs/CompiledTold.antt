@@ -1,9 +1,9 @@
 -- A run of a compiled source is told by the source.
-use Rattle.std.proofs.Common.{◌∙◌, sym, ap}
-use Rattle.image_laws.specs.crash_rules.Runs.{Program}
-use Rattle.image_laws.specs.compiled_model.Parts.{compiled_model}
-use Rattle.compiled_laws.proofs.compiled_bounds.Interface.{bound_is_the_sources}
-use Rattle.image_laws.proofs.source_runs.Interface.{runs_are_told}
+use Rattle.std.proofs.Common.{◌∙◌, refl, sym, ap}
+use Rattle.crash_rules.specs.Runs.{Program}
+use Rattle.compiled_model.specs.Parts.{compiled_model}
+use Rattle.compiled_bounds.proofs.Interface.{bound_is_the_sources}
+use Rattle.source_runs.proofs.Interface.{runs_are_told}
 use Rattle.image_reports.specs.CompiledLaws.{ModelsAreOfSources, CompiledRunsAreTold}
 use Rattle.image_reports.proofs.Tasks.{transits, is_short}
 
@@ -12,10 +12,11 @@ models_are_of_sources text p l m is = record {
   is_map = is.is_map;
   of_source = is.of_source;
   emits_fit = is.runnable.emits_fit;
-  gate = ap (λ w. w.gate) (sym is.words);
+  marks = ap (λ w. record { gate = w.gate }) (sym is.words);
   bound = bound_is_the_sources p l ∙ sym is.bound;
-  transits = λ s u readings e. transits p s u readings e;
-  is_short = λ s readings below e. is_short p is.runnable s readings below e;
+  delay = refl;
+  transits = λ s u inputs e. transits p s u inputs e;
+  is_short = λ s inputs below e. is_short p is.runnable s inputs below e;
   rests = is.rests;
 }
 

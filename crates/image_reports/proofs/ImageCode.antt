@@ -2,23 +2,24 @@
 use Rattle.std.proofs.Common.{◌≡◌, ℕ, zero, suc, ◌+◌, ◌*◌, ◌%◌, ◌<◌, ◌≤◌, ◌==◌, Bool, true, false, cond, refl, sym, ap, ◌∙◌, subst, arith, eqb-true, List, []}
 use Rattle.std.proofs.Common.{◌∷◌, length, length-append, Option, Some, None, slice_index}
 use Rattle.std.proofs.lemmas.Bool.Decides.{nat_tests}
-use Rattle.image_laws.specs.msp_isa.declared.instructions.Instr.{Instr}
-use Rattle.image_laws.specs.msp_isa.Encoding.{encoding, IsInstruction}
-use Rattle.image_laws.specs.msp_step.declared.machine.Stop.{Stop}
-use Rattle.image_laws.specs.msp_step.declared.machine.Stop.TheVariants as stop
-use Rattle.image_laws.specs.msp_step.Effect.{word_sum}
-use Rattle.image_laws.specs.msp_step.Step.{off_bit, FetchedAt}
-use Rattle.image_laws.specs.image_text.ImageValue.{place_of}
-use Rattle.image_laws.specs.fram_board.Bus.{board_bus, memory_word, ram_place}
-use Rattle.image_laws.specs.fram_board.Board.{BoardValue, powered, opened}
-use Rattle.image_laws.specs.fram_board.Effects.{Effect}
-use Rattle.image_laws.specs.machine_effects.Going.{StepOutcome, Goes, Stops, At, Halted, going, continued}
-use Rattle.image_laws.specs.machine_effects.Machine.{MachineBoard, Code, standing, exec, fram_of}
-use Rattle.image_laws.proofs.machine_effects.Interface.{is_fram_address}
-use Rattle.image_laws.specs.code_forms.Placed.{placed, words_of, Holds, AreInstructions}
-use Rattle.image_laws.proofs.code_forms.Interface.{holds_front, holds_back, fram_no_ram, fram_word}
-use Rattle.image_laws.specs.crash_rules.History.{History, observe, behind_boot}
-use Rattle.image_laws.specs.crash_rules.Runs.{Program, Charge, Charged}
+use Rattle.msp_isa.specs.declared.instructions.Instr.{Instr}
+use Rattle.msp_isa.specs.Encoding.{encoding, IsInstruction}
+use Rattle.msp_step.specs.declared.machine.Stop.{Stop}
+use Rattle.msp_step.specs.declared.machine.Stop.TheVariants as stop
+use Rattle.msp_step.specs.Effect.{word_sum}
+use Rattle.msp_step.specs.Step.{off_bit, FetchedAt}
+use Rattle.image_text.specs.ImageValue.{place_of}
+use Rattle.fram_board.specs.Bus.{board_bus, memory_word, ram_place}
+use Rattle.fram_board.specs.Board.{BoardValue, powered, opened}
+use Rattle.fram_board.specs.Effects.{Effect}
+use Rattle.machine_effects.specs.Going.{StepOutcome, Goes, Stops, At, Halted, going, continued}
+use Rattle.machine_effects.specs.Machine.{MachineBoard, Code, standing, exec, fram_of}
+use Rattle.machine_effects.proofs.Interface.{is_fram_address}
+use Rattle.code_forms.specs.Placed.{placed, words_of, Holds, AreInstructions}
+use Rattle.code_forms.proofs.Interface.{holds_front, holds_back, fram_no_ram, fram_word}
+use Rattle.crash_rules.specs.Model.{Marks}
+use Rattle.crash_rules.specs.History.{History, observe, behind_boot}
+use Rattle.crash_rules.specs.Runs.{Program, Charge, Charged}
 
 -- a machine that goes on, but where a reading is wanted that isn't left
 abbrev pub GoesOn : Program → MachineBoard → Type 0
@@ -37,18 +38,18 @@ stops_next {S} {X} step (suc n) s t es price e h k =
     ]) h
 
 -- wherever charges lead, a further one stops for want of a reading alone
-abbrev pub StopsAtReadings : Program → ℕ → MachineBoard → History → Type 0
-StopsAtReadings c gate s h = (es : List Charge) (t : MachineBoard) (k : History) → Charged c gate s h es t k → (p : MachineBoard) → c.IsPoweredUp p
-    → p.fram ≡ t.fram → p.readings_left ≡ t.readings_left → (n price : ℕ) (e : Stop) → (going c.step n p).status ≡ Halted price e → e ≡ stop.NoReading
+abbrev pub StopsAtReadings : Program → Marks → MachineBoard → History → Type 0
+StopsAtReadings c marks s h = (es : List Charge) (t : MachineBoard) (k : History) → Charged c marks s h es t k → (p : MachineBoard) → c.IsPoweredUp p
+    → p.fram ≡ t.fram → p.inputs.readings ≡ t.inputs.readings → (n price : ℕ) (e : Stop) → (going c.step n p).status ≡ Halted price e → e ≡ stop.NoReading
 
 -- so the machine goes on where charges lead
-pub goes_on : (c : Program) (gate : ℕ) (es : List Charge) (s t : MachineBoard) (h k : History) → StopsAtReadings c gate s h → GoesOn c s
-    → Charged c gate s h es t k → GoesOn c t
-goes_on c gate [] s t h k stops here run = let P : MachineBoard → Type 0 = λ u. GoesOn c u in subst P (sym run.0) here
-goes_on c gate (e ∷ es) s t h k stops here run =
+pub goes_on : (c : Program) (marks : Marks) (es : List Charge) (s t : MachineBoard) (h k : History) → StopsAtReadings c marks s h → GoesOn c s
+    → Charged c marks s h es t k → GoesOn c t
+goes_on c marks [] s t h k stops here run = let P : MachineBoard → Type 0 = λ u. GoesOn c u in subst P (sym run.0) here
+goes_on c marks (e ∷ es) s t h k stops here run =
     let q = run.3.0 in
     let made = (going c.step e.steps e.powered).effects in
-    goes_on c gate es q t (observe gate made (behind_boot h)) k
+    goes_on c marks es q t (observe marks made (behind_boot h)) k
     (λ fs u z more. stops (e ∷ fs) u z (run.0, run.1, run.2, (q, run.3.1, more)))
     (λ fs price x k2. stops [] s h (refl, refl) e.powered run.0 run.1 run.2 (suc e.steps) price x
     (stops_next c.step e.steps e.powered q fs price x run.3.1 k2))

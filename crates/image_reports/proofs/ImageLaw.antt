@@ -1,31 +1,31 @@
 -- Each run of an image of an accepted text keeps the laws.
 use Rattle.std.proofs.Common.{◌≡◌, ◌<◌, ◌≤◌, ℕ, refl, subst, arith, List, [], ◌++◌, length, All}
-use Rattle.image_laws.specs.image_text.ImageValue.{ImageValue}
-use Rattle.image_laws.specs.fram_board.Board.{fresh}
-use Rattle.image_laws.specs.fram_board.Run.{BoardCharge, Moment, RunOutcome, Run}
-use Rattle.image_laws.specs.machine_effects.World.{World}
-use Rattle.image_laws.specs.machine_effects.Runs.{last_board}
-use Rattle.image_laws.specs.cost_bound.declared.allowance.Allow.{Allow}
-use Rattle.image_laws.specs.source_values.Runs.{CheckedProgram, State, first_state}
-use Rattle.image_laws.specs.source_meaning.Acceptance.{IsAcceptedText}
-use Rattle.image_laws.specs.memory_map.declared.words.RuntimeWord.TheVariants.{Gate}
-use Rattle.image_laws.specs.memory_map.MemoryMap.{MemoryMap, word_place}
-use Rattle.image_laws.specs.crash_rules.History.{first_history}
-use Rattle.image_laws.specs.crash_rules.Laws.{Origin, Resting, StandsFor}
-use Rattle.image_laws.proofs.crash_rules.Interface.{runs_may_begin}
-use Rattle.image_laws.specs.run_charges.Charges.{ArePowerStates}
-use Rattle.image_laws.specs.run_charges.Laws.{IsRunOfWords}
-use Rattle.image_laws.proofs.model_runs.Interface.{stops_where_short}
-use Rattle.image_laws.specs.stands_for.StandsFor.{SoundAtRest}
-use Rattle.image_laws.specs.compiled_model.Parts.{compiled_model}
-use Rattle.compiled_laws.specs.compiled_bounds.Laws.{KeepsCapacities}
-use Rattle.image_laws.specs.compiled_runs.Program.{compiled_program}
+use Rattle.image_text.specs.ImageValue.{ImageValue}
+use Rattle.fram_board.specs.Board.{fresh}
+use Rattle.fram_board.specs.Run.{BoardCharge, Moment, RunOutcome, Run}
+use Rattle.machine_effects.specs.World.{World}
+use Rattle.machine_effects.specs.Runs.{last_board}
+use Rattle.cost_bound.specs.declared.allowance.Allow.{Allow}
+use Rattle.source_values.specs.Runs.{CheckedProgram, State, first_state}
+use Rattle.source_meaning.specs.Acceptance.{IsAcceptedText}
+use Rattle.memory_map.specs.declared.words.RuntimeWord.TheVariants.{Gate}
+use Rattle.memory_map.specs.MemoryMap.{MemoryMap, word_place}
+use Rattle.crash_rules.specs.History.{first_history}
+use Rattle.crash_rules.specs.Laws.{Origin, Resting, StandsFor}
+use Rattle.crash_rules.proofs.Interface.{runs_may_begin}
+use Rattle.run_charges.specs.Charges.{ArePowerStates}
+use Rattle.run_charges.specs.Laws.{IsRunOfWords}
+use Rattle.model_runs.proofs.Interface.{stops_where_short}
+use Rattle.stands_for.specs.StandsFor.{SoundAtRest}
+use Rattle.compiled_model.specs.Parts.{compiled_model}
+use Rattle.compiled_bounds.specs.Laws.{KeepsCapacities}
+use Rattle.compiled_runs.specs.Program.{compiled_program}
 use Rattle.compiled_laws.specs.Ready.{IsReadyToRun}
 use Rattle.compiled_laws.proofs.Interface.{sources_are_ready}
 use Rattle.image_laws.specs.Compiled.{IsCompiled}
 use Rattle.image_laws.specs.Laws.{fresh_world, IsFreshImage}
 use Rattle.image_laws.proofs.Interface.{laid_out, images_are_fresh}
-use Rattle.image_reports.specs.ImageLaw.{known_behind, KeepsCode, HoldsAt, ImagesKeepTheLaws}
+use Rattle.image_reports.specs.ImageLaw.{runtime_marks, known_behind, KeepsCode, HoldsAt, ImagesKeepTheLaws}
 use Rattle.image_reports.specs.Resumed.{BelongsTo, HoldsFrom, ImagesBelong}
 use Rattle.image_reports.proofs.Begins.{run_of_states}
 use Rattle.image_reports.proofs.Capacities.{at_first}
@@ -67,8 +67,10 @@ module _ (text : List ℕ) (p : CheckedProgram) (allow : Allow) (image : ImageVa
   belongs : BelongsTo p l image x
   belongs = images_belong text p allow image ok c
 
-  begun : StandsFor (compiled_model p l) readings origin (first_history (word_place l Gate) x)
-  begun = (runs_may_begin (compiled_model p l) ready.model readings).resting (first_state p) x (ready.model.rests_undecided (first_state p) x new.rests)
+  begun : StandsFor (compiled_model p l) readings origin (first_history (runtime_marks l) x)
+  begun =
+      let undecided = ready.model.settled_undecided (first_state p) x (ready.model.rests_settled (first_state p) x new.rests) in
+      (runs_may_begin (compiled_model p l) ready.model readings).resting (first_state p) x undecided
 
   held : (ms rest : List Moment) → r.moments ≡ ms ++ rest
       → HoldsAt p l image readings (last_board (fresh image.words readings) ms) ms (known_behind l image ms)

@@ -2,57 +2,59 @@
 use Rattle.std.proofs.Common.{◌≡◌, ◌≢◌, ℕ, zero, ◌+◌, ◌*◌, ◌%◌, ◌<◌, ◌≤◌, ◌==◌, Bool, true, false, if◌then◌else◌, refl, sym, ap, ◌∙◌, subst, arith}
 use Rattle.std.proofs.Common.{List, [], ◌∷◌, ◌++◌, length, take, drop, All, append_assoc, length-take-le}
 use Rattle.std.proofs.lemmas.List.{take-append-drop}
-use Rattle.image_laws.specs.msp_isa.Encoding.{encoding}
-use Rattle.image_laws.specs.msp_step.Registers.{registers_of}
-use Rattle.image_laws.specs.image_text.ImageValue.{ImageValue}
-use Rattle.image_laws.specs.fram_board.Board.{BoardValue, PowerState, powered, started, filled}
-use Rattle.image_laws.specs.fram_board.Saved.{TakesNextBehind}
-use Rattle.image_laws.specs.fram_board.Steps.{IsPowerState}
-use Rattle.image_laws.specs.fram_board.Effects.{Effect}
-use Rattle.image_laws.specs.fram_board.Run.{BoardCharge, PowerUp, Moment, RunOutcome}
-use Rattle.image_laws.proofs.fram_board.Interface.{fill_is_a_power_state}
-use Rattle.image_laws.specs.machine_effects.World.{World, fram_after, IsPrefix}
-use Rattle.image_laws.specs.machine_effects.Going.{going, continued}
-use Rattle.image_laws.specs.machine_effects.Machine.{fram_of}
-use Rattle.image_laws.specs.machine_effects.View.{machine_of}
-use Rattle.image_laws.specs.machine_effects.Runs.{last_board}
-use Rattle.image_laws.specs.code_forms.Placed.{words_of, Holds}
-use Rattle.image_laws.specs.cost_bound.declared.allowance.Allow.{Allow}
-use Rattle.image_laws.specs.source_values.Runs.{CheckedProgram, State}
-use Rattle.image_laws.specs.source_meaning.Acceptance.{IsAcceptedText}
-use Rattle.image_laws.specs.source_maps.Maps.{map_of}
-use Rattle.image_laws.proofs.source_runs.Interface.{read_off}
-use Rattle.image_laws.specs.memory_map.declared.words.RuntimeWord.TheVariants.{Gate, Version}
-use Rattle.image_laws.specs.memory_map.MemoryMap.{MemoryMap, word_place}
-use Rattle.image_laws.specs.runtime_effects.Stages.{commit_effects}
-use Rattle.image_laws.specs.boot_runtime.Entries.{task_entries}
-use Rattle.image_laws.specs.boot_runtime.Listing.{privates_in}
-use Rattle.image_laws.specs.crash_rules.Model.{IsElsewhere, Model, ModelLaws, program_effects, with_commit, script}
-use Rattle.image_laws.specs.crash_rules.History.{History, first_history}
-use Rattle.image_laws.specs.crash_rules.Runs.{Program}
-use Rattle.image_laws.specs.crash_rules.Laws.{Origin, Phase, UndecidedPhase, DecidedPhase, CommittingPhase, StandsFor, Begins}
-use Rattle.image_laws.proofs.crash_rules.Interface.{world_fram, never_lost, sent_once, pending_sends, stops_short, stores_only}
-use Rattle.image_laws.specs.run_charges.Charges.{AreInstructionMoments, IsPlacedProgram}
-use Rattle.image_laws.specs.run_charges.Laws.{IsRunOfWords}
-use Rattle.image_laws.proofs.run_charges.Interface.{IsMomentFrom, PowersUp, Instructs, AreMoments, are_behind, front_moments, Counts, moments_count}
-use Rattle.image_laws.specs.model_runs.Runs.{BearsModel, Progresses}
-use Rattle.image_laws.specs.model_runs.EventLaws.{StartsWith}
-use Rattle.image_laws.proofs.model_runs.Interface.{AtFront, at_front, is_powered, program_leads, starts_hold, fronts_are_lawful, makes_progress}
-use Rattle.image_laws.specs.stands_for.StandsFor.{HoldsWords, IsSound, SoundAtRest, SoundPending}
-use Rattle.image_laws.proofs.stands_for.Interface.{commit_stores_there, each_weaker}
-use Rattle.image_laws.specs.compiled_model.Places.{program_places}
-use Rattle.image_laws.specs.compiled_model.Parts.{compiled_model}
-use Rattle.compiled_laws.specs.compiled_bounds.Laws.{KeepsCapacities}
-use Rattle.compiled_laws.proofs.compiled_bounds.Interface.{bound_is_the_sources, capacities_are_kept}
-use Rattle.image_laws.specs.compiled_runs.Program.{source_code, placed_code, compiled_program}
-use Rattle.image_laws.proofs.compiled_runs.Interface.{code_keeps_the_laws, code_is_placed, power_ups_raise_version, runs_leave_the_code}
+use Rattle.msp_isa.specs.Encoding.{encoding}
+use Rattle.msp_step.specs.Registers.{registers_of}
+use Rattle.image_text.specs.ImageValue.{ImageValue}
+use Rattle.fram_board.specs.Board.{BoardValue, PowerState, powered, started, filled}
+use Rattle.fram_board.specs.Saved.{TakesNextBehind}
+use Rattle.fram_board.specs.Steps.{IsPowerState}
+use Rattle.fram_board.specs.Effects.{Effect}
+use Rattle.fram_board.specs.Run.{BoardCharge, PowerUp, Moment, RunOutcome}
+use Rattle.fram_board.proofs.Interface.{fill_is_a_power_state}
+use Rattle.machine_effects.specs.World.{World, fram_after, IsPrefix}
+use Rattle.machine_effects.specs.Going.{going, continued}
+use Rattle.machine_effects.specs.Machine.{MachineBoard, fram_of}
+use Rattle.machine_effects.specs.Runs.{last_board}
+use Rattle.code_forms.specs.Placed.{words_of, Holds}
+use Rattle.cost_bound.specs.declared.allowance.Allow.{Allow}
+use Rattle.source_values.specs.Runs.{CheckedProgram, State}
+use Rattle.source_meaning.specs.Acceptance.{IsAcceptedText}
+use Rattle.source_maps.specs.Maps.{map_of}
+use Rattle.source_runs.proofs.Interface.{read_off}
+use Rattle.memory_map.specs.declared.words.RuntimeWord.TheVariants.{Gate, Version}
+use Rattle.memory_map.specs.MemoryMap.{MemoryMap, word_place}
+use Rattle.runtime_effects.specs.Stages.{commit_effects}
+use Rattle.boot_runtime.specs.Entries.{task_entries}
+use Rattle.boot_runtime.specs.Listing.{privates_in}
+use Rattle.crash_rules.specs.Model.{IsElsewhere, Model, ModelLaws, Inputs, program_effects, with_commit, attempt_from, script}
+use Rattle.crash_rules.specs.History.{History, first_history, inputs_from}
+use Rattle.crash_rules.specs.Runs.{Program, Charge, Charged}
+use Rattle.crash_rules.specs.Laws.{Origin, Phase, UndecidedPhase, DecidedPhase, CommittingPhase, StandsFor, Begins, PowersUpBehind, ScriptsStore}
+use Rattle.machine_effects.proofs.Interface.{power_up_keeps_words}
+use Rattle.crash_rules.proofs.Interface.{world_fram, never_lost, sent_once, pending_sends, stops_short, stores_only}
+use Rattle.run_charges.specs.View.{outside_of, IsMomentFrom, PowersUp, Instructs, AreMoments}
+use Rattle.run_charges.specs.Charges.{AreInstructionMoments, IsPlacedProgram}
+use Rattle.run_charges.specs.Laws.{IsRunOfWords}
+use Rattle.run_charges.proofs.Interface.{follows_keeps, are_behind, front_moments, run_front, instructions_reach, PlacedProgram, is_powered, leads}
+use Rattle.run_charges.proofs.Interface.{reached_on, Counts, moments_count}
+use Rattle.model_runs.specs.Runs.{BearsModel, no_delay, Progresses}
+use Rattle.model_runs.specs.EventLaws.{StartsWith}
+use Rattle.model_runs.proofs.Interface.{stood, AtFront, at_front, powers_up, starts_hold, fronts_are_lawful, makes_progress}
+use Rattle.stands_for.specs.StandsFor.{HoldsWords, IsSound, SoundAtRest, SoundPending}
+use Rattle.stands_for.proofs.Interface.{commit_stores_there, each_weaker}
+use Rattle.compiled_model.specs.Places.{program_places}
+use Rattle.compiled_model.specs.Parts.{compiled_model}
+use Rattle.compiled_bounds.specs.Laws.{KeepsCapacities}
+use Rattle.compiled_bounds.proofs.Interface.{bound_is_the_sources, capacities_are_kept}
+use Rattle.compiled_runs.specs.Program.{source_code, placed_code, compiled_program}
+use Rattle.compiled_runs.proofs.Interface.{code_keeps_the_laws, code_is_placed, power_ups_raise_version, runs_leave_the_code}
 use Rattle.compiled_laws.specs.Ready.{IsReadyToRun}
 use Rattle.compiled_laws.proofs.Interface.{sources_are_ready}
 use Rattle.image_laws.specs.Compiled.{IsCompiled}
 use Rattle.image_laws.specs.Laws.{IsFreshImage}
-use Rattle.image_laws.specs.source_runs.Tells.{at_first, EachChargePays}
+use Rattle.source_runs.specs.Tells.{at_first, EachChargePays}
 use Rattle.image_laws.proofs.Interface.{laid_out, images_are_fresh}
-use Rattle.image_reports.specs.ImageLaw.{start_due, attempt_due, all_due, VersionsBelow, KeepsCode, FetchesCode, IsRaisedSoon, RaisesVersion}
+use Rattle.image_reports.specs.ImageLaw.{runtime_marks, start_due, attempt_due, all_due, VersionsBelow, KeepsCode, FetchesCode, IsRaisedSoon, RaisesVersion}
 use Rattle.image_reports.specs.Resumed.{BelongsTo, known_from, HoldsFrom}
 use Rattle.image_reports.proofs.Capacities.{attempts_fit}
 use Rattle.image_reports.proofs.Told.{made}
@@ -60,20 +62,21 @@ use Rattle.image_reports.proofs.ImageStart.{versions_below}
 use Rattle.image_reports.proofs.Untouched.{NeverThere, untouched}
 use Rattle.image_reports.proofs.ImageCode.{GoesOn, StopsAtReadings, goes_on, StandsOn, stands_on, placed_within, same_words, words_fetched}
 
--- what is due is the crash theorem's script
-due_is_script : (p : CheckedProgram) (l : MemoryMap) (f : ℕ → ℕ) (readings : List ℕ)
-    → (script (compiled_model p l) f readings).effects ≡ all_due p l f readings
-due_is_script p l f readings = by (f (word_place l Gate) == 1)
+-- what is due is the crash theorem's script, behind a boot as behind a done
+due_is_script : (p : CheckedProgram) (l : MemoryMap) (booted : Bool) (f : ℕ → ℕ) (inputs : Inputs)
+    → (script (compiled_model p l) booted f inputs).effects ≡ all_due p l f inputs
+due_is_script p l booted f inputs = by (f (word_place l Gate) == 1) booted
   where
-    by : (b : Bool) → ◌≡◌ {A = List Effect}
+    by : (b booted : Bool) → ◌≡◌ {A = List Effect}
         (if b then program_effects (commit_effects l f) true
-        else with_commit (compiled_model p l) f ((compiled_model p l).attempt f readings)).effects
+        else with_commit (compiled_model p l) f inputs (attempt_from (compiled_model p l) booted f inputs)).effects
         (if b then (if b then commit_effects l f else [])
         else attempt_due p l
         (let es = (if b then commit_effects l f else []) in es ++ start_due l (fram_after es f))
-        f readings)
-    by true = refl
-    by false = refl
+        f inputs)
+    by true booted = refl
+    by false true = refl
+    by false false = refl
 
 -- a word that isn't 65535 is below it
 below_end : (n : ℕ) → n < 0x10000 → n ≢ 0xFFFF → n < 0xFFFF
@@ -93,7 +96,7 @@ record KeepsVersions (l : MemoryMap) (f : ℕ → ℕ) : Type 0 where
 phase_keeps_versions : (p : CheckedProgram) (l : MemoryMap) (readings : List ℕ) (origin : Origin State) (s : State) (h : History)
     → Phase (compiled_model p l) readings origin s h → KeepsVersions l h.world.fram
 phase_keeps_versions p l readings origin s h (UndecidedPhase u settled w) = record { words = w.is_open.words; versions = w.is_open.versions }
-phase_keeps_versions p l readings origin s h (DecidedPhase next d t w) = record { words = w.decided.words; versions = w.decided.versions }
+phase_keeps_versions p l readings origin s h (DecidedPhase next d t w) = record { words = w.decided.sends.words; versions = w.decided.sends.versions }
 phase_keeps_versions p l readings origin s h (CommittingPhase d k n w) = record { words = w.pending.words; versions = w.pending.versions }
 
 -- what a run stands for is sound
@@ -127,7 +130,7 @@ module _ (text : List ℕ) (p : CheckedProgram) (allow : Allow) (image : ImageVa
     (origin : Origin State)
     (cs : List BoardCharge) (readings : List ℕ) (words : All (λ w. w < 0x10000) readings)
     (begun : StandsFor (compiled_model p c.layout) readings origin
-    (first_history (word_place c.layout Gate) (record { fram = fram_of fram; accepted = accepted_before })))
+    (first_history (runtime_marks c.layout) (record { fram = fram_of fram; accepted = accepted_before })))
     (r : RunOutcome) (run : IsRunOfWords cs (started fram number readings) r) where
   abbrev l : MemoryMap
   l = c.layout
@@ -155,7 +158,7 @@ module _ (text : List ℕ) (p : CheckedProgram) (allow : Allow) (image : ImageVa
   stands_there = holds_as (fram_of fram) (fram_of image.words) (words_of (source_code p l)) l.boot.address (code_is_placed p l new.fits).even
       belongs.code.code new.code
 
-  abbrev pub begins : Begins model readings origin x (machine_of b)
+  abbrev pub begins : Begins model readings origin x (outside_of b)
   begins = record { fram = refl; readings_left = refl; words = words; stands = begun }
 
   abbrev pub bearing : BearsModel model program readings origin x b
@@ -170,36 +173,53 @@ module _ (text : List ℕ) (p : CheckedProgram) (allow : Allow) (image : ImageVa
           instructions = source_code p l;
           placed = subst P (sym (belongs.code.vector ∙ new.vector)) (code_is_placed p l new.fits);
           holds = stands_there;
-          leaves = runs_leave_the_code p l ready.code ready.model ready.stores readings origin x (machine_of b) begins;
+          leaves = runs_leave_the_code p l ready.code ready.model ready.stores readings origin x (outside_of b) begins;
         };
       }
 
   pub starts_with : StartsWith b x
   starts_with = record { fram = refl; accepted = omega (arith, count); taken = refl }
 
+  abbrev first : History
+  first = first_history (runtime_marks l) x
+
   -- a charge stops for want of a reading alone, wherever charges lead
-  stops_at_readings : StopsAtReadings program (word_place l Gate) (machine_of b) (first_history (word_place l Gate) x)
+  stops_at_readings : StopsAtReadings program (runtime_marks l) (outside_of b) first
   stops_at_readings es t k charged q up fram left n price e halted =
-      (stops_short model program ready.model bearing.program readings origin x (machine_of b) bearing.begins es t k charged q up fram left n price e halted).0
+      let behind = powers_up model program readings origin x b bearing es t k charged q up fram left in
+      (stops_short model program ready.model bearing.program readings origin q behind n price e halted).0
 
   -- no step stores on the code or behind it
-  never_there : (a : ℕ) → l.boot.address ≤ a
-      → NeverThere a program bearing.program.changes (word_place l Gate) (machine_of b) (first_history (word_place l Gate) x)
+  never_there : (a : ℕ) → l.boot.address ≤ a → NeverThere a program bearing.program.changes (runtime_marks l) (outside_of b) first
   never_there a from es t k charged q up fram left n =
       let P : ℕ → ℕ → Type 0 = λ d w. d < l.boot.address in
       let apart = ready.code.apart in
+      let scripts : ScriptsStore model P = record {
+        recoveries = λ st y u. tt;
+        attempts = λ st y inputs w u. ready.stores.below st y inputs w u;
+        commits = λ to y inputs d.
+            each_weaker _ P (λ d w h. let low = h.below in omega (arith, low, apart)) _ (commit_stores_there (program_places p l) y apart d.pending);
+      } in
       each_weaker P (IsElsewhere a) (λ d w low e. omega (arith, low, from, e)) _
-      (stores_only model program P ready.model bearing.program (λ st y rs w u. ready.stores.below st y rs w u)
-      (λ to y d. each_weaker _ P (λ d w h. let low = h.below in omega (arith, low, apart)) _ (commit_stores_there (program_places p l) y apart d.pending))
-      readings origin x (machine_of b) begins es t k charged q up fram left n)
+      (stores_only model program P ready.model bearing.program scripts readings origin q
+      (powers_up model program readings origin x b bearing es t k charged q up fram left) n)
+
+  abbrev on : PlacedProgram
+  on = stood model program readings origin x b bearing
+
+  abbrev IsReached : BoardValue → History → Type 0
+  IsReached = AtFront model program readings origin x b bearing
+
+  reached : (ms rest : List Moment) → r.moments ≡ ms ++ rest → IsReached (last_board b ms) (known_from l x ms)
+  reached ms rest e = at_front model program readings origin x b bearing ms (run_front cs b r ms rest run e)
 
   -- the board is one that a power-up left
-  begins_on : GoesOn program (machine_of b)
+  begins_on : GoesOn program (outside_of b)
   begins_on es price e stops =
-      let at = at_front model program readings origin x cs b r run bearing [] r.moments refl in
+      let at = reached [] r.moments refl in
       let zero_fill = fill_is_a_power_state 0 (omega arith) in
-      let up = is_powered model program readings origin x cs b r run bearing b (first_history (word_place l Gate) x) at (filled 0) zero_fill in
-      stops_at_readings [] (machine_of b) (first_history (word_place l Gate) x) (refl, refl) (machine_of b) up refl refl 1 price e
+      let up = is_powered on b (first_history (runtime_marks l) x) at.ready (filled 0) zero_fill in
+      stops_at_readings [] (outside_of b) (first_history (runtime_marks l) x) (refl, refl) (outside_of b) up refl refl 1 price e
       (ap (λ o. (continued o (going program.step zero)).status) stops)
 
   -- at each front
@@ -211,7 +231,7 @@ module _ (text : List ℕ) (p : CheckedProgram) (allow : Allow) (image : ImageVa
   -- and so at the last boot or done
   began : (ms rest : List Moment) → r.moments ≡ ms ++ rest → KeepsVersions l (known_from l x ms).start.fram
   began ms rest e =
-      starts_hold (λ w. KeepsVersions l w.fram) (word_place l Gate) b (first_history (word_place l Gate) x) ms run.whole run.words
+      starts_hold (λ w. KeepsVersions l w.fram) (runtime_marks l) b (first_history (runtime_marks l) x) ms run.whole run.words
       (front_moments cs b r ms rest run.starts run.run e) (keeps_versions [] r.moments refl)
       (λ ns more d. keeps_versions ns (more ++ rest) (e ∙ ap (λ q. q ++ rest) d ∙ append_assoc ns more rest))
 
@@ -222,13 +242,13 @@ module _ (text : List ℕ) (p : CheckedProgram) (allow : Allow) (image : ImageVa
     abbrev h : History
     h = known_from l x ms
 
-    at : AtFront model program readings origin x cs b r run bearing t h
-    at = at_front model program readings origin x cs b r run bearing ms rest e
+    at : IsReached t h
+    at = reached ms rest e
 
-    stands : StandsOn (placed_code p l) (machine_of t)
-    stands = stands_on (placed_code p l) (machine_of t)
-        (goes_on program (word_place l Gate) at.charges (machine_of b) (machine_of t)
-        (first_history (word_place l Gate) x) h stops_at_readings begins_on at.charged)
+    stands : StandsOn (placed_code p l) (outside_of t)
+    stands = stands_on (placed_code p l) (outside_of t)
+        (goes_on program (runtime_marks l) at.charges (outside_of b) (outside_of t)
+        (first_history (runtime_marks l) x) h stops_at_readings begins_on at.charged)
 
     fetches : FetchesCode p l image t
     fetches =
@@ -238,7 +258,7 @@ module _ (text : List ℕ) (p : CheckedProgram) (allow : Allow) (image : ImageVa
         let pc = registers_of t.cpu 0 in
         let i = stands.instruction in
         let is = source_code p l in
-        let here = placed_within (fram_of t.fram) is l.boot.address pc i placed.instructions placed.even at.ready.holds stands.there in
+        let here = placed_within (outside_of t).fram is l.boot.address pc i placed.instructions placed.even at.ready.holds stands.there in
         let there = placed_within (fram_of image.words) is l.boot.address pc i placed.instructions placed.even new.code stands.there in
         let from = here.from in
         let to = here.to in
@@ -254,21 +274,21 @@ module _ (text : List ℕ) (p : CheckedProgram) (allow : Allow) (image : ImageVa
           same = there.holds;
         }
 
-    keeps_code : KeepsCode p l image (fram_of t.fram)
+    keeps_code : KeepsCode p l image (outside_of t).fram
     keeps_code = record {
-      code = λ a even from to. same_words (fram_of t.fram) (fram_of image.words) (words_of (source_code p l)) l.boot.address a at.ready.holds new.code
+      code = λ a even from to. same_words (outside_of t).fram (fram_of image.words) (words_of (source_code p l)) l.boot.address a at.ready.holds new.code
           (code_is_placed p l new.fits).even even from to;
       vector = at.ready.vector ∙ belongs.code.vector;
     }
 
-    keeps_capacities : KeepsCapacities l (fram_of t.fram)
+    keeps_capacities : KeepsCapacities l (outside_of t).fram
     keeps_capacities =
         capacities_are_kept program p l ready.code.apart (attempts_fit text p allow image ok c) readings origin x cs b r run bearing belongs.capacities
         ms rest e
 
-    kept : (a : ℕ) → l.boot.address ≤ a → fram_of t.fram a ≡ x.fram a
+    kept : (a : ℕ) → l.boot.address ≤ a → (outside_of t).fram a ≡ x.fram a
     kept a from =
-        untouched a program bearing.program.changes (word_place l Gate) at.charges (machine_of b) (machine_of t) (first_history (word_place l Gate) x) h
+        untouched a program bearing.program.changes (runtime_marks l) at.charges (outside_of b) (outside_of t) (first_history (runtime_marks l) x) h
         (never_there a from) at.charged
 
     pub front : HoldsFrom p l image x origin readings t ms h
@@ -276,9 +296,9 @@ module _ (text : List ℕ) (p : CheckedProgram) (allow : Allow) (image : ImageVa
         let known = fronts_are_lawful model program readings origin x cs b r run bearing ms rest e in
         let lawful = known.0 in
         let same = known.1.fram in
-        let first : Counts b (first_history (word_place l Gate) x) accepted_before =
+        let first : Counts b (first_history (runtime_marks l) x) accepted_before =
         record { whole = run.whole; words = run.words; accepted = refl; count = starts_with.accepted; taken = refl } in
-        let counts = moments_count (word_place l Gate) b (first_history (word_place l Gate) x) accepted_before ms first
+        let counts = moments_count (runtime_marks l) b (first_history (runtime_marks l) x) accepted_before ms first
         (front_moments cs b r ms rest run.starts run.run e) in
         let Code : (ℕ → ℕ) → Type 0 = λ f. KeepsCode p l image f in
         let Capacities : (ℕ → ℕ) → Type 0 = λ f. KeepsCapacities l f in
@@ -287,16 +307,18 @@ module _ (text : List ℕ) (p : CheckedProgram) (allow : Allow) (image : ImageVa
           words = counts.accepted;
           number = subst (λ ws. TakesNextBehind ws t.receiver) (sym counts.accepted) counts.count;
           taken = counts.taken;
-          effects = subst (IsPrefix h.effects) (due_is_script p l h.start.fram (drop h.since readings)) lawful.follows;
+          effects = subst (IsPrefix h.effects) (due_is_script p l h.booted h.start.fram (inputs_from readings h.since)) lawful.follows;
           stands = lawful.stands;
           never_lost = λ decided. let kept = never_lost model ready.model readings origin h lawful decided in
               (ap (λ f. f (word_place l Gate)) same ∙ kept.0, kept.1);
           accepted = sent_once model ready.model readings origin h lawful.stands;
-          sent = λ to is none. pending_sends model program ready.model bearing.program readings to x (machine_of b)
-              (subst (λ o. Begins model readings o x (machine_of b)) is begins) at.charges (machine_of t) h at.charged none;
+          sent = λ to is none.
+              let P : Origin State → Type 0 = λ o. Begins model readings o x (outside_of b) in
+              pending_sends model program ready.model bearing.program readings to (outside_of t) h
+              (record { world = x; start = outside_of b; begins = subst P is begins; charges = at.charges; leads = at.charged }) none;
           versions = λ made.
               let P : (ℕ → ℕ) → Type 0 = λ f. VersionsBelow l f in
-              let f : fram_of t.fram ≡ fram_after (start_due l h.start.fram) h.start.fram =
+              let f : (outside_of t).fram ≡ fram_after (start_due l h.start.fram) h.start.fram =
               same ∙ ap (λ w. w.fram) lawful.world ∙ world_fram h.effects h.start ∙ ap (λ es. fram_after es h.start.fram) made in
               let kept = began ms rest e in
               subst P (sym f) (versions_below (program_places p l) ready.code.apart (privates_in (task_entries l)) ready.code.privates h.start.fram
@@ -311,44 +333,43 @@ module _ (text : List ℕ) (p : CheckedProgram) (allow : Allow) (image : ImageVa
         }
 
   -- VER is raised by the fifth instruction of a charge
-  module _ (ms : List Moment) (power : PowerState) (powers : IsPowerState power) (at : AtFront model program readings origin x cs b r run bearing
-      (last_board b ms) (known_from l x ms)) where
-    abbrev on : BoardValue
-    on = powered (last_board b ms) power
+  module _ (t : BoardValue) (h : History) (at : IsReached t h) (power : PowerState) (powers : IsPowerState power) where
+    abbrev start : BoardValue
+    start = powered t power
 
-    raised_by_five : (first : List Moment) → AreMoments on first → AreInstructionMoments first → length first ≡ 5
-        → fram_of on.fram (word_place l Gate) ≡ 0 → fram_of on.fram (word_place l Version) < 0xFFFF
-        → fram_of (last_board on first).fram (word_place l Version) ≡ fram_of on.fram (word_place l Version) + 1
+    raised_by_five : (first : List Moment) → AreMoments start first → AreInstructionMoments first → length first ≡ 5
+        → (outside_of start).fram (word_place l Gate) ≡ 0 → (outside_of start).fram (word_place l Version) < 0xFFFF
+        → (outside_of (last_board start first)).fram (word_place l Version) ≡ (outside_of start).fram (word_place l Version) + 1
     raised_by_five first are is five gate low =
-        let t = last_board b ms in let h = known_from l x ms in
-        let up = is_powered model program readings origin x cs b r run bearing t h at power powers in
-        let leads = program_leads model program readings origin x cs b r run bearing t h at power powers first are is in
-        power_ups_raise_version p l ready.code (machine_of on) up gate low (machine_of (last_board on first))
-        (ap (λ n. (going program.step n (machine_of on)).status) (sym five) ∙ leads)
+        let reach = instructions_reach start first (power_up_keeps_words t power at.ready.whole at.ready.words powers).0 are is in
+        power_ups_raise_version p l ready.code (outside_of start) (is_powered on t h at.ready power powers) gate low (outside_of (last_board start first))
+        (ap (λ n. (going program.step n (outside_of start)).status) (sym five) ∙ leads on t h at.ready power powers first is reach)
 
   -- what a charge that begins so owes
   abbrev RaisesFrom : List Moment → Moment → Type 0
-  RaisesFrom steps boot = fram_of boot.after.fram (word_place l Gate) ≡ 0 → fram_of boot.after.fram (word_place l Version) ≢ 0xFFFF
+  RaisesFrom steps boot = (outside_of boot.after).fram (word_place l Gate) ≡ 0 → (outside_of boot.after).fram (word_place l Version) ≢ 0xFFFF
       → IsRaisedSoon l boot.after steps
 
-  raises_from : (ms rest steps first more : List Moment) → r.moments ≡ ms ++ rest → steps ≡ first ++ more → length first ≡ 5
-      → AreInstructionMoments first → (boot : Moment) → boot.action ≡ PowerUp → IsMomentFrom (last_board b ms) boot → AreMoments boot.after first
+  -- a board on which a charge begins
+  record BeginsCharge (t : BoardValue) : Type 0 where
+    pub history : History
+    pub at : IsReached t history
+    pub words : HoldsWords (outside_of t).fram
+
+  raises_from : (t : BoardValue) → BeginsCharge t → (steps first more : List Moment) → steps ≡ first ++ more → length first ≡ 5
+      → AreInstructionMoments first → (boot : Moment) → boot.action ≡ PowerUp → IsMomentFrom t boot → AreMoments boot.after first
       → RaisesFrom steps boot
-  raises_from ms rest steps first more e cut five are boot up (Instructs i done current answer is) moments =
+  raises_from t from steps first more cut five are boot up (Instructs i done current answer is) moments =
       absurd (let other = sym up ∙ ap (λ y. y.action) is in cc (other))
-  raises_from ms rest steps first more e cut five are boot up (PowersUp power powers is) moments =
+  raises_from t from steps first more cut five are boot up (PowersUp power powers is) moments =
       let P : Moment → Type 0 = λ y. AreMoments y.after first → RaisesFrom steps y in
-      let Q : (ℕ → ℕ) → Type 0 = λ f. f (word_place l Version) < 0x10000 in
-      let at = at_front model program readings origin x cs b r run bearing ms rest e in
-      let same = (fronts_are_lawful model program readings origin x cs b r run bearing ms rest e).1.fram in
-      let word = subst Q (sym same) ((keeps_versions ms rest e).words (word_place l Version)) in
       subst P (sym is)
       (λ own gate end. record {
         first = first;
         rest = more;
         are = cut;
         soon = omega (arith, five);
-        raised = raised_by_five ms power powers at first own are five gate (below_end _ word end);
+        raised = raised_by_five t from.history from.at power powers first own are five gate (below_end _ (from.words (word_place l Version)) end);
       }) moments
 
   pub raises : RaisesVersion l r.moments
@@ -361,14 +382,21 @@ module _ (text : List ℕ) (p : CheckedProgram) (allow : Allow) (image : ImageVa
       let front : r.moments ≡ (ms ++ (boot ∷ first)) ++ (more ++ rest) = behind ∙ sym (append_assoc ms (boot ∷ first) (more ++ rest)) in
       let moments = are_behind b ms (boot ∷ first) (front_moments cs b r (ms ++ (boot ∷ first)) (more ++ rest) run.starts run.run front) in
       let five : length first ≡ 5 = length-take-le 5 steps (omega (arith, many)) in
-      raises_from ms (boot ∷ (steps ++ rest)) steps first more e cut five (front_are first more (subst AreInstructionMoments cut are)) boot up
-      moments.0 moments.1
+      let h = known_from l x ms in
+      let t = last_board b ms in
+      let tail = boot ∷ (steps ++ rest) in
+      let at = reached_on on b (first_history (runtime_marks l) x) t boot.before h moments.0 (reached ms tail e) in
+      let known = (fronts_are_lawful model program readings origin x cs b r run bearing ms tail e).1.fram in
+      let same : (outside_of boot.before).fram ≡ h.world.fram = ap (λ s. s.fram) (follows_keeps t boot.before moments.0).outside ∙ known in
+      let from : BeginsCharge boot.before =
+      record { history = h; at = at; words = subst HoldsWords (sym same) (keeps_versions ms tail e).words } in
+      raises_from boot.before from steps first more cut five (front_are first more (subst AreInstructionMoments cut are)) boot up moments.1 moments.2
 
   -- each charge that is spent pays for its transitions
   pub pays : let m = map_of text p l allow in EachChargePays m cs b (at_first m b) r
   pays =
       let m = map_of text p l allow in
-      let P : ℕ → Type 0 = λ n. Progresses (word_place l Gate) n cs b (first_history (word_place l Gate) x) r in
-      let paid : Progresses (word_place l Gate) m.bound cs b (first_history (word_place l Gate) x) r =
+      let P : ℕ → Type 0 = λ n. Progresses (runtime_marks l) n no_delay cs b (first_history (runtime_marks l) x) r in
+      let paid : Progresses (runtime_marks l) m.bound no_delay cs b (first_history (runtime_marks l) x) r =
       subst P (bound_is_the_sources p l ∙ sym ok.allowed.cycles) (makes_progress model program readings origin x cs b r run bearing) in
       (read_off m x cs b r (made text p allow image ok c).is_map starts_with run).pays x paid starts_with

@@ -1,46 +1,47 @@
 -- Each run of a state that belongs to the image of an accepted text keeps the laws.
 use Rattle.std.proofs.Common.{◌≡◌, ◌<◌, ◌≤◌, ◌%◌, ◌^◌, ◌==◌, if◌then◌else◌, ℕ, refl, sym, ap, ◌∙◌, subst, arith, Option, Some, List, ◌++◌, length, drop, All}
 use Rattle.std.proofs.Math.Seq.{drop-append_seam}
-use Rattle.image_laws.specs.image_map.MapValue.{MapValue}
-use Rattle.image_laws.specs.image_text.ImageValue.{ImageValue}
-use Rattle.image_laws.specs.fram_board.Board.{BoardValue, started}
-use Rattle.image_laws.specs.fram_board.Run.{BoardCharge, RunOutcome, Run}
-use Rattle.image_laws.specs.board_run.History.{start_with, start_of}
-use Rattle.image_laws.specs.board_run.Report.{report_of}
-use Rattle.image_laws.specs.machine_effects.World.{World, world_after}
-use Rattle.image_laws.specs.machine_effects.Machine.{fram_of}
-use Rattle.image_laws.proofs.machine_effects.Interface.{fresh_is_whole}
-use Rattle.image_laws.specs.cost_bound.declared.allowance.Allow.{Allow}
-use Rattle.image_laws.specs.source_values.Runs.{CheckedProgram, State}
-use Rattle.image_laws.specs.source_meaning.Acceptance.{IsAcceptedText}
-use Rattle.image_laws.proofs.source_meaning.Interface.{accepted_texts_run}
-use Rattle.image_laws.specs.source_maps.Maps.{map_of}
-use Rattle.image_laws.specs.source_runs.Resumed.{HasTransition}
-use Rattle.image_laws.specs.source_runs.Laws.{ResumedRunIsTold}
-use Rattle.image_laws.proofs.source_runs.Interface.{resumed_runs_are_told}
-use Rattle.image_laws.specs.memory_map.declared.words.RuntimeWord.TheVariants.{Gate}
-use Rattle.image_laws.specs.memory_map.MemoryMap.{MemoryMap, word_place}
-use Rattle.image_laws.specs.runtime_effects.Stages.{commit_effects}
-use Rattle.image_laws.specs.crash_rules.Model.{Model}
-use Rattle.image_laws.specs.crash_rules.History.{first_history}
-use Rattle.image_laws.specs.crash_rules.Runs.{Program}
-use Rattle.image_laws.specs.crash_rules.Laws.{Origin, Resting, Pending, StandsFor}
-use Rattle.image_laws.proofs.crash_rules.Interface.{runs_may_begin}
-use Rattle.image_laws.specs.run_charges.Charges.{ArePowerStates}
-use Rattle.image_laws.specs.run_charges.Laws.{IsRunOfWords}
-use Rattle.image_laws.specs.model_runs.Runs.{BearsModel, all_amounts}
-use Rattle.image_laws.proofs.model_runs.Interface.{stops_where_short}
-use Rattle.image_laws.specs.stands_for.StandsFor.{IsSound, SoundAtRest, SoundPending, IsPendingCommit}
-use Rattle.image_laws.proofs.stands_for.Interface.{unsent_are_few}
-use Rattle.image_laws.specs.compiled_model.Places.{program_places}
-use Rattle.image_laws.specs.compiled_model.View.{state_in, state_left}
-use Rattle.image_laws.specs.compiled_model.Parts.{compiled_model}
-use Rattle.image_laws.specs.compiled_runs.Program.{compiled_program}
+use Rattle.image_map.specs.MapValue.{MapValue}
+use Rattle.image_text.specs.ImageValue.{ImageValue}
+use Rattle.fram_board.specs.Board.{BoardValue, started}
+use Rattle.fram_board.specs.Run.{BoardCharge, RunOutcome, Run}
+use Rattle.board_run.specs.History.{start_with, start_of}
+use Rattle.board_run.specs.Report.{report_of}
+use Rattle.machine_effects.specs.World.{World, world_after}
+use Rattle.machine_effects.specs.Machine.{fram_of}
+use Rattle.machine_effects.proofs.Interface.{fresh_is_whole}
+use Rattle.cost_bound.specs.declared.allowance.Allow.{Allow}
+use Rattle.source_values.specs.Runs.{CheckedProgram, State}
+use Rattle.source_meaning.specs.Acceptance.{IsAcceptedText}
+use Rattle.source_meaning.proofs.Interface.{accepted_texts_run}
+use Rattle.source_maps.specs.Maps.{map_of}
+use Rattle.source_runs.specs.Resumed.{HasTransition}
+use Rattle.source_runs.specs.Laws.{ResumedRunIsTold}
+use Rattle.source_runs.proofs.Interface.{resumed_runs_are_told}
+use Rattle.memory_map.specs.declared.words.RuntimeWord.TheVariants.{Gate}
+use Rattle.memory_map.specs.MemoryMap.{MemoryMap, word_place}
+use Rattle.runtime_effects.specs.Stages.{commit_effects}
+use Rattle.crash_rules.specs.Model.{Model}
+use Rattle.crash_rules.specs.History.{first_history}
+use Rattle.crash_rules.specs.Runs.{Program}
+use Rattle.crash_rules.specs.Laws.{Origin, Resting, Pending, StandsFor}
+use Rattle.crash_rules.proofs.Interface.{runs_may_begin}
+use Rattle.run_charges.specs.Charges.{ArePowerStates}
+use Rattle.run_charges.specs.Laws.{IsRunOfWords}
+use Rattle.model_runs.specs.Runs.{BearsModel, all_amounts}
+use Rattle.model_runs.proofs.Interface.{stops_where_short}
+use Rattle.stands_for.specs.StandsFor.{IsSound, SoundAtRest, SoundPending, IsAtRest, IsPendingCommit}
+use Rattle.stands_for.proofs.Interface.{unsent_are_few}
+use Rattle.compiled_model.specs.Places.{program_places}
+use Rattle.compiled_model.specs.View.{state_in, state_left}
+use Rattle.compiled_model.specs.Parts.{compiled_model}
+use Rattle.compiled_runs.specs.Program.{compiled_program}
 use Rattle.compiled_laws.specs.Ready.{IsReadyToRun}
 use Rattle.compiled_laws.proofs.Interface.{sources_are_ready}
 use Rattle.image_laws.specs.Compiled.{IsCompiled}
 use Rattle.image_laws.specs.Laws.{HasStates}
 use Rattle.image_laws.proofs.Interface.{laid_out, maps_find_states, worlds_stand}
+use Rattle.image_reports.specs.ImageLaw.{runtime_marks}
 use Rattle.image_reports.specs.Sources.{IsSourcesMap}
 use Rattle.image_reports.specs.Resumed.{BelongsTo, origin_of, pending_transition, IsToldOnward, ToldAtRest, ToldPending, ImagesResume}
 use Rattle.image_reports.proofs.CompiledTold.{models_are_of_sources}
@@ -107,15 +108,19 @@ module _ (text : List ℕ) (p : CheckedProgram) (allow : Allow) (image : ImageVa
   in_commit : x.fram (word_place l Gate) ≡ 1 → Pending (state_left l x) ≡ origin
   in_commit e = sym (ap (λ n. if n == 1 then Pending (state_left l x) else Resting (state_in l x)) e)
 
-  begun_by : IsSound (program_places p l) x → StandsFor model readings origin (first_history (word_place l Gate) x)
+  -- the state that a sound world has is undecided
+  undecided_there : IsAtRest (program_places p l) x → model.Undecided (state_in l x) x
+  undecided_there q = ready.model.settled_undecided (state_in l x) x (ready.model.rests_settled (state_in l x) x (states.rest x q))
+
+  begun_by : IsSound (program_places p l) x → StandsFor model readings origin (first_history (runtime_marks l) x)
   begun_by (SoundAtRest q) =
-      subst (λ o. StandsFor model readings o (first_history (word_place l Gate) x)) (at_rest q.gate)
-      ((runs_may_begin model ready.model readings).resting (state_in l x) x (ready.model.rests_undecided (state_in l x) x (states.rest x q)))
+      subst (λ o. StandsFor model readings o (first_history (runtime_marks l) x)) (at_rest q.gate)
+      ((runs_may_begin model ready.model readings).resting (state_in l x) x (undecided_there q))
   begun_by (SoundPending q) =
-      subst (λ o. StandsFor model readings o (first_history (word_place l Gate) x)) (in_commit q.gate)
+      subst (λ o. StandsFor model readings o (first_history (runtime_marks l) x)) (in_commit q.gate)
       ((runs_may_begin model ready.model readings).pending (state_left l x) x (states.commit x q))
 
-  begun : StandsFor model readings origin (first_history (word_place l Gate) x)
+  begun : StandsFor model readings origin (first_history (runtime_marks l) x)
   begun = begun_by belongs.sound
 
   abbrev bears : BearsModel model program readings origin x b
@@ -156,7 +161,7 @@ module _ (text : List ℕ) (p : CheckedProgram) (allow : Allow) (image : ImageVa
     onward_by : IsSound (program_places p l) x → IsToldOnward text p m l x cs b r (report_of (start_with fram (Some m)) r)
     onward_by (SoundAtRest q) =
         ToldAtRest q.gate (told.resting (state_in l x) (subst (λ o. BearsModel model program readings o x b) (sym (at_rest q.gate)) bears)
-        (ready.model.rests_undecided (state_in l x) x (states.rest x q)) (states.words x q.words))
+        (undecided_there q) (states.words x q.words))
     onward_by (SoundPending q) =
         ToldPending q.gate (told.pending (state_in l x) (state_left l x) (pending_transition l x)
         (subst (λ o. BearsModel model program readings o x b) (sym (in_commit q.gate)) bears) (transition q))

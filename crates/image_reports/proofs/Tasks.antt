@@ -1,40 +1,42 @@
 -- The tasks of a compiled source's model are the source's.
-use Rattle.std.proofs.Common.{◌≡◌, ℕ, ◌<◌, refl, sym, subst, List, [], ◌++◌, length, Option, Some, get_or}
+use Rattle.std.proofs.Common.{◌≡◌, ℕ, ◌<◌, refl, sym, ap, subst, List, [], ◌++◌, length, Option, Some, get_or}
 use Rattle.std.proofs.lemmas.List.Elements.{All-get_or}
 use Rattle.std.proofs.lemmas.Option.{slice_get-get_or}
 use Rattle.std.specs.Prelude.{slice_get}
-use Rattle.image_laws.specs.task_ast.Tree.{Task, end}
-use Rattle.image_laws.specs.task_ast.declared.names.VariableName.{VariableName}
-use Rattle.image_laws.specs.task_ast.declared.names.TaskName.{TaskName}
-use Rattle.image_laws.specs.source_values.Values.{◌>>?◌}
-use Rattle.image_laws.specs.source_values.Statements.{Outcome, goes_on, to_task, short, run_block}
-use Rattle.image_laws.specs.source_values.Runs.{CheckedProgram, State, Transition, Completion, TransitionComes, EndsWell, body_of, fresh_attempt, attempt_of}
-use Rattle.image_laws.specs.source_values.Runs.{completion_of, exactly, transition_of, state_after}
-use Rattle.image_laws.specs.source_values.Running.{IsRunnable}
-use Rattle.image_laws.specs.crash_rules.Model.{Ends, Short}
-use Rattle.image_laws.specs.compiled_model.Parts.{outcome_of, whole_task}
+use Rattle.task_ast.specs.Tree.{Task, end}
+use Rattle.task_ast.specs.declared.names.VariableName.{VariableName}
+use Rattle.task_ast.specs.declared.names.TaskName.{TaskName}
+use Rattle.source_values.specs.Values.{◌>>?◌}
+use Rattle.source_values.specs.Statements.{Outcome, goes_on, to_task, short, run_block}
+use Rattle.source_values.specs.Runs.{CheckedProgram, State, Transition, Completion, TransitionComes, EndsWell, body_of, fresh_attempt, attempt_of}
+use Rattle.source_values.specs.Runs.{completion_of, exactly, transition_of, state_after}
+use Rattle.source_values.specs.Running.{IsRunnable}
+use Rattle.crash_rules.specs.Model.{Inputs, no_inputs, Ends, Short}
+use Rattle.compiled_model.specs.Parts.{outcome_of, whole_task}
 
 -- a transition of a task that takes all its readings
 abbrev pub IsTransitionTo : State → State → Option Transition → Type 0
 IsTransitionTo s u o = (t : Transition) × (o ≡ Some t) × (u ≡ state_after s t)
 
-completed : (s u : State) (c : Completion) → outcome_of s (Some c) ≡ Ends u [] → IsTransitionTo s u (exactly s c)
+completed : (s u : State) (c : Completion) → outcome_of s (Some c) ≡ Ends u no_inputs → IsTransitionTo s u (exactly s c)
 completed s u c e =
     let next : State = record { shared = c.shared; task = c.next; emitted = s.emitted ++ c.emitted } in
     let a : next ≡ u = cc e in
-    let b : c.left ≡ [] = cc e in
+    let rest : ◌≡◌ {A = Inputs} (record { readings = c.left }) no_inputs = cc e in
+    let b : c.left ≡ [] = ap (λ i. i.readings) rest in
     let t : Transition = record { from = s.task; next = c.next; before = s.shared; after = c.shared; emitted = c.emitted } in
     let P : List ℕ → Type 0 = λ left. exactly s (record { next = c.next; shared = c.shared; emitted = c.emitted; left = left }) ≡ Some t in
     (t, subst P (sym b) refl, sym a)
 
-transits_by : (s u : State) (o : Outcome) → outcome_of s (completion_of o) ≡ Ends u [] → IsTransitionTo s u (completion_of o >>? exactly s)
+transits_by : (s u : State) (o : Outcome) → outcome_of s (completion_of o) ≡ Ends u no_inputs → IsTransitionTo s u (completion_of o >>? exactly s)
 transits_by s u (goes_on m) e = absurd (cc e)
 transits_by s u (to_task t m) e = completed s u (record { next = t; shared = m.variables.shared; emitted = m.emitted; left = m.left }) e
 transits_by s u short e = absurd (cc e)
 
 -- a task that comes to a state with no readings left makes a transition to it
-pub transits : (p : CheckedProgram) (s u : State) (readings : List ℕ) → whole_task p s readings ≡ Ends u [] → IsTransitionTo s u (transition_of p s readings)
-transits p s u readings e = transits_by s u (attempt_of p s.task s.shared readings) e
+pub transits : (p : CheckedProgram) (s u : State) (inputs : Inputs) → whole_task p s inputs ≡ Ends u no_inputs
+    → IsTransitionTo s u (transition_of p s inputs.readings)
+transits p s u inputs e = transits_by s u (attempt_of p s.task s.shared inputs.readings) e
 
 short_by : (s : State) (tasks : ℕ) (o : Outcome) → EndsWell tasks o → outcome_of s (completion_of o) ≡ Short → o ≡ short
 short_by s tasks (goes_on m) w e = absurd w
@@ -56,7 +58,7 @@ comes p ok s readings below =
     empty_task n = record { name = n.span; body = end }
 
 -- where a task is short its attempt is
-pub is_short : (p : CheckedProgram) → IsRunnable p → (s : State) (readings : List ℕ) → s.task < length p.tasks → whole_task p s readings ≡ Short
-    → attempt_of p s.task s.shared readings ≡ short
-is_short p ok s readings below e =
-    short_by s (length p.tasks) (attempt_of p s.task s.shared readings) (comes p ok s readings below) e
+pub is_short : (p : CheckedProgram) → IsRunnable p → (s : State) (inputs : Inputs) → s.task < length p.tasks → whole_task p s inputs ≡ Short
+    → attempt_of p s.task s.shared inputs.readings ≡ short
+is_short p ok s inputs below e =
+    short_by s (length p.tasks) (attempt_of p s.task s.shared inputs.readings) (comes p ok s inputs.readings below) e

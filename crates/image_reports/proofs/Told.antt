@@ -1,27 +1,27 @@
 -- The headline.
 use Rattle.std.proofs.Common.{◌<◌, ◌^◌, ℕ, sym, refl, subst, Option, List, All}
-use Rattle.image_laws.specs.cost_bound.declared.allowance.Allow.{Allow}
-use Rattle.image_laws.specs.image_map.MapValue.{MapValue}
-use Rattle.image_laws.specs.image_text.ImageValue.{ImageValue}
-use Rattle.image_laws.specs.fram_board.Board.{BoardValue, fresh}
-use Rattle.image_laws.specs.fram_board.Run.{BoardCharge, RunOutcome}
-use Rattle.image_laws.specs.board_run.Charges.{charges_of}
-use Rattle.image_laws.specs.board_run.History.{start_with, start_of}
-use Rattle.image_laws.specs.board_run.Report.{report_of}
-use Rattle.image_laws.specs.source_values.Runs.{CheckedProgram}
-use Rattle.image_laws.specs.source_values.Running.{IsRunnable}
-use Rattle.image_laws.specs.source_meaning.Acceptance.{IsAcceptedText}
-use Rattle.image_laws.proofs.source_meaning.Interface.{accepted_texts_run}
-use Rattle.image_laws.specs.run_charges.Laws.{IsRunOfWords}
-use Rattle.image_laws.specs.model_runs.Runs.{all_amounts}
-use Rattle.image_laws.specs.compiled_runs.Program.{compiled_program}
-use Rattle.image_laws.specs.source_runs.Tells.{IsToldBySource}
-use Rattle.image_laws.proofs.source_runs.Interface.{traces_are_few}
+use Rattle.cost_bound.specs.declared.allowance.Allow.{Allow}
+use Rattle.image_map.specs.MapValue.{MapValue}
+use Rattle.image_text.specs.ImageValue.{ImageValue}
+use Rattle.fram_board.specs.Board.{BoardValue, fresh}
+use Rattle.fram_board.specs.Run.{BoardCharge, RunOutcome}
+use Rattle.board_run.specs.Charges.{charges_of}
+use Rattle.board_run.specs.History.{start_with, start_of}
+use Rattle.board_run.specs.Report.{report_of}
+use Rattle.source_values.specs.Runs.{CheckedProgram}
+use Rattle.source_values.specs.Running.{IsRunnable}
+use Rattle.source_meaning.specs.Acceptance.{IsAcceptedText}
+use Rattle.source_meaning.proofs.Interface.{accepted_texts_run}
+use Rattle.run_charges.specs.Laws.{IsRunOfWords}
+use Rattle.model_runs.specs.Runs.{all_amounts}
+use Rattle.compiled_runs.specs.Program.{compiled_program}
+use Rattle.source_runs.specs.Tells.{IsToldBySource}
+use Rattle.source_runs.proofs.Interface.{traces_are_few}
 use Rattle.image_reports.specs.Sources.{IsSourcesMap}
 use Rattle.image_reports.proofs.CompiledTold.{compiled_runs_are_told}
-use Rattle.image_laws.proofs.source_maps.Interface.{names_are_names, maps_are_of_sources}
-use Rattle.image_laws.specs.source_maps.Maps.{map_of}
-use Rattle.image_laws.specs.source_maps.Laws.{IsSourceMap}
+use Rattle.source_maps.proofs.Interface.{names_are_names, maps_are_of_sources}
+use Rattle.source_maps.specs.Maps.{map_of}
+use Rattle.source_maps.specs.Laws.{IsSourceMap}
 use Rattle.image_laws.specs.Compiled.{IsCompiled}
 use Rattle.image_laws.specs.Laws.{fresh_world}
 use Rattle.image_laws.proofs.Interface.{laid_out, images_are_fresh, maps_find_states}

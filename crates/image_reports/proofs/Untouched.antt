@@ -1,22 +1,22 @@
 -- A word on which no step stores is, behind any charges, as it was in front of them.
 use Rattle.std.proofs.Common.{◌≡◌, ℕ, refl, ap, ◌∙◌, List, [], ◌∷◌}
-use Rattle.image_laws.specs.machine_effects.World.{EachStore}
-use Rattle.image_laws.specs.machine_effects.Going.{going}
-use Rattle.image_laws.specs.machine_effects.Machine.{MachineBoard}
-use Rattle.image_laws.specs.machine_effects.Laws.{ChangesByEffects}
-use Rattle.image_laws.specs.crash_rules.Model.{IsElsewhere}
-use Rattle.image_laws.specs.crash_rules.History.{History, observe, behind_boot}
-use Rattle.image_laws.specs.crash_rules.Runs.{Program, Charge, Charged}
-use Rattle.image_laws.proofs.crash_rules.Interface.{changed}
-use Rattle.image_laws.proofs.stands_for.Interface.{elsewhere_same}
+use Rattle.machine_effects.specs.World.{EachStore}
+use Rattle.machine_effects.specs.Going.{going}
+use Rattle.machine_effects.specs.Machine.{MachineBoard}
+use Rattle.machine_effects.specs.Laws.{ChangesByEffects}
+use Rattle.crash_rules.specs.Model.{IsElsewhere, Marks}
+use Rattle.crash_rules.specs.History.{History, observe, behind_boot}
+use Rattle.crash_rules.specs.Runs.{Program, Charge, Charged}
+use Rattle.crash_rules.proofs.Interface.{changed}
+use Rattle.stands_for.proofs.Interface.{elsewhere_same}
 
-module _ (a : ℕ) (c : Program) (changes : (s : MachineBoard) → ChangesByEffects s (c.step s)) (gate : ℕ) where
+module _ (a : ℕ) (c : Program) (changes : (s : MachineBoard) → ChangesByEffects s (c.step s)) (marks : Marks) where
   -- wherever charges lead, a further one stores elsewhere
   abbrev pub NeverThere : MachineBoard → History → Type 0
-  NeverThere s h = (es : List Charge) (t : MachineBoard) (k : History) → Charged c gate s h es t k → (p : MachineBoard) → c.IsPoweredUp p → p.fram ≡ t.fram
-      → p.readings_left ≡ t.readings_left → (n : ℕ) → EachStore (IsElsewhere a) (going c.step n p).effects
+  NeverThere s h = (es : List Charge) (t : MachineBoard) (k : History) → Charged c marks s h es t k → (p : MachineBoard) → c.IsPoweredUp p → p.fram ≡ t.fram
+      → p.inputs.readings ≡ t.inputs.readings → (n : ℕ) → EachStore (IsElsewhere a) (going c.step n p).effects
 
-  pub untouched : (es : List Charge) (s t : MachineBoard) (h k : History) → NeverThere s h → Charged c gate s h es t k → t.fram a ≡ s.fram a
+  pub untouched : (es : List Charge) (s t : MachineBoard) (h k : History) → NeverThere s h → Charged c marks s h es t k → t.fram a ≡ s.fram a
   untouched [] s t h k never run = ap (λ u. u.fram a) run.0
   untouched (e ∷ es) s t h k never run =
       let q = run.3.0 in
@@ -24,4 +24,4 @@ module _ (a : ℕ) (c : Program) (changes : (s : MachineBoard) → ChangesByEffe
       let made = (going c.step e.steps p).effects in
       let here : q.fram a ≡ s.fram a = ap (λ f. f a) (changed c.step changes e.steps p q run.3.1).fram
       ∙ elsewhere_same a made p.fram (never [] s h (refl, refl) p run.0 run.1 run.2 e.steps) ∙ ap (λ f. f a) run.1 in
-      untouched es q t (observe gate made (behind_boot h)) k (λ fs u z more. never (e ∷ fs) u z (run.0, run.1, run.2, (q, run.3.1, more))) run.3.2 ∙ here
+      untouched es q t (observe marks made (behind_boot h)) k (λ fs u z more. never (e ∷ fs) u z (run.0, run.1, run.2, (q, run.3.1, more))) run.3.2 ∙ here

@@ -1,19 +1,19 @@
 -- A run of a compiled source's image is told by the source.
 use Rattle.std.specs.Prelude.{ℕ, ◌<◌, ◌^◌, List, Some}
-use Rattle.image_laws.specs.image_map.MapValue.{MapValue}
-use Rattle.image_laws.specs.fram_board.Board.{BoardValue}
-use Rattle.image_laws.specs.fram_board.Run.{BoardCharge, RunOutcome}
-use Rattle.image_laws.specs.board_run.History.{start_with}
-use Rattle.image_laws.specs.board_run.Report.{report_of}
-use Rattle.image_laws.specs.source_values.Runs.{CheckedProgram}
-use Rattle.image_laws.specs.memory_map.MemoryMap.{MemoryMap}
-use Rattle.image_laws.specs.machine_effects.World.{World}
-use Rattle.image_laws.specs.crash_rules.Runs.{Program}
-use Rattle.image_laws.specs.run_charges.Laws.{IsRunOfWords}
-use Rattle.image_laws.specs.model_runs.Runs.{all_amounts}
-use Rattle.image_laws.specs.source_runs.Tells.{IsToldBySource}
-use Rattle.image_laws.specs.source_runs.Sources.{IsOfSource, BeginsWithSource}
-use Rattle.image_laws.specs.compiled_model.Parts.{compiled_model}
+use Rattle.image_map.specs.MapValue.{MapValue}
+use Rattle.fram_board.specs.Board.{BoardValue}
+use Rattle.fram_board.specs.Run.{BoardCharge, RunOutcome}
+use Rattle.board_run.specs.History.{start_with}
+use Rattle.board_run.specs.Report.{report_of}
+use Rattle.source_values.specs.Runs.{CheckedProgram}
+use Rattle.memory_map.specs.MemoryMap.{MemoryMap}
+use Rattle.machine_effects.specs.World.{World}
+use Rattle.crash_rules.specs.Runs.{Program}
+use Rattle.run_charges.specs.Laws.{IsRunOfWords}
+use Rattle.model_runs.specs.Runs.{all_amounts}
+use Rattle.source_runs.specs.Tells.{IsToldBySource}
+use Rattle.source_runs.specs.Sources.{IsOfSource, BeginsWithSource}
+use Rattle.compiled_model.specs.Parts.{compiled_model}
 use Rattle.image_reports.specs.Sources.{IsSourcesMap}
 
 -- the tasks of a compiled source are the source's transitions

@@ -1,74 +1,79 @@
 -- What holds of each run of the image of an accepted source, on the board itself, cut wherever power fails: the effects since the last
 -- boot or done, what the board stands for, the words accepted, the counts, the code that is fetched, how it ends, and its report.
-use Rattle.std.specs.Prelude.{◌≡◌, ◌≢◌, ℕ, ◌+◌, ◌*◌, ◌^◌, ◌%◌, ◌<◌, ◌≤◌, ◌==◌, true, if◌then◌else◌, List, [], ◌∷◌, ◌++◌, length, drop, All}
-use Rattle.image_laws.specs.msp_isa.declared.instructions.Instr.{Instr}
-use Rattle.image_laws.specs.msp_isa.Encoding.{encoding}
-use Rattle.image_laws.specs.msp_step.Registers.{registers_of}
-use Rattle.image_laws.specs.msp_step.declared.machine.Stop.{Stop}
-use Rattle.image_laws.specs.msp_step.declared.machine.Stop.TheVariants as stop
-use Rattle.image_laws.specs.image_text.ImageValue.{ImageValue}
-use Rattle.image_laws.specs.fram_board.Board.{BoardValue, fresh, IsNextInstruction}
-use Rattle.image_laws.specs.fram_board.Effects.{Effect}
-use Rattle.image_laws.specs.fram_board.Run.{BoardCharge, PowerUp, Moment, Stopped, RunOutcome, Run, accepted_words}
-use Rattle.image_laws.specs.board_run.History.{start_of}
-use Rattle.image_laws.specs.board_run.Report.{report_of}
-use Rattle.image_laws.specs.machine_effects.World.{World, fram_after, IsPrefix}
-use Rattle.image_laws.specs.machine_effects.Machine.{fram_of}
-use Rattle.image_laws.specs.machine_effects.Runs.{last_board}
-use Rattle.image_laws.specs.code_forms.Placed.{Holds}
-use Rattle.image_laws.specs.cost_bound.declared.allowance.Allow.{Allow}
-use Rattle.image_laws.specs.source_values.Runs.{CheckedProgram, State, first_state}
-use Rattle.image_laws.specs.source_meaning.Acceptance.{IsAcceptedText}
-use Rattle.image_laws.specs.source_runs.Tells.{at_first, EachChargePays, IsToldBySource}
-use Rattle.image_laws.specs.source_maps.Maps.{map_of}
-use Rattle.image_laws.specs.memory_map.declared.words.RuntimeWord.TheVariants.{CurrentTask, Gate, Version}
-use Rattle.image_laws.specs.memory_map.MemoryMap.{MemoryMap, word_place}
-use Rattle.image_laws.specs.array_versions.Behaviour.{behaviour, started}
-use Rattle.image_laws.specs.runtime_effects.Stages.{commit_effects, start_effects, pending_effects, boot_effects}
-use Rattle.image_laws.specs.boot_runtime.Entries.{task_entries}
-use Rattle.image_laws.specs.boot_runtime.Listing.{privates_in}
-use Rattle.image_laws.specs.crash_rules.Model.{CommitContract}
-use Rattle.image_laws.specs.crash_rules.History.{History, first_history}
-use Rattle.image_laws.specs.crash_rules.Laws.{Resting, StandsFor, AcceptedWords}
-use Rattle.image_laws.specs.run_charges.Charges.{ArePowerStates, AreInstructionMoments, observed}
-use Rattle.image_laws.specs.memory_map.Laws.{AreApart}
-use Rattle.image_laws.specs.stands_for.StandsFor.{RestsAt, UndecidedAt, DecidedFrom}
-use Rattle.image_laws.specs.compiled_model.Places.{program_places}
-use Rattle.image_laws.specs.compiled_model.View.{state_view}
-use Rattle.image_laws.specs.compiled_model.Parts.{task_program, has_jumped, compiled_model}
-use Rattle.compiled_laws.specs.compiled_bounds.Laws.{KeepsCapacities}
-use Rattle.image_laws.specs.model_runs.Runs.{IsShort, all_amounts}
+use Rattle.std.specs.Prelude.{◌≡◌, ◌≢◌, ℕ, ◌+◌, ◌*◌, ◌^◌, ◌%◌, ◌<◌, ◌≤◌, ◌==◌, true, if◌then◌else◌, List, [], ◌∷◌, ◌++◌, length, All}
+use Rattle.msp_isa.specs.declared.instructions.Instr.{Instr}
+use Rattle.msp_isa.specs.Encoding.{encoding}
+use Rattle.msp_step.specs.Registers.{registers_of}
+use Rattle.msp_step.specs.declared.machine.Stop.{Stop}
+use Rattle.msp_step.specs.declared.machine.Stop.TheVariants as stop
+use Rattle.image_text.specs.ImageValue.{ImageValue}
+use Rattle.fram_board.specs.Board.{BoardValue, fresh, IsNextInstruction}
+use Rattle.fram_board.specs.Effects.{Effect}
+use Rattle.fram_board.specs.Run.{BoardCharge, PowerUp, Moment, Stopped, RunOutcome, Run, accepted_words}
+use Rattle.board_run.specs.History.{start_of}
+use Rattle.board_run.specs.Report.{report_of}
+use Rattle.machine_effects.specs.World.{World, fram_after, IsPrefix}
+use Rattle.machine_effects.specs.Machine.{fram_of}
+use Rattle.machine_effects.specs.Runs.{last_board}
+use Rattle.code_forms.specs.Placed.{Holds}
+use Rattle.cost_bound.specs.declared.allowance.Allow.{Allow}
+use Rattle.source_values.specs.Runs.{CheckedProgram, State, first_state}
+use Rattle.source_meaning.specs.Acceptance.{IsAcceptedText}
+use Rattle.source_runs.specs.Tells.{at_first, EachChargePays, IsToldBySource}
+use Rattle.source_maps.specs.Maps.{map_of}
+use Rattle.memory_map.specs.declared.words.RuntimeWord.TheVariants.{CurrentTask, Gate, Version}
+use Rattle.memory_map.specs.MemoryMap.{MemoryMap, word_place}
+use Rattle.array_versions.specs.Behaviour.{behaviour, started}
+use Rattle.runtime_effects.specs.Stages.{commit_effects, start_effects, pending_effects, boot_effects}
+use Rattle.boot_runtime.specs.Entries.{task_entries}
+use Rattle.boot_runtime.specs.Listing.{privates_in}
+use Rattle.crash_rules.specs.Model.{Marks, Inputs, CommitContract}
+use Rattle.crash_rules.specs.History.{History, first_history, inputs_from}
+use Rattle.crash_rules.specs.Laws.{Resting, StandsFor, AcceptedWords}
+use Rattle.run_charges.specs.View.{outside_of}
+use Rattle.run_charges.specs.Charges.{ArePowerStates, AreInstructionMoments, observed}
+use Rattle.memory_map.specs.Laws.{AreApart}
+use Rattle.stands_for.specs.StandsFor.{RestsAt, UndecidedAt, DecidedFrom}
+use Rattle.compiled_model.specs.Places.{program_places}
+use Rattle.compiled_model.specs.View.{state_view}
+use Rattle.compiled_model.specs.Parts.{task_program, has_jumped, compiled_model}
+use Rattle.compiled_bounds.specs.Laws.{KeepsCapacities}
+use Rattle.model_runs.specs.Runs.{IsShort, all_amounts}
 use Rattle.image_laws.specs.Words.{code_words}
 use Rattle.image_laws.specs.Compiled.{IsCompiled}
 use Rattle.image_laws.specs.Laws.{fresh_world}
 
+-- the words by which what happens in a run is told
+abbrev pub runtime_marks : MemoryMap → Marks
+runtime_marks l = record { gate = word_place l Gate }
+
 -- what is read off the effects of a run's moments, behind them, where an image's fresh board began it
 abbrev pub known_behind : MemoryMap → ImageValue → List Moment → History
-known_behind l image ms = observed (word_place l Gate) ms (first_history (word_place l Gate) (fresh_world image))
+known_behind l image ms = observed (runtime_marks l) ms (first_history (runtime_marks l) (fresh_world image))
 
 -- an attempt's start, on FRAM as it is
 abbrev pub start_due : MemoryMap → (ℕ → ℕ) → List Effect
 start_due l f = start_effects l (privates_in (task_entries l)) f
 
--- a start; then the word program of the task that CUR names, on FRAM as the start leaves it and on these readings; and the commit, where
+-- a start; then the word program of the task that CUR names, on FRAM as the start leaves it and on these inputs; and the commit, where
 -- that program comes to its transition
-abbrev pub attempt_due : CheckedProgram → MemoryMap → List Effect → (ℕ → ℕ) → List ℕ → List Effect
-attempt_due p l start f readings =
-    let task = behaviour (task_program p l (f (word_place l CurrentTask))) (started (fram_after start f) readings) in
+abbrev pub attempt_due : CheckedProgram → MemoryMap → List Effect → (ℕ → ℕ) → Inputs → List Effect
+attempt_due p l start f inputs =
+    let task = behaviour (task_program p l (f (word_place l CurrentTask))) (started (fram_after start f) inputs) in
     let es = start ++ task.effects in
     es ++ (if has_jumped task.end then commit_effects l (fram_after es f) else [])
 
--- all that is due from a boot or a done on, by FRAM and the readings left there. Where GATE is 1: the commit that is pending. Else all
+-- all that is due from a boot or a done on, by FRAM and the inputs there. Where GATE is 1: the commit that is pending. Else all
 -- of a boot, which then is an attempt's start, with the task and its commit
-abbrev pub all_due : CheckedProgram → MemoryMap → (ℕ → ℕ) → List ℕ → List Effect
-all_due p l f readings =
+abbrev pub all_due : CheckedProgram → MemoryMap → (ℕ → ℕ) → Inputs → List Effect
+all_due p l f inputs =
     if f (word_place l Gate) == 1 then pending_effects l f
-    else attempt_due p l (boot_effects l (privates_in (task_entries l)) f) f readings
+    else attempt_due p l (boot_effects l (privates_in (task_entries l)) f) f inputs
 
 -- what is known behind these moments is of the board behind them: its FRAM, the words that its receiver accepted, in order, and how many
 -- readings were taken
 pub record TellsOfBoard (b : BoardValue) (ms : List Moment) (h : History) : Type 0 where
-  pub fram : h.world.fram ≡ fram_of b.fram
+  pub fram : h.world.fram ≡ (outside_of b).fram
   pub accepted : h.world.accepted ≡ accepted_words ms
   pub taken : h.taken ≡ b.taken
 
@@ -99,21 +104,22 @@ pub record HoldsAt (p : CheckedProgram) (l : MemoryMap) (image : ImageValue) (re
     (h : History) : Type 0 where
   pub tells : TellsOfBoard b ms h
   -- the effects since the last boot or done are a prefix of what was due there
-  pub effects : IsPrefix h.effects (all_due p l h.start.fram (drop h.since readings))
+  pub effects : IsPrefix h.effects (all_due p l h.start.fram (inputs_from readings h.since))
   -- the board is undecided at the state of the last done (at first the first state), which the source's tasks reach on the committed
   -- readings of the dones; or it is decided from it to the state that its task gives on the committed readings of the decide
   pub stands : StandsFor (compiled_model p l) readings (Resting (first_state p)) h
   -- a decided state is never lost: between a decide and its done the board is undecided at no state, whatever boots stand between
-  pub never_lost : h.decided ≡ true → (fram_of b.fram (word_place l Gate) ≡ 1) × ((s : State) → UndecidedAt (program_places p l) (state_view p l) s h.world → ⊥)
+  pub never_lost : h.decided ≡ true → ((outside_of b).fram (word_place l Gate) ≡ 1)
+      × ((s : State) → UndecidedAt (program_places p l) (state_view p l) s h.world → ⊥)
   -- between a done, or the start, and the next decide no word is accepted; between a decide and its done a prefix of that task's
   pub accepted : AcceptedWords (compiled_model p l) readings (Resting (first_state p)) h stands.state h.decided
   -- CLN and EN are within the map's capacities, and version words at most VER
-  pub capacities : KeepsCapacities l (fram_of b.fram)
+  pub capacities : KeepsCapacities l (outside_of b).fram
   -- as a task's first own instruction runs, whose start is made and which has done nothing yet, each version word is below VER. (With
   -- exactly the start's effects the code comes to the task's own: `start_is_made` of `boot_runtime`.)
-  pub versions : h.effects ≡ start_due l h.start.fram → VersionsBelow l (fram_of b.fram)
+  pub versions : h.effects ≡ start_due l h.start.fram → VersionsBelow l (outside_of b).fram
   -- no store fell on the code
-  pub code : KeepsCode p l image (fram_of b.fram)
+  pub code : KeepsCode p l image (outside_of b).fram
   -- every word that is fetched is the fresh image's
   pub fetches : FetchesCode p l image b
 
@@ -123,13 +129,13 @@ pub record IsRaisedSoon (l : MemoryMap) (b : BoardValue) (steps : List Moment) :
   pub rest : List Moment
   pub are : steps ≡ first ++ rest
   pub soon : length first ≤ 40
-  pub raised : fram_of (last_board b first).fram (word_place l Version) ≡ fram_of b.fram (word_place l Version) + 1
+  pub raised : (outside_of (last_board b first)).fram (word_place l Version) ≡ (outside_of b).fram (word_place l Version) + 1
 
 -- in a charge that begins with GATE 0 and VER not 65535, if the charge has 40 instructions
 abbrev pub RaisesVersion : MemoryMap → List Moment → Type 0
 RaisesVersion l moments = (ms steps rest : List Moment) (boot : Moment) → moments ≡ ms ++ (boot ∷ (steps ++ rest)) → boot.action ≡ PowerUp
-    → AreInstructionMoments steps → 40 ≤ length steps → fram_of boot.after.fram (word_place l Gate) ≡ 0
-    → fram_of boot.after.fram (word_place l Version) ≢ 0xFFFF → IsRaisedSoon l boot.after steps
+    → AreInstructionMoments steps → 40 ≤ length steps → (outside_of boot.after).fram (word_place l Gate) ≡ 0
+    → (outside_of boot.after).fram (word_place l Version) ≢ 0xFFFF → IsRaisedSoon l boot.after steps
 
 -- What holds of a run of an image under charges, on readings.
 pub record IsLawfulRun (text : List ℕ) (p : CheckedProgram) (allow : Allow) (l : MemoryMap) (image : ImageValue) (cs : List BoardCharge) (readings : List ℕ)

@@ -1,22 +1,22 @@
 -- The headline: the report of the image of an accepted source, on any trace, is told by the source.
 use Rattle.std.specs.Prelude.{◌≡◌, ℕ, List, ◌++◌}
-use Rattle.image_laws.specs.cost_bound.declared.allowance.Allow.{Allow}
-use Rattle.image_laws.specs.energy_trace.TraceValue.{TraceValue}
-use Rattle.image_laws.specs.image_text.ImageValue.{ImageValue}
-use Rattle.image_laws.specs.fram_board.Board.{fresh}
-use Rattle.image_laws.specs.fram_board.Run.{Moment, RunOutcome, Run}
-use Rattle.image_laws.specs.board_run.Charges.{charges_of}
-use Rattle.image_laws.specs.board_run.History.{start_of}
-use Rattle.image_laws.specs.board_run.Report.{report_of}
-use Rattle.image_laws.specs.machine_effects.Machine.{fram_of}
-use Rattle.image_laws.specs.machine_effects.Runs.{last_board}
-use Rattle.image_laws.specs.source_values.Runs.{CheckedProgram}
-use Rattle.image_laws.specs.source_meaning.Acceptance.{IsAcceptedText}
-use Rattle.image_laws.specs.source_runs.Naming.{IsMapOf}
-use Rattle.image_laws.specs.source_runs.Traces.{IsTraceOfWords}
-use Rattle.image_laws.specs.source_runs.Tells.{IsToldBySource}
-use Rattle.compiled_laws.specs.compiled_bounds.Laws.{KeepsCapacities}
-use Rattle.image_laws.specs.source_maps.Maps.{map_of}
+use Rattle.cost_bound.specs.declared.allowance.Allow.{Allow}
+use Rattle.energy_trace.specs.TraceValue.{TraceValue}
+use Rattle.image_text.specs.ImageValue.{ImageValue}
+use Rattle.fram_board.specs.Board.{fresh}
+use Rattle.fram_board.specs.Run.{Moment, RunOutcome, Run}
+use Rattle.board_run.specs.Charges.{charges_of}
+use Rattle.board_run.specs.History.{start_of}
+use Rattle.board_run.specs.Report.{report_of}
+use Rattle.machine_effects.specs.Runs.{last_board}
+use Rattle.run_charges.specs.View.{outside_of}
+use Rattle.source_values.specs.Runs.{CheckedProgram}
+use Rattle.source_meaning.specs.Acceptance.{IsAcceptedText}
+use Rattle.source_runs.specs.Naming.{IsMapOf}
+use Rattle.source_runs.specs.Traces.{IsTraceOfWords}
+use Rattle.source_runs.specs.Tells.{IsToldBySource}
+use Rattle.compiled_bounds.specs.Laws.{KeepsCapacities}
+use Rattle.source_maps.specs.Maps.{map_of}
 use Rattle.image_laws.specs.Compiled.{IsCompiled}
 
 -- on any trace of words, the report of the one run of its fresh board is told by the source
@@ -36,4 +36,4 @@ abbrev pub ImagesKeepCapacities : Type 0
 ImagesKeepCapacities = (text : List ℕ) (p : CheckedProgram) (allow : Allow) (image : ImageValue) → IsAcceptedText text p allow
     → (c : IsCompiled text p allow image) → (trace : TraceValue) → IsTraceOfWords trace → (r : RunOutcome)
     → Run (charges_of trace.charges) (fresh image.words trace.readings) r
-    → (ms rest : List Moment) → r.moments ≡ ms ++ rest → KeepsCapacities c.layout (fram_of (last_board (fresh image.words trace.readings) ms).fram)
+    → (ms rest : List Moment) → r.moments ≡ ms ++ rest → KeepsCapacities c.layout (outside_of (last_board (fresh image.words trace.readings) ms)).fram

@@ -1,42 +1,43 @@
 -- What holds of each run of an accepted source's image that goes on from a saved state, on the board itself, beside what holds from its
 -- fresh board.
 use Rattle.std.specs.Prelude.{◌≡◌, ℕ, ◌^◌, ◌%◌, ◌<◌, ◌≤◌, ◌==◌, true, if◌then◌else◌, List, [], ◌++◌, length, drop, All}
-use Rattle.image_laws.specs.msp_step.declared.machine.Stop.{Stop}
-use Rattle.image_laws.specs.msp_step.declared.machine.Stop.TheVariants as stop
-use Rattle.image_laws.specs.memory_map.address_space.Limits.{fram_words}
-use Rattle.image_laws.specs.image_map.MapValue.{MapValue}
-use Rattle.image_laws.specs.image_text.ImageValue.{ImageValue}
-use Rattle.image_laws.specs.fram_board.Board.{BoardValue, started}
-use Rattle.image_laws.specs.fram_board.Saved.{TakesNextBehind}
-use Rattle.image_laws.specs.fram_board.Run.{BoardCharge, Moment, Stopped, RunOutcome, Run, accepted_words}
-use Rattle.image_laws.specs.board_run.History.{start_of}
-use Rattle.image_laws.specs.board_run.Report.{report_of}
-use Rattle.image_laws.specs.machine_effects.World.{World, world_after, IsPrefix}
-use Rattle.image_laws.specs.machine_effects.Machine.{fram_of}
-use Rattle.image_laws.specs.machine_effects.Runs.{last_board}
-use Rattle.image_laws.specs.cost_bound.declared.allowance.Allow.{Allow}
-use Rattle.image_laws.specs.source_values.Runs.{CheckedProgram, State, Transition}
-use Rattle.image_laws.specs.source_meaning.Acceptance.{IsAcceptedText}
-use Rattle.image_laws.specs.source_runs.Tells.{at_first, EachChargePays}
-use Rattle.image_laws.specs.source_runs.Resumed.{IsToldFrom, IsToldBehind}
-use Rattle.image_laws.specs.source_maps.Maps.{map_of}
-use Rattle.image_laws.specs.memory_map.declared.words.RuntimeWord.TheVariants.{CurrentTask, Gate}
-use Rattle.image_laws.specs.memory_map.MemoryMap.{MemoryMap, word_place}
-use Rattle.image_laws.specs.runtime_effects.Stages.{commit_effects}
-use Rattle.image_laws.specs.crash_rules.Model.{IsBetween}
-use Rattle.image_laws.specs.crash_rules.History.{History, first_history}
-use Rattle.image_laws.specs.crash_rules.Laws.{Origin, Resting, Pending, StandsFor, AcceptedWords}
-use Rattle.image_laws.specs.run_charges.Charges.{ArePowerStates, observed}
-use Rattle.image_laws.specs.stands_for.StandsFor.{UndecidedAt, IsSound}
-use Rattle.image_laws.specs.compiled_model.Places.{program_places}
-use Rattle.image_laws.specs.compiled_model.View.{state_view, state_in, state_left}
-use Rattle.image_laws.specs.compiled_model.Parts.{compiled_model}
-use Rattle.compiled_laws.specs.compiled_bounds.Laws.{KeepsCapacities}
-use Rattle.image_laws.specs.model_runs.Events.{words_between}
-use Rattle.image_laws.specs.model_runs.Runs.{IsShort, all_amounts}
+use Rattle.msp_step.specs.declared.machine.Stop.{Stop}
+use Rattle.msp_step.specs.declared.machine.Stop.TheVariants as stop
+use Rattle.address_space.specs.Limits.{fram_words}
+use Rattle.image_map.specs.MapValue.{MapValue}
+use Rattle.image_text.specs.ImageValue.{ImageValue}
+use Rattle.fram_board.specs.Board.{BoardValue, started}
+use Rattle.fram_board.specs.Saved.{TakesNextBehind}
+use Rattle.fram_board.specs.Run.{BoardCharge, Moment, Stopped, RunOutcome, Run, accepted_words}
+use Rattle.board_run.specs.History.{start_of}
+use Rattle.board_run.specs.Report.{report_of}
+use Rattle.machine_effects.specs.World.{World, world_after, IsPrefix}
+use Rattle.machine_effects.specs.Machine.{fram_of}
+use Rattle.machine_effects.specs.Runs.{last_board}
+use Rattle.cost_bound.specs.declared.allowance.Allow.{Allow}
+use Rattle.source_values.specs.Runs.{CheckedProgram, State, Transition}
+use Rattle.source_meaning.specs.Acceptance.{IsAcceptedText}
+use Rattle.source_runs.specs.Tells.{at_first, EachChargePays}
+use Rattle.source_runs.specs.Resumed.{IsToldFrom, IsToldBehind}
+use Rattle.source_maps.specs.Maps.{map_of}
+use Rattle.memory_map.specs.declared.words.RuntimeWord.TheVariants.{CurrentTask, Gate}
+use Rattle.memory_map.specs.MemoryMap.{MemoryMap, word_place}
+use Rattle.runtime_effects.specs.Stages.{commit_effects}
+use Rattle.crash_rules.specs.Model.{IsBetween}
+use Rattle.crash_rules.specs.History.{History, first_history, inputs_from}
+use Rattle.crash_rules.specs.Laws.{Origin, Resting, Pending, StandsFor, AcceptedWords}
+use Rattle.run_charges.specs.View.{outside_of}
+use Rattle.run_charges.specs.Charges.{ArePowerStates, observed}
+use Rattle.stands_for.specs.StandsFor.{UndecidedAt, IsSound}
+use Rattle.compiled_model.specs.Places.{program_places}
+use Rattle.compiled_model.specs.View.{state_view, state_in, state_left}
+use Rattle.compiled_model.specs.Parts.{compiled_model}
+use Rattle.compiled_bounds.specs.Laws.{KeepsCapacities}
+use Rattle.model_runs.specs.Events.{words_between}
+use Rattle.model_runs.specs.Runs.{IsShort, all_amounts}
 use Rattle.image_laws.specs.Compiled.{IsCompiled}
 use Rattle.image_laws.specs.Laws.{fresh_world}
-use Rattle.image_reports.specs.ImageLaw.{start_due, all_due, VersionsBelow, KeepsCode, FetchesCode, RaisesVersion}
+use Rattle.image_reports.specs.ImageLaw.{runtime_marks, start_due, all_due, VersionsBelow, KeepsCode, FetchesCode, RaisesVersion}
 
 -- a world from which a run of an image may go on: the code and the reset vector are the image's, the runtime's counts keep to their
 -- capacities, and it is sound
@@ -71,26 +72,27 @@ pub data IsToldOnward (text : List ℕ) (p : CheckedProgram) (m : MapValue) (l :
 
 -- what is read off the effects of a run's moments, behind them, where this world began it
 abbrev pub known_from : MemoryMap → World → List Moment → History
-known_from l x ms = observed (word_place l Gate) ms (first_history (word_place l Gate) x)
+known_from l x ms = observed (runtime_marks l) ms (first_history (runtime_marks l) x)
 
 -- What holds at each boundary between two instructions of a run that goes on so: `b` is the board behind these moments, and `h` what is
 -- known of the run so far. All is as from a fresh board (`HoldsAt`), and a run may go on from this board too. While the commit that was
 -- pending at the start isn't done, the words accepted since are some of those that the state has beyond the start's which it leaves
 pub record HoldsFrom (p : CheckedProgram) (l : MemoryMap) (image : ImageValue) (x : World) (origin : Origin State) (readings : List ℕ) (b : BoardValue)
     (ms : List Moment) (h : History) : Type 0 where
-  pub fram : h.world.fram ≡ fram_of b.fram
+  pub fram : h.world.fram ≡ (outside_of b).fram
   pub words : h.world.accepted ≡ x.accepted ++ accepted_words ms
   pub number : TakesNextBehind h.world.accepted b.receiver
   pub taken : h.taken ≡ b.taken
-  pub effects : IsPrefix h.effects (all_due p l h.start.fram (drop h.since readings))
+  pub effects : IsPrefix h.effects (all_due p l h.start.fram (inputs_from readings h.since))
   pub stands : StandsFor (compiled_model p l) readings origin h
-  pub never_lost : h.decided ≡ true → (fram_of b.fram (word_place l Gate) ≡ 1) × ((s : State) → UndecidedAt (program_places p l) (state_view p l) s h.world → ⊥)
+  pub never_lost : h.decided ≡ true → ((outside_of b).fram (word_place l Gate) ≡ 1)
+      × ((s : State) → UndecidedAt (program_places p l) (state_view p l) s h.world → ⊥)
   pub accepted : AcceptedWords (compiled_model p l) readings origin h stands.state h.decided
   pub sent : (to : State) → origin ≡ Pending to → h.completed ≡ [] → IsBetween x.accepted to.emitted h.world.accepted
-  pub versions : h.effects ≡ start_due l h.start.fram → VersionsBelow l (fram_of b.fram)
+  pub versions : h.effects ≡ start_due l h.start.fram → VersionsBelow l (outside_of b).fram
   pub belongs : BelongsTo p l image h.world
   -- no store fell on the code, nor on a word behind it
-  pub kept : (a : ℕ) → l.boot.address ≤ a → fram_of b.fram a ≡ x.fram a
+  pub kept : (a : ℕ) → l.boot.address ≤ a → (outside_of b).fram a ≡ x.fram a
   pub fetches : FetchesCode p l image b
 
 -- What holds of a run of an image from a saved state, with these words in FRAM and this number for the next word; the words accepted before

@@ -1,18 +1,18 @@
 -- A compiled source with its map.
 use Rattle.std.specs.Prelude.{◌≡◌, ℕ, List}
-use Rattle.image_laws.specs.image_map.MapValue.{MapValue}
-use Rattle.image_laws.specs.image_map.Kept.{IsMap}
-use Rattle.image_laws.specs.cost_bound.Allowance.{bound_of}
-use Rattle.image_laws.specs.source_values.Runs.{CheckedProgram, State}
-use Rattle.image_laws.specs.source_values.Running.{IsRunnable}
-use Rattle.image_laws.specs.memory_map.MemoryMap.{MemoryMap}
-use Rattle.image_laws.specs.machine_effects.World.{World}
-use Rattle.image_laws.specs.stands_for.StandsFor.{RestsAt}
-use Rattle.image_laws.specs.source_runs.Naming.{IsMapOf}
-use Rattle.image_laws.specs.source_maps.Maps.{map_words}
-use Rattle.image_laws.specs.source_runs.Transitions.{HasWordsOf}
-use Rattle.image_laws.specs.compiled_model.Places.{program_places}
-use Rattle.image_laws.specs.compiled_model.View.{state_view}
+use Rattle.image_map.specs.MapValue.{MapValue}
+use Rattle.image_map.specs.Kept.{IsMap}
+use Rattle.cost_bound.specs.Allowance.{bound_of}
+use Rattle.source_values.specs.Runs.{CheckedProgram, State}
+use Rattle.source_values.specs.Running.{IsRunnable}
+use Rattle.memory_map.specs.MemoryMap.{MemoryMap}
+use Rattle.machine_effects.specs.World.{World}
+use Rattle.stands_for.specs.StandsFor.{RestsAt}
+use Rattle.source_runs.specs.Naming.{IsMapOf}
+use Rattle.source_maps.specs.Maps.{map_words}
+use Rattle.source_runs.specs.Transitions.{HasWordsOf}
+use Rattle.compiled_model.specs.Places.{program_places}
+use Rattle.compiled_model.specs.View.{state_view}
 
 -- a map tells of a source with its layout: its variables and tasks, its bound, the runtime's words, and where the words of each state are
 pub record IsSourcesMap (text : List ℕ) (p : CheckedProgram) (l : MemoryMap) (m : MapValue) : Type 0 where

@@ -1,7 +1,7 @@
 //! The headline, and the capacities of a run. The functions do nothing: their contracts are the laws.
 
 ghost use Rattle.image_reports.specs.Laws.{ImagesAreMapped, ImagesAreTold, ImagesKeepCapacities};
-ghost use Rattle.image_laws.specs.crash_rules.Runs.{Program};
+ghost use Rattle.crash_rules.specs.Runs.{Program};
 ghost use Rattle.image_reports.specs.CompiledLaws.{CompiledRunsAreTold, ModelsAreOfSources};
 
 /// The code of a compiled source as the laws see it.

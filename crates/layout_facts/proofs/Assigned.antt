@@ -6,30 +6,30 @@ use Rattle.std.specs.Option.{option_map}
 use Rattle.std.proofs.lemmas.Bool.{cases_Bool, eqb-true, eq-eqb}
 use Rattle.std.proofs.lemmas.List.{length-map}
 use Rattle.std.proofs.lemmas.Option.{slice_get-map, slice_get_within, get_or_from_slice_get}
-use Rattle.compiled_model.specs.cost_bound.declared.allowance.Allow.{Allow}
-use Rattle.compiled_model.specs.cost_bound.Counts.{block_assigns}
-use Rattle.compiled_model.specs.cost_bound.Allowance.{CheckedProgram, CheckedTask, is_written}
-use Rattle.compiled_model.specs.war_analysis.PlanValue.{TaskPlanValue}
-use Rattle.compiled_model.specs.war_analysis.Plans.{IsPrivateIn, IsArrayAt}
-use Rattle.compiled_model.proofs.war_analysis.Interface.{element}
-use Rattle.compiled_model.proofs.path_sums.Interface.{private_is, is_private_of}
-use Rattle.compiled_model.specs.task_ast.declared.names.Variable.TheVariants.{Shared}
-use Rattle.compiled_model.specs.lower.Seen.{some_path_writes, places_seen, map_seen}
-use Rattle.compiled_model.proofs.lower.Interface.{scalar_seen}
+use Rattle.cost_bound.specs.declared.allowance.Allow.{Allow}
+use Rattle.cost_bound.specs.Counts.{block_assigns}
+use Rattle.cost_bound.specs.Allowance.{CheckedProgram, CheckedTask, is_written}
+use Rattle.war_analysis.specs.PlanValue.{TaskPlanValue}
+use Rattle.war_analysis.specs.Plans.{IsPrivateIn, IsArrayAt}
+use Rattle.war_analysis.proofs.Interface.{element}
+use Rattle.path_sums.proofs.Interface.{private_is, is_private_of}
+use Rattle.task_ast.specs.declared.names.Variable.TheVariants.{Shared}
+use Rattle.lower.specs.Seen.{some_path_writes, places_seen, map_seen}
+use Rattle.lower.proofs.Interface.{scalar_seen}
 use Rattle.compiled_model.specs.Places.{is_private_in}
 use Rattle.layout_facts.specs.Facts.{HasLayout, IsTaskAt, task_places}
 use Rattle.layout_facts.specs.Laws.{TasksMatch, TaskMatches, AddressesAre, AddressIs}
 use Rattle.layout_facts.proofs.Lists.{place_of, contains_at}
 use Rattle.layout_facts.proofs.Privates.{Privates, privates_of, ascending_numbers}
 use Rattle.layout_facts.proofs.Planned.{array_declared, array_extent, array_has_place, places_match}
-use Rattle.compiled_model.specs.memory_map.declared.place.ArrayCopies.{ArrayCopies}
-use Rattle.compiled_model.specs.memory_map.declared.place.ScalarWidth.{ScalarWidth}
-use Rattle.compiled_model.specs.memory_map.declared.place.VariablePlace.TheVariants.{Scalar, Array}
-use Rattle.compiled_model.specs.memory_map.declared.place.PrivateScalar.{PrivateScalar}
-use Rattle.compiled_model.specs.memory_map.MemoryMap.{MemoryMap, TaskPlace}
-use Rattle.compiled_model.specs.memory_map.Places.{HasItsPlace}
-use Rattle.compiled_model.specs.memory_map.Spots.{copy_among, home_of, home_in, copy_else, address_of}
-use Rattle.compiled_model.proofs.memory_map.Interface.{among_is}
+use Rattle.memory_map.specs.declared.place.ArrayCopies.{ArrayCopies}
+use Rattle.memory_map.specs.declared.place.ScalarWidth.{ScalarWidth}
+use Rattle.memory_map.specs.declared.place.VariablePlace.TheVariants.{Scalar, Array}
+use Rattle.memory_map.specs.declared.place.PrivateScalar.{PrivateScalar}
+use Rattle.memory_map.specs.MemoryMap.{MemoryMap, TaskPlace}
+use Rattle.memory_map.specs.Places.{HasItsPlace}
+use Rattle.memory_map.specs.Spots.{copy_among, home_of, home_in, copy_else, address_of}
+use Rattle.memory_map.proofs.Interface.{among_is}
 
 -- what a task assigns is written by some task
 written_by : (ts : List CheckedTask) (t : ℕ) (task : CheckedTask) (v : ℕ) → slice_get ts t ≡ Some task → block_assigns v task.body ≡ true

@@ -2,11 +2,11 @@
 use Rattle.std.proofs.Common.{◌≡◌, ℕ, zero, suc, ◌<◌, ◌≤◌, List, [], ◌∷◌, length, arith, ap, subst, sym, Some, None}
 use Rattle.std.specs.Prelude.{slice_get, All}
 use Rattle.std.proofs.lemmas.List.Elements.{All-head, All-tail}
-use Rattle.compiled_model.specs.cost_bound.Counts.{CheckedBlock, emits_of}
-use Rattle.compiled_model.specs.cost_bound.Allowance.{CheckedProgram, CheckedTask, greatest, list_of}
-use Rattle.compiled_model.proofs.war_analysis.Interface.{element}
-use Rattle.compiled_model.specs.source_values.Runs.{body_of, task_body}
-use Rattle.compiled_model.proofs.memory_map.Interface.{apart_of}
+use Rattle.cost_bound.specs.Counts.{CheckedBlock, emits_of}
+use Rattle.cost_bound.specs.Allowance.{CheckedProgram, CheckedTask, greatest, list_of}
+use Rattle.war_analysis.proofs.Interface.{element}
+use Rattle.source_values.specs.Runs.{body_of, task_body}
+use Rattle.memory_map.proofs.Interface.{apart_of}
 use Rattle.layout_facts.specs.Laws.{PlacesAreApart, TasksHaveRoom}
 
 pub places_are_apart : PlacesAreApart

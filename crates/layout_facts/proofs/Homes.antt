@@ -2,17 +2,17 @@
 use Rattle.std.proofs.Common.{◌≡◌, ℕ, suc, ◌+◌, ◌*◌, ◌%◌, ◌/◌, ◌-◌, ◌<◌, ◌≤◌, ◌⊎◌, inl, inr, Bool, List, [], ◌∷◌, length, map, sym, ap, arith, Some, refl}
 use Rattle.std.specs.Prelude.{slice_get}
 use Rattle.std.proofs.lemmas.Bool.{cases_lt}
-use Rattle.compiled_model.specs.task_ast.declared.Extent.{Extent}
-use Rattle.compiled_model.specs.task_ast.declared.Extent.TheVariants as extent
-use Rattle.compiled_model.specs.task_ast.declared.SharedDeclaration.{SharedDeclaration}
-use Rattle.compiled_model.specs.cost_bound.Allowance.{shared_sum_from, is_written}
-use Rattle.compiled_model.specs.memory_map.declared.place.Region.{Region}
-use Rattle.compiled_model.specs.memory_map.declared.place.VariablePlace.{VariablePlace}
-use Rattle.compiled_model.specs.memory_map.declared.place.VariablePlace.TheVariants.{Scalar, Array}
-use Rattle.compiled_model.specs.memory_map.Places.{end_of, scalar_words, AreInOrder, home_region}
-use Rattle.compiled_model.proofs.memory_map.Interface.{even_of, home_between, one_home}
-use Rattle.compiled_model.specs.privatise.Sizes.{home_part}
-use Rattle.compiled_model.specs.privatise.Layouts.{IsPlaceOf}
+use Rattle.task_ast.specs.declared.Extent.{Extent}
+use Rattle.task_ast.specs.declared.Extent.TheVariants as extent
+use Rattle.task_ast.specs.declared.SharedDeclaration.{SharedDeclaration}
+use Rattle.cost_bound.specs.Allowance.{shared_sum_from, is_written}
+use Rattle.memory_map.specs.declared.place.Region.{Region}
+use Rattle.memory_map.specs.declared.place.VariablePlace.{VariablePlace}
+use Rattle.memory_map.specs.declared.place.VariablePlace.TheVariants.{Scalar, Array}
+use Rattle.memory_map.specs.Places.{end_of, scalar_words, AreInOrder, home_region}
+use Rattle.memory_map.proofs.Interface.{even_of, home_between, one_home}
+use Rattle.privatise.specs.Sizes.{home_part}
+use Rattle.privatise.specs.Layouts.{IsPlaceOf}
 use Rattle.layout_facts.specs.Laws.{SharedWordsAreOfVariables, WordsOfVariablesAreShared, EachIsOneWord}
 
 pub words_of_variables_are_shared : WordsOfVariablesAreShared

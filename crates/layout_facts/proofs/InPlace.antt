@@ -3,23 +3,23 @@ use Rattle.std.proofs.Common.{◌≡◌, ℕ, zero, suc, ◌+◌, ◌*◌, ◌<�
 use Rattle.std.proofs.Common.{⊎_elim, ◌⊎◌, arith, eq-eqb}
 use Rattle.std.specs.Prelude.{slice_get}
 use Rattle.std.proofs.lemmas.Bool.{or_cases, or_left, or_right, and_parts, and_from, eqb-true, not-true, cases_Bool}
-use Rattle.compiled_model.proofs.path_sums.Interface.{some_writes, writes_some, private_is, is_private_of}
-use Rattle.compiled_model.specs.path_sums.Access.{writes, SomePath, IsPrivate}
-use Rattle.compiled_model.specs.task_ast.declared.names.Variable.TheVariants.{Shared}
-use Rattle.compiled_model.specs.cost_bound.Counts.{CheckedBlock}
-use Rattle.compiled_model.specs.source_values.Runs.{task_body}
-use Rattle.compiled_model.specs.lower.Seen.{some_path_writes}
-use Rattle.compiled_model.proofs.memory_map.Interface.{scalar_home}
+use Rattle.path_sums.proofs.Interface.{some_writes, writes_some, private_is, is_private_of}
+use Rattle.path_sums.specs.Access.{writes, SomePath, IsPrivate}
+use Rattle.task_ast.specs.declared.names.Variable.TheVariants.{Shared}
+use Rattle.cost_bound.specs.Counts.{CheckedBlock}
+use Rattle.source_values.specs.Runs.{task_body}
+use Rattle.lower.specs.Seen.{some_path_writes}
+use Rattle.memory_map.proofs.Interface.{scalar_home}
 use Rattle.layout_facts.specs.Laws.{InPlaceByPaths}
 use Rattle.layout_facts.proofs.Homes.{each_is_one_word}
 use Rattle.compiled_model.specs.Places.{is_private_in, stays_in_place, has_word_at, some_scalar_at, program_places}
-use Rattle.compiled_model.specs.memory_map.declared.place.ScalarWidth.{ScalarWidth}
-use Rattle.compiled_model.specs.memory_map.declared.place.ScalarWidth.TheVariants.{OneWord, TwoWords}
-use Rattle.compiled_model.specs.memory_map.MemoryMap.{MemoryMap}
-use Rattle.compiled_model.specs.memory_map.Places.{scalar_words}
-use Rattle.compiled_model.specs.memory_map.Spots.{IsWordOf}
-use Rattle.compiled_model.specs.memory_map.declared.place.VariablePlace.{VariablePlace}
-use Rattle.compiled_model.specs.memory_map.declared.place.VariablePlace.TheVariants.{Scalar, Array}
+use Rattle.memory_map.specs.declared.place.ScalarWidth.{ScalarWidth}
+use Rattle.memory_map.specs.declared.place.ScalarWidth.TheVariants.{OneWord, TwoWords}
+use Rattle.memory_map.specs.MemoryMap.{MemoryMap}
+use Rattle.memory_map.specs.Places.{scalar_words}
+use Rattle.memory_map.specs.Spots.{IsWordOf}
+use Rattle.memory_map.specs.declared.place.VariablePlace.{VariablePlace}
+use Rattle.memory_map.specs.declared.place.VariablePlace.TheVariants.{Scalar, Array}
 
 -- a scalar has so a word at an address
 record HasWordAt (home : ℕ) (width : ScalarWidth) (a : ℕ) : Type 0 where

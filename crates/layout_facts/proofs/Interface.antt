@@ -22,8 +22,8 @@ pub use Rattle.layout_facts.proofs.Planned.{scalar_declared, places_are_declared
 pub use Rattle.layout_facts.proofs.Assigned.{tasks_match, addresses_are}
 -- The commit list has room for all that a task may list.
 pub use Rattle.layout_facts.proofs.Listed.{lists_have_room}
--- Names that are used as they were declared fit a task's places.
-pub use Rattle.layout_facts.proofs.Fits.{names_fit}
+-- A task's places have what its source declares.
+pub use Rattle.layout_facts.proofs.Declared.{places_are_as_declared, written_arrays_have_copies}
 -- What a task sees of a memory map stands in the whole map.
 pub use Rattle.layout_facts.proofs.Seen.{word_of_seen, scalar_of_seen}
 -- The scalars that a task writes in place, by their addresses.

@@ -3,17 +3,17 @@ use Rattle.std.proofs.Common.{◌≡◌, ℕ, ◌+◌, ◌<◌, ◌≤◌, true,
 use Rattle.std.specs.Prelude.{slice_get}
 use Rattle.std.proofs.lemmas.List.Elements.{All-weaker}
 use Rattle.std.proofs.lemmas.Option.{slice_get_within}
-use Rattle.compiled_model.specs.task_ast.declared.Extent.TheVariants as extent
-use Rattle.compiled_model.specs.task_ast.declared.SharedDeclaration.{SharedDeclaration}
-use Rattle.compiled_model.specs.cost_bound.declared.allowance.Allow.{Allow}
-use Rattle.compiled_model.specs.cost_bound.Counts.{stores_of}
-use Rattle.compiled_model.specs.cost_bound.Allowance.{CheckedProgram, list_part}
-use Rattle.compiled_model.specs.war_analysis.PlanValue.{TaskPlanValue}
-use Rattle.compiled_model.specs.war_analysis.Plans.{is_scalar}
-use Rattle.compiled_model.specs.memory_map.declared.place.VariablePlace.TheVariants.{Scalar, Array}
-use Rattle.compiled_model.specs.memory_map.MemoryMap.{MemoryMap, TaskPlace}
-use Rattle.compiled_model.specs.memory_map.Spots.{places_of, Element, IsCopied}
-use Rattle.compiled_model.specs.lower.Spots.{AreListed, listed_of}
+use Rattle.task_ast.specs.declared.Extent.TheVariants as extent
+use Rattle.task_ast.specs.declared.SharedDeclaration.{SharedDeclaration}
+use Rattle.cost_bound.specs.declared.allowance.Allow.{Allow}
+use Rattle.cost_bound.specs.Counts.{stores_of}
+use Rattle.cost_bound.specs.Allowance.{CheckedProgram, list_part}
+use Rattle.war_analysis.specs.PlanValue.{TaskPlanValue}
+use Rattle.war_analysis.specs.Plans.{is_scalar}
+use Rattle.memory_map.specs.declared.place.VariablePlace.TheVariants.{Scalar, Array}
+use Rattle.memory_map.specs.MemoryMap.{MemoryMap, TaskPlace}
+use Rattle.memory_map.specs.Spots.{places_of, Element, IsCopied}
+use Rattle.lower.specs.Spots.{AreListed, listed_of}
 use Rattle.layout_facts.specs.Facts.{HasLayout, task_room}
 use Rattle.layout_facts.specs.Laws.{ListsHaveRoom}
 use Rattle.layout_facts.proofs.Planned.{array_has_place, scalar_has_place, scalar_at}

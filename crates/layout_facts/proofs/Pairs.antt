@@ -3,10 +3,10 @@ use Rattle.std.proofs.Common.{◌≡◌, ℕ, zero, suc, ◌+◌, ◌*◌, ◌<�
 use Rattle.std.proofs.Common.{refl, arith}
 use Rattle.std.specs.Prelude.{Contains, slice_get}
 use Rattle.std.specs.List.{flat_map}
-use Rattle.compiled_model.specs.memory_map.declared.place.PrivateScalar.{PrivateScalar}
-use Rattle.compiled_model.specs.memory_map.Places.{scalar_words}
-use Rattle.compiled_model.specs.runtime_effects.Places.{CopyPair, run_pairs, scalar_pairs}
-use Rattle.compiled_model.specs.stands_for.Layout.{IsAmong}
+use Rattle.memory_map.specs.declared.place.PrivateScalar.{PrivateScalar}
+use Rattle.memory_map.specs.Places.{scalar_words}
+use Rattle.runtime_effects.specs.Places.{CopyPair, run_pairs, scalar_pairs}
+use Rattle.stands_for.specs.Layout.{IsAmong}
 
 -- ---- pairs of two lists
 

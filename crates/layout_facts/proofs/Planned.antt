@@ -2,26 +2,26 @@
 use Rattle.std.proofs.Common.{◌≡◌, ℕ, Bool, true, false, List, length, arith, ap, subst, sym, ◌∙◌, Some, None, refl}
 use Rattle.std.specs.Prelude.{Option, is_some, slice_get, IsSomeAnd}
 use Rattle.std.proofs.lemmas.Option.{slice_get_within}
-use Rattle.compiled_model.specs.task_ast.declared.Extent.{Extent}
-use Rattle.compiled_model.specs.task_ast.declared.Extent.TheVariants as extent
-use Rattle.compiled_model.specs.task_ast.declared.SharedDeclaration.{SharedDeclaration}
-use Rattle.compiled_model.specs.cost_bound.declared.allowance.Allow.{Allow}
-use Rattle.compiled_model.specs.cost_bound.Allowance.{CheckedProgram, is_written}
-use Rattle.compiled_model.specs.war_analysis.PlanValue.{TaskPlanValue}
-use Rattle.compiled_model.specs.war_analysis.Plans.{is_scalar, IsScalarAt, IsArrayAt}
-use Rattle.compiled_model.specs.source_values.Runs.{is_long_extent}
-use Rattle.compiled_model.proofs.war_analysis.Interface.{element}
-use Rattle.compiled_model.specs.privatise.Layouts.{IsPlaceOf}
+use Rattle.task_ast.specs.declared.Extent.{Extent}
+use Rattle.task_ast.specs.declared.Extent.TheVariants as extent
+use Rattle.task_ast.specs.declared.SharedDeclaration.{SharedDeclaration}
+use Rattle.cost_bound.specs.declared.allowance.Allow.{Allow}
+use Rattle.cost_bound.specs.Allowance.{CheckedProgram, is_written}
+use Rattle.war_analysis.specs.PlanValue.{TaskPlanValue}
+use Rattle.war_analysis.specs.Plans.{is_scalar, IsScalarAt, IsArrayAt}
+use Rattle.source_values.specs.Runs.{is_long_extent}
+use Rattle.war_analysis.proofs.Interface.{element}
+use Rattle.privatise.specs.Layouts.{IsPlaceOf}
 use Rattle.layout_facts.specs.Facts.{HasLayout}
 use Rattle.layout_facts.specs.Laws.{PlacesAreDeclared, PlacesMatch}
-use Rattle.compiled_model.specs.memory_map.declared.place.ArrayCopies.{ArrayCopies}
-use Rattle.compiled_model.specs.memory_map.declared.place.ScalarWidth.{ScalarWidth}
-use Rattle.compiled_model.specs.memory_map.declared.place.ScalarWidth.TheVariants.{TwoWords}
-use Rattle.compiled_model.specs.memory_map.Places.{scalar_words}
-use Rattle.compiled_model.specs.privatise.Sizes.{home_part}
-use Rattle.compiled_model.specs.memory_map.declared.place.VariablePlace.{VariablePlace}
-use Rattle.compiled_model.specs.memory_map.declared.place.VariablePlace.TheVariants.{Scalar, Array}
-use Rattle.compiled_model.specs.memory_map.MemoryMap.{MemoryMap}
+use Rattle.memory_map.specs.declared.place.ArrayCopies.{ArrayCopies}
+use Rattle.memory_map.specs.declared.place.ScalarWidth.{ScalarWidth}
+use Rattle.memory_map.specs.declared.place.ScalarWidth.TheVariants.{TwoWords}
+use Rattle.memory_map.specs.Places.{scalar_words}
+use Rattle.privatise.specs.Sizes.{home_part}
+use Rattle.memory_map.specs.declared.place.VariablePlace.{VariablePlace}
+use Rattle.memory_map.specs.declared.place.VariablePlace.TheVariants.{Scalar, Array}
+use Rattle.memory_map.specs.MemoryMap.{MemoryMap}
 
 -- ---- declarations
 

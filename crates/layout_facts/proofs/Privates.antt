@@ -8,37 +8,37 @@ use Rattle.std.proofs.lemmas.List.{length-map, get_or-map}
 use Rattle.std.proofs.lemmas.Bool.{cases_lt, cases_Bool}
 use Rattle.std.proofs.lemmas.List.Elements.{All-head, All-tail}
 use Rattle.std.proofs.lemmas.Option.{slice_get-map, slice_get_within, get_or_from_slice_get}
-use Rattle.compiled_model.specs.cost_bound.declared.allowance.Allow.{Allow}
-use Rattle.compiled_model.specs.cost_bound.Allowance.{CheckedProgram, CheckedTask}
-use Rattle.compiled_model.specs.war_analysis.PlanValue.{TaskPlanValue}
-use Rattle.compiled_model.specs.war_analysis.Plans.{IsTaskPlan}
-use Rattle.compiled_model.proofs.war_analysis.Interface.{element}
-use Rattle.compiled_model.specs.runtime_effects.Places.{CopyPair, run_pairs, scalar_pairs}
-use Rattle.compiled_model.specs.runtime_code.LayoutPlaces.{pairs_of}
-use Rattle.compiled_model.specs.boot_runtime.Entries.{entry_of, task_entries}
-use Rattle.compiled_model.specs.boot_runtime.Listing.{TaskEntry, privates_in}
-use Rattle.compiled_model.specs.stands_for.Layout.{IsSharedWord, IsCopyWord, IsAmong, ArePrivate}
-use Rattle.compiled_model.specs.task_ast.declared.names.Variable.TheVariants.{Shared}
-use Rattle.compiled_model.specs.source_values.Runs.{body_of, task_body}
-use Rattle.compiled_model.proofs.path_sums.Interface.{is_private_of}
+use Rattle.cost_bound.specs.declared.allowance.Allow.{Allow}
+use Rattle.cost_bound.specs.Allowance.{CheckedProgram, CheckedTask}
+use Rattle.war_analysis.specs.PlanValue.{TaskPlanValue}
+use Rattle.war_analysis.specs.Plans.{IsTaskPlan}
+use Rattle.war_analysis.proofs.Interface.{element}
+use Rattle.runtime_effects.specs.Places.{CopyPair, run_pairs, scalar_pairs}
+use Rattle.runtime_code.specs.LayoutPlaces.{pairs_of}
+use Rattle.boot_runtime.specs.Entries.{entry_of, task_entries}
+use Rattle.boot_runtime.specs.Listing.{TaskEntry, privates_in}
+use Rattle.stands_for.specs.Layout.{IsSharedWord, IsCopyWord, IsAmong, ArePrivate}
+use Rattle.task_ast.specs.declared.names.Variable.TheVariants.{Shared}
+use Rattle.source_values.specs.Runs.{body_of, task_body}
+use Rattle.path_sums.proofs.Interface.{is_private_of}
 use Rattle.compiled_model.specs.Places.{is_private_in, stays_in_place, program_places}
 use Rattle.layout_facts.specs.Facts.{HasLayout, IsTaskAt}
 use Rattle.layout_facts.specs.Laws.{PrivatesAreTheirs, ScalarsStand}
 use Rattle.layout_facts.proofs.Homes.{words_of_variables_are_shared, each_is_one_word}
 use Rattle.layout_facts.proofs.InPlace.{scalar_found, found_word, in_place_not_private}
 use Rattle.layout_facts.proofs.Pairs.{among_scalars}
-use Rattle.compiled_model.specs.memory_map.declared.place.PrivateScalar.{PrivateScalar}
-use Rattle.compiled_model.specs.memory_map.declared.place.ScalarWidth.{ScalarWidth}
-use Rattle.compiled_model.specs.memory_map.declared.place.ScalarWidth.TheVariants.{OneWord, TwoWords}
-use Rattle.compiled_model.specs.memory_map.MemoryMap.{MemoryMap, TaskPlace}
-use Rattle.compiled_model.specs.memory_map.Places.{end_of, scalar_words, HasItsPlace, copy_regions, IsLaidOut}
-use Rattle.compiled_model.proofs.memory_map.Interface.{IsIn, within, before, scalar_copy, scalar_home}
+use Rattle.memory_map.specs.declared.place.PrivateScalar.{PrivateScalar}
+use Rattle.memory_map.specs.declared.place.ScalarWidth.{ScalarWidth}
+use Rattle.memory_map.specs.declared.place.ScalarWidth.TheVariants.{OneWord, TwoWords}
+use Rattle.memory_map.specs.MemoryMap.{MemoryMap, TaskPlace}
+use Rattle.memory_map.specs.Places.{end_of, scalar_words, HasItsPlace, copy_regions, IsLaidOut}
+use Rattle.memory_map.proofs.Interface.{IsIn, within, before, copies_row, scalar_copy, scalar_home}
 
 -- ---- a scalar and its copy
 
 pub copy_is : (p : CheckedProgram) (l : MemoryMap) → IsLaidOut l → (v i a : ℕ) → IsIn copy_regions l.variables v i a → IsCopyWord (program_places p l) a
 copy_is p l h v i a c =
-    let b = within copy_regions l.copies.address l.variables (end_of l.copies) v i a h.copies c in
+    let b = within (copies_row l h) v i a c in
     let end = b.end in
     record { even = b.even; from = b.from; below = omega (arith, end) }
 
@@ -73,7 +73,7 @@ copies_differ : (l : MemoryMap) → IsLaidOut l → (s q : PrivateScalar) (i j :
     → s.number < q.number → i < scalar_words s.width → j < scalar_words q.width
     → 2 * i + s.copy ≡ 2 * j + q.copy → ⊥
 copies_differ l h s q i j a b lt is js e =
-    before copy_regions l.copies.address l.variables (end_of l.copies) s.number q.number i j (2 * j + q.copy) h.copies lt
+    before (copies_row l h) s.number q.number i j (2 * j + q.copy) lt
     (subst (λ c. IsIn copy_regions l.variables s.number i c) e (scalar_copy l s.number s.home s.copy s.width i a.place is))
     (scalar_copy l q.number q.home q.copy q.width j b.place js)
 

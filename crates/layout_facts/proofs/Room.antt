@@ -4,14 +4,14 @@ use Rattle.std.proofs.Common.{Some, refl}
 use Rattle.std.specs.Prelude.{slice_get, All, AllPairs, ◌==◌}
 use Rattle.std.proofs.lemmas.Bool.{cases_Bool, eqb-true, eq-eqb, ne_eqb, lt-ltb, le-ltb, cases_lt, cases_eq, cases_order, and_right}
 use Rattle.std.proofs.lemmas.List.Elements.{All-head, All-tail}
-use Rattle.compiled_model.specs.task_ast.declared.Extent.{Extent}
-use Rattle.compiled_model.specs.task_ast.declared.Extent.TheVariants.{Scalar, Long, Array}
-use Rattle.compiled_model.specs.task_ast.declared.SharedDeclaration.{SharedDeclaration}
-use Rattle.compiled_model.specs.cost_bound.Allowance.{shared_sum_from, list_part}
-use Rattle.compiled_model.specs.war_analysis.Plans.{is_scalar}
-use Rattle.compiled_model.specs.memory_map.Spots.{Element}
-use Rattle.compiled_model.specs.lower.alp_words.Words.{bit}
-use Rattle.compiled_model.specs.lower.Spots.{listed_of, AreDifferent}
+use Rattle.task_ast.specs.declared.Extent.{Extent}
+use Rattle.task_ast.specs.declared.Extent.TheVariants.{Scalar, Long, Array}
+use Rattle.task_ast.specs.declared.SharedDeclaration.{SharedDeclaration}
+use Rattle.cost_bound.specs.Allowance.{shared_sum_from, list_part}
+use Rattle.war_analysis.specs.Plans.{is_scalar}
+use Rattle.memory_map.specs.Spots.{Element}
+use Rattle.alp_words.specs.Words.{bit}
+use Rattle.lower.specs.Spots.{listed_of, AreDifferent}
 
 -- how many of these elements are of an array and have an index below a number
 abbrev below_in : ℕ → ℕ → List Element → ℕ

@@ -2,17 +2,17 @@
 use Rattle.std.proofs.Common.{◌≡◌, ℕ, ◌+◌, ◌*◌, ◌<◌, Some, refl, ap, ◌∙◌}
 use Rattle.std.specs.Prelude.{slice_get}
 use Rattle.std.proofs.lemmas.List.Elements.{All-weaker}
-use Rattle.compiled_model.specs.lower.Seen.{some_path_writes, places_seen, map_seen}
-use Rattle.compiled_model.specs.lower.Spots.{Room, HasRoom}
-use Rattle.compiled_model.proofs.lower.Interface.{SeenFrom, scalar, array, read, seen_from}
-use Rattle.compiled_model.specs.cost_bound.Counts.{CheckedBlock}
-use Rattle.compiled_model.specs.memory_map.declared.place.ArrayCopies.{ArrayCopies}
-use Rattle.compiled_model.specs.memory_map.declared.place.ScalarWidth.{ScalarWidth}
-use Rattle.compiled_model.specs.memory_map.declared.place.VariablePlace.{VariablePlace}
-use Rattle.compiled_model.specs.memory_map.declared.place.VariablePlace.TheVariants.{Scalar, Array}
-use Rattle.compiled_model.specs.memory_map.MemoryMap.{MemoryMap, TaskPlace}
-use Rattle.compiled_model.specs.memory_map.Places.{home_region}
-use Rattle.compiled_model.specs.memory_map.Spots.{places_of, Element, IsCopied, IsWordOf}
+use Rattle.lower.specs.Seen.{some_path_writes, places_seen, map_seen}
+use Rattle.lower.specs.Spots.{Room, HasRoom}
+use Rattle.lower.proofs.Interface.{SeenFrom, scalar, array, read, seen_from}
+use Rattle.cost_bound.specs.Counts.{CheckedBlock}
+use Rattle.memory_map.specs.declared.place.ArrayCopies.{ArrayCopies}
+use Rattle.memory_map.specs.declared.place.ScalarWidth.{ScalarWidth}
+use Rattle.memory_map.specs.declared.place.VariablePlace.{VariablePlace}
+use Rattle.memory_map.specs.declared.place.VariablePlace.TheVariants.{Scalar, Array}
+use Rattle.memory_map.specs.MemoryMap.{MemoryMap, TaskPlace}
+use Rattle.memory_map.specs.Places.{home_region}
+use Rattle.memory_map.specs.Spots.{places_of, Element, IsCopied, IsWordOf}
 
 module _ (body : CheckedBlock) (l : MemoryMap) where
   -- a word of a variable is the same word

@@ -1,12 +1,12 @@
 -- The words that a task works on stand apart, behind what it lists and emits.
 use Rattle.std.proofs.Common.{◌≡◌, ℕ, ◌+◌, ◌-◌, ◌*◌, ◌/◌, ◌%◌, ◌<◌, ◌≤◌, arith}
-use Rattle.compiled_model.specs.cost_bound.Counts.{emits_of}
-use Rattle.compiled_model.specs.cost_bound.Allowance.{list_of}
-use Rattle.compiled_model.proofs.memory_map.Interface.{apart_of, even_of, parts_in_fram, element_is, copy_is, version_is, version_between, spots_are_apart}
+use Rattle.cost_bound.specs.Counts.{emits_of}
+use Rattle.cost_bound.specs.Allowance.{list_of}
+use Rattle.memory_map.proofs.Interface.{apart_of, even_of, parts_in_fram, element_is, copy_is, version_is, version_between, spots_are_apart}
 use Rattle.layout_facts.specs.Laws.{TaskPlacesAreApart, TaskPlacesAreEven, ElementsStand}
-use Rattle.compiled_model.specs.memory_map.Spots.{places_of, element_address, copy_address, version_address}
-use Rattle.compiled_model.specs.lower.Seen.{some_path_writes, map_seen}
-use Rattle.compiled_model.proofs.lower.Interface.{privates_seen, seen_laid_out}
+use Rattle.memory_map.specs.Spots.{places_of, element_address, copy_address, version_address}
+use Rattle.lower.specs.Seen.{some_path_writes, map_seen}
+use Rattle.lower.proofs.Interface.{privates_seen, seen_laid_out}
 use Rattle.layout_facts.proofs.Chains.{at_most_greatest}
 use Rattle.layout_facts.proofs.Seen.{word_of_seen}
 use Rattle.layout_facts.proofs.Privates.{privates_of}

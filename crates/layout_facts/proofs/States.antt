@@ -4,21 +4,21 @@ use Rattle.std.proofs.Common.{Some}
 use Rattle.std.proofs.lemmas.Option.{slice_get-map, get_or_from_slice_get}
 use Rattle.std.specs.Option.{option_map}
 use Rattle.std.specs.Prelude.{slice_get, slice_index, slice_index_or}
-use Rattle.compiled_model.specs.task_ast.declared.SharedDeclaration.{SharedDeclaration}
-use Rattle.compiled_model.specs.cost_bound.Allowance.{CheckedProgram, is_written}
-use Rattle.compiled_model.specs.cost_bound.declared.allowance.Allow.{Allow}
-use Rattle.compiled_model.specs.war_analysis.PlanValue.{TaskPlanValue}
-use Rattle.compiled_model.specs.source_values.Runs.{initial_words}
-use Rattle.compiled_model.specs.machine_effects.World.{World}
-use Rattle.compiled_model.specs.memory_map.declared.place.VariablePlace.{VariablePlace}
-use Rattle.compiled_model.specs.memory_map.declared.place.VariablePlace.TheVariants.{Scalar, Array}
-use Rattle.compiled_model.specs.memory_map.MemoryMap.{MemoryMap}
-use Rattle.compiled_model.specs.memory_map.Places.{home_region}
-use Rattle.compiled_model.specs.privatise.Layouts.{IsPlaceOf}
-use Rattle.compiled_model.specs.stands_for.Layout.{IsSharedWord}
-use Rattle.compiled_model.specs.stands_for.StandsFor.{HoldsWords, words_at, RestsAt, IsAtRest}
-use Rattle.compiled_model.proofs.stands_for.Interface.{commit_rests, words_length}
-use Rattle.compiled_model.specs.lower.Agreement.{place_length}
+use Rattle.task_ast.specs.declared.SharedDeclaration.{SharedDeclaration}
+use Rattle.cost_bound.specs.Allowance.{CheckedProgram, is_written}
+use Rattle.cost_bound.specs.declared.allowance.Allow.{Allow}
+use Rattle.war_analysis.specs.PlanValue.{TaskPlanValue}
+use Rattle.source_values.specs.Runs.{initial_words}
+use Rattle.machine_effects.specs.World.{World}
+use Rattle.memory_map.specs.declared.place.VariablePlace.{VariablePlace}
+use Rattle.memory_map.specs.declared.place.VariablePlace.TheVariants.{Scalar, Array}
+use Rattle.memory_map.specs.MemoryMap.{MemoryMap}
+use Rattle.memory_map.specs.Places.{home_region}
+use Rattle.privatise.specs.Layouts.{IsPlaceOf}
+use Rattle.stands_for.specs.Layout.{IsSharedWord}
+use Rattle.stands_for.specs.StandsFor.{HoldsWords, words_at, RestsAt, IsAtRest}
+use Rattle.stands_for.proofs.Interface.{commit_rests, words_length}
+use Rattle.lower.specs.Agreement.{place_length}
 use Rattle.compiled_model.specs.Places.{program_places}
 use Rattle.compiled_model.specs.View.{are_words, are_rows, shared_word, row_in, state_view, state_in}
 use Rattle.layout_facts.specs.Facts.{HasLayout}

@@ -5,19 +5,19 @@ use Rattle.std.specs.Prelude.{slice_get, slice_index, slice_index_or}
 use Rattle.std.proofs.lemmas.Bool.{lt-ltb, le-ltb, le-leb, and_parts, and_from, and_right, eqb-true}
 use Rattle.std.proofs.lemmas.List.{length-replicate}
 use Rattle.std.proofs.lemmas.Option.{slice_get_within}
-use Rattle.compiled_model.specs.task_ast.declared.Extent.{Extent}
-use Rattle.compiled_model.specs.task_ast.declared.Extent.TheVariants as extent
-use Rattle.compiled_model.specs.task_ast.declared.SharedDeclaration.{SharedDeclaration}
-use Rattle.compiled_model.specs.cost_bound.Allowance.{is_written}
-use Rattle.compiled_model.proofs.war_analysis.Interface.{element}
-use Rattle.compiled_model.specs.source_values.Runs.{initial_words}
-use Rattle.compiled_model.specs.memory_map.declared.place.Region.{Region}
-use Rattle.compiled_model.specs.memory_map.declared.place.VariablePlace.{VariablePlace}
-use Rattle.compiled_model.specs.memory_map.declared.place.VariablePlace.TheVariants.{Scalar, Array}
-use Rattle.compiled_model.specs.memory_map.Places.{end_of, scalar_words, AreInOrder, home_region}
-use Rattle.compiled_model.specs.privatise.Layouts.{IsPlaceOf}
-use Rattle.compiled_model.proofs.memory_map.Interface.{in_order_within, mapped}
-use Rattle.compiled_model.specs.lower.Agreement.{place_length}
+use Rattle.task_ast.specs.declared.Extent.{Extent}
+use Rattle.task_ast.specs.declared.Extent.TheVariants as extent
+use Rattle.task_ast.specs.declared.SharedDeclaration.{SharedDeclaration}
+use Rattle.cost_bound.specs.Allowance.{is_written}
+use Rattle.war_analysis.proofs.Interface.{element}
+use Rattle.source_values.specs.Runs.{initial_words}
+use Rattle.memory_map.specs.declared.place.Region.{Region}
+use Rattle.memory_map.specs.declared.place.VariablePlace.{VariablePlace}
+use Rattle.memory_map.specs.declared.place.VariablePlace.TheVariants.{Scalar, Array}
+use Rattle.memory_map.specs.Places.{end_of, scalar_words, AreInOrder, home_region}
+use Rattle.privatise.specs.Layouts.{IsPlaceOf}
+use Rattle.memory_map.proofs.Interface.{in_order_within, mapped}
+use Rattle.lower.specs.Agreement.{place_length}
 use Rattle.compiled_model.specs.View.{is_within, word_of_row, shared_word, are_rows}
 use Rattle.layout_facts.specs.Laws.{ViewHasTheirWords, RowsFitPlaces}
 

@@ -1,16 +1,16 @@
 -- The words of a source's variables, by number and by index.
 use Rattle.std.specs.Prelude.{◌≡◌, ℕ, List, Some, slice_get}
-use Rattle.compiled_model.specs.cost_bound.declared.allowance.Allow.{Allow}
-use Rattle.compiled_model.specs.cost_bound.Counts.{emits_of}
-use Rattle.compiled_model.specs.cost_bound.Allowance.{CheckedProgram, CheckedTask, IsAllowed, list_of}
-use Rattle.compiled_model.specs.war_analysis.PlanValue.{TaskPlanValue}
-use Rattle.compiled_model.specs.war_analysis.Plans.{IsPlan}
-use Rattle.compiled_model.specs.memory_map.MemoryMap.{MemoryMap, TaskPlace}
-use Rattle.compiled_model.specs.privatise.Layouts.{IsLayout}
-use Rattle.compiled_model.specs.linked_code.Rooms.{PrivatesAreCounted}
-use Rattle.compiled_model.specs.memory_map.Spots.{Places, places_of}
-use Rattle.compiled_model.specs.lower.Seen.{map_seen}
-use Rattle.compiled_model.specs.lower.Spots.{Room}
+use Rattle.cost_bound.specs.declared.allowance.Allow.{Allow}
+use Rattle.cost_bound.specs.Counts.{emits_of}
+use Rattle.cost_bound.specs.Allowance.{CheckedProgram, CheckedTask, IsAllowed, list_of}
+use Rattle.war_analysis.specs.PlanValue.{TaskPlanValue}
+use Rattle.war_analysis.specs.Plans.{IsPlan}
+use Rattle.memory_map.specs.MemoryMap.{MemoryMap, TaskPlace}
+use Rattle.privatise.specs.Layouts.{IsLayout}
+use Rattle.linked_code.specs.Rooms.{PrivatesAreCounted}
+use Rattle.memory_map.specs.Spots.{Places, places_of}
+use Rattle.lower.specs.Seen.{map_seen}
+use Rattle.lower.specs.Spots.{Room}
 
 -- a source costs no more than it may, and has this plan and this layout, and no task's private scalars have more words than its allowance counts
 pub record HasLayout (p : CheckedProgram) (allow : Allow) (plans : List TaskPlanValue) (l : MemoryMap) : Type 0 where

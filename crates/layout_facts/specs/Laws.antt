@@ -1,40 +1,40 @@
 -- What the layout of a source gives to the layers above.
 use Rattle.std.specs.Prelude.{◌≡◌, ◌↔◌, ℕ, ◌+◌, ◌*◌, ◌<◌, ◌≤◌, true, false, Option, Some, is_some, List, [], length, map, AllPairs, Contains, slice_get}
 use Rattle.std.specs.Prelude.{slice_index, slice_index_or}
-use Rattle.compiled_model.specs.task_ast.declared.Extent.TheVariants as extent
-use Rattle.compiled_model.specs.task_ast.declared.SharedDeclaration.{SharedDeclaration}
-use Rattle.compiled_model.specs.cost_bound.declared.allowance.Allow.{Allow}
-use Rattle.compiled_model.specs.cost_bound.Counts.{stores_of, block_assigns}
-use Rattle.compiled_model.specs.cost_bound.Allowance.{CheckedProgram, CheckedTask, is_written, scalars_of}
-use Rattle.compiled_model.specs.war_analysis.PlanValue.{TaskPlanValue}
-use Rattle.compiled_model.specs.war_analysis.Plans.{IsPrivateIn}
-use Rattle.compiled_model.specs.war_analysis.Plans as plan
-use Rattle.compiled_model.specs.memory_map.declared.place.ArrayCopies.{ArrayCopies}
-use Rattle.compiled_model.specs.memory_map.declared.place.ScalarWidth.{ScalarWidth}
-use Rattle.compiled_model.specs.memory_map.declared.place.VariablePlace.{VariablePlace}
-use Rattle.compiled_model.specs.memory_map.declared.place.VariablePlace.TheVariants.{Scalar, Array}
-use Rattle.compiled_model.specs.memory_map.declared.place.PrivateScalar.{PrivateScalar}
-use Rattle.compiled_model.specs.memory_map.MemoryMap.{MemoryMap, TaskPlace}
-use Rattle.compiled_model.specs.memory_map.Places.{scalar_words, HasItsPlace}
-use Rattle.compiled_model.specs.privatise.Sizes.{home_part}
-use Rattle.compiled_model.specs.boot_runtime.Entries.{task_entries}
-use Rattle.compiled_model.specs.boot_runtime.Listing.{privates_in}
-use Rattle.compiled_model.specs.memory_map.Laws.{AreApart}
-use Rattle.compiled_model.specs.stands_for.Layout.{HaveRoom, ArePrivate, IsSharedWord, IsCopyWord}
-use Rattle.compiled_model.specs.memory_map.Spots.{Places, address_of, Element, IsElement, IsCopied, element_address, copy_address}
-use Rattle.compiled_model.specs.memory_map.Spots.{version_address, IsWordOf, private_words}
-use Rattle.compiled_model.specs.lower.Spots.{HasRoom}
-use Rattle.compiled_model.specs.lower.Spots as spots
-use Rattle.compiled_model.specs.lower.Agreement.{place_length, BlockFits}
-use Rattle.checked_trees.specs.Uses.{BlockUses}
-use Rattle.compiled_model.specs.path_sums.Access.{writes, SomePath, IsPrivate}
-use Rattle.compiled_model.specs.task_ast.declared.names.Variable.TheVariants.{Shared}
-use Rattle.compiled_model.specs.source_values.Runs.{task_body}
-use Rattle.compiled_model.specs.lower.Seen.{some_path_writes}
+use Rattle.task_ast.specs.declared.Extent.TheVariants as extent
+use Rattle.task_ast.specs.declared.SharedDeclaration.{SharedDeclaration}
+use Rattle.cost_bound.specs.declared.allowance.Allow.{Allow}
+use Rattle.cost_bound.specs.Counts.{stores_of, block_assigns}
+use Rattle.cost_bound.specs.Allowance.{CheckedProgram, CheckedTask, is_written, scalars_of}
+use Rattle.war_analysis.specs.PlanValue.{TaskPlanValue}
+use Rattle.war_analysis.specs.Plans.{IsPrivateIn}
+use Rattle.war_analysis.specs.Plans as plan
+use Rattle.memory_map.specs.declared.place.ArrayCopies.{ArrayCopies}
+use Rattle.memory_map.specs.declared.place.ScalarWidth.{ScalarWidth}
+use Rattle.memory_map.specs.declared.place.VariablePlace.{VariablePlace}
+use Rattle.memory_map.specs.declared.place.VariablePlace.TheVariants.{Scalar, Array}
+use Rattle.memory_map.specs.declared.place.PrivateScalar.{PrivateScalar}
+use Rattle.memory_map.specs.MemoryMap.{MemoryMap, TaskPlace}
+use Rattle.memory_map.specs.Places.{scalar_words, HasItsPlace}
+use Rattle.privatise.specs.Sizes.{home_part}
+use Rattle.boot_runtime.specs.Entries.{task_entries}
+use Rattle.boot_runtime.specs.Listing.{privates_in}
+use Rattle.memory_map.specs.Laws.{AreApart}
+use Rattle.stands_for.specs.Layout.{HaveRoom, ArePrivate, IsSharedWord, IsCopyWord}
+use Rattle.memory_map.specs.Spots.{Places, address_of, Element, IsElement, IsCopied, element_address, copy_address}
+use Rattle.memory_map.specs.Spots.{version_address, IsWordOf, private_words}
+use Rattle.lower.specs.Spots.{HasRoom}
+use Rattle.lower.specs.Spots as spots
+use Rattle.lower.specs.Agreement.{place_length, AsDeclared, HasCopies}
+use Rattle.checked_trees.specs.WellFormed.{WellFormedBlock}
+use Rattle.path_sums.specs.Access.{writes, SomePath, IsPrivate}
+use Rattle.task_ast.specs.declared.names.Variable.TheVariants.{Shared}
+use Rattle.source_values.specs.Runs.{task_body}
+use Rattle.lower.specs.Seen.{some_path_writes}
 use Rattle.compiled_model.specs.Places.{is_private_in, program_places}
 use Rattle.compiled_model.specs.View.{shared_word, are_rows, state_view, state_in, state_left}
-use Rattle.compiled_model.specs.machine_effects.World.{World}
-use Rattle.compiled_model.specs.stands_for.StandsFor.{HoldsWords, RestsAt, IsAtRest, IsPendingCommit, CommittingTo}
+use Rattle.machine_effects.specs.World.{World}
+use Rattle.stands_for.specs.StandsFor.{HoldsWords, RestsAt, IsAtRest, IsPendingCommit, CommittingTo}
 use Rattle.layout_facts.specs.Facts.{HasLayout, IsTaskAt, task_room, task_places}
 
 -- what holds of each source and its layout
@@ -178,9 +178,14 @@ pub record AddressIs (p : CheckedProgram) (l : MemoryMap) (task : CheckedTask) (
 abbrev pub AddressesAre : Type 0
 AddressesAre = OfTasks AddressIs
 
--- names that are used as they were declared fit the task's places, of which it may write what some path writes
-abbrev pub NamesFit : Type 0
-NamesFit = OfTasks (λ p l task layout. BlockUses p.shared task.body → BlockFits (task_places l task layout) (some_path_writes task.body) task.body)
+-- the task's places have what the source declares
+abbrev pub PlacesAreAsDeclared : Type 0
+PlacesAreAsDeclared = OfTasks (λ p l task layout. AsDeclared p.shared (task_places l task layout))
+
+-- of a well-formed task, each array that some path writes has copies
+abbrev pub WrittenArraysHaveCopies : Type 0
+WrittenArraysHaveCopies = OfTasks (λ p l task layout.
+    WellFormedBlock p.shared task.body → HasCopies p.shared (task_places l task layout) (some_path_writes task.body))
 
 -- a task writes the words of a scalar in place exactly where some path of it writes it, and it isn't private there
 abbrev pub InPlaceByPaths : Type 0

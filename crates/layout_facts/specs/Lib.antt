@@ -15,7 +15,6 @@ pub use Rattle.compiled_model.specs.privatise as privatise
 pub use Rattle.compiled_model.specs.source_values as source_values
 pub use Rattle.compiled_model.specs.array_versions as array_versions
 pub use Rattle.compiled_model.specs.lower as lower
-pub use Rattle.whole_programs.specs as whole_programs
 pub use Rattle.compiled_model.specs.runtime_code as runtime_code
 pub use Rattle.compiled_model.specs.boot_runtime as boot_runtime
 pub use Rattle.compiled_model.specs as compiled_model

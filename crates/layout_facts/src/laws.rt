@@ -1,8 +1,8 @@
 //! What holds of the layout of a source, as contracts of functions that do nothing.
-ghost use Rattle.layout_facts.specs.Laws.{AddressesAre, EachIsOneWord, ElementsStand, InPlaceByPaths, ListsHaveRoom, NamesFit, PlacesAreApart};
-ghost use Rattle.layout_facts.specs.Laws.{PlacesAreDeclared, PrivatesAreTheirs, RowsFitPlaces, ScalarsStand};
+ghost use Rattle.layout_facts.specs.Laws.{AddressesAre, EachIsOneWord, ElementsStand, InPlaceByPaths, ListsHaveRoom, PlacesAreApart};
+ghost use Rattle.layout_facts.specs.Laws.{PlacesAreAsDeclared, PlacesAreDeclared, PrivatesAreTheirs, RowsFitPlaces, ScalarsStand};
 ghost use Rattle.layout_facts.specs.Laws.{SharedWordsAreOfVariables, TaskPlacesAreApart, TaskPlacesAreEven, TasksHaveRoom};
-ghost use Rattle.layout_facts.specs.Laws.{TasksMatch, ViewHasTheirWords, WordsOfVariablesAreShared, WorldsHaveStates};
+ghost use Rattle.layout_facts.specs.Laws.{TasksMatch, ViewHasTheirWords, WordsOfVariablesAreShared, WorldsHaveStates, WrittenArraysHaveCopies};
 
 /// The places that the crash theorem takes stand apart.
 pub fn places_are_apart()
@@ -89,9 +89,14 @@ pub fn addresses_are_copies_or_words()
     ensures { AddressesAre }
 {}
 
-/// Names that are used as they were declared fit a task's places.
-pub fn names_fit()
-    ensures { NamesFit }
+/// A task's places have what its source declares.
+pub fn places_are_as_declared()
+    ensures { PlacesAreAsDeclared }
+{}
+
+/// In a well-formed task each array that some path writes has copies.
+pub fn written_arrays_have_copies()
+    ensures { WrittenArraysHaveCopies }
 {}
 
 /// A task writes a scalar in place exactly where some path of it does, and the scalar isn't private there.

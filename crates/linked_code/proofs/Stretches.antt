@@ -1,8 +1,9 @@
 -- The stretches of linked code: from the boot to the start of an attempt and to the commit, from there to a task, the task's body, the commit.
-use Rattle.std.proofs.Common.{◌≡◌, ◌<◌, ◌+◌, ℕ, zero, suc, List, [], ◌∷◌, length, map, get_or, refl, sym, ap, subst, All, arith}
+use Rattle.std.proofs.Common.{◌≡◌, ◌<◌, ◌+◌, ℕ, zero, suc, List, [], ◌∷◌, length, map, get_or, refl, sym, ap, subst, arith}
 use Rattle.std.proofs.lemmas.Option.{slice_get-get_or}
 use Rattle.boot_runtime.specs.fram_board.Effects.{Store}
 use Rattle.boot_runtime.specs.machine_effects.World.{put, fram_after}
+use Rattle.boot_runtime.specs.machine_effects.Inputs.{Inputs, InputsAreWords}
 use Rattle.boot_runtime.specs.machine_effects.Machine.{Code}
 use Rattle.boot_runtime.specs.code_forms.Forms.{Core}
 use Rattle.boot_runtime.specs.code_forms.Code.{Stands}
@@ -17,7 +18,7 @@ use Rattle.boot_runtime.specs.runtime_effects.Stages.{is_at_end, start_effects, 
 use Rattle.boot_runtime.specs.runtime_effects.Needs.{CanCommit}
 use Rattle.boot_runtime.specs.runtime_code.Addresses.{start_address}
 use Rattle.boot_runtime.specs.runtime_code.Comes.{Comes, IsAt, Enters}
-use Rattle.boot_runtime.proofs.runtime_code.Interface.{comes_on, places_are_in_fram, opening_keeps_task}
+use Rattle.boot_runtime.proofs.runtime_code.Interface.{comes_on, known_at, places_are_in_fram, opening_keeps_task}
 use Rattle.boot_runtime.specs.Entries.{entry_of, task_entries}
 use Rattle.boot_runtime.specs.Listing.{TaskEntry, entry_at, privates_in, start_steps, start_cycles}
 use Rattle.boot_runtime.specs.Laws.{IsBoot}
@@ -86,41 +87,41 @@ module _ (l : MemoryMap) (programs : List Program) (fits : CodeFits l programs) 
       }
 
   -- from the boot to the start of an attempt
-  pub to_start : (u : Core) → u.pc ≡ l.boot.address → u.fram (word_place l Gate) ≡ 0 → Comes code [] 2 6 u (IsAt start_at u.fram u.readings_left)
+  pub to_start : (u : Core) → u.pc ≡ l.boot.address → u.fram (word_place l Gate) ≡ 0 → Comes code [] 2 6 u (IsAt start_at u.fram u.inputs)
   to_start u e z = attempt_is_found code l l.commit.address tasks l.boot.address u is_boot e (omega (arith, z)) (λ q. omega (arith, z, q))
 
   -- from the boot to the store to VER, where it isn't at its end
   pub to_raised : (u : Core) → u.pc ≡ l.boot.address → u.fram (word_place l Gate) ≡ 0 → u.fram (word_place l Version) < 0xFFFF
       → let raised = u.fram (word_place l Version) + 1 in
-      Comes code (Store (word_place l Version) raised ∷ []) 5 16 u (IsAt (start_at + 36) (put u.fram (word_place l Version) raised) u.readings_left)
+      Comes code (Store (word_place l Version) raised ∷ []) 5 16 u (IsAt (start_at + 36) (put u.fram (word_place l Version) raised) u.inputs)
   to_raised u e z below =
       version_is_raised code l l.commit.address tasks l.boot.address u is_boot e (omega (arith, z)) (λ q. omega (arith, z, q)) below
 
-  -- from the start of an attempt on FRAM and readings to the code of a task
-  abbrev pub FromStart : Core → (ℕ → ℕ) → List ℕ → Type 0
-  FromStart v f rs =
+  -- from the start of an attempt on FRAM and inputs to the code of a task
+  abbrev pub FromStart : Core → (ℕ → ℕ) → Inputs → Type 0
+  FromStart v f inputs =
       let t = entry_at tasks (f (word_place l CurrentTask)) in
       let clears = is_at_end l f in
       let es = start_effects l (privates_in tasks) f in
       Comes code es (start_steps clears l.versions.words (length t.privates)) (start_cycles clears l.versions.words (length t.privates)) v
-      (Enters t.code stack_top (fram_after es f) rs)
+      (Enters t.code stack_top (fram_after es f) inputs)
 
-  start_there : (v : Core) (f : ℕ → ℕ) (rs : List ℕ) → IsAt start_at f rs v → f (word_place l CurrentTask) < length tasks
-      → f (word_place l Version) < 0x10000 → FromStart v f rs
-  start_there v f rs h named word =
+  start_there : (v : Core) (f : ℕ → ℕ) (inputs : Inputs) → IsAt start_at f inputs v → f (word_place l CurrentTask) < length tasks
+      → f (word_place l Version) < 0x10000 → FromStart v f inputs
+  start_there v f inputs h named word =
       let k : v.fram (word_place l CurrentTask) < length tasks = subst (λ g. g (word_place l CurrentTask) < length tasks) (sym h.fram) named in
-      let a : FromStart v v.fram v.readings_left = start_is_made code l l.commit.address tasks l.boot.address v is_boot h.pc k
+      let a : FromStart v v.fram v.inputs = start_is_made code l l.commit.address tasks l.boot.address v is_boot h.pc k
       (subst (λ g. g (word_place l Version) < 0x10000) (sym h.fram) word) in
-      subst (λ q. FromStart v f q) h.readings_left (subst (λ g. FromStart v g v.readings_left) h.fram a)
+      known_at (FromStart v) h a
 
   -- from where a board enters to the code of the task that CUR names
-  pub to_task : (u : Core) (steps cycles : ℕ) → Comes code [] steps cycles u (IsAt start_at u.fram u.readings_left)
+  pub to_task : (u : Core) (steps cycles : ℕ) → Comes code [] steps cycles u (IsAt start_at u.fram u.inputs)
       → u.fram (word_place l CurrentTask) < length programs → u.fram (word_place l Version) < 0x10000
       → let t = entry_at tasks (u.fram (word_place l CurrentTask)) in
       let clears = is_at_end l u.fram in
       let es = start_effects l (privates_in tasks) u.fram in
       Comes code es (steps + start_steps clears l.versions.words (length t.privates)) (cycles + start_cycles clears l.versions.words (length t.privates)) u
-      (Enters t.code stack_top (fram_after es u.fram) u.readings_left)
+      (Enters t.code stack_top (fram_after es u.fram) u.inputs)
   to_task u steps cycles a named word =
       let count = programs_count l.tasks programs fits.tasks in
       let e = entries_count l.tasks in
@@ -128,8 +129,8 @@ module _ (l : MemoryMap) (programs : List Program) (fits : CodeFits l programs) 
       let clears = is_at_end l u.fram in
       let es = start_effects l (privates_in tasks) u.fram in
       comes_on code steps (start_steps clears l.versions.words (length t.privates)) cycles (start_cycles clears l.versions.words (length t.privates)) u
-      (IsAt start_at u.fram u.readings_left) (Enters t.code stack_top (fram_after es u.fram) u.readings_left) [] es a
-      (λ v h. start_there v u.fram u.readings_left h (omega (arith, named, count, e)) word)
+      (IsAt start_at u.fram u.inputs) (Enters t.code stack_top (fram_after es u.fram) u.inputs) [] es a
+      (λ v h. start_there v u.fram u.inputs h (omega (arith, named, count, e)) word)
 
   -- the code of a task stands where the boot comes to it
   task_stands : (k : ℕ) → k < length programs → Stands code (entry_at tasks k).code (code_of (program k))
@@ -142,54 +143,54 @@ module _ (l : MemoryMap) (programs : List Program) (fits : CodeFits l programs) 
       let d : t.code.address ≡ (entry_at tasks k).code = ap (λ x. x.code) (sym (entry_is l.tasks k)) in
       subst (λ q. Stands code q (code_of (program k))) d s
 
-  -- what a task's body does on FRAM and readings
-  abbrev pub DoesBody : Core → ℕ → (ℕ → ℕ) → List ℕ → Type 0
-  DoesBody v k g rs =
-      let b = behaviour (program k) (started g rs) in ComesTo code (code_spent (program k) (started g rs)) v b.effects b.end
+  -- what a task's body does on FRAM and inputs
+  abbrev pub DoesBody : Core → ℕ → (ℕ → ℕ) → Inputs → Type 0
+  DoesBody v k g inputs =
+      let b = behaviour (program k) (started g inputs) in ComesTo code (code_spent (program k) (started g inputs)) v b.effects b.end
 
   -- where a task is entered, its code does as its word program
-  pub body_there : (v : Core) (k : ℕ) (g : ℕ → ℕ) (rs : List ℕ) → Enters (entry_at tasks k).code stack_top g rs v → k < length programs
-      → ((a : ℕ) → g a < 0x10000) → All (λ w. w < 0x10000) rs → DoesBody v k g rs
-  body_there v k g rs h named words readings =
+  pub body_there : (v : Core) (k : ℕ) (g : ℕ → ℕ) (inputs : Inputs) → Enters (entry_at tasks k).code stack_top g inputs v → k < length programs
+      → ((a : ℕ) → g a < 0x10000) → InputsAreWords inputs → DoesBody v k g inputs
+  body_there v k g inputs h named words ready =
       let i : IsEntry (entry_at tasks k).code v = record {
         pc = h.pc;
         sp = h.sp;
         fram = subst (λ f. (a : ℕ) → f a < 0x10000) (sym h.fram) words;
-        readings = subst (λ q. All (λ w. w < 0x10000) q) (sym h.readings_left) readings;
+        inputs = subst InputsAreWords (sym h.inputs) ready;
       } in
-      let a : DoesBody v k v.fram v.readings_left = code_does_as_program code (entry_at tasks k).code (program k) v is_linked.tidy (task_stands k named)
+      let a : DoesBody v k v.fram v.inputs = code_does_as_program code (entry_at tasks k).code (program k) v is_linked.tidy (task_stands k named)
       (whole.whole k named) (whole.of_words k named) i in
-      subst (λ q. DoesBody v k g q) h.readings_left (subst (λ f. DoesBody v k f v.readings_left) h.fram a)
+      subst (λ q. DoesBody v k g q) h.inputs (subst (λ f. DoesBody v k f v.inputs) h.fram a)
 
   -- the commit on FRAM
-  abbrev pub DoesCommit : Core → (ℕ → ℕ) → List ℕ → Type 0
-  DoesCommit v f rs =
+  abbrev pub DoesCommit : Core → (ℕ → ℕ) → Inputs → Type 0
+  DoesCommit v f inputs =
       let es = commit_effects l f in
       let n = f (word_place l ListLength) in let ws = length (listed l f) in let k = f (word_place l EmitCount) in
       Comes code es (commit_steps n ws k) (commit_cycles n ws k) v
-      (IsAt start_at (fram_after es f) rs)
+      (IsAt start_at (fram_after es f) inputs)
 
   -- where the commit is entered and can be made, its code makes it
-  pub commit_there : (v : Core) (f : ℕ → ℕ) (rs : List ℕ) → IsAt l.commit.address f rs v → CanCommit l f
-      → f (word_place l SentBase) < 0x10000 → DoesCommit v f rs
-  commit_there v f rs h can word =
+  pub commit_there : (v : Core) (f : ℕ → ℕ) (inputs : Inputs) → IsAt l.commit.address f inputs v → CanCommit l f
+      → f (word_place l SentBase) < 0x10000 → DoesCommit v f inputs
+  commit_there v f inputs h can word =
       let c = fits.commit in let d = (apart_of l fits.rules).code in let k = (apart_of l fits.rules).high in
       let even = (even_of l fits.rules).boot in
-      let a : DoesCommit v v.fram v.readings_left = commit_is_made code l l.commit.address start_at v is_linked.tidy is_boot.places
+      let a : DoesCommit v v.fram v.inputs = commit_is_made code l l.commit.address start_at v is_linked.tidy is_boot.places
       (omega (arith, c, d, k)) (omega (arith, even)) parts.commit h.pc (subst (CanCommit l) (sym h.fram) can)
       (subst (λ g. g (word_place l SentBase) < 0x10000) (sym h.fram) word) in
-      subst (λ q. DoesCommit v f q) h.readings_left (subst (λ g. DoesCommit v g v.readings_left) h.fram a)
+      known_at (DoesCommit v) h a
 
   -- from the boot to the commit, where GATE is 1
   pub to_commit : (u : Core) → u.pc ≡ l.boot.address → u.fram (word_place l Gate) ≡ 1 → CanCommit l u.fram
       → u.fram (word_place l SentBase) < 0x10000
       → let es = commit_effects l u.fram in
       let n = u.fram (word_place l ListLength) in let ws = length (listed l u.fram) in let k = u.fram (word_place l EmitCount) in
-      Comes code es (3 + commit_steps n ws k) (9 + commit_cycles n ws k) u (IsAt start_at (fram_after es u.fram) u.readings_left)
+      Comes code es (3 + commit_steps n ws k) (9 + commit_cycles n ws k) u (IsAt start_at (fram_after es u.fram) u.inputs)
   to_commit u e one can word =
       let es = commit_effects l u.fram in
       let n = u.fram (word_place l ListLength) in let ws = length (listed l u.fram) in let k = u.fram (word_place l EmitCount) in
-      comes_on code 3 (commit_steps n ws k) 9 (commit_cycles n ws k) u (IsAt l.commit.address u.fram u.readings_left)
-      (IsAt start_at (fram_after es u.fram) u.readings_left) [] es
+      comes_on code 3 (commit_steps n ws k) 9 (commit_cycles n ws k) u (IsAt l.commit.address u.fram u.inputs)
+      (IsAt start_at (fram_after es u.fram) u.inputs) [] es
       (pending_commit_is_found code l l.commit.address tasks l.boot.address u is_boot e one)
-      (λ v h. commit_there v u.fram u.readings_left h can word)
+      (λ v h. commit_there v u.fram u.inputs h can word)

@@ -6,37 +6,42 @@ use Rattle.task_ast.specs.declared.WordType.TheVariants.{Unsigned, Int, Long}
 use Rattle.task_ast.specs.declared.names.Variable.{Variable}
 use Rattle.task_ast.specs.declared.names.Variable.TheVariants.{Shared}
 use Rattle.task_ast.specs.Types.{IsOneWord, type_of, by_width}
-use Rattle.source_values.specs.Values.{Variables, with_word, converted, value_of}
-use Rattle.source_values.specs.Statements.{Attempt, Outcome, if_value, assigned}
+use Rattle.source_values.specs.Values.{Variables, Attempt, Evaluated, with_word, converted, value_of}
+use Rattle.source_values.specs.Statements.{Outcome, if_value, assigned}
+use Rattle.source_values.proofs.Interface.{IsBehind}
 use Rattle.lower.specs.Agreement.{converted_to}
 
 -- the value of an expression as one word
-abbrev pub word_value : CheckedExpression → Variables → List ℕ → Option (ℕ × List ℕ)
-word_value e m left = converted_to (type_of e) Unsigned (value_of e m left)
+abbrev pub word_value : CheckedExpression → Attempt → Option Evaluated
+word_value e m = converted_to (type_of e) Unsigned (value_of e m)
 
 -- as an expression of one word has it
-same_word : (of : WordType) → IsOneWord of → (o : Option (ℕ × List ℕ)) → converted_to of Unsigned o ≡ o
+same_word : (of : WordType) → IsOneWord of → (o : Option Evaluated) → converted_to of Unsigned o ≡ o
 same_word Long k o = absurd k
 same_word Int k None = refl
 same_word Int k (Some x) = refl
 same_word Unsigned k None = refl
 same_word Unsigned k (Some x) = refl
 
-pub word_as_value : (e : CheckedExpression) (m : Variables) (left : List ℕ) → IsOneWord (type_of e) → word_value e m left ≡ value_of e m left
-word_as_value e m left k = same_word (type_of e) k (value_of e m left)
+pub word_as_value : (e : CheckedExpression) (m : Attempt) → IsOneWord (type_of e) → word_value e m ≡ value_of e m
+word_as_value e m k = same_word (type_of e) k (value_of e m)
 
 -- ---- what goes on with a value
 
+-- an attempt behind one that is behind another
+pub both_behind : {m s u : Attempt} → IsBehind m s → IsBehind s u → IsBehind m u
+both_behind is then = record { variables = then.variables ∙ is.variables; emitted = then.emitted ∙ is.emitted }
+
 -- alike with each value
-pub if_same : (o : Option (ℕ × List ℕ)) (m : Attempt) (f g : ℕ → Attempt → Outcome) → ((v : ℕ) (s : Attempt) → f v s ≡ g v s) → if_value o m f ≡ if_value o m g
-if_same None m f g h = refl
-if_same (Some x) m f g h = h x.0 (record m { left = x.1 })
+pub if_same : (o : Option Evaluated) (f g : ℕ → Attempt → Outcome) → ((v : ℕ) (s : Attempt) → f v s ≡ g v s) → if_value o f ≡ if_value o g
+if_same None f g h = refl
+if_same (Some x) f g h = h x.value x.behind
 
 -- with a value that is converted
-pub if_converted : (from to : WordType) (o : Option (ℕ × List ℕ)) (m : Attempt) (f : ℕ → Attempt → Outcome)
-    → if_value (converted_to from to o) m f ≡ if_value o m (λ v s. f (converted from to v) s)
-if_converted from to None m f = refl
-if_converted from to (Some x) m f = refl
+pub if_converted : (from to : WordType) (o : Option Evaluated) (f : ℕ → Attempt → Outcome)
+    → if_value (converted_to from to o) f ≡ if_value o (λ v s. f (converted from to v) s)
+if_converted from to None f = refl
+if_converted from to (Some x) f = refl
 
 -- ---- assignments
 

@@ -2,6 +2,7 @@
 use Rattle.std.proofs.Common.{◌≡◌, ℕ, List, Option, Some, None, Bool, true, false, nat_le, nat_lt, if◌then◌else◌, refl, sym, ap, ◌∙◌, subst, arith}
 use Rattle.task_ast.specs.Tree as t
 use Rattle.task_ast.specs.Paths.{CheckedExpression}
+use Rattle.task_ast.specs.declared.SharedDeclaration.{SharedDeclaration}
 use Rattle.task_ast.specs.declared.WordType.{WordType}
 use Rattle.task_ast.specs.declared.WordType.TheVariants.{Unsigned, Int, Long}
 use Rattle.task_ast.specs.declared.UnaryOperator.{UnaryOperator}
@@ -15,26 +16,31 @@ use Rattle.std.proofs.lemmas.Bool.Decides.{nat_tests}
 use Rattle.task_ast.specs.Types.{IsOneWord, binary_type, unary_type, literal_type}
 use Rattle.task_ast.proofs.Interface as one_word
 use Rattle.task_check.specs.Occurrences.{is_refused}
-use Rattle.source_values.specs.Values.{◌>>?◌, Variables, word_at, by_width, two_words, converted, type_of, joined_type, value_of}
+use Rattle.source_values.specs.Values.{Attempt, Evaluated, evaluated, gives, made_of, truth_word, word_at, by_width, two_words, converted, type_of}
+use Rattle.source_values.specs.Values.{joined_type, value_of}
+use Rattle.source_values.proofs.Interface.{IsBehind, value_takes, made_behind}
 use Rattle.source_values.specs.Values.{unary_result, binary_value, binary_result, long_binary_value, shift_value, shift_result}
 use Rattle.array_versions.proofs.Interface.{joined_go_on}
 use Rattle.array_versions.specs.Program.{number, shift, sense, load, long, step, joined}
 use Rattle.array_versions.specs.declared.operations.LongOperation.TheVariants as with_longs
-use Rattle.array_versions.specs.Behaviour.{WordState, pushed, behaviour}
+use Rattle.array_versions.specs.Behaviour.{WordState, with_readings, pushed, behaviour}
 use Rattle.memory_map.specs.Spots.{Places, address_of, scalar_address, IsScalarWord, scalar}
 use Rattle.lower.specs.Operations.{binary_meaning, shift_operation, operand_type, long_meaning}
 use Rattle.lower.specs.Lowered.{one, high_address, read_step, read_long, element_step, Lowering, as_word, word_program, value_test, long_words}
 use Rattle.lower.specs.Lowered.{long_program, name_lowering, operand_lowering, binary_lowering, sides_lowering, shift_lowering}
 use Rattle.lower.specs.Lowered.{sides_test, widened_type, lowering, lowered_long, lowered_test}
 use Rattle.lower.specs.Spots.{Room, AreApart, AreEven}
-use Rattle.lower.specs.Agreement.{IsLong, IsOfType, ExpressionFits, HoldVariables, valued, long_valued, AgreesWithValue}
-use Rattle.lower.specs.Agreement.{AgreesWithLong, converted_to, truth_of, ExpressionsAgree, LongsAgree, TestsAgree}
+use Rattle.checked_trees.specs.WellFormed.{WellFormedExpression}
+use Rattle.checked_trees.proofs.Interface.{array_word}
+use Rattle.lower.specs.Agreement.{AsDeclared, HoldVariables, valued, long_valued, AgreesWithValue}
+use Rattle.lower.specs.Agreement.{AgreesWithLong, in_state, converted_to, truth_of, ExpressionsAgree, LongsAgree, TestsAgree}
 use Rattle.lower.proofs.Addresses.{first_address}
-use Rattle.lower.proofs.Values.{value_done, agrees_then, read_agrees, word_read_agrees, element_agrees, sense_agrees, binary_same, shift_same, sides_of_truth}
+use Rattle.lower.proofs.Declared.{IsLong, IsKnownAs, known_as, array_known}
+use Rattle.lower.proofs.Values.{value_done, agrees_given, read_agrees, word_read_agrees, element_agrees, sense_agrees, binary_same, shift_same, sides_of_truth}
 use Rattle.lower.proofs.Values.{sides_are_truth, pair_value, truth_pushed, from_left, LoweringAgrees, by_word, by_test, then_step, SidesAgree, binary_agrees}
 use Rattle.lower.proofs.Values.{not_agrees, unary_agrees, side_agrees}
 use Rattle.lower.proofs.Updates.{joined_words}
-use Rattle.lower.proofs.Longs.{AgreesAs, LongAgrees, LongSidesAgree, made_of, as_one_word, of_one_word, by_long, pair_same, words_agree, word_agrees}
+use Rattle.lower.proofs.Longs.{AgreesAs, LongAgrees, LongSidesAgree, as_one_word, of_one_word, by_long, pair_same, words_agree, word_agrees}
 use Rattle.lower.proofs.Longs.{long_agrees}
 use Rattle.lower.proofs.Longs.{test_agrees, negated, complemented, long_shifted, long_meaning_type, long_meaning_value, long_same, long_binary_agrees}
 
@@ -45,27 +51,28 @@ pub high_is : (p : Places) (room : Room) (v : ℕ) → AreApart p room → IsSca
 high_is p room v apart k = let below = apart.below (scalar v 1) k in omega (arith, below)
 
 -- two words read one behind the other are a long
-read_long_agrees : (p : Places) (room : Room) (x : Variable) (m : Variables) (w : WordState) → AreApart p room → AreEven p → IsLong p x
-    → HoldVariables p m w.fram w.locals
-    → AgreesWithLong w (behaviour (read_long p x) w) (Some (two_words (word_at m x 0) (word_at m x 1), w.readings))
+read_long_agrees : (p : Places) (room : Room) (x : Variable) (m : Attempt) (w : WordState) → AreApart p room → AreEven p → IsLong p x
+    → HoldVariables p m.variables w.fram w.locals
+    → AgreesWithLong w (behaviour (read_long p x) w) (gives (two_words (word_at m.variables x 0) (word_at m.variables x 1)) (in_state w m))
 read_long_agrees p room (Shared v) m w apart even k h =
     let a = address_of p v in
     let joins = one (long with_longs.Join) in
-    let high = word_at m (Shared v) 1 in
-    let whole : ℕ × List ℕ → Option (ℕ × List ℕ) = λ x. Some (two_words x.0 high, x.1) in
+    let low = evaluated (word_at m.variables (Shared v) 0) (in_state w m) in
+    let high = evaluated (word_at m.variables (Shared v) 1) (in_state w m) in
+    let whole = gives (two_words low.value high.value) (in_state w m) in
     let first : IsScalarWord p v 0 = omega (arith, k) in
-    subst (λ b. AgreesWithLong w b (whole (word_at m (Shared v) 0, w.readings))) (sym (joined_go_on (one (load a)) (step (load (high_address a)) joins) w))
-    (agrees_then (valued w) (long_valued w) (behaviour (one (load a)) w) (Some (word_at m (Shared v) 0, w.readings))
-    (behaviour (step (load (high_address a)) joins)) whole (word_read_agrees p room v 0 a m w (sym (first_address p v)) apart even first h) (λ x.
-    subst (λ b. AgreesWithLong w b (whole x)) (sym (joined_go_on (one (load (high_address a))) joins (valued w x)))
-    (agrees_then (valued (valued w x)) (long_valued w) (behaviour (one (load (high_address a))) (valued w x)) (Some (high, x.1)) (behaviour joins)
-    (λ y. Some (two_words x.0 y.0, y.1))
-    (word_read_agrees p room v 1 (high_address a) m (valued w x) (high_is p room v apart k) apart even k h) (λ y. (tt, refl)))))
+    subst (λ b. AgreesWithLong w b whole) (sym (joined_go_on (one (load a)) (step (load (high_address a)) joins) w))
+    (agrees_given (valued w) (long_valued w) (behaviour (one (load a)) w) low (behaviour (step (load (high_address a)) joins)) whole
+    (word_read_agrees p room v 0 a m w (sym (first_address p v)) apart even first h)
+    (subst (λ b. AgreesWithLong w b whole) (sym (joined_go_on (one (load (high_address a))) joins (valued w low)))
+    (agrees_given (valued (valued w low)) (long_valued w) (behaviour (one (load (high_address a))) (valued w low)) high (behaviour joins) whole
+    (word_read_agrees p room v 1 (high_address a) m (valued w low) (high_is p room v apart k) apart even k h) (tt, refl))))
 read_long_agrees p room (Local n) m w apart even k h = absurd k
 
-name_agrees : (of : WordType) (p : Places) (room : Room) (x : Variable) (m : Variables) (w : WordState) → AreApart p room → AreEven p
-    → IsOfType p of x → HoldVariables p m w.fram w.locals
-    → AgreesAs of w (name_lowering p of x) (Some (by_width of (word_at m x 0) (two_words (word_at m x 0) (word_at m x 1)), w.readings))
+name_agrees : (of : WordType) (p : Places) (room : Room) (x : Variable) (m : Attempt) (w : WordState) → AreApart p room → AreEven p
+    → IsKnownAs p of x → HoldVariables p m.variables w.fram w.locals
+    → (let low = word_at m.variables x 0 in
+    AgreesAs of w (name_lowering p of x) (gives (by_width of low (two_words low (word_at m.variables x 1))) (in_state w m)))
 name_agrees Long p room x m w apart even k h = by_long w (read_long p x) _ (read_long_agrees p room x m w apart even k h)
 name_agrees Int p room x m w apart even k h = by_word w (one (read_step p x)) _ (read_agrees p room x m w apart even k h)
 name_agrees Unsigned p room x m w apart even k h = by_word w (one (read_step p x)) _ (read_agrees p room x m w apart even k h)
@@ -73,28 +80,28 @@ name_agrees Unsigned p room x m w apart even k h = by_word w (one (read_step p x
 -- ---- operators
 
 -- of a long, `-` and `~` stand behind its words, and `!` is a test
-long_operand_agrees : (op : UnaryOperator) (w : WordState) (l : Lowering) (o : Option (ℕ × List ℕ)) → LongAgrees w l o → LongAgrees (pushed 0 (pushed 0 w)) l o
-    → AgreesAs (unary_type op Long) w (operand_lowering Long op l) (o >>? λ x. Some (unary_result op Long x.0, x.1))
+long_operand_agrees : (op : UnaryOperator) (w : WordState) (l : Lowering) (o : Option Evaluated) → LongAgrees w l o → LongAgrees (pushed 0 (pushed 0 w)) l o
+    → AgreesAs (unary_type op Long) w (operand_lowering Long op l) (made_of (unary_result op Long) o)
 long_operand_agrees unary_operator.Negate w l o h k = by_long w _ _ (negated w (long_words l) o (words_agree (pushed 0 (pushed 0 w)) l o k))
 long_operand_agrees unary_operator.Complement w l o h k = by_long w _ _ (complemented w (long_words l) o (words_agree w l o h))
 long_operand_agrees unary_operator.Not w l o h k = not_agrees w (value_test l) o (test_agrees Long w l o h)
 
-operand_agrees : (op : UnaryOperator) (of : WordType) (w : WordState) (l : Lowering) (o : Option (ℕ × List ℕ)) → AgreesAs of w l o
+operand_agrees : (op : UnaryOperator) (of : WordType) (w : WordState) (l : Lowering) (o : Option Evaluated) → AgreesAs of w l o
     → AgreesAs of (pushed 0 (pushed 0 w)) l o
-    → AgreesAs (unary_type op of) w (operand_lowering of op l) (o >>? λ x. Some (unary_result op of x.0, x.1))
+    → AgreesAs (unary_type op of) w (operand_lowering of op l) (made_of (unary_result op of) o)
 operand_agrees op Long w l o h k = long_operand_agrees op w l o h k
 operand_agrees op Int w l o h k = as_one_word (unary_type op Int) (one_word.unary_word op Int tt) w _ _ (unary_agrees op w l o h)
 operand_agrees op Unsigned w l o h k = as_one_word (unary_type op Unsigned) (one_word.unary_word op Unsigned tt) w _ _ (unary_agrees op w l o h)
 
 -- two operands of types s and t, which become long by types u and v: the second behind the first as one word, and both as longs
-record OperandsAgree (s of u v : WordType) (w : WordState) (l r : Lowering) (o : Option (ℕ × List ℕ)) (second : List ℕ → Option (ℕ × List ℕ)) : Type 0 where
+record OperandsAgree (s of u v : WordType) (w : WordState) (l r : Lowering) (o : Option Evaluated) (second : Attempt → Option Evaluated) : Type 0 where
   left : AgreesAs s w l o
-  right : (x : ℕ × List ℕ) → AgreesAs of (valued w x) r (second x.1)
-  longs : LongSidesAgree w (long_program u l) (long_program v r) (converted_to s Long o) (λ left. converted_to of Long (second left))
+  right : (x : Evaluated) → o ≡ Some x → AgreesAs of (valued w x) r (second x.behind)
+  longs : LongSidesAgree w (long_program u l) (long_program v r) (converted_to s Long o) (λ m. converted_to of Long (second m))
 
 -- an operator between words
 words_agree_by : (is : WordType) (op : BinaryOperator) (s of u v : WordType) → IsOneWord is → joined_type s of ≡ is → (w : WordState) (l r : Lowering)
-    (o : Option (ℕ × List ℕ)) (second : List ℕ → Option (ℕ × List ℕ)) → OperandsAgree s of u v w l r o second
+    (o : Option Evaluated) (second : Attempt → Option Evaluated) → OperandsAgree s of u v w l r o second
     → AgreesAs (binary_type op s of) w (binary_lowering (binary_meaning op is) (joined (word_program l) (word_program r)))
     (pair_value (binary_result op s of) o second)
 words_agree_by is op s of u v k e w l r o second h =
@@ -103,7 +110,7 @@ words_agree_by is op s of u v k e w l r o second h =
     let right = word_program r in
     let sides : SidesAgree w left right o second = record {
       left_side = (of_one_word s words.0 w l o h.left).word;
-      right_side = λ x. (of_one_word of words.1 (valued w x) r (second x.1) (h.right x)).word;
+      right_side = λ x is. (of_one_word of words.1 (valued w x) r (second x.behind) (h.right x is)).word;
     } in
     as_one_word (binary_type op s of) (one_word.binary_word op s of words.0 words.1) w _ _
     (subst (LoweringAgrees w (binary_lowering (binary_meaning op is) (joined left right)))
@@ -130,24 +137,24 @@ long_type operator.Remainder s of e k = absurd (cc)
 long_type _ s of e k = sym e
 
 -- a pair of values that are converted
-pair_converted : (f : ℕ → ℕ → ℕ) (s of : WordType) (o : Option (ℕ × List ℕ)) (second : List ℕ → Option (ℕ × List ℕ))
-    → pair_value f (converted_to s Long o) (λ left. converted_to of Long (second left))
+pair_converted : (f : ℕ → ℕ → ℕ) (s of : WordType) (o : Option Evaluated) (second : Attempt → Option Evaluated)
+    → pair_value f (converted_to s Long o) (λ m. converted_to of Long (second m))
     ≡ pair_value (λ x y. f (converted s Long x) (converted of Long y)) o second
 pair_converted f s of None second = refl
-pair_converted f s of (Some x) second = by (second x.1)
+pair_converted f s of (Some x) second = by (second x.behind)
   where
-    by : (o : Option (ℕ × List ℕ)) → made_of (f (converted s Long x.0)) (converted_to of Long o)
-        ≡ made_of (λ y. f (converted s Long x.0) (converted of Long y)) o
+    by : (o : Option Evaluated) → made_of (f (converted s Long x.value)) (converted_to of Long o)
+        ≡ made_of (λ y. f (converted s Long x.value) (converted of Long y)) o
     by None = refl
     by (Some y) = refl
 
 -- an operator with a long among its operands
 longs_agree_by : (op : BinaryOperator) (s of u v : WordType) → joined_type s of ≡ Long → is_refused op Long ≡ false → (w : WordState) (l r : Lowering)
-    (o : Option (ℕ × List ℕ)) (second : List ℕ → Option (ℕ × List ℕ)) → OperandsAgree s of u v w l r o second
+    (o : Option Evaluated) (second : Attempt → Option Evaluated) → OperandsAgree s of u v w l r o second
     → AgreesAs (binary_type op s of) w (sides_lowering Long op u v l r) (pair_value (binary_result op s of) o second)
 longs_agree_by op s of u v e k w l r o second h =
     let m = long_meaning op in
-    let others : List ℕ → Option (ℕ × List ℕ) = λ rest. converted_to of Long (second rest) in
+    let others : Attempt → Option Evaluated = λ m. converted_to of Long (second m) in
     subst (λ z. AgreesAs z w (sides_lowering Long op u v l r) (pair_value (binary_result op s of) o second)) (long_type op s of e k)
     (subst (AgreesAs (long_meaning_type m) w (sides_lowering Long op u v l r))
     (pair_converted (long_meaning_value m) s of o second ∙ pair_same _ (binary_result op s of) o second same)
@@ -160,7 +167,7 @@ longs_agree_by op s of u v e k w l r o second h =
         long_same op a b k ∙ sym (ap (λ z. by_width z (binary_value op z x y) (long_binary_value op a b)) e)
 
 operands_agree : (is : WordType) (op : BinaryOperator) (s of u v : WordType) → joined_type s of ≡ is → is_refused op is ≡ false → (w : WordState)
-    (l r : Lowering) (o : Option (ℕ × List ℕ)) (second : List ℕ → Option (ℕ × List ℕ)) → OperandsAgree s of u v w l r o second
+    (l r : Lowering) (o : Option Evaluated) (second : Attempt → Option Evaluated) → OperandsAgree s of u v w l r o second
     → AgreesAs (binary_type op s of) w (sides_lowering is op u v l r) (pair_value (binary_result op s of) o second)
 operands_agree Long op s of u v e k w l r o second h = longs_agree_by op s of u v e k w l r o second h
 operands_agree Int op s of u v e k w l r o second h = words_agree_by Int op s of u v tt e w l r o second h
@@ -171,16 +178,16 @@ operands_as_joined : (of : WordType) (op : BinaryOperator) → is_refused op of 
 operands_as_joined of op k = ap (λ b. if b then Unsigned else of) k
 
 -- a word is shifted as a value of its type
-word_shifted : (of : WordType) → (op : ShiftOperator) (k : ℕ) (w : WordState) (l : Lowering) (o : Option (ℕ × List ℕ)) → LoweringAgrees w l o
-    → LoweringAgrees w (as_word (joined (word_program l) (one (shift (shift_operation op of) k)))) (o >>? λ x. Some (shift_value op of x.0 k, x.1))
+word_shifted : (of : WordType) → (op : ShiftOperator) (k : ℕ) (w : WordState) (l : Lowering) (o : Option Evaluated) → LoweringAgrees w l o
+    → LoweringAgrees w (as_word (joined (word_program l) (one (shift (shift_operation op of) k)))) (made_of (λ n. shift_value op of n k) o)
 word_shifted of op k w l o h =
     let last = one (shift (shift_operation op of) k) in
     by_word w (joined (word_program l) last) _
-    (then_step w (word_program l) last o (λ x. Some (shift_value op of x.0 k, x.1)) h.word
-    (λ x. (tt, ap (λ v. valued w (v, x.1)) (shift_same op of x.0 k))))
+    (then_step w (word_program l) last o (λ x. gives (shift_value op of x.value k) x.behind) h.word
+    (λ x is. (tt, ap (λ v. valued w (evaluated v x.behind)) (shift_same op of x.value k))))
 
-shift_agrees : (of : WordType) (op : ShiftOperator) (k : ℕ) (w : WordState) (l : Lowering) (o : Option (ℕ × List ℕ)) → AgreesAs of w l o
-    → AgreesAs of w (shift_lowering of op l k) (o >>? λ x. Some (shift_result op of x.0 k, x.1))
+shift_agrees : (of : WordType) (op : ShiftOperator) (k : ℕ) (w : WordState) (l : Lowering) (o : Option Evaluated) → AgreesAs of w l o
+    → AgreesAs of w (shift_lowering of op l k) (made_of (λ n. shift_result op of n k) o)
 shift_agrees Long op k w l o h = by_long w _ _ (long_shifted op k w (long_words l) o (words_agree w l o h))
 shift_agrees Int op k w l o h = word_shifted Int op k w l o h
 shift_agrees Unsigned op k w l o h = word_shifted Unsigned op k w l o h
@@ -198,78 +205,93 @@ number_as_long n = by (nat_le n 32767) refl
     by false e = refl
 
 -- its value as a long, by the type by which it becomes one
-widened_agrees : (p : Places) (e : CheckedExpression) (m : Variables) (w : WordState) → AgreesAs (type_of e) w (lowering p e) (value_of e m w.readings)
-    → AgreesWithLong w (behaviour (lowered_long p e) w) (converted_to (type_of e) Long (value_of e m w.readings))
+widened_agrees : (p : Places) (e : CheckedExpression) (m : Attempt) (w : WordState)
+    → AgreesAs (type_of e) w (lowering p e) (value_of e (in_state w m))
+    → AgreesWithLong w (behaviour (lowered_long p e) w) (converted_to (type_of e) Long (value_of e (in_state w m)))
 widened_agrees p (t.number n) m w h =
-    subst (λ v. AgreesWithLong w (behaviour (lowered_long p (t.number n)) w) (Some (v, w.readings))) (sym (number_as_long n))
-    (long_agrees Unsigned w (lowering p (t.number n)) (Some (n, w.readings)) (by_word w (one (number n)) _ (tt, refl)))
-widened_agrees p e m w h = long_agrees (type_of e) w (lowering p e) (value_of e m w.readings) h
+    subst (λ v. AgreesWithLong w (behaviour (lowered_long p (t.number n)) w) (gives v (in_state w m))) (sym (number_as_long n))
+    (long_agrees Unsigned w (lowering p (t.number n)) (gives n (in_state w m)) (by_word w (one (number n)) _ (tt, refl)))
+widened_agrees p e m w h = long_agrees (type_of e) w (lowering p e) (value_of e (in_state w m)) h
 
 -- ---- all expressions
 
-pub lowering_agrees : (p : Places) (room : Room) (e : CheckedExpression) (m : Variables) (w : WordState) → AreApart p room → AreEven p
-    → ExpressionFits p e → HoldVariables p m w.fram w.locals → AgreesAs (type_of e) w (lowering p e) (value_of e m w.readings)
-lowering_agrees p room (t.number n) m w apart even fits h =
+-- a value leaves the variables as they were
+held_behind : (p : Places) (w : WordState) (s u : Attempt) → IsBehind s u → HoldVariables p s.variables w.fram w.locals
+    → HoldVariables p u.variables w.fram w.locals
+held_behind p w s u k h = subst (λ v. HoldVariables p v w.fram w.locals) (sym k.variables) h
+
+pub lowering_agrees : (shared : List SharedDeclaration) (p : Places) (room : Room) (e : CheckedExpression) (m : Attempt) (w : WordState)
+    → AreApart p room → AreEven p → AsDeclared shared p → WellFormedExpression shared e → HoldVariables p m.variables w.fram w.locals
+    → AgreesAs (type_of e) w (lowering p e) (value_of e (in_state w m))
+lowering_agrees shared p room (t.number n) m w apart even declared fits h =
     as_one_word (type_of (t.number n)) (one_word.literal_word n) w _ _ (by_word w (one (number n)) _ (tt, refl))
-lowering_agrees p room (t.long_number n) m w apart even fits h = by_long w _ _ (tt, refl)
-lowering_agrees p room (t.name x) m w apart even fits h = name_agrees x.word_type p room x.variable m w apart even fits h
-lowering_agrees p room (t.element x index) m w apart even fits h =
+lowering_agrees shared p room (t.long_number n) m w apart even declared fits h = by_long w _ _ (tt, refl)
+lowering_agrees shared p room (t.name x) m w apart even declared fits h =
+    name_agrees x.word_type p room x.variable m w apart even (known_as shared p declared x.word_type x.variable fits.0 fits.1) h
+lowering_agrees shared p room (t.element x index) m w apart even declared fits h =
     let l = lowering p index in
     let last = one (element_step p x.variable) in
-    let o = value_of index m w.readings in
-    let agrees = of_one_word (type_of index) fits.3 w l o (lowering_agrees p room index m w apart even fits.1 h) in
-    as_one_word x.word_type fits.2 w _ _
+    let s = in_state w m in
+    let o = value_of index s in
+    let agrees = of_one_word (type_of index) fits.3 w l o (lowering_agrees shared p room index m w apart even declared fits.1 h) in
+    as_one_word x.word_type (array_word shared x.word_type x.variable fits.0 fits.2) w _ _
     (by_word w (joined (word_program l) last) _
-    (then_step w (word_program l) last o (λ i. Some (word_at m x.variable i.0, i.1)) agrees.word
-    (λ i. element_agrees p room x.variable i.0 m w i.1 apart even fits.0 h)))
-lowering_agrees p room t.sense m w apart even fits h = by_word w (one sense) _ (sense_agrees w w.readings)
-lowering_agrees p room (t.unary op e) m w apart even fits h =
-    operand_agrees op (type_of e) w (lowering p e) (value_of e m w.readings) (lowering_agrees p room e m w apart even fits h)
-    (lowering_agrees p room e m (pushed 0 (pushed 0 w)) apart even fits h)
-lowering_agrees p room (t.binary op a b) m w apart even fits h =
+    (then_step w (word_program l) last o (λ i. gives (word_at i.behind.variables x.variable i.value) i.behind) agrees.word
+    (λ i is. element_agrees p room x.variable i.value i.behind.variables w i.behind apart even (array_known shared p declared x.variable fits.0)
+    (held_behind p w s i.behind (value_takes index s i is).keeps h))))
+lowering_agrees shared p room t.sense m w apart even declared fits h = by_word w (one sense) _ (sense_agrees w (in_state w m) w.inputs.readings)
+lowering_agrees shared p room (t.unary op e) m w apart even declared fits h =
+    operand_agrees op (type_of e) w (lowering p e) (value_of e (in_state w m)) (lowering_agrees shared p room e m w apart even declared fits h)
+    (lowering_agrees shared p room e m (pushed 0 (pushed 0 w)) apart even declared fits h)
+lowering_agrees shared p room (t.binary op a b) m w apart even declared fits h =
     let s = type_of a in
     let of = type_of b in
     let u = widened_type a in
     let v = widened_type b in
     let l = lowering p a in
     let r = lowering p b in
-    let o = value_of a m w.readings in
-    let left = lowering_agrees p room a m w apart even fits.0 h in
-    let operands : OperandsAgree s of u v w l r o (value_of b m) = record {
+    let first = in_state w m in
+    let o = value_of a first in
+    let left = lowering_agrees shared p room a m w apart even declared fits.0 h in
+    let operands : OperandsAgree s of u v w l r o (value_of b) = record {
       left = left;
-      right = λ x. lowering_agrees p room b m (valued w x) apart even fits.1 h;
+      right = λ x is. lowering_agrees shared p room b x.behind (valued w x) apart even declared fits.1
+          (held_behind p w first x.behind (value_takes a first x is).keeps h);
       longs = record {
         left_side = widened_agrees p a m w left;
-        right_side = λ x. widened_agrees p b m (long_valued w x) (lowering_agrees p room b m (long_valued w x) apart even fits.1 h);
+        right_side = λ x is. widened_agrees p b x.behind (long_valued w x)
+            (lowering_agrees shared p room b x.behind (long_valued w x) apart even declared fits.1
+            (held_behind p w first x.behind (made_behind (converted s Long) a first x is) h));
       };
     } in
-    let value = value_of (t.binary op a b) m w.readings in
-    let P : WordType → Type 0 = λ z. AgreesAs (binary_type op.operator s of) w (sides_lowering z op.operator u v l r) value in
+    let P : WordType → Type 0 = λ z. AgreesAs (binary_type op.operator s of) w (sides_lowering z op.operator u v l r) (value_of (t.binary op a b) first) in
     subst P (sym (operands_as_joined (joined_type s of) op.operator fits.2))
-    (operands_agree (joined_type s of) op.operator s of u v refl fits.2 w l r o (value_of b m) operands)
-lowering_agrees p room (t.shift op e count) m w apart even fits h =
-    shift_agrees (type_of e) op count.value w (lowering p e) (value_of e m w.readings) (lowering_agrees p room e m w apart even fits h)
-lowering_agrees p room (t.short_circuit op a b) m w apart even fits h =
+    (operands_agree (joined_type s of) op.operator s of u v refl fits.2 w l r o (value_of b) operands)
+lowering_agrees shared p room (t.shift op e count) m w apart even declared fits h =
+    shift_agrees (type_of e) op count.value w (lowering p e) (value_of e (in_state w m)) (lowering_agrees shared p room e m w apart even declared fits.0 h)
+lowering_agrees shared p room (t.short_circuit op a b) m w apart even declared fits h =
     let c = value_test (lowering p a) in
     let d = value_test (lowering p b) in
-    let o = value_of a m w.readings in
-    let right = value_of b m in
+    let first = in_state w m in
+    let o = value_of a first in
+    let right : Attempt → Option Evaluated = value_of b in
     by_test w (sides_test op c d) _ (sides_are_truth op o right)
     (subst (AgreesWithValue w (truth_pushed (sides_test op c d) w)) (sides_of_truth o op right)
-    (side_agrees op w c d o right (test_agrees (type_of a) w (lowering p a) o (lowering_agrees p room a m w apart even fits.0 h))
-    (λ left. let u : WordState = record w { readings = left } in
-    from_left w left (truth_pushed d u) (truth_of (right left))
-    (test_agrees (type_of b) u (lowering p b) (right left) (lowering_agrees p room b m u apart even fits.1 h)))))
+    (side_agrees op w c d o right (test_agrees (type_of a) w (lowering p a) o (lowering_agrees shared p room a m w apart even declared fits.0 h))
+    (λ x is. let u : WordState = with_readings x.behind.left w in
+    from_left w x.behind.left (truth_pushed d u) (truth_of (right x.behind))
+    (test_agrees (type_of b) u (lowering p b) (right x.behind)
+    (lowering_agrees shared p room b x.behind u apart even declared fits.1 (held_behind p w first x.behind (made_behind truth_word a first x is) h))))))
 
 pub expressions_agree : ExpressionsAgree
-expressions_agree p room e m w apart even fits h =
-    word_agrees (type_of e) w (lowering p e) (value_of e m w.readings) (lowering_agrees p room e m w apart even fits h)
+expressions_agree shared p room e m w apart even declared fits h =
+    word_agrees (type_of e) w (lowering p e) (value_of e (in_state w m)) (lowering_agrees shared p room e m w apart even declared fits h)
 
 pub longs_agree : LongsAgree
-longs_agree p room e m w apart even fits h =
-    widened_agrees p e m w (lowering_agrees p room e m w apart even fits h)
+longs_agree shared p room e m w apart even declared fits h =
+    widened_agrees p e m w (lowering_agrees shared p room e m w apart even declared fits h)
 
 pub tests_agree : TestsAgree
-tests_agree p room e m w apart even fits h =
-    value_done w (truth_pushed (lowered_test p e) w) (truth_of (value_of e m w.readings))
-    (test_agrees (type_of e) w (lowering p e) (value_of e m w.readings) (lowering_agrees p room e m w apart even fits h))
+tests_agree shared p room e m w apart even declared fits h =
+    value_done w (truth_pushed (lowered_test p e) w) (truth_of (value_of e (in_state w m)))
+    (test_agrees (type_of e) w (lowering p e) (value_of e (in_state w m)) (lowering_agrees shared p room e m w apart even declared fits h))

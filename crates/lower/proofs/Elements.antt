@@ -9,7 +9,7 @@ use Rattle.array_versions.specs.machine_effects.World.{put}
 use Rattle.array_versions.proofs.machine_effects.Interface.{put_other}
 use Rattle.task_ast.specs.declared.names.Variable.TheVariants.{Shared}
 use Rattle.source_values.specs.Values.{Variables, word_at, with_word}
-use Rattle.source_values.specs.Statements.{Attempt, goes_on}
+use Rattle.source_values.specs.Statements.{Attempt, Outcome, goes_on}
 use Rattle.array_versions.specs.declared.operations.PlainOperation.{PlainOperation}
 use Rattle.array_versions.specs.Operations.{plain_word}
 use Rattle.array_versions.specs.Behaviour.{WordState, Behaviour, goes_on as going_on, then_on, is_place, word_listed, versioned_stored, behaviour}
@@ -25,7 +25,7 @@ use Rattle.memory_map.proofs.Interface.{word_even}
 use Rattle.memory_map.specs.Spots.{Places, private_words, IsArrayAt, Element, IsCopied, element, copy, version, element_address, copy_address, version_address}
 use Rattle.lower.specs.Lowered.{array_place, list_place}
 use Rattle.lower.specs.Spots.{listed_of}
-use Rattle.lower.specs.Agreement.{own_word, element_pair, at_copy, at_version, HoldVariables, StandsFor, WentOn}
+use Rattle.lower.specs.Agreement.{own_word, element_pair, at_copy, at_version, HoldVariables, StandsFor, Scene, bounds, WentOn}
 use Rattle.lower.proofs.Addresses.{fram_place, spot_place, element_is, copy_is, version_is, has_element}
 use Rattle.lower.proofs.Stored.{word_past, set_holds, same_list, same_emits, spot_emits}
 use Rattle.lower.proofs.Lists.{HasNext, lists_word}
@@ -33,28 +33,33 @@ use Rattle.runtime_effects.specs.Places.{CopyPair}
 use Rattle.lower.proofs.Versioned.{stores_again, stores_first, stores_nothing, update_stores, updates_nothing}
 use Rattle.lower.proofs.Versioned.{element_set, again_stored, again_list, after_mark, mark_keeps_pairs}
 use Rattle.lower.proofs.Versioned.{mark_keeps_words, elements_have_next, first_stored_at, first_emits, first_list, pushed_of, push_listed}
-use Rattle.lower.proofs.Ends.{Scene, bounds, Does}
+use Rattle.lower.proofs.Ends.{Does}
 
--- what is asked where statements begin that emit and list so much: the state stands for the attempt, and there is room
-pub record Begins (z : Scene) (m : Attempt) (listed : List Element) (w : WordState) (emitting : ℕ) (count most : ℕ → ℕ) : Type 0 where
+-- where statements begin that emit and list so much: an attempt, the elements that it has listed, a state that stands for it, and how many
+-- elements of each array may be listed behind them; there is room
+pub record Start (z : Scene) (emitting : ℕ) (count : ℕ → ℕ) : Type 0 where
+  pub m : Attempt
+  pub listed : List Element
+  pub w : WordState
+  pub most : ℕ → ℕ
   pub stands : StandsFor z.p m listed w
   pub number : w.fram (word_place z.p.map Version) ≡ z.ver
   pub emits : length m.emitted + emitting ≤ z.room.emits
   pub lists : (v : ℕ) → listed_of v listed + count v ≤ most v
   pub within : (v : ℕ) → most v ≤ z.stores v
 
-pub few_listed : (z : Scene) (m : Attempt) (listed : List Element) (w : WordState) (emits : ℕ) (count most : ℕ → ℕ) → Begins z m listed w emits count most
-    → (v : ℕ) → listed_of v listed ≤ most v
-few_listed z m listed w emits count most h v = let a = h.lists v in omega (arith, a)
+-- what a behaviour does w there
+abbrev pub DoesFrom : {z : Scene} {n : ℕ} {count : ℕ → ℕ} → Start z n count → Behaviour → Outcome → Type 0
+DoesFrom {z} here = Does z here.w.fram here.most here.w.stack
 
-pub list_fits : (z : Scene) (m : Attempt) (listed : List Element) (w : WordState) (emits : ℕ) (count most : ℕ → ℕ) → Begins z m listed w emits count most
-    → length listed + private_words z.p.privates ≤ z.room.list
-list_fits z m listed w emits count most h =
-    z.has_room listed h.stands.list.are_listed (λ v. let a = h.lists v in let b = h.within v in omega (arith, a, b))
+pub few_listed : {z : Scene} {n : ℕ} {count : ℕ → ℕ} (here : Start z n count) (v : ℕ) → listed_of v here.listed ≤ here.most v
+few_listed here v = let a = here.lists v in omega (arith, a)
 
-pub few_emitted : (z : Scene) (m : Attempt) (listed : List Element) (w : WordState) (emits : ℕ) (count most : ℕ → ℕ) → Begins z m listed w emits count most
-    → length m.emitted ≤ z.room.emits
-few_emitted z m listed w emits count most h = let a = h.emits in omega (arith, a)
+pub list_fits : {z : Scene} {n : ℕ} {count : ℕ → ℕ} (here : Start z n count) → length here.listed + private_words z.p.privates ≤ z.room.list
+list_fits {z} here = z.has_room here.listed here.stands.list.are_listed (λ v. let a = here.lists v in let b = here.within v in omega (arith, a, b))
+
+pub few_emitted : {z : Scene} {n : ℕ} {count : ℕ → ℕ} (here : Start z n count) → length here.m.emitted ≤ z.room.emits
+few_emitted here = let a = here.emits in omega (arith, a)
 
 -- past the end nothing changes
 past_set : (p : Places) (n i v elements len : ℕ) (c : ArrayCopies) (m : Variables) (f : ℕ → ℕ) (locals : ℕ → Option ℕ) → IsArrayAt p n elements len (Some c)
@@ -68,16 +73,15 @@ past_set p n i v elements len c m f locals at past h =
     (λ x is. h.elements x is ∙ sym (word_past m n i v x.array x.index row short))
 
 -- a store to an element of array n
-module _ (z : Scene) (n i v elements len : ℕ) (c : ArrayCopies) (w : WordState) (m : Attempt) (listed : List Element) (left : List ℕ) (most : ℕ → ℕ)
-    (at : IsArrayAt z.p n elements len (Some c)) (h : Begins z m listed w 0 (λ u. if n == u then 1 else 0) most) where
+module _ (z : Scene) (n i v elements len : ℕ) (c : ArrayCopies) (at : IsArrayAt z.p n elements len (Some c))
+    (h : Start z 0 (λ u. if n == u then 1 else 0)) where
+  open h use {m, listed, w, most}
+
   abbrev place : ArrayPlace
   place = array_place elements len c
 
-  abbrev from : WordState
-  from = record w { readings = left }
-
   abbrev after : Attempt
-  after = record m { variables = with_word m.variables (Shared n) i v; left = left }
+  after = record m { variables = with_word m.variables (Shared n) i v }
 
   abbrev Result : Behaviour → Type 0
   Result b = Does z w.fram most w.stack (then_on b (behaviour nothing)) (goes_on after)
@@ -121,9 +125,9 @@ module _ (z : Scene) (n i v elements len : ℕ) (c : ArrayCopies) (w : WordState
       ∙ sym (ap (λ a. put w.fram a v n) (copy_is z.p x elements len c at))
       ∙ put_other w.fram (copy_address z.p x) v n (λ e. let d = z.apart.distinct (version x) (copy x) is is e in cc)
 
-  past : len ≤ i → Result (versioned_stored place (list_place z.p) i v from)
+  past : len ≤ i → Result (versioned_stored place (list_place z.p) i v w)
   past l =
-      subst Result (sym (stores_nothing place (list_place z.p) i v from l)) (record {
+      subst Result (sym (stores_nothing place (list_place z.p) i v w l)) (record {
         stores = tt;
         stack_kept = refl;
         listed = listed;
@@ -131,35 +135,35 @@ module _ (z : Scene) (n i v elements len : ℕ) (c : ArrayCopies) (w : WordState
           variables = past_set z.p n i v elements len c m.variables w.fram w.locals at l h.stands.variables;
           emitted = h.stands.emitted;
           list = h.stands.list;
-          readings = refl;
+          readings = h.stands.readings;
         };
-        few = few_listed z m listed w 0 (λ u. if n == u then 1 else 0) most h;
+        few = few_listed h;
       })
 
   -- the version word is VER
-  again : (l : i < len) → w.fram (word_place z.p.map Version) ≡ w.fram (version_address z.p x) → Result (versioned_stored place (list_place z.p) i v from)
+  again : (l : i < len) → w.fram (word_place z.p.map Version) ≡ w.fram (version_address z.p x) → Result (versioned_stored place (list_place z.p) i v w)
   again l marked =
       let p = z.p in
       let f = w.fram in
       let is = is_copied l in
       let now = again_stored p z.room x v f z.apart is marked in
-      let fits = list_fits z m listed w 0 (λ u. if n == u then 1 else 0) most h in
+      let fits = list_fits h in
       let Q : ℕ → Type 0 = λ a. put f a v (word_place p.map Version) ≡ put f a v (version_address p x) in
       let same = subst Q (copy_is p x elements len c at) (now.number ∙ sym now.mark) ∙ ap (put f (2 * i + c.copies) v) (version_is p x elements len c at) in
-      let P : ℕ → Type 0 = λ a. WentOn p (bounds z f most) w.stack (Store a v ∷ []) (record w { fram = put f a v; readings = left }) after in
-      subst Result (sym (stores_again place (list_place p) i v from l (here_copy l) here_number (here_version l) same))
+      let P : ℕ → Type 0 = λ a. WentOn p (bounds z f most) w.stack (Store a v ∷ []) (record w { fram = put f a v }) after in
+      subst Result (sym (stores_again place (list_place p) i v w l (here_copy l) here_number (here_version l) same))
       (subst P (copy_is p x elements len c at) (record {
         stores = (at_copy x is refl, tt);
         stack_kept = refl;
         listed = listed;
         stands = record {
           variables = element_set p z.room x v m.variables f (put f (copy_address p x) v) w.locals is now h.stands.variables;
-          emitted = same_emits p z.room m.emitted f (put f (copy_address p x) v) (few_emitted z m listed w 0 (λ u. if n == u then 1 else 0) most h)
+          emitted = same_emits p z.room m.emitted f (put f (copy_address p x) v) (few_emitted h)
               (spot_emits p z.room (copy x) v f z.apart is) h.stands.emitted;
           list = same_list p z.room listed f (put f (copy_address p x) v) (omega (arith, fits)) (again_list p z.room x v f z.apart is) h.stands.list;
-          readings = refl;
+          readings = h.stands.readings;
         };
-        few = few_listed z m listed w 0 (λ u. if n == u then 1 else 0) most h;
+        few = few_listed h;
       }))
 
   -- there is room for one more in the list
@@ -172,7 +176,7 @@ module _ (z : Scene) (n i v elements len : ℕ) (c : ArrayCopies) (w : WordState
       omega (arith, fits, l)
 
   -- it isn't
-  first : (l : i < len) → (w.fram (word_place z.p.map Version) ≡ w.fram (version_address z.p x) → ⊥) → Result (versioned_stored place (list_place z.p) i v from)
+  first : (l : i < len) → (w.fram (word_place z.p.map Version) ≡ w.fram (version_address z.p x) → ⊥) → Result (versioned_stored place (list_place z.p) i v w)
   first l unmarked =
       let p = z.p in
       let f = w.fram in
@@ -184,7 +188,7 @@ module _ (z : Scene) (n i v elements len : ℕ) (c : ArrayCopies) (w : WordState
       let at_c = copy_is p x elements len c at in
       let at_n = version_is p x elements len c at in
       let at_e = element_is p x elements len (Some c) at in
-      let w2 : WordState = record from { fram = after_mark p x v f } in
+      let w2 : WordState = record w { fram = after_mark p x v f } in
       let shorter : length listed ≤ z.room.list = omega (arith, fits) in
       let pairs = mark_keeps_pairs p z.room listed x v f apart is shorter h.stands.list in
       let names = ap (length {A = CopyPair}) pairs in
@@ -195,32 +199,32 @@ module _ (z : Scene) (n i v elements len : ℕ) (c : ArrayCopies) (w : WordState
       let g = lists.memory in
       let now = first_stored_at p z.room x v f g apart is lists.elsewhere in
       let here : ℕ → ℕ → ℕ → Type 0 = λ a b d.
-      word_listed list d a (record from { fram = put (put f a v) b (f (word_place p.map Version)) }) ≡ going_on lists.effects (record from { fram = g }) in
+      word_listed list d a (record w { fram = put (put f a v) b (f (word_place p.map Version)) }) ≡ going_on lists.effects (record w { fram = g }) in
       let does : here (2 * i + c.copies) (2 * i + c.versions) (2 * i + elements) =
       subst (λ d. here (2 * i + c.copies) (2 * i + c.versions) d) at_e
       (subst (λ b. here (2 * i + c.copies) b (element_address p x)) at_n (subst (λ a. here a (version_address p x) (element_address p x)) at_c lists.does)) in
       let P : List Effect → ℕ → ℕ → Type 0 = λ es a b. WentOn p (bounds z f most) w.stack (Store a v ∷ Store b (f (word_place p.map Version)) ∷ es)
-      (record w { fram = g; readings = left }) after in
+      (record w { fram = g }) after in
       let went : P lists.effects (copy_address p x) (version_address p x) = record {
         stores = (at_copy x is refl, (at_version x is refl h.number, lists.stores));
         stack_kept = refl;
         listed = listed ++ x ∷ [];
         stands = record {
           variables = element_set p z.room x v m.variables f g w.locals is now h.stands.variables;
-          emitted = same_emits p z.room m.emitted f g (few_emitted z m listed w 0 (λ u. if n == u then 1 else 0) most h)
+          emitted = same_emits p z.room m.emitted f g (few_emitted h)
               (first_emits p z.room x v f g apart is lists.elsewhere) h.stands.emitted;
           list = first_list p z.room listed x v f g apart is fits unmarked h.stands.list now
               (lists.pairs ∙ ap (λ l. l ++ element_pair p x ∷ []) pairs) lists.have;
-          readings = refl;
+          readings = h.stands.readings;
         };
         few = λ u. subst (λ a. a ≤ most u) (sym (pushed_of u listed x)) (h.lists u);
       } in
-      subst Result (sym (stores_first place list i v from lists.effects g l (here_copy l) here_number (here_version l) (here_element l)
+      subst Result (sym (stores_first place list i v w lists.effects g l (here_copy l) here_number (here_version l) (here_element l)
       (λ e. unmarked (sym (number_stays l) ∙ e ∙ mark_stays l)) (number_stays l) does))
       (subst (λ b. P (lists.effects ++ []) (2 * i + c.copies) b) at_n (subst (λ a. P (lists.effects ++ []) a (version_address p x)) at_c
       (subst (λ es. P es (copy_address p x) (version_address p x)) (sym (append-nil lists.effects)) went)))
 
-  pub store_does : Result (versioned_stored place (list_place z.p) i v from)
+  pub store_does : Result (versioned_stored place (list_place z.p) i v w)
   store_does = ⊎_elim (λ l. ⊎_elim (again l) (first l) (cases_eq (w.fram (word_place z.p.map Version)) (w.fram (version_address z.p x)))) past (cases_lt i len)
 
   -- where this attempt has the element
@@ -246,13 +250,13 @@ module _ (z : Scene) (n i v elements len : ℕ) (c : ArrayCopies) (w : WordState
 
   -- where the word is what an operation gives of the element and of another, an update is this store
   is_store : (op : PlainOperation) (y : ℕ) → plain_word op (word_at m.variables (Shared n) i) y ≡ v
-      → versioned_updated op place (list_place z.p) i y from ≡ versioned_stored place (list_place z.p) i v from
+      → versioned_updated op place (list_place z.p) i y w ≡ versioned_stored place (list_place z.p) i v w
   is_store op y given =
       ⊎_elim
-      (λ l. update_stores op place (list_place z.p) i y v from l here_number (here_version l) (own_here l) (number_stays l)
+      (λ l. update_stores op place (list_place z.p) i y v w l here_number (here_version l) (own_here l) (number_stays l)
       (mark_stays l ∙ ap w.fram (version_is z.p x elements len c at)) (ap (λ u. plain_word op u y) (own_is l) ∙ given))
-      (λ l. updates_nothing op place (list_place z.p) i y v from l) (cases_lt i len)
+      (λ l. updates_nothing op place (list_place z.p) i y v w l) (cases_lt i len)
 
   pub element_update_does : (op : PlainOperation) (y : ℕ) → plain_word op (word_at m.variables (Shared n) i) y ≡ v
-      → Result (versioned_updated op place (list_place z.p) i y from)
+      → Result (versioned_updated op place (list_place z.p) i y w)
   element_update_does op y given = subst Result (sym (is_store op y given)) store_does

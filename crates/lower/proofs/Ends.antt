@@ -3,36 +3,21 @@ use Rattle.std.proofs.Common.{◌≡◌, ℕ, ◌<◌, ◌≤◌, List, [], ◌�
 use Rattle.std.proofs.Common.{append-nil}
 use Rattle.memory_map.specs.MemoryMap.{word_place}
 use Rattle.memory_map.specs.declared.words.RuntimeWord.TheVariants.{ListLength, EmitCount, Version}
-use Rattle.array_versions.specs.fram_board.Effects.{Effect, Store, Take, Send}
+use Rattle.array_versions.specs.fram_board.Effects.{Effect, Store, Take, Outside}
 use Rattle.array_versions.specs.machine_effects.World.{put, fram_after}
 use Rattle.array_versions.proofs.machine_effects.Interface.{fram_after-append, put_other}
-use Rattle.source_values.specs.Statements.{Attempt, Outcome, goes_on, to_task, short, and_then, if_value}
+use Rattle.source_values.specs.Values.{Attempt, Evaluated}
+use Rattle.source_values.specs.Statements.{Outcome, goes_on, to_task, short, and_then, if_value}
 use Rattle.array_versions.specs.Program.{Program, nothing}
 use Rattle.array_versions.specs.Behaviour.{WordState, End, GoesOn, Jumps, Short, Strays, Broken, Behaviour, behind_effects, on_end, then_on, behaviour}
 use Rattle.array_versions.specs.Laws.{EndsByEffects}
 use Rattle.array_versions.proofs.Interface.{behaves_by_effects}
 use Rattle.memory_map.specs.Spots.{Places, Element, scalar, copy, version}
-use Rattle.lower.specs.Spots.{Room, AreApart, AreEven, listed_of, HasRoom}
+use Rattle.lower.specs.Spots.{Room, AreApart, listed_of}
 use Rattle.lower.specs.Agreement.{TakesAndStores, OnlyTakes, IsTaskStore, at_variable, at_copy, at_version, in_list, at_list_length, at_emit_count, in_buffer}
-use Rattle.lower.specs.Agreement.{StandsFor, valued, EndsAt, AgreesAt, AgreesWithValue, Bounds, Left, EndsAs, Agrees}
+use Rattle.lower.specs.Agreement.{StandsFor, EndsAt, AgreesAt, Scene, bounds, Left, EndsAs, Agrees}
 use Rattle.lower.proofs.Values.{takes_append, only_takes}
 use Rattle.lower.proofs.Emitted.{EmitsAtMost}
-
--- the task that statements stand in: its places, apart and even, with room for so many stores to each array, the scalars that it
--- writes, and VER
-pub record Scene : Type 0 where
-  pub p : Places
-  pub written : ℕ → Bool
-  pub room : Room
-  pub stores : ℕ → ℕ
-  pub ver : ℕ
-  pub apart : AreApart p room
-  pub even : AreEven p
-  pub has_room : HasRoom p stores room
-
--- the bounds of statements from this FRAM on, which may list so many elements
-abbrev pub bounds : Scene → (ℕ → ℕ) → (ℕ → ℕ) → Bounds
-bounds z start most = record { start = start; written = z.written; room = z.room; ver = z.ver; most = most }
 
 abbrev pub Stores : Scene → List Effect → Type 0
 Stores z = TakesAndStores (IsTaskStore z.p z.written z.room z.ver)
@@ -67,7 +52,7 @@ stores_keep p written room ver a [] f apart kept h = refl
 stores_keep p written room ver a (Store b w ∷ es) f apart kept h =
     stores_keep p written room ver a es (put f b w) apart kept h.1 ∙ put_other f b w a (store_elsewhere p written room ver a b w apart kept h.0)
 stores_keep p written room ver a (Take r ∷ es) f apart kept h = stores_keep p written room ver a es f apart kept h
-stores_keep p written room ver a (Send n w ∷ es) f apart kept h = absurd h
+stores_keep p written room ver a (Outside o ∷ es) f apart kept h = absurd h
 
 -- VER is one
 pub keeps_version : (p : Places) (room : Room) → AreApart p room → IsKept p (word_place p.map Version)
@@ -78,7 +63,7 @@ pub takes_keep : (es : List Effect) (f : ℕ → ℕ) → OnlyTakes es → fram_
 takes_keep [] f h = refl
 takes_keep (Store a w ∷ es) f h = absurd h.0
 takes_keep (Take r ∷ es) f h = takes_keep es f h
-takes_keep (Send n w ∷ es) f h = absurd h
+takes_keep (Outside o ∷ es) f h = absurd h
 
 -- ---- effects in front
 
@@ -188,30 +173,23 @@ does_alone z start most stack b o h = go b.effects b.end h
     go es Strays h = absurd h
     go es Broken h = tt
 
--- the state that a value makes, and what is done with it
-pub does_at : (z : Scene) (most : ℕ → ℕ) (stack : List ℕ) (w : WordState) (there : ℕ × List ℕ → WordState) (b : Behaviour) (o : Option (ℕ × List ℕ))
-    (next : WordState → Behaviour) (m : Attempt) (more : ℕ → Attempt → Outcome)
-    → AgreesAt there b o → ((x : ℕ × List ℕ) → Does z w.fram most stack (next (there x)) (more x.0 (record m { left = x.1 })))
-    → Does z w.fram most stack (then_on b next) (if_value o m more)
-does_at z most stack w there b o next m more h k = go b.effects b.end o h.0 h.1
+-- the state that a value makes, and what is done with it: it may know that the value is the one of this program
+pub does_at : (z : Scene) (most : ℕ → ℕ) (stack : List ℕ) (w : WordState) (there : Evaluated → WordState) (b : Behaviour) (o : Option Evaluated)
+    (next : WordState → Behaviour) (more : ℕ → Attempt → Outcome)
+    → AgreesAt there b o → ((x : Evaluated) → o ≡ Some x → Does z w.fram most stack (next (there x)) (more x.value x.behind))
+    → Does z w.fram most stack (then_on b next) (if_value o more)
+does_at z most stack w there b o next more h k = go b.effects b.end o refl h.0 h.1
   where
-    go : (es : List Effect) (e : End) (o : Option (ℕ × List ℕ)) → OnlyTakes es → EndsAt there e o
-        → Does z w.fram most stack (behind_effects es (on_end e next)) (if_value o m more)
-    go es (GoesOn s) (Some x) h e =
-        let P : WordState → Type 0 = λ s. Does z w.fram most stack (behind_effects es (next s)) (more x.0 (record m { left = x.1 })) in
+    go : (es : List Effect) (e : End) (q : Option Evaluated) → o ≡ q → OnlyTakes es → EndsAt there e q
+        → Does z w.fram most stack (behind_effects es (on_end e next)) (if_value q more)
+    go es (GoesOn s) (Some x) is h e =
+        let P : WordState → Type 0 = λ s. Does z w.fram most stack (behind_effects es (next s)) (more x.value x.behind) in
         let b = next (there x) in
-        subst P (sym e) (ends_behind z w.fram w.fram most stack es b.effects b.end (more x.0 (record m { left = x.1 })) (sym (takes_keep es w.fram h))
-        (only_takes (IsTaskStore z.p z.written z.room z.ver) es h) (k x))
-    go es (GoesOn s) None h e = absurd e
-    go es (Jumps to s) o h e = absurd e
-    go es Short (Some x) h e = absurd e
-    go es Short None h e = ends_alone z w.fram most stack es Short short (only_takes (IsTaskStore z.p z.written z.room z.ver) es h)
-    go es Strays o h e = absurd e
-    go es Broken o h e = tt
-
--- a value, and what is done with it
-pub does_value : (z : Scene) (most : ℕ → ℕ) (stack : List ℕ) (w : WordState) (b : Behaviour) (o : Option (ℕ × List ℕ)) (next : WordState → Behaviour)
-    (m : Attempt) (more : ℕ → Attempt → Outcome)
-    → AgreesWithValue w b o → ((x : ℕ × List ℕ) → Does z w.fram most stack (next (valued w x)) (more x.0 (record m { left = x.1 })))
-    → Does z w.fram most stack (then_on b next) (if_value o m more)
-does_value z most stack w b o next m more h k = does_at z most stack w (valued w) b o next m more h k
+        subst P (sym e) (ends_behind z w.fram w.fram most stack es b.effects b.end (more x.value x.behind) (sym (takes_keep es w.fram h))
+        (only_takes (IsTaskStore z.p z.written z.room z.ver) es h) (k x is))
+    go es (GoesOn s) None is h e = absurd e
+    go es (Jumps to s) q is h e = absurd e
+    go es Short (Some x) is h e = absurd e
+    go es Short None is h e = ends_alone z w.fram most stack es Short short (only_takes (IsTaskStore z.p z.written z.room z.ver) es h)
+    go es Strays q is h e = absurd e
+    go es Broken q is h e = tt

@@ -1,5 +1,6 @@
 mod Neighbours
 mod Addresses
+mod Declared
 mod Values
 mod Longs
 mod EachExpression

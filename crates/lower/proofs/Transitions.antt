@@ -131,7 +131,7 @@ pub transition_behaves : (p : Places) (room : Room) (task n : ℕ) (w : WordStat
     → n + length (runs_of p.privates) ≤ room.list
     → (u : WordState) × (behaviour (lowered_transition p task) w
     ≡ behaves (transition_effects p task n (w.fram (word_place p.map Base)) ++ Store (word_place p.map Gate) 1 ∷ [])
-    (Jumps p.map.commit.address u)) × (u.readings ≡ w.readings)
+    (Jumps p.map.commit.address u)) × (u.inputs.readings ≡ w.inputs.readings)
 transition_behaves p room task n w apart even listed fits =
     let count = word_place p.map ListLength in
     let k = task % 65536 in

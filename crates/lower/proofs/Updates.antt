@@ -1,5 +1,5 @@
 -- An assignment in place: `x = x + e`, `a[i] = a[i] + e` and their like.
-use Rattle.std.proofs.Common.{◌≡◌, ℕ, List, Bool, true, false, ◌&&◌, Option, Some, None, refl, sym, ap, subst, ◌∙◌, if◌then◌else◌}
+use Rattle.std.proofs.Common.{◌≡◌, ℕ, Bool, true, false, ◌&&◌, Option, Some, None, refl, sym, ap, subst, ◌∙◌, if◌then◌else◌}
 use Rattle.std.proofs.lemmas.Bool.{eqb-true, and_parts}
 use Rattle.task_ast.specs.Tree as t
 use Rattle.task_ast.specs.Paths.{CheckedExpression}
@@ -13,9 +13,10 @@ use Rattle.task_ast.specs.declared.names.VariableName.{VariableName}
 use Rattle.task_ast.specs.declared.PlacedOperator.{PlacedOperator}
 use Rattle.task_ast.specs.Types.{IsOneWord}
 use Rattle.task_ast.proofs.Interface.{by_one_word, joined_word}
-use Rattle.source_values.specs.Values.{◌>>?◌, Variables, word_at, scalar_value, joined_type, type_of, binary_value, binary_result, value_of}
-use Rattle.source_values.proofs.Interface.{scalar_word}
-use Rattle.source_values.specs.Statements.{Attempt, Outcome, goes_on, if_value, assigned}
+use Rattle.source_values.specs.Values.{◌>>?◌, Attempt, Evaluated, gives, made_of, word_at, scalar_value, joined_type, type_of, binary_value, binary_result}
+use Rattle.source_values.specs.Values.{value_of}
+use Rattle.source_values.proofs.Interface.{scalar_word, value_takes}
+use Rattle.source_values.specs.Statements.{Outcome, goes_on, if_value, with_value, assigned}
 use Rattle.array_versions.specs.declared.operations.PlainOperation.{PlainOperation}
 use Rattle.array_versions.specs.declared.operations.PlainOperation.TheVariants as plain
 use Rattle.array_versions.specs.Operations.{plain_word}
@@ -89,30 +90,31 @@ pub is_element_update : (x : Variable) (index : CheckedExpression) (op : BinaryO
 is_element_update x index op (t.element y other) o h = by_element (is_same x y.variable && are_alike index other) x index op y other o refl h
 is_element_update x index op a o h = absurd (cc)
 
--- two expressions have one word, and take no reading
-record HaveOneWord (m : Variables) (left : List ℕ) (a b : CheckedExpression) : Type 0 where
+-- two expressions have one word, and leave the attempt as it is
+record HaveOneWord (m : Attempt) (a b : CheckedExpression) : Type 0 where
   word : ℕ
-  first : value_of a m left ≡ Some (word, left)
-  second : value_of b m left ≡ Some (word, left)
+  first : value_of a m ≡ gives word m
+  second : value_of b m ≡ gives word m
 
-number_value : (m : Variables) (left : List ℕ) (n : ℕ) (e : CheckedExpression) → is_number n e ≡ true → value_of e m left ≡ Some (n, left)
-number_value m left n (t.number k) h = ap (λ w. Some (w, left)) (sym (eqb-true n k h))
-number_value m left n e h = absurd (cc)
+number_value : (m : Attempt) (n : ℕ) (e : CheckedExpression) → is_number n e ≡ true → value_of e m ≡ gives n m
+number_value m n (t.number k) h = ap (λ w. gives w m) (sym (eqb-true n k h))
+number_value m n e h = absurd (cc)
 
-name_value : (m : Variables) (left : List ℕ) (x : Variable) (e : CheckedExpression) → IsOneWord (type_of e) → is_name x e ≡ true
-    → value_of e m left ≡ Some (word_at m x 0, left)
-name_value m left x (t.name y) one h = ap (λ w. Some (w, left)) (scalar_word m y one ∙ ap (λ z. word_at m z 0) (same_variable x y.variable h))
-name_value m left x e one h = absurd (cc)
+name_value : (m : Attempt) (x : Variable) (e : CheckedExpression) → IsOneWord (type_of e) → is_name x e ≡ true
+    → value_of e m ≡ gives (word_at m.variables x 0) m
+name_value m x (t.name y) one h =
+    ap (λ w. gives w m) (scalar_word m.variables y one ∙ ap (λ z. word_at m.variables z 0) (same_variable x y.variable h))
+name_value m x e one h = absurd (cc)
 
-alike_values : (m : Variables) (left : List ℕ) (a b : CheckedExpression) → IsOneWord (type_of a) → IsOneWord (type_of b) → are_alike a b ≡ true
-    → HaveOneWord m left a b
-alike_values m left (t.number n) b of_first of_second h = record { word = n; first = refl; second = number_value m left n b h }
-alike_values m left (t.name x) b of_first of_second h = record {
-  word = word_at m x.variable 0;
-  first = ap (λ w. Some (w, left)) (scalar_word m x of_first);
-  second = name_value m left x.variable b of_second h;
+alike_values : (m : Attempt) (a b : CheckedExpression) → IsOneWord (type_of a) → IsOneWord (type_of b) → are_alike a b ≡ true
+    → HaveOneWord m a b
+alike_values m (t.number n) b of_first of_second h = record { word = n; first = refl; second = number_value m n b h }
+alike_values m (t.name x) b of_first of_second h = record {
+  word = word_at m.variables x.variable 0;
+  first = ap (λ w. gives w m) (scalar_word m.variables x of_first);
+  second = name_value m x.variable b of_second h;
 }
-alike_values m left a b of_first of_second h = absurd (cc)
+alike_values m a b of_first of_second h = absurd (cc)
 
 -- the operator gives what the operation does
 plain_value : (op : BinaryOperator) (o : PlainOperation) (of : WordType) (a b : ℕ) → plain_operation op ≡ Some o
@@ -130,20 +132,27 @@ plain_result : (op : BinaryOperator) (o : PlainOperation) (s of : WordType) (a b
 plain_result op o s of a b of_left of_right h =
     by_one_word (joined_type s of) _ _ (joined_word s of of_left of_right) ∙ plain_value op o (joined_type s of) a b h
 
--- with a word of the variable on the left side, an assignment to that word goes on with what the operation does
-updated_value : (x : Variable) (i : ℕ) (m : Attempt) (f g : ℕ → ℕ) (right : Option (ℕ × List ℕ)) → ((v : ℕ) → f v ≡ g v)
-    → if_value (right >>? λ y. Some (f y.0, y.1)) m (λ v s. goes_on (assigned s x i v)) ≡ if_value right m (λ v s. goes_on (assigned s x i (g v)))
-updated_value x i m f g None same = refl
-updated_value x i m f g (Some y) same = ap (λ v. goes_on (assigned (record m { left = y.1 }) x i v)) (same y.0)
+-- an assignment to a word of a variable goes on with what the operation does, the word on the left side being that before the right side is
+-- evaluated
+updated_value : (x : Variable) (i : ℕ) (b : CheckedExpression) (m : Attempt) (f : ℕ → ℕ) (o : PlainOperation)
+    → ((v : ℕ) → f v ≡ plain_word o (word_at m.variables x i) v)
+    → if_value (made_of f (value_of b m)) (λ v s. goes_on (assigned s x i v))
+    ≡ with_value b m (λ v s. goes_on (assigned s x i (plain_word o (word_at s.variables x i) v)))
+updated_value x i b m f o same = by (value_of b m) refl
+  where
+    by : (r : Option Evaluated) → value_of b m ≡ r
+        → if_value (made_of f r) (λ v s. goes_on (assigned s x i v)) ≡ if_value r (λ v s. goes_on (assigned s x i (plain_word o (word_at s.variables x i) v)))
+    by None is = refl
+    by (Some y) is = ap (λ v. goes_on (assigned y.behind x i v))
+        (same y.value ∙ ap (λ vs. plain_word o (word_at vs x i) y.value) (sym (value_takes b m y is).keeps.variables))
 
 pub update_goes_on : (x : Variable) (op : PlacedOperator) (a b : CheckedExpression) (o : PlainOperation) (m : Attempt) → IsUpdate x op.operator a o
     → IsOneWord (type_of a) → IsOneWord (type_of b)
-    → if_value (value_of (t.binary op a b) m.variables m.left) m (λ v s. goes_on (assigned s x 0 v))
-    ≡ if_value (value_of b m.variables m.left) m (λ v s. goes_on (assigned s x 0 (plain_word o (word_at m.variables x 0) v)))
+    → with_value (t.binary op a b) m (λ v s. goes_on (assigned s x 0 v))
+    ≡ with_value b m (λ v s. goes_on (assigned s x 0 (plain_word o (word_at s.variables x 0) v)))
 update_goes_on x op a b o m u of_left of_right =
-    ap (λ e. if_value (value_of (t.binary op e b) m.variables m.left) m (λ v s. goes_on (assigned s x 0 v))) u.is
-    ∙ updated_value x 0 m (binary_result op.operator u.name.word_type (type_of b) (scalar_value m.variables u.name))
-    (plain_word o (word_at m.variables x 0)) (value_of b m.variables m.left) same
+    ap (λ e. with_value (t.binary op e b) m (λ v s. goes_on (assigned s x 0 v))) u.is
+    ∙ updated_value x 0 b m (binary_result op.operator u.name.word_type (type_of b) (scalar_value m.variables u.name)) o same
   where
     one : IsOneWord u.name.word_type
     one = subst (λ e. IsOneWord (type_of e)) u.is of_left
@@ -155,11 +164,11 @@ update_goes_on x op a b o m u of_left of_right =
 
 -- what an assignment to an element goes on with, where the index is evaluated first
 abbrev pub stored_value : Variable → CheckedExpression → ℕ → Attempt → Outcome
-stored_value x e i s = if_value (value_of e s.variables s.left) s (λ v s. goes_on (assigned s x i v))
+stored_value x e i s = with_value e s (λ v s. goes_on (assigned s x i v))
 
--- the same in place: behind the index the variables are as these
-abbrev updated_element : Variable → PlainOperation → CheckedExpression → Variables → ℕ → Attempt → Outcome
-updated_element x o b m i s = if_value (value_of b s.variables s.left) s (λ v s. goes_on (assigned s x i (plain_word o (word_at m x i) v)))
+-- the same in place
+abbrev updated_element : Variable → PlainOperation → CheckedExpression → ℕ → Attempt → Outcome
+updated_element x o b i s = with_value b s (λ v s. goes_on (assigned s x i (plain_word o (word_at s.variables x i) v)))
 
 -- both indexes and both sides are of one word
 pub record AreOneWord (first second a b : CheckedExpression) : Type 0 where
@@ -170,25 +179,23 @@ pub record AreOneWord (first second a b : CheckedExpression) : Type 0 where
 
 pub element_update_goes_on : (x : Variable) (index : CheckedExpression) (op : PlacedOperator) (a b : CheckedExpression) (o : PlainOperation) (m : Attempt)
     (u : IsElementUpdate x index op.operator a o) → AreOneWord index u.other a b
-    → if_value (value_of index m.variables m.left) m (stored_value x (t.binary op a b))
-    ≡ if_value (value_of index m.variables m.left) m (updated_element x o b m.variables)
+    → with_value index m (stored_value x (t.binary op a b)) ≡ with_value index m (updated_element x o b)
 element_update_goes_on x index op a b o m u one =
     let of = u.name.word_type in
     let result = binary_result op.operator of (type_of b) in
-    let indexes = alike_values m.variables m.left index u.other one.index one.other u.alike in
+    let indexes = alike_values m index u.other one.index one.other u.alike in
     let i = indexes.word in
-    let left_of : Option (ℕ × List ℕ) → Option (ℕ × List ℕ) = λ r. r >>? λ j. Some (word_at m.variables u.name.variable j.0, j.1) in
-    let behind_index : Option (ℕ × List ℕ) → Outcome =
-    λ r. if_value (left_of r >>? λ y. value_of b m.variables y.1 >>? λ z. Some (result y.0 z.0, z.1)) m (λ v s. goes_on (assigned s x i v)) in
-    let right = value_of b m.variables m.left in
-    let behind_word : ℕ → Outcome =
-    λ n. if_value (right >>? λ z. Some (result n z.0, z.1)) m (λ v s. goes_on (assigned s x i v)) in
+    let stored : ℕ → Attempt → Outcome = λ v s. goes_on (assigned s x i v) in
+    let element_of : Option Evaluated → Option Evaluated =
+    λ r. r >>? λ j. gives (word_at j.behind.variables u.name.variable j.value) j.behind in
+    let behind_index : Option Evaluated → Outcome =
+    λ r. if_value (element_of r >>? λ y. made_of (result y.value) (value_of b y.behind)) stored in
+    let behind_word : ℕ → Outcome = λ n. if_value (made_of (result n) (value_of b m)) stored in
     let of_left = subst (λ e. IsOneWord (type_of e)) u.is one.left in
     let word = word_at m.variables x i in
-    ap (λ r. if_value r m (stored_value x (t.binary op a b))) indexes.first
+    ap (λ r. if_value r (stored_value x (t.binary op a b))) indexes.first
     ∙ ap (λ e. stored_value x (t.binary op e b) i m) u.is
     ∙ ap behind_index indexes.second
     ∙ ap (λ y. behind_word (word_at m.variables y i)) u.same
-    ∙ updated_value x i m (result word) (plain_word o word) right
-    (λ v. plain_result op.operator o of (type_of b) word v of_left one.right u.operation)
-    ∙ sym (ap (λ r. if_value r m (updated_element x o b m.variables)) indexes.first)
+    ∙ updated_value x i b m (result word) o (λ v. plain_result op.operator o of (type_of b) word v of_left one.right u.operation)
+    ∙ sym (ap (λ r. if_value r (updated_element x o b)) indexes.first)

@@ -2,7 +2,7 @@
 use Rattle.std.proofs.Common.{◌≡◌, ℕ, ◌+◌, ◌*◌, ◌%◌, ◌==◌, ◌<◌, ◌≤◌, List, [], ◌∷◌, ◌++◌, Option, Some, None, Bool, true, false, not, nat_le, nat_lt, refl, sym}
 use Rattle.std.proofs.Common.{ap, ◌∙◌, subst, arith, le-ltb, lt-ltb, get_or, ⊎_elim, if◌then◌else◌, bit_and}
 use Rattle.array_versions.specs.alp_words.Words.{bit}
-use Rattle.array_versions.specs.fram_board.Effects.{Effect, Store, Take, Send}
+use Rattle.array_versions.specs.fram_board.Effects.{Effect, Store, Take, Outside}
 use Rattle.std.proofs.lemmas.Bool.{cases_lt}
 use Rattle.std.proofs.lemmas.List.{get_or_past}
 use Rattle.task_ast.specs.declared.WordType.{WordType}
@@ -17,7 +17,8 @@ use Rattle.task_ast.specs.declared.ShortCircuitOperator.{ShortCircuitOperator}
 use Rattle.task_ast.specs.declared.ShortCircuitOperator.TheVariants.{And as BothHold, Or as OneHolds}
 use Rattle.task_ast.specs.declared.names.Variable.{Variable}
 use Rattle.task_ast.specs.declared.names.Variable.TheVariants.{Shared, Local}
-use Rattle.source_values.specs.Values.{◌>>?◌, Variables, word_at, holds, unary_value, binary_value, shift_value, shifted_value, is_settled, next_reading}
+use Rattle.source_values.specs.Values.{◌>>?◌, Variables, Attempt, Evaluated, word_at, holds, unary_value, binary_value, shift_value, shifted_value, is_settled}
+use Rattle.source_values.specs.Values.{evaluated, gives, made_of, reading_of, truth_word}
 use Rattle.array_versions.specs.declared.operations.UnaryOperation.{UnaryOperation}
 use Rattle.array_versions.specs.declared.operations.UnaryOperation.TheVariants.{Negate, Complement}
 use Rattle.array_versions.specs.declared.operations.BinaryOperation.{BinaryOperation}
@@ -27,7 +28,8 @@ use Rattle.array_versions.specs.declared.operations.Comparison.TheVariants.{Comm
 use Rattle.array_versions.specs.Operations.{unary_word, binary_word, shift_word, shifted_word, compare_words}
 use Rattle.array_versions.specs.Program.{Test, Program, load, local, unary, binary, compares, fails, nothing, joined}
 use Rattle.array_versions.specs.Behaviour.{WordState, End, GoesOn, Jumps, Short, Strays, Broken, Behaviour, goes_on, behind_effects, on_end, then_on, is_place}
-use Rattle.array_versions.specs.Behaviour.{at_place, pushed, number_pushed, local_pushed, reading_pushed, way_by_top, way_by_two, tested, behaviour}
+use Rattle.array_versions.specs.Behaviour.{at_place, with_readings, pushed, number_pushed, local_pushed, reading_pushed, way_by_top, way_by_two, tested}
+use Rattle.array_versions.specs.Behaviour.{behaviour}
 use Rattle.array_versions.proofs.Interface.{joined_go_on, then_on_assoc, decided_by_truth}
 use Rattle.memory_map.specs.MemoryMap.{word_place}
 use Rattle.memory_map.specs.declared.words.RuntimeWord.TheVariants.{Version}
@@ -42,8 +44,9 @@ use Rattle.lower.specs.Operations.{binary_meaning, shift_operation}
 use Rattle.lower.specs.Lowered.{one, read_step, element_read, element_step, Lowering, as_word, as_test, word_program, value_test, unary_lowering}
 use Rattle.lower.specs.Lowered.{binary_lowering, sides_test}
 use Rattle.lower.specs.Spots.{Room, AreApart, AreEven}
-use Rattle.lower.specs.Agreement.{IsKnown, IsArray, own_word, HoldVariables, TakesAndStores, OnlyTakes, valued, EndsAt, AgreesAt, AgreesWithValue, truth_value}
+use Rattle.lower.specs.Agreement.{IsArray, own_word, HoldVariables, TakesAndStores, OnlyTakes, valued, EndsAt, AgreesAt, AgreesWithValue, in_state}
 use Rattle.lower.specs.Agreement.{truth_of}
+use Rattle.lower.proofs.Declared.{IsKnown}
 use Rattle.lower.proofs.Addresses.{fram_place, placed, spot_place, first_address, element_is, copy_is, version_is, has_element}
 
 -- ---- effects
@@ -53,46 +56,59 @@ pub takes_append : (P : ℕ → ℕ → Type 0) (es fs : List Effect) → TakesA
 takes_append P [] fs h k = k
 takes_append P (Store a w ∷ es) fs h k = (h.0, takes_append P es fs h.1 k)
 takes_append P (Take r ∷ es) fs h k = takes_append P es fs h k
-takes_append P (Send n w ∷ es) fs h k = h
+takes_append P (Outside o ∷ es) fs h k = h
 
 pub only_takes : (P : ℕ → ℕ → Type 0) (es : List Effect) → OnlyTakes es → TakesAndStores P es
 only_takes P [] h = tt
 only_takes P (Store a w ∷ es) h = absurd h.0
 only_takes P (Take r ∷ es) h = only_takes P es h
-only_takes P (Send n w ∷ es) h = h
+only_takes P (Outside o ∷ es) h = h
 
 -- ---- one behind the other
 
-pub agrees_then : (there last : ℕ × List ℕ → WordState) (b : Behaviour) (o : Option (ℕ × List ℕ)) (next : WordState → Behaviour)
-    (more : ℕ × List ℕ → Option (ℕ × List ℕ))
-    → AgreesAt there b o → ((x : ℕ × List ℕ) → AgreesAt last (next (there x)) (more x))
+-- what goes on with a value may know that it is the one of this program
+pub agrees_with : (there last : Evaluated → WordState) (b : Behaviour) (o : Option Evaluated) (next : WordState → Behaviour)
+    (more : Evaluated → Option Evaluated)
+    → AgreesAt there b o → ((x : Evaluated) → o ≡ Some x → AgreesAt last (next (there x)) (more x))
     → AgreesAt last (then_on b next) (o >>? more)
-agrees_then there last b o next more h k = go b.effects b.end o h.0 h.1
+agrees_with there last b o next more h k = go b.effects b.end o refl h.0 h.1
   where
-    go : (es : List Effect) (e : End) (o : Option (ℕ × List ℕ)) → OnlyTakes es → EndsAt there e o
-        → AgreesAt last (behind_effects es (on_end e next)) (o >>? more)
-    go es (GoesOn s) (Some x) h e =
+    go : (es : List Effect) (e : End) (q : Option Evaluated) → o ≡ q → OnlyTakes es → EndsAt there e q
+        → AgreesAt last (behind_effects es (on_end e next)) (q >>? more)
+    go es (GoesOn s) (Some x) is h e =
         let P : WordState → Type 0 = λ s. AgreesAt last (behind_effects es (next s)) (more x) in
-        let n = k x in
+        let n = k x is in
         subst P (sym e) (takes_append (λ a w. ⊥) es (next (there x)).effects h n.0, n.1)
-    go es (GoesOn s) None h e = absurd e
-    go es (Jumps to s) o h e = absurd e
-    go es Short (Some x) h e = absurd e
-    go es Short None h e = (takes_append (λ a w. ⊥) es [] h tt, tt)
-    go es Strays o h e = absurd e
-    go es Broken o h e = (takes_append (λ a w. ⊥) es [] h tt, tt)
+    go es (GoesOn s) None is h e = absurd e
+    go es (Jumps to s) q is h e = absurd e
+    go es Short (Some x) is h e = absurd e
+    go es Short None is h e = (takes_append (λ a w. ⊥) es [] h tt, tt)
+    go es Strays q is h e = absurd e
+    go es Broken q is h e = (takes_append (λ a w. ⊥) es [] h tt, tt)
+
+pub agrees_then : (there last : Evaluated → WordState) (b : Behaviour) (o : Option Evaluated) (next : WordState → Behaviour)
+    (more : Evaluated → Option Evaluated) → AgreesAt there b o → ((x : Evaluated) → AgreesAt last (next (there x)) (more x))
+    → AgreesAt last (then_on b next) (o >>? more)
+agrees_then there last b o next more h k = agrees_with there last b o next more h (λ x is. k x)
+
+-- the same behind a value that is known
+pub agrees_given : (there last : Evaluated → WordState) (b : Behaviour) (x : Evaluated) (next : WordState → Behaviour) (o : Option Evaluated)
+    → AgreesAt there b (Some x) → AgreesAt last (next (there x)) o → AgreesAt last (then_on b next) o
+agrees_given there last b x next o h k =
+    let P : Evaluated → Type 0 = λ y. AgreesAt last (next (there y)) o in
+    agrees_with there last b (Some x) next (λ y. o) h (λ y is. let same : x ≡ y = cc in subst P same k)
 
 -- of a value that is pushed
-pub value_then : (w v : WordState) (b : Behaviour) (o : Option (ℕ × List ℕ)) (next : WordState → Behaviour) (more : ℕ × List ℕ → Option (ℕ × List ℕ))
-    → AgreesWithValue v b o → ((x : ℕ × List ℕ) → AgreesWithValue w (next (valued v x)) (more x))
+pub value_then : (w v : WordState) (b : Behaviour) (o : Option Evaluated) (next : WordState → Behaviour) (more : Evaluated → Option Evaluated)
+    → AgreesWithValue v b o → ((x : Evaluated) → AgreesWithValue w (next (valued v x)) (more x))
     → AgreesWithValue w (then_on b next) (o >>? more)
 value_then w v b o next more h k = agrees_then (valued v) (valued w) b o next more h k
 
 -- nothing behind
-pub value_done : (w : WordState) (b : Behaviour) (o : Option (ℕ × List ℕ)) → AgreesWithValue w b o → AgreesWithValue w (then_on b (behaviour nothing)) o
+pub value_done : (w : WordState) (b : Behaviour) (o : Option Evaluated) → AgreesWithValue w b o → AgreesWithValue w (then_on b (behaviour nothing)) o
 value_done w b o h = go b.effects b.end o h.0 h.1
   where
-    go : (es : List Effect) (e : End) (o : Option (ℕ × List ℕ)) → OnlyTakes es → EndsAt (valued w) e o
+    go : (es : List Effect) (e : End) (o : Option Evaluated) → OnlyTakes es → EndsAt (valued w) e o
         → AgreesWithValue w (behind_effects es (on_end e (behaviour nothing))) o
     go es (GoesOn s) o h e = (takes_append (λ a w. ⊥) es [] h tt, e)
     go es (Jumps to s) o h e = absurd e
@@ -102,67 +118,73 @@ value_done w b o h = go b.effects b.end o h.0 h.1
 
 -- ---- leaves
 
-local_agrees : (w : WordState) (o : Option ℕ) (v : ℕ) → ((u : ℕ) → o ≡ Some u → v ≡ u)
-    → AgreesWithValue w (then_on (local_pushed o w) (behaviour nothing)) (Some (v, w.readings))
-local_agrees w None v h = (tt, tt)
-local_agrees w (Some u) v h = (tt, ap (λ x. valued w (x, w.readings)) (sym (h u refl)))
+local_agrees : (w : WordState) (m : Attempt) (o : Option ℕ) (v : ℕ) → ((u : ℕ) → o ≡ Some u → v ≡ u)
+    → AgreesWithValue w (then_on (local_pushed o w) (behaviour nothing)) (gives v (in_state w m))
+local_agrees w m None v h = (tt, tt)
+local_agrees w m (Some u) v h = (tt, ap (λ x. valued w (evaluated x (in_state w m))) (sym (h u refl)))
 
 -- a number below 256 is its own residue
 pub small_modulo : (n : ℕ) → n < 256 → n % 65536 ≡ n
 small_modulo n h = omega arith
 
-load_agrees : (w : WordState) (a v : ℕ) → is_place a ≡ true → w.fram a ≡ v → AgreesWithValue w (behaviour (one (load a)) w) (Some (v, w.readings))
-load_agrees w a v place is =
-    let P : Behaviour → Type 0 = λ b. AgreesWithValue w (then_on b (behaviour nothing)) (Some (v, w.readings)) in
-    subst P (sym (placed a (goes_on [] (pushed (w.fram a) w)) place)) (tt, ap (λ x. valued w (x, w.readings)) is)
+load_agrees : (w : WordState) (m : Attempt) (a v : ℕ) → is_place a ≡ true → w.fram a ≡ v
+    → AgreesWithValue w (behaviour (one (load a)) w) (gives v (in_state w m))
+load_agrees w m a v place is =
+    let P : Behaviour → Type 0 = λ b. AgreesWithValue w (then_on b (behaviour nothing)) (gives v (in_state w m)) in
+    subst P (sym (placed a (goes_on [] (pushed (w.fram a) w)) place)) (tt, ap (λ x. valued w (evaluated x (in_state w m))) is)
 
-pub word_read_agrees : (p : Places) (room : Room) (v i a : ℕ) (m : Variables) (w : WordState) → a ≡ scalar_address p v i → AreApart p room → AreEven p
-    → IsScalarWord p v i → HoldVariables p m w.fram w.locals
-    → AgreesWithValue w (behaviour (one (load a)) w) (Some (word_at m (Shared v) i, w.readings))
+pub word_read_agrees : (p : Places) (room : Room) (v i a : ℕ) (m : Attempt) (w : WordState) → a ≡ scalar_address p v i → AreApart p room → AreEven p
+    → IsScalarWord p v i → HoldVariables p m.variables w.fram w.locals
+    → AgreesWithValue w (behaviour (one (load a)) w) (gives (word_at m.variables (Shared v) i) (in_state w m))
 word_read_agrees p room v i a m w e apart even k h =
-    let P : ℕ → Type 0 = λ b. AgreesWithValue w (behaviour (one (load b)) w) (Some (word_at m (Shared v) i, w.readings)) in
-    subst P (sym e) (load_agrees w (scalar_address p v i) (word_at m (Shared v) i) (spot_place p room (scalar v i) apart even k) (h.words v i k))
+    let word = word_at m.variables (Shared v) i in
+    let P : ℕ → Type 0 = λ b. AgreesWithValue w (behaviour (one (load b)) w) (gives word (in_state w m)) in
+    subst P (sym e) (load_agrees w m (scalar_address p v i) word (spot_place p room (scalar v i) apart even k) (h.words v i k))
 
-pub read_agrees : (p : Places) (room : Room) (x : Variable) (m : Variables) (w : WordState) → AreApart p room → AreEven p → IsKnown p x
-    → HoldVariables p m w.fram w.locals
-    → AgreesWithValue w (behaviour (one (read_step p x)) w) (Some (word_at m x 0, w.readings))
+pub read_agrees : (p : Places) (room : Room) (x : Variable) (m : Attempt) (w : WordState) → AreApart p room → AreEven p → IsKnown p x
+    → HoldVariables p m.variables w.fram w.locals
+    → AgreesWithValue w (behaviour (one (read_step p x)) w) (gives (word_at m.variables x 0) (in_state w m))
 read_agrees p room (Shared v) m w apart even k h =
     word_read_agrees p room v 0 (address_of p v) m w (sym (first_address p v)) apart even (first_word p v k) h
 read_agrees p room (Local n) m w apart even k h =
-    let P : ℕ → Type 0 = λ j. AgreesWithValue w (behaviour (one (local j)) w) (Some (word_at m (Local n) 0, w.readings)) in
-    subst P (sym (small_modulo n k)) (local_agrees w (w.locals n) (word_at m (Local n) 0) (λ u e. h.locals n u e))
+    let word = word_at m.variables (Local n) 0 in
+    let P : ℕ → Type 0 = λ j. AgreesWithValue w (behaviour (one (local j)) w) (gives word (in_state w m)) in
+    subst P (sym (small_modulo n k)) (local_agrees w m (w.locals n) word (λ u e. h.locals n u e))
 
-pub sense_agrees : (w : WordState) (rs : List ℕ) → AgreesWithValue w (then_on (reading_pushed rs w) (behaviour nothing)) (next_reading rs)
-sense_agrees w [] = (tt, tt)
-sense_agrees w (r ∷ rs) = (tt, refl)
+pub sense_agrees : (w : WordState) (m : Attempt) (rs : List ℕ)
+    → AgreesWithValue w (then_on (reading_pushed rs w) (behaviour nothing)) (reading_of rs m)
+sense_agrees w m [] = (tt, tt)
+sense_agrees w m (r ∷ rs) = (tt, refl)
 
 -- ---- elements
 
 -- a word that is one of two, each at a place
-either_agrees : (w : WordState) (b : Bool) (c e x y v : ℕ) (left : List ℕ) → is_place c ≡ true → is_place e ≡ true → (if b then x else y) ≡ v
-    → AgreesWithValue w (then_on (if b then at_place c (goes_on [] (valued w (x, left))) else at_place e (goes_on [] (valued w (y, left))))
-    (behaviour nothing)) (Some (v, left))
-either_agrees w true c e x y v left is_c is_e is =
-    let P : Behaviour → Type 0 = λ b. AgreesWithValue w (then_on b (behaviour nothing)) (Some (v, left)) in
-    subst P (sym (placed c (goes_on [] (valued w (x, left))) is_c)) (tt, ap (λ z. valued w (z, left)) is)
-either_agrees w false c e x y v left is_c is_e is =
-    let P : Behaviour → Type 0 = λ b. AgreesWithValue w (then_on b (behaviour nothing)) (Some (v, left)) in
-    subst P (sym (placed e (goes_on [] (valued w (y, left))) is_e)) (tt, ap (λ z. valued w (z, left)) is)
+either_agrees : (w : WordState) (b : Bool) (c e x y v : ℕ) (behind : Attempt) → is_place c ≡ true → is_place e ≡ true → (if b then x else y) ≡ v
+    → (let first = at_place c (goes_on [] (valued w (evaluated x behind))) in
+    let second = at_place e (goes_on [] (valued w (evaluated y behind))) in
+    AgreesWithValue w (then_on (if b then first else second) (behaviour nothing)) (gives v behind))
+either_agrees w true c e x y v behind is_c is_e is =
+    let P : Behaviour → Type 0 = λ b. AgreesWithValue w (then_on b (behaviour nothing)) (gives v behind) in
+    subst P (sym (placed c (goes_on [] (valued w (evaluated x behind))) is_c)) (tt, ap (λ z. valued w (evaluated z behind)) is)
+either_agrees w false c e x y v behind is_c is_e is =
+    let P : Behaviour → Type 0 = λ b. AgreesWithValue w (then_on b (behaviour nothing)) (gives v behind) in
+    subst P (sym (placed e (goes_on [] (valued w (evaluated y behind))) is_e)) (tt, ap (λ z. valued w (evaluated z behind)) is)
 
 -- one word at a place
-one_agrees : (w : WordState) (e x v : ℕ) (left : List ℕ) → is_place e ≡ true → x ≡ v
-    → AgreesWithValue w (then_on (at_place e (goes_on [] (valued w (x, left)))) (behaviour nothing)) (Some (v, left))
-one_agrees w e x v left is_e is =
-    let P : Behaviour → Type 0 = λ b. AgreesWithValue w (then_on b (behaviour nothing)) (Some (v, left)) in
-    subst P (sym (placed e (goes_on [] (valued w (x, left))) is_e)) (tt, ap (λ z. valued w (z, left)) is)
+one_agrees : (w : WordState) (e x v : ℕ) (behind : Attempt) → is_place e ≡ true → x ≡ v
+    → AgreesWithValue w (then_on (at_place e (goes_on [] (valued w (evaluated x behind)))) (behaviour nothing)) (gives v behind)
+one_agrees w e x v behind is_e is =
+    let P : Behaviour → Type 0 = λ b. AgreesWithValue w (then_on b (behaviour nothing)) (gives v behind) in
+    subst P (sym (placed e (goes_on [] (valued w (evaluated x behind))) is_e)) (tt, ap (λ z. valued w (evaluated z behind)) is)
 
 -- an index within the array, or past its end
-index_agrees : (w : WordState) (i length v : ℕ) (left : List ℕ) (inside : Behaviour)
-    → (i < length → AgreesWithValue w (then_on inside (behaviour nothing)) (Some (v, left))) → (length ≤ i → v ≡ 0)
-    → AgreesWithValue w (then_on (if nat_lt i length then inside else goes_on [] (valued w (0, left))) (behaviour nothing)) (Some (v, left))
-index_agrees w i length v left inside h k =
-    let P : Bool → Type 0 = λ b. AgreesWithValue w (then_on (if b then inside else goes_on [] (valued w (0, left))) (behaviour nothing)) (Some (v, left)) in
-    ⊎_elim (λ l. subst P (sym (lt-ltb i length l)) (h l)) (λ l. subst P (sym (le-ltb i length l)) (tt, ap (λ z. valued w (z, left)) (sym (k l))))
+index_agrees : (w : WordState) (i length v : ℕ) (behind : Attempt) (inside : Behaviour)
+    → (i < length → AgreesWithValue w (then_on inside (behaviour nothing)) (gives v behind)) → (length ≤ i → v ≡ 0)
+    → AgreesWithValue w (then_on (if nat_lt i length then inside else goes_on [] (valued w (evaluated 0 behind))) (behaviour nothing)) (gives v behind)
+index_agrees w i length v behind inside h k =
+    let past : Behaviour = goes_on [] (valued w (evaluated 0 behind)) in
+    let P : Bool → Type 0 = λ b. AgreesWithValue w (then_on (if b then inside else past) (behaviour nothing)) (gives v behind) in
+    ⊎_elim (λ l. subst P (sym (lt-ltb i length l)) (h l)) (λ l. subst P (sym (le-ltb i length l)) (tt, ap (λ z. valued w (evaluated z behind)) (sym (k l))))
     (cases_lt i length)
 
 past_end : (p : Places) (v elements length i : ℕ) (copies : Option ArrayCopies) (m : Variables) (f : ℕ → ℕ) (locals : ℕ → Option ℕ)
@@ -171,23 +193,24 @@ past_end p v elements length i copies m f locals at h l =
     let e = h.lengths v (Array elements length copies) at.place in
     get_or_past (get_or m.shared v []) i 0 (omega (arith, e, l))
 
-array_agrees : (p : Places) (room : Room) (v elements length i : ℕ) (copies : Option ArrayCopies) (m : Variables) (w : WordState) (left : List ℕ)
+array_agrees : (p : Places) (room : Room) (v elements length i : ℕ) (copies : Option ArrayCopies) (m : Variables) (w : WordState) (behind : Attempt)
     → AreApart p room → AreEven p
     → IsArrayAt p v elements length copies → HoldVariables p m w.fram w.locals
-    → AgreesWithValue w (behaviour (one (element_read p (Some (Array elements length copies)))) (valued w (i, left))) (Some (word_at m (Shared v) i, left))
-array_agrees p room v elements length i None m w left apart even at h =
+    → AgreesWithValue w (behaviour (one (element_read p (Some (Array elements length copies)))) (valued w (evaluated i behind)))
+    (gives (word_at m (Shared v) i) behind)
+array_agrees p room v elements length i None m w behind apart even at h =
     let x : Element = record { array = v; index = i } in
     let e = 2 * i + elements in
     let word = word_at m (Shared v) i in
     let P : ℕ → Type 0 = λ a. is_place a ≡ true in
     let Q : Option VariablePlace → Type 0 = λ o. own_word p w.fram o i ≡ word in
-    index_agrees w i length word left (at_place e (goes_on [] (valued w (w.fram e, left))))
+    index_agrees w i length word behind (at_place e (goes_on [] (valued w (evaluated (w.fram e) behind))))
     (λ l.
     let is : IsElement p x = record { elements = elements; length = length; copies = None; is_array = at; below = l } in
-    one_agrees w e (w.fram e) word left (subst P (element_is p x elements length None at) (spot_place p room (element x) apart even is))
+    one_agrees w e (w.fram e) word behind (subst P (element_is p x elements length None at) (spot_place p room (element x) apart even is))
     (subst Q at.place (h.elements x is)))
     (past_end p v elements length i None m w.fram w.locals at h)
-array_agrees p room v elements length i (Some c) m w left apart even at h =
+array_agrees p room v elements length i (Some c) m w behind apart even at h =
     let x : Element = record { array = v; index = i } in
     let e = 2 * i + elements in
     let o = 2 * i + c.copies in
@@ -196,28 +219,29 @@ array_agrees p room v elements length i (Some c) m w left apart even at h =
     let word = word_at m (Shared v) i in
     let P : ℕ → Type 0 = λ a. is_place a ≡ true in
     let Q : Option VariablePlace → Type 0 = λ o. own_word p w.fram o i ≡ word in
-    let R : Behaviour → Type 0 = λ b. AgreesWithValue w (then_on b (behaviour nothing)) (Some (word, left)) in
-    let read : Behaviour = if w.fram ver == w.fram n then at_place o (goes_on [] (valued w (w.fram o, left))) else at_place e
-    (goes_on [] (valued w (w.fram e, left))) in
-    index_agrees w i length word left (at_place ver (at_place n read))
+    let R : Behaviour → Type 0 = λ b. AgreesWithValue w (then_on b (behaviour nothing)) (gives word behind) in
+    let read : Behaviour = if w.fram ver == w.fram n then at_place o (goes_on [] (valued w (evaluated (w.fram o) behind))) else at_place e
+    (goes_on [] (valued w (evaluated (w.fram e) behind))) in
+    index_agrees w i length word behind (at_place ver (at_place n read))
     (λ l.
     let is : IsCopied p x = record { elements = elements; length = length; copies = c; is_array = at; below = l } in
     let at_version = placed ver (at_place n read) (fram_place ver (word_even p.map Version even.row) (omega (arith, apart)) (omega (arith, apart))) in
     let at_mark = placed n read (subst P (version_is p x elements length c at) (spot_place p room (version x) apart even is)) in
     subst R (sym (at_version ∙ at_mark))
-    (either_agrees w (w.fram ver == w.fram n) o e (w.fram o) (w.fram e) word left
+    (either_agrees w (w.fram ver == w.fram n) o e (w.fram o) (w.fram e) word behind
     (subst P (copy_is p x elements length c at) (spot_place p room (copy x) apart even is))
     (subst P (element_is p x elements length (Some c) at) (spot_place p room (element x) apart even (has_element p x is)))
     (subst Q at.place (h.elements x (has_element p x is)))))
     (past_end p v elements length i (Some c) m w.fram w.locals at h)
 
-pub element_agrees : (p : Places) (room : Room) (x : Variable) (i : ℕ) (m : Variables) (w : WordState) (left : List ℕ) → AreApart p room → AreEven p
-    → IsArray p x → HoldVariables p m w.fram w.locals → AgreesWithValue w (behaviour (one (element_step p x)) (valued w (i, left))) (Some (word_at m x i, left))
-element_agrees p room (Shared v) i m w left apart even k h =
+pub element_agrees : (p : Places) (room : Room) (x : Variable) (i : ℕ) (m : Variables) (w : WordState) (behind : Attempt) → AreApart p room → AreEven p
+    → IsArray p x → HoldVariables p m w.fram w.locals
+    → AgreesWithValue w (behaviour (one (element_step p x)) (valued w (evaluated i behind))) (gives (word_at m x i) behind)
+element_agrees p room (Shared v) i m w behind apart even k h =
     let P : Option VariablePlace → Type 0 =
-    λ o. AgreesWithValue w (behaviour (one (element_read p o)) (valued w (i, left))) (Some (word_at m (Shared v) i, left)) in
-    subst P (sym k.3.place) (array_agrees p room v k.0 k.1 i k.2 m w left apart even k.3 h)
-element_agrees p room (Local n) i m w left apart even k h = absurd k
+    λ o. AgreesWithValue w (behaviour (one (element_read p o)) (valued w (evaluated i behind))) (gives (word_at m (Shared v) i) behind) in
+    subst P (sym k.3.place) (array_agrees p room v k.0 k.1 i k.2 m w behind apart even k.3 h)
+element_agrees p room (Local n) i m w behind apart even k h = absurd k
 
 -- ---- operators
 
@@ -260,87 +284,87 @@ pub holds_bit : (b : Bool) → holds (bit b) ≡ b
 holds_bit true = refl
 holds_bit false = refl
 
-bit_is_truth : (b : Bool) (left : List ℕ) → truth_value (bit b, left) ≡ Some (bit b, left)
-bit_is_truth b left = ap (λ c. Some (bit c, left)) (holds_bit b)
+bit_is_truth : (b : Bool) (behind : Attempt) → truth_of (gives (bit b) behind) ≡ gives (bit b) behind
+bit_is_truth b behind = ap (λ c. gives (bit c) behind) (holds_bit b)
 
 -- what is 1 or 0 is its own truth
-truth_twice : (o : Option (ℕ × List ℕ)) → truth_of (truth_of o) ≡ truth_of o
+truth_twice : (o : Option Evaluated) → truth_of (truth_of o) ≡ truth_of o
 truth_twice None = refl
-truth_twice (Some x) = bit_is_truth (holds x.0) x.1
+truth_twice (Some x) = bit_is_truth (holds x.value) x.behind
 
--- the word that the values of two sides make, the second from the readings that the first leaves
-abbrev pub pair_value : (ℕ → ℕ → ℕ) → Option (ℕ × List ℕ) → (List ℕ → Option (ℕ × List ℕ)) → Option (ℕ × List ℕ)
-pair_value f o second = o >>? λ x. second x.1 >>? λ y. Some (f x.0 y.0, y.1)
+-- the word that the values of two sides make, the second from the attempt that the first leaves
+abbrev pub pair_value : (ℕ → ℕ → ℕ) → Option Evaluated → (Attempt → Option Evaluated) → Option Evaluated
+pair_value f o second = o >>? λ x. made_of (f x.value) (second x.behind)
 
 -- the truth of such a word
-pub pair_truth : (f : ℕ → ℕ → ℕ) (o : Option (ℕ × List ℕ)) (second : List ℕ → Option (ℕ × List ℕ))
-    → pair_value (λ x y. bit (holds (f x y))) o second ≡ truth_of (pair_value f o second)
+pub pair_truth : (f : ℕ → ℕ → ℕ) (o : Option Evaluated) (second : Attempt → Option Evaluated)
+    → pair_value (λ x y. truth_word (f x y)) o second ≡ truth_of (pair_value f o second)
 pair_truth f None second = refl
-pair_truth f (Some x) second = by (second x.1)
+pair_truth f (Some x) second = by (second x.behind)
   where
-    by : (o : Option (ℕ × List ℕ)) → (o >>? λ y. Some (bit (holds (f x.0 y.0)), y.1)) ≡ truth_of (o >>? λ y. Some (f x.0 y.0, y.1))
+    by : (o : Option Evaluated) → made_of (λ y. truth_word (f x.value y)) o ≡ truth_of (made_of (f x.value) o)
     by None = refl
     by (Some y) = refl
 
 -- where it is 1 or 0, it is its own truth
-pub pair_is_truth : (f : ℕ → ℕ → ℕ) (b : ℕ → ℕ → Bool) (o : Option (ℕ × List ℕ)) (second : List ℕ → Option (ℕ × List ℕ))
+pub pair_is_truth : (f : ℕ → ℕ → ℕ) (b : ℕ → ℕ → Bool) (o : Option Evaluated) (second : Attempt → Option Evaluated)
     → ((x y : ℕ) → bit (b x y) ≡ f x y) → truth_of (pair_value f o second) ≡ pair_value f o second
 pair_is_truth f b None second e = refl
-pair_is_truth f b (Some x) second e = by (second x.1)
+pair_is_truth f b (Some x) second e = by (second x.behind)
   where
-    one_or_zero : (u v : ℕ) → bit (holds (f u v)) ≡ f u v
-    one_or_zero u v = ap (λ r. bit (holds r)) (sym (e u v)) ∙ ap bit (holds_bit (b u v)) ∙ e u v
+    one_or_zero : (u v : ℕ) → truth_word (f u v) ≡ f u v
+    one_or_zero u v = ap truth_word (sym (e u v)) ∙ ap bit (holds_bit (b u v)) ∙ e u v
 
-    by : (o : Option (ℕ × List ℕ)) → (let r : Option (ℕ × List ℕ) = o >>? λ y. Some (f x.0 y.0, y.1) in truth_of r ≡ r)
+    by : (o : Option Evaluated) → truth_of (made_of (f x.value) o) ≡ made_of (f x.value) o
     by None = refl
-    by (Some y) = ap (λ r. Some (r, y.1)) (one_or_zero x.0 y.0)
+    by (Some y) = ap (λ r. gives r y.behind) (one_or_zero x.value y.value)
 
 -- `!` of a value, and of a truth
-abbrev pub not_value : ℕ × List ℕ → Option (ℕ × List ℕ)
-not_value x = Some (bit (x.0 == 0), x.1)
+abbrev pub not_word : ℕ → ℕ
+not_word w = bit (w == 0)
 
-abbrev not_truth : ℕ × List ℕ → Option (ℕ × List ℕ)
-not_truth x = Some (bit (not (holds x.0)), x.1)
+abbrev not_truth : ℕ → ℕ
+not_truth w = bit (not (holds w))
 
 -- that of a value by that of its truth
-not_of_truth : (o : Option (ℕ × List ℕ)) → (truth_of o >>? not_truth) ≡ (o >>? not_value)
+not_of_truth : (o : Option Evaluated) → made_of not_truth (truth_of o) ≡ made_of not_word o
 not_of_truth None = refl
-not_of_truth (Some x) = by (x.0 == 0)
+not_of_truth (Some x) = by (x.value == 0)
   where
-    by : (b : Bool) → not_truth (bit (not b), x.1) ≡ Some (bit b, x.1)
+    by : (b : Bool) → gives (not_truth (bit (not b))) x.behind ≡ gives (bit b) x.behind
     by true = refl
     by false = refl
 
-not_is_truth : (o : Option (ℕ × List ℕ)) → truth_of (o >>? not_value) ≡ (o >>? not_value)
+not_is_truth : (o : Option Evaluated) → truth_of (made_of not_word o) ≡ made_of not_word o
 not_is_truth None = refl
-not_is_truth (Some x) = bit_is_truth (x.0 == 0) x.1
+not_is_truth (Some x) = bit_is_truth (x.value == 0) x.behind
 
--- `&&` or `||` of a value by that of its truth, the right side being this of the readings left
-abbrev pub side_value : ShortCircuitOperator → (List ℕ → Option (ℕ × List ℕ)) → ℕ × List ℕ → Option (ℕ × List ℕ)
-side_value op right x = if is_settled op x.0 then Some (bit (holds x.0), x.1) else truth_of (right x.1)
+-- `&&` or `||` of a value by that of its truth, the right side being this of the attempt behind the left one
+abbrev pub side_value : ShortCircuitOperator → (Attempt → Option Evaluated) → Evaluated → Option Evaluated
+side_value op right x = if is_settled op x.value then gives (truth_word x.value) x.behind else truth_of (right x.behind)
 
-pub sides_of_truth : (o : Option (ℕ × List ℕ)) (op : ShortCircuitOperator) (right : List ℕ → Option (ℕ × List ℕ))
+pub sides_of_truth : (o : Option Evaluated) (op : ShortCircuitOperator) (right : Attempt → Option Evaluated)
     → (truth_of o >>? side_value op right) ≡ (o >>? side_value op right)
 sides_of_truth None op right = refl
-sides_of_truth (Some x) BothHold right = by (holds x.0)
+sides_of_truth (Some x) BothHold right = by (holds x.value)
   where
-    by : (b : Bool) → side_value BothHold right (bit b, x.1) ≡ (if not b then Some (bit b, x.1) else truth_of (right x.1))
+    by : (b : Bool) → side_value BothHold right (evaluated (bit b) x.behind) ≡ (if not b then gives (bit b) x.behind else truth_of (right x.behind))
     by true = refl
     by false = refl
-sides_of_truth (Some x) OneHolds right = by (holds x.0)
+sides_of_truth (Some x) OneHolds right = by (holds x.value)
   where
-    by : (b : Bool) → side_value OneHolds right (bit b, x.1) ≡ (if b then Some (bit b, x.1) else truth_of (right x.1))
+    by : (b : Bool) → side_value OneHolds right (evaluated (bit b) x.behind) ≡ (if b then gives (bit b) x.behind else truth_of (right x.behind))
     by true = refl
     by false = refl
 
-pub sides_are_truth : (op : ShortCircuitOperator) (o : Option (ℕ × List ℕ)) (right : List ℕ → Option (ℕ × List ℕ))
+pub sides_are_truth : (op : ShortCircuitOperator) (o : Option Evaluated) (right : Attempt → Option Evaluated)
     → (let r = o >>? side_value op right in truth_of r ≡ r)
 sides_are_truth op None right = refl
-sides_are_truth op (Some x) right = by (is_settled op x.0)
+sides_are_truth op (Some x) right = by (is_settled op x.value)
   where
-    by : (b : Bool) → (let r = if b then Some (bit (holds x.0), x.1) else truth_of (right x.1) in truth_of r ≡ r)
-    by true = bit_is_truth (holds x.0) x.1
-    by false = truth_twice (right x.1)
+    by : (b : Bool) → (let r = if b then gives (truth_word x.value) x.behind else truth_of (right x.behind) in truth_of r ≡ r)
+    by true = bit_is_truth (holds x.value) x.behind
+    by false = truth_twice (right x.behind)
 
 -- ---- tests
 
@@ -349,28 +373,28 @@ abbrev pub truth_pushed : Test → WordState → Behaviour
 truth_pushed c w = tested c (number_pushed 1) (number_pushed 0) w
 
 -- the program of an expression leaves its value, and its test decides by the value
-pub record LoweringAgrees (w : WordState) (l : Lowering) (o : Option (ℕ × List ℕ)) : Type 0 where
+pub record LoweringAgrees (w : WordState) (l : Lowering) (o : Option Evaluated) : Type 0 where
   pub word : AgreesWithValue w (behaviour (word_program l) w) o
   pub test : AgreesWithValue w (truth_pushed (value_test l) w) (truth_of o)
 
 -- 1 is pushed where it holds, else 0
-pub bit_agrees : (b : Bool) (r : ℕ) (w : WordState) (left : List ℕ) → bit b ≡ r
-    → (let u : WordState = record w { readings = left } in AgreesWithValue w (if b then number_pushed 1 u else number_pushed 0 u) (Some (r, left)))
-bit_agrees true r w left e = (tt, ap (λ v. valued w (v, left)) e)
-bit_agrees false r w left e = (tt, ap (λ v. valued w (v, left)) e)
+pub bit_agrees : (b : Bool) (r : ℕ) (w : WordState) (behind : Attempt) → bit b ≡ r
+    → (let u : WordState = with_readings behind.left w in AgreesWithValue w (if b then number_pushed 1 u else number_pushed 0 u) (gives r behind))
+bit_agrees true r w behind e = (tt, ap (λ v. valued w (evaluated v behind)) e)
+bit_agrees false r w behind e = (tt, ap (λ v. valued w (evaluated v behind)) e)
 
 -- 0 is pushed where it holds, else 1
-pub turned_bit_agrees : (b : Bool) (r : ℕ) (w : WordState) (left : List ℕ) → bit (not b) ≡ r
-    → (let u : WordState = record w { readings = left } in AgreesWithValue w (if b then number_pushed 0 u else number_pushed 1 u) (Some (r, left)))
-turned_bit_agrees true r w left e = (tt, ap (λ v. valued w (v, left)) e)
-turned_bit_agrees false r w left e = (tt, ap (λ v. valued w (v, left)) e)
+pub turned_bit_agrees : (b : Bool) (r : ℕ) (w : WordState) (behind : Attempt) → bit (not b) ≡ r
+    → (let u : WordState = with_readings behind.left w in AgreesWithValue w (if b then number_pushed 0 u else number_pushed 1 u) (gives r behind))
+turned_bit_agrees true r w behind e = (tt, ap (λ v. valued w (evaluated v behind)) e)
+turned_bit_agrees false r w behind e = (tt, ap (λ v. valued w (evaluated v behind)) e)
 
 -- what agrees with other readings in front agrees
-pub from_left : (w : WordState) (left : List ℕ) (b : Behaviour) (o : Option (ℕ × List ℕ)) → AgreesWithValue (record w { readings = left }) b o
+pub from_left : (w : WordState) (left : List ℕ) (b : Behaviour) (o : Option Evaluated) → AgreesWithValue (with_readings left w) b o
     → AgreesWithValue w b o
 from_left w left b o h = (h.0, by b.end o h.1)
   where
-    by : (e : End) (o : Option (ℕ × List ℕ)) → EndsAt (valued (record w { readings = left })) e o → EndsAt (valued w) e o
+    by : (e : End) (o : Option Evaluated) → EndsAt (valued (with_readings left w)) e o → EndsAt (valued w) e o
     by (GoesOn s) (Some x) g = g
     by (GoesOn s) None g = g
     by (Jumps to s) o g = g
@@ -380,39 +404,40 @@ from_left w left b o h = (h.0, by b.end o h.1)
     by Broken o g = g
 
 -- by a program that leaves the value
-pub by_word : (w : WordState) (q : Program) (o : Option (ℕ × List ℕ)) → AgreesWithValue w (behaviour q w) o → LoweringAgrees w (as_word q) o
+pub by_word : (w : WordState) (q : Program) (o : Option Evaluated) → AgreesWithValue w (behaviour q w) o → LoweringAgrees w (as_word q) o
 by_word w q o h = record {
   word = h;
-  test = value_then w w (behaviour q w) o (way_by_top (number_pushed 1) (number_pushed 0)) truth_value h
-      (λ x. bit_agrees (holds x.0) (bit (holds x.0)) w x.1 refl);
+  test = value_then w w (behaviour q w) o (way_by_top (number_pushed 1) (number_pushed 0)) (λ x. gives (truth_word x.value) x.behind) h
+      (λ x. bit_agrees (holds x.value) (truth_word x.value) w x.behind refl);
 }
 
 -- by a test, where the value is 1 or 0
-pub by_test : (w : WordState) (c : Test) (o : Option (ℕ × List ℕ)) → truth_of o ≡ o → AgreesWithValue w (truth_pushed c w) o → LoweringAgrees w (as_test c) o
+pub by_test : (w : WordState) (c : Test) (o : Option Evaluated) → truth_of o ≡ o → AgreesWithValue w (truth_pushed c w) o → LoweringAgrees w (as_test c) o
 by_test w c o e h = record {
   word = value_done w (truth_pushed c w) o h;
   test = subst (AgreesWithValue w (truth_pushed c w)) (sym e) h;
 }
 
 -- a value, and what is done with it
-pub then_step : (w : WordState) (q last : Program) (o : Option (ℕ × List ℕ)) (more : ℕ × List ℕ → Option (ℕ × List ℕ))
-    → AgreesWithValue w (behaviour q w) o → ((x : ℕ × List ℕ) → AgreesWithValue w (behaviour last (valued w x)) (more x))
+pub then_step : (w : WordState) (q last : Program) (o : Option Evaluated) (more : Evaluated → Option Evaluated)
+    → AgreesWithValue w (behaviour q w) o → ((x : Evaluated) → o ≡ Some x → AgreesWithValue w (behaviour last (valued w x)) (more x))
     → AgreesWithValue w (behaviour (joined q last) w) (o >>? more)
 then_step w q last o more h k =
-    subst (λ b. AgreesWithValue w b (o >>? more)) (sym (joined_go_on q last w)) (value_then w w (behaviour q w) o (behaviour last) more h k)
+    subst (λ b. AgreesWithValue w b (o >>? more)) (sym (joined_go_on q last w)) (agrees_with (valued w) (valued w) (behaviour q w) o (behaviour last) more h k)
 
 -- ---- two sides
 
--- the programs of two sides, the second from any readings on
-pub record SidesAgree (w : WordState) (a b : Program) (o : Option (ℕ × List ℕ)) (second : List ℕ → Option (ℕ × List ℕ)) : Type 0 where
+-- the programs of two sides, the second from the attempt behind the first
+pub record SidesAgree (w : WordState) (a b : Program) (o : Option Evaluated) (second : Attempt → Option Evaluated) : Type 0 where
   pub left_side : AgreesWithValue w (behaviour a w) o
-  pub right_side : (x : ℕ × List ℕ) → AgreesWithValue (valued w x) (behaviour b (valued w x)) (second x.1)
+  pub right_side : (x : Evaluated) → o ≡ Some x → AgreesWithValue (valued w x) (behaviour b (valued w x)) (second x.behind)
 
 -- what is done with both values, which makes this word of them
 abbrev MakesWord : WordState → (WordState → Behaviour) → (ℕ → ℕ → ℕ) → Type 0
-MakesWord w next f = (x y : ℕ) (left : List ℕ) → AgreesWithValue w (next (record w { stack = y ∷ (x ∷ w.stack); readings = left })) (Some (f x y, left))
+MakesWord w next f =
+    (x y : ℕ) (behind : Attempt) → AgreesWithValue w (next (with_readings behind.left (record w { stack = y ∷ (x ∷ w.stack) }))) (gives (f x y) behind)
 
-sides_agree : (w : WordState) (a b : Program) (o : Option (ℕ × List ℕ)) (second : List ℕ → Option (ℕ × List ℕ)) (f : ℕ → ℕ → ℕ)
+sides_agree : (w : WordState) (a b : Program) (o : Option Evaluated) (second : Attempt → Option Evaluated) (f : ℕ → ℕ → ℕ)
     (next : WordState → Behaviour) → SidesAgree w a b o second → MakesWord w next f
     → AgreesWithValue w (then_on (behaviour (joined a b) w) next) (pair_value f o second)
 sides_agree w a b o second f next h k =
@@ -420,88 +445,94 @@ sides_agree w a b o second f next h k =
     let P : Behaviour → Type 0 = λ r. AgreesWithValue w r (pair_value f o second) in
     let is = ap (λ r. then_on r next) (joined_go_on a b w) ∙ sym (then_on_assoc (behaviour a w) (behaviour b) next) in
     subst P (sym is)
-    (value_then w w (behaviour a w) o rest (λ x. second x.1 >>? λ y. Some (f x.0 y.0, y.1)) h.left_side (λ x.
-    value_then w (valued w x) (behaviour b (valued w x)) (second x.1) next (λ y. Some (f x.0 y.0, y.1)) (h.right_side x) (λ y. k x.0 y.0 y.1)))
+    (agrees_with (valued w) (valued w) (behaviour a w) o rest (λ x. made_of (f x.value) (second x.behind)) h.left_side (λ x given.
+    value_then w (valued w x) (behaviour b (valued w x)) (second x.behind) next (λ y. gives (f x.value y.value) y.behind) (h.right_side x given)
+    (λ y. k x.value y.value y.behind)))
 
 -- an operation behind both sides
-operated_agrees : (op : BinaryOperation) (w : WordState) (a b : Program) (o : Option (ℕ × List ℕ)) (second : List ℕ → Option (ℕ × List ℕ)) (f : ℕ → ℕ → ℕ)
+operated_agrees : (op : BinaryOperation) (w : WordState) (a b : Program) (o : Option Evaluated) (second : Attempt → Option Evaluated) (f : ℕ → ℕ → ℕ)
     → SidesAgree w a b o second → ((x y : ℕ) → binary_word op x y ≡ f x y)
     → AgreesWithValue w (behaviour (joined (joined a b) (one (binary op))) w) (pair_value f o second)
 operated_agrees op w a b o second f h e =
     subst (λ r. AgreesWithValue w r (pair_value f o second)) (sym (joined_go_on (joined a b) (one (binary op)) w))
-    (sides_agree w a b o second f (behaviour (one (binary op))) h (λ x y left. (tt, ap (λ v. valued w (v, left)) (e x y))))
+    (sides_agree w a b o second f (behaviour (one (binary op))) h (λ x y behind. (tt, ap (λ v. valued w (evaluated v behind)) (e x y))))
 
 -- an operator of two sides
-pub binary_agrees : (meaning : BinaryMeaning) (w : WordState) (a b : Program) (o : Option (ℕ × List ℕ)) (second : List ℕ → Option (ℕ × List ℕ)) (f : ℕ → ℕ → ℕ)
+pub binary_agrees : (meaning : BinaryMeaning) (w : WordState) (a b : Program) (o : Option Evaluated) (second : Attempt → Option Evaluated) (f : ℕ → ℕ → ℕ)
     → SidesAgree w a b o second → ((x y : ℕ) → meaning_word meaning x y ≡ f x y)
     → LoweringAgrees w (binary_lowering meaning (joined a b)) (pair_value f o second)
 binary_agrees (Calculates op) w a b o second f h e =
     by_word w (joined (joined a b) (one (binary op))) (pair_value f o second) (operated_agrees op w a b o second f h e)
 binary_agrees CommonBits w a b o second f h e =
-    let makes : MakesWord w (way_by_two CommonBit (number_pushed 1) (number_pushed 0)) (λ x y. bit (holds (f x y))) =
-    λ x y left. bit_agrees (holds (bit_and x y)) (bit (holds (f x y))) w left (ap (λ v. bit (holds v)) (e x y)) in
+    let makes : MakesWord w (way_by_two CommonBit (number_pushed 1) (number_pushed 0)) (λ x y. truth_word (f x y)) =
+    λ x y behind. bit_agrees (holds (bit_and x y)) (truth_word (f x y)) w behind (ap truth_word (e x y)) in
     record {
       word = operated_agrees (Plain And) w a b o second f h e;
       test = subst (AgreesWithValue w (truth_pushed (compares CommonBit (joined a b)) w)) (pair_truth f o second)
-          (sides_agree w a b o second (λ x y. bit (holds (f x y))) (way_by_two CommonBit (number_pushed 1) (number_pushed 0)) h makes);
+          (sides_agree w a b o second (λ x y. truth_word (f x y)) (way_by_two CommonBit (number_pushed 1) (number_pushed 0)) h makes);
     }
 binary_agrees (Holds c) w a b o second f h e =
     by_test w (compares c (joined a b)) (pair_value f o second) (pair_is_truth f (compare_words c) o second e)
     (sides_agree w a b o second f (way_by_two c (number_pushed 1) (number_pushed 0)) h
-    (λ x y left. bit_agrees (compare_words c x y) (f x y) w left (e x y)))
+    (λ x y behind. bit_agrees (compare_words c x y) (f x y) w behind (e x y)))
 binary_agrees (Fails c) w a b o second f h e =
     by_test w (fails (compares c (joined a b))) (pair_value f o second) (pair_is_truth f (λ x y. not (compare_words c x y)) o second e)
     (sides_agree w a b o second f (way_by_two c (number_pushed 0) (number_pushed 1)) h
-    (λ x y left. turned_bit_agrees (compare_words c x y) (f x y) w left (e x y)))
+    (λ x y behind. turned_bit_agrees (compare_words c x y) (f x y) w behind (e x y)))
 
 -- ---- `!`, `&&` and `||`
 
 -- an operation behind a value
-turned_agrees : (op : UnaryOperation) (w : WordState) (l : Lowering) (o : Option (ℕ × List ℕ)) → LoweringAgrees w l o
-    → LoweringAgrees w (as_word (joined (word_program l) (one (unary op)))) (o >>? λ x. Some (unary_word op x.0, x.1))
+turned_agrees : (op : UnaryOperation) (w : WordState) (l : Lowering) (o : Option Evaluated) → LoweringAgrees w l o
+    → LoweringAgrees w (as_word (joined (word_program l) (one (unary op)))) (made_of (unary_word op) o)
 turned_agrees op w l o h =
-    let turned : ℕ × List ℕ → Option (ℕ × List ℕ) = λ x. Some (unary_word op x.0, x.1) in
     let last = one (unary op) in
-    by_word w (joined (word_program l) last) (o >>? turned) (then_step w (word_program l) last o turned h.word (λ x. (tt, refl)))
+    by_word w (joined (word_program l) last) (made_of (unary_word op) o)
+    (then_step w (word_program l) last o (λ x. gives (unary_word op x.value) x.behind) h.word (λ x is. (tt, refl)))
 
 -- `!` of a value by its test
-pub not_agrees : (w : WordState) (c : Test) (o : Option (ℕ × List ℕ)) → AgreesWithValue w (truth_pushed c w) (truth_of o)
-    → LoweringAgrees w (as_test (fails c)) (o >>? not_value)
+pub not_agrees : (w : WordState) (c : Test) (o : Option Evaluated) → AgreesWithValue w (truth_pushed c w) (truth_of o)
+    → LoweringAgrees w (as_test (fails c)) (made_of not_word o)
 not_agrees w c o h =
     let turned = way_by_top (number_pushed 0) (number_pushed 1) in
-    let r : Option (ℕ × List ℕ) = o >>? not_value in
+    let r : Option Evaluated = made_of not_word o in
     by_test w (fails c) r (not_is_truth o)
     (subst (λ b. AgreesWithValue w b r) (sym (decided_by_truth c (number_pushed 0) (number_pushed 1) w))
     (subst (AgreesWithValue w (then_on (truth_pushed c w) turned)) (not_of_truth o)
-    (value_then w w (truth_pushed c w) (truth_of o) turned not_truth h (λ x. turned_bit_agrees (holds x.0) (bit (not (holds x.0))) w x.1 refl))))
+    (value_then w w (truth_pushed c w) (truth_of o) turned (λ x. gives (not_truth x.value) x.behind) h
+    (λ x. turned_bit_agrees (holds x.value) (not_truth x.value) w x.behind refl))))
 
-pub unary_agrees : (op : UnaryOperator) (w : WordState) (l : Lowering) (o : Option (ℕ × List ℕ)) → LoweringAgrees w l o
-    → LoweringAgrees w (unary_lowering op l) (o >>? λ x. Some (unary_value op x.0, x.1))
+pub unary_agrees : (op : UnaryOperator) (w : WordState) (l : Lowering) (o : Option Evaluated) → LoweringAgrees w l o
+    → LoweringAgrees w (unary_lowering op l) (made_of (unary_value op) o)
 unary_agrees unary_operator.Negate w l o h = turned_agrees Negate w l o h
 unary_agrees unary_operator.Complement w l o h = turned_agrees Complement w l o h
 unary_agrees unary_operator.Not w l o h = not_agrees w (value_test l) o h.test
 
-pub side_agrees : (op : ShortCircuitOperator) (w : WordState) (c d : Test) (o : Option (ℕ × List ℕ)) (right : List ℕ → Option (ℕ × List ℕ))
+pub side_agrees : (op : ShortCircuitOperator) (w : WordState) (c d : Test) (o : Option Evaluated) (right : Attempt → Option Evaluated)
     → AgreesWithValue w (truth_pushed c w) (truth_of o)
-    → ((left : List ℕ) → AgreesWithValue w (truth_pushed d (record w { readings = left })) (truth_of (right left)))
+    → ((x : Evaluated) → truth_of o ≡ Some x → AgreesWithValue w (truth_pushed d (with_readings x.behind.left w)) (truth_of (right x.behind)))
     → AgreesWithValue w (truth_pushed (sides_test op c d) w) (truth_of o >>? side_value op right)
 side_agrees BothHold w c d o right h k =
     let next = way_by_top (truth_pushed d) (number_pushed 0) in
     subst (λ r. AgreesWithValue w r (truth_of o >>? side_value BothHold right)) (sym (decided_by_truth c (truth_pushed d) (number_pushed 0) w))
-    (value_then w w (truth_pushed c w) (truth_of o) next (side_value BothHold right) h (λ x. by (holds x.0) x.1))
+    (agrees_with (valued w) (valued w) (truth_pushed c w) (truth_of o) next (side_value BothHold right) h
+    (λ x is. by (holds x.value) x.behind (k x is)))
   where
-    by : (b : Bool) (left : List ℕ)
-        → (let u : WordState = record w { readings = left } in
-        AgreesWithValue w (if b then truth_pushed d u else number_pushed 0 u) (if not b then Some (bit b, left) else truth_of (right left)))
-    by true left = k left
-    by false left = (tt, refl)
+    by : (b : Bool) (behind : Attempt)
+        → (let u : WordState = with_readings behind.left w in
+        AgreesWithValue w (truth_pushed d u) (truth_of (right behind))
+        → AgreesWithValue w (if b then truth_pushed d u else number_pushed 0 u) (if not b then gives (bit b) behind else truth_of (right behind)))
+    by true behind g = g
+    by false behind g = (tt, refl)
 side_agrees OneHolds w c d o right h k =
     let next = way_by_top (number_pushed 1) (truth_pushed d) in
     subst (λ r. AgreesWithValue w r (truth_of o >>? side_value OneHolds right)) (sym (decided_by_truth c (number_pushed 1) (truth_pushed d) w))
-    (value_then w w (truth_pushed c w) (truth_of o) next (side_value OneHolds right) h (λ x. by (holds x.0) x.1))
+    (agrees_with (valued w) (valued w) (truth_pushed c w) (truth_of o) next (side_value OneHolds right) h
+    (λ x is. by (holds x.value) x.behind (k x is)))
   where
-    by : (b : Bool) (left : List ℕ)
-        → (let u : WordState = record w { readings = left } in
-        AgreesWithValue w (if b then number_pushed 1 u else truth_pushed d u) (if b then Some (bit b, left) else truth_of (right left)))
-    by true left = (tt, refl)
-    by false left = k left
+    by : (b : Bool) (behind : Attempt)
+        → (let u : WordState = with_readings behind.left w in
+        AgreesWithValue w (truth_pushed d u) (truth_of (right behind))
+        → AgreesWithValue w (if b then number_pushed 1 u else truth_pushed d u) (if b then gives (bit b) behind else truth_of (right behind)))
+    by true behind g = (tt, refl)
+    by false behind g = g

@@ -1,22 +1,19 @@
 -- What it is that a word program does what the source does: the state that it works on stands for an attempt of the task, and its end
 -- for the outcome.
-use Rattle.std.specs.Prelude.{◌≡◌, ℕ, ◌+◌, ◌*◌, ◌/◌, ◌%◌, ◌<◌, ◌≤◌, ◌==◌, Bool, true, false, if◌then◌else◌, Contains, List, [], ◌∷◌, ◌++◌, length, map, Option}
+use Rattle.std.specs.Prelude.{◌≡◌, ℕ, ◌+◌, ◌*◌, ◌/◌, ◌%◌, ◌<◌, ◌≤◌, ◌==◌, Bool, true, if◌then◌else◌, Contains, List, [], ◌∷◌, ◌++◌, length, map, Option}
 use Rattle.std.specs.Prelude.{Some, None, slice_get, slice_index, slice_index_or}
-use Rattle.array_versions.specs.fram_board.Effects.{Effect, Store, Take, Send}
+use Rattle.array_versions.specs.fram_board.Effects.{Effect, Store, Take, Outside}
 use Rattle.array_versions.specs.machine_effects.World.{fram_after}
-use Rattle.task_ast.specs.Tree as t
-use Rattle.task_ast.specs.Paths.{CheckedExpression, CheckedStatement, CheckedChoice, CheckedBlock}
-use Rattle.task_ast.specs.Types.{IsOneWord, joined_type, type_of}
+use Rattle.task_ast.specs.declared.SharedDeclaration.{SharedDeclaration}
+use Rattle.task_ast.specs.Paths.{CheckedExpression, CheckedBlock}
+use Rattle.task_ast.specs.Types.{type_of}
 use Rattle.task_ast.specs.declared.WordType.{WordType}
-use Rattle.task_ast.specs.declared.WordType.TheVariants.{Unsigned, Int, Long}
-use Rattle.task_check.specs.Occurrences.{is_refused}
+use Rattle.task_ast.specs.declared.WordType.TheVariants.{Unsigned, Long}
 use Rattle.task_ast.specs.declared.names.Variable.{Variable}
 use Rattle.task_ast.specs.declared.names.Variable.TheVariants.{Shared, Local}
-use Rattle.path_sums.specs.Reaches.{statement_falls_through}
-use Rattle.array_versions.specs.alp_words.Words.{bit}
-use Rattle.source_values.specs.Values.{◌>>?◌, Variables, word_at, converted, holds, value_of}
-use Rattle.source_values.specs.Statements.{Attempt, Outcome, goes_on, to_task, short, run_block, block_emits}
-use Rattle.array_versions.specs.Behaviour.{WordState, End, GoesOn, Jumps, Short, Strays, Broken, Behaviour, behaviour}
+use Rattle.source_values.specs.Values.{Variables, Attempt, Evaluated, word_at, converted, made_of, truth_word, value_of}
+use Rattle.source_values.specs.Statements.{Outcome, goes_on, to_task, short, run_block, block_emits}
+use Rattle.array_versions.specs.Behaviour.{WordState, with_readings, End, GoesOn, Jumps, Short, Strays, Broken, Behaviour, behaviour}
 use Rattle.cost_bound.specs.Counts.{stores_of}
 use Rattle.memory_map.specs.MemoryMap.{word_place}
 use Rattle.memory_map.specs.declared.words.RuntimeWord.TheVariants.{NextTask, Gate, ListLength, EmitCount, Base, SentBase, Version}
@@ -26,47 +23,16 @@ use Rattle.memory_map.specs.declared.place.VariablePlace.TheVariants.{Scalar, Ar
 use Rattle.memory_map.specs.Places.{scalar_words}
 use Rattle.memory_map.specs.Spots.{Places, scalar_address, IsScalarAt, IsScalarWord, IsArrayAt, Element, IsElement, IsCopied}
 use Rattle.memory_map.specs.Spots.{element_address, copy_address, version_address}
-use Rattle.checked_trees.specs.Uses.{IsLocal}
+use Rattle.checked_trees.specs.WellFormed.{IsOfType, IsWordName, IsArrayName, WellFormedExpression, WellFormedBlock}
 use Rattle.lower.specs.Spots.{Room, AreApart, AreEven, listed_of, AreListed, HasRoom}
 use Rattle.runtime_effects.specs.Places.{CopyPair, entries_from}
 use Rattle.lower.specs.declared.runs.Run.{Run}
 use Rattle.lower.specs.Runs.{runs_of}
+use Rattle.lower.specs.Seen.{some_path_writes}
 use Rattle.array_versions.specs.Program.{truth}
 use Rattle.lower.specs.Lowered.{one, lowered_expression, lowered_long, lowered_test, lowered_block}
 
--- ---- what is asked of a tree: each name is used as it was declared
-
--- a variable with an address or a number of its own
-abbrev pub IsKnown : Places → Variable → Type 0
-IsKnown p (Shared v) = IsScalarAt p v
-IsKnown p (Local n) = n < 256
-
--- a long with an address of its own: no local is one
-abbrev pub IsLong : Places → Variable → Type 0
-IsLong p (Shared v) = IsScalarWord p v 1
-IsLong p (Local n) = ⊥
-
--- a variable of a type
-abbrev pub IsOfType : Places → WordType → Variable → Type 0
-IsOfType p Long x = IsLong p x
-IsOfType p Int x = IsKnown p x
-IsOfType p Unsigned x = IsKnown p x
-
--- a variable that may be assigned: a shared one is among those that are written
-abbrev pub IsTarget : Places → (ℕ → Bool) → Variable → Type 0
-IsTarget p written (Shared v) = IsScalarAt p v × (written v ≡ true)
-IsTarget p written (Local n) = n < 256
-
--- a long that may be assigned
-abbrev pub IsLongTarget : Places → (ℕ → Bool) → Variable → Type 0
-IsLongTarget p written (Shared v) = IsScalarWord p v 1 × (written v ≡ true)
-IsLongTarget p written (Local n) = ⊥
-
--- the same of a variable of a type
-abbrev pub IsTargetOf : Places → (ℕ → Bool) → WordType → Variable → Type 0
-IsTargetOf p written Long x = IsLongTarget p written x
-IsTargetOf p written Int x = IsTarget p written x
-IsTargetOf p written Unsigned x = IsTarget p written x
+-- ---- what is asked of the places of a task: the variables of its source have such as were declared
 
 -- a shared array
 abbrev pub IsArray : Places → Variable → Type 0
@@ -78,41 +44,15 @@ abbrev pub IsWrittenArray : Places → Variable → Type 0
 IsWrittenArray p (Shared v) = (elements length : ℕ) × (copies : ArrayCopies) × IsArrayAt p v elements length (Some copies)
 IsWrittenArray p (Local n) = ⊥
 
--- each variable of an expression is one that the task has, of its type, and an array of words where it is indexed; an index is no long, and
--- no operator is refused
-abbrev pub ExpressionFits : Places → CheckedExpression → Type 0
-ExpressionFits p (t.number w) = Unit {0}
-ExpressionFits p (t.long_number w) = Unit {0}
-ExpressionFits p (t.name x) = IsOfType p x.word_type x.variable
-ExpressionFits p (t.element x index) = IsArray p x.variable × ExpressionFits p index × IsOneWord x.word_type × IsOneWord (type_of index)
-ExpressionFits p t.sense = Unit {0}
-ExpressionFits p (t.unary op e) = ExpressionFits p e
-ExpressionFits p (t.binary op a b) =
-    ExpressionFits p a × ExpressionFits p b × (is_refused op.operator (joined_type (type_of a) (type_of b)) ≡ false)
-ExpressionFits p (t.shift op e count) = ExpressionFits p e
-ExpressionFits p (t.short_circuit op a b) = ExpressionFits p a × ExpressionFits p b
+-- a scalar has an address, a long one two words there, and an array its elements
+pub record AsDeclared (shared : List SharedDeclaration) (p : Places) : Type 0 where
+  pub scalars : (v : ℕ) → IsWordName shared (Shared v) → IsScalarAt p v
+  pub longs : (v : ℕ) → IsOfType shared Long (Shared v) → IsScalarWord p v 1
+  pub arrays : (v : ℕ) → IsArrayName shared (Shared v) → IsArray p (Shared v)
 
-abbrev mutual
-  -- Of what no path comes to, in a loop of no turns or behind a transition, nothing is asked
-  pub StatementFits : Places → (ℕ → Bool) → CheckedStatement → Type 0
-  StatementFits p written (t.declare of x None) = Unit {0}
-  StatementFits p written (t.declare of x (Some e)) = ExpressionFits p e × IsTarget p written x.variable × IsOneWord x.word_type
-  StatementFits p written (t.assign x e) = ExpressionFits p e × IsTargetOf p written x.word_type x.variable
-  StatementFits p written (t.store x index e) =
-      IsWrittenArray p x.variable × ExpressionFits p index × ExpressionFits p e × IsOneWord (type_of index)
-  StatementFits p written (t.choose choice) = ChoiceFits p written choice
-  StatementFits p written (t.loop x from tested below stepped body) = IsLocal x.variable × (from < below → BlockFits p written body)
-  StatementFits p written (t.emit e) = ExpressionFits p e
-  StatementFits p written (t.transition task) = Unit {0}
-
-  pub ChoiceFits : Places → (ℕ → Bool) → CheckedChoice → Type 0
-  ChoiceFits p written t.nothing = Unit {0}
-  ChoiceFits p written (t.otherwise block) = BlockFits p written block
-  ChoiceFits p written (t.test e block more) = ExpressionFits p e × BlockFits p written block × ChoiceFits p written more
-
-  pub BlockFits : Places → (ℕ → Bool) → CheckedBlock → Type 0
-  BlockFits p written t.end = Unit {0}
-  BlockFits p written (t.step s more) = StatementFits p written s × (statement_falls_through s ≡ true → BlockFits p written more)
+-- an array that is written has copies
+abbrev pub HasCopies : List SharedDeclaration → Places → (ℕ → Bool) → Type 0
+HasCopies shared p written = (v : ℕ) → IsArrayName shared (Shared v) → written v ≡ true → IsWrittenArray p (Shared v)
 
 -- ---- what a state of words stands for
 
@@ -162,16 +102,16 @@ pub record StandsFor (p : Places) (m : Attempt) (listed : List Element) (w : Wor
   pub variables : HoldVariables p m.variables w.fram w.locals
   pub emitted : HoldEmits p m.emitted w.fram
   pub list : HoldList p listed w.fram
-  pub readings : w.readings ≡ m.left
+  pub readings : w.inputs.readings ≡ m.left
 
 -- ---- effects
 
--- effects that take readings and make stores of this kind, by address and word, and send nothing
+-- effects that take readings and make stores of this kind, by address and word, and do nothing outside the board
 abbrev pub TakesAndStores : (ℕ → ℕ → Type 0) → List Effect → Type 0
 TakesAndStores P [] = Unit {0}
 TakesAndStores P (Store a w ∷ es) = P a w × TakesAndStores P es
 TakesAndStores P (Take r ∷ es) = TakesAndStores P es
-TakesAndStores P (Send n w ∷ es) = ⊥
+TakesAndStores P (Outside o ∷ es) = ⊥
 
 -- effects that take readings alone
 abbrev pub OnlyTakes : List Effect → Type 0
@@ -203,17 +143,17 @@ transition_effects p task entries base =
 
 -- ---- an expression
 
--- the state with a value on top of the stack, and these readings left
-abbrev pub valued : WordState → ℕ × List ℕ → WordState
-valued w x = record w { stack = x.0 ∷ w.stack; readings = x.1 }
+-- the state with a value on top of the stack, and the readings left that the attempt behind it has
+abbrev pub valued : WordState → Evaluated → WordState
+valued w x = with_readings x.behind.left (record w { stack = x.value ∷ w.stack })
 
 -- the same with a value as a long: its high word is on top
-abbrev pub long_valued : WordState → ℕ × List ℕ → WordState
-long_valued w x = record w { stack = x.0 / 65536 ∷ (x.0 % 65536 ∷ w.stack); readings = x.1 }
+abbrev pub long_valued : WordState → Evaluated → WordState
+long_valued w x = with_readings x.behind.left (record w { stack = x.value / 65536 ∷ (x.value % 65536 ∷ w.stack) })
 
 -- the end leaves the state that a value makes, or is short where there is none. A program that reads a local before it is assigned is
 -- broken, and then nothing is said
-abbrev pub EndsAt : (ℕ × List ℕ → WordState) → End → Option (ℕ × List ℕ) → Type 0
+abbrev pub EndsAt : (Evaluated → WordState) → End → Option Evaluated → Type 0
 EndsAt there (GoesOn s) (Some x) = s ≡ there x
 EndsAt there (GoesOn s) None = ⊥
 EndsAt there Short (Some x) = ⊥
@@ -223,48 +163,63 @@ EndsAt there Strays o = ⊥
 EndsAt there Broken o = Unit {0}
 
 -- a program takes readings alone, and ends as an expression does: with the state that its value makes, or short of readings
-abbrev pub AgreesAt : (ℕ × List ℕ → WordState) → Behaviour → Option (ℕ × List ℕ) → Type 0
+abbrev pub AgreesAt : (Evaluated → WordState) → Behaviour → Option Evaluated → Type 0
 AgreesAt there b o = OnlyTakes b.effects × EndsAt there b.end o
 
 -- the same with the value pushed
-abbrev pub AgreesWithValue : WordState → Behaviour → Option (ℕ × List ℕ) → Type 0
+abbrev pub AgreesWithValue : WordState → Behaviour → Option Evaluated → Type 0
 AgreesWithValue w b o = AgreesAt (valued w) b o
 
 -- the same with the value pushed as a long
-abbrev pub AgreesWithLong : WordState → Behaviour → Option (ℕ × List ℕ) → Type 0
+abbrev pub AgreesWithLong : WordState → Behaviour → Option Evaluated → Type 0
 AgreesWithLong w b o = AgreesAt (long_valued w) b o
 
+-- an attempt with the readings left that a state has
+abbrev pub in_state : WordState → Attempt → Attempt
+in_state w m = record m { left = w.inputs.readings }
+
 -- a value of one type as one of another
-abbrev pub converted_to : WordType → WordType → Option (ℕ × List ℕ) → Option (ℕ × List ℕ)
-converted_to from to o = o >>? λ x. Some (converted from to x.0, x.1)
+abbrev pub converted_to : WordType → WordType → Option Evaluated → Option Evaluated
+converted_to s t o = made_of (converted s t) o
 
 -- the program of an expression leaves its value, as one word
 abbrev pub ExpressionsAgree : Type 0
-ExpressionsAgree = (p : Places) (room : Room) (e : CheckedExpression) (m : Variables) (w : WordState) → AreApart p room → AreEven p
-    → ExpressionFits p e → HoldVariables p m w.fram w.locals
-    → AgreesWithValue w (behaviour (lowered_expression p e) w) (converted_to (type_of e) Unsigned (value_of e m w.readings))
+ExpressionsAgree = (shared : List SharedDeclaration) (p : Places) (room : Room) (e : CheckedExpression) (m : Attempt) (w : WordState)
+    → AreApart p room → AreEven p → AsDeclared shared p → WellFormedExpression shared e → HoldVariables p m.variables w.fram w.locals
+    → AgreesWithValue w (behaviour (lowered_expression p e) w) (converted_to (type_of e) Unsigned (value_of e (in_state w m)))
 
 -- and the other its value as a long
 abbrev pub LongsAgree : Type 0
-LongsAgree = (p : Places) (room : Room) (e : CheckedExpression) (m : Variables) (w : WordState) → AreApart p room → AreEven p
-    → ExpressionFits p e → HoldVariables p m w.fram w.locals
-    → AgreesWithLong w (behaviour (lowered_long p e) w) (converted_to (type_of e) Long (value_of e m w.readings))
+LongsAgree = (shared : List SharedDeclaration) (p : Places) (room : Room) (e : CheckedExpression) (m : Attempt) (w : WordState)
+    → AreApart p room → AreEven p → AsDeclared shared p → WellFormedExpression shared e → HoldVariables p m.variables w.fram w.locals
+    → AgreesWithLong w (behaviour (lowered_long p e) w) (converted_to (type_of e) Long (value_of e (in_state w m)))
 
 -- a value as 1 where it isn't 0, else 0
-abbrev pub truth_value : ℕ × List ℕ → Option (ℕ × List ℕ)
-truth_value x = Some (bit (holds x.0), x.1)
-
--- the same of a value, if there is one
-abbrev pub truth_of : Option (ℕ × List ℕ) → Option (ℕ × List ℕ)
-truth_of o = o >>? truth_value
+abbrev pub truth_of : Option Evaluated → Option Evaluated
+truth_of o = made_of truth_word o
 
 -- the test of an expression holds where its value isn't 0
 abbrev pub TestsAgree : Type 0
-TestsAgree = (p : Places) (room : Room) (e : CheckedExpression) (m : Variables) (w : WordState) → AreApart p room → AreEven p
-    → ExpressionFits p e → HoldVariables p m w.fram w.locals
-    → AgreesWithValue w (behaviour (one (truth (lowered_test p e))) w) (truth_of (value_of e m w.readings))
+TestsAgree = (shared : List SharedDeclaration) (p : Places) (room : Room) (e : CheckedExpression) (m : Attempt) (w : WordState)
+    → AreApart p room → AreEven p → AsDeclared shared p → WellFormedExpression shared e → HoldVariables p m.variables w.fram w.locals
+    → AgreesWithValue w (behaviour (one (truth (lowered_test p e))) w) (truth_of (value_of e (in_state w m)))
 
 -- ---- statements
+
+-- the task that statements stand in: its source's declarations, its places, apart, even and as declared, with room for so many stores to each
+-- array, the variables that it writes, and VER
+pub record Scene : Type 0 where
+  pub shared : List SharedDeclaration
+  pub p : Places
+  pub written : ℕ → Bool
+  pub room : Room
+  pub stores : ℕ → ℕ
+  pub ver : ℕ
+  pub apart : AreApart p room
+  pub even : AreEven p
+  pub has_room : HasRoom p stores room
+  pub declared : AsDeclared shared p
+  pub copied : HasCopies shared p written
 
 -- what statements start from, and what bounds their stores: FRAM at their start, the scalars that they write, the room that they have,
 -- VER, and how many elements of each array they may have listed at their end
@@ -274,6 +229,10 @@ pub record Bounds : Type 0 where
   pub room : Room
   pub ver : ℕ
   pub most : ℕ → ℕ
+
+-- the bounds of a task's statements from this FRAM on, which may list so many elements
+abbrev pub bounds : Scene → (ℕ → ℕ) → (ℕ → ℕ) → Bounds
+bounds z start most = record { start = start; written = z.written; room = z.room; ver = z.ver; most = most }
 
 -- the stores that statements may make within these bounds
 abbrev pub IsStore : Places → Bounds → ℕ → ℕ → Type 0
@@ -299,7 +258,7 @@ pub record Left (p : Places) (b : Bounds) (es : List Effect) (to : ℕ) (s : Wor
   pub stands : StandsFor p m listed there
   pub few : (v : ℕ) → listed_of v listed ≤ b.most v
   pub commits : to ≡ p.map.commit.address
-  pub readings : s.readings ≡ m.left
+  pub readings : s.inputs.readings ≡ m.left
 
 -- the end is as the outcome has it
 abbrev pub EndsAs : Places → Bounds → List ℕ → List Effect → End → Outcome → Type 0
@@ -319,19 +278,13 @@ EndsAs p b stack es Broken o = Unit {0}
 abbrev pub Agrees : Places → Bounds → List ℕ → Behaviour → Outcome → Type 0
 Agrees p b stack r o = EndsAs p b stack r.effects r.end o
 
--- the bounds of statements from a state with these elements listed on
-abbrev pub bounds_of : Places → (ℕ → Bool) → Room → CheckedBlock → List Element → WordState → Bounds
-bounds_of p written room block listed w = record {
-  start = w.fram;
-  written = written;
-  room = room;
-  ver = w.fram (word_place p.map Version);
-  most = λ v. listed_of v listed + stores_of v block;
-}
+-- what some path of a block writes, the task writes
+abbrev pub WritesWithin : (ℕ → Bool) → CheckedBlock → Type 0
+WritesWithin written block = (v : ℕ) → some_path_writes block v ≡ true → written v ≡ true
 
--- the program of statements does what they do, where there is room for what they emit and list
+-- the program of well-formed statements does what they do, where there is room for what they emit and list
 abbrev pub BlocksAgree : Type 0
-BlocksAgree = (p : Places) (written : ℕ → Bool) (room : Room) (stores : ℕ → ℕ) (block : CheckedBlock) (m : Attempt) (listed : List Element) (w : WordState)
-    → AreApart p room → AreEven p → HasRoom p stores room → BlockFits p written block → StandsFor p m listed w
-    → length m.emitted + block_emits block ≤ room.emits → ((v : ℕ) → listed_of v listed + stores_of v block ≤ stores v)
-    → Agrees p (bounds_of p written room block listed w) w.stack (behaviour (lowered_block p block) w) (run_block block m)
+BlocksAgree = (z : Scene) (block : CheckedBlock) (m : Attempt) (listed : List Element) (w : WordState) → w.fram (word_place z.p.map Version) ≡ z.ver
+    → WellFormedBlock z.shared block → WritesWithin z.written block → StandsFor z.p m listed w
+    → length m.emitted + block_emits block ≤ z.room.emits → ((v : ℕ) → listed_of v listed + stores_of v block ≤ z.stores v)
+    → Agrees z.p (bounds z w.fram (λ v. listed_of v listed + stores_of v block)) w.stack (behaviour (lowered_block z.p block) w) (run_block block m)

@@ -12,19 +12,24 @@ use Rattle.fram_board.specs.msp_step.declared.bus.Refused.TheVariants as refused
 use Rattle.fram_board.specs.image_text.ImageValue.{place_of}
 use Rattle.fram_board.specs.Bus.{BusState, IsBusState, board_bus, is_ram, is_fram, is_memory, is_word, ram_place, memory_word, with_word, byte_of, with_byte}
 use Rattle.fram_board.specs.Bus.{next_reading, read_of, after_read, written, port_written, sensor_port, number_port, data_port}
-use Rattle.fram_board.specs.Effects.{Effect, Store, Send}
+use Rattle.fram_board.specs.Effects.{Effect, Store, Outside, Offered}
 use Rattle.step_laws.specs.Alike.{AnswerAlike, WrittenAlike}
 use Rattle.fram_board.proofs.Interface.{other_is_fram, fram_low}
 use Rattle.machine_effects.specs.World.{put}
+use Rattle.machine_effects.specs.Inputs.{Inputs}
 use Rattle.machine_effects.specs.Machine.{MachineBus, machine_bus, machine_word, word_in, word_address, fram_of, ram_of, first_reading, machine_read}
 use Rattle.machine_effects.specs.Machine.{reading_taken, machine_after_read, machine_stored, machine_port_written, machine_written}
 
--- the same memory, ports and readings, of which these are all
+-- what is ready on the board's bus
+abbrev ready_on : BusState → Inputs
+ready_on s = record { readings = drop s.taken s.readings }
+
+-- the same memory, ports and inputs, with these readings in all
 pub record SameBus (readings : List ℕ) (s : BusState) (t : MachineBus) : Type 0 where
   pub whole : IsBusState s
   pub fram : t.fram ≡ fram_of s.fram
   pub ram : t.ram ≡ ram_of s.ram
-  pub left : t.readings_left ≡ drop s.taken s.readings
+  pub left : t.inputs ≡ ready_on s
   pub outnum : t.outnum ≡ s.outnum
   pub all : s.readings ≡ readings
 
@@ -141,8 +146,8 @@ module _ (readings : List ℕ) where
       let e : nat_lt (suc n) (suc (length xs)) ≡ nat_lt n (length xs) = grind (arith, nat_tests) in
       ap (λ b. cond b (Ok (slice_index xs n)) (Err refused.NoReading)) e ∙ next_on xs n
 
-  next_same : (s : BusState) (t : MachineBus) → SameBus readings s t → next_reading s ≡ first_reading t.readings_left
-  next_same s t h = next_on s.readings s.taken ∙ ap first_reading (sym h.left)
+  next_same : (s : BusState) (t : MachineBus) → SameBus readings s t → next_reading s ≡ first_reading t.inputs.readings
+  next_same s t h = next_on s.readings s.taken ∙ ap (λ i. first_reading i.readings) (sym h.left)
 
   read_on : (b c : Bool) (x y : ℕ) (p q : Result ℕ Refused) → (b ≡ true → x ≡ y) → p ≡ q
       → (if b then Ok x else if c then p else Err refused.Bus) ≡ (if b then Ok y else if c then q else Err refused.Bus)
@@ -156,7 +161,7 @@ module _ (readings : List ℕ) where
 
   reads_same : (s : BusState) (t : MachineBus) (a : ℕ) (w : Width) → SameBus readings s t → read_of s a w ≡ machine_read t a w
   reads_same s t a Word h =
-      read_on (is_word a) (a == sensor_port) (memory_word s a) (machine_word t a) (next_reading s) (first_reading t.readings_left)
+      read_on (is_word a) (a == sensor_port) (memory_word s a) (machine_word t a) (next_reading s) (first_reading t.inputs.readings)
       (λ e. word_same s t a h (and_parts (a % 2 == 0) (is_memory a) e).1) (next_same s t h)
   reads_same s t a Byte h = byte_on (is_memory a) a (memory_word s a) (machine_word t a) (λ e. word_same s t a h e)
 
@@ -171,27 +176,27 @@ module _ (readings : List ℕ) where
       let m : suc n + 1 ≡ suc (n + 1) = omega arith in
       (ap (λ q. drop q (x ∷ xs)) m ∙ r.0, omega arith)
 
-  taken_same : (ws : List ℕ) (s : BusState) (t : MachineBus) (v : ℕ) → first_reading ws ≡ Ok v → t.readings_left ≡ ws → SameBus readings s t
+  taken_same : (ws : List ℕ) (s : BusState) (t : MachineBus) (v : ℕ) → first_reading ws ≡ Ok v → t.inputs.readings ≡ ws → SameBus readings s t
       → SameBus readings (record s { taken = s.taken + 1 }) (reading_taken ws t)
   taken_same [] s t v e q h = absurd cc
   taken_same (w ∷ ws) s t v e q h =
-      let d = drop_next s.readings s.taken w ws (sym h.left ∙ q) in
+      let d = drop_next s.readings s.taken w ws (sym (ap (λ i. i.readings) h.left) ∙ q) in
       let g = h.whole in
       record {
         whole = record { fram = g.fram; ram = g.ram; taken = d.1; few = g.few };
         fram = h.fram;
         ram = h.ram;
-        left = sym d.0;
+        left = ap {B = Inputs} (λ l. record { readings = l }) (sym d.0);
         outnum = h.outnum;
         all = h.all;
       }
 
-  at_sensor : (t : MachineBus) (a v : ℕ) → a ≡ sensor_port → machine_read t a Word ≡ Ok v → first_reading t.readings_left ≡ Ok v
+  at_sensor : (t : MachineBus) (a v : ℕ) → a ≡ sensor_port → machine_read t a Word ≡ Ok v → first_reading t.inputs.readings ≡ Ok v
   at_sensor t a v e r = subst (λ x. machine_read t x Word ≡ Ok v) e r
 
   after_on : (b : Bool) (s : BusState) (t : MachineBus) (a v : ℕ) → (a == sensor_port) ≡ b → machine_read t a Word ≡ Ok v → SameBus readings s t
-      → SameBus readings (record s { taken = if b then s.taken + 1 else s.taken }) (if b then reading_taken t.readings_left t else t)
-  after_on true s t a v e r h = taken_same t.readings_left s t v (at_sensor t a v (eqb-true a sensor_port e) r) refl h
+      → SameBus readings (record s { taken = if b then s.taken + 1 else s.taken }) (if b then reading_taken t.inputs.readings t else t)
+  after_on true s t a v e r h = taken_same t.inputs.readings s t v (at_sensor t a v (eqb-true a sensor_port e) r) refl h
   after_on false s t a v e r h = h
 
   after_same : (s : BusState) (t : MachineBus) (a : ℕ) (w : Width) (v : ℕ) → SameBus readings s t → machine_read t a w ≡ Ok v
@@ -270,7 +275,7 @@ module _ (readings : List ℕ) where
   writes_same s t a Word v h =
       either (is_word a) (Some (with_word s a v)) (port_written s a v) (Some (machine_stored t a v)) (machine_port_written t a v)
       (λ e. word_stored s t a v (and_parts (a % 2 == 0) (is_memory a) e).1 h) (port_same (a == number_port) (a == data_port) s t v
-      (t.log ++ Send t.outnum v ∷ []) h)
+      (t.log ++ Outside (Offered t.outnum v) ∷ []) h)
   writes_same s t a Byte v h =
       either (is_memory a) (Some (with_word s a (with_byte (memory_word s a) a v))) None
       (Some (machine_stored t a (with_byte (machine_word t a) a v))) None (λ e. byte_stored s t a v e h) tt

@@ -1,5 +1,6 @@
 mod Going
 mod Worlds
+mod Inputs
 mod Logs
 mod Alike
 mod Along

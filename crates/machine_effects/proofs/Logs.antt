@@ -17,7 +17,7 @@ use Rattle.fram_board.proofs.msp_step.Interface.{Ends, effect_ends}
 use Rattle.fram_board.specs.msp_cycles.Cycles.{cycles_of}
 use Rattle.fram_board.specs.msp_step.declared.machine.Stop.TheVariants as stop
 use Rattle.fram_board.specs.Bus.{is_ram, is_fram, is_memory, is_word, with_byte, sensor_port, number_port, data_port}
-use Rattle.fram_board.specs.Effects.{Effect, Store, Take, Send, sends_of}
+use Rattle.fram_board.specs.Effects.{Effect, Store, Take, Outside, Offered, sends_of}
 use Rattle.fram_board.proofs.Interface.{data_not_fram, other_is_fram, ram_not_fram}
 use Rattle.machine_effects.specs.World.{put, fram_after, readings_taken}
 use Rattle.machine_effects.specs.Going.{Stops}
@@ -26,6 +26,7 @@ use Rattle.machine_effects.specs.Machine.{machine_port_written, machine_written,
 use Rattle.machine_effects.specs.Machine.{machine_executed, NoInstruction, Executes, standing, step_with}
 use Rattle.machine_effects.specs.Laws.{ChangesByEffects, CodeChangesByEffects, MachineChangesByEffects}
 use Rattle.machine_effects.proofs.Worlds.{fram_after-append, readings_taken-append, taking_keeps_fram, taking_takes}
+use Rattle.machine_effects.proofs.Inputs.{takes_nothing}
 
 -- the effects of readings taken, the first one first
 abbrev pub takes : List ℕ → List Effect
@@ -34,18 +35,18 @@ takes ws = map (λ w. Take w) ws
 -- readings were taken and logged, and nothing else
 pub record Took (s t : MachineBus) : Type 0 where
   pub words : List ℕ
-  pub same : t ≡ record s { readings_left = t.readings_left; log = s.log ++ takes words }
-  pub left : words ++ t.readings_left ≡ s.readings_left
+  pub same : t ≡ record s { inputs = t.inputs; log = s.log ++ takes words }
+  pub left : words ++ t.inputs.readings ≡ s.inputs.readings
 
 took_none : (s : MachineBus) → Took s s
 took_none s = record { words = []; same = ap {A = List Effect} (λ l. record s { log = l }) (sym (append-nil s.log)); left = refl }
 
-took_first : (ws : List ℕ) (s : MachineBus) → s.readings_left ≡ ws → Took s (reading_taken ws s)
+took_first : (ws : List ℕ) (s : MachineBus) → s.inputs.readings ≡ ws → Took s (reading_taken ws s)
 took_first [] s e = took_none s
 took_first (w ∷ ws) s e = record { words = w ∷ []; same = refl; left = sym e }
 
-took_if : (b : Bool) (s : MachineBus) → Took s (if b then reading_taken s.readings_left s else s)
-took_if true s = took_first s.readings_left s refl
+took_if : (b : Bool) (s : MachineBus) → Took s (if b then reading_taken s.inputs.readings s else s)
+took_if true s = took_first s.inputs.readings s refl
 took_if false s = took_none s
 
 took_read : (s : MachineBus) (a : ℕ) (w : Width) → Took s (machine_after_read s a w)
@@ -56,10 +57,10 @@ took_join : (s t u : MachineBus) → Took s t → Took t u → Took s u
 took_join s t u g h = record {
   words = g.words ++ h.words;
   same = h.same
-      ∙ ap {A = MachineBus} (λ x. record x { readings_left = u.readings_left; log = x.log ++ takes h.words }) g.same
-      ∙ ap {A = List Effect} (λ l. record s { readings_left = u.readings_left; log = l })
+      ∙ ap {A = MachineBus} (λ x. record x { inputs = u.inputs; log = x.log ++ takes h.words }) g.same
+      ∙ ap {A = List Effect} (λ l. record s { inputs = u.inputs; log = l })
       (append_assoc s.log (takes g.words) (takes h.words) ∙ ap (λ l. s.log ++ l) (sym (map-append (λ w. Take w) g.words h.words)));
-  left = append_assoc g.words h.words u.readings_left ∙ ap (λ l. g.words ++ l) h.left ∙ g.left;
+  left = append_assoc g.words h.words u.inputs.readings ∙ ap (λ l. g.words ++ l) h.left ∙ g.left;
 }
 
 took_reads : (s t : MachineBus) (n : ℕ) → HasRead machine_bus s n t → Took s t
@@ -82,7 +83,7 @@ write_effects a v f number = store_by a f ++ sends_of number (offered_by a v)
 
 -- what a write left
 pub record Wrote (u : MachineBus) (a v : ℕ) (t : MachineBus) : Type 0 where
-  pub readings : t.readings_left ≡ u.readings_left
+  pub inputs : t.inputs ≡ u.inputs
   pub log : t.log ≡ u.log ++ write_effects a v t.fram u.outnum
   pub fram : t.fram ≡ fram_after (write_effects a v t.fram u.outnum) u.fram
 
@@ -93,7 +94,7 @@ stores : (a v w : ℕ) (f : ℕ → ℕ) (number : ℕ) → is_fram a ≡ true �
     → write_effects a v (put f (word_address a) w) number ≡ Store (word_address a) w ∷ []
 stores a v w f number e g = rw (e, g, eq-eqb (word_address a) (word_address a) refl) refl
 
-sends : (a v : ℕ) (f : ℕ → ℕ) (number : ℕ) → is_fram a ≡ false → (a == data_port) ≡ true → write_effects a v f number ≡ Send number v ∷ []
+sends : (a v : ℕ) (f : ℕ → ℕ) (number : ℕ) → is_fram a ≡ false → (a == data_port) ≡ true → write_effects a v f number ≡ Outside (Offered number v) ∷ []
 sends a v f number e g = rw (e, g) refl
 
 memory_no_data : (a : ℕ) → is_memory a ≡ true → (a == data_port) ≡ false
@@ -102,17 +103,17 @@ memory_no_data a e = grind (arith, nat_tests)
 pub number_no_fram : (a : ℕ) → (a == number_port) ≡ true → (is_fram a ≡ false) × ((a == data_port) ≡ false)
 number_no_fram a e = (grind (arith, nat_tests), grind (arith, nat_tests))
 
-wrote_quiet : (u t : MachineBus) (a v : ℕ) → is_fram a ≡ false → (a == data_port) ≡ false → t.readings_left ≡ u.readings_left → t.log ≡ u.log
+wrote_quiet : (u t : MachineBus) (a v : ℕ) → is_fram a ≡ false → (a == data_port) ≡ false → t.inputs ≡ u.inputs → t.log ≡ u.log
     → t.fram ≡ u.fram → Wrote u a v t
 wrote_quiet u t a v e g r l f =
     let n = quiet a v t.fram u.outnum e g in
-    record { readings = r; log = l ∙ sym (append-nil u.log) ∙ ap (λ x. u.log ++ x) (sym n); fram = f ∙ ap (λ x. fram_after x u.fram) (sym n) }
+    record { inputs = r; log = l ∙ sym (append-nil u.log) ∙ ap (λ x. u.log ++ x) (sym n); fram = f ∙ ap (λ x. fram_after x u.fram) (sym n) }
 
 wrote_fram : (u : MachineBus) (a v w : ℕ) → is_fram a ≡ true → (a == data_port) ≡ false
     → Wrote u a v (record u { fram = put u.fram (word_address a) w; log = u.log ++ Store (word_address a) w ∷ [] })
 wrote_fram u a v w e g =
     let n = stores a v w u.fram u.outnum e g in
-    record { readings = refl; log = ap (λ x. u.log ++ x) (sym n); fram = ap (λ x. fram_after x u.fram) (sym n) }
+    record { inputs = refl; log = ap (λ x. u.log ++ x) (sym n); fram = ap (λ x. fram_after x u.fram) (sym n) }
 
 stored_wrote : (b : Bool) (u : MachineBus) (a v w : ℕ) → is_ram a ≡ b → is_memory a ≡ true
     → Wrote u a v (if b then record u { ram = put u.ram (word_address a) w } else record u
@@ -125,11 +126,11 @@ WroteIf u a v None = Unit {0}
 WroteIf u a v (Some t) = Wrote u a v t
 
 port_wrote : (b c : Bool) (u : MachineBus) (a v : ℕ) → (a == number_port) ≡ b → (a == data_port) ≡ c
-    → WroteIf u a v (if b then Some (record u { outnum = v }) else if c then Some (record u { log = u.log ++ Send u.outnum v ∷ [] }) else None)
+    → WroteIf u a v (if b then Some (record u { outnum = v }) else if c then Some (record u { log = u.log ++ Outside (Offered u.outnum v) ∷ [] }) else None)
 port_wrote true c u a v e g = let n = number_no_fram a e in wrote_quiet u (record u { outnum = v }) a v n.0 n.1 refl refl refl
 port_wrote false true u a v e g =
     let n = sends a v u.fram u.outnum (data_not_fram a g) g in
-    record { readings = refl; log = ap (λ x. u.log ++ x) (sym n); fram = ap (λ x. fram_after x u.fram) (sym n) }
+    record { inputs = refl; log = ap (λ x. u.log ++ x) (sym n); fram = ap (λ x. fram_after x u.fram) (sym n) }
 port_wrote false false u a v e g = tt
 
 served : (b : Bool) (u : MachineBus) (a v : ℕ) (x y : Option MachineBus) → (b ≡ true → WroteIf u a v x) → WroteIf u a v y → WroteIf u a v (if b then x else y)
@@ -152,14 +153,14 @@ written_effects (Some w) f number = write_effects w.0 w.1 f number
 -- what an instruction that is served leaves
 pub record Logged (s : MachineBus) (w : Option Written) (t : MachineBus) : Type 0 where
   pub words : List ℕ
-  pub left : words ++ t.readings_left ≡ s.readings_left
+  pub left : words ++ t.inputs.readings ≡ s.inputs.readings
   pub log : t.log ≡ (s.log ++ takes words) ++ written_effects w t.fram s.outnum
   pub fram : t.fram ≡ fram_after (written_effects w t.fram s.outnum) s.fram
 
 logged_write : (s u t : MachineBus) (w : Option Written) → Took s u → AfterWrite machine_bus w u t → Logged s w t
 logged_write s u t None g h = record {
   words = g.words;
-  left = ap (λ x. g.words ++ x.readings_left) h ∙ g.left;
+  left = ap (λ x. g.words ++ x.inputs.readings) h ∙ g.left;
   log = ap (λ x. x.log) h ∙ ap (λ x. x.log) g.same ∙ sym (append-nil (s.log ++ takes g.words));
   fram = ap (λ x. x.fram) h ∙ ap (λ x. x.fram) g.same;
 }
@@ -169,7 +170,7 @@ logged_write s u t (Some w) g h =
     let number : u.outnum ≡ s.outnum = ap (λ x. x.outnum) g.same in
     record {
       words = g.words;
-      left = ap (λ x. g.words ++ x) k.readings ∙ g.left;
+      left = ap (λ x. g.words ++ x.readings) k.inputs ∙ g.left;
       log =
           k.log ∙ ap (λ x. x ++ write_effects w.0 w.1 t.fram u.outnum) (ap (λ x. x.log) g.same)
           ∙ ap (λ n. (s.log ++ takes g.words) ++ write_effects w.0 w.1 t.fram n) number;
@@ -211,12 +212,15 @@ outcome_changes s pc c (Completed x t) h =
     let new = written_effects x.1 t.fram s.outnum in (
       h.fram ∙ sym (ap (λ es. fram_after es s.fram) h.log ∙ fram_after-append (takes h.words) new s.fram ∙ ap (λ f. fram_after new f)
           (taking_keeps_fram h.words s.fram)),
-      ap (λ l. l ++ t.readings_left) (ap readings_taken h.log ∙ taken_all h.words new (written_takes_none x.1 t.fram s.outnum)) ∙ h.left,
+      record {
+        readings =
+            ap (λ l. l ++ t.inputs.readings) (ap readings_taken h.log ∙ taken_all h.words new (written_takes_none x.1 t.fram s.outnum)) ∙ h.left;
+      },
     )
 outcome_changes s pc c (Faulted e a t) h =
     let log : t.log ≡ takes h.words = ap (λ x. x.log) h.same in (
       ap (λ es. fram_after es s.fram) log ∙ taking_keeps_fram h.words s.fram,
-      (t.readings_left, ap (λ es. readings_taken es ++ t.readings_left) log ∙ ap (λ l. l ++ t.readings_left) (taking_takes h.words) ∙ h.left),
+      (t.inputs, record { readings = ap (λ l. l ++ t.inputs.readings) (ap readings_taken log ∙ taking_takes h.words) ∙ h.left }),
     )
 
 pub executed_changes : (s : MachineBoard) (i : Instr) → ChangesByEffects s (machine_executed s i)
@@ -224,22 +228,22 @@ executed_changes s i =
     outcome_changes s (s.registers 0) (cycles_of i) (effect machine_bus i s.registers (machine_opened s)) (effect_logged i s.registers (machine_opened s))
 
 standing_changes : (o : Option Instr) (s : MachineBoard) → ChangesByEffects s (standing o s)
-standing_changes None s = (refl, (s.readings_left, refl))
+standing_changes None s = (refl, (s.inputs, takes_nothing s.inputs))
 standing_changes (Some i) s = executed_changes s i
 
 if_off : (b : Bool) (s : MachineBoard) (o : MachineOutcome) → ChangesByEffects s o → ChangesByEffects s (if b then Stops [] 0 stop.Off else o)
-if_off true s o h = (refl, (s.readings_left, refl))
+if_off true s o h = (refl, (s.inputs, takes_nothing s.inputs))
 if_off false s o h = h
 
 -- a step changes as its effects say
 pub step_changes : (i : Option Instr) (s : MachineBoard) → ChangesByEffects s (step_with i s)
 step_changes i s = if_off (off_bit s.registers == 1) s (standing i s) (standing_changes i s)
 
--- code changes FRAM, readings and receiver as its effects say
+-- code changes FRAM, inputs and receiver as its effects say
 pub code_changes_by_effects : CodeChangesByEffects
 code_changes_by_effects code s = step_changes (code (s.registers 0)) s
 
 -- a machine changes as its effects say
 pub machine_changes_by_effects : MachineChangesByEffects
-machine_changes_by_effects s o (NoInstruction e h) = (refl, (s.readings_left, refl))
+machine_changes_by_effects s o (NoInstruction e h) = (refl, (s.inputs, takes_nothing s.inputs))
 machine_changes_by_effects s o (Executes i h) = executed_changes s i

@@ -18,13 +18,15 @@ use Rattle.fram_board.specs.Run.{Measure, Cycles, Instructions, price, Action, E
 use Rattle.fram_board.specs.Run.{ChargeRun, Spent, NoInstruction, TooDear, Refused}
 use Rattle.fram_board.specs.Run as run
 use Rattle.fram_board.proofs.Interface.{only_takes}
-use Rattle.machine_effects.specs.World.{fram_after, readings_taken}
+use Rattle.machine_effects.specs.World.{fram_after}
+use Rattle.machine_effects.specs.Inputs.{TakesExactly}
 use Rattle.machine_effects.specs.Going.{Goes, Stops, Halted, stretch}
 use Rattle.machine_effects.specs.Machine.{IsMachineStep, MachineRun, Stays, Halts, Steps, machine_executed, fram_of}
-use Rattle.machine_effects.specs.View.{machine_of, IsWhole, IsOfWords, outcome_of_answer}
+use Rattle.machine_effects.specs.View.{inputs_of, machine_of, IsWhole, IsOfWords, outcome_of_answer}
 use Rattle.machine_effects.specs.Runs.{action_effects, moments_effects, moments_cycles, spent, moments_spent, IsUsedUp, SpendsAs, StopsAs, EndsAs, ReachesAs}
 use Rattle.machine_effects.specs.Laws.{ChargesAlike, ChargeLeavesItWhole, ChargeKeepsWords, ChargeBoardsAlike}
-use Rattle.machine_effects.proofs.Worlds.{fram_after-append, readings_taken-append}
+use Rattle.machine_effects.proofs.Worlds.{fram_after-append, taking_takes}
+use Rattle.machine_effects.proofs.Inputs.{takes_nothing, takes_through}
 use Rattle.machine_effects.proofs.Logs.{takes, machine_changes_by_effects}
 use Rattle.machine_effects.proofs.Steps.{executed_same, stopped_to_machine, current_to_machine}
 use Rattle.machine_effects.proofs.Words.{step_leaves_it_whole, words_stay_words}
@@ -46,7 +48,7 @@ told_cycles b i done e = answer_cycles b i (effect board_bus i (registers_of b.c
 record Left (b : BoardValue) (x : BoardOutcome) : Type 0 where
   pub words : List ℕ
   pub effects : effects_of b x ≡ takes words
-  pub readings : words ++ drop x.board.taken x.board.readings ≡ drop b.taken b.readings
+  pub inputs : TakesExactly (takes words) (inputs_of b) (inputs_of x.board)
   pub fram : x.board.fram ≡ b.fram
 
 stopped_left : (b : BoardValue) (i : Instr) (m : Access BusState (Registers × Option Written)) (e : Stop) → Ends board_bus 2 (opened b) m
@@ -60,7 +62,11 @@ stopped_left b i (Faulted f c s) e h a =
     record {
       words = ws;
       effects = ap (λ o. takes ws ++ sends_of b.outnum o) off ∙ append-nil (takes ws);
-      readings = ap (λ l. ws ++ drop s.taken l) all ∙ sym (drop_split b.readings b.taken s.taken g.takes.from);
+      inputs = record {
+        readings = ap (λ l. l ++ drop s.taken s.readings) (taking_takes ws)
+            ∙ ap (λ l. ws ++ drop s.taken l) all
+            ∙ sym (drop_split b.readings b.taken s.taken g.takes.from);
+      };
       fram = ap (λ y. y.fram) g.same;
     }
 
@@ -95,7 +101,7 @@ module _ (m : Measure) (left : ℕ) (b : BoardValue) (whole : IsWhole b) where
     within = let k = spent_none m in omega arith;
     paid = λ k. omega arith;
     fram = refl;
-    readings = refl;
+    inputs = takes_nothing (inputs_of b);
   }
 
   paid_last : (n : Measure) (i : Instr) → price n i ≤ left → n ≡ Cycles → 0 + cycles_of i ≤ left
@@ -117,7 +123,7 @@ module _ (m : Measure) (left : ℕ) (b : BoardValue) (whole : IsWhole b) where
         within = let k = spent_none m in omega arith;
         paid = paid_last m i paid;
         fram = ap fram_of l.fram;
-        readings = l.readings;
+        inputs = l.inputs;
       }
 
 -- one instruction more in front of the rest of a charge
@@ -147,8 +153,8 @@ module _ (m : Measure) (left : ℕ) (b : BoardValue) (whole : IsWhole b) (i : In
   fram_changed : fram_of after.fram ≡ fram_after told (fram_of b.fram)
   fram_changed = (machine_changes_by_effects (machine_of b) _ step).0
 
-  readings_changed : readings_taken told ++ drop after.taken after.readings ≡ drop b.taken b.readings
-  readings_changed = (machine_changes_by_effects (machine_of b) _ step).1
+  inputs_changed : TakesExactly told (inputs_of b) (inputs_of after)
+  inputs_changed = (machine_changes_by_effects (machine_of b) _ step).1
 
   more : (n c : ℕ) → spent m (suc n) (done.cycles + c) ≡ price m i + spent m n c
   more n c = spent_more m i n c done.cycles (told_cycles b i done answer)
@@ -176,21 +182,20 @@ module _ (m : Measure) (left : ℕ) (b : BoardValue) (whole : IsWhole b) (i : In
       let w = h.within in
       let k = more (length rest.moments) (moments_cycles rest.moments) in
       let es = moments_effects rest.moments in
-      let behind = drop rest.board.taken rest.board.readings in
+      let last = takes h.last_taken in
       record {
         last_taken = h.last_taken;
         price = h.price;
         run =
             subst (λ l. MachineRun (suc (suc (length rest.moments))) (machine_of b)
-            (stretch l (done.cycles + moments_cycles rest.moments) (Halted h.price e))) (sym (append_assoc told es (takes h.last_taken)))
+            (stretch l (done.cycles + moments_cycles rest.moments) (Halted h.price e))) (sym (append_assoc told es last))
             (Steps (suc (length rest.moments)) (machine_of b) (machine_of after) told done.cycles _ step h.run);
         within = omega arith;
         paid = paid_more m (moments_cycles rest.moments) h.price paid h.paid;
         fram = h.fram ∙ ap (fram_after es) fram_changed ∙ sym (fram_after-append told es (fram_of b.fram));
-        readings = ap (λ l. l ++ (h.last_taken ++ behind)) (readings_taken-append told es)
-            ∙ append_assoc (readings_taken told) (readings_taken es) (h.last_taken ++ behind)
-            ∙ ap (λ l. readings_taken told ++ l) h.readings
-            ∙ readings_changed;
+        inputs =
+            subst (λ l. TakesExactly l (inputs_of b) (inputs_of rest.board)) (sym (append_assoc told es last))
+            (takes_through told (es ++ last) (inputs_of b) (inputs_of after) (inputs_of rest.board) inputs_changed h.inputs);
       }
 
   ends : (rest : RunOutcome) (e : End) → EndsAs m (left - price m i) after rest e → EndsAs m left b (after_moments (moment ∷ []) rest) e

@@ -221,10 +221,14 @@ same_machine : (r q : Registers) (t : MachineBus) (s : BusState) (b : BoardValue
     → machine_closed q t ≡ machine_of (closed b r s)
 same_machine r q t s b e f h =
     let same : q ≡ registers_of (register_list r) = sym e ∙ fun_ext (λ n. listed r f n) in
-    λ i. record { registers = same i; fram = h.fram i; ram = h.ram i; readings_left = h.left i; outnum = h.outnum i }
+    λ i. record { registers = same i; fram = h.fram i; ram = h.ram i; inputs = h.left i; outnum = h.outnum i }
 
 nothing_behind : (es fs : List Effect) → fs ≡ [] → es ≡ es ++ fs
 nothing_behind es fs e = sym (append-nil es) ∙ ap (λ l. es ++ l) (sym e)
+
+-- the readings that are left on both
+left_same : (b : BoardValue) (t : MachineBus) (s : BusState) → SameBus b.readings s t → t.inputs.readings ≡ drop s.taken b.readings
+left_same b t s h = ap (λ i. i.readings) h.left ∙ ap (λ l. drop s.taken l) h.all
 
 -- of the two accesses of an instruction
 module _ (b : BoardValue) (i : Instr) where
@@ -237,7 +241,7 @@ module _ (b : BoardValue) (i : Instr) where
       → machine_outcome (registers_of b.cpu 0) (cycles_of i) n ≡ machine_outcome_of b (outcome m) (cycles_of i)
   same_outcome (Completed x s) (Completed y t) same off log file le =
       let h = same.1 in
-      let words = same_words b.readings t.readings_left log.words b.taken s.taken le log.left (h.left ∙ ap (λ l. drop s.taken l) h.all) in
+      let words = same_words b.readings t.inputs.readings log.words b.taken s.taken le log.left (left_same b t s h) in
       let wrote : written_effects y.1 t.fram b.outnum ≡ store_at (option_map (λ p. p.0) x.1) s.fram ++ sends_of b.outnum s.offered =
       ap (λ f. written_effects y.1 f b.outnum) h.fram
       ∙ ap (λ z. written_effects z.1 (fram_of s.fram) b.outnum) (sym same.0)
@@ -248,7 +252,7 @@ module _ (b : BoardValue) (i : Instr) where
       ap₂ (λ es u. Goes es (cycles_of i) u) effects next
   same_outcome (Faulted e a s) (Faulted f c t) same off log file le =
       let h = same.2 in
-      let words = same_words b.readings t.readings_left log.words b.taken s.taken le log.left (h.left ∙ ap (λ l. drop s.taken l) h.all) in
+      let words = same_words b.readings t.inputs.readings log.words b.taken s.taken le log.left (left_same b t s h) in
       let none : sends_of b.outnum s.offered ≡ [] = ap (λ o. sends_of b.outnum o) off in
       let effects : t.log ≡ effects_of b (outcome (Faulted e a s)) =
       ap (λ x. x.log) log.same ∙ ap takes words ∙ nothing_behind (takes (slice_range b.readings b.taken s.taken)) (sends_of b.outnum s.offered) none in

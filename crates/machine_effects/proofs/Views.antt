@@ -33,6 +33,6 @@ fresh_machine fram readings = ap {B = MachineBoard} (λ r. record {
   registers = registers_of (powered_up (vector_of fram) 0);
   fram = fram_of fram;
   ram = r;
-  readings_left = readings;
+  inputs = record { readings = readings };
   outnum = 0;
 }) blank_ram

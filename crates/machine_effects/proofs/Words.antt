@@ -31,6 +31,7 @@ use Rattle.fram_board.specs.Board.{BoardValue, opened, closed, board_outcome, re
 use Rattle.fram_board.specs.Effects.{Effect, Store}
 use Rattle.fram_board.proofs.Interface.{power_up_leaves_a_board}
 use Rattle.machine_effects.specs.World.{put}
+use Rattle.machine_effects.specs.Inputs.{InputsAreWords}
 use Rattle.machine_effects.specs.Going.{Stops}
 use Rattle.machine_effects.specs.Machine.{MachineBus, MachineBoard, MachineOutcome, machine_bus, machine_word, word_address, first_reading, machine_read}
 use Rattle.machine_effects.specs.Machine.{reading_taken, machine_after_read, machine_stored, machine_port_written, machine_written, machine_opened}
@@ -48,7 +49,7 @@ use Rattle.machine_effects.proofs.Values.{exchange_small, extend_small, byte_sma
 record OfWords (t : MachineBus) : Type 0 where
   pub fram : (a : ℕ) → IsWord (t.fram a)
   pub ram : (a : ℕ) → IsWord (t.ram a)
-  pub readings : All (λ w. w < 0x10000) t.readings_left
+  pub inputs : InputsAreWords t.inputs
   pub outnum : IsWord t.outnum
 
 either_small : (b : Bool) (x y : ℕ) → IsWord x → IsWord y → IsWord (if b then x else y)
@@ -85,17 +86,17 @@ no_word v e = absurd cc
 
 machine_read_small : (t : MachineBus) (a : ℕ) (w : Width) (v : ℕ) → OfWords t → machine_read t a w ≡ Ok v → IsWord v
 machine_read_small t a Word v q e =
-    ok_on (is_word a) (machine_word t a) v _ (word_small t a q) (λ g. sensed_on (a == sensor_port) v (first_reading t.readings_left)
-    (λ r. first_small t.readings_left v q.readings r) g) e
+    ok_on (is_word a) (machine_word t a) v _ (word_small t a q) (λ g. sensed_on (a == sensor_port) v (first_reading t.inputs.readings)
+    (λ r. first_small t.inputs.readings v q.inputs.readings r) g) e
 machine_read_small t a Byte v q e =
     ok_on (is_memory a) (byte_of (machine_word t a) a) v _ (byte_small (machine_word t a) a (word_small t a q)) (λ g. no_word v g) e
 
 taken_words : (ws : List ℕ) (t : MachineBus) → All (λ x. x < 0x10000) ws → OfWords t → OfWords (reading_taken ws t)
 taken_words [] t h q = q
-taken_words (w ∷ ws) t h q = record { fram = q.fram; ram = q.ram; readings = all_tail w ws h; outnum = q.outnum }
+taken_words (w ∷ ws) t h q = record { fram = q.fram; ram = q.ram; inputs = record { readings = all_tail w ws h }; outnum = q.outnum }
 
-after_words : (b : Bool) (t : MachineBus) → OfWords t → OfWords (if b then reading_taken t.readings_left t else t)
-after_words true t q = taken_words t.readings_left t q.readings q
+after_words : (b : Bool) (t : MachineBus) → OfWords t → OfWords (if b then reading_taken t.inputs.readings t else t)
+after_words true t q = taken_words t.inputs.readings t q.inputs.readings q
 after_words false t q = q
 
 machine_after_words : (t : MachineBus) (a : ℕ) (w : Width) → OfWords t → OfWords (machine_after_read t a w)
@@ -104,8 +105,8 @@ machine_after_words t a Byte q = q
 
 stored_words : (b : Bool) (t : MachineBus) (log : List Effect) (a v : ℕ) → IsWord v → OfWords t
     → OfWords (if b then record t { ram = put t.ram a v } else record t { fram = put t.fram a v; log = log })
-stored_words true t log a v h q = record { fram = q.fram; ram = put_small t.ram a v h q.ram; readings = q.readings; outnum = q.outnum }
-stored_words false t log a v h q = record { fram = put_small t.fram a v h q.fram; ram = q.ram; readings = q.readings; outnum = q.outnum }
+stored_words true t log a v h q = record { fram = q.fram; ram = put_small t.ram a v h q.ram; inputs = q.inputs; outnum = q.outnum }
+stored_words false t log a v h q = record { fram = put_small t.fram a v h q.fram; ram = q.ram; inputs = q.inputs; outnum = q.outnum }
 
 abbrev WordsIf : Option MachineBus → Type 0
 WordsIf None = Unit {0}
@@ -117,8 +118,8 @@ if_some false x y h k = k
 
 port_words : (t : MachineBus) (a v : ℕ) → IsWord v → OfWords t → WordsIf (machine_port_written t a v)
 port_words t a v h q =
-    if_some (a == number_port) (Some (record t { outnum = v })) _ (record { fram = q.fram; ram = q.ram; readings = q.readings; outnum = h })
-    (if_some (a == data_port) (Some _) None (record { fram = q.fram; ram = q.ram; readings = q.readings; outnum = q.outnum }) tt)
+    if_some (a == number_port) (Some (record t { outnum = v })) _ (record { fram = q.fram; ram = q.ram; inputs = q.inputs; outnum = h })
+    (if_some (a == data_port) (Some _) None (record { fram = q.fram; ram = q.ram; inputs = q.inputs; outnum = q.outnum }) tt)
 
 written_words : (t : MachineBus) (a : ℕ) (w : Width) (v : ℕ) → IsWord v → OfWords t → WordsIf (machine_written t a w v)
 written_words t a Word v h q =
@@ -193,11 +194,11 @@ some_on true x v h e = let same : x ≡ v = cc in subst IsWord same h
 some_on false x v h e = absurd cc
 
 outcome_words : (pc c : ℕ) (m : Access MachineBus (Registers × Option Written)) → Gives OfWords (λ y. AreSmall y.0) m → LeavesWords (machine_outcome pc c m)
-outcome_words pc c (Completed x t) h = let q = h.1 in record { registers = h.0; fram = q.fram; ram = q.ram; readings = q.readings; outnum = q.outnum }
+outcome_words pc c (Completed x t) h = let q = h.1 in record { registers = h.0; fram = q.fram; ram = q.ram; inputs = q.inputs; outnum = q.outnum }
 outcome_words pc c (Faulted e a t) h = tt
 
 opened_words : (s : MachineBoard) → IsMachineOfWords s → OfWords (machine_opened s)
-opened_words s h = record { fram = h.fram; ram = h.ram; readings = h.readings; outnum = h.outnum }
+opened_words s h = record { fram = h.fram; ram = h.ram; inputs = h.inputs; outnum = h.outnum }
 
 executed_words : (s : MachineBoard) (i : Instr) → IsMachineOfWords s → InstructionHas IsWord i → LeavesWords (machine_executed s i)
 executed_words s i h k =
@@ -404,7 +405,7 @@ machine_is_of_words b h = record {
   registers = λ n. index_small b.cpu n h.registers;
   fram = λ a. either_small ((a % 2 == 0) && is_fram a) (slice_index b.fram (place_of a)) 0 (index_small b.fram (place_of a) h.fram) (omega arith);
   ram = λ a. either_small ((a % 2 == 0) && is_ram a) (slice_index b.ram (ram_place a)) 0 (index_small b.ram (ram_place a) h.ram) (omega arith);
-  readings = drop_small b.taken b.readings h.readings;
+  inputs = record { readings = drop_small b.taken b.readings h.readings };
   outnum = h.outnum;
 }
 

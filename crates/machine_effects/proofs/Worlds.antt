@@ -1,7 +1,7 @@
 -- The world after effects, by its parts and one stretch after another.
 use Rattle.std.proofs.Common.{◌≡◌, ◌≢◌, cond, ne_eqb, ℕ, List, [], ◌∷◌, ◌++◌, refl, sym, ap, ◌∙◌, map, eq-eqb, if◌then◌else◌}
-use Rattle.fram_board.specs.Effects.{Effect, Store, Take, Send}
-use Rattle.machine_effects.specs.World.{World, put, received, fram_after_one, fram_after, accepted_after_one, accepted_after, world_after_one, world_after}
+use Rattle.fram_board.specs.Effects.{Effect, Store, Take, Outside}
+use Rattle.machine_effects.specs.World.{World, put, accepted_behind, fram_after_one, fram_after, accepted_after_one, accepted_after, world_after_one, world_after}
 use Rattle.machine_effects.specs.World.{readings_taken, EachStore, OfStore}
 use Rattle.machine_effects.specs.Laws.{WorldByItsParts}
 
@@ -24,7 +24,7 @@ pub readings_taken-append : (es fs : List Effect) → readings_taken (es ++ fs) 
 readings_taken-append [] fs = refl
 readings_taken-append (Store a w ∷ es) fs = readings_taken-append es fs
 readings_taken-append (Take w ∷ es) fs = ap (λ l. w ∷ l) (readings_taken-append es fs)
-readings_taken-append (Send n w ∷ es) fs = readings_taken-append es fs
+readings_taken-append (Outside o ∷ es) fs = readings_taken-append es fs
 
 -- a fact of each store, of both parts
 pub each_store-append : (P : ℕ → ℕ → Type 0) (es fs : List Effect) → EachStore P es → EachStore P fs → EachStore P (es ++ fs)
@@ -45,7 +45,7 @@ each_store-back P (e ∷ es) fs h = each_store-back P es fs h.1
 untouched_one : (e : Effect) (x : ℕ) (f : ℕ → ℕ) → OfStore (λ a w. a ≢ x) e → fram_after_one e f x ≡ f x
 untouched_one (Store a w) x f h = ap (λ b. cond b w (f x)) (ne_eqb x a (λ e. h (sym e)))
 untouched_one (Take w) x f h = refl
-untouched_one (Send n w) x f h = refl
+untouched_one (Outside o) x f h = refl
 
 -- FRAM where nothing is stored
 pub fram_untouched : (es : List Effect) (x : ℕ) (f : ℕ → ℕ) → EachStore (λ a w. a ≢ x) es → fram_after es f x ≡ f x
@@ -67,7 +67,7 @@ pub world_by_its_parts : WorldByItsParts
 world_by_its_parts [] x = refl
 world_by_its_parts (Store a w ∷ es) x = world_by_its_parts es (record x { fram = put x.fram a w })
 world_by_its_parts (Take w ∷ es) x = world_by_its_parts es x
-world_by_its_parts (Send n w ∷ es) x = world_by_its_parts es (record x { accepted = received n w x.accepted })
+world_by_its_parts (Outside o ∷ es) x = world_by_its_parts es (record x { accepted = accepted_behind o x.accepted })
 
 -- a word where it was put
 pub put_same : (f : ℕ → ℕ) (a w : ℕ) → put f a w a ≡ w

@@ -9,7 +9,8 @@ use Rattle.fram_board.specs.Saved.{TakesNextBehind}
 use Rattle.fram_board.specs.Steps.{IsPowerState}
 use Rattle.fram_board.specs.Effects.{Effect}
 use Rattle.fram_board.specs.Run.{Measure, Moment, RunOutcome, ChargeRun, accepted_words}
-use Rattle.machine_effects.specs.World.{World, fram_after, accepted_after, world_after, readings_taken}
+use Rattle.machine_effects.specs.World.{World, fram_after, accepted_after, world_after}
+use Rattle.machine_effects.specs.Inputs.{Inputs, TakesExactly}
 use Rattle.machine_effects.specs.Going.{Goes, Stops}
 use Rattle.machine_effects.specs.Machine.{MachineBoard, MachineOutcome, MachineStretch, IsMachineStep, MachineRun, Code, exec, fram_of, machine_powered}
 use Rattle.machine_effects.specs.View.{machine_of, IsWhole, IsOfWords, IsMachineOfWords, IsNextPrice, machine_outcome_of}
@@ -34,12 +35,12 @@ MachineStepsInOneWay = (s : MachineBoard) (o p : MachineOutcome) → IsMachineSt
 abbrev pub MachineRunsInOneWay : Type 0
 MachineRunsInOneWay = (n : ℕ) (s : MachineBoard) (r q : MachineStretch) → MachineRun n s r → MachineRun n s q → r ≡ q
 
--- what an outcome says of FRAM and the readings: they are as the effects make them
+-- what an outcome says of FRAM and the inputs: they are as the effects make them
 abbrev pub ChangesByEffects : MachineBoard → MachineOutcome → Type 0
-ChangesByEffects s (Goes es c t) = (t.fram ≡ fram_after es s.fram) × (readings_taken es ++ t.readings_left ≡ s.readings_left)
-ChangesByEffects s (Stops es price stop) = (fram_after es s.fram ≡ s.fram) × ((left : List ℕ) × (readings_taken es ++ left ≡ s.readings_left))
+ChangesByEffects s (Goes es c t) = (t.fram ≡ fram_after es s.fram) × TakesExactly es s.inputs t.inputs
+ChangesByEffects s (Stops es price stop) = (fram_after es s.fram ≡ s.fram) × ((left : Inputs) × TakesExactly es s.inputs left)
 
--- a step of code that stays changes FRAM and the readings by its effects
+-- a step of code that stays changes FRAM and the inputs by its effects
 abbrev pub CodeChangesByEffects : Type 0
 CodeChangesByEffects = (code : Code) (s : MachineBoard) → ChangesByEffects s (exec code s)
 
@@ -87,7 +88,7 @@ FreshMachine = (fram readings : List ℕ) → machine_of (fresh fram readings) �
   registers = registers_of (powered_up (vector_of fram) 0);
   fram = fram_of fram;
   ram = λ a. 0;
-  readings_left = readings;
+  inputs = record { readings = readings };
   outnum = 0;
 }
 

@@ -1,4 +1,5 @@
 pub mod World
+pub mod Inputs
 pub mod Going
 pub mod Machine
 pub mod View

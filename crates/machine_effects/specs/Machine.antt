@@ -20,15 +20,16 @@ use Rattle.fram_board.specs.msp_step.Step.{effect, off_bit, stop_of, IsStopped, 
 use Rattle.fram_board.specs.image_text.ImageValue.{place_of}
 use Rattle.fram_board.specs.Bus.{ram_place, is_ram, is_fram, is_memory, is_word, byte_of, with_byte, sensor_port, number_port, data_port}
 use Rattle.fram_board.specs.Board.{PowerState}
-use Rattle.fram_board.specs.Effects.{Effect, Store, Take, Send}
+use Rattle.fram_board.specs.Effects.{Effect, Store, Take, Outside, Offered}
 use Rattle.machine_effects.specs.World.{put}
+use Rattle.machine_effects.specs.Inputs.{Inputs}
 use Rattle.machine_effects.specs.Going.{StepOutcome, Goes, Stops, At, Halted, Stretch, stretch, after_effects}
 
 -- memory and ports during one instruction, and what it did so far
 pub record MachineBus : Type 0 where
   pub fram : ℕ → ℕ  -- the word at each even address
   pub ram : ℕ → ℕ
-  pub readings_left : List ℕ
+  pub inputs : Inputs
   pub outnum : ℕ  -- the word last written to OUTNUM
   pub log : List Effect
 
@@ -57,18 +58,18 @@ first_reading (w ∷ ws) = Ok w
 abbrev pub machine_read : MachineBus → ℕ → Width → Result ℕ Refused
 machine_read s a Word =
     if is_word a then Ok (machine_word s a)
-    else if a == sensor_port then first_reading s.readings_left
+    else if a == sensor_port then first_reading s.inputs.readings
     else Err refused.Bus
 machine_read s a Byte = if is_memory a then Ok (byte_of (machine_word s a) a) else Err refused.Bus
 
 -- the first of the readings left is taken
 abbrev pub reading_taken : List ℕ → MachineBus → MachineBus
 reading_taken [] s = s
-reading_taken (w ∷ ws) s = record s { readings_left = ws; log = s.log ++ Take w ∷ [] }
+reading_taken (w ∷ ws) s = record s { inputs = record s.inputs { readings = ws }; log = s.log ++ Take w ∷ [] }
 
 -- a word read at SENSOR takes the reading
 abbrev pub machine_after_read : MachineBus → ℕ → Width → MachineBus
-machine_after_read s a Word = if a == sensor_port then reading_taken s.readings_left s else s
+machine_after_read s a Word = if a == sensor_port then reading_taken s.inputs.readings s else s
 machine_after_read s a Byte = s
 
 -- a word of memory is written; in FRAM that is a store
@@ -81,7 +82,7 @@ machine_stored s a v =
 abbrev pub machine_port_written : MachineBus → ℕ → ℕ → Option MachineBus
 machine_port_written s a v =
     if a == number_port then Some (record s { outnum = v })
-    else if a == data_port then Some (record s { log = s.log ++ Send s.outnum v ∷ [] })
+    else if a == data_port then Some (record s { log = s.log ++ Outside (Offered s.outnum v) ∷ [] })
     else None
 
 -- a write is served in memory, of a word at an even address; and a word written to OUTNUM or OUTDATA
@@ -104,16 +105,16 @@ pub record MachineBoard : Type 0 where
   pub registers : Registers
   pub fram : ℕ → ℕ
   pub ram : ℕ → ℕ
-  pub readings_left : List ℕ
+  pub inputs : Inputs
   pub outnum : ℕ
 
 -- its bus as an instruction begins: the log is empty
 abbrev pub machine_opened : MachineBoard → MachineBus
-machine_opened s = record { fram = s.fram; ram = s.ram; readings_left = s.readings_left; outnum = s.outnum; log = [] }
+machine_opened s = record { fram = s.fram; ram = s.ram; inputs = s.inputs; outnum = s.outnum; log = [] }
 
 -- the machine with these registers after this bus
 abbrev pub machine_closed : Registers → MachineBus → MachineBoard
-machine_closed r t = record { registers = r; fram = t.fram; ram = t.ram; readings_left = t.readings_left; outnum = t.outnum }
+machine_closed r t = record { registers = r; fram = t.fram; ram = t.ram; inputs = t.inputs; outnum = t.outnum }
 
 -- a step of the machine
 abbrev pub MachineOutcome : Type 0
@@ -177,7 +178,7 @@ fram_of words a = if (a % 2 == 0) && is_fram a then slice_index words (place_of 
 abbrev pub ram_of : List ℕ → ℕ → ℕ
 ram_of words a = if (a % 2 == 0) && is_ram a then slice_index words (ram_place a) else 0
 
--- a power-up: PC is the reset vector and SR is 0; FRAM and the readings are as before
+-- a power-up: PC is the reset vector and SR is 0; FRAM and the inputs are as before
 abbrev pub machine_powered : MachineBoard → PowerState → MachineBoard
 machine_powered s p = record s {
   registers = registers_of (kept 0 (s.fram reset_vector) ∷ kept 1 p.sp ∷ 0 ∷ 0 ∷ p.work);

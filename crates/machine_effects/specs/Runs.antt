@@ -1,14 +1,15 @@
 -- A charge of the board as steps of the machine.
-use Rattle.std.specs.Prelude.{ℕ, suc, ◌+◌, ◌≡◌, ◌<◌, ◌≤◌, ◌⊎◌, List, [], ◌∷◌, ◌++◌, length, map, drop, Ok}
+use Rattle.std.specs.Prelude.{ℕ, suc, ◌+◌, ◌≡◌, ◌<◌, ◌≤◌, ◌⊎◌, List, [], ◌∷◌, ◌++◌, length, map, Ok}
 use Rattle.fram_board.specs.msp_isa.declared.instructions.Instr.{Instr}
 use Rattle.fram_board.specs.msp_step.declared.machine.Stop.{Stop}
 use Rattle.fram_board.specs.Board.{BoardValue, IsNextInstruction}
 use Rattle.fram_board.specs.Effects.{Effect, Take, effects_of}
 use Rattle.fram_board.specs.Run.{Measure, Cycles, Instructions, price, Action, PowerUp, Execute, Moment, End, Charges, Stopped, RunOutcome}
-use Rattle.machine_effects.specs.World.{fram_after, readings_taken}
+use Rattle.machine_effects.specs.World.{fram_after}
+use Rattle.machine_effects.specs.Inputs.{TakesExactly}
 use Rattle.machine_effects.specs.Going.{At, Halted, stretch}
 use Rattle.machine_effects.specs.Machine.{MachineRun, fram_of}
-use Rattle.machine_effects.specs.View.{machine_of, IsWhole, IsOfWords}
+use Rattle.machine_effects.specs.View.{inputs_of, machine_of, IsWhole, IsOfWords}
 
 -- the effects of an action between these boards
 abbrev pub action_effects : Action → BoardValue → BoardValue → List Effect
@@ -59,7 +60,7 @@ pub record StopsAs (m : Measure) (amount : ℕ) (b : BoardValue) (r : RunOutcome
   pub within : moments_spent m r.moments < amount
   pub paid : m ≡ Cycles → moments_cycles r.moments + price ≤ amount
   pub fram : fram_of r.board.fram ≡ fram_after (moments_effects r.moments) (fram_of b.fram)
-  pub readings : readings_taken (moments_effects r.moments) ++ (last_taken ++ drop r.board.taken r.board.readings) ≡ drop b.taken b.readings
+  pub inputs : TakesExactly (moments_effects r.moments ++ map (λ w. Take w) last_taken) (inputs_of b) (inputs_of r.board)
 
 -- a charge of the board as the machine's, by how it ends
 abbrev pub EndsAs : Measure → ℕ → BoardValue → RunOutcome → End → Type 0

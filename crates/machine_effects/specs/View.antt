@@ -7,8 +7,13 @@ use Rattle.fram_board.specs.declared.board.Stepped.{Stepped}
 use Rattle.fram_board.specs.Board.{BoardValue, BoardOutcome}
 use Rattle.fram_board.specs.Steps.{BoardCosts, IsBoard}
 use Rattle.fram_board.specs.Effects.{Effect, effects_of}
+use Rattle.machine_effects.specs.Inputs.{Inputs, InputsAreWords}
 use Rattle.machine_effects.specs.Going.{Goes, Stops}
 use Rattle.machine_effects.specs.Machine.{MachineBoard, MachineOutcome, fram_of, ram_of}
+
+-- what is ready for a board
+abbrev pub inputs_of : BoardValue → Inputs
+inputs_of b = record { readings = drop b.taken b.readings }
 
 -- the machine that a board is
 abbrev pub machine_of : BoardValue → MachineBoard
@@ -16,7 +21,7 @@ machine_of b = record {
   registers = registers_of b.cpu;
   fram = fram_of b.fram;
   ram = ram_of b.ram;
-  readings_left = drop b.taken b.readings;
+  inputs = inputs_of b;
   outnum = b.outnum;
 }
 
@@ -38,7 +43,7 @@ pub record IsMachineOfWords (s : MachineBoard) : Type 0 where
   pub registers : (n : ℕ) → s.registers n < 0x10000
   pub fram : (a : ℕ) → s.fram a < 0x10000
   pub ram : (a : ℕ) → s.ram a < 0x10000
-  pub readings : All (λ w. w < 0x10000) s.readings_left
+  pub inputs : InputsAreWords s.inputs
   pub outnum : s.outnum < 0x10000
 
 -- the cycles of the board's next instruction, or 0 where there is none

@@ -1,6 +1,6 @@
 -- What lasts of a board, and what effects make of it.
 use Rattle.std.specs.Prelude.{◌≡◌, ℕ, ◌%◌, ◌==◌, if◌then◌else◌, List, [], ◌∷◌, ◌++◌, length}
-use Rattle.fram_board.specs.Effects.{Effect, Store, Take, Send}
+use Rattle.fram_board.specs.Effects.{Effect, Store, Take, Outside, OutsideEffect, Offered}
 
 -- a function with this value at one address
 abbrev pub put : (ℕ → ℕ) → ℕ → ℕ → ℕ → ℕ
@@ -19,18 +19,22 @@ received number w ws = if number == (length ws % 0x10000) then ws ++ w ∷ [] el
 abbrev pub fram_after_one : Effect → (ℕ → ℕ) → (ℕ → ℕ)
 fram_after_one (Store a w) f = put f a w
 fram_after_one (Take w) f = f
-fram_after_one (Send n w) f = f
+fram_after_one (Outside o) f = f
 
 -- FRAM after effects, the first one first
 abbrev pub fram_after : List Effect → (ℕ → ℕ) → (ℕ → ℕ)
 fram_after [] f = f
 fram_after (e ∷ es) f = fram_after es (fram_after_one e f)
 
+-- the accepted words after an effect outside the board
+abbrev pub accepted_behind : OutsideEffect → List ℕ → List ℕ
+accepted_behind (Offered n w) ws = received n w ws
+
 -- the accepted words after an effect
 abbrev pub accepted_after_one : Effect → List ℕ → List ℕ
 accepted_after_one (Store a w) ws = ws
 accepted_after_one (Take w) ws = ws
-accepted_after_one (Send n w) ws = received n w ws
+accepted_after_one (Outside o) ws = accepted_behind o ws
 
 -- the accepted words after effects, the first one first
 abbrev pub accepted_after : List Effect → List ℕ → List ℕ
@@ -41,7 +45,7 @@ accepted_after (e ∷ es) ws = accepted_after es (accepted_after_one e ws)
 abbrev pub world_after_one : Effect → World → World
 world_after_one (Store a w) x = record x { fram = put x.fram a w }
 world_after_one (Take w) x = x
-world_after_one (Send n w) x = record x { accepted = received n w x.accepted }
+world_after_one (Outside o) x = record x { accepted = accepted_behind o x.accepted }
 
 -- the world after effects, the first one first
 abbrev pub world_after : List Effect → World → World
@@ -53,7 +57,7 @@ abbrev pub readings_taken : List Effect → List ℕ
 readings_taken [] = []
 readings_taken (Take w ∷ es) = w ∷ readings_taken es
 readings_taken (Store a w ∷ es) = readings_taken es
-readings_taken (Send n w ∷ es) = readings_taken es
+readings_taken (Outside o ∷ es) = readings_taken es
 
 -- some effects, and others with which they are all
 pub record IsPrefix (es all : List Effect) : Type 0 where
@@ -64,7 +68,7 @@ pub record IsPrefix (es all : List Effect) : Type 0 where
 abbrev pub OfStore : (ℕ → ℕ → Type 0) → Effect → Type 0
 OfStore P (Store a w) = P a w
 OfStore P (Take w) = Unit {0}
-OfStore P (Send n w) = Unit {0}
+OfStore P (Outside o) = Unit {0}
 
 -- a fact of each store among effects, by its address and its word
 abbrev pub EachStore : (ℕ → ℕ → Type 0) → List Effect → Type 0

@@ -24,6 +24,12 @@ homes_apart l h i j a b lt e f = in_order_apart l.homes.address (map home_region
 pub contained : (from : ℕ) (rs : List Region) (end : ℕ) (r : Region) → AreInOrder from rs end → Contains rs r → Within from r end
 contained from rs end r h (k, l, e) = in_order_within from rs end k r h (slice_get-get_or rs k r l ∙ ap Some e)
 
+-- a region is one of a variable's
+pub record IsOfVariable (f : VariablePlace → List Region) (vs : List VariablePlace) (i : ℕ) (r : Region) : Type 0 where
+  pub place : VariablePlace
+  pub at : slice_get vs i ≡ Some place
+  pub contains : Contains (f place) r
+
 -- the regions of one variable among those of all
 pub among : (f : VariablePlace → List Region) (from : ℕ) (vs : List VariablePlace) (end : ℕ) (i : ℕ) (a : VariablePlace) (r : Region)
     → AreInOrder from (flat_map f vs) end → slice_get vs i ≡ Some a → Contains (f a) r → Within from r end
@@ -41,27 +47,28 @@ among f from (v ∷ vs) end (suc i) a r h e c =
     record { from = let x = w.from in omega (arith, x, front); even = w.even; end = w.end }
 
 -- the regions of a later variable stand behind those of an earlier one
-pub later : (f : VariablePlace → List Region) (from : ℕ) (vs : List VariablePlace) (end : ℕ) (i j : ℕ) (a b : VariablePlace) (r q : Region)
-    → AreInOrder from (flat_map f vs) end → i < j → slice_get vs i ≡ Some a → slice_get vs j ≡ Some b
-    → Contains (f a) r → Contains (f b) q → end_of r ≤ q.address
-later f from [] end i j a b r q h l e g c d = let no : None ≡ Some a = e in cc
-later f from (v ∷ vs) end zero zero a b r q h l e g c d = absurd (omega arith)
-later f from (v ∷ vs) end (suc i) zero a b r q h l e g c d = absurd (omega arith)
-later f from (v ∷ vs) end zero (suc j) a b r q h l e g c d =
-    let same : v ≡ a = cc in
+pub later : (f : VariablePlace → List Region) (from : ℕ) (vs : List VariablePlace) (end : ℕ) (i j : ℕ) (r q : Region)
+    → AreInOrder from (flat_map f vs) end → i < j → IsOfVariable f vs i r → IsOfVariable f vs j q → end_of r ≤ q.address
+later f from [] end i j r q h l x y = let no : None ≡ Some x.place = x.at in cc
+later f from (v ∷ vs) end zero zero r q h l x y = absurd (omega arith)
+later f from (v ∷ vs) end (suc i) zero r q h l x y = absurd (omega arith)
+later f from (v ∷ vs) end zero (suc j) r q h l x y =
+    let same : v ≡ x.place = let e = x.at in cc in
     let s = in_order_split from (f v) (flat_map f vs) end h in
-    let w = contained from (f v) s.0 r s.1 (subst (λ x. Contains (f x) r) (sym same) c) in
-    let x = among f s.0 vs end j b q s.2 g d in
+    let w = contained from (f v) s.0 r s.1 (subst (λ x. Contains (f x) r) (sym same) x.contains) in
+    let z = among f s.0 vs end j y.place q s.2 y.at y.contains in
     let below = w.end in
-    let above = x.from in
+    let above = z.from in
     omega (arith, below, above)
-later f from (v ∷ vs) end (suc i) (suc j) a b r q h l e g c d =
+later f from (v ∷ vs) end (suc i) (suc j) r q h l x y =
     let s = in_order_split from (f v) (flat_map f vs) end h in
-    later f s.0 vs end i j a b r q s.2 (omega arith) e g c d
+    later f s.0 vs end i j r q s.2 (omega arith) (record { place = x.place; at = x.at; contains = x.contains })
+    (record { place = y.place; at = y.at; contains = y.contains })
 
 pub copies_apart : (l : MemoryMap) → IsLaidOut l → CopiesAreApart l
 copies_apart l h = record {
-  from_each_other = λ i j a b r q lt e f c d. later copy_regions l.copies.address l.variables (end_of l.copies) i j a b r q h.copies lt e f c d;
+  from_each_other = λ i j a b r q lt e f c d. later copy_regions l.copies.address l.variables (end_of l.copies) i j r q h.copies lt
+      (record { place = a; at = e; contains = c }) (record { place = b; at = f; contains = d });
   from_homes = λ i j a b q e f d.
       let home = (in_order_within l.homes.address (map home_region l.variables) (end_of l.homes) i (home_region a) h.homes
       (mapped home_region l.variables i a e)).end in
@@ -74,7 +81,8 @@ pub versions_apart : (l : MemoryMap) → IsLaidOut l → VersionsAreApart l
 versions_apart l h =
     let end : ℕ = end_of l.versions in
     record {
-      from_each_other = λ i j a b r q lt e f c d. later version_regions l.versions.address l.variables end i j a b r q h.versions lt e f c d;
+      from_each_other = λ i j a b r q lt e f c d. later version_regions l.versions.address l.variables end i j r q h.versions lt
+          (record { place = a; at = e; contains = c }) (record { place = b; at = f; contains = d });
       from = λ i a r e c. (among version_regions l.versions.address l.variables end i a r h.versions e c).from;
       below = λ i a r e c. (among version_regions l.versions.address l.variables end i a r h.versions e c).end;
       even = λ i a r e c. (among version_regions l.versions.address l.variables end i a r h.versions e c).even;

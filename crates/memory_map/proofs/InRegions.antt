@@ -31,38 +31,46 @@ pub word_between : (from a end i address words : ℕ) → from ≤ address → a
     → IsBetween from a end
 word_between from a end i address words l e h b at = record { from = omega (arith, l, at); even = rw at (omega (arith, e)); end = omega (arith, at, h, b) }
 
-pub within : (f : VariablePlace → List Region) (from : ℕ) (vs : List VariablePlace) (end v i a : ℕ) → AreInOrder from (flat_map f vs) end → IsIn f vs v i a
-    → IsBetween from a end
-within f from vs end v i a h s =
-    let w = among f from vs end v s.place s.region h s.at s.contains in
-    word_between from a end i s.region.address s.region.words w.from w.even w.end s.below s.address
+-- the regions of variables, in order between two addresses
+pub record Row : Type 0 where
+  pub regions : VariablePlace → List Region
+  pub variables : List VariablePlace
+  pub from : ℕ
+  pub end : ℕ
+  pub ordered : AreInOrder from (flat_map regions variables) end
+
+pub within : (row : Row) (v i a : ℕ) → IsIn row.regions row.variables v i a → IsBetween row.from a row.end
+within row v i a s =
+    let w = among row.regions row.from row.variables row.end v s.place s.region row.ordered s.at s.contains in
+    word_between row.from a row.end i s.region.address s.region.words w.from w.even w.end s.below s.address
 
 -- the words of an earlier variable stand before those of a later one
-pub before : (f : VariablePlace → List Region) (from : ℕ) (vs : List VariablePlace) (end v w i j a : ℕ) → AreInOrder from (flat_map f vs) end → v < w
-    → IsIn f vs v i a → IsIn f vs w j a → ⊥
-before f from vs end v w i j a h lt s t =
-    let apart = later f from vs end v w s.place t.place s.region t.region h lt s.at t.at s.contains t.contains in
+pub before : (row : Row) (v w i j a : ℕ) → v < w → IsIn row.regions row.variables v i a → IsIn row.regions row.variables w j a → ⊥
+before row v w i j a lt s t =
+    let apart = later row.regions row.from row.variables row.end v w s.region t.region row.ordered lt
+    (record { place = s.place; at = s.at; contains = s.contains }) (record { place = t.place; at = t.at; contains = t.contains }) in
     let b = s.below in let x = s.address in let y = t.address in
     omega (arith, apart, b, x, y)
 
 -- no two words stand at one address
-pub one_word : (f : VariablePlace → List Region) (from : ℕ) (vs : List VariablePlace) (end v w i j a : ℕ) → IsSingle f → AreInOrder from (flat_map f vs) end
-    → IsIn f vs v i a → IsIn f vs w j a → (v ≡ w) × (i ≡ j)
-one_word f from vs end v w i j a single h s t = one (cases_order v w)
+pub one_word : (row : Row) (v w i j a : ℕ) → IsSingle row.regions → IsIn row.regions row.variables v i a → IsIn row.regions row.variables w j a
+    → (v ≡ w) × (i ≡ j)
+one_word row v w i j a single s t = one (cases_order v w)
   where
     same : v ≡ w → i ≡ j
     same e =
-        let found : Some s.place ≡ Some t.place = sym s.at ∙ ap (slice_get vs) e ∙ t.at in
+        let found : Some s.place ≡ Some t.place = sym s.at ∙ ap (slice_get row.variables) e ∙ t.at in
         let place : s.place ≡ t.place = cc in
-        let region : s.region ≡ t.region = single t.place s.region t.region (subst (λ x. Contains (f x) s.region) place s.contains) t.contains in
+        let moved : Contains (row.regions t.place) s.region = subst (λ x. Contains (row.regions x) s.region) place s.contains in
+        let region : s.region ≡ t.region = single t.place s.region t.region moved t.contains in
         let address : s.region.address ≡ t.region.address = ap (λ r. r.address) region in
         let x = s.address in let y = t.address in
         omega (arith, address, x, y)
 
     one : (v ≡ w) ⊎ ((v < w) ⊎ (w < v)) → (v ≡ w) × (i ≡ j)
     one (inl e) = (e, same e)
-    one (inr (inl lt)) = absurd (before f from vs end v w i j a h lt s t)
-    one (inr (inr gt)) = absurd (before f from vs end w v j i a h gt t s)
+    one (inr (inl lt)) = absurd (before row v w i j a lt s t)
+    one (inr (inr gt)) = absurd (before row w v j i a gt t s)
 
 -- a region alone
 pub alone : (r : Region) → Contains (r ∷ []) r

@@ -15,7 +15,7 @@ pub use Rattle.memory_map.proofs.Addresses.{element_is, copy_is, version_is, sca
 -- The words of scalars: one or two.
 pub use Rattle.memory_map.proofs.Addresses.{some_words, few_words, privates_few, words_scalar, first_word}
 -- The words that a task works on stand apart.
-pub use Rattle.memory_map.proofs.Spots.{version_between, spots_are_apart}
+pub use Rattle.memory_map.proofs.Spots.{copies_row, version_between, spots_are_apart}
 -- The words of private scalars, and their copies.
 pub use Rattle.memory_map.proofs.InOrder.{Within}
 pub use Rattle.memory_map.proofs.Privates.{private_home_region, private_copy_region, private_home, private_copy}

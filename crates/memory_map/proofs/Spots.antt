@@ -9,7 +9,7 @@ use Rattle.memory_map.specs.Places.{end_of, HasItsPlace, copy_regions, version_r
 use Rattle.memory_map.specs.Spots.{places_of, Element, IsElement, IsCopied, IsScalarWord, IsArrayAt, Spot, scalar, element, copy, version, IsSpot, spot_address}
 use Rattle.memory_map.specs.Spots.{IsWordOf, SpotsAreApart, scalar_address}
 use Rattle.memory_map.proofs.Parts.{apart_of, parts_in_fram}
-use Rattle.memory_map.proofs.InRegions.{IsIn, IsBetween, within, one_word}
+use Rattle.memory_map.proofs.InRegions.{Row, IsIn, IsBetween, within, one_word}
 use Rattle.memory_map.proofs.Homes.{home_between, one_home}
 use Rattle.memory_map.proofs.Addresses.{copies_single, versions_single, element_is, copy_is, version_is, words_scalar, scalar_word, scalar_place, IsHomeOrCopy}
 
@@ -33,12 +33,19 @@ index_of (element x) = x.index
 index_of (copy x) = x.index
 index_of (version x) = x.index
 
+-- the copies of all variables, and the version words
+abbrev pub copies_row : (l : MemoryMap) → IsLaidOut l → Row
+copies_row l h = record { regions = copy_regions; variables = l.variables; from = l.copies.address; end = end_of l.copies; ordered = h.copies }
+
+abbrev versions_row : (l : MemoryMap) → IsLaidOut l → Row
+versions_row l h = record { regions = version_regions; variables = l.variables; from = l.versions.address; end = end_of l.versions; ordered = h.versions }
+
 module _ (l : MemoryMap) (h : IsLaidOut l) where
   copy_between : (v i a : ℕ) → IsIn copy_regions l.variables v i a → IsBetween l.copies.address a (end_of l.copies)
-  copy_between v i a c = within copy_regions l.copies.address l.variables (end_of l.copies) v i a h.copies c
+  copy_between v i a c = within (copies_row l h) v i a c
 
   pub version_between : (v i a : ℕ) → IsIn version_regions l.variables v i a → IsBetween l.versions.address a (end_of l.versions)
-  version_between v i a c = within version_regions l.versions.address l.variables (end_of l.versions) v i a h.versions c
+  version_between v i a c = within (versions_row l h) v i a c
 
   -- the regions of the three kinds, one behind another
   record Chain : Type 0 where
@@ -82,11 +89,10 @@ module _ (l : MemoryMap) (h : IsLaidOut l) where
       omega (arith, x, y, r, s)
 
   one_copy : (v i w j a : ℕ) → IsIn copy_regions l.variables v i a → IsIn copy_regions l.variables w j a → (v ≡ w) × (i ≡ j)
-  one_copy v i w j a s t = one_word copy_regions l.copies.address l.variables (end_of l.copies) v w i j a copies_single h.copies s t
+  one_copy v i w j a s t = one_word (copies_row l h) v w i j a copies_single s t
 
   one_version : (v i w j a : ℕ) → IsIn version_regions l.variables v i a → IsIn version_regions l.variables w j a → (v ≡ w) × (i ≡ j)
-  one_version v i w j a s t =
-      one_word version_regions l.versions.address l.variables (end_of l.versions) v w i j a versions_single h.versions s t
+  one_version v i w j a s t = one_word (versions_row l h) v w i j a versions_single s t
 
   module _ (layout : TaskPlace) (places : All (HasItsPlace l.variables) layout.privates) where
     pub stands : (s : Spot) → IsSpot (places_of l layout) s → Stands l (number_of s) (index_of s) (spot_address (places_of l layout) s)

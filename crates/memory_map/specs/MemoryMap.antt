@@ -4,6 +4,9 @@ use Rattle.memory_map.specs.declared.place.Region.{Region}
 use Rattle.memory_map.specs.declared.place.VariablePlace.{VariablePlace}
 use Rattle.memory_map.specs.declared.place.PrivateScalar.{PrivateScalar}
 use Rattle.memory_map.specs.declared.words.RuntimeWord.{RuntimeWord}
+use Rattle.memory_map.specs.declared.runtime.Runtime.{Runtime}
+use Rattle.memory_map.specs.declared.runtime.Logging.TheVariants.{Redo}
+use Rattle.memory_map.specs.declared.runtime.Role.TheVariants.{Alone}
 use Rattle.memory_map.specs.Words.{index_of, row_words}
 
 -- a task's private scalars in order of declaration, and the room for its code
@@ -13,6 +16,7 @@ pub record TaskPlace : Type 0 where
 
 -- the runtime's words, the buffers, the words of the shared variables and of their copies, then the code of boot, commit and tasks
 pub record MemoryMap : Type 0 where
+  pub runtime : Runtime  -- the runtime that the source is compiled for
   pub row : ℕ  -- the runtime's words stand side by side from this address on
   pub list : Region  -- the commit list
   pub entries : ℕ  -- the entries for which it has room
@@ -25,6 +29,10 @@ pub record MemoryMap : Type 0 where
   pub commit : Region
   pub code : Region  -- of all tasks
   pub tasks : List TaskPlace
+
+-- attempts that work in copies, on a board that is alone
+abbrev pub lone_redo : Runtime
+lone_redo = record { logging = Redo; role = Alone }
 
 -- the address of a word of the runtime
 abbrev pub word_place : MemoryMap → RuntimeWord → ℕ

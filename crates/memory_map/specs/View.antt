@@ -1,13 +1,15 @@
 -- The memory map that a layout is.
 use Rattle.std.specs.Prelude.{List}
 use Rattle.memory_map.specs.declared.place.VariablePlace.{VariablePlace}
+use Rattle.memory_map.specs.declared.runtime.Runtime.{Runtime}
 use Rattle.memory_map.specs.declared.layouts.Regions.{Regions}
 use Rattle.memory_map.specs.declared.layouts.Layout.TheInside.{Inside}
 use Rattle.memory_map.specs.MemoryMap.{MemoryMap, TaskPlace}
 
--- the regions, with the places of the variables and of the tasks
-abbrev pub map_with : Regions → List VariablePlace → List TaskPlace → MemoryMap
-map_with r variables tasks = record {
+-- the regions for a runtime, with the places of the variables and of the tasks
+abbrev pub map_with : Runtime → Regions → List VariablePlace → List TaskPlace → MemoryMap
+map_with runtime r variables tasks = record {
+  runtime = runtime;
   row = r.row;
   list = r.list;
   entries = r.entries;
@@ -24,4 +26,4 @@ map_with r variables tasks = record {
 
 -- a memory map as it stands in memory
 abbrev pub map_of : Inside → MemoryMap
-map_of l = map_with l.regions l.variables.items l.tasks.items
+map_of l = map_with l.runtime l.regions l.variables.items l.tasks.items

@@ -1,6 +1,7 @@
 //! Layouts: memory maps of compiled sources, as they are kept in memory.
 
 use crate::place::{PrivateScalar, Region, VariablePlace};
+use crate::runtime::Runtime;
 use crate::words::RuntimeWord;
 use std::marker::Model;
 
@@ -76,6 +77,7 @@ impl TaskLayout {
 /// and of written arrays; and then code: the boot, the commit, each task. All of it ends below 0xFFFE.
 #[derive(Drop)]
 pub struct Layout {
+    runtime: Runtime,
     regions: Regions,
     variables: Vec<VariablePlace>,
     tasks: Vec<TaskLayout>,
@@ -100,12 +102,18 @@ impl Layout {
     ghost use Rattle.memory_map.specs.Places.{IsLaidOut};
     ghost use Rattle.memory_map.specs.View.{map_with};
 
-    /// The layout of these places, which keep the rules of a memory map.
-    pub fn new(regions: Regions, variables: Vec<VariablePlace>, tasks: Vec<TaskLayout>) -> Layout
-        requires { IsLaidOut (map_with regions variables.items tasks.items) }
-        ensures { result ≡ map_with regions variables.items tasks.items }
+    /// The layout for a runtime of these places, which keep the rules of a memory map.
+    pub fn new(
+        runtime: Runtime,
+        regions: Regions,
+        variables: Vec<VariablePlace>,
+        tasks: Vec<TaskLayout>,
+    ) -> Layout
+        requires { IsLaidOut (map_with runtime regions variables.items tasks.items) }
+        ensures { result ≡ map_with runtime regions variables.items tasks.items }
     {
         Layout {
+            runtime,
             regions,
             variables,
             tasks,
@@ -117,6 +125,13 @@ impl Layout {
         ensures { IsLaidOut self.now }
     {
         let _ = &self.regions;
+    }
+
+    /// The runtime that the source is compiled for.
+    pub fn runtime(&self) -> Runtime
+        ensures { result ≡ self.now.runtime }
+    {
+        self.runtime
     }
 
     /// The address of a word of the runtime.

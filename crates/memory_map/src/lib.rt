@@ -5,6 +5,7 @@
 mod laws;
 mod layouts;
 mod place;
+mod runtime;
 mod words;
 
 pub use address_space::{FRAM_FIRST, OUTDATA, OUTNUM, RESET_VECTOR, STACK_TOP};
@@ -14,4 +15,5 @@ pub use laws::{
 };
 pub use layouts::{Layout, Regions, TaskLayout};
 pub use place::{ArrayCopies, PrivateScalar, Region, ScalarWidth, VariablePlace};
+pub use runtime::{Logging, Role, Runtime};
 pub use words::{ROW_WORDS, RuntimeWord};

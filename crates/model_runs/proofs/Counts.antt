@@ -1,22 +1,24 @@
 -- How many dones a run has at most, and how many readings it takes.
 use Rattle.std.proofs.Common.{◌≡◌, ℕ, ◌+◌, ◌-◌, ◌≤◌, refl, sym, ap, ◌∙◌, subst, arith, true, false, cond, List, [], ◌∷◌, length, length-append, append-nil, Ok}
-use Rattle.crash_rules.specs.msp_isa.declared.instructions.Instr.{Instr}
-use Rattle.crash_rules.specs.fram_board.declared.board.Stepped.{Stepped}
-use Rattle.crash_rules.specs.fram_board.Board.{BoardValue, PowerState, powered, executed, IsNextInstruction}
-use Rattle.crash_rules.specs.fram_board.Steps.{IsPowerState}
-use Rattle.crash_rules.specs.fram_board.Effects.{Effect}
-use Rattle.crash_rules.specs.fram_board.Run.{Measure, price, Moment, moment_of, Charges, Stopped, RunOutcome, run_outcome, BoardCharge, ChargeRun, Spent}
-use Rattle.crash_rules.specs.fram_board.Run.{NoInstruction}
-use Rattle.crash_rules.specs.fram_board.Run.{TooDear, Refused, Executed, Run, Over, Next, Last}
-use Rattle.crash_rules.proofs.fram_board.Interface.{price_low}
-use Rattle.crash_rules.specs.machine_effects.World.{world_after}
-use Rattle.crash_rules.specs.machine_effects.View.{IsWhole, IsOfWords}
-use Rattle.crash_rules.specs.machine_effects.Runs.{last_board}
-use Rattle.crash_rules.proofs.machine_effects.Interface.{power_up_keeps_words}
+use Rattle.msp_isa.specs.declared.instructions.Instr.{Instr}
+use Rattle.fram_board.specs.declared.board.Stepped.{Stepped}
+use Rattle.fram_board.specs.Board.{BoardValue, PowerState, powered, executed, IsNextInstruction}
+use Rattle.fram_board.specs.Steps.{IsPowerState}
+use Rattle.fram_board.specs.Effects.{Effect}
+use Rattle.fram_board.specs.Run.{Measure, price, Moment, moment_of, Charges, Stopped, RunOutcome, run_outcome, BoardCharge, ChargeRun, Spent}
+use Rattle.fram_board.specs.Run.{NoInstruction}
+use Rattle.fram_board.specs.Run.{TooDear, Refused, Executed, Run, Over, Next, Last}
+use Rattle.fram_board.proofs.Interface.{price_low}
+use Rattle.machine_effects.specs.World.{world_after}
+use Rattle.machine_effects.specs.View.{IsWhole, IsOfWords}
+use Rattle.machine_effects.specs.Runs.{last_board}
+use Rattle.machine_effects.proofs.Interface.{power_up_keeps_words}
+use Rattle.crash_rules.specs.Model.{Marks}
 use Rattle.crash_rules.specs.History.{History, is_done, is_decide, behind_boot, behind_done, behind_decide, behind_gate, observe}
 use Rattle.crash_rules.proofs.Interface.{observed_taken, with_effects}
-use Rattle.run_charges.specs.Charges.{behind_action, observed}
-use Rattle.run_charges.proofs.Interface.{IsMomentFrom, PowersUp, Instructs, AreMoments, front_moments, told, whole_after, words_after, one_write}
+use Rattle.run_charges.specs.View.{IsMomentFrom, PowersUp, Instructs, AreMoments}
+use Rattle.run_charges.specs.Charges.{behind_moment, observed}
+use Rattle.run_charges.proofs.Interface.{follows_keeps, front_moments, told, whole_after, words_after, one_write}
 use Rattle.run_charges.proofs.Interface.{readings_counted, readings_stay}
 use Rattle.model_runs.proofs.Events.{seen}
 use Rattle.run_charges.specs.Laws.{IsRunOfWords}
@@ -70,47 +72,48 @@ record Counts (b : BoardValue) (h : History) (t : BoardValue) (k : History) (n :
   pub taken : h.taken ≡ b.taken → k.taken ≡ t.taken
   pub readings : t.readings ≡ b.readings
 
-power_counts : (gate : ℕ) (b : BoardValue) (h : History) (p : PowerState) → IsWhole b → IsOfWords b → IsPowerState p
+power_counts : (marks : Marks) (b : BoardValue) (h : History) (p : PowerState) → IsWhole b → IsOfWords b → IsPowerState p
     → Counts b h (powered b p) (behind_boot h) 1
-power_counts gate b h p w q ok =
+power_counts marks b h p w q ok =
     let up = power_up_keeps_words b p w q ok in
     record { whole = up.0; words = up.1; dones = omega arith; since = λ l. omega arith; taken = λ e. e; readings = refl }
 
-instruction_counts : (gate : ℕ) (b : BoardValue) (h : History) (i : Instr) (done : Stepped) → IsWhole b → IsOfWords b → IsNextInstruction b i
+instruction_counts : (marks : Marks) (b : BoardValue) (h : History) (i : Instr) (done : Stepped) → IsWhole b → IsOfWords b → IsNextInstruction b i
     → (executed b i).answer ≡ Ok done
-    → Counts b h (executed b i).board (behind_action gate (moment_of b i done).action b (executed b i).board h) 1
-instruction_counts gate b h i done w q c a =
+    → Counts b h (executed b i).board (behind_moment marks (moment_of b i done) h) 1
+instruction_counts marks b h i done w q c a =
     let es : List Effect = told b w i done c a in
-    let all = seen gate es h (one_write b w i done c a) in
+    let all = seen marks es h (one_write b w i done c a) in
     let P : History → Type 0 = λ k. AddsOne (with_effects es h) k in
-    let one : AddsOne (with_effects es h) (observe gate es h) = subst P (sym all)
-    (event_adds (h.world.fram gate) ((world_after es h.world).fram gate) (with_effects es h)) in
+    let one : AddsOne (with_effects es h) (observe marks es h) = subst P (sym all)
+    (event_adds (h.world.fram marks.gate) ((world_after es h.world).fram marks.gate) (with_effects es h)) in
     record {
       whole = whole_after b w i done c a;
       words = words_after b w i done c a q;
       dones = one.dones;
       since = λ l. one.since (omega (arith, l));
-      taken = λ e. observed_taken gate es h ∙ readings_counted b w i done c a h e;
+      taken = λ e. observed_taken marks es h ∙ readings_counted b w i done c a h e;
       readings = readings_stay b w i done c a;
     }
 
-moment_counts : (gate : ℕ) (b : BoardValue) (h : History) (m : Moment) → IsWhole b → IsOfWords b → IsMomentFrom b m
-    → Counts b h m.after (behind_action gate m.action m.before m.after h) 1
-moment_counts gate b h m w q (PowersUp p ok e) =
-    let P : Moment → Type 0 = λ y. Counts b h y.after (behind_action gate y.action y.before y.after h) 1 in
-    subst P (sym e) (power_counts gate b h p w q ok)
-moment_counts gate b h m w q (Instructs i done c a e) =
-    let P : Moment → Type 0 = λ y. Counts b h y.after (behind_action gate y.action y.before y.after h) 1 in
-    subst P (sym e) (instruction_counts gate b h i done w q c a)
+moment_counts : (marks : Marks) (b : BoardValue) (h : History) (m : Moment) → IsWhole b → IsOfWords b → IsMomentFrom b m
+    → Counts b h m.after (behind_moment marks m h) 1
+moment_counts marks b h m w q (PowersUp p ok e) =
+    let P : Moment → Type 0 = λ y. Counts b h y.after (behind_moment marks y h) 1 in
+    subst P (sym e) (power_counts marks b h p w q ok)
+moment_counts marks b h m w q (Instructs i done c a e) =
+    let P : Moment → Type 0 = λ y. Counts b h y.after (behind_moment marks y h) 1 in
+    subst P (sym e) (instruction_counts marks b h i done w q c a)
 
-moments_count : (gate : ℕ) (b : BoardValue) (h : History) (ms : List Moment) → IsWhole b → IsOfWords b → AreMoments b ms
-    → Counts b h (last_board b ms) (observed gate ms h) (length ms)
-moments_count gate b h [] w q all =
+moments_count : (marks : Marks) (b : BoardValue) (h : History) (ms : List Moment) → IsWhole b → IsOfWords b → AreMoments b ms
+    → Counts b h (last_board b ms) (observed marks ms h) (length ms)
+moments_count marks b h [] w q all =
     record { whole = w; words = q; dones = omega arith; since = λ l. l; taken = λ e. e; readings = refl }
-moments_count gate b h (m ∷ ms) w q all =
-    let k = behind_action gate m.action m.before m.after h in
-    let one = moment_counts gate b h m w q all.0 in
-    let more = moments_count gate m.after k ms one.whole one.words all.1 in
+moments_count marks b h (m ∷ ms) w q all =
+    let k = behind_moment marks m h in
+    let keeps = follows_keeps b m.before all.0 in
+    let one = moment_counts marks m.before h m (keeps.whole w) (keeps.words q) all.1 in
+    let more = moments_count marks m.after k ms one.whole one.words all.2 in
     let x = one.dones in
     let y = more.dones in
     record {
@@ -118,19 +121,19 @@ moments_count gate b h (m ∷ ms) w q all =
       words = more.words;
       dones = omega (arith, x, y);
       since = λ l. more.since (one.since l);
-      taken = λ e. more.taken (one.taken e);
-      readings = more.readings ∙ one.readings;
+      taken = λ e. more.taken (one.taken (e ∙ sym keeps.taken));
+      readings = more.readings ∙ one.readings ∙ keeps.readings;
     }
 
-run_counts : (cs : List BoardCharge) (b : BoardValue) (r : RunOutcome) → IsRunOfWords cs b r → (gate : ℕ) (h : History)
-    → Counts b h (last_board b r.moments) (observed gate r.moments h) (length r.moments)
-run_counts cs b r run gate h = moments_count gate b h r.moments run.whole run.words
+run_counts : (cs : List BoardCharge) (b : BoardValue) (r : RunOutcome) → IsRunOfWords cs b r → (marks : Marks) (h : History)
+    → Counts b h (last_board b r.moments) (observed marks r.moments h) (length r.moments)
+run_counts cs b r run marks h = moments_count marks b h r.moments run.whole run.words
     (front_moments cs b r r.moments [] run.starts run.run (sym (append-nil r.moments)))
 
 -- a run has no more dones than its charges have cycles or instructions
 pub dones_are_few : DonesAreFew
-dones_are_few cs b r run gate h =
-    let few = (run_counts cs b r run gate h).dones in
+dones_are_few cs b r run marks h =
+    let few = (run_counts cs b r run marks h).dones in
     let short = run_short cs b r run.run in
     omega (arith, few, short)
 
@@ -139,9 +142,9 @@ within s t n k a b e = omega arith
 
 -- no more readings are taken than there are
 pub takes_what_is_there : TakesWhatIsThere
-takes_what_is_there cs b r run gate h at since =
-    let all = run_counts cs b r run gate h in
+takes_what_is_there cs b r run marks h at since =
+    let all = run_counts cs b r run marks h in
     let t : BoardValue = last_board b r.moments in
-    let k : History = observed gate r.moments h in
+    let k : History = observed marks r.moments h in
     let here : k.since ≤ t.taken = subst (λ n. k.since ≤ n) (all.taken at) (all.since since) in
     within k.since t.taken (length t.readings) (length b.readings) here all.whole.board.taken (ap length all.readings)

@@ -6,24 +6,24 @@ use Rattle.std.proofs.lemmas.List.{take_all, take-append-le, length-take-le}
 use Rattle.std.proofs.lemmas.Bool.{cases_lt}
 use Rattle.std.proofs.lemmas.Bool.Decides.{nat_tests}
 use Rattle.std.specs.Prelude.{flat_map}
-use Rattle.board_run.specs.alp_io.Count.{risen}
-use Rattle.board_run.specs.alp_io.Report.{accepted_line, step_line}
-use Rattle.crash_rules.specs.image_map.MapValue.{MapValue}
-use Rattle.crash_rules.specs.image_map.Kept.{IsMap}
-use Rattle.crash_rules.specs.fram_board.Board.{BoardValue}
-use Rattle.crash_rules.specs.fram_board.Effects.{Effect, Send}
-use Rattle.crash_rules.specs.fram_board.Run.{word_list}
+use Rattle.alp_io.specs.Count.{risen}
+use Rattle.alp_io.specs.Report.{accepted_line, step_line}
+use Rattle.image_map.specs.MapValue.{MapValue}
+use Rattle.image_map.specs.Kept.{IsMap}
+use Rattle.fram_board.specs.Board.{BoardValue}
+use Rattle.fram_board.specs.Effects.{Effect, Outside}
+use Rattle.fram_board.specs.Run.{word_list}
 use Rattle.board_run.specs.History.{shared_numbers, word_in, values_in, task_name, more_lines, changed_lines, transition_lines, with_word, with_words}
 use Rattle.board_run.specs.History.{completed}
 use Rattle.board_run.specs.History.{decided}
 use Rattle.board_run.specs.History as board
-use Rattle.crash_rules.specs.machine_effects.World.{World, world_after, readings_taken, EachStore}
-use Rattle.crash_rules.proofs.machine_effects.Interface.{takes, world_after-append}
-use Rattle.crash_rules.specs.Model.{IsElsewhere}
+use Rattle.machine_effects.specs.World.{World, world_after, readings_taken, EachStore}
+use Rattle.machine_effects.proofs.Interface.{takes, world_after-append}
+use Rattle.crash_rules.specs.Model.{IsElsewhere, Marks}
 use Rattle.crash_rules.specs.History.{Done, History, is_done, is_decide, behind_decide, behind_done, behind_gate, observe}
 use Rattle.crash_rules.proofs.Interface.{observe-append, with_effects, observe_quiet, unchanged}
 use Rattle.model_runs.specs.Events.{TellsOf, last_world, counted, world_values, words_between, SaysAlike, word_lines, change_lines, done_lines, dones_lines}
-use Rattle.run_charges.proofs.Interface.{AtMostOne, NoWrite, AStore, ASend, OneWrite}
+use Rattle.run_charges.proofs.Interface.{AtMostOne, NoWrite, AStore, AnOutside, OneWrite}
 use Rattle.model_runs.proofs.Places.{world_word, shared_in, values_same, changes_same}
 
 takes_store : (P : ℕ → ℕ → Type 0) (ws : List ℕ) → EachStore P (takes ws)
@@ -35,20 +35,21 @@ takes_world [] x = refl
 takes_world (w ∷ ws) x = takes_world ws x
 
 -- effects behind which there is one event at most, by GATE before and behind all of them
-abbrev IsSeen : ℕ → List Effect → History → Type 0
-IsSeen gate es k = observe gate es k ≡ behind_gate (k.world.fram gate) ((world_after es k.world).fram gate) (with_effects es k)
+abbrev IsSeen : Marks → List Effect → History → Type 0
+IsSeen marks es k = observe marks es k ≡ behind_gate (k.world.fram marks.gate) ((world_after es k.world).fram marks.gate) (with_effects es k)
 
-seen_quiet : (gate : ℕ) (es : List Effect) (k : History) → EachStore (IsElsewhere gate) es
-    → (world_after es k.world).fram ≡ k.world.fram → IsSeen gate es k
-seen_quiet gate es k off same =
-    observe_quiet gate es k off
-    ∙ sym (unchanged (k.world.fram gate) (with_effects es k))
-    ∙ ap (λ n. behind_gate (k.world.fram gate) n (with_effects es k)) (ap (λ f. f gate) (sym same))
+seen_quiet : (marks : Marks) (es : List Effect) (k : History) → EachStore (IsElsewhere marks.gate) es
+    → (world_after es k.world).fram ≡ k.world.fram → IsSeen marks es k
+seen_quiet marks es k off same =
+    observe_quiet marks es k off
+    ∙ sym (unchanged (k.world.fram marks.gate) (with_effects es k))
+    ∙ ap (λ n. behind_gate (k.world.fram marks.gate) n (with_effects es k)) (ap (λ f. f marks.gate) (sym same))
 
-seen_one : (gate : ℕ) (es : List Effect) (k : History) → AtMostOne es → IsSeen gate es k
-seen_one gate es k (NoWrite e) = let P : List Effect → Type 0 = λ l. IsSeen gate l k in subst P (sym e) (seen_quiet gate [] k tt refl)
-seen_one gate es k (AStore a w e) = let P : List Effect → Type 0 = λ l. IsSeen gate l k in subst P (sym e) refl
-seen_one gate es k (ASend n w e) = let P : List Effect → Type 0 = λ l. IsSeen gate l k in subst P (sym e) (seen_quiet gate (Send n w ∷ []) k (tt, tt) refl)
+seen_one : (marks : Marks) (es : List Effect) (k : History) → AtMostOne es → IsSeen marks es k
+seen_one marks es k (NoWrite e) = let P : List Effect → Type 0 = λ l. IsSeen marks l k in subst P (sym e) (seen_quiet marks [] k tt refl)
+seen_one marks es k (AStore a w e) = let P : List Effect → Type 0 = λ l. IsSeen marks l k in subst P (sym e) refl
+seen_one marks es k (AnOutside o e) =
+    let P : List Effect → Type 0 = λ l. IsSeen marks l k in subst P (sym e) (seen_quiet marks (Outside o ∷ []) k (tt, tt) refl)
 
 count_both : (ws : List ℕ) (es : List Effect) (n : ℕ)
     → (n + length (readings_taken (takes ws))) + length (readings_taken es) ≡ n + length (readings_taken (takes ws ++ es))
@@ -66,20 +67,20 @@ with_both ws es k =
     (append_assoc k.effects (takes ws) es)
 
 -- what is seen of an instruction, by GATE before and behind it
-pub seen : (gate : ℕ) (es : List Effect) (k : History) → OneWrite es
-    → observe gate es k ≡ behind_gate (k.world.fram gate) ((world_after es k.world).fram gate) (with_effects es k)
-seen gate es k h =
+pub seen : (marks : Marks) (es : List Effect) (k : History) → OneWrite es
+    → observe marks es k ≡ behind_gate (k.world.fram marks.gate) ((world_after es k.world).fram marks.gate) (with_effects es k)
+seen marks es k h =
     let j = with_effects (takes h.words) k in
-    let P : List Effect → Type 0 = λ l. IsSeen gate l k in
-    let before : ℕ = j.world.fram gate in
-    let now : ℕ = (world_after h.write j.world).fram gate in
-    let all : IsSeen gate (takes h.words ++ h.write) k =
-    observe-append gate (takes h.words) h.write k
-    ∙ ap (observe gate h.write) (observe_quiet gate (takes h.words) k (takes_store (IsElsewhere gate) h.words))
-    ∙ seen_one gate h.write j h.one
+    let P : List Effect → Type 0 = λ l. IsSeen marks l k in
+    let before : ℕ = j.world.fram marks.gate in
+    let now : ℕ = (world_after h.write j.world).fram marks.gate in
+    let all : IsSeen marks (takes h.words ++ h.write) k =
+    observe-append marks (takes h.words) h.write k
+    ∙ ap (observe marks h.write) (observe_quiet marks (takes h.words) k (takes_store (IsElsewhere marks.gate) h.words))
+    ∙ seen_one marks h.write j h.one
     ∙ ap (behind_gate before now) (with_both h.words h.write k)
-    ∙ ap (λ y. behind_gate (y.fram gate) now (with_effects (takes h.words ++ h.write) k)) (takes_world h.words k.world)
-    ∙ ap (λ y. behind_gate (k.world.fram gate) (y.fram gate) (with_effects (takes h.words ++ h.write) k))
+    ∙ ap (λ y. behind_gate (y.fram marks.gate) now (with_effects (takes h.words ++ h.write) k)) (takes_world h.words k.world)
+    ∙ ap (λ y. behind_gate (k.world.fram marks.gate) (y.fram marks.gate) (with_effects (takes h.words ++ h.write) k))
     (sym (world_after-append (takes h.words) h.write k.world)) in
     subst P (sym h.split) all
 
@@ -191,7 +192,7 @@ module _ (m : MapValue) (x : World) (ok : IsMap m) (h : board.History) (k : Hist
   there = last-append x k.completed (done ∷ [])
 
   task_now : word_in b.fram m.words.current_task ≡ k.world.fram m.words.current_task
-  task_now = world_word b.fram k.world m.words.current_task t.fram ok.words.current_task
+  task_now = world_word b k.world m.words.current_task t.fram ok.words.current_task
 
   done_alike : SaysAlike m x (record (completed m h b) { gate = now }) (behind_done k)
   done_alike =
@@ -200,7 +201,7 @@ module _ (m : MapValue) (x : World) (ok : IsMap m) (h : board.History) (k : Hist
         mapped = a.mapped;
         completed = ap risen a.completed ∙ ap counted more;
         task = task_now ∙ ap (λ y. y.fram m.words.current_task) (sym there);
-        shared = values_same b.fram k.world (shared_numbers m.variables) t.fram (shared_in m.variables ok.variables)
+        shared = values_same b k.world (shared_numbers m.variables) t.fram (shared_in m.variables ok.variables)
             ∙ ap (λ y. world_values y (shared_numbers m.variables)) (sym there);
         words = [];
         words_are = ap (λ y. y.accepted) (sym there) ∙ sym (append-nil (last_world x (k.completed ++ done ∷ [])).accepted);
@@ -266,7 +267,7 @@ module _ (m : MapValue) (x : World) (ok : IsMap m) (h : board.History) (k : Hist
   change_same : changed_lines (shared_numbers m.variables) h.shared b.fram ≡ change_lines (shared_numbers m.variables) last k.world
   change_same =
       ap (λ l. changed_lines (shared_numbers m.variables) l b.fram) a.shared
-      ∙ changes_same b.fram last k.world (shared_numbers m.variables) t.fram (shared_in m.variables ok.variables)
+      ∙ changes_same b last k.world (shared_numbers m.variables) t.fram (shared_in m.variables ok.variables)
 
   other_lines : flat_map accepted_line h.accepted ++ (more_lines h.more ++ changed_lines (shared_numbers m.variables) h.shared b.fram)
       ≡ word_lines (words_between last k.world) ++ change_lines (shared_numbers m.variables) last k.world

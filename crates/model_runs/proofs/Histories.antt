@@ -1,30 +1,31 @@
 -- The two histories over the moments of a run.
 use Rattle.std.proofs.Common.{◌≡◌, ℕ, suc, ◌+◌, ◌%◌, refl, sym, ap, ap₂, ◌∙◌, subst, arith, List, [], ◌∷◌, ◌++◌, length, append_assoc, length-append}
 use Rattle.std.proofs.Common.{append-nil, Some, Ok}
-use Rattle.crash_rules.specs.msp_isa.declared.instructions.Instr.{Instr}
-use Rattle.crash_rules.specs.image_map.MapValue.{MapValue}
-use Rattle.crash_rules.specs.image_map.Kept.{IsMap}
-use Rattle.crash_rules.specs.fram_board.declared.board.Stepped.{Stepped}
-use Rattle.crash_rules.specs.fram_board.Board.{BoardValue, PowerState, powered, executed, IsNextInstruction}
-use Rattle.crash_rules.specs.fram_board.Saved.{TakesNextBehind}
-use Rattle.crash_rules.specs.fram_board.Steps.{IsPowerState}
-use Rattle.crash_rules.specs.fram_board.Effects.{Effect}
-use Rattle.crash_rules.specs.fram_board.Run.{PowerUp, Execute, Moment, moment_of, power_up_of, word_list}
+use Rattle.msp_isa.specs.declared.instructions.Instr.{Instr}
+use Rattle.image_map.specs.MapValue.{MapValue}
+use Rattle.image_map.specs.Kept.{IsMap}
+use Rattle.fram_board.specs.declared.board.Stepped.{Stepped}
+use Rattle.fram_board.specs.Board.{BoardValue, next_number, PowerState, powered, executed, IsNextInstruction}
+use Rattle.fram_board.specs.Saved.{TakesNextBehind}
+use Rattle.fram_board.specs.Steps.{IsPowerState}
+use Rattle.fram_board.specs.Effects.{Effect}
+use Rattle.fram_board.specs.Run.{Moment, moment_of, power_up_of, word_list}
 use Rattle.board_run.specs.History.{moment_lines, noted, word_in, with_words, behind_power_up, behind_instruction, instruction_lines, start_with}
 use Rattle.board_run.specs.History.{shared_numbers}
 use Rattle.board_run.specs.History as board
 use Rattle.board_run.specs.Report.{lines_from, after_all}
-use Rattle.crash_rules.specs.machine_effects.World.{World, fram_after, world_after}
-use Rattle.crash_rules.specs.machine_effects.Machine.{fram_of}
-use Rattle.crash_rules.specs.machine_effects.View.{IsWhole, IsOfWords}
-use Rattle.crash_rules.specs.machine_effects.Runs.{action_effects, last_board}
-use Rattle.crash_rules.proofs.machine_effects.Interface.{world_by_its_parts, power_up_keeps_words}
+use Rattle.machine_effects.specs.World.{World, fram_after, world_after}
+use Rattle.machine_effects.specs.View.{IsWhole, IsOfWords}
+use Rattle.machine_effects.specs.Runs.{last_board}
+use Rattle.machine_effects.proofs.Interface.{world_by_its_parts, power_up_keeps_words}
+use Rattle.crash_rules.specs.Model.{Marks}
 use Rattle.crash_rules.specs.History.{Done, History, behind_boot, behind_gate, first_history, observe}
 use Rattle.crash_rules.proofs.Interface.{with_effects, observed_world, observed_taken}
-use Rattle.run_charges.specs.Charges.{behind_action, observed}
-use Rattle.model_runs.specs.Events.{TellsOf, last_world, counted, SaysAlike, SaysTheSame, done_lines, dones_lines}
+use Rattle.run_charges.specs.View.{outside_of, outside_effects, Follows, IsMomentFrom, PowersUp, Instructs, AreMoments}
+use Rattle.run_charges.specs.Charges.{behind_moment, observed}
+use Rattle.model_runs.specs.Events.{marks_of, TellsOf, last_world, counted, SaysAlike, SaysTheSame, done_lines, dones_lines}
 use Rattle.model_runs.specs.EventLaws.{HistoriesStayTheSame, FirstHistoriesAreTheSame}
-use Rattle.run_charges.proofs.Interface.{IsMomentFrom, PowersUp, Instructs, AreMoments, front_moments, whole_after, words_after, fram_changed, one_write}
+use Rattle.run_charges.proofs.Interface.{follows_keeps, front_moments, whole_after, words_after, fram_changed, one_write}
 use Rattle.run_charges.proofs.Interface.{words_accepted, words_counted, readings_counted}
 use Rattle.model_runs.proofs.Places.{world_word, shared_in, values_same}
 use Rattle.model_runs.proofs.Events.{seen, last-append, words_keep_gate, gated_from, gate_lines, Told, event_alike, event_told, words_told}
@@ -36,6 +37,21 @@ pub record Together (m : MapValue) (x : World) (b : BoardValue) (h : board.Histo
   pub same : SaysTheSame m x h k
   pub tells : TellsOf b k
 
+-- and as the next moment begins
+pub together_on : (m : MapValue) (x : World) (b c : BoardValue) (h : board.History) (k : History) → Follows b c → Together m x b h k → Together m x c h k
+together_on m x b c h k follows t =
+    let keeps = follows_keeps b c follows in
+    record {
+      whole = keeps.whole t.whole;
+      words = keeps.words t.words;
+      same = t.same;
+      tells = record {
+        fram = t.tells.fram ∙ ap (λ s. s.fram) (sym keeps.outside);
+        accepted = t.tells.accepted ∙ sym keeps.number;
+        taken = t.tells.taken ∙ sym keeps.taken;
+      };
+    }
+
 -- what moments lead to, with the lines of the dones among them
 pub record Leads (m : MapValue) (x : World) (b : BoardValue) (h : board.History) (k j : History) (lines : List ℕ) : Type 0 where
   pub together : Together m x b h j
@@ -44,6 +60,9 @@ pub record Leads (m : MapValue) (x : World) (b : BoardValue) (h : board.History)
 module _ (m : MapValue) (x : World) (ok : IsMap m) where
   abbrev gate : ℕ
   gate = m.words.gate
+
+  abbrev marks : Marks
+  marks = marks_of m
 
   -- a power-up
   module _ (b : BoardValue) (h : board.History) (k : History) (t : Together m x b h k) (p : PowerState) (start : IsPowerState p) where
@@ -78,7 +97,7 @@ module _ (m : MapValue) (x : World) (ok : IsMap m) where
     unfolding moment_lines
     no_lines = refl
 
-    boot_leads : Leads m x (powered b p) (noted h (power_up_of b p)) k (behind_action gate PowerUp b (powered b p) k) (moment_lines h (power_up_of b p))
+    boot_leads : Leads m x (powered b p) (noted h (power_up_of b p)) k (behind_boot k) (moment_lines h (power_up_of b p))
     boot_leads =
         let up = power_up_keeps_words b p t.whole t.words start in
         let P : board.History → Type 0 = λ y. SaysTheSame m x y (behind_boot k) in
@@ -101,7 +120,7 @@ module _ (m : MapValue) (x : World) (ok : IsMap m) where
     after = (executed b i).board
 
     abbrev es : List Effect
-    es = action_effects (Execute done (executed b i).offered) b after
+    es = outside_effects (moment_of b i done)
 
     abbrev ws : List ℕ
     ws = word_list done.accepted
@@ -118,7 +137,7 @@ module _ (m : MapValue) (x : World) (ok : IsMap m) where
     abbrev now : ℕ
     now = word_in after.fram gate
 
-    fram_now : (world_after es k.world).fram ≡ fram_of after.fram
+    fram_now : (world_after es k.world).fram ≡ (outside_of after).fram
     fram_now =
         ap (λ y. y.fram) (world_by_its_parts es k.world)
         ∙ ap (fram_after es) t.tells.fram
@@ -138,14 +157,14 @@ module _ (m : MapValue) (x : World) (ok : IsMap m) where
     moved_tells = record { fram = fram_now; accepted = count_now; taken = taken_now }
 
     gate_now : now ≡ (world_after es k.world).fram gate
-    gate_now = world_word after.fram (world_after es k.world) gate fram_now ok.words.gate
+    gate_now = world_word after (world_after es k.world) gate fram_now ok.words.gate
 
     alike_moved : SaysAlike m x spoken moved
     alike_moved = words_told m x h k es done.accepted t.same.alike accepted_now
 
     -- what is observed of this instruction
-    pub observed_so : observe gate es k ≡ behind_gate before now moved
-    observed_so = seen gate es k (one_write b t.whole i done current answer) ∙ ap (λ n. behind_gate before n moved) (sym gate_now)
+    pub observed_so : observe marks es k ≡ behind_gate before now moved
+    observed_so = seen marks es k (one_write b t.whole i done current answer) ∙ ap (λ n. behind_gate before n moved) (sym gate_now)
 
     gate_before : spoken.gate ≡ before
     gate_before = words_keep_gate h done.accepted ∙ t.same.gate
@@ -162,37 +181,37 @@ module _ (m : MapValue) (x : World) (ok : IsMap m) where
         ap (λ o. instruction_lines o h ws after) t.same.alike.mapped
         ∙ ap (λ n. gate_lines m spoken after n now) t.same.gate
 
-    behind_same : SaysTheSame m x (gated_from m spoken after before now) (observe gate es k)
+    behind_same : SaysTheSame m x (gated_from m spoken after before now) (observe marks es k)
     behind_same =
         let P : History → Type 0 = λ y. SaysAlike m x (gated_from m spoken after before now) y in
-        let world = observed_world gate es k in
+        let world = observed_world marks es k in
         record {
           alike = subst P (sym observed_so) (event_alike m x ok spoken moved after alike_moved moved_tells now before);
           gate = gate_now ∙ ap (λ y. y.fram gate) (sym world);
         }
 
-    behind_tells : TellsOf after (observe gate es k)
+    behind_tells : TellsOf after (observe marks es k)
     behind_tells =
-        let world = observed_world gate es k in
+        let world = observed_world marks es k in
         record {
           fram = ap (λ y. y.fram) world ∙ fram_now;
           accepted = ap (λ y. length y.accepted % 0x10000) world ∙ count_now;
-          taken = observed_taken gate es k ∙ taken_now;
+          taken = observed_taken marks es k ∙ taken_now;
         }
 
-    behind_told : Told m x k (observe gate es k) (moment_lines h (moment_of b i done))
+    behind_told : Told m x k (observe marks es k) (moment_lines h (moment_of b i done))
     behind_told =
         let P : History → Type 0 = λ y. Told m x k y (gate_lines m spoken after before now) in
-        let Q : List ℕ → Type 0 = λ l. Told m x k (observe gate es k) l in
+        let Q : List ℕ → Type 0 = λ l. Told m x k (observe marks es k) l in
         let event : Told m x moved (behind_gate before now moved) (gate_lines m spoken after before now) =
         event_told m x ok spoken moved after alike_moved moved_tells now before in
         let same : Told m x k (behind_gate before now moved) (gate_lines m spoken after before now) =
         record { dones = event.dones; completed = event.completed; told = event.told } in
         subst Q (sym lines_so) (subst P (sym observed_so) same)
 
-    instruction_leads : Leads m x after (noted h (moment_of b i done)) k (observe gate es k) (moment_lines h (moment_of b i done))
+    instruction_leads : Leads m x after (noted h (moment_of b i done)) k (observe marks es k) (moment_lines h (moment_of b i done))
     instruction_leads =
-        let P : board.History → Type 0 = λ y. SaysTheSame m x y (observe gate es k) in
+        let P : board.History → Type 0 = λ y. SaysTheSame m x y (observe marks es k) in
         record {
           together = record {
             whole = whole_after b t.whole i done current answer;
@@ -205,7 +224,7 @@ module _ (m : MapValue) (x : World) (ok : IsMap m) where
 
   -- one moment
   abbrev MomentLeads : BoardValue → board.History → History → Moment → Type 0
-  MomentLeads b h k o = Leads m x o.after (noted h o) k (behind_action gate o.action o.before o.after k) (moment_lines h o)
+  MomentLeads b h k o = Leads m x o.after (noted h o) k (behind_moment marks o k) (moment_lines h o)
 
   -- a moment leads both histories on
   pub moment_leads : (b : BoardValue) (h : board.History) (k : History) → Together m x b h k → (o : Moment) → IsMomentFrom b o → MomentLeads b h k o
@@ -240,13 +259,13 @@ module _ (m : MapValue) (x : World) (ok : IsMap m) where
 
   -- all moments
   pub moments_lead : (b : BoardValue) (h : board.History) (k : History) (ms : List Moment) → Together m x b h k → AreMoments b ms
-      → Leads m x (last_board b ms) (after_all h ms) k (observed gate ms k) (lines_from h ms)
+      → Leads m x (last_board b ms) (after_all h ms) k (observed marks ms k) (lines_from h ms)
   moments_lead b h k [] t are = record { together = t; told = record { dones = []; completed = sym (append-nil k.completed); told = refl } }
   moments_lead b h k (o ∷ ms) t are =
-      let one = moment_leads b h k t o are.0 in
-      let j = behind_action gate o.action o.before o.after k in
-      let rest = moments_lead o.after (noted h o) j ms one.together are.1 in
-      record { together = rest.together; told = told_join k j (observed gate ms j) (moment_lines h o) (lines_from (noted h o) ms) one.told rest.told }
+      let one = moment_leads o.before h k (together_on m x b o.before h k are.0 t) o are.1 in
+      let j = behind_moment marks o k in
+      let rest = moments_lead o.after (noted h o) j ms one.together are.2 in
+      record { together = rest.together; told = told_join k j (observed marks ms j) (moment_lines h o) (lines_from (noted h o) ms) one.told rest.told }
 
 pub histories_stay_the_same : HistoriesStayTheSame
 histories_stay_the_same cs b r ms rest run e m x h k ok same tells =
@@ -257,12 +276,12 @@ histories_stay_the_same cs b r ms rest run e m x h k ok same tells =
 -- the two histories begin the same
 pub first_histories_are_the_same : FirstHistoriesAreTheSame
 first_histories_are_the_same b m x ok s =
-    let alike : SaysAlike m x (start_with b.fram (Some m)) (first_history m.words.gate x) =
+    let alike : SaysAlike m x (start_with b.fram (Some m)) (first_history (marks_of m) x) =
     record {
       mapped = refl;
       completed = refl;
-      task = world_word b.fram x m.words.current_task s.fram ok.words.current_task;
-      shared = values_same b.fram x (shared_numbers m.variables) s.fram (shared_in m.variables ok.variables);
+      task = world_word b x m.words.current_task s.fram ok.words.current_task;
+      shared = values_same b x (shared_numbers m.variables) s.fram (shared_in m.variables ok.variables);
       words = [];
       words_are = sym (append-nil x.accepted);
       accepted = refl;
@@ -271,6 +290,6 @@ first_histories_are_the_same b m x ok s =
       span_from = refl;
       span_to = refl;
     } in (
-      record { alike = alike; gate = world_word b.fram x m.words.gate s.fram ok.words.gate },
+      record { alike = alike; gate = world_word b x m.words.gate s.fram ok.words.gate },
       record { fram = s.fram; accepted = s.accepted; taken = sym s.taken },
     )

@@ -1,7 +1,7 @@
 -- What the proofs of other crates cite.
 
 -- Fronts of a run whose code is a program of a model.
-pub use Rattle.model_runs.proofs.Fronts.{AtFront, at_front, is_powered, program_leads, fronts_are_lawful}
+pub use Rattle.model_runs.proofs.Fronts.{stood, AtFront, at_front, powers_up, fronts_are_lawful}
 -- The world at the last boot or done is the world of a front.
 pub use Rattle.model_runs.proofs.Starts.{starts_hold}
 -- A run that stops stops where the source is short.
@@ -15,6 +15,6 @@ pub use Rattle.model_runs.proofs.Spans.{spans_are_in_order, spans_past_are_in_or
 -- What a word of FRAM holds at most, by what is stored there.
 pub use Rattle.model_runs.proofs.Words.{words_stay_within}
 -- The two histories over the moments of a run.
-pub use Rattle.model_runs.proofs.Histories.{Together, observed_so, moment_leads, moments_lead, first_histories_are_the_same}
+pub use Rattle.model_runs.proofs.Histories.{Together, together_on, observed_so, moment_leads, moments_lead, first_histories_are_the_same}
 -- The report of a run, by its dones.
 pub use Rattle.model_runs.proofs.Reports.{report_is_of_dones, few_words_have_lines}

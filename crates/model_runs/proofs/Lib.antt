@@ -1,6 +1,5 @@
 mod Fronts
 mod Ends
-mod Steps
 mod Progress
 mod Counts
 mod Spans

@@ -1,15 +1,16 @@
--- The words of a map in the lists of the board's FRAM and in the FRAM of a world.
+-- The words of a map in the list of a board's FRAM and in the FRAM of a world.
 use Rattle.std.proofs.Common.{◌≡◌, ℕ, zero, suc, ◌+◌, ◌*◌, ◌%◌, ◌<◌, ◌≤◌, ◌==◌, ◌&&◌, nat_lt, nat_le, refl, sym, ap, ap₂, ◌∙◌, arith, Bool, true, false}
 use Rattle.std.proofs.Common.{if◌then◌else◌, All, List, [], ◌∷◌, ◌++◌, slice_index, Option, Some, None}
 use Rattle.std.proofs.lemmas.Bool.Decides.{nat_tests}
 use Rattle.std.proofs.lemmas.Bool.{and_parts}
-use Rattle.crash_rules.specs.image_map.declared.parts.ValueType.{ValueType}
-use Rattle.crash_rules.specs.image_map.declared.parts.Variable.{Variable}
-use Rattle.crash_rules.specs.image_map.MapValue.{IsFramWord, IsVariable, fits, word_count}
-use Rattle.crash_rules.specs.image_text.ImageValue.{place_of}
-use Rattle.crash_rules.specs.fram_board.Bus.{is_fram}
-use Rattle.crash_rules.specs.machine_effects.World.{World}
-use Rattle.crash_rules.specs.machine_effects.Machine.{fram_of}
+use Rattle.image_map.specs.declared.parts.ValueType.{ValueType}
+use Rattle.image_map.specs.declared.parts.Variable.{Variable}
+use Rattle.image_map.specs.MapValue.{IsFramWord, IsVariable, fits, word_count}
+use Rattle.image_text.specs.ImageValue.{place_of}
+use Rattle.fram_board.specs.Bus.{is_fram}
+use Rattle.fram_board.specs.Board.{BoardValue}
+use Rattle.machine_effects.specs.World.{World}
+use Rattle.run_charges.specs.View.{outside_of}
 use Rattle.board_run.proofs.Interface.{high_fits}
 use Rattle.board_run.specs.History.{SharedNumber, array_words, variable_numbers, shared_numbers, word_in, number_at, number_of, values_in, changed_line}
 use Rattle.board_run.specs.History.{changed_lines}
@@ -19,22 +20,23 @@ use Rattle.model_runs.specs.Events.{world_values, change_lines}
 is_there : (a : ℕ) → 17408 ≤ a → a < 65536 → a % 2 ≡ 0 → ((a % 2 == 0) && is_fram a) ≡ true
 is_there a l h e = grind (arith, nat_tests)
 
--- a word of FRAM by its address
-pub fram_word : (fram : List ℕ) (a : ℕ) → IsFramWord a → fram_of fram a ≡ word_in fram a
-fram_word fram a h = ap (λ b. if b then slice_index fram (place_of a) else 0) (is_there a h.low h.high h.even)
+-- a word of FRAM by its address, as a program sees it
+fram_word : (b : BoardValue) (a : ℕ) → IsFramWord a → (outside_of b).fram a ≡ word_in b.fram a
+fram_word b a h = ap (λ t. if t then slice_index b.fram (place_of a) else 0) (is_there a h.low h.high h.even)
 
 -- the same in a world that has this FRAM
-pub world_word : (fram : List ℕ) (x : World) (a : ℕ) → x.fram ≡ fram_of fram → IsFramWord a → word_in fram a ≡ x.fram a
-world_word fram x a e h = sym (fram_word fram a h) ∙ ap (λ f. f a) (sym e)
+pub world_word : (b : BoardValue) (x : World) (a : ℕ) → x.fram ≡ (outside_of b).fram → IsFramWord a → word_in b.fram a ≡ x.fram a
+world_word b x a e h = sym (fram_word b a h) ∙ ap (λ f. f a) (sym e)
 
 -- and a shared number
-same_number : (fram : List ℕ) (x : World) (a : ℕ) (long : Bool) → x.fram ≡ fram_of fram → IsFramWord a → (long ≡ true → IsFramWord (a + 2))
-    → number_at (word_in fram) a long ≡ number_at x.fram a long
-same_number fram x a false e low high = world_word fram x a e low
-same_number fram x a true e low high = ap₂ (λ l h. l + 65536 * h) (world_word fram x a e low) (world_word fram x (a + 2) e (high refl))
+same_number : (b : BoardValue) (x : World) (a : ℕ) (long : Bool) → x.fram ≡ (outside_of b).fram → IsFramWord a → (long ≡ true → IsFramWord (a + 2))
+    → number_at (word_in b.fram) a long ≡ number_at x.fram a long
+same_number b x a false e low high = world_word b x a e low
+same_number b x a true e low high = ap₂ (λ l h. l + 65536 * h) (world_word b x a e low) (world_word b x (a + 2) e (high refl))
 
-world_number : (fram : List ℕ) (x : World) (p : SharedNumber) → x.fram ≡ fram_of fram → StandsInFram p → number_of (word_in fram) p ≡ number_of x.fram p
-world_number fram x p e h = same_number fram x p.address p.is_long e h.0 h.1
+world_number : (b : BoardValue) (x : World) (p : SharedNumber) → x.fram ≡ (outside_of b).fram → StandsInFram p
+    → number_of (word_in b.fram) p ≡ number_of x.fram p
+world_number b x p e h = same_number b x p.address p.is_long e h.0 h.1
 
 -- shared numbers stand in FRAM
 abbrev pub AreInFram : List SharedNumber → Type 0
@@ -65,12 +67,13 @@ shared_in (v ∷ vs) all =
     (variable_in v.name v.address v.value_type v.length here.address here.fits)
     (shared_in vs (λ i d l. all (suc i) d (omega arith)))
 
-pub values_same : (fram : List ℕ) (x : World) (ps : List SharedNumber) → x.fram ≡ fram_of fram → AreInFram ps → values_in fram ps ≡ world_values x ps
-values_same fram x [] e h = refl
-values_same fram x (p ∷ ps) e h = ap₂ (λ w ws. w ∷ ws) (world_number fram x p e h.0) (values_same fram x ps e h.1)
+pub values_same : (b : BoardValue) (x : World) (ps : List SharedNumber) → x.fram ≡ (outside_of b).fram → AreInFram ps
+    → values_in b.fram ps ≡ world_values x ps
+values_same b x [] e h = refl
+values_same b x (p ∷ ps) e h = ap₂ (λ w ws. w ∷ ws) (world_number b x p e h.0) (values_same b x ps e h.1)
 
-pub changes_same : (fram : List ℕ) (x y : World) (ps : List SharedNumber) → y.fram ≡ fram_of fram → AreInFram ps
-    → changed_lines ps (world_values x ps) fram ≡ change_lines ps x y
-changes_same fram x y [] e h = refl
-changes_same fram x y (p ∷ ps) e h =
-    ap₂ (λ a b. a ++ b) (ap (changed_line p (number_of x.fram p)) (world_number fram y p e h.0)) (changes_same fram x y ps e h.1)
+pub changes_same : (b : BoardValue) (x y : World) (ps : List SharedNumber) → y.fram ≡ (outside_of b).fram → AreInFram ps
+    → changed_lines ps (world_values x ps) b.fram ≡ change_lines ps x y
+changes_same b x y [] e h = refl
+changes_same b x y (p ∷ ps) e h =
+    ap₂ (λ a c. a ++ c) (ap (changed_line p (number_of x.fram p)) (world_number b y p e h.0)) (changes_same b x y ps e h.1)

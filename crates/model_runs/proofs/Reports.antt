@@ -2,22 +2,22 @@
 use Rattle.std.proofs.Common.{◌≡◌, ◌-◌, refl, sym, ap, ap₂, ◌∙◌, arith, List, [], ◌++◌, length, append-nil, Some}
 use Rattle.std.proofs.lemmas.List.{take_all}
 use Rattle.std.specs.Prelude.{flat_map}
-use Rattle.crash_rules.specs.msp_step.declared.machine.Stop.TheVariants as stop
-use Rattle.board_run.specs.alp_io.Report.{accepted_line, bound_line, end_line}
-use Rattle.board_run.specs.alp_io.declared.report.Reason.TheVariants as reason
-use Rattle.crash_rules.specs.image_map.MapValue.{MapValue}
-use Rattle.crash_rules.specs.image_map.Kept.{IsMap}
-use Rattle.crash_rules.specs.fram_board.Board.{BoardValue}
-use Rattle.crash_rules.specs.fram_board.Run.{End, Charges, Stopped, BoardCharge, Moment, RunOutcome}
+use Rattle.msp_step.specs.declared.machine.Stop.TheVariants as stop
+use Rattle.alp_io.specs.Report.{accepted_line, bound_line, end_line}
+use Rattle.alp_io.specs.declared.report.Reason.TheVariants as reason
+use Rattle.image_map.specs.MapValue.{MapValue}
+use Rattle.image_map.specs.Kept.{IsMap}
+use Rattle.fram_board.specs.Board.{BoardValue}
+use Rattle.fram_board.specs.Run.{End, Charges, Stopped, BoardCharge, Moment, RunOutcome}
 use Rattle.board_run.specs.History.{start_with, more_lines}
 use Rattle.board_run.specs.History as board
 use Rattle.board_run.specs.Report.{after_all, lines_from, last_line}
-use Rattle.crash_rules.specs.machine_effects.World.{World}
-use Rattle.crash_rules.specs.machine_effects.Runs.{last_board}
+use Rattle.machine_effects.specs.World.{World}
+use Rattle.machine_effects.specs.Runs.{last_board}
 use Rattle.crash_rules.specs.History.{first_history}
 use Rattle.run_charges.specs.Charges.{observed}
 use Rattle.run_charges.specs.Laws.{IsRunOfWords}
-use Rattle.model_runs.specs.Events.{counted, dones_lines}
+use Rattle.model_runs.specs.Events.{marks_of, counted, dones_lines}
 use Rattle.model_runs.specs.EventLaws.{StartsWith, LinesAreOfDones, ReportIsOfDones, FewWordsHaveLines}
 use Rattle.run_charges.proofs.Interface.{front_moments}
 use Rattle.model_runs.proofs.Histories.{Together, Leads, moments_lead, first_histories_are_the_same}
@@ -25,14 +25,14 @@ use Rattle.model_runs.proofs.Histories.{Together, Leads, moments_lead, first_his
 -- a front of a run from its first histories on
 first_lead : (cs : List BoardCharge) (b : BoardValue) (r : RunOutcome) (ms rest : List Moment) → IsRunOfWords cs b r → r.moments ≡ ms ++ rest
     → (m : MapValue) (x : World) → IsMap m → StartsWith b x → (end : BoardValue)
-    × Leads m x end (after_all (start_with b.fram (Some m)) ms) (first_history m.words.gate x) (observed m.words.gate ms (first_history m.words.gate x))
+    × Leads m x end (after_all (start_with b.fram (Some m)) ms) (first_history (marks_of m) x) (observed (marks_of m) ms (first_history (marks_of m) x))
     (lines_from (start_with b.fram (Some m)) ms)
 first_lead cs b r ms rest run e m x ok s =
     let begun = first_histories_are_the_same b m x ok s in
-    let t : Together m x b (start_with b.fram (Some m)) (first_history m.words.gate x) =
+    let t : Together m x b (start_with b.fram (Some m)) (first_history (marks_of m) x) =
     record { whole = run.whole; words = run.words; same = begun.0; tells = begun.1 } in (
       last_board b ms,
-      moments_lead m x ok b (start_with b.fram (Some m)) (first_history m.words.gate x) ms t
+      moments_lead m x ok b (start_with b.fram (Some m)) (first_history (marks_of m) x) ms t
           (front_moments cs b r ms rest run.starts run.run e),
     )
 

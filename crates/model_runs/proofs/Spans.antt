@@ -1,29 +1,27 @@
 -- In one charge the spans follow one another.
 use Rattle.std.proofs.Common.{◌≡◌, ℕ, ◌≤◌, refl, sym, ap, ◌∙◌, subst, arith, true, false, cond, List, [], ◌∷◌, ◌++◌, length, append-nil}
-use Rattle.crash_rules.specs.fram_board.Board.{BoardValue, powered}
-use Rattle.crash_rules.specs.fram_board.Steps.{IsPowerState}
-use Rattle.crash_rules.specs.fram_board.Effects.{Effect}
-use Rattle.crash_rules.specs.fram_board.Run.{Measure, Moment, RunOutcome, BoardCharge, ChargeRun, Run, Over, Next, Last, power_up_of, Charges, Stopped}
-use Rattle.crash_rules.specs.fram_board.Run.{run_outcome}
-use Rattle.crash_rules.specs.machine_effects.World.{World, world_after_one}
-use Rattle.crash_rules.specs.machine_effects.Going.{going}
-use Rattle.crash_rules.specs.machine_effects.Machine.{MachineBoard}
-use Rattle.crash_rules.specs.machine_effects.View.{machine_of}
-use Rattle.crash_rules.specs.machine_effects.Runs.{last_board, ReachesAs}
-use Rattle.crash_rules.proofs.machine_effects.Interface.{power_up_keeps_words, charge_boards_alike}
-use Rattle.crash_rules.specs.Model.{Model}
+use Rattle.fram_board.specs.Board.{BoardValue, powered}
+use Rattle.fram_board.specs.Steps.{IsPowerState}
+use Rattle.fram_board.specs.Effects.{Effect}
+use Rattle.fram_board.specs.Run.{Measure, Action, PowerUp, Execute, Moment, RunOutcome, run_outcome, BoardCharge, ChargeRun, Run, Over}
+use Rattle.fram_board.specs.Run.{Next, Last, power_up_of, Charges, Stopped}
+use Rattle.machine_effects.specs.World.{World, world_after_one}
+use Rattle.machine_effects.specs.Machine.{MachineBoard}
+use Rattle.machine_effects.specs.Runs.{last_board}
+use Rattle.machine_effects.proofs.Interface.{power_up_keeps_words}
+use Rattle.crash_rules.specs.Model.{Model, Marks}
 use Rattle.crash_rules.specs.History.{Done, History, is_done, is_decide, with_effect, behind_boot, behind_done, behind_decide, behind_gate, observe_one}
 use Rattle.crash_rules.specs.History.{observe, first_history}
-use Rattle.crash_rules.specs.Runs.{Program, Charge, Charged}
-use Rattle.crash_rules.specs.Laws.{Origin, Resting, Pending, AreConsecutive, FollowFirst}
+use Rattle.crash_rules.specs.Runs.{Program, Charge}
+use Rattle.crash_rules.specs.Laws.{Origin, Resting, Pending, HasRun, AreConsecutive, FollowFirst}
 use Rattle.crash_rules.proofs.Interface.{spans_follow, pending_spans_follow}
-use Rattle.run_charges.specs.Charges.{AreInstructionMoments, observed}
+use Rattle.run_charges.specs.View.{outside_of, outside_effects}
+use Rattle.run_charges.specs.Charges.{behind_action, behind_moment, observed}
 use Rattle.run_charges.specs.Laws.{IsRunOfWords}
-use Rattle.run_charges.proofs.Interface.{first_start, instructions_observed}
+use Rattle.run_charges.proofs.Interface.{first_start, charge_moments, charge_instructs, instructions_reach, begun, charged_once}
 use Rattle.model_runs.specs.Runs.{BearsModel, history_behind, AreInOrder, AreInOrderPast}
 use Rattle.model_runs.specs.Laws.{SpansAreInOrder, SpansPastAreInOrder}
-use Rattle.model_runs.proofs.Fronts.{AtFront, at_front, begun, is_powered, program_runs}
-use Rattle.model_runs.proofs.Ends.{charge_instructs}
+use Rattle.model_runs.proofs.Fronts.{stood, ready_at_first, has_run}
 
 -- each done's span goes forwards
 abbrev GoForwards : List Done → Type 0
@@ -53,13 +51,22 @@ event_forwards before now h f =
 one_forwards : (e : Effect) (h : History) → Forwards h → Forwards (with_effect e h)
 one_forwards e h f = let l = f.since in record { since = omega (arith, l); span = f.span; dones = f.dones }
 
-forwards : (gate : ℕ) (es : List Effect) (h : History) → Forwards h → Forwards (observe gate es h)
-forwards gate [] h f = f
-forwards gate (e ∷ es) h f = forwards gate es (observe_one gate e h)
-    (event_forwards (h.world.fram gate) ((world_after_one e h.world).fram gate) (with_effect e h) (one_forwards e h f))
+forwards : (marks : Marks) (es : List Effect) (h : History) → Forwards h → Forwards (observe marks es h)
+forwards marks [] h f = f
+forwards marks (e ∷ es) h f = forwards marks es (observe_one marks e h)
+    (event_forwards (h.world.fram marks.gate) ((world_after_one e h.world).fram marks.gate) (with_effect e h) (one_forwards e h f))
 
-first_forwards : (gate : ℕ) (x : World) → Forwards (behind_boot (first_history gate x))
-first_forwards gate x = record { since = omega arith; span = omega arith; dones = tt }
+action_forwards : (marks : Marks) (a : Action) (es : List Effect) (h : History) → Forwards h → Forwards (behind_action marks a es h)
+action_forwards marks PowerUp es h f = record { since = omega arith; span = f.span; dones = f.dones }
+action_forwards marks (Execute done offered) es h f = forwards marks es h f
+
+moments_forwards : (marks : Marks) (ms : List Moment) (h : History) → Forwards h → Forwards (observed marks ms h)
+moments_forwards marks [] h f = f
+moments_forwards marks (m ∷ ms) h f =
+    moments_forwards marks ms (behind_moment marks m h) (action_forwards marks m.action (outside_effects m) h f)
+
+first_forwards : (marks : Marks) (x : World) → Forwards (behind_boot (first_history marks x))
+first_forwards marks x = record { since = omega arith; span = omega arith; dones = tt }
 
 in_order : (from to : ℕ) (ds : List Done) → AreConsecutive from ds to → GoForwards ds → AreInOrder from to ds
 in_order from to [] h f = h
@@ -76,41 +83,33 @@ in_order_past to (d ∷ ds) h f = in_order 0 to ds h f.1
 -- what holds behind one charge of the machine, of a history whose dones go forwards, holds behind one of the board
 module _ {St : Type 0} (m : Model St) (c : Program) (readings : List ℕ) (origin : Origin St) (x : World) (d : BoardCharge) (b : BoardValue)
     (r : RunOutcome) (run : IsRunOfWords (d ∷ []) b r) (bears : BearsModel m c readings origin x b) (Holds : History → Type 0)
-    (law : (e : Charge) (t : MachineBoard) (k : History) → Charged c m.gate (machine_of b) (first_history m.gate x) (e ∷ []) t k
+    (law : (t : MachineBoard) (k : History) (run : HasRun m c readings origin t k) → run.world ≡ x → (e : Charge) → run.charges ≡ e ∷ []
     → GoForwards k.completed → Holds k) where
   abbrev first : History
-  first = first_history m.gate x
+  first = first_history m.marks x
 
   abbrev InOrder : List Moment → Type 0
   InOrder ms = Holds (history_behind m x ms)
-
-  at : AtFront m c readings origin x (d ∷ []) b r run bears b first
-  at = at_front m c readings origin x (d ∷ []) b r run bears [] r.moments refl
 
   ok : IsPowerState d.start
   ok = first_start d [] run.starts
 
   -- the moments of one charge
-  one_in_order : (ms : List Moment) → AreInstructionMoments ms → ReachesAs (powered b d.start) ms → InOrder (power_up_of b d.start ∷ ms)
-  one_in_order ms are reach =
-      let p = begun m c readings origin x (d ∷ []) b r run bears b first at d.start ok in
-      let n = length ms in
-      let q = machine_of (last_board (powered b d.start) ms) in
-      let made = program_runs m c readings origin x (d ∷ []) b r run bears b first at d.start ok n _ reach.run in
-      let k : History = observe m.gate (going c.step n p).effects (behind_boot first) in
-      let e : Charge = record { powered = p; steps = n } in
-      let go : Charged c m.gate (machine_of b) first (e ∷ []) q k =
-      (is_powered m c readings origin x (d ∷ []) b r run bears b first at d.start ok, refl, refl, (q, sym (ap (λ z. z.status) made), (refl, refl))) in
-      let forth = forwards m.gate (going c.step n p).effects (behind_boot first) (first_forwards m.gate x) in
-      let seen : k ≡ observed m.gate ms (behind_boot first) =
-      ap (λ z. observe m.gate z.effects (behind_boot first)) (sym made) ∙ sym (instructions_observed m.gate ms (behind_boot first) are) in
-      subst Holds seen (law e q k go forth.dones)
-
   charge_in_order : (m2 : Measure) (amount : ℕ) (o : RunOutcome) → ChargeRun m2 amount (powered b d.start) o → InOrder (power_up_of b d.start ∷ o.moments)
   charge_in_order m2 amount o one =
-      one_in_order o.moments (charge_instructs m2 amount (powered b d.start) o one)
-      (charge_boards_alike m2 amount (powered b d.start) o o.moments [] (power_up_keeps_words b d.start run.whole run.words ok).0 one
-      (sym (append-nil o.moments)))
+      let on = stood m c readings origin x b bears in
+      let ready = ready_at_first m c readings origin x b bears run.whole run.words in
+      let ms = o.moments in
+      let p = begun on b first ready d.start ok in
+      let are = charge_instructs m2 amount (powered b d.start) o one in
+      let reach = instructions_reach (powered b d.start) ms (power_up_keeps_words b d.start run.whole run.words ok).0
+      (charge_moments m2 amount (powered b d.start) o one) are in
+      let k = observed m.marks ms (behind_boot first) in
+      let e : Charge = record { powered = p; steps = length ms } in
+      law (outside_of (last_board (powered b d.start) ms)) k
+      (has_run m c readings origin x b bears (e ∷ []) (outside_of (last_board (powered b d.start) ms)) k
+      (charged_once on b first ready d.start ok ms are reach)) refl e refl
+      (moments_forwards m.marks ms (behind_boot first) (first_forwards m.marks x)).dones
 
   run_in_order : (cs : List BoardCharge) (t : BoardValue) (o : RunOutcome) → Run cs t o → cs ≡ d ∷ [] → t ≡ b → InOrder o.moments
   run_in_order cs t o (Over _) e f = absurd cc
@@ -142,12 +141,13 @@ module _ {St : Type 0} (m : Model St) (c : Program) (readings : List ℕ) (origi
 pub spans_are_in_order : {St : Type 0} (m : Model St) (c : Program) → SpansAreInOrder m c
 spans_are_in_order m c readings s x d b r run bears here =
     run_in_order m c readings (Resting s) x d b r run bears (λ h. AreInOrder 0 h.since h.completed)
-    (λ e t k go f. in_order 0 k.since k.completed (spans_follow m c bears.model bears.program readings s x (machine_of b) bears.begins here e t k go) f)
+    (λ t k go began e one f. in_order 0 k.since k.completed
+    (spans_follow m c bears.model bears.program readings s t k go (subst (m.Undecided s) (sym began) here) e one) f)
     (d ∷ []) b r run.run refl refl
 
 -- so are those behind a commit that was pending at the start
 pub spans_past_are_in_order : {St : Type 0} (m : Model St) (c : Program) → SpansPastAreInOrder m c
 spans_past_are_in_order m c readings to x d b r run bears =
     run_in_order m c readings (Pending to) x d b r run bears (λ h. AreInOrderPast h.since h.completed)
-    (λ e t k go f. in_order_past k.since k.completed (pending_spans_follow m c bears.model bears.program readings to x (machine_of b) bears.begins e t k go) f)
+    (λ t k go began e one f. in_order_past k.since k.completed (pending_spans_follow m c bears.model bears.program readings to t k go e one) f)
     (d ∷ []) b r run.run refl refl

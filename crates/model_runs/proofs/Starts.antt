@@ -1,17 +1,19 @@
 -- The world at the last boot or done is the world of a front.
 use Rattle.std.proofs.Common.{◌≡◌, ℕ, refl, sym, ap, subst, true, false, cond, List, [], ◌∷◌, ◌++◌, Ok}
-use Rattle.crash_rules.specs.msp_isa.declared.instructions.Instr.{Instr}
-use Rattle.crash_rules.specs.fram_board.declared.board.Stepped.{Stepped}
-use Rattle.crash_rules.specs.fram_board.Board.{BoardValue, executed, IsNextInstruction}
-use Rattle.crash_rules.specs.fram_board.Effects.{Effect}
-use Rattle.crash_rules.specs.fram_board.Run.{Moment, moment_of}
-use Rattle.crash_rules.specs.machine_effects.World.{World, world_after}
-use Rattle.crash_rules.specs.machine_effects.View.{IsWhole, IsOfWords}
-use Rattle.crash_rules.proofs.machine_effects.Interface.{power_up_keeps_words}
+use Rattle.msp_isa.specs.declared.instructions.Instr.{Instr}
+use Rattle.fram_board.specs.declared.board.Stepped.{Stepped}
+use Rattle.fram_board.specs.Board.{BoardValue, executed, IsNextInstruction}
+use Rattle.fram_board.specs.Effects.{Effect}
+use Rattle.fram_board.specs.Run.{Moment, moment_of}
+use Rattle.machine_effects.specs.World.{World, world_after}
+use Rattle.machine_effects.specs.View.{IsWhole, IsOfWords}
+use Rattle.machine_effects.proofs.Interface.{power_up_keeps_words}
+use Rattle.crash_rules.specs.Model.{Marks}
 use Rattle.crash_rules.specs.History.{History, is_done, is_decide, behind_done, behind_decide, behind_gate}
 use Rattle.crash_rules.proofs.Interface.{with_effects, observed_world}
-use Rattle.run_charges.specs.Charges.{behind_action, observed}
-use Rattle.run_charges.proofs.Interface.{IsMomentFrom, PowersUp, Instructs, AreMoments, told, whole_after, words_after, one_write}
+use Rattle.run_charges.specs.View.{IsMomentFrom, PowersUp, Instructs, AreMoments}
+use Rattle.run_charges.specs.Charges.{behind_moment, observed}
+use Rattle.run_charges.proofs.Interface.{follows_keeps, told, whole_after, words_after, one_write}
 use Rattle.model_runs.proofs.Events.{seen}
 
 -- behind a change of GATE the last boot or done is the one before, or now
@@ -22,7 +24,7 @@ gate_start P before now h start world =
       | false ↦ elim (is_decide before now) as (λ b. P (cond b (behind_decide h) h).start) [ true ↦ start | false ↦ start ]
     ]
 
-module _ (P : World → Type 0) (gate : ℕ) where
+module _ (P : World → Type 0) (marks : Marks) where
   -- what is known of a history, and of the board that it tells of
   record Begun (b : BoardValue) (k : History) : Type 0 where
     pub whole : IsWhole b
@@ -36,36 +38,37 @@ module _ (P : World → Type 0) (gate : ℕ) where
     abbrev es : List Effect
     es = told b h.whole i done current answer
 
-    behind_instruction : let m = moment_of b i done in let j = behind_action gate m.action m.before m.after k in P j.world → Begun m.after j
+    behind_instruction : let m = moment_of b i done in let j = behind_moment marks m k in P j.world → Begun m.after j
     behind_instruction now =
         let Q : World → Type 0 = λ y. P y in
         let R : History → Type 0 = λ y. P y.start in
-        let world : P (world_after es k.world) = subst Q (observed_world gate es k) now in
+        let world : P (world_after es k.world) = subst Q (observed_world marks es k) now in
         record {
           whole = whole_after b h.whole i done current answer;
           words = words_after b h.whole i done current answer h.words;
-          start = subst R (sym (seen gate es k (one_write b h.whole i done current answer)))
-              (gate_start P (k.world.fram gate) ((world_after es k.world).fram gate) (with_effects es k) h.start world);
+          start = subst R (sym (seen marks es k (one_write b h.whole i done current answer)))
+              (gate_start P (k.world.fram marks.gate) ((world_after es k.world).fram marks.gate) (with_effects es k) h.start world);
           world = now;
         }
 
-  behind_moment : (b : BoardValue) (k : History) → Begun b k → (m : Moment) → IsMomentFrom b m
-      → P (behind_action gate m.action m.before m.after k).world → Begun m.after (behind_action gate m.action m.before m.after k)
-  behind_moment b k h m (PowersUp p ok e) now =
-      let Q : Moment → Type 0 = λ y. Begun y.after (behind_action gate y.action y.before y.after k) in
+  begun_behind : (b : BoardValue) (k : History) → Begun b k → (m : Moment) → IsMomentFrom b m → P (behind_moment marks m k).world
+      → Begun m.after (behind_moment marks m k)
+  begun_behind b k h m (PowersUp p ok e) now =
+      let Q : Moment → Type 0 = λ y. Begun y.after (behind_moment marks y k) in
       let up = power_up_keeps_words b p h.whole h.words ok in
       subst Q (sym e) (record { whole = up.0; words = up.1; start = h.world; world = h.world })
-  behind_moment b k h m (Instructs i done c a e) now =
-      let Q : Moment → Type 0 = λ y. P (behind_action gate y.action y.before y.after k).world
-      → Begun y.after (behind_action gate y.action y.before y.after k) in
+  begun_behind b k h m (Instructs i done c a e) now =
+      let Q : Moment → Type 0 = λ y. P (behind_moment marks y k).world → Begun y.after (behind_moment marks y k) in
       subst Q (sym e) (behind_instruction b k h i done c a) now
 
   -- what holds of the world at each front, and at first of the last boot or done, holds of the last boot or done behind all moments
   pub starts_hold : (b : BoardValue) (k : History) (ms : List Moment) → IsWhole b → IsOfWords b → AreMoments b ms → P k.start
-      → ((ns rest : List Moment) → ms ≡ ns ++ rest → P (observed gate ns k).world) → P (observed gate ms k).start
+      → ((ns rest : List Moment) → ms ≡ ns ++ rest → P (observed marks ns k).world) → P (observed marks ms k).start
   starts_hold b k [] whole words are start fronts = start
   starts_hold b k (m ∷ ms) whole words are start fronts =
-      let j = behind_action gate m.action m.before m.after k in
-      let here : Begun b k = record { whole = whole; words = words; start = start; world = fronts [] (m ∷ ms) refl } in
-      let next = behind_moment b k here m are.0 (fronts (m ∷ []) ms refl) in
-      starts_hold m.after j ms next.whole next.words are.1 next.start (λ ns rest e. fronts (m ∷ ns) rest (ap (λ l. m ∷ l) e))
+      let keeps = follows_keeps b m.before are.0 in
+      let here : Begun m.before k =
+      record { whole = keeps.whole whole; words = keeps.words words; start = start; world = fronts [] (m ∷ ms) refl } in
+      let next = begun_behind m.before k here m are.1 (fronts (m ∷ []) ms refl) in
+      starts_hold m.after (behind_moment marks m k) ms next.whole next.words are.2 next.start
+      (λ ns rest e. fronts (m ∷ ns) rest (ap (λ l. m ∷ l) e))

@@ -1,19 +1,20 @@
 -- What a word of FRAM holds at most, by what is stored there.
 use Rattle.std.proofs.Common.{◌≡◌, ◌≤◌, ◌==◌, if◌then◌else◌, ℕ, refl, sym, subst, Bool, true, false, cond, eqb-true, List, [], ◌∷◌}
-use Rattle.crash_rules.specs.fram_board.Effects.{Effect, Store, Take, Send}
-use Rattle.crash_rules.specs.machine_effects.World.{fram_after, EachStore}
-use Rattle.crash_rules.specs.machine_effects.Going.{going}
-use Rattle.crash_rules.specs.machine_effects.Machine.{MachineBoard}
-use Rattle.crash_rules.specs.machine_effects.View.{machine_of}
-use Rattle.crash_rules.specs.machine_effects.Runs.{last_board}
-use Rattle.crash_rules.specs.Model.{Model}
+use Rattle.fram_board.specs.Effects.{Effect, Store, Take, Outside}
+use Rattle.machine_effects.specs.World.{fram_after, EachStore}
+use Rattle.machine_effects.specs.Going.{going}
+use Rattle.machine_effects.specs.Machine.{MachineBoard}
+use Rattle.machine_effects.specs.Runs.{last_board}
+use Rattle.crash_rules.specs.Model.{Model, Marks}
 use Rattle.crash_rules.specs.History.{History, observe, behind_boot, first_history}
 use Rattle.crash_rules.specs.Runs.{Program, Charge, Charged}
 use Rattle.crash_rules.proofs.Interface.{changed, stores_only}
-use Rattle.crash_rules.specs.machine_effects.Laws.{ChangesByEffects}
+use Rattle.machine_effects.specs.Laws.{ChangesByEffects}
+use Rattle.run_charges.specs.View.{outside_of}
+use Rattle.run_charges.proofs.Interface.{run_front}
 use Rattle.model_runs.specs.Runs.{history_behind}
 use Rattle.model_runs.specs.Laws.{WordsStayWithin}
-use Rattle.model_runs.proofs.Fronts.{at_front}
+use Rattle.model_runs.proofs.Fronts.{at_front, powers_up}
 
 module _ (P : ℕ → ℕ → Type 0) (a most : ℕ) (few : (w : ℕ) → P a w → w ≤ most) where
   put_within : (f : ℕ → ℕ) (d w : ℕ) → P d w → f a ≤ most → (if a == d then w else f a) ≤ most
@@ -27,15 +28,15 @@ module _ (P : ℕ → ℕ → Type 0) (a most : ℕ) (few : (w : ℕ) → P a w 
   after_within [] f s h = h
   after_within (Store d w ∷ es) f s h = after_within es _ s.1 (put_within f d w s.0 h)
   after_within (Take w ∷ es) f s h = after_within es f s.1 h
-  after_within (Send n w ∷ es) f s h = after_within es f s.1 h
+  after_within (Outside o ∷ es) f s h = after_within es f s.1 h
 
   -- wherever charges lead, a further one stores so
-  abbrev StoresSo : Program → ℕ → MachineBoard → History → Type 0
-  StoresSo c gate s h = (es : List Charge) (t : MachineBoard) (k : History) → Charged c gate s h es t k → (p : MachineBoard) → c.IsPoweredUp p
-      → p.fram ≡ t.fram → p.readings_left ≡ t.readings_left → (n : ℕ) → EachStore P (going c.step n p).effects
+  abbrev StoresSo : Program → Marks → MachineBoard → History → Type 0
+  StoresSo c marks s h = (es : List Charge) (t : MachineBoard) (k : History) → Charged c marks s h es t k → (p : MachineBoard) → c.IsPoweredUp p
+      → p.fram ≡ t.fram → p.inputs.readings ≡ t.inputs.readings → (n : ℕ) → EachStore P (going c.step n p).effects
 
-  module _ (c : Program) (changes : (s : MachineBoard) → ChangesByEffects s (c.step s)) (gate : ℕ) where
-    charges_within : (es : List Charge) (s t : MachineBoard) (h k : History) → StoresSo c gate s h → Charged c gate s h es t k → s.fram a ≤ most
+  module _ (c : Program) (changes : (s : MachineBoard) → ChangesByEffects s (c.step s)) (marks : Marks) where
+    charges_within : (es : List Charge) (s t : MachineBoard) (h k : History) → StoresSo c marks s h → Charged c marks s h es t k → s.fram a ≤ most
         → t.fram a ≤ most
     charges_within [] s t h k stores run l = let Q : MachineBoard → Type 0 = λ u. u.fram a ≤ most in subst Q (sym run.0) l
     charges_within (e ∷ es) s t h k stores run l =
@@ -45,15 +46,16 @@ module _ (P : ℕ → ℕ → Type 0) (a most : ℕ) (few : (w : ℕ) → P a w 
         let Q : (ℕ → ℕ) → Type 0 = λ f. f a ≤ most in
         let here : q.fram a ≤ most = subst Q (sym (changed c.step changes e.steps p q run.3.1).fram)
         (after_within made p.fram (stores [] s h (refl, refl) p run.0 run.1 run.2 e.steps) (subst Q (sym run.1) l)) in
-        charges_within es q t (observe gate made (behind_boot h)) k
+        charges_within es q t (observe marks made (behind_boot h)) k
         (λ fs u z more. stores (e ∷ fs) u z (run.0, run.1, run.2, (q, run.3.1, more))) run.3.2 here
 
 -- a word stays within its bound at each front
 pub words_stay_within : {St : Type 0} (m : Model St) (c : Program) (P : ℕ → ℕ → Type 0) → WordsStayWithin m c P
-words_stay_within m c P readings origin x cs b r run bears attempts commits a most few first ms rest e =
-    let at = at_front m c readings origin x cs b r run bears ms rest e in
+words_stay_within m c P readings origin x cs b r run bears scripts a most few first ms rest e =
+    let at = at_front m c readings origin x b bears ms (run_front cs b r ms rest run e) in
     let Q : (ℕ → ℕ) → Type 0 = λ f. f a ≤ most in
-    charges_within P a most few c bears.program.changes m.gate at.charges (machine_of b) (machine_of (last_board b ms))
-    (first_history m.gate x) (history_behind m x ms)
-    (λ es t k charged. stores_only m c P bears.model bears.program attempts commits readings origin x (machine_of b) bears.begins es t k charged)
+    charges_within P a most few c bears.program.changes m.marks at.charges (outside_of b) (outside_of (last_board b ms))
+    (first_history m.marks x) (history_behind m x ms)
+    (λ es t k charged p up fram left n. stores_only m c P bears.model bears.program scripts readings origin p
+    (powers_up m c readings origin x b bears es t k charged p up fram left) n)
     at.charged (subst Q (sym bears.begins.fram) first)

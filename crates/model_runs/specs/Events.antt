@@ -1,20 +1,25 @@
 -- The events of a board's run, read off its effects; what is known of the run so far by them; and the lines of its report as a
 -- function of its dones.
 use Rattle.std.specs.Prelude.{◌≡◌, ℕ, zero, suc, ◌-◌, List, [], ◌∷◌, ◌++◌, length, map, flat_map, take, drop, Some}
-use Rattle.board_run.specs.alp_io.Count.{risen}
-use Rattle.board_run.specs.alp_io.Report.{accepted_line, step_line}
-use Rattle.crash_rules.specs.image_map.MapValue.{MapValue}
-use Rattle.crash_rules.specs.fram_board.Board.{BoardValue}
-use Rattle.crash_rules.specs.fram_board.Saved.{TakesNextBehind}
+use Rattle.alp_io.specs.Count.{risen}
+use Rattle.alp_io.specs.Report.{accepted_line, step_line}
+use Rattle.image_map.specs.MapValue.{MapValue}
+use Rattle.fram_board.specs.Board.{BoardValue}
+use Rattle.fram_board.specs.Saved.{TakesNextBehind}
 use Rattle.board_run.specs.History.{SharedNumber, number_of, shared_numbers, task_name, changed_line, more_lines}
 use Rattle.board_run.specs.History as board
-use Rattle.crash_rules.specs.machine_effects.Machine.{fram_of}
-use Rattle.crash_rules.specs.machine_effects.World.{World}
+use Rattle.machine_effects.specs.World.{World}
+use Rattle.crash_rules.specs.Model.{Marks}
 use Rattle.crash_rules.specs.History.{Done, History}
+use Rattle.run_charges.specs.View.{outside_of}
+
+-- what happens in a run is told by the words that a map names
+abbrev pub marks_of : MapValue → Marks
+marks_of m = record { gate = m.words.gate }
 
 -- a history tells of this board: its FRAM, the word that its receiver takes next, how many readings were taken
 pub record TellsOf (b : BoardValue) (k : History) : Type 0 where
-  pub fram : k.world.fram ≡ fram_of b.fram
+  pub fram : k.world.fram ≡ (outside_of b).fram
   pub accepted : TakesNextBehind k.world.accepted b.receiver
   pub taken : k.taken ≡ b.taken
 

@@ -1,37 +1,36 @@
 -- Runs of the board whose code is a program that keeps what it owes to a model, and what is said of them.
-use Rattle.std.specs.Prelude.{◌≡◌, ℕ, ◌+◌, ◌*◌, ◌<◌, ◌≤◌, List, [], ◌∷◌, length, drop}
-use Rattle.crash_rules.specs.msp_isa.declared.instructions.Instr.{Instr}
-use Rattle.crash_rules.specs.msp_step.declared.machine.Stop.{Stop}
-use Rattle.crash_rules.specs.fram_board.Board.{BoardValue, powered}
-use Rattle.crash_rules.specs.fram_board.Run.{Cycles, Moment, Charges, Stopped, RunOutcome, run_outcome, after_moments, BoardCharge, ChargeRun, power_up_of}
-use Rattle.crash_rules.specs.machine_effects.World.{World}
-use Rattle.crash_rules.specs.machine_effects.Machine.{fram_of}
-use Rattle.crash_rules.specs.machine_effects.View.{machine_of}
-use Rattle.run_charges.specs.code_forms.Placed.{words_of, Holds}
-use Rattle.crash_rules.specs.Model.{Model, ModelLaws, Short}
-use Rattle.crash_rules.specs.History.{Done, History, first_history}
+use Rattle.std.specs.Prelude.{◌≡◌, ℕ, ◌+◌, ◌*◌, ◌<◌, ◌≤◌, List, [], ◌∷◌, length}
+use Rattle.msp_isa.specs.declared.instructions.Instr.{Instr}
+use Rattle.msp_step.specs.declared.machine.Stop.{Stop}
+use Rattle.fram_board.specs.Board.{BoardValue, powered}
+use Rattle.fram_board.specs.Run.{Cycles, Moment, Charges, Stopped, RunOutcome, run_outcome, after_moments, BoardCharge, ChargeRun, power_up_of}
+use Rattle.machine_effects.specs.World.{World}
+use Rattle.code_forms.specs.Placed.{words_of, Holds}
+use Rattle.crash_rules.specs.Model.{Model, ModelLaws, Marks, Inputs, Short}
+use Rattle.crash_rules.specs.History.{Done, History, first_history, inputs_from}
 use Rattle.crash_rules.specs.Runs.{Program, ProgramLaws}
 use Rattle.crash_rules.specs.Laws.{Origin, Begins, IsSettled, Reaches}
+use Rattle.run_charges.specs.View.{outside_of}
 use Rattle.run_charges.specs.Charges.{observed, IsPlacedProgram, AlwaysLeaves}
 
 -- where a program stands in the FRAM of a board, which enters it by its reset vector, and that its charges never change it
-pub record HasProgram (c : Program) (gate : ℕ) (x : World) (b : BoardValue) : Type 0 where
+pub record HasProgram (c : Program) (marks : Marks) (x : World) (b : BoardValue) : Type 0 where
   pub place : ℕ
   pub instructions : List Instr
-  pub placed : IsPlacedProgram c place instructions (fram_of b.fram 0xFFFE)
-  pub holds : Holds (fram_of b.fram) place (words_of instructions)
-  pub leaves : AlwaysLeaves c place (length (words_of instructions)) gate (machine_of b) (first_history gate x)
+  pub placed : IsPlacedProgram c place instructions ((outside_of b).fram 0xFFFE)
+  pub holds : Holds (outside_of b).fram place (words_of instructions)
+  pub leaves : AlwaysLeaves c place (length (words_of instructions)) marks (outside_of b) (first_history marks x)
 
 -- a program that keeps what it owes to a model stands on a board, whose world then a run may begin with
 pub record BearsModel {St : Type 0} (m : Model St) (c : Program) (readings : List ℕ) (origin : Origin St) (x : World) (b : BoardValue) : Type 0 where
   pub model : ModelLaws m
   pub program : ProgramLaws m c
-  pub begins : Begins m readings origin x (machine_of b)
-  pub stands : HasProgram c m.gate x b
+  pub begins : Begins m readings origin x (outside_of b)
+  pub stands : HasProgram c m.marks x b
 
 -- what is known behind moments of a run that began with this world
 abbrev pub history_behind : {St : Type 0} → Model St → World → List Moment → History
-history_behind m x ms = observed m.gate ms (first_history m.gate x)
+history_behind m x ms = observed m.marks ms (first_history m.marks x)
 
 -- the source is short on the readings from the last boot or done on, at the state of the last done; nothing is pending
 pub record IsShort {St : Type 0} (m : Model St) (readings : List ℕ) (origin : Origin St) (h : History) : Type 0 where
@@ -39,23 +38,29 @@ pub record IsShort {St : Type 0} (m : Model St) (readings : List ℕ) (origin : 
   pub settled : IsSettled origin h.completed
   pub reached : Reaches m readings origin h.completed state
   pub is_task : m.task_number state < m.tasks
-  pub short : m.task state (drop h.since readings) ≡ Short
+  pub short : m.task state (inputs_from readings h.since) ≡ Short
 
--- a charge of cycles has n dones at least where it has n bounds, if these are the histories before and behind it
-abbrev pub PaysFor : ℕ → BoardCharge → History → History → Type 0
-PaysFor bound c before behind = c.measure ≡ Cycles → (n : ℕ) → n * bound ≤ c.amount → n + length before.completed ≤ length behind.completed
+-- what the outside has ready delays no commit
+abbrev pub no_delay : Inputs → ℕ
+no_delay inputs = 0
+
+-- a charge of cycles has n dones at least where it has n bounds, and the cycles that its inputs may delay commits, if these are the
+-- histories before and behind it
+abbrev pub PaysFor : (bound delay : ℕ) → BoardCharge → History → History → Type 0
+PaysFor bound delay c before behind =
+    c.measure ≡ Cycles → (n : ℕ) → n * bound + delay ≤ c.amount → n + length before.completed ≤ length behind.completed
 
 -- a run from a board and a history on, each of whose charges pays for dones, but the one in which the board stops
-pub data Progresses (gate bound : ℕ) : List BoardCharge → BoardValue → History → RunOutcome → Type 0 where
-  AllSpent : (b : BoardValue) (h : History) → Progresses gate bound [] b h (run_outcome [] Charges b)
+pub data Progresses (marks : Marks) (bound : ℕ) (delay : Inputs → ℕ) : List BoardCharge → BoardValue → History → RunOutcome → Type 0 where
+  AllSpent : (b : BoardValue) (h : History) → Progresses marks bound delay [] b h (run_outcome [] Charges b)
   SpentOne : (c : BoardCharge) (cs : List BoardCharge) (b : BoardValue) (h : History) (ms : List Moment) (end : BoardValue) (rest : RunOutcome)
       → ChargeRun c.measure c.amount (powered b c.start) (run_outcome ms Charges end)
-      → PaysFor bound c h (observed gate (power_up_of b c.start ∷ ms) h)
-      → Progresses gate bound cs end (observed gate (power_up_of b c.start ∷ ms) h) rest
-      → Progresses gate bound (c ∷ cs) b h (after_moments (power_up_of b c.start ∷ ms) rest)
+      → PaysFor bound (delay (outside_of (powered b c.start)).inputs) c h (observed marks (power_up_of b c.start ∷ ms) h)
+      → Progresses marks bound delay cs end (observed marks (power_up_of b c.start ∷ ms) h) rest
+      → Progresses marks bound delay (c ∷ cs) b h (after_moments (power_up_of b c.start ∷ ms) rest)
   StoppedIn : (c : BoardCharge) (cs : List BoardCharge) (b : BoardValue) (h : History) (ms : List Moment) (stop : Stop) (end : BoardValue)
       → ChargeRun c.measure c.amount (powered b c.start) (run_outcome ms (Stopped stop) end)
-      → Progresses gate bound (c ∷ cs) b h (run_outcome (power_up_of b c.start ∷ ms) (Stopped stop) end)
+      → Progresses marks bound delay (c ∷ cs) b h (run_outcome (power_up_of b c.start ∷ ms) (Stopped stop) end)
 
 -- how many cycles or instructions charges have in all, and a power-up each
 abbrev pub all_amounts : List BoardCharge → ℕ

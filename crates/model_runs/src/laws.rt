@@ -41,7 +41,7 @@ pub fn runs_make_progress<S: Compiled>()
     ensures { MakesProgress S.model S.program }
 {}
 
-/// Where attempts and commits store no word above a most at an address, it never holds more.
+/// Where recoveries, attempts and commits store no word above a most at an address, it never holds more.
 pub fn words_stay_within<S: Compiled>()
     ensures { WordsStayWithin S.model S.program S.may_store }
 {}

@@ -2,7 +2,7 @@
 
 ghost use Rattle.std.specs.Prelude.{◌≡◌, ℕ, ◌+◌, ◌*◌, ◌/◌, ◌%◌, ◌<◌, ◌≤◌, length};
 ghost use Rattle.msp_step.specs.Access.{Completed, write_at};
-ghost use Rattle.msp_step.specs.Answer.{answer};
+ghost use Rattle.msp_step.specs.Answer.{answer, addressed};
 ghost use Rattle.msp_step.specs.Registers.{registers_of, with_register};
 ghost use Rattle.msp_step.specs.Effect.{load, store, source, destination_location, word_sum, flags_of, status_with, operated, with_flags, reads_destination};
 ghost use Rattle.msp_step.specs.Effect.{writes_destination, destination_operand, finish, after_source, two_operand_effect, read_modify_write, written_back};
@@ -100,8 +100,8 @@ fn finish<B: Bus>(
     width: Width,
     at: Location,
     v: u16,
-) -> Result<Option<(u16, u16)>, Fault>
-    ensures { answer (λ a. (registers_of cpu.new, a)) result bus.new ≡ finish (writes_destination op) B.model (registers_of cpu.old) width at v bus.old }
+) -> Result<Option<u16>, Fault>
+    ensures { answer (λ a. (registers_of cpu.new, a)) result bus.new ≡ addressed (finish (writes_destination op) B.model (registers_of cpu.old) width at v bus.old) }
 {
     match op {
         TwoOp::Cmp | TwoOp::Bit => Ok(None),
@@ -118,8 +118,8 @@ fn after_source<B: Bus>(
     width: Width,
     at: Location,
     s: u16,
-) -> Result<Option<(u16, u16)>, Fault>
-    ensures { answer (λ a. (registers_of cpu.new, a)) result bus.new ≡ after_source B.model op width at s (registers_of cpu.old) bus.old }
+) -> Result<Option<u16>, Fault>
+    ensures { answer (λ a. (registers_of cpu.new, a)) result bus.new ≡ addressed (after_source B.model op width at s (registers_of cpu.old) bus.old) }
 {
     let d = destination_operand(op, cpu, bus, width, at)?;
     let (value, flags) = operated(op, width, d, s, flags_of(cpu.word(2)));
@@ -136,8 +136,8 @@ pub fn two_operand_effect<B: Bus>(
     width: Width,
     src: Src,
     dst: Dst,
-) -> Result<Option<(u16, u16)>, Fault>
-    ensures { answer (λ a. (registers_of cpu.new, a)) result bus.new ≡ two_operand_effect B.model op width src dst (registers_of cpu.old) bus.old }
+) -> Result<Option<u16>, Fault>
+    ensures { answer (λ a. (registers_of cpu.new, a)) result bus.new ≡ addressed (two_operand_effect B.model op width src dst (registers_of cpu.old) bus.old) }
 {
     let pc = cpu.word(0);
     let first = pc.wrapping_add(2);
@@ -216,8 +216,8 @@ fn write_back<B: Bus>(
     width: Width,
     at: Location,
     v: u16,
-) -> Result<Option<(u16, u16)>, Fault>
-    ensures { answer (λ a. (registers_of cpu.new, a)) result bus.new ≡ written_back B.model (modification_of change) width at v (registers_of cpu.old) bus.old }
+) -> Result<Option<u16>, Fault>
+    ensures { answer (λ a. (registers_of cpu.new, a)) result bus.new ≡ addressed (written_back B.model (modification_of change) width at v (registers_of cpu.old) bus.old) }
 {
     let (value, flags) = modified(change, width, v, flags_of(cpu.word(2)));
     set_flags(cpu, flags);
@@ -232,9 +232,9 @@ pub fn read_modify_write<B: Bus>(
     change: Modification,
     width: Width,
     p: Operand,
-) -> Result<Option<(u16, u16)>, Fault>
-    ensures { answer (λ a. (registers_of cpu.new, a)) result bus.new ≡ read_modify_write B.model (modification_of change) width p (registers_of cpu.old)
-        bus.old }
+) -> Result<Option<u16>, Fault>
+    ensures { answer (λ a. (registers_of cpu.new, a)) result bus.new
+        ≡ addressed (read_modify_write B.model (modification_of change) width p (registers_of cpu.old) bus.old) }
 {
     let first = cpu.word(0).wrapping_add(2);
     cpu.set(0, first);
@@ -269,17 +269,12 @@ fn write_below<B: Bus>(cpu: &Cpu, bus: &mut B, width: Width, v: u16) -> Result<u
 
 /// What follows the operand of PUSH.
 #[inline(always)]
-fn push_word<B: Bus>(
-    cpu: &mut Cpu,
-    bus: &mut B,
-    width: Width,
-    v: u16,
-) -> Result<Option<(u16, u16)>, Fault>
-    ensures { answer (λ a. (registers_of cpu.new, a)) result bus.new ≡ pushed B.model width v (registers_of cpu.old) bus.old }
+fn push_word<B: Bus>(cpu: &mut Cpu, bus: &mut B, width: Width, v: u16) -> Result<Option<u16>, Fault>
+    ensures { answer (λ a. (registers_of cpu.new, a)) result bus.new ≡ addressed (pushed B.model width v (registers_of cpu.old) bus.old) }
 {
     let sp = write_below(cpu, bus, width, v)?;
     cpu.set(1, sp);
-    Ok(Some((sp, v)))
+    Ok(Some(sp))
 }
 
 /// PUSH.
@@ -289,8 +284,8 @@ pub fn push_effect<B: Bus>(
     bus: &mut B,
     width: Width,
     s: Src,
-) -> Result<Option<(u16, u16)>, Fault>
-    ensures { answer (λ a. (registers_of cpu.new, a)) result bus.new ≡ push_effect B.model width s (registers_of cpu.old) bus.old }
+) -> Result<Option<u16>, Fault>
+    ensures { answer (λ a. (registers_of cpu.new, a)) result bus.new ≡ addressed (push_effect B.model width s (registers_of cpu.old) bus.old) }
 {
     let first = cpu.word(0).wrapping_add(2);
     cpu.set(0, first);
@@ -301,20 +296,20 @@ pub fn push_effect<B: Bus>(
 
 /// What follows the operand of CALL.
 #[inline(always)]
-fn call_to<B: Bus>(cpu: &mut Cpu, bus: &mut B, to: u16) -> Result<Option<(u16, u16)>, Fault>
-    ensures { answer (λ a. (registers_of cpu.new, a)) result bus.new ≡ called B.model to (registers_of cpu.old) bus.old }
+fn call_to<B: Bus>(cpu: &mut Cpu, bus: &mut B, to: u16) -> Result<Option<u16>, Fault>
+    ensures { answer (λ a. (registers_of cpu.new, a)) result bus.new ≡ addressed (called B.model to (registers_of cpu.old) bus.old) }
 {
     let next = cpu.word(0);
     let sp = write_below(cpu, bus, Width::Word, next)?;
     cpu.set(1, sp);
     cpu.set(0, to);
-    Ok(Some((sp, next)))
+    Ok(Some(sp))
 }
 
 /// CALL.
 #[inline(always)]
-pub fn call_effect<B: Bus>(cpu: &mut Cpu, bus: &mut B, s: Src) -> Result<Option<(u16, u16)>, Fault>
-    ensures { answer (λ a. (registers_of cpu.new, a)) result bus.new ≡ call_effect B.model s (registers_of cpu.old) bus.old }
+pub fn call_effect<B: Bus>(cpu: &mut Cpu, bus: &mut B, s: Src) -> Result<Option<u16>, Fault>
+    ensures { answer (λ a. (registers_of cpu.new, a)) result bus.new ≡ addressed (call_effect B.model s (registers_of cpu.old) bus.old) }
 {
     let first = cpu.word(0).wrapping_add(2);
     cpu.set(0, first);
@@ -324,8 +319,8 @@ pub fn call_effect<B: Bus>(cpu: &mut Cpu, bus: &mut B, s: Src) -> Result<Option<
 }
 
 /// RETI.
-pub fn reti_effect<B: Bus>(cpu: &mut Cpu, bus: &mut B) -> Result<Option<(u16, u16)>, Fault>
-    ensures { answer (λ a. (registers_of cpu.new, a)) result bus.new ≡ reti_effect B.model (registers_of cpu.old) bus.old }
+pub fn reti_effect<B: Bus>(cpu: &mut Cpu, bus: &mut B) -> Result<Option<u16>, Fault>
+    ensures { answer (λ a. (registers_of cpu.new, a)) result bus.new ≡ addressed (reti_effect B.model (registers_of cpu.old) bus.old) }
 {
     let sp = cpu.word(1);
     let sr = read_at(bus, sp, Width::Word)?;

@@ -1,10 +1,9 @@
 //! One step of the CPU.
 
 ghost use Rattle.std.specs.Prelude.{◌≡◌, ℕ, ◌+◌, ◌*◌, ◌/◌, ◌%◌, ◌<◌, ◌≤◌, length, Some, None, IfOk, IfErr, OnErr, IsTrue};
-ghost use Rattle.std.specs.Option.{option_map};
 ghost use Rattle.msp_step.specs.Access.{Completed};
 ghost use Rattle.msp_step.specs.Reads.{OnlyReads};
-ghost use Rattle.msp_step.specs.Answer.{answer};
+ghost use Rattle.msp_step.specs.Answer.{answer, addressed};
 ghost use Rattle.msp_step.specs.Registers.{registers_of};
 ghost use Rattle.msp_step.specs.Step.{AreWordsAt, AreCurrentWords, one_operand_effect, effect, IsCurrentInstruction, IsNoInstruction, IsStopped, stop_of};
 ghost use Rattle.msp_step.specs.Step.{execution, StepResult, Costs};
@@ -123,12 +122,8 @@ pub fn current_instruction<B: Bus>(cpu: &Cpu, bus: &B) -> Result<Instr, Stop>
 }
 
 /// The effect of an instruction of one operand.
-fn perform_one_operand<B: Bus>(
-    cpu: &mut Cpu,
-    bus: &mut B,
-    one: OneOp,
-) -> Result<Option<(u16, u16)>, Fault>
-    ensures { answer (λ a. (registers_of cpu.new, a)) result bus.new ≡ one_operand_effect B.model one (registers_of cpu.old) bus.old }
+fn perform_one_operand<B: Bus>(cpu: &mut Cpu, bus: &mut B, one: OneOp) -> Result<Option<u16>, Fault>
+    ensures { answer (λ a. (registers_of cpu.new, a)) result bus.new ≡ addressed (one_operand_effect B.model one (registers_of cpu.old) bus.old) }
 {
     match one {
         OneOp::Rrc(w, p) => read_modify_write(cpu, bus, Modification::Rrc, w, p),
@@ -143,8 +138,8 @@ fn perform_one_operand<B: Bus>(
 /// The effect of an instruction.
 #[inline(always)]
 #[tactic(auto, unfolding(crate::specs::Step::effect))]
-fn perform<B: Bus>(cpu: &mut Cpu, bus: &mut B, i: &Instr) -> Result<Option<(u16, u16)>, Fault>
-    ensures { answer (λ a. (registers_of cpu.new, a)) result bus.new ≡ effect B.model i.now (registers_of cpu.old) bus.old }
+fn perform<B: Bus>(cpu: &mut Cpu, bus: &mut B, i: &Instr) -> Result<Option<u16>, Fault>
+    ensures { answer (λ a. (registers_of cpu.new, a)) result bus.new ≡ addressed (effect B.model i.now (registers_of cpu.old) bus.old) }
 {
     match *i {
         Instr::Two {
@@ -159,15 +154,6 @@ fn perform<B: Bus>(cpu: &mut Cpu, bus: &mut B, i: &Instr) -> Result<Option<(u16,
         }
         Instr::One(one) => perform_one_operand(cpu, bus, one),
         Instr::Reti => reti_effect(cpu, bus),
-    }
-}
-
-fn address_of(wrote: Option<(u16, u16)>) -> Option<u16>
-    ensures { result ≡ option_map (λ p. p.0) wrote }
-{
-    match wrote {
-        Some((a, _)) => Some(a),
-        None => None,
     }
 }
 
@@ -200,7 +186,7 @@ pub fn execute<B: Bus>(cpu: &mut Cpu, bus: &mut B, instruction: &Instr) -> Resul
     match perform(cpu, bus, instruction) {
         Ok(wrote) => Ok(Stepped {
             cycles: cycles(instruction),
-            wrote: address_of(wrote),
+            wrote,
         }),
         Err(fault) => {
             *cpu = before;

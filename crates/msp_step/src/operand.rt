@@ -2,7 +2,7 @@
 
 ghost use Rattle.std.specs.Prelude.{◌≡◌, ℕ, ◌+◌, ◌*◌, ◌/◌, ◌%◌, ◌<◌, ◌≤◌};
 ghost use Rattle.msp_step.specs.Access.{read_at, write_at};
-ghost use Rattle.msp_step.specs.Answer.{answer};
+ghost use Rattle.msp_step.specs.Answer.{answer, addressed};
 ghost use Rattle.msp_step.specs.Registers.{registers_of, with_register};
 ghost use Rattle.msp_step.specs.Effect.{load, store, source, operand_location, destination_location, incremented, step_of, register_of, word_sum};
 ghost use Rattle.msp_isa.specs.Encoding.{index_number, register_number};
@@ -108,8 +108,8 @@ pub fn store<B: Bus>(
     width: Width,
     at: Location,
     v: u16,
-) -> Result<Option<(u16, u16)>, Fault>
-    ensures { answer (λ a. (registers_of cpu.new, a)) result bus.new ≡ store B.model (registers_of cpu.old) width at v bus.old }
+) -> Result<Option<u16>, Fault>
+    ensures { answer (λ a. (registers_of cpu.new, a)) result bus.new ≡ addressed (store B.model (registers_of cpu.old) width at v bus.old) }
 {
     match at {
         Location::Register(r) => {
@@ -117,7 +117,7 @@ pub fn store<B: Bus>(
             Ok(None)
         }
         Location::Memory(a) => match bus.write(a, width, v) {
-            Ok(()) => Ok(Some((a, v))),
+            Ok(()) => Ok(Some(a)),
             Err(refused) => Err(Fault {
                 refused,
                 address: a,

@@ -17,10 +17,9 @@ use Rattle.path_sums.specs.Access.{is_same, writes, SomePath, IsPrivate, summary
 use Rattle.path_sums.specs.Access.{private_of}
 use Rattle.path_sums.specs.declared.access.AccessSummary.{AccessSummary}
 use Rattle.path_sums.proofs.Interface.{writes_some, private_is}
-use Rattle.source_values.specs.alp_words.Words.{bit}
-use Rattle.source_values.specs.Values.{Variables, word_at, with_word, two_words, scalar_value, by_width, converted, value_of, holds, is_settled}
-use Rattle.source_values.specs.Values.{unary_result, binary_result, shift_result, type_of, ◌>>?◌}
-use Rattle.source_values.specs.Statements.{Attempt, Outcome, goes_on, to_task, short, and_then, if_value, assigned, assigned_to, assigned_value, word_of}
+use Rattle.source_values.specs.Values.{Variables, Attempt, Evaluated, word_at, with_word, two_words, scalar_value, by_width, converted, value_of, holds}
+use Rattle.source_values.specs.Values.{evaluated, gives, made_of, reading_of, truth_word, is_settled, unary_result, binary_result, shift_result, type_of, ◌>>?◌}
+use Rattle.source_values.specs.Statements.{Outcome, goes_on, to_task, short, and_then, if_value, with_value, assigned, assigned_to, assigned_value, word_of}
 use Rattle.source_values.specs.Statements.{turns, run_statement}
 use Rattle.source_values.specs.Statements.{run_choice, run_block}
 use Rattle.path_runs.specs.Laws.{HasWords, IsScalarInStatement, IsScalarInChoice, IsScalarIn, FirstWritesForget}
@@ -104,10 +103,6 @@ turns_untouched : (a b : Bool) (s : AccessSummary) → s.untouched ≡ true → 
 turns_untouched true b s h = refl
 turns_untouched false true s h = h
 turns_untouched false false s h = both_hold s.untouched s.untouched h h
-
-bind_same : {A B : Type 0} (o : Option A) (f g : A → Option B) → ((x : A) → f x ≡ g x) → (o >>? f) ≡ (o >>? g)
-bind_same None f g h = refl
-bind_same (Some x) f g h = h x
 
 module _ (v n at word : ℕ) (inside : at < n) where
   abbrev of_expression : CheckedExpression → AccessSummary
@@ -252,38 +247,65 @@ module _ (v n at word : ℕ) (inside : at < n) where
   scalar_same : (m : Variables) (n : VariableName) → is_same (Shared v) n.variable ≡ false → scalar_value (other m) n ≡ scalar_value m n
   scalar_same m n h = ap₂ (λ low high. by_width n.word_type low (two_words low high)) (word_same m n.variable 0 h) (word_same m n.variable 1 h)
 
-  value_same : (e : CheckedExpression) (m : Variables) (rs : List ℕ) → (of_expression e).exposed ≡ false → value_of e (other m) rs ≡ value_of e m rs
+  -- the same value, and behind it the other word still
+  abbrev in_other : Option Evaluated → Option Evaluated
+  in_other o = o >>? λ x. gives x.value (other_in x.behind)
+
+  bind_other : (o : Option Evaluated) (f g : Evaluated → Option Evaluated)
+      → ((x : Evaluated) → f (evaluated x.value (other_in x.behind)) ≡ in_other (g x)) → (in_other o >>? f) ≡ in_other (o >>? g)
+  bind_other None f g h = refl
+  bind_other (Some x) f g h = h x
+
+  made_other : (f : ℕ → ℕ) (o : Option Evaluated) → made_of f (in_other o) ≡ in_other (made_of f o)
+  made_other f None = refl
+  made_other f (Some x) = refl
+
+  value_same : (e : CheckedExpression) (s : Attempt) → (of_expression e).exposed ≡ false → value_of e (other_in s) ≡ in_other (value_of e s)
   unfolding summary
-  value_same (t.number _) m rs h = refl
-  value_same (t.long_number _) m rs h = refl
-  value_same (t.name n) m rs h = ap (λ w. Some (w, rs)) (scalar_same m n (unread (is_same (Shared v) n.variable) h))
-  value_same (t.element n index) m rs h =
+  value_same (t.number _) s h = refl
+  value_same (t.long_number _) s h = refl
+  value_same (t.name n) s h = ap (λ w. gives w (other_in s)) (scalar_same s.variables n (unread (is_same (Shared v) n.variable) h))
+  value_same (t.element n index) s h =
       let i = of_expression index in
       let parts = or_none i.exposed _ h in
       let first = expression_untouched index parts.0 in
       let apart = unread (is_same (Shared v) n.variable) (second_none i.untouched _ parts.1 first) in
-      ap (λ o. o >>? λ i. Some (word_at (other m) n.variable i.0, i.1)) (value_same index m rs parts.0)
-      ∙ bind_same (value_of index m rs) (λ i. Some (word_at (other m) n.variable i.0, i.1)) (λ i. Some (word_at m n.variable i.0, i.1))
-      (λ i. ap (λ w. Some (w, i.1)) (word_same m n.variable i.0 apart))
-  value_same t.sense m rs h = refl
-  value_same (t.unary op a) m rs h = ap (λ o. o >>? λ x. Some (unary_result op (type_of a) x.0, x.1)) (value_same a m rs h)
-  value_same (t.binary op a b) m rs h =
+      let read : Evaluated → Option Evaluated = λ i. gives (word_at i.behind.variables n.variable i.value) i.behind in
+      ap (λ o. o >>? read) (value_same index s parts.0)
+      ∙ bind_other (value_of index s) read read (λ i. ap (λ w. gives w (other_in i.behind)) (word_same i.behind.variables n.variable i.value apart))
+  value_same t.sense s h = by s.left
+    where
+      by : (rs : List ℕ) → reading_of rs (other_in s) ≡ in_other (reading_of rs s)
+      by [] = refl
+      by (r ∷ rs) = refl
+  value_same (t.unary op a) s h =
+      let f = unary_result op (type_of a) in
+      ap (made_of f) (value_same a s h) ∙ made_other f (value_of a s)
+  value_same (t.binary op a b) s h =
       let parts = or_none (of_expression a).exposed _ h in
       let second = second_none (of_expression a).untouched _ parts.1 (expression_untouched a parts.0) in
-      let f : ℕ × List ℕ → ℕ × List ℕ → Option (ℕ × List ℕ) = λ x y. Some (binary_result op.operator (type_of a) (type_of b) x.0 y.0, y.1) in
-      ap (λ o. o >>? λ x. value_of b (other m) x.1 >>? f x) (value_same a m rs parts.0)
-      ∙ bind_same (value_of a m rs) (λ x. value_of b (other m) x.1 >>? f x) (λ x. value_of b m x.1 >>? f x)
-      (λ x. ap (λ o. o >>? f x) (value_same b m x.1 second))
-  value_same (t.shift op a count) m rs h = ap (λ o. o >>? λ x. Some (shift_result op (type_of a) x.0 count.value, x.1)) (value_same a m rs h)
-  value_same (t.short_circuit op a b) m rs h =
+      let f = binary_result op.operator (type_of a) (type_of b) in
+      let more : Evaluated → Option Evaluated = λ x. made_of (f x.value) (value_of b x.behind) in
+      ap (λ o. o >>? more) (value_same a s parts.0)
+      ∙ bind_other (value_of a s) more more
+      (λ x. ap (made_of (f x.value)) (value_same b x.behind second) ∙ made_other (f x.value) (value_of b x.behind))
+  value_same (t.shift op a count) s h =
+      let f : ℕ → ℕ = λ w. shift_result op (type_of a) w count.value in
+      ap (made_of f) (value_same a s h) ∙ made_other f (value_of a s)
+  value_same (t.short_circuit op a b) s h =
       let sides = or_none (of_expression a).exposed _ h in
       let parts = or_none (of_expression a).exposed _ sides.1 in
       let second = second_none (of_expression a).untouched _ parts.1 (expression_untouched a sides.0) in
-      let f : ℕ × List ℕ → Option (ℕ × List ℕ) → Option (ℕ × List ℕ) =
-      λ x o. if is_settled op x.0 then Some (bit (holds x.0), x.1) else (o >>? λ y. Some (bit (holds y.0), y.1)) in
-      ap (λ o. o >>? λ x. f x (value_of b (other m) x.1)) (value_same a m rs sides.0)
-      ∙ bind_same (value_of a m rs) (λ x. f x (value_of b (other m) x.1)) (λ x. f x (value_of b m x.1))
-      (λ x. ap (f x) (value_same b m x.1 second))
+      let more : Evaluated → Option Evaluated =
+      λ x. if is_settled op x.value then gives (truth_word x.value) x.behind else made_of truth_word (value_of b x.behind) in
+      ap (λ o. o >>? more) (value_same a s sides.0)
+      ∙ bind_other (value_of a s) more more (λ x. by (is_settled op x.value) x (value_same b x.behind second))
+    where
+      by : (settled : Bool) (x : Evaluated) → value_of b (other_in x.behind) ≡ in_other (value_of b x.behind)
+          → (if settled then gives (truth_word x.value) (other_in x.behind) else made_of truth_word (value_of b (other_in x.behind)))
+          ≡ in_other (if settled then gives (truth_word x.value) x.behind else made_of truth_word (value_of b x.behind))
+      by true x e = refl
+      by false x e = ap (made_of truth_word) e ∙ made_other truth_word (value_of b x.behind)
 
   -- ---- outcomes
 
@@ -306,15 +328,13 @@ module _ (v n at word : ℕ) (inside : at < n) where
       by (apart u d h i) = apart u (both_hold b c e d) (ap (λ z. and_then z next) f ∙ h) (ap (λ z. and_then z next) g ∙ i)
 
   value_alike : (b : Bool) (e : CheckedExpression) (s : Attempt) (next : ℕ → Attempt → Outcome) → (of_expression e).exposed ≡ false
-      → ((w : ℕ) (s : Attempt) → Alike b (next w s) (next w (other_in s)))
-      → Alike b (if_value (value_of e s.variables s.left) s next) (if_value (value_of e (other s.variables) s.left) (other_in s) next)
+      → ((w : ℕ) (s : Attempt) → Alike b (next w s) (next w (other_in s))) → Alike b (with_value e s next) (with_value e (other_in s) next)
   value_alike b e s next h k =
-      subst (λ o. Alike b (if_value (value_of e s.variables s.left) s next) (if_value o (other_in s) next)) (sym (value_same e s.variables s.left h))
-      (by (value_of e s.variables s.left))
+      subst (λ o. Alike b (with_value e s next) (if_value o next)) (sym (value_same e s h)) (by (value_of e s))
     where
-      by : (o : Option (ℕ × List ℕ)) → Alike b (if_value o s next) (if_value o (other_in s) next)
+      by : (o : Option Evaluated) → Alike b (if_value o next) (if_value (in_other o) next)
       by None = same refl
-      by (Some x) = k x.0 (record s { left = x.1 })
+      by (Some x) = k x.value x.behind
 
   -- one word is written
   write_alike : (x : Variable) (w : ℕ) (s : Attempt) → (is_same (Shared v) x ≡ true → n ≤ 1)
@@ -435,8 +455,7 @@ module _ (v n at word : ℕ) (inside : at < n) where
 
   set_alike : (x : VariableName) (e : CheckedExpression) → HasWords v n x → IsClean (summary_seq (of_expression e) (of_write x.variable)) → (a : Attempt)
       → Alike ((of_expression e).untouched && (of_write x.variable).untouched)
-      (if_value (value_of e a.variables a.left) a (λ w s. goes_on (assigned_value s x e w)))
-      (if_value (value_of e (other a.variables) a.left) (other_in a) (λ w s. goes_on (assigned_value s x e w)))
+      (with_value e a (λ w s. goes_on (assigned_value s x e w))) (with_value e (other_in a) (λ w s. goes_on (assigned_value s x e w)))
   set_alike x e its clean a =
       let unread = (clean_first (of_expression e) (of_write x.variable) clean).exposed in
       value_alike ((of_expression e).untouched && (of_write x.variable).untouched) e a (λ w s. goes_on (assigned_value s x e w)) unread
@@ -467,7 +486,7 @@ module _ (v n at word : ℕ) (inside : at < n) where
         let unwritten : (of_write x.variable).untouched ≡ true = ap (λ b. (if b then summary_write else summary_unit).untouched) plain in
         let touched = i.untouched && (j.untouched && (of_write x.variable).untouched) in
         let all = both_hold i.untouched _ (expression_untouched index first) (both_hold j.untouched _ (expression_untouched e second) unwritten) in
-        value_alike touched index a (λ i s. if_value (value_of e s.variables s.left) s (λ w s. goes_on (assigned s x.variable i (word_of e w)))) first
+        value_alike touched index a (λ i s. with_value e s (λ w s. goes_on (assigned s x.variable i (word_of e w)))) first
         (λ i s. value_alike touched e s (λ w s. goes_on (assigned s x.variable i (word_of e w))) second
         (λ w s. apart (assigned s x.variable i (word_of e w)) all refl
         (ap (λ m. goes_on (record s { variables = m })) (set_later s.variables x.variable i (word_of e w) plain))))

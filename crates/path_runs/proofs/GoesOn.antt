@@ -1,14 +1,15 @@
 -- A run that goes on shows that some path goes on.
-use Rattle.std.proofs.Common.{◌≡◌, ℕ, zero, suc, ◌+◌, ◌-◌, ◌==◌, List, [], ◌∷◌, ◌++◌, Bool, true, false, ◌&&◌, ◌||◌, Option, Some, None, refl, subst}
+use Rattle.std.proofs.Common.{◌≡◌, ℕ, zero, suc, ◌+◌, ◌-◌, ◌==◌, [], ◌∷◌, ◌++◌, Bool, true, false, ◌&&◌, ◌||◌, Some, None, refl, subst}
 use Rattle.std.proofs.Common.{if◌then◌else◌}
 use Rattle.std.proofs.lemmas.Bool.{or_left, or_right}
 use Rattle.source_values.specs.task_ast.Tree as t
 use Rattle.source_values.specs.task_ast.declared.names.Variable.{Variable}
-use Rattle.source_values.specs.task_ast.Paths.{CheckedStatement, CheckedChoice, CheckedBlock}
-use Rattle.source_values.specs.Values.{value_of, holds}
-use Rattle.source_values.specs.Statements.{Attempt, Outcome, goes_on, to_task, short, and_then, if_value, assigned, assigned_value, word_of, turns}
+use Rattle.source_values.specs.task_ast.Paths.{CheckedExpression, CheckedStatement, CheckedChoice, CheckedBlock}
+use Rattle.source_values.specs.Values.{holds}
+use Rattle.source_values.specs.Statements.{Attempt, Outcome, goes_on, to_task, short, and_then, with_value, assigned, assigned_value, word_of, turns}
 use Rattle.source_values.specs.Statements.{run_statement, run_choice, run_block}
 use Rattle.path_sums.specs.Reaches.{statement_falls_through, choice_falls_through, block_falls_through}
+use Rattle.source_values.proofs.Interface.{for_value}
 use Rattle.path_runs.specs.Laws.{RunsGoOnAlongPaths}
 
 -- an outcome that goes on only where this is so
@@ -32,10 +33,10 @@ both b c (goes_on s) next h k = weaker c (b && c) (and_next b c h) (next s) (k s
 both b c (to_task i s) next h k = tt
 both b c short next h k = tt
 
-with_any : (b : Bool) (o : Option (ℕ × List ℕ)) (s : Attempt) (next : ℕ → Attempt → Outcome) → ((w : ℕ) (s : Attempt) → GoesOnIf b (next w s))
-    → GoesOnIf b (if_value o s next)
-with_any b None s next h = tt
-with_any b (Some x) s next h = h x.0 (record s { left = x.1 })
+-- whatever a value is
+with_any : (b : Bool) (e : CheckedExpression) (s : Attempt) (next : ℕ → Attempt → Outcome) → ((w : ℕ) (s : Attempt) → GoesOnIf b (next w s))
+    → GoesOnIf b (with_value e s next)
+with_any b e s next h = for_value (GoesOnIf b) e s next tt (λ w u is. h w u)
 
 either : (b c test : Bool) (o q : Outcome) → GoesOnIf b o → GoesOnIf c q → GoesOnIf (b || c) (if test then o else q)
 either b c true o q h k = weaker b (b || c) (or_left b c) o h
@@ -57,24 +58,24 @@ turns_go f (suc n) k x body s h =
 mutual
   statement_goes : (s : CheckedStatement) (a : Attempt) → GoesOnIf (statement_falls_through s) (run_statement s a)
   statement_goes (t.declare of x None) a = refl
-  statement_goes (t.declare of x (Some e)) a = with_any true (value_of e a.variables a.left) a (λ w s. goes_on (assigned_value s x e w)) (λ w s. refl)
-  statement_goes (t.assign x e) a = with_any true (value_of e a.variables a.left) a (λ w s. goes_on (assigned_value s x e w)) (λ w s. refl)
+  statement_goes (t.declare of x (Some e)) a = with_any true e a (λ w s. goes_on (assigned_value s x e w)) (λ w s. refl)
+  statement_goes (t.assign x e) a = with_any true e a (λ w s. goes_on (assigned_value s x e w)) (λ w s. refl)
   statement_goes (t.store x index e) a =
-      with_any true (value_of index a.variables a.left) a
-      (λ i s. if_value (value_of e s.variables s.left) s (λ w s. goes_on (assigned s x.variable i (word_of e w))))
-      (λ i s. with_any true (value_of e s.variables s.left) s (λ w s. goes_on (assigned s x.variable i (word_of e w))) (λ w s. refl))
+      with_any true index a
+      (λ i s. with_value e s (λ w s. goes_on (assigned s x.variable i (word_of e w))))
+      (λ i s. with_any true e s (λ w s. goes_on (assigned s x.variable i (word_of e w))) (λ w s. refl))
   statement_goes (t.choose c) a = choice_goes c a
   statement_goes (t.loop x from tested below stepped body) a =
       turns_go (block_falls_through body) (below - from) from x.variable (run_block body) a (block_goes body)
   statement_goes (t.emit e) a =
-      with_any true (value_of e a.variables a.left) a (λ w s. goes_on (record s { emitted = s.emitted ++ word_of e w ∷ [] })) (λ w s. refl)
+      with_any true e a (λ w s. goes_on (record s { emitted = s.emitted ++ word_of e w ∷ [] })) (λ w s. refl)
   statement_goes (t.transition n) a = tt
 
   choice_goes : (c : CheckedChoice) (a : Attempt) → GoesOnIf (choice_falls_through c) (run_choice c a)
   choice_goes t.nothing a = refl
   choice_goes (t.otherwise b) a = block_goes b a
   choice_goes (t.test e b more) a =
-      with_any (block_falls_through b || choice_falls_through more) (value_of e a.variables a.left) a
+      with_any (block_falls_through b || choice_falls_through more) e a
       (λ w s. if holds w then run_block b s else run_choice more s)
       (λ w s. either (block_falls_through b) (choice_falls_through more) (holds w) (run_block b s) (run_choice more s) (block_goes b s) (choice_goes more s))
 

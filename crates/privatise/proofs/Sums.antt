@@ -40,9 +40,9 @@ total_split f g h (t ∷ ts) e =
     let rest : total f ts ≡ total g ts + total h ts = total_split f g h ts e in
     omega (arith, here, rest)
 
-together : (t e b p h c v l m w : ℕ) → t ≡ e + b → p ≡ h + c + v → w ≡ 600 + t + p + 3 * l + m
-    → row_words + commit_words + 3 * l + m + v + h + c + (own_boot_words + e) + b + 1 ≡ w
-together t e b p h c v l m w x y z = omega (arith, x, y, z)
+together : (t e b p h c v l m : ℕ) → t ≡ e + b → p ≡ h + c + v
+    → row_words + commit_words + 3 * l + m + v + h + c + (own_boot_words + e) + b + 1 ≡ 600 + t + p + 3 * l + m
+together t e b p h c v l m x y = omega (arith, x, y)
 
 -- a word for the vector, those of the runtime, the buffers, the variables, and the code of boot, commit and tasks
 pub words_split : (p : CheckedProgram) → row_words + commit_words + 3 * greatest
@@ -50,8 +50,8 @@ pub words_split : (p : CheckedProgram) → row_words + commit_words + 3 * greate
     (body_words p.shared) p.tasks + 1
     ≡ words_of p
 words_split p = together (total (task_words p.shared) p.tasks) (total (entry_words p.shared) p.tasks) (total (body_words p.shared) p.tasks) _
-    (home_words p.shared) (copy_words p) (versions_of p) (greatest (list_of p.shared) p.tasks) (greatest emits_of p.tasks) (words_of p)
-    (total_split (task_words p.shared) (entry_words p.shared) (body_words p.shared) p.tasks (λ c. refl)) (places_split (is_written p.tasks) 0 p.shared) refl
+    (home_words p.shared) (copy_words p) (versions_of p) (greatest (list_of p.shared) p.tasks) (greatest emits_of p.tasks)
+    (total_split (task_words p.shared) (entry_words p.shared) (body_words p.shared) p.tasks (λ c. refl)) (places_split (is_written p.tasks) 0 p.shared)
 
 part_small : (rest t w : ℕ) → rest + t + 1 ≡ w → w ≤ 22000 → t ≤ 22000
 part_small rest t w e h = omega (arith, e, h)

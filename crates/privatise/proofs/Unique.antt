@@ -21,7 +21,7 @@ use Rattle.privatise.specs.Layouts.{IsPlaceOf, IsTaskLayout, IsLayout}
 use Rattle.privatise.specs.Laws.{OneLayout}
 use Rattle.memory_map.proofs.Interface.{apart_of}
 use Rattle.privatise.proofs.Sums.{words_split}
-use Rattle.privatise.proofs.Whole.{add_up}
+use Rattle.privatise.proofs.Whole.{Amounts, needed, adds_up}
 use Rattle.privatise.proofs.Tight.{IsChain, bytes, same_chain, kinds_from, same_variables}
 
 -- ---- tasks
@@ -81,19 +81,22 @@ task_room shared (t ∷ ts) (p ∷ ps) (l ∷ ls) from end (here, others) (b, re
 begins : (from a w n rest end : ℕ) → from ≤ a → w ≡ n → a + 2 * w + 2 * rest ≤ end → end ≤ from + 2 * (n + rest) → a ≡ from
 begins from a w n rest end x y z t = omega (arith, x, y, z, t)
 
+-- layouts of the tasks, with the code of each between two addresses
+abbrev AreLaidOut : List SharedDeclaration → List VariablePlace → List CheckedTask → List TaskPlanValue → (from end : ℕ) → List TaskPlace → Type 0
+AreLaidOut shared places ts ps from end xs =
+    AreOfTasks shared ts ps xs × All (λ t. All (HasItsPlace places) t.privates) xs × AreInOrder from (map (λ t. t.code) xs) end
+
 same_tasks : (shared : List SharedDeclaration) (places : List VariablePlace) (ts : List CheckedTask) (ps : List TaskPlanValue) (xs ys : List TaskPlace)
-    (from end : ℕ) → end ≤ from + 2 * total (body_words shared) ts
-    → AreOfTasks shared ts ps xs → AreOfTasks shared ts ps ys → All (λ t. All (HasItsPlace places) t.privates) xs
-    → All (λ t. All (HasItsPlace places) t.privates) ys
-    → AreInOrder from (map (λ t. t.code) xs) end → AreInOrder from (map (λ t. t.code) ys) end → xs ≡ ys
-same_tasks shared places [] [] [] [] from end t j k a b x y = refl
-same_tasks shared places [] [] [] (_ ∷ _) from end t j k a b x y = absurd k
-same_tasks shared places [] [] (_ ∷ _) ys from end t j k a b x y = absurd j
-same_tasks shared places [] (_ ∷ _) xs ys from end t j k a b x y = absurd j
-same_tasks shared places (_ ∷ _) [] xs ys from end t j k a b x y = absurd j
-same_tasks shared places (_ ∷ _) (_ ∷ _) [] ys from end t j k a b x y = absurd j
-same_tasks shared places (_ ∷ _) (_ ∷ _) (_ ∷ _) [] from end t j k a b x y = absurd k
-same_tasks shared places (task ∷ ts) (p ∷ ps) (l ∷ ls) (m ∷ ms) from end t (here, others) (here', others') a b (x, xs) (y, ys) =
+    (from end : ℕ) → end ≤ from + 2 * total (body_words shared) ts → AreLaidOut shared places ts ps from end xs → AreLaidOut shared places ts ps from end ys
+    → xs ≡ ys
+same_tasks shared places [] [] [] [] from end t x y = refl
+same_tasks shared places [] [] [] (_ ∷ _) from end t x y = absurd y.0
+same_tasks shared places [] [] (_ ∷ _) ys from end t x y = absurd x.0
+same_tasks shared places [] (_ ∷ _) xs ys from end t x y = absurd x.0
+same_tasks shared places (_ ∷ _) [] xs ys from end t x y = absurd x.0
+same_tasks shared places (_ ∷ _) (_ ∷ _) [] ys from end t x y = absurd x.0
+same_tasks shared places (_ ∷ _) (_ ∷ _) (_ ∷ _) [] from end t x y = absurd y.0
+same_tasks shared places (task ∷ ts) (p ∷ ps) (l ∷ ls) (m ∷ ms) from end t ((here, others), a, (x, xs)) ((here', others'), b, (y, ys)) =
     let P = λ (t : TaskPlace). All (HasItsPlace places) t.privates in
     let n = body_words shared task.body in
     let rest = total (body_words shared) ts in
@@ -107,8 +110,9 @@ same_tasks shared places (task ∷ ts) (p ∷ ps) (l ∷ ls) (m ∷ ms) from end
     let same : l ≡ m = λ j. record { privates = privates j; code = record { address = address j; words = words j } } in
     let l_end : end_of l.code ≡ from + 2 * n = ended l.code.address l.code.words from n lat here.words in
     let m_end : end_of m.code ≡ from + 2 * n = ended m.code.address m.code.words from n mat here'.words in
-    let behind = same_tasks shared places ts ps ls ms (from + 2 * n) end (less from n rest end t) others others' (All-tail P l ls a) (All-tail P m ms b)
-    (subst (λ f. AreInOrder f (map (λ t. t.code) ls) end) l_end xs) (subst (λ f. AreInOrder f (map (λ t. t.code) ms) end) m_end ys) in
+    let behind = same_tasks shared places ts ps ls ms (from + 2 * n) end (less from n rest end t)
+    (others, All-tail P l ls a, subst (λ f. AreInOrder f (map (λ t. t.code) ls) end) l_end xs)
+    (others', All-tail P m ms b, subst (λ f. AreInOrder f (map (λ t. t.code) ms) end) m_end ys) in
     ap (λ t. t ∷ ls) same ∙ ap (λ ts. m ∷ ts) behind
   where
     ended : (a w from n : ℕ) → a ≡ from → w ≡ n → a + 2 * w ≡ from + 2 * n
@@ -153,12 +157,11 @@ full : (l m v h c b t w : ℕ) → (row_words + commit_words + 3 * l + m + v + h
 full l m v h c b t w e = omega (arith, e)
 
 all_full : (p : CheckedProgram) (allow : Allow) → IsAllowed p allow → fram_first - 2 + 2 * words_of p ≤ fram_first + bytes (sizes p allow)
-all_full p allow a = full allow.list allow.emits allow.versions (home_words p.shared) (copy_words p) (boot_words p.shared p.tasks)
-    (total (body_words p.shared) p.tasks) (words_of p)
-    (add_up (greatest (list_of p.shared) p.tasks) (greatest emits_of p.tasks) (versions_of p) (home_words p.shared) (copy_words p)
-    (boot_words p.shared p.tasks) (total (body_words p.shared) p.tasks) (words_of p)
-    allow.list allow.emits allow.versions (home_words p.shared) (copy_words p) (boot_words p.shared p.tasks) (total (body_words p.shared) p.tasks)
-    (words_split p) a.list a.emits a.versions refl refl refl refl)
+all_full p allow a =
+    let n = needed p in
+    let given : Amounts = record n { list = allow.list; emits = allow.emits; versions = allow.versions } in
+    full allow.list allow.emits allow.versions n.homes n.copies n.boot n.code (words_of p)
+    (adds_up p given (λ j. record n { list = a.list j; emits = a.emits j; versions = a.versions j }))
 
 same_addresses : (p : CheckedProgram) (allow : Allow) (plans : List TaskPlanValue) (a b : MemoryMap) → IsAllowed p allow → IsLayout p allow plans a
     → IsLayout p allow plans b → addresses a ≡ addresses b
@@ -173,6 +176,7 @@ behind a w n e = omega (arith, e)
 
 pub one_layout : (p : CheckedProgram) (allow : Allow) → IsAllowed p allow → OneLayout p allow
 one_layout p allow h plans a b planned x y = λ j. record {
+  runtime = runtime j;
   row = at 0 j;
   list = list j;
   entries = entries j;
@@ -189,6 +193,9 @@ one_layout p allow h plans a b planned x y = λ j. record {
   where
     at : (k : ℕ) → get_or (addresses a) k 0 ≡ get_or (addresses b) k 0
     at k = ap (λ xs. get_or xs k 0) (same_addresses p allow plans a b h x y)
+
+    runtime : a.runtime ≡ b.runtime
+    runtime = x.runtime ∙ sym y.runtime
 
     entries : a.entries ≡ b.entries
     entries = x.list ∙ sym y.list
@@ -242,7 +249,8 @@ one_layout p allow h plans a b planned x y = λ j. record {
     tasks : a.tasks ≡ b.tasks
     tasks = same_tasks p.shared a.variables p.tasks plans a.tasks b.tasks a.code.address (end_of a.code)
         (behind a.code.address a.code.words (total (body_words p.shared) p.tasks) x.code)
-        (of_tasks p.shared p.tasks plans a.tasks planned.count x.tasks.count x.tasks.each)
-        (of_tasks p.shared p.tasks plans b.tasks planned.count y.tasks.count y.tasks.each)
-        x.rules.privates (subst (λ vs. All (λ t. All (HasItsPlace vs) t.privates) b.tasks) (sym variables) y.rules.privates)
-        x.rules.code (subst (λ r. AreInOrder r.address (map (λ t. t.code) b.tasks) (end_of r)) (sym code) y.rules.code)
+        (of_tasks p.shared p.tasks plans a.tasks planned.count x.tasks.count x.tasks.each, x.rules.privates, x.rules.code) (
+          of_tasks p.shared p.tasks plans b.tasks planned.count y.tasks.count y.tasks.each,
+          subst (λ vs. All (λ t. All (HasItsPlace vs) t.privates) b.tasks) (sym variables) y.rules.privates,
+          subst (λ r. AreInOrder r.address (map (λ t. t.code) b.tasks) (end_of r)) (sym code) y.rules.code,
+        )

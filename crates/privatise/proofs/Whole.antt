@@ -25,7 +25,7 @@ use Rattle.privatise.specs.declared.sizes.Sizes.{Sizes}
 use Rattle.memory_map.specs.declared.layouts.Regions.{Regions}
 use Rattle.memory_map.specs.declared.place.Region.{Region}
 use Rattle.memory_map.specs.Words.{row_words}
-use Rattle.memory_map.specs.MemoryMap.{TaskPlace, parts, row_region}
+use Rattle.memory_map.specs.MemoryMap.{TaskPlace, parts, row_region, lone_redo}
 use Rattle.memory_map.specs.View.{map_with}
 use Rattle.memory_map.specs.Places.{end_of, list_entry_room, home_region, copy_regions, version_regions, IsBehind, AreInOrder, IsLaidOut}
 use Rattle.privatise.specs.Sizes.{home_words, copy_part, copy_words, body_words, boot_words, commit_words}
@@ -40,18 +40,56 @@ AreWritten p written = (i : ℕ) → i < 256 → slice_index_or written i false 
 
 -- ---- the sizes
 
-pub add_up : (l m v h c b t w al am av sh sc sb st : ℕ) → row_words + commit_words + 3 * l + m + v + h + c + b + t + 1 ≡ w → al ≡ l → am ≡ m → av ≡ v → sh ≡ h
-    → sc ≡ c → sb ≡ b → st ≡ t
-    → (row_words + commit_words + 3 * al + am + av + sh + sc + sb + st) + 1 ≡ w
-add_up l m v h c b t w al am av sh sc sb st sum x y z p q r s = omega (arith, sum, x, y, z, p, q, r, s)
+-- the words of each region whose size is the source's
+pub record Amounts : Type 0 where
+  pub list : ℕ
+  pub emits : ℕ
+  pub versions : ℕ
+  pub homes : ℕ
+  pub copies : ℕ
+  pub boot : ℕ
+  pub code : ℕ
+
+abbrev pub words_with : Amounts → ℕ
+words_with n = row_words + commit_words + 3 * n.list + n.emits + n.versions + n.homes + n.copies + n.boot + n.code
+
+-- what a source needs
+abbrev pub needed : CheckedProgram → Amounts
+needed p = record {
+  list = greatest (list_of p.shared) p.tasks;
+  emits = greatest emits_of p.tasks;
+  versions = versions_of p;
+  homes = home_words p.shared;
+  copies = copy_words p;
+  boot = boot_words p.shared p.tasks;
+  code = total (body_words p.shared) p.tasks;
+}
 
 -- all but the vector, whose word is the last
+pub adds_up : (p : CheckedProgram) (n : Amounts) → n ≡ needed p → words_with n + 1 ≡ words_of p
+adds_up p n e = ap (λ m. words_with m + 1) e ∙ words_split p
+
 pub sizes_add : (p : CheckedProgram) (allow : Allow) (s : Sizes) → IsAllowed p allow → AreSizes p s
     → (row_words + commit_words + 3 * allow.list + allow.emits + allow.versions + s.homes + s.copies + s.boot + s.code) + 1 ≡ words_of p
 sizes_add p allow s a k =
-    add_up (greatest (list_of p.shared) p.tasks) (greatest emits_of p.tasks) (versions_of p) (home_words p.shared) (copy_words p)
-    (boot_words p.shared p.tasks) (total (body_words p.shared) p.tasks) (words_of p)
-    allow.list allow.emits allow.versions s.homes s.copies s.boot s.code (words_split p) a.list a.emits a.versions k.homes k.copies k.boot k.code
+    let given : Amounts = record {
+      list = allow.list;
+      emits = allow.emits;
+      versions = allow.versions;
+      homes = s.homes;
+      copies = s.copies;
+      boot = s.boot;
+      code = s.code;
+    } in
+    adds_up p given (λ j. record {
+      list = a.list j;
+      emits = a.emits j;
+      versions = a.versions j;
+      homes = k.homes j;
+      copies = k.copies j;
+      boot = k.boot j;
+      code = k.code j;
+    })
 
 below_top : (n w : ℕ) → n + 1 ≡ w → w ≤ 22000 → fram_first + 2 * n ≤ reset_vector
 below_top n w e h = omega (arith, e, h)
@@ -150,12 +188,12 @@ right_behind end r e f = record { from = omega (arith, e); even = f }
 -- the regions in order
 pub chain : (allow : Allow) (s : Sizes) (r : Regions) (places : List VariablePlace) (layouts : List TaskPlace) → AreRegions allow s r
     → fram_first + 2 * (row_words + commit_words + 3 * allow.list + allow.emits + allow.versions + s.homes + s.copies + s.boot + s.code) ≤ reset_vector
-    → AreInOrder fram_first (parts (map_with r places layouts)) reset_vector
+    → AreInOrder fram_first (parts (map_with lone_redo r places layouts)) reset_vector
 chain allow s r places layouts k fits =
     let b = starts allow s r k in
     let e = even_starts allow s r k in
     let end = b.end in
-    let row : IsBehind fram_first (row_region (map_with r places layouts)) = right_behind fram_first _ k.row (ap (λ a. a % 2) k.row) in
+    let row : IsBehind fram_first (row_region (map_with lone_redo r places layouts)) = right_behind fram_first _ k.row (ap (λ a. a % 2) k.row) in
     let list : IsBehind (r.row + 2 * row_words) r.list = right_behind _ r.list k.list (ap (λ a. a % 2) b.list) in
     let emits : IsBehind (end_of r.list) r.emits = right_behind _ r.emits k.emits (even r.emits.address _ b.emits) in
     let versions : IsBehind (end_of r.emits) r.versions = right_behind _ r.versions k.versions e.versions in
@@ -257,63 +295,79 @@ pub code_room : (p : CheckedProgram) (allow : Allow) (s : Sizes) (r : Regions) �
     → r.code.address + 2 * total (body_words p.shared) p.tasks ≤ reset_vector
 code_room p allow s r a k g = code_room_by r.code.address _ s.code _ (starts allow s r g).code (sym k.code) (sizes_fit p allow s a k)
 
+-- what the layouts of tasks are made of
+pub record TaskSources : Type 0 where
+  pub shared : List SharedDeclaration
+  pub places : List VariablePlace
+  pub tasks : List (TaskDeclaration VariableName TaskName)
+  pub plans : List TaskPlanValue
+
 -- the same of equal lists
-pub tasks_moved : (shared shared' : List SharedDeclaration) (places places' : List VariablePlace)
-    (tasks tasks' : List (TaskDeclaration VariableName TaskName)) (plans plans' : List TaskPlanValue) (address : ℕ) (layouts : List TaskPlace)
-    → shared ≡ shared' → places ≡ places' → tasks ≡ tasks' → plans ≡ plans' → ArePlacedTasks shared places (map task_of tasks) plans address layouts
-    → ArePlacedTasks shared' places' (map task_of tasks') plans' address layouts
-tasks_moved shared shared' places places' tasks tasks' plans plans' address layouts a b c d h =
-    subst (λ x. ArePlacedTasks x places' (map task_of tasks') plans' address layouts) a
-    (subst (λ x. ArePlacedTasks shared x (map task_of tasks') plans' address layouts) b
-    (subst (λ x. ArePlacedTasks shared places (map task_of x) plans' address layouts) c
-    (subst (λ x. ArePlacedTasks shared places (map task_of tasks) x address layouts) d h)))
+pub tasks_moved : (a b : TaskSources) (address : ℕ) (layouts : List TaskPlace) → a ≡ b
+    → ArePlacedTasks a.shared a.places (map task_of a.tasks) a.plans address layouts
+    → ArePlacedTasks b.shared b.places (map task_of b.tasks) b.plans address layouts
+tasks_moved a b address layouts e h = subst (λ x. ArePlacedTasks x.shared x.places (map task_of x.tasks) x.plans address layouts) e h
 
 -- ---- the whole
 
 words_end : (a w n m : ℕ) → w ≡ n → n ≡ m → a + 2 * m ≡ a + 2 * w
 words_end a w n m e f = omega (arith, e, f)
 
+-- the sizes, the regions, the places of variables and the layouts of tasks as they are made for a source
+pub record IsPlaced (p : CheckedProgram) (allow : Allow) (plans : List TaskPlanValue) (s : Sizes) (r : Regions) (written : List Bool)
+    (places : List VariablePlace) (layouts : List TaskPlace) : Type 0 where
+  pub few : length p.shared ≤ 256
+  pub written_so : AreWritten p written
+  pub allowed : IsAllowed p allow
+  pub sizes : AreSizes p s
+  pub regions : AreRegions allow s r
+  pub variables : ArePlaced p.shared written (record { home = r.homes.address; copy = r.copies.address; version = r.versions.address }) places
+  pub tasks : ArePlacedTasks p.shared places p.tasks plans r.code.address layouts
+
 pub laid_out : (p : CheckedProgram) (allow : Allow) (plans : List TaskPlanValue) (s : Sizes) (r : Regions) (written : List Bool) (places : List VariablePlace)
-    (layouts : List TaskPlace)
-    → length p.shared ≤ 256 → AreWritten p written → IsAllowed p allow → AreSizes p s → AreRegions allow s r
-    → ArePlaced p.shared written (record { home = r.homes.address; copy = r.copies.address; version = r.versions.address }) places
-    → ArePlacedTasks p.shared places p.tasks plans r.code.address layouts
-    → IsLaidOut (map_with r places layouts)
-laid_out p allow plans s r written places layouts few h a k g v t = record {
-  chain = chain allow s r places layouts g (sizes_fit p allow s a k);
+    (layouts : List TaskPlace) → IsPlaced p allow plans s r written places layouts → IsLaidOut (map_with lone_redo r places layouts)
+laid_out p allow plans s r written places layouts made = record {
+  chain = chain allow s r places layouts g (sizes_fit p allow s made.allowed k);
   list = g.list_words ∙ ap (λ n. list_entry_room * n) (sym g.entries);
   homes = subst (λ end. AreInOrder r.homes.address (map home_region places) end)
-      (words_end r.homes.address r.homes.words s.homes (home_words p.shared) g.homes_words k.homes) v.homes;
+      (words_end r.homes.address r.homes.words s.homes (home_words p.shared) g.homes_words k.homes) made.variables.homes;
   copies = subst (λ end. AreInOrder r.copies.address (flat_map copy_regions places) end)
-      (words_end r.copies.address r.copies.words s.copies (copy_sum written p.shared) g.copies_words (k.copies ∙ sym (copies_are p written few h))) v.copies;
+      (words_end r.copies.address r.copies.words s.copies (copy_sum written p.shared) g.copies_words
+      (k.copies ∙ sym (copies_are p written made.few made.written_so))) made.variables.copies;
   versions = subst (λ end. AreInOrder r.versions.address (flat_map version_regions places) end)
       (words_end r.versions.address r.versions.words allow.versions (version_sum written p.shared) g.versions_words
-      (a.versions ∙ sym (versions_are p written few h))) v.versions;
+      (made.allowed.versions ∙ sym (versions_are p written made.few made.written_so))) made.variables.versions;
   code = subst (λ end. AreInOrder r.code.address (map (λ t. t.code) layouts) end)
-      (words_end r.code.address r.code.words s.code (total (body_words p.shared) p.tasks) g.code_words k.code) t.code;
-  privates = t.privates;
+      (words_end r.code.address r.code.words s.code (total (body_words p.shared) p.tasks) g.code_words k.code) made.tasks.code;
+  privates = made.tasks.privates;
 }
+  where
+    k : AreSizes p s
+    k = made.sizes
+
+    g : AreRegions allow s r
+    g = made.regions
 
 size_is : (e n w : ℕ) → e ≡ fram_first + 2 * n → n + 1 ≡ w → e + 2 ≤ fram_first + 2 * w
 size_is e n w h k = omega (arith, h, k)
 
 pub whole : (p : CheckedProgram) (allow : Allow) (plans : List TaskPlanValue) (s : Sizes) (r : Regions) (written : List Bool) (places : List VariablePlace)
-    (layouts : List TaskPlace)
-    → length p.shared ≤ 256 → AreWritten p written → IsAllowed p allow → AreSizes p s → AreRegions allow s r
-    → ArePlaced p.shared written (record { home = r.homes.address; copy = r.copies.address; version = r.versions.address }) places
-    → ArePlacedTasks p.shared places p.tasks plans r.code.address layouts
-    → IsLayout p allow plans (map_with r places layouts)
-whole p allow plans s r written places layouts few h a k g v t = record {
-  rules = laid_out p allow plans s r written places layouts few h a k g v t;
-  list = g.entries;
-  emits = g.emits_words;
-  versions = g.versions_words;
-  homes = g.homes_words ∙ k.homes;
-  copies = g.copies_words ∙ k.copies;
-  variables = variables_are p written _ places few h v;
-  boot = g.boot_words ∙ k.boot;
-  commit = g.commit_words;
-  code = g.code_words ∙ k.code;
-  tasks = record { count = t.count; each = t.each };
-  size = size_is (end_of r.code) _ (words_of p) (starts allow s r g).end (sizes_add p allow s a k);
-}
+    (layouts : List TaskPlace) → IsPlaced p allow plans s r written places layouts → IsLayout p allow plans (map_with lone_redo r places layouts)
+whole p allow plans s r written places layouts made =
+    let k = made.sizes in
+    let g = made.regions in
+    record {
+      runtime = refl;
+      rules = laid_out p allow plans s r written places layouts made;
+      list = g.entries;
+      emits = g.emits_words;
+      versions = g.versions_words;
+      homes = g.homes_words ∙ k.homes;
+      copies = g.copies_words ∙ k.copies;
+      variables = variables_are p written _ places made.few made.written_so made.variables;
+      boot = g.boot_words ∙ k.boot;
+      commit = g.commit_words;
+      code = g.code_words ∙ k.code;
+      tasks = record { count = made.tasks.count; each = made.tasks.each };
+      size = size_is (end_of r.code) _ (words_of p) (starts allow s r g).end (sizes_add p allow s made.allowed k);
+    }

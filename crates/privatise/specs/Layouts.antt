@@ -11,7 +11,7 @@ use Rattle.memory_map.specs.address_space.Limits.{fram_first}
 use Rattle.memory_map.specs.declared.place.ScalarWidth.TheVariants.{OneWord, TwoWords}
 use Rattle.memory_map.specs.declared.place.VariablePlace.{VariablePlace}
 use Rattle.memory_map.specs.declared.place.VariablePlace.TheVariants.{Scalar, Array}
-use Rattle.memory_map.specs.MemoryMap.{MemoryMap, TaskPlace}
+use Rattle.memory_map.specs.MemoryMap.{MemoryMap, TaskPlace, lone_redo}
 use Rattle.memory_map.specs.Places.{end_of, IsLaidOut}
 use Rattle.privatise.specs.Sizes.{home_words, copy_words, body_words, boot_words, commit_words}
 
@@ -42,9 +42,10 @@ pub record AreTasks (p : CheckedProgram) (plans : List TaskPlanValue) (tasks : L
   pub each : (k : ℕ) (task : CheckedTask) (plan : TaskPlanValue) (t : TaskPlace) → slice_get p.tasks k ≡ Some task → slice_get plans k ≡ Some plan
       → slice_get tasks k ≡ Some t → IsTaskLayout p.shared task.body plan t
 
--- The layout of a source: it keeps the rules of layouts, its buffers have room for what the source's allowance says, its variables and
+-- The layout of a source for a board that is alone: it keeps the rules of layouts, its buffers have room for what the source's allowance says, its variables and
 -- tasks are those of the source, and the whole takes no more words than the source has, of which the last is the one at FFFE.
 pub record IsLayout (p : CheckedProgram) (allow : Allow) (plans : List TaskPlanValue) (l : MemoryMap) : Type 0 where
+  pub runtime : l.runtime ≡ lone_redo
   pub rules : IsLaidOut l
   pub list : l.entries ≡ allow.list
   pub emits : l.emits.words ≡ allow.emits

@@ -14,7 +14,7 @@ use crate::sizes::{COMMIT, Sizes, sizes_of};
 use crate::tasks::place_tasks;
 use crate::variables::{Free, address_behind, place_variables};
 use cost_bound::{Allow, written_variables};
-use memory_map::{FRAM_FIRST, Layout, ROW_WORDS, Region, Regions};
+use memory_map::{FRAM_FIRST, Layout, Logging, ROW_WORDS, Region, Regions, Role, Runtime};
 use std::alloc::{AllocError, Global};
 use task_ast::CheckedSource;
 use task_check::Checked;
@@ -96,7 +96,11 @@ fn layout_of(
         plan.tasks(),
         regions.code.address,
     )?;
-    Ok(Layout::new(regions, variables, layouts))
+    let runtime = Runtime {
+        logging: Logging::Redo,
+        role: Role::Alone,
+    };
+    Ok(Layout::new(runtime, regions, variables, layouts))
 }
 
 /// Where the data and the code of a source stand; or no memory is left. The allowance and the plan are those of the source.

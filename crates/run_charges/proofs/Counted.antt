@@ -1,21 +1,24 @@
 -- What is observed of the moments of a run tells of the board behind them: the words accepted, and how many readings were taken.
 use Rattle.std.proofs.Common.{◌≡◌, ℕ, ◌%◌, sym, ap, ◌∙◌, subst, List, [], ◌∷◌, ◌++◌, length, append_assoc, append-nil, Ok}
-use Rattle.crash_rules.specs.msp_isa.declared.instructions.Instr.{Instr}
-use Rattle.crash_rules.specs.fram_board.declared.board.Stepped.{Stepped}
-use Rattle.crash_rules.specs.fram_board.Board.{BoardValue, next_number, PowerState, powered, executed, IsNextInstruction}
-use Rattle.crash_rules.specs.fram_board.Saved.{TakesNextBehind}
-use Rattle.crash_rules.specs.fram_board.Steps.{IsPowerState}
-use Rattle.crash_rules.specs.fram_board.Effects.{Effect}
-use Rattle.crash_rules.specs.fram_board.Run.{Moment, moment_of, word_list, accepted_by, accepted_words, BoardCharge, RunOutcome}
-use Rattle.crash_rules.specs.machine_effects.World.{accepted_after}
-use Rattle.crash_rules.specs.machine_effects.View.{IsWhole, IsOfWords}
-use Rattle.crash_rules.specs.machine_effects.Runs.{last_board}
-use Rattle.crash_rules.proofs.machine_effects.Interface.{world_by_its_parts, power_up_keeps_words}
+use Rattle.msp_isa.specs.declared.instructions.Instr.{Instr}
+use Rattle.fram_board.specs.declared.board.Stepped.{Stepped}
+use Rattle.fram_board.specs.Board.{BoardValue, next_number, PowerState, powered, executed, IsNextInstruction}
+use Rattle.fram_board.specs.Saved.{TakesNextBehind}
+use Rattle.fram_board.specs.Steps.{IsPowerState}
+use Rattle.fram_board.specs.Effects.{Effect}
+use Rattle.fram_board.specs.Run.{Moment, moment_of, word_list, accepted_by, accepted_words, BoardCharge, RunOutcome}
+use Rattle.machine_effects.specs.World.{accepted_after}
+use Rattle.machine_effects.specs.View.{IsWhole, IsOfWords}
+use Rattle.machine_effects.specs.Runs.{last_board}
+use Rattle.machine_effects.proofs.Interface.{world_by_its_parts, power_up_keeps_words}
+use Rattle.crash_rules.specs.Model.{Marks}
 use Rattle.crash_rules.specs.History.{History, behind_boot}
 use Rattle.crash_rules.proofs.Interface.{observed_world, observed_taken}
-use Rattle.run_charges.specs.Charges.{behind_action, observed}
+use Rattle.run_charges.specs.View.{Follows, IsMomentFrom, PowersUp, Instructs, AreMoments}
+use Rattle.run_charges.specs.Charges.{behind_moment, observed}
 use Rattle.run_charges.specs.Laws.{IsRunOfWords}
-use Rattle.run_charges.proofs.Moments.{IsMomentFrom, PowersUp, Instructs, AreMoments, front_moments, told, whole_after, words_after, words_accepted}
+use Rattle.run_charges.proofs.View.{follows_keeps}
+use Rattle.run_charges.proofs.Moments.{front_moments, told, whole_after, words_after, words_accepted}
 use Rattle.run_charges.proofs.Moments.{words_counted, readings_counted}
 
 -- the words accepted and the readings taken are a board's
@@ -26,7 +29,19 @@ pub record Counts (b : BoardValue) (h : History) (ws : List ℕ) : Type 0 where
   pub count : TakesNextBehind ws b.receiver
   pub taken : h.taken ≡ b.taken
 
-module _ (gate : ℕ) where
+-- also where the next moment begins
+counts_on : (b c : BoardValue) (h : History) (ws : List ℕ) → Follows b c → Counts b h ws → Counts c h ws
+counts_on b c h ws f k =
+    let keeps = follows_keeps b c f in
+    record {
+      whole = keeps.whole k.whole;
+      words = keeps.words k.words;
+      accepted = k.accepted;
+      count = k.count ∙ sym keeps.number;
+      taken = k.taken ∙ sym keeps.taken;
+    }
+
+module _ (marks : Marks) where
   power_counts : (b : BoardValue) (h : History) (ws : List ℕ) (p : PowerState) → Counts b h ws → IsPowerState p
       → Counts (powered b p) (behind_boot h) (ws ++ [])
   power_counts b h ws p k ok =
@@ -36,40 +51,40 @@ module _ (gate : ℕ) where
 
   instruction_counts : (b : BoardValue) (h : History) (ws : List ℕ) (i : Instr) (done : Stepped) → Counts b h ws → IsNextInstruction b i
       → (executed b i).answer ≡ Ok done
-      → Counts (executed b i).board (behind_action gate (moment_of b i done).action b (executed b i).board h) (ws ++ word_list done.accepted)
+      → Counts (executed b i).board (behind_moment marks (moment_of b i done) h) (ws ++ word_list done.accepted)
   instruction_counts b h ws i done k c a =
       let es : List Effect = told b k.whole i done c a in
       let heard = words_accepted b k.whole i done c a ws k.count in
       record {
         whole = whole_after b k.whole i done c a;
         words = words_after b k.whole i done c a k.words;
-        accepted = ap (λ w. w.accepted) (observed_world gate es h ∙ world_by_its_parts es h.world) ∙ ap (accepted_after es) k.accepted ∙ heard;
+        accepted = ap (λ w. w.accepted) (observed_world marks es h ∙ world_by_its_parts es h.world) ∙ ap (accepted_after es) k.accepted ∙ heard;
         count = sym (ap (λ (ws : List ℕ). length ws % 0x10000) heard) ∙ words_counted b k.whole i done c a ws k.count;
-        taken = observed_taken gate es h ∙ readings_counted b k.whole i done c a h k.taken;
+        taken = observed_taken marks es h ∙ readings_counted b k.whole i done c a h k.taken;
       }
 
   moment_counts : (b : BoardValue) (h : History) (ws : List ℕ) (m : Moment) → Counts b h ws → IsMomentFrom b m
-      → Counts m.after (behind_action gate m.action m.before m.after h) (ws ++ accepted_by m.action)
+      → Counts m.after (behind_moment marks m h) (ws ++ accepted_by m.action)
   moment_counts b h ws m k (PowersUp p ok e) =
-      let P : Moment → Type 0 = λ y. Counts y.after (behind_action gate y.action y.before y.after h) (ws ++ accepted_by y.action) in
+      let P : Moment → Type 0 = λ y. Counts y.after (behind_moment marks y h) (ws ++ accepted_by y.action) in
       subst P (sym e) (power_counts b h ws p k ok)
   moment_counts b h ws m k (Instructs i done c a e) =
-      let P : Moment → Type 0 = λ y. Counts y.after (behind_action gate y.action y.before y.after h) (ws ++ accepted_by y.action) in
+      let P : Moment → Type 0 = λ y. Counts y.after (behind_moment marks y h) (ws ++ accepted_by y.action) in
       subst P (sym e) (instruction_counts b h ws i done k c a)
 
   pub moments_count : (b : BoardValue) (h : History) (ws : List ℕ) (ms : List Moment) → Counts b h ws → AreMoments b ms
-      → Counts (last_board b ms) (observed gate ms h) (ws ++ accepted_words ms)
+      → Counts (last_board b ms) (observed marks ms h) (ws ++ accepted_words ms)
   moments_count b h ws [] k all = let P : List ℕ → Type 0 = λ l. Counts b h l in subst P (sym (append-nil ws)) k
   moments_count b h ws (m ∷ ms) k all =
-      let one = moment_counts b h ws m k all.0 in
-      let j = behind_action gate m.action m.before m.after h in
-      let P : List ℕ → Type 0 = λ l. Counts (last_board m.after ms) (observed gate ms j) l in
-      subst P (append_assoc ws (accepted_by m.action) (accepted_words ms)) (moments_count m.after j (ws ++ accepted_by m.action) ms one all.1)
+      let one = moment_counts m.before h ws m (counts_on b m.before h ws all.0 k) all.1 in
+      let j = behind_moment marks m h in
+      let P : List ℕ → Type 0 = λ l. Counts (last_board m.after ms) (observed marks ms j) l in
+      subst P (append_assoc ws (accepted_by m.action) (accepted_words ms)) (moments_count m.after j (ws ++ accepted_by m.action) ms one all.2)
 
   -- from a board whose receiver takes its first word next
   pub front_counts : (cs : List BoardCharge) (b : BoardValue) (r : RunOutcome) (h : History) → IsRunOfWords cs b r → h.world.accepted ≡ []
       → next_number b.receiver ≡ 0 → h.taken ≡ b.taken → (ms rest : List Moment) → r.moments ≡ ms ++ rest
-      → Counts (last_board b ms) (observed gate ms h) (accepted_words ms)
+      → Counts (last_board b ms) (observed marks ms h) (accepted_words ms)
   front_counts cs b r h run none count taken ms rest e =
       moments_count b h [] ms (record { whole = run.whole; words = run.words; accepted = none; count = sym count; taken = taken })
       (front_moments cs b r ms rest run.starts run.run e)

@@ -1,10 +1,18 @@
 -- What the proofs of other crates cite.
 
+-- What stays of a board until the next moment begins.
+pub use Rattle.run_charges.proofs.View.{Keeps, follows_keeps, no_gap}
 -- The moments of a run, one behind the other, and what each of its instructions does to the machine.
-pub use Rattle.run_charges.proofs.Moments.{IsMomentFrom, PowersUp, Instructs, AreMoments, charge_moments, charge_last, first_start, other_starts, are_behind}
-pub use Rattle.run_charges.proofs.Moments.{front_moments, instructions_reach, AtMostOne, NoWrite, AStore, ASend, OneWrite, told, whole_after, words_after}
+pub use Rattle.run_charges.proofs.Moments.{charge_moments, charge_last, charge_instructs, first_start, other_starts, are_behind, front_moments}
+pub use Rattle.run_charges.proofs.Moments.{instructions_reach, AtMostOne, NoWrite, AStore, AnOutside, OneWrite, told, whole_after, words_after}
 pub use Rattle.run_charges.proofs.Moments.{fram_changed, one_write, words_accepted, words_counted, readings_stay, readings_counted}
--- Fronts of a run as charges of a program that stands in FRAM.
-pub use Rattle.run_charges.proofs.Programs.{observed-append, instructions_observed, Ready, ready_behind_all, fronts_are_charged}
+-- Each front of a run is one by its moments alone.
+pub use Rattle.run_charges.proofs.Charges.{run_front}
+-- Charges of a program that stands in FRAM, and the boards to which they lead.
+pub use Rattle.run_charges.proofs.Programs.{observed-append, PlacedProgram, Ready, ready_on, begun, is_powered, same_fram, same_readings}
+pub use Rattle.run_charges.proofs.Programs.{leads, charged_once, Reached, reached_on, front_reached}
+-- A charge that is spent, and the one in which a run stops.
+pub use Rattle.run_charges.proofs.Spent.{spent_seen, spent_reached, is_spent}
+pub use Rattle.run_charges.proofs.Stopped.{SameDones, StopsBehind, run_halts}
 -- The words accepted and the readings taken are those of the board.
 pub use Rattle.run_charges.proofs.Counted.{Counts, moments_count, front_counts}

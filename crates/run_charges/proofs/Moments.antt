@@ -1,49 +1,40 @@
 -- The moments of a run, one behind the other, and what each of its instructions does to the machine.
 use Rattle.std.proofs.Common.{◌≡◌, ◌==◌, ◌≤◌, ◌+◌, ◌-◌, ◌%◌, ℕ, suc, refl, sym, ap, ◌∙◌, subst, arith, Bool, true, false, if◌then◌else◌, List, [], ◌∷◌, ◌++◌}
 use Rattle.std.proofs.Common.{length, append-nil, length-append, Option, Some, None, Ok}
-use Rattle.crash_rules.specs.msp_isa.declared.instructions.Instr.{Instr}
-use Rattle.crash_rules.specs.msp_cycles.Cycles.{cycles_of}
-use Rattle.crash_rules.specs.msp_step.Registers.{Registers, registers_of}
-use Rattle.crash_rules.specs.msp_step.Access.{Access, Completed, Faulted}
-use Rattle.crash_rules.specs.msp_step.Effect.{Written}
-use Rattle.crash_rules.specs.msp_step.Step.{effect, execution, Executed}
-use Rattle.crash_rules.specs.fram_board.declared.board.Stepped.{Stepped}
-use Rattle.crash_rules.specs.fram_board.declared.receiver.Receiver.{Receiver}
-use Rattle.crash_rules.specs.fram_board.Bus.{board_bus, is_fram, data_port}
-use Rattle.crash_rules.specs.fram_board.Board.{BoardValue, PowerState, powered, opened, executed, IsNextInstruction, IsStep, is_accepted, next_number}
-use Rattle.crash_rules.specs.fram_board.Board.{offered_to}
-use Rattle.crash_rules.specs.fram_board.Saved.{TakesNextBehind}
-use Rattle.crash_rules.specs.fram_board.Steps.{IsPowerState}
-use Rattle.crash_rules.specs.fram_board.Effects.{Effect, Store, Take, Send, sends_of, effects_of, heard}
-use Rattle.crash_rules.specs.fram_board.Run.{Measure, Instructions, price, Moment, moment_of, power_up_of, Charges, RunOutcome, run_outcome, after_moments}
-use Rattle.crash_rules.specs.fram_board.Run.{ChargeRun}
-use Rattle.crash_rules.specs.fram_board.Run.{Spent, NoInstruction, TooDear, Refused, BoardCharge, Run, Over, Next, Last, word_list}
-use Rattle.crash_rules.specs.fram_board.Run as run
-use Rattle.crash_rules.proofs.fram_board.Interface.{step_makes_its_effects, data_not_fram}
-use Rattle.crash_rules.specs.machine_effects.World.{fram_after, received, accepted_after, readings_taken}
-use Rattle.crash_rules.specs.machine_effects.Going.{Goes, At, stretch}
-use Rattle.crash_rules.specs.machine_effects.Machine.{MachineBus, MachineBoard, MachineOutcome, Stays, Steps, word_address, IsMachineStep, machine_bus}
-use Rattle.crash_rules.specs.machine_effects.Machine.{machine_opened, machine_outcome}
-use Rattle.crash_rules.specs.machine_effects.Machine.{machine_executed, fram_of}
-use Rattle.crash_rules.specs.machine_effects.View.{machine_of, IsWhole, IsOfWords, outcome_of_answer}
-use Rattle.crash_rules.specs.machine_effects.Runs.{action_effects, moments_effects, moments_cycles, last_board, ReachesAs}
-use Rattle.crash_rules.proofs.machine_effects.Interface.{takes, written_effects, LoggedBy, effect_logged, machine_changes_by_effects, executed_same}
-use Rattle.crash_rules.proofs.machine_effects.Interface.{current_to_machine, step_leaves_it_whole, words_stay_words, charge_accepts_by_sends}
+use Rattle.msp_isa.specs.declared.instructions.Instr.{Instr}
+use Rattle.msp_cycles.specs.Cycles.{cycles_of}
+use Rattle.msp_step.specs.Registers.{Registers, registers_of}
+use Rattle.msp_step.specs.Access.{Access, Completed, Faulted}
+use Rattle.msp_step.specs.Effect.{Written}
+use Rattle.msp_step.specs.Step.{effect, execution, Executed}
+use Rattle.fram_board.specs.declared.board.Stepped.{Stepped}
+use Rattle.fram_board.specs.declared.receiver.Receiver.{Receiver}
+use Rattle.fram_board.specs.Bus.{board_bus, is_fram, data_port}
+use Rattle.fram_board.specs.Board.{BoardValue, powered, opened, executed, IsNextInstruction, IsStep, is_accepted, next_number}
+use Rattle.fram_board.specs.Board.{offered_to}
+use Rattle.fram_board.specs.Saved.{TakesNextBehind}
+use Rattle.fram_board.specs.Steps.{IsPowerState}
+use Rattle.fram_board.specs.Effects.{Effect, Store, Take, Outside, OutsideEffect, Offered, sends_of, effects_of, heard}
+use Rattle.fram_board.specs.Run.{Measure, Instructions, price, Moment, moment_of, power_up_of, Charges, RunOutcome, run_outcome, after_moments}
+use Rattle.fram_board.specs.Run.{ChargeRun}
+use Rattle.fram_board.specs.Run.{Spent, NoInstruction, TooDear, Refused, BoardCharge, Run, Over, Next, Last, word_list}
+use Rattle.fram_board.specs.Run as run
+use Rattle.fram_board.proofs.Interface.{step_makes_its_effects, data_not_fram}
+use Rattle.machine_effects.specs.World.{fram_after, received, accepted_after, readings_taken}
+use Rattle.machine_effects.specs.Going.{Goes, At, stretch}
+use Rattle.machine_effects.specs.Machine.{MachineBus, MachineBoard, MachineOutcome, MachineRun, Stays, Steps, word_address, IsMachineStep, machine_bus}
+use Rattle.machine_effects.specs.Machine.{machine_opened, machine_outcome}
+use Rattle.machine_effects.specs.Machine.{machine_executed}
+use Rattle.machine_effects.specs.View.{machine_of, IsWhole, IsOfWords, outcome_of_answer}
+use Rattle.machine_effects.specs.Runs.{moments_effects, moments_cycles, last_board, ReachesAs}
+use Rattle.machine_effects.proofs.Interface.{takes, written_effects, LoggedBy, effect_logged, machine_changes_by_effects, executed_same}
+use Rattle.machine_effects.proofs.Interface.{current_to_machine, step_leaves_it_whole, words_stay_words, charge_accepts_by_sends}
+use Rattle.crash_rules.specs.Model.{Marks}
 use Rattle.crash_rules.specs.History.{History}
 use Rattle.crash_rules.proofs.Interface.{observed_taken, events_of_instructions}
+use Rattle.run_charges.specs.View.{outside_of, outside_effects, IsMomentFrom, PowersUp, Instructs, AreMoments}
+use Rattle.run_charges.proofs.View.{Keeps, follows_keeps, no_gap}
 use Rattle.run_charges.specs.Charges.{ArePowerStates, IsInstruction, AreInstructionMoments}
-
--- a moment that may follow this board
-pub data IsMomentFrom (b : BoardValue) (m : Moment) : Type 0 where
-  -- a power-up
-  PowersUp : (p : PowerState) → IsPowerState p → m ≡ power_up_of b p → IsMomentFrom b m
-  -- an instruction that is executed
-  Instructs : (i : Instr) (done : Stepped) → IsNextInstruction b i → (executed b i).answer ≡ Ok done → m ≡ moment_of b i done → IsMomentFrom b m
-
--- moments that follow this board, each the one before
-abbrev pub AreMoments : BoardValue → List Moment → Type 0
-AreMoments b [] = Unit {0}
-AreMoments b (m ∷ ms) = IsMomentFrom b m × AreMoments m.after ms
 
 -- a charge's run is made of moments
 pub charge_moments : (m : Measure) (left : ℕ) (b : BoardValue) (r : RunOutcome) → ChargeRun m left b r → AreMoments b r.moments
@@ -52,7 +43,7 @@ charge_moments m left b r (NoInstruction _ _ e pos h) = tt
 charge_moments m left b r (TooDear _ _ i pos c dear) = tt
 charge_moments m left b r (Refused _ _ i e pos c paid a) = tt
 charge_moments m left b r (run.Executed _ _ i done rest pos c paid a h) =
-    (Instructs i done c a refl, charge_moments m (left - price m i) (executed b i).board rest h)
+    (no_gap b, Instructs i done c a refl, charge_moments m (left - price m i) (executed b i).board rest h)
 
 -- the board behind the moments of a charge that is spent
 pub charge_last : (m : Measure) (left : ℕ) (b : BoardValue) (r : RunOutcome) → ChargeRun m left b r → r.ending ≡ Charges → last_board b r.moments ≡ r.board
@@ -62,18 +53,26 @@ charge_last m left b r (TooDear _ _ i pos c dear) e = refl
 charge_last m left b r (Refused _ _ i x pos c paid a) e = absurd cc
 charge_last m left b r (run.Executed _ _ i done rest pos c paid a h) e = charge_last m (left - price m i) (executed b i).board rest h e
 
+-- the moments of a charge are instructions
+pub charge_instructs : (m : Measure) (left : ℕ) (b : BoardValue) (r : RunOutcome) → ChargeRun m left b r → AreInstructionMoments r.moments
+charge_instructs m left b r (Spent _ _ none) = tt
+charge_instructs m left b r (NoInstruction _ _ e pos h) = tt
+charge_instructs m left b r (TooDear _ _ i pos c dear) = tt
+charge_instructs m left b r (Refused _ _ i e pos c paid a) = tt
+charge_instructs m left b r (run.Executed _ _ i done rest pos c paid a h) = (tt, charge_instructs m (left - price m i) (executed b i).board rest h)
+
 are-append : (b : BoardValue) (ms ns : List Moment) → AreMoments b ms → AreMoments (last_board b ms) ns → AreMoments b (ms ++ ns)
 are-append b [] ns h k = k
-are-append b (m ∷ ms) ns h k = (h.0, are-append m.after ms ns h.1 k)
+are-append b (m ∷ ms) ns h k = (h.0, h.1, are-append m.after ms ns h.2 k)
 
 -- the moments behind others
 pub are_behind : (b : BoardValue) (ms rest : List Moment) → AreMoments b (ms ++ rest) → AreMoments (last_board b ms) rest
 are_behind b [] rest h = h
-are_behind b (m ∷ ms) rest h = are_behind m.after ms rest h.1
+are_behind b (m ∷ ms) rest h = are_behind m.after ms rest h.2
 
 are_front : (b : BoardValue) (ms rest : List Moment) → AreMoments b (ms ++ rest) → AreMoments b ms
 are_front b [] rest h = tt
-are_front b (m ∷ ms) rest h = (h.0, are_front m.after ms rest h.1)
+are_front b (m ∷ ms) rest h = (h.0, h.1, are_front m.after ms rest h.2)
 
 -- the power-ups of charges
 pub first_start : (c : BoardCharge) (cs : List BoardCharge) → ArePowerStates (c ∷ cs) → IsPowerState c.start
@@ -90,27 +89,28 @@ run_moments cs b r ok (Next c ds _ ms end rest h k) =
     let there : last_board (powered b c.start) ms ≡ end = charge_last c.measure c.amount (powered b c.start) (run_outcome ms Charges end) h refl in
     let more = run_moments ds end rest (other_starts c ds ok) k in
     let P : BoardValue → Type 0 = λ x. AreMoments x rest.moments in (
+      no_gap b,
       PowersUp c.start (first_start c ds ok) refl,
       are-append (powered b c.start) ms rest.moments front (subst P (sym there) more),
     )
 run_moments cs b r ok (Last c ds _ ms stop end h) =
-    (PowersUp c.start (first_start c ds ok) refl, charge_moments c.measure c.amount (powered b c.start) (run_outcome ms (run.Stopped stop) end) h)
+    (no_gap b, PowersUp c.start (first_start c ds ok) refl, charge_moments c.measure c.amount (powered b c.start) (run_outcome ms (run.Stopped stop) end) h)
 
 -- the moments of each front of a run follow one another
 pub front_moments : (cs : List BoardCharge) (b : BoardValue) (r : RunOutcome) (ms rest : List Moment) → ArePowerStates cs → Run cs b r
     → r.moments ≡ ms ++ rest → AreMoments b ms
 front_moments cs b r ms rest ok h e = let P : List Moment → Type 0 = λ l. AreMoments b l in are_front b ms rest (subst P e (run_moments cs b r ok h))
 
--- one store, one send, or none
+-- one store, one effect outside the board, or none
 pub data AtMostOne (es : List Effect) : Type 0 where
   -- nothing
   NoWrite : es ≡ [] → AtMostOne es
   -- one store
   AStore : (a w : ℕ) → es ≡ Store a w ∷ [] → AtMostOne es
-  -- one word sent
-  ASend : (n w : ℕ) → es ≡ Send n w ∷ [] → AtMostOne es
+  -- one effect outside the board
+  AnOutside : (o : OutsideEffect) → es ≡ Outside o ∷ [] → AtMostOne es
 
--- takes, and then one store or one send at most
+-- takes, and then one store or one effect outside at most
 pub record OneWrite (es : List Effect) : Type 0 where
   pub words : List ℕ
   pub write : List Effect
@@ -121,7 +121,7 @@ one_by_tests : (x y : Bool) (a v w n : ℕ) → (y ≡ true → x ≡ false)
     → AtMostOne ((if x then Store a w ∷ [] else []) ++ sends_of n (if y then Some v else None))
 one_by_tests true true a v w n h = let e : true ≡ false = h refl in absurd cc
 one_by_tests true false a v w n h = AStore a w refl
-one_by_tests false true a v w n h = ASend n v refl
+one_by_tests false true a v w n h = AnOutside (Offered n v) refl
 one_by_tests false false a v w n h = NoWrite refl
 
 one_written : (w : Option Written) (f : ℕ → ℕ) (n : ℕ) → AtMostOne (written_effects w f n)
@@ -151,7 +151,7 @@ heard_count : (es : List Effect) (r : Receiver) (ws : List ℕ) → TakesNextBeh
 heard_count [] r ws e = e
 heard_count (Store a w ∷ es) r ws e = heard_count es r ws e
 heard_count (Take w ∷ es) r ws e = heard_count es r ws e
-heard_count (Send n w ∷ es) r ws e =
+heard_count (Outside (Offered n w) ∷ es) r ws e =
     let test : (n == (length ws % 0x10000)) ≡ is_accepted n r = ap (λ c. n == c) e in
     heard_count es (offered_to n r) (received n w ws)
     (ap (λ c. length (if c then ws ++ w ∷ [] else ws) % 0x10000) test ∙ heard_one (is_accepted n r) w r ws e)
@@ -166,7 +166,7 @@ module _ (b : BoardValue) (whole : IsWhole b) (i : Instr) (done : Stepped) (curr
 
   -- the effects that the moment tells
   abbrev pub told : List Effect
-  told = action_effects (moment_of b i done).action b (executed b i).board
+  told = outside_effects (moment_of b i done)
 
   told_same : told ≡ effects_of b (executed b i)
   told_same = ap (λ y. effects_of b (record { answer = y; offered = (executed b i).offered; board = (executed b i).board })) (sym answer)
@@ -192,7 +192,7 @@ module _ (b : BoardValue) (whole : IsWhole b) (i : Instr) (done : Stepped) (curr
   words_after w = words_stay_words b (executed b i) whole w is_step
 
   -- FRAM changes as what is told says
-  pub fram_changed : fram_of after.fram ≡ fram_after told (fram_of b.fram)
+  pub fram_changed : (outside_of after).fram ≡ fram_after told (outside_of b).fram
   fram_changed = (machine_changes_by_effects (machine_of b) (Goes told done.cycles (machine_of after)) step).0
 
   -- an instruction writes once
@@ -229,12 +229,13 @@ module _ (b : BoardValue) (whole : IsWhole b) (i : Instr) (done : Stepped) (curr
   readings_counted k e =
       let made = step_makes_its_effects b (executed b i) whole.board is_step in
       let room = at_most after.taken (length after.readings) (length b.readings) whole_after.board.taken (ap length made.readings) in
-      let event = events_of_instructions 0 b (executed b i) k e made.from room in
-      let count = observed_taken 0 (effects_of b (executed b i)) k in
+      let any : Marks = record { gate = 0 } in
+      let event = events_of_instructions any b (executed b i) k e made.from room in
+      let count = observed_taken any (effects_of b (executed b i)) k in
       ap (λ es. k.taken + length (readings_taken es)) told_same ∙ sym count ∙ event.taken
 
   -- more instructions behind it are as many more steps of the machine
-  more_reached : (ms : List Moment) → ReachesAs after ms → ReachesAs b (moment_of b i done ∷ ms)
+  pub more_reached : (ms : List Moment) → ReachesAs after ms → ReachesAs b (moment_of b i done ∷ ms)
   more_reached ms rest = record {
     run = Steps (length ms) (machine_of b) (machine_of after) told done.cycles
         (stretch (moments_effects ms) (moments_cycles ms) (At (machine_of (last_board after ms)))) step rest.run;
@@ -249,7 +250,18 @@ one_reached b m ms whole (Instructs i done c a e) is more =
     let P : Moment → Type 0 = λ y. (IsWhole y.after → ReachesAs y.after ms) → ReachesAs b (y ∷ ms) in
     subst P (sym e) (λ go. more_reached b whole i done c a ms (go (whole_after b whole i done c a))) more
 
+-- and so they are from a board that these instructions follow
+pub reached_from : (b c : BoardValue) (m : Moment) (ms : List Moment) → Keeps b c → ReachesAs c (m ∷ ms) → ReachesAs b (m ∷ ms)
+reached_from b c m ms keeps reach =
+    let all = m ∷ ms in
+    let P : MachineBoard → Type 0 = λ s. MachineRun (length all) s
+    (stretch (moments_effects all) (moments_cycles all) (At (machine_of (last_board m.after ms)))) in
+    record { run = subst P keeps.outside reach.run; whole = reach.whole; words = λ w. reach.words (keeps.words w) }
+
 -- moments that are instructions are as many steps of the machine
 pub instructions_reach : (b : BoardValue) (ms : List Moment) → IsWhole b → AreMoments b ms → AreInstructionMoments ms → ReachesAs b ms
 instructions_reach b [] whole are is = record { run = Stays (machine_of b); whole = whole; words = λ w. w }
-instructions_reach b (m ∷ ms) whole are is = one_reached b m ms whole are.0 is.0 (λ w. instructions_reach m.after ms w are.1 is.1)
+instructions_reach b (m ∷ ms) whole are is =
+    let keeps = follows_keeps b m.before are.0 in
+    reached_from b m.before m ms keeps
+    (one_reached m.before m ms (keeps.whole whole) are.1 is.0 (λ w. instructions_reach m.after ms w are.2 is.1))

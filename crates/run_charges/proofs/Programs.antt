@@ -1,27 +1,30 @@
 -- Fronts of a run as charges of a program that stands in FRAM.
 use Rattle.std.proofs.Common.{◌≡◌, ℕ, refl, sym, ap, ◌∙◌, subst, List, [], ◌∷◌, ◌++◌, length}
-use Rattle.crash_rules.specs.msp_isa.declared.instructions.Instr.{Instr}
-use Rattle.crash_rules.specs.msp_step.declared.machine.Stop.{Stop}
-use Rattle.crash_rules.specs.fram_board.Board.{BoardValue, powered}
-use Rattle.crash_rules.specs.fram_board.Effects.{Effect}
-use Rattle.crash_rules.specs.fram_board.Run.{Action, PowerUp, Execute, Moment}
-use Rattle.crash_rules.specs.machine_effects.World.{fram_after, EachStore}
-use Rattle.crash_rules.specs.machine_effects.Going.{Goes, Status, At, Halted, stretch, going}
-use Rattle.crash_rules.specs.machine_effects.Machine.{MachineBoard, MachineOutcome, MachineStretch, MachineRun, Stays, Halts, Steps, fram_of}
-use Rattle.crash_rules.specs.machine_effects.View.{machine_of, IsWhole, IsOfWords}
-use Rattle.crash_rules.specs.machine_effects.Runs.{action_effects, moments_effects, moments_cycles}
-use Rattle.crash_rules.proofs.machine_effects.Interface.{fram_after-append, fram_untouched, machine_changes_by_effects, power_up_keeps_words}
-use Rattle.crash_rules.proofs.machine_effects.Interface.{machine_is_of_words, power_up_is_the_machines}
+use Rattle.msp_isa.specs.declared.instructions.Instr.{Instr}
+use Rattle.msp_step.specs.declared.machine.Stop.{Stop}
+use Rattle.fram_board.specs.Board.{BoardValue, PowerState, powered}
+use Rattle.fram_board.specs.Steps.{IsPowerState}
+use Rattle.fram_board.specs.Effects.{Effect}
+use Rattle.fram_board.specs.Run.{Action, PowerUp, Execute, Moment}
+use Rattle.machine_effects.specs.World.{fram_after, EachStore}
+use Rattle.machine_effects.specs.Going.{Goes, Status, At, Halted, stretch, going}
+use Rattle.machine_effects.specs.Machine.{MachineBoard, MachineOutcome, MachineStretch, MachineRun, Stays, Halts, Steps}
+use Rattle.machine_effects.specs.View.{machine_of, IsWhole, IsOfWords}
+use Rattle.machine_effects.specs.Runs.{moments_effects, moments_cycles, last_board, ReachesAs}
+use Rattle.machine_effects.proofs.Interface.{fram_after-append, fram_untouched, machine_changes_by_effects, power_up_keeps_words}
+use Rattle.machine_effects.proofs.Interface.{machine_is_of_words, power_up_is_the_machines}
 use Rattle.code_forms.specs.Placed.{words_of, Holds, LeavesCode, IsOutside}
 use Rattle.code_forms.proofs.Interface.{holds_stores, code_in_fram_runs}
-use Rattle.crash_rules.specs.Model.{IsElsewhere}
+use Rattle.crash_rules.specs.Model.{IsElsewhere, Marks}
 use Rattle.crash_rules.specs.History.{History, observe, behind_boot}
-use Rattle.crash_rules.specs.Runs.{Program, Charged}
+use Rattle.crash_rules.specs.Runs.{Program, Charge, Charged}
 use Rattle.crash_rules.proofs.Interface.{observe-append}
-use Rattle.run_charges.specs.Charges.{ChargeFront, board_behind, board_behind_all, moments_of, IsInstruction, AreInstructionMoments, IsMachineCharge}
-use Rattle.run_charges.specs.Charges.{AreMachineCharges, behind_action, observed, charges_of, IsPlacedProgram, LeavesProgram, AlwaysLeaves}
-use Rattle.run_charges.specs.Laws.{FrontsAreCharged}
-use Rattle.run_charges.proofs.Charges.{fronts_are_the_machines}
+use Rattle.run_charges.specs.View.{outside_of, outside_effects, Follows, IsFront}
+use Rattle.run_charges.specs.Charges.{ChargeFront, board_powered, board_behind, board_behind_all, moments_of, IsInstruction, AreInstructionMoments}
+use Rattle.run_charges.specs.Charges.{AreMachineCharges, behind_action, behind_moment, observed, charges_of, IsPlacedProgram, LeavesProgram, AlwaysLeaves}
+use Rattle.run_charges.specs.Laws.{IsChargedBy, FrontsAreCharged}
+use Rattle.run_charges.proofs.View.{follows_keeps}
+use Rattle.run_charges.proofs.Charges.{front_charges, run_front}
 
 -- FRAM behind steps that lead on
 abbrev FramBehind : (ℕ → ℕ) → List Effect → Status MachineBoard Stop → Type 0
@@ -39,135 +42,245 @@ run_fram n s r (Steps k _ t es c rest h more) =
     fram_more rest.status s.fram t.fram es rest.effects (machine_changes_by_effects s (Goes es c t) h).0 (run_fram k t rest more)
 
 -- moments in two parts
-pub observed-append : (gate : ℕ) (ms ns : List Moment) (k : History) → observed gate (ms ++ ns) k ≡ observed gate ns (observed gate ms k)
-observed-append gate [] ns k = refl
-observed-append gate (m ∷ ms) ns k = observed-append gate ms ns (behind_action gate m.action m.before m.after k)
+pub observed-append : (marks : Marks) (ms ns : List Moment) (k : History) → observed marks (ms ++ ns) k ≡ observed marks ns (observed marks ms k)
+observed-append marks [] ns k = refl
+observed-append marks (m ∷ ms) ns k = observed-append marks ms ns (behind_moment marks m k)
 
-action_observed : (gate : ℕ) (a : Action) (before after : BoardValue) (k : History) → IsInstruction a
-    → behind_action gate a before after k ≡ observe gate (action_effects a before after) k
-action_observed gate PowerUp before after k h = absurd h
-action_observed gate (Execute done offered) before after k h = refl
+action_observed : (marks : Marks) (a : Action) (es : List Effect) (k : History) → IsInstruction a → behind_action marks a es k ≡ observe marks es k
+action_observed marks PowerUp es k h = absurd h
+action_observed marks (Execute done offered) es k h = refl
 
 -- moments that are instructions are observed by their effects
-pub instructions_observed : (gate : ℕ) (ms : List Moment) (k : History) → AreInstructionMoments ms → observed gate ms k ≡ observe gate (moments_effects ms) k
-instructions_observed gate [] k h = refl
-instructions_observed gate (m ∷ ms) k h =
-    let es = action_effects m.action m.before m.after in
-    ap (observed gate ms) (action_observed gate m.action m.before m.after k h.0)
-    ∙ instructions_observed gate ms (observe gate es k) h.1
-    ∙ sym (observe-append gate es (moments_effects ms) k)
+pub instructions_observed : (marks : Marks) (ms : List Moment) (k : History) → AreInstructionMoments ms
+    → observed marks ms k ≡ observe marks (moments_effects ms) k
+instructions_observed marks [] k h = refl
+instructions_observed marks (m ∷ ms) k h =
+    let es = outside_effects m in
+    ap (observed marks ms) (action_observed marks m.action es k h.0)
+    ∙ instructions_observed marks ms (observe marks es k) h.1
+    ∙ sym (observe-append marks es (moments_effects ms) k)
 
--- a program in FRAM
-module _ (c : Program) (gate p : ℕ) (is : List Instr) (entry : ℕ) (stands : IsPlacedProgram c p is entry) where
+-- the board behind moments in two parts
+pub last-append : (b : BoardValue) (ms ns : List Moment) → last_board b (ms ++ ns) ≡ last_board (last_board b ms) ns
+last-append b [] ns = refl
+last-append b (m ∷ ms) ns = last-append m.after ms ns
+
+-- and behind those of charges
+last_behind : (b : BoardValue) (fs : List ChargeFront) → last_board b (moments_of fs) ≡ board_behind_all b fs
+last_behind b [] = refl
+last_behind b (f ∷ fs) = last-append (board_powered f) f.instructions (moments_of fs) ∙ last_behind (board_behind f) fs
+
+-- charges behind charges
+pub charged_join : (c : Program) (marks : Marks) (es fs : List Charge) (s q t : MachineBoard) (h j k : History) → Charged c marks s h es q j
+    → Charged c marks q j fs t k → Charged c marks s h (es ++ fs) t k
+charged_join c marks [] fs s q t h j k run more =
+    let P : MachineBoard → Type 0 = λ y. Charged c marks y h fs t k in
+    let Q : History → Type 0 = λ y. Charged c marks q y fs t k in
+    subst P run.0 (subst Q run.1 more)
+charged_join c marks (e ∷ es) fs s q t h j k run more =
+    let behind = observe marks (going c.step e.steps e.powered).effects (behind_boot h) in
+    (run.0, run.1, run.2, (run.3.0, run.3.1, charged_join c marks es fs run.3.0 q t behind j k run.3.2 more))
+
+-- a program in FRAM, with the marks of its runs: where it stands, and the entry in the reset vector
+pub record PlacedProgram : Type 1 where
+  pub program : Program
+  pub marks : Marks
+  pub place : ℕ
+  pub instructions : List Instr
+  pub entry : ℕ
+  pub is : IsPlacedProgram program place instructions entry
+
+module _ (on : PlacedProgram) where
+  abbrev step : MachineBoard → MachineOutcome
+  step = on.program.step
+
+  abbrev marks : Marks
+  marks = on.marks
+
+  abbrev code_words : List ℕ
+  code_words = words_of on.instructions
+
   -- what holds of a board between two charges
   pub record Ready (b : BoardValue) (h : History) : Type 0 where
     pub whole : IsWhole b
     pub words : IsOfWords b
-    pub vector : fram_of b.fram 0xFFFE ≡ entry
-    pub holds : Holds (fram_of b.fram) p (words_of is)
-    pub leaves : AlwaysLeaves c p (length (words_of is)) gate (machine_of b) h
+    pub vector : (outside_of b).fram 0xFFFE ≡ on.entry
+    pub holds : Holds (outside_of b).fram on.place code_words
+    pub leaves : AlwaysLeaves on.program on.place (length code_words) marks (outside_of b) h
 
-  -- one charge of a board that is ready
-  module _ (b : BoardValue) (h : History) (ready : Ready b h) (f : ChargeFront) (charge : IsMachineCharge b f) where
-    abbrev pub start : MachineBoard
-    start = machine_of (powered b f.start)
+  -- and as the next charge begins
+  pub ready_on : (b c : BoardValue) (h : History) → Follows b c → Ready b h → Ready c h
+  ready_on b c h follows ready =
+      let keeps = follows_keeps b c follows in
+      let Placed : MachineBoard → Type 0 = λ s. Holds s.fram on.place code_words in
+      let Leaves : MachineBoard → Type 0 = λ s. AlwaysLeaves on.program on.place (length code_words) marks s h in
+      record {
+        whole = keeps.whole ready.whole;
+        words = keeps.words ready.words;
+        vector = ap (λ s. s.fram 0xFFFE) keeps.outside ∙ ready.vector;
+        holds = subst Placed (sym keeps.outside) ready.holds;
+        leaves = subst Leaves (sym keeps.outside) ready.leaves;
+      }
 
-    abbrev pub end : BoardValue
-    end = board_behind b f
+  -- a charge from such a board
+  module _ (b : BoardValue) (h : History) (ready : Ready b h) (start : PowerState) (ok : IsPowerState start) where
+    abbrev pub begun : MachineBoard
+    begun = outside_of (powered b start)
 
-    abbrev steps : ℕ
-    steps = length f.instructions
-
-    abbrev made : MachineStretch
-    made = going c.step steps start
-
-    abbrev told : MachineStretch
-    told = stretch (moments_effects f.instructions) (moments_cycles f.instructions) (At (machine_of end))
-
-    abbrev pub behind : History
-    behind = observe gate made.effects (behind_boot h)
-
-    is_powered : c.IsPoweredUp start
+    -- it begins with a power-up, which keeps FRAM and the readings
+    pub is_powered : on.program.IsPoweredUp begun
     is_powered =
-        let P : MachineBoard → Type 0 = λ s. c.IsPoweredUp s in
-        subst P (sym (power_up_is_the_machines b f.start))
-        (stands.powers (machine_of b) f.start (machine_is_of_words b ready.words) charge.start ready.vector)
+        let P : MachineBoard → Type 0 = λ s. on.program.IsPoweredUp s in
+        subst P (sym (power_up_is_the_machines b start))
+        (on.is.powers (outside_of b) start (machine_is_of_words b ready.words) ok ready.vector)
 
-    leaves_here : LeavesProgram p (length (words_of is)) made
-    leaves_here = ready.leaves [] (machine_of b) h (refl, refl) start is_powered refl refl steps
+    pub same_fram : begun.fram ≡ (outside_of b).fram
+    same_fram = refl
 
-    told_is_made : told ≡ made
-    told_is_made =
-        let P : (MachineBoard → MachineOutcome) → Type 0 = λ st. LeavesCode p (length (words_of is)) (going st steps start) in
-        code_in_fram_runs p is steps start told stands.instructions stands.even stands.low stands.high charge.reaches.run ready.holds
-        (subst P stands.steps leaves_here.code)
-        ∙ ap (λ st. going st steps start) (sym stands.steps)
+    pub same_readings : begun.inputs.readings ≡ (outside_of b).inputs.readings
+    same_readings = refl
 
-    same_effects : made.effects ≡ moments_effects f.instructions
-    same_effects = ap (λ r. r.effects) (sym told_is_made)
+    pub leaves_code : (n : ℕ) → LeavesProgram on.place (length code_words) (going step n begun)
+    leaves_code n = ready.leaves [] (outside_of b) h (refl, refl) begun is_powered same_fram same_readings n
 
-    leads : made.status ≡ At (machine_of end)
-    leads = ap (λ r. r.status) (sym told_is_made)
+    -- what the machine does there the program does
+    pub program_runs : (n : ℕ) (q : MachineStretch) → MachineRun n begun q → q ≡ going step n begun
+    program_runs n q go =
+        let P : (MachineBoard → MachineOutcome) → Type 0 = λ f. LeavesCode on.place (length code_words) (going f n begun) in
+        code_in_fram_runs on.place on.instructions n begun q on.is.instructions on.is.even on.is.low on.is.high go ready.holds
+        (subst P on.is.steps (leaves_code n).code)
+        ∙ ap (λ f. going f n begun) (sym on.is.steps)
 
-    fram_behind : fram_of end.fram ≡ fram_after (moments_effects f.instructions) (fram_of b.fram)
-    fram_behind = run_fram steps start told charge.reaches.run
+    -- its instructions so far
+    module _ (ms : List Moment) (are : AreInstructionMoments ms) (reach : ReachesAs (powered b start) ms) where
+      abbrev pub steps : ℕ
+      steps = length ms
 
-    off_code : EachStore (IsOutside p (length (words_of is))) (moments_effects f.instructions)
-    off_code = let P : List Effect → Type 0 = λ es. EachStore (IsOutside p (length (words_of is))) es in subst P same_effects leaves_here.code.stores
+      abbrev end : BoardValue
+      end = last_board (powered b start) ms
 
-    off_vector : EachStore (IsElsewhere 0xFFFE) (moments_effects f.instructions)
-    off_vector = let P : List Effect → Type 0 = λ es. EachStore (IsElsewhere 0xFFFE) es in subst P same_effects leaves_here.vector
+      abbrev pub behind : History
+      behind = observed marks ms (behind_boot h)
 
-    pub ready_behind : Ready end behind
-    ready_behind =
-        let P : (ℕ → ℕ) → Type 0 = λ g. Holds g p (words_of is) in
-        let up = power_up_keeps_words b f.start ready.whole ready.words charge.start in
-        record {
-          whole = charge.reaches.whole;
-          words = charge.reaches.words up.1;
-          vector = ap (λ g. g 0xFFFE) fram_behind ∙ fram_untouched (moments_effects f.instructions) 0xFFFE (fram_of b.fram) off_vector ∙ ready.vector;
-          holds = subst P (sym fram_behind) (holds_stores (moments_effects f.instructions) (fram_of b.fram) p (words_of is) off_code ready.holds);
-          leaves = λ charges t k run. ready.leaves (record { powered = start; steps = steps } ∷ charges) t k
-              (is_powered, refl, refl, (machine_of end, leads, run));
-        }
+      told_is_made : stretch (moments_effects ms) (moments_cycles ms) (At (machine_of end)) ≡ going step steps begun
+      told_is_made = program_runs steps _ reach.run
 
-    pub observed_behind : (ms : List Moment) → observed gate ms behind ≡ observed gate (f.instructions ++ ms) (behind_boot h)
-    observed_behind ms =
-        ap (λ es. observed gate ms (observe gate es (behind_boot h))) same_effects
-        ∙ ap (observed gate ms) (sym (instructions_observed gate f.instructions (behind_boot h) charge.instructions))
-        ∙ sym (observed-append gate f.instructions ms (behind_boot h))
+      -- they lead where the program's steps lead
+      pub leads : (going step steps begun).status ≡ At (outside_of end)
+      leads = sym (ap (λ r. r.status) told_is_made)
 
-  -- charges of a board that is ready
-  pub charged : (b : BoardValue) (h : History) (fs : List ChargeFront) → Ready b h → AreMachineCharges b fs
-      → Charged c gate (machine_of b) h (charges_of b fs) (machine_of (board_behind_all b fs)) (observed gate (moments_of b fs) h)
-  charged b h [] ready all = (refl, refl)
-  charged b h (f ∷ fs) ready all =
-      let end = board_behind b f in
-      let k = behind b h ready f all.0 in
-      let rest = charged end k fs (ready_behind b h ready f all.0) all.1 in
-      let P : History → Type 0 = λ x. Charged c gate (machine_of end) k (charges_of end fs) (machine_of (board_behind_all end fs)) x in (
-        is_powered b h ready f all.0,
-        refl,
-        refl,
-        (machine_of end, leads b h ready f all.0, subst P (observed_behind b h ready f all.0 (moments_of end fs)) rest),
-      )
+      -- with the program's effects
+      pub seen : observe marks (going step steps begun).effects (behind_boot h) ≡ behind
+      seen = ap (λ r. observe marks r.effects (behind_boot h)) (sym told_is_made) ∙ sym (instructions_observed marks ms (behind_boot h) are)
 
-  -- the board behind them is ready too
-  pub ready_behind_all : (b : BoardValue) (h : History) (fs : List ChargeFront) → Ready b h → AreMachineCharges b fs
-      → Ready (board_behind_all b fs) (observed gate (moments_of b fs) h)
-  ready_behind_all b h [] ready all = ready
-  ready_behind_all b h (f ∷ fs) ready all =
-      let P : History → Type 0 = λ k. Ready (board_behind_all (board_behind b f) fs) k in
-      subst P (observed_behind b h ready f all.0 (moments_of (board_behind b f) fs))
-      (ready_behind_all (board_behind b f) (behind b h ready f all.0) fs (ready_behind b h ready f all.0) all.1)
+      same_effects : (going step steps begun).effects ≡ moments_effects ms
+      same_effects = ap (λ r. r.effects) (sym told_is_made)
+
+      fram_behind : (outside_of end).fram ≡ fram_after (moments_effects ms) (outside_of b).fram
+      fram_behind = run_fram steps begun _ reach.run
+
+      off_code : EachStore (IsOutside on.place (length code_words)) (moments_effects ms)
+      off_code =
+          let P : List Effect → Type 0 = λ es. EachStore (IsOutside on.place (length code_words)) es in
+          subst P same_effects (leaves_code steps).code.stores
+
+      off_vector : EachStore (IsElsewhere 0xFFFE) (moments_effects ms)
+      off_vector = let P : List Effect → Type 0 = λ es. EachStore (IsElsewhere 0xFFFE) es in subst P same_effects (leaves_code steps).vector
+
+      -- and the board behind them is ready too
+      pub ready_behind : Ready end behind
+      ready_behind =
+          let P : (ℕ → ℕ) → Type 0 = λ g. Holds g on.place code_words in
+          let f = (outside_of b).fram in
+          let up = power_up_keeps_words b start ready.whole ready.words ok in
+          record {
+            whole = reach.whole;
+            words = reach.words up.1;
+            vector = ap (λ g. g 0xFFFE) fram_behind ∙ fram_untouched (moments_effects ms) 0xFFFE f off_vector ∙ ready.vector;
+            holds = subst P (sym fram_behind) (holds_stores (moments_effects ms) f on.place code_words off_code ready.holds);
+            leaves = λ charges t k run.
+                let Q : History → Type 0 = λ j. Charged on.program marks (outside_of end) j charges t k in
+                ready.leaves (record { powered = begun; steps = steps } ∷ charges) t k
+                (is_powered, same_fram, same_readings, (outside_of end, leads, subst Q (sym seen) run));
+          }
+
+      -- it is one charge of the program
+      pub charged_once : Charged on.program marks (outside_of b) h (record { powered = begun; steps = steps } ∷ []) (outside_of end) behind
+      charged_once = (is_powered, same_fram, same_readings, (outside_of end, leads, (refl, sym seen)))
+
+  -- charges of a board that is ready, and the board behind them
+  record LeadsOn (b : BoardValue) (h : History) (fs : List ChargeFront) : Type 0 where
+    pub charged : Charged on.program marks (outside_of b) h (charges_of fs) (outside_of (board_behind_all b fs)) (observed marks (moments_of fs) h)
+    pub ready : Ready (board_behind_all b fs) (observed marks (moments_of fs) h)
+
+  lead_on : (b : BoardValue) (h : History) (fs : List ChargeFront) → Ready b h → AreMachineCharges b fs → LeadsOn b h fs
+  lead_on b h [] ready all = record { charged = (refl, refl); ready = ready }
+  lead_on b h (f ∷ fs) ready all =
+      let c = all.0 in
+      let ms = f.instructions in
+      let keeps = follows_keeps b f.before c.follows in
+      let here = ready_on b f.before h c.follows ready in
+      let end = board_behind f in
+      let k = observed marks ms (behind_boot h) in
+      let rest = lead_on end k fs (ready_behind f.before h here f.start c.start ms c.instructions c.reaches) all.1 in
+      let last = outside_of (board_behind_all end fs) in
+      let joined = sym (observed-append marks ms (moments_of fs) (behind_boot h)) in
+      let P : History → Type 0 = λ j. Charged on.program marks (outside_of end) j (charges_of fs) last (observed marks (ms ++ moments_of fs) (behind_boot h)) in
+      let Q : History → Type 0 = λ j. Charged on.program marks (outside_of end) k (charges_of fs) last j in
+      let R : History → Type 0 = λ j. Ready (board_behind_all end fs) j in
+      record {
+        charged = (
+          is_powered f.before h here f.start c.start,
+          same_fram f.before h here f.start c.start ∙ ap (λ s. s.fram) keeps.outside,
+          same_readings f.before h here f.start c.start ∙ ap (λ s. s.inputs.readings) keeps.outside,
+          (
+            outside_of end,
+            leads f.before h here f.start c.start ms c.instructions c.reaches,
+            subst P (sym (seen f.before h here f.start c.start ms c.instructions c.reaches)) (subst Q joined rest.charged),
+          ),
+        );
+        ready = subst R joined rest.ready;
+      }
+
+  -- a board to which charges of the program lead
+  pub record Reached (b : BoardValue) (h : History) (t : BoardValue) (k : History) : Type 0 where
+    pub charges : List Charge
+    pub charged : Charged on.program marks (outside_of b) h charges (outside_of t) k
+    pub ready : Ready t k
+
+  -- and the board on which the next charge begins
+  pub reached_on : (b : BoardValue) (h : History) (t u : BoardValue) (k : History) → Follows t u → Reached b h t k → Reached b h u k
+  reached_on b h t u k follows at =
+      let P : MachineBoard → Type 0 = λ s. Charged on.program marks (outside_of b) h at.charges s k in
+      record {
+        charges = at.charges;
+        charged = subst P (sym (follows_keeps t u follows).outside) at.charged;
+        ready = ready_on t u k follows at.ready;
+      }
+
+  -- so it is behind each front of a board that is ready
+  pub front_reached : (b : BoardValue) (h : History) → Ready b h → (ms : List Moment) → IsFront b ms
+      → Reached b h (last_board b ms) (observed marks ms h)
+  front_reached b h ready ms front =
+      let all = front_charges b ms front in
+      let fs = all.charges in
+      let led = lead_on b h fs ready all.machine in
+      let there : last_board b ms ≡ board_behind_all b fs = ap (last_board b) all.moments ∙ last_behind b fs in
+      let P : BoardValue → Type 0 = λ t. Reached b h t (observed marks ms h) in
+      let Q : List Moment → Type 0 = λ l. Reached b h (board_behind_all b fs) (observed marks l h) in
+      subst P (sym there) (subst Q (sym all.moments) (record { charges = charges_of fs; charged = led.charged; ready = led.ready }))
+
+  -- the same, said of the charges of the front
+  front_charged : (b : BoardValue) (h : History) → Ready b h → (ms : List Moment) → IsFront b ms → IsChargedBy on.program marks b h ms
+  front_charged b h ready ms front =
+      let all = front_charges b ms front in
+      let P : List Moment → Type 0 = λ l. Charged on.program marks (outside_of b) h (charges_of all.charges)
+      (outside_of (board_behind_all b all.charges)) (observed marks l h) in
+      record { front = all; charged = subst P (sym all.moments) (lead_on b h all.charges ready all.machine).charged }
 
 -- each front of a run is charges of the program
 pub fronts_are_charged : (c : Program) → FrontsAreCharged c
-fronts_are_charged c cs b r ms rest run e gate p is h stands holds leaves =
-    let front = fronts_are_the_machines cs b r ms rest run e in
-    let ready : Ready c gate p is (fram_of b.fram 0xFFFE) stands b h =
-    record { whole = run.whole; words = run.words; vector = refl; holds = holds; leaves = leaves } in
-    let all = charged c gate p is (fram_of b.fram 0xFFFE) stands b h front.charges ready front.machine in
-    let P : List Moment → Type 0 = λ l. Charged c gate (machine_of b) h (charges_of b front.charges)
-    (machine_of (board_behind_all b front.charges)) (observed gate l h) in
-    record { front = front; charged = subst P (sym front.moments) all }
+fronts_are_charged c cs b r ms rest run e marks p is h stands holds leaves =
+    let on : PlacedProgram = record { program = c; marks = marks; place = p; instructions = is; entry = (outside_of b).fram 0xFFFE; is = stands } in
+    front_charged on b h (record { whole = run.whole; words = run.words; vector = refl; holds = holds; leaves = leaves }) ms
+    (run_front cs b r ms rest run e)

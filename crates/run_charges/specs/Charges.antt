@@ -1,44 +1,51 @@
 -- The charges of a board's run as charges of the machine.
 use Rattle.std.specs.Prelude.{◌≡◌, ℕ, ◌+◌, ◌*◌, ◌%◌, ◌<◌, ◌≤◌, List, [], ◌∷◌, ◌++◌, length, All}
-use Rattle.crash_rules.specs.address_space.Limits.{fram_first, fram_end, reset_vector}
-use Rattle.crash_rules.specs.msp_isa.declared.instructions.Instr.{Instr}
-use Rattle.crash_rules.specs.msp_step.declared.machine.Stop.{Stop}
-use Rattle.crash_rules.specs.fram_board.Board.{BoardValue, PowerState, powered}
-use Rattle.crash_rules.specs.fram_board.Steps.{IsPowerState}
-use Rattle.crash_rules.specs.fram_board.Run.{Action, PowerUp, Execute, Moment, Charges, Stopped, RunOutcome, run_outcome, after_moments, BoardCharge}
-use Rattle.crash_rules.specs.fram_board.Run.{power_up_of}
-use Rattle.crash_rules.specs.machine_effects.World.{EachStore}
-use Rattle.crash_rules.specs.machine_effects.Going.{going}
-use Rattle.crash_rules.specs.machine_effects.Machine.{MachineBoard, MachineStretch, exec, machine_powered}
-use Rattle.crash_rules.specs.machine_effects.View.{machine_of, IsMachineOfWords}
-use Rattle.crash_rules.specs.machine_effects.Runs.{SpendsAs, StopsAs, ReachesAs, action_effects, last_board}
+use Rattle.address_space.specs.Limits.{fram_first, fram_end, reset_vector}
+use Rattle.msp_isa.specs.declared.instructions.Instr.{Instr}
+use Rattle.msp_step.specs.declared.machine.Stop.{Stop}
+use Rattle.fram_board.specs.Board.{BoardValue, PowerState, powered}
+use Rattle.fram_board.specs.Steps.{IsPowerState}
+use Rattle.fram_board.specs.Effects.{Effect}
+use Rattle.fram_board.specs.Run.{Action, PowerUp, Execute, Moment, Charges, Stopped, RunOutcome, run_outcome, after_moments, BoardCharge}
+use Rattle.fram_board.specs.Run.{power_up_of}
+use Rattle.machine_effects.specs.World.{EachStore}
+use Rattle.machine_effects.specs.Going.{going}
+use Rattle.machine_effects.specs.Machine.{MachineBoard, MachineStretch, exec, machine_powered}
+use Rattle.machine_effects.specs.View.{IsMachineOfWords}
+use Rattle.machine_effects.specs.Runs.{SpendsAs, StopsAs, ReachesAs, last_board}
 use Rattle.code_forms.specs.Placed.{placed, words_of, AreInstructions, LeavesCode}
-use Rattle.crash_rules.specs.Model.{IsElsewhere}
+use Rattle.crash_rules.specs.Model.{IsElsewhere, Marks}
 use Rattle.crash_rules.specs.History.{History, observe, behind_boot}
 use Rattle.crash_rules.specs.Runs.{Program, Charge, Charged}
+use Rattle.run_charges.specs.View.{outside_of, outside_effects, Follows}
 
 -- charges begin with any words that a power-up may leave
 abbrev pub ArePowerStates : List BoardCharge → Type 0
 ArePowerStates cs = All (λ c. IsPowerState c.start) cs
 
--- a charge up to some instruction: the words that its power-up left, and the instructions that were made
+-- a charge up to some instruction: the board on which it begins, the words that its power-up left, and the instructions that were made
 pub record ChargeFront : Type 0 where
+  pub before : BoardValue
   pub start : PowerState
   pub instructions : List Moment
 
+-- the board that its power-up left
+abbrev pub board_powered : ChargeFront → BoardValue
+board_powered c = powered c.before c.start
+
 -- the board behind it
-abbrev pub board_behind : BoardValue → ChargeFront → BoardValue
-board_behind b c = last_board (powered b c.start) c.instructions
+abbrev pub board_behind : ChargeFront → BoardValue
+board_behind c = last_board (board_powered c) c.instructions
 
 -- the board behind such charges
 abbrev pub board_behind_all : BoardValue → List ChargeFront → BoardValue
 board_behind_all b [] = b
-board_behind_all b (c ∷ cs) = board_behind_all (board_behind b c) cs
+board_behind_all b (c ∷ cs) = board_behind_all (board_behind c) cs
 
 -- their moments: a power-up each, and the instructions
-abbrev pub moments_of : BoardValue → List ChargeFront → List Moment
-moments_of b [] = []
-moments_of b (c ∷ cs) = power_up_of b c.start ∷ (c.instructions ++ moments_of (board_behind b c) cs)
+abbrev pub moments_of : List ChargeFront → List Moment
+moments_of [] = []
+moments_of (c ∷ cs) = power_up_of c.before c.start ∷ (c.instructions ++ moments_of cs)
 
 -- an action is an instruction
 abbrev pub IsInstruction : Action → Type 0
@@ -50,16 +57,17 @@ abbrev pub AreInstructionMoments : List Moment → Type 0
 AreInstructionMoments [] = Unit {0}
 AreInstructionMoments (m ∷ ms) = IsInstruction m.action × AreInstructionMoments ms
 
--- the instructions of a charge are steps of the machine from the board that the power-up left
+-- a charge follows this board, and its instructions are steps of the machine from the board that the power-up left
 pub record IsMachineCharge (b : BoardValue) (c : ChargeFront) : Type 0 where
+  pub follows : Follows b c.before
   pub start : IsPowerState c.start
   pub instructions : AreInstructionMoments c.instructions
-  pub reaches : ReachesAs (powered b c.start) c.instructions
+  pub reaches : ReachesAs (board_powered c) c.instructions
 
 -- those of each charge are, one behind the other
 abbrev pub AreMachineCharges : BoardValue → List ChargeFront → Type 0
 AreMachineCharges b [] = Unit {0}
-AreMachineCharges b (c ∷ cs) = IsMachineCharge b c × AreMachineCharges (board_behind b c) cs
+AreMachineCharges b (c ∷ cs) = IsMachineCharge b c × AreMachineCharges (board_behind c) cs
 
 -- a run whose charges are the machine's: each is spent as the machine spends it, and the last one may stop as the machine stops
 pub data RunsAsMachine : List BoardCharge → BoardValue → RunOutcome → Type 0 where
@@ -71,20 +79,24 @@ pub data RunsAsMachine : List BoardCharge → BoardValue → RunOutcome → Type
       → StopsAs c.measure c.amount (powered b c.start) (run_outcome ms (Stopped stop) end) stop
       → RunsAsMachine (c ∷ cs) b (run_outcome (power_up_of b c.start ∷ ms) (Stopped stop) end)
 
--- the history behind an action between these boards, where GATE is at this address: a boot, or the effects of an instruction
-abbrev pub behind_action : ℕ → Action → BoardValue → BoardValue → History → History
-behind_action gate PowerUp before after k = behind_boot k
-behind_action gate (Execute done offered) before after k = observe gate (action_effects (Execute done offered) before after) k
+-- the history behind an action with these effects, by these marks: behind a boot, or behind the effects of an instruction
+abbrev pub behind_action : Marks → Action → List Effect → History → History
+behind_action marks PowerUp es k = behind_boot k
+behind_action marks (Execute done offered) es k = observe marks es k
+
+-- the history behind a moment
+abbrev pub behind_moment : Marks → Moment → History → History
+behind_moment marks m k = behind_action marks m.action (outside_effects m) k
 
 -- the history behind moments
-abbrev pub observed : ℕ → List Moment → History → History
-observed gate [] k = k
-observed gate (m ∷ ms) k = observed gate ms (behind_action gate m.action m.before m.after k)
+abbrev pub observed : Marks → List Moment → History → History
+observed marks [] k = k
+observed marks (m ∷ ms) k = observed marks ms (behind_moment marks m k)
 
 -- charges as the crash theorem has them: the machine that a power-up left, and how many steps were made
-abbrev pub charges_of : BoardValue → List ChargeFront → List Charge
-charges_of b [] = []
-charges_of b (c ∷ cs) = record { powered = machine_of (powered b c.start); steps = length c.instructions } ∷ charges_of (board_behind b c) cs
+abbrev pub charges_of : List ChargeFront → List Charge
+charges_of [] = []
+charges_of (c ∷ cs) = record { powered = outside_of (board_powered c); steps = length c.instructions } ∷ charges_of cs
 
 -- a program that is instructions placed in FRAM from p on, and which boards a power-up leaves where the reset vector is its entry
 pub record IsPlacedProgram (c : Program) (p : ℕ) (is : List Instr) (entry : ℕ) : Type 0 where
@@ -101,7 +113,7 @@ pub record LeavesProgram (p n : ℕ) (r : MachineStretch) : Type 0 where
   pub vector : EachStore (IsElsewhere reset_vector) r.effects
 
 -- wherever charges of a program lead, the steps of a further one are such
-abbrev pub AlwaysLeaves : Program → ℕ → ℕ → ℕ → MachineBoard → History → Type 0
-AlwaysLeaves c p n gate s h = (charges : List Charge) (t : MachineBoard) (k : History) → Charged c gate s h charges t k
-    → (q : MachineBoard) → c.IsPoweredUp q → q.fram ≡ t.fram → q.readings_left ≡ t.readings_left
+abbrev pub AlwaysLeaves : Program → ℕ → ℕ → Marks → MachineBoard → History → Type 0
+AlwaysLeaves c p n marks s h = (charges : List Charge) (t : MachineBoard) (k : History) → Charged c marks s h charges t k
+    → (q : MachineBoard) → c.IsPoweredUp q → q.fram ≡ t.fram → q.inputs.readings ≡ t.inputs.readings
     → (m : ℕ) → LeavesProgram p n (going c.step m q)

@@ -1,6 +1,7 @@
 -- Stretches of code one after another.
 use Rattle.std.proofs.Common.{◌≡◌, ℕ, ◌+◌, List, [], ◌++◌, length, Some, sym, ap, ◌∙◌, subst}
 use Rattle.runtime_effects.specs.fram_board.Effects.{Effect}
+use Rattle.runtime_effects.specs.machine_effects.Inputs.{Inputs}
 use Rattle.runtime_effects.specs.machine_effects.Going.{Goes, At, stretch}
 use Rattle.runtime_effects.specs.machine_effects.Machine.{Code, exec}
 use Rattle.runtime_effects.proofs.machine_effects.Interface.{stay, one_step, join}
@@ -48,11 +49,11 @@ pub then_on : (code : Code) (n n' c c' : ℕ) (u t : Core) (Q : Core → Type 0)
 then_on code n n' c c' u t Q es fs a b = comes_on code n n' c c' u (λ v. v ≡ t) Q es fs a (λ v e. subst (λ x. Comes code fs n' c' x Q) (sym e) b)
 
 -- the same address by another sum
-pub moved_to : (code : Code) (q q' n c : ℕ) (u : Core) (es : List Effect) (f : ℕ → ℕ) (rs : List ℕ) → q ≡ q' → Comes code es n c u (IsAt q f rs)
-    → Comes code es n c u (IsAt q' f rs)
-moved_to code q q' n c u es f rs e a = subst (λ x. Comes code es n c u (IsAt x f rs)) e a
+pub moved_to : (code : Code) (q q' n c : ℕ) (u : Core) (es : List Effect) (f : ℕ → ℕ) (inputs : Inputs) → q ≡ q' → Comes code es n c u (IsAt q f inputs)
+    → Comes code es n c u (IsAt q' f inputs)
+moved_to code q q' n c u es f inputs e a = subst (λ x. Comes code es n c u (IsAt x f inputs)) e a
 
--- a stretch, and one from where it leads, whose effects and end depend on FRAM as it then is
-pub chain : (code : Code) (n n' c c' q : ℕ) (u : Core) (es fs : List Effect) (g : ℕ → ℕ) (rs : List ℕ) (Q : Core → Type 0) → Comes code es n c u (IsAt q g rs)
-    → ((v : Core) → v.pc ≡ q → v.fram ≡ g → v.readings_left ≡ rs → Comes code fs n' c' v Q) → Comes code (es ++ fs) (n + n') (c + c') u Q
-chain code n n' c c' q u es fs g rs Q a f = comes_on code n n' c c' u (IsAt q g rs) Q es fs a (λ v h. f v h.pc h.fram h.readings_left)
+-- what holds of a state's own FRAM and inputs holds of those that it is known to have
+pub known_at : {address : ℕ} {memory : ℕ → ℕ} {left : Inputs} {u : Core} (F : (ℕ → ℕ) → Inputs → Type 0) → IsAt address memory left u
+    → F u.fram u.inputs → F memory left
+known_at {memory = memory} {u = u} F h a = subst (F memory) h.inputs (subst (λ f. F f u.inputs) h.fram a)

@@ -1,6 +1,7 @@
 -- Code whose steps and cycles are known exactly, and where it leads.
 use Rattle.std.specs.Prelude.{◌≡◌, ℕ, List}
 use Rattle.runtime_effects.specs.fram_board.Effects.{Effect}
+use Rattle.runtime_effects.specs.machine_effects.Inputs.{Inputs}
 use Rattle.runtime_effects.specs.machine_effects.Going.{Leads}
 use Rattle.runtime_effects.specs.machine_effects.Machine.{Code, exec}
 use Rattle.code_forms.specs.Forms.{Core, board_of}
@@ -11,15 +12,15 @@ pub record Comes (code : Code) (es : List Effect) (steps cycles : ℕ) (u : Core
   pub leads : Leads (exec code) steps es cycles (board_of u) (board_of end)
   pub holds : P end
 
--- at an address, with this FRAM and these readings left
-pub record IsAt (address : ℕ) (memory : ℕ → ℕ) (left : List ℕ) (u : Core) : Type 0 where
+-- at an address, with this FRAM and these inputs left
+pub record IsAt (address : ℕ) (memory : ℕ → ℕ) (left : Inputs) (u : Core) : Type 0 where
   pub pc : u.pc ≡ address
   pub fram : u.fram ≡ memory
-  pub readings_left : u.readings_left ≡ left
+  pub inputs : u.inputs ≡ left
 
 -- the same, with SP
-pub record Enters (address stack : ℕ) (memory : ℕ → ℕ) (left : List ℕ) (u : Core) : Type 0 where
+pub record Enters (address stack : ℕ) (memory : ℕ → ℕ) (left : Inputs) (u : Core) : Type 0 where
   pub pc : u.pc ≡ address
   pub sp : u.sp ≡ stack
   pub fram : u.fram ≡ memory
-  pub readings_left : u.readings_left ≡ left
+  pub inputs : u.inputs ≡ left

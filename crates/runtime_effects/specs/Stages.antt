@@ -1,6 +1,6 @@
 -- What commit, attempt start and boot do to FRAM and to the receiver, in the order of their stores, from what FRAM holds.
 use Rattle.std.specs.Prelude.{ℕ, zero, suc, ◌+◌, ◌%◌, ◌==◌, if◌then◌else◌, Bool, List, [], ◌∷◌, ◌++◌}
-use Rattle.machine_effects.specs.fram_board.Effects.{Effect, Store, Send}
+use Rattle.machine_effects.specs.fram_board.Effects.{Effect, Store, Outside, Offered}
 use Rattle.machine_effects.specs.World.{put, fram_after}
 use Rattle.memory_map.specs.declared.words.RuntimeWord.TheVariants.{CurrentTask, NextTask, Gate, ListLength, EmitCount, Base, SentBase, Version}
 use Rattle.memory_map.specs.MemoryMap.{MemoryMap, word_place}
@@ -14,7 +14,7 @@ copied_home (x ∷ xs) f = Store x.home (f x.copy) ∷ copied_home xs (put f x.h
 -- so many words from an address on are sent, numbered from a number on, modulo 65536
 abbrev pub sends : ℕ → ℕ → ℕ → (ℕ → ℕ) → List Effect
 sends zero number p f = []
-sends (suc n) number p f = Send number (f p) ∷ sends n ((number + 1) % 0x10000) (p + 2) f
+sends (suc n) number p f = Outside (Offered number (f p)) ∷ sends n ((number + 1) % 0x10000) (p + 2) f
 
 -- the emitted words, EN of them, numbered from SB on
 abbrev pub emits_sent : MemoryMap → (ℕ → ℕ) → List Effect

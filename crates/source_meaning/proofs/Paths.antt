@@ -1,13 +1,15 @@
 -- A run that goes on behind a block makes a path that does.
-use Rattle.std.proofs.Common.{ℕ, zero, suc, ◌+◌, ◌-◌, Bool, true, false, List, [], ◌∷◌, ◌++◌, Option, Some, None, if◌then◌else◌}
+use Rattle.std.proofs.Common.{ℕ, zero, suc, ◌+◌, ◌-◌, Bool, true, false, List, [], ◌∷◌, ◌++◌, Some, None, if◌then◌else◌}
 use Rattle.task_ast.specs.Tree.{Expression, Statement, Choice, Block}
 use Rattle.task_ast.specs.Tree as t
 use Rattle.task_ast.specs.Paths.{Access, write, End, ExpressionPath, StatementPath, ChoicePath, TurnsPath, BlockPath}
 use Rattle.task_ast.specs.Paths as path
 use Rattle.task_ast.specs.declared.names.VariableName.{VariableName}
 use Rattle.task_ast.specs.declared.names.TaskName.{TaskName}
-use Rattle.source_values.specs.Values.{value_of, holds}
-use Rattle.source_values.specs.Statements.{Attempt, Outcome, goes_on, to_task, short, and_then, if_value, assigned, turns, run_statement, run_choice, run_block}
+use Rattle.source_values.specs.Values.{holds}
+use Rattle.source_values.specs.Statements.{Attempt, Outcome, goes_on, to_task, short, and_then, with_value, assigned, turns, run_statement, run_choice}
+use Rattle.source_values.specs.Statements.{run_block}
+use Rattle.source_values.proofs.Interface.{for_value}
 
 -- where the outcome goes on, some path does
 abbrev pub OnPath : (List Access → Type 0) → Outcome → Type 0
@@ -26,10 +28,9 @@ on_then p q r f g (goes_on s) next h more = on_map q r (f h.0) (λ ys y. g h.0 y
 on_then p q r f g (to_task k s) next h more = tt
 on_then p q r f g short next h more = tt
 
-on_value : (p : List Access → Type 0) (v : Option (ℕ × List ℕ)) (s : Attempt) (next : ℕ → Attempt → Outcome) → ((w : ℕ) (s : Attempt) → OnPath p (next w s))
-    → OnPath p (if_value v s next)
-on_value p None s next more = tt
-on_value p (Some x) s next more = more x.0 (record s { left = x.1 })
+on_value : (p : List Access → Type 0) (e : Expression VariableName) (s : Attempt) (next : ℕ → Attempt → Outcome)
+    → ((w : ℕ) (s : Attempt) → OnPath p (next w s)) → OnPath p (with_value e s next)
+on_value p e s next more = for_value (OnPath p) e s next tt (λ w u is. more w u)
 
 on_if : (p : List Access → Type 0) (b : Bool) (first second : Outcome) → OnPath p first → OnPath p second → OnPath p (if b then first else second)
 on_if p true first second x y = x
@@ -61,13 +62,13 @@ mutual
   statement_path : (s : Statement VariableName TaskName) (a : Attempt) → OnPath (λ xs. StatementPath s xs path.goes_on) (run_statement s a)
   statement_path (t.declare of x None) a = (path.unset x ∷ [], path.declare_unset of x)
   statement_path (t.declare of x (Some e)) a = let p = expression_path e in
-      on_value (λ xs. StatementPath (t.declare of x (Some e)) xs path.goes_on) (value_of e a.variables a.left) a _
+      on_value (λ xs. StatementPath (t.declare of x (Some e)) xs path.goes_on) e a _
       (λ w s. (p.0 ++ write x ∷ [], path.declare_set of x e p.0 p.1))
   statement_path (t.assign x e) a = let p = expression_path e in
-      on_value (λ xs. StatementPath (t.assign x e) xs path.goes_on) (value_of e a.variables a.left) a _ (λ w s. (p.0 ++ write x ∷ [], path.assign x e p.0 p.1))
+      on_value (λ xs. StatementPath (t.assign x e) xs path.goes_on) e a _ (λ w s. (p.0 ++ write x ∷ [], path.assign x e p.0 p.1))
   statement_path (t.store x index e) a = let i = expression_path index in let p = expression_path e in
-      on_value (λ xs. StatementPath (t.store x index e) xs path.goes_on) (value_of index a.variables a.left) a _
-      (λ k s. on_value (λ xs. StatementPath (t.store x index e) xs path.goes_on) (value_of e s.variables s.left) s _
+      on_value (λ xs. StatementPath (t.store x index e) xs path.goes_on) index a _
+      (λ k s. on_value (λ xs. StatementPath (t.store x index e) xs path.goes_on) e s _
       (λ w s. (i.0 ++ (p.0 ++ write x ∷ []), path.store x index e i.0 p.0 i.1 p.1)))
   statement_path (t.choose c) a = on_map (λ xs. ChoicePath c xs path.goes_on) (λ xs. StatementPath (t.choose c) xs path.goes_on) (λ xs. xs)
       (λ xs p. path.choose c xs path.goes_on p) (run_choice c a) (choice_path c a)
@@ -77,7 +78,7 @@ mutual
       (λ xs p. path.loop x from tested under stepped body xs path.goes_on p) (turns (under - from) from x.variable (run_block body) a)
       (turns_path (under - from) from x body a (block_path body))
   statement_path (t.emit e) a = let p = expression_path e in
-      on_value (λ xs. StatementPath (t.emit e) xs path.goes_on) (value_of e a.variables a.left) a _ (λ w s. (p.0, path.emit e p.0 p.1))
+      on_value (λ xs. StatementPath (t.emit e) xs path.goes_on) e a _ (λ w s. (p.0, path.emit e p.0 p.1))
   statement_path (t.transition n) a = tt
 
   choice_path : (c : Choice VariableName TaskName) (a : Attempt) → OnPath (λ xs. ChoicePath c xs path.goes_on) (run_choice c a)
@@ -85,7 +86,7 @@ mutual
   choice_path (t.otherwise b) a = on_map (λ xs. BlockPath b xs path.goes_on) (λ xs. ChoicePath (t.otherwise b) xs path.goes_on) (λ xs. xs)
       (λ xs p. path.otherwise b xs path.goes_on p) (run_block b a) (block_path b a)
   choice_path (t.test e b more) a = let p = expression_path e in
-      on_value (λ xs. ChoicePath (t.test e b more) xs path.goes_on) (value_of e a.variables a.left) a
+      on_value (λ xs. ChoicePath (t.test e b more) xs path.goes_on) e a
       (λ w s. if holds w then run_block b s else run_choice more s)
       (λ w s. on_if (λ xs. ChoicePath (t.test e b more) xs path.goes_on) (holds w) (run_block b s) (run_choice more s)
       (on_map (λ xs. BlockPath b xs path.goes_on) (λ xs. ChoicePath (t.test e b more) xs path.goes_on) (λ ys. p.0 ++ ys)

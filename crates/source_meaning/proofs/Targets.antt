@@ -1,14 +1,16 @@
 -- A run goes only to tasks that the source names.
-use Rattle.std.proofs.Common.{◌≡◌, ◌<◌, ℕ, zero, suc, ◌+◌, ◌-◌, Bool, true, false, List, Option, Some, None, if◌then◌else◌, nat_lt, ltb-true}
+use Rattle.std.proofs.Common.{◌≡◌, ◌<◌, ℕ, zero, suc, ◌+◌, ◌-◌, Bool, true, false, List, Some, None, if◌then◌else◌, nat_lt, ltb-true}
 use Rattle.std.specs.List.{list_all}
 use Rattle.std.proofs.lemmas.Bool.{and_parts}
-use Rattle.task_ast.specs.Tree.{Statement, declare, assign, store, choose, loop, emit, transition, Choice, nothing, otherwise, test, Block, end, step}
+use Rattle.task_ast.specs.Tree.{Expression, Statement, declare, assign, store, choose, loop, emit, transition, Choice, nothing, otherwise, test, Block, end}
+use Rattle.task_ast.specs.Tree.{step}
 use Rattle.task_ast.specs.declared.names.Variable.{Variable}
 use Rattle.task_ast.specs.declared.names.VariableName.{VariableName}
 use Rattle.task_ast.specs.declared.names.TaskName.{TaskName}
-use Rattle.source_values.specs.Values.{value_of, holds}
-use Rattle.source_values.specs.Statements.{Attempt, Outcome, goes_on, to_task, short, and_then, if_value, with_value, assigned, assigned_value, word_of, turns}
+use Rattle.source_values.specs.Values.{holds}
+use Rattle.source_values.specs.Statements.{Attempt, Outcome, goes_on, to_task, short, and_then, with_value, assigned, assigned_value, word_of, turns}
 use Rattle.source_values.specs.Statements.{run_statement, run_choice, run_block}
+use Rattle.source_values.proofs.Interface.{for_value}
 use Rattle.task_check.specs.LookedUp.{statement_targets, choice_targets, block_targets}
 
 -- a task that an outcome goes to has a number below k
@@ -30,10 +32,9 @@ goes_then k (goes_on s) next h more = more s
 goes_then k (to_task t s) next h more = h
 goes_then k short next h more = tt
 
-goes_value : (k : ℕ) (v : Option (ℕ × List ℕ)) (s : Attempt) (next : ℕ → Attempt → Outcome) → ((w : ℕ) (s : Attempt) → GoesBelow k (next w s))
-    → GoesBelow k (if_value v s next)
-goes_value k None s next more = tt
-goes_value k (Some x) s next more = more x.0 (record s { left = x.1 })
+goes_value : (k : ℕ) (e : Expression VariableName) (s : Attempt) (next : ℕ → Attempt → Outcome) → ((w : ℕ) (s : Attempt) → GoesBelow k (next w s))
+    → GoesBelow k (with_value e s next)
+goes_value k e s next more = for_value (GoesBelow k) e s next tt (λ w u is. more w u)
 
 goes_if : (k : ℕ) (b : Bool) (first second : Outcome) → GoesBelow k first → GoesBelow k second → GoesBelow k (if b then first else second)
 goes_if k true first second p q = p
@@ -49,19 +50,19 @@ mutual
   statement_stays : (k : ℕ) (s : Statement VariableName TaskName) (more : List ℕ) → below k (statement_targets s more) ≡ true → Stays k (run_statement s) more
   statement_stays k (declare t x None) more h = record { runs = λ s. tt; rest = h }
   statement_stays k (declare t x (Some e)) more h =
-      record { runs = λ s. goes_value k (value_of e s.variables s.left) s (λ w s. goes_on (assigned_value s x e w)) (λ w s. tt); rest = h }
+      record { runs = λ s. goes_value k e s (λ w s. goes_on (assigned_value s x e w)) (λ w s. tt); rest = h }
   statement_stays k (assign x e) more h =
-      record { runs = λ s. goes_value k (value_of e s.variables s.left) s (λ w s. goes_on (assigned_value s x e w)) (λ w s. tt); rest = h }
+      record { runs = λ s. goes_value k e s (λ w s. goes_on (assigned_value s x e w)) (λ w s. tt); rest = h }
   statement_stays k (store x index e) more h = record {
-    runs = λ s. goes_value k (value_of index s.variables s.left) s (λ i s. with_value e s (λ w s. goes_on (assigned s x.variable i (word_of e w))))
-        (λ i s. goes_value k (value_of e s.variables s.left) s (λ w s. goes_on (assigned s x.variable i (word_of e w))) (λ w s. tt));
+    runs = λ s. goes_value k index s (λ i s. with_value e s (λ w s. goes_on (assigned s x.variable i (word_of e w))))
+        (λ i s. goes_value k e s (λ w s. goes_on (assigned s x.variable i (word_of e w))) (λ w s. tt));
     rest = h;
   }
   statement_stays k (choose choice) more h = let c = choice_stays k choice more h in record { runs = c.runs; rest = c.rest }
   statement_stays k (loop x from tested under stepped body) more h =
       let b = block_stays k body more h in
       record { runs = λ s. goes_turns k (under - from) from x.variable (run_block body) s b.runs; rest = b.rest }
-  statement_stays k (emit e) more h = record { runs = λ s. goes_value k (value_of e s.variables s.left) s _ (λ w s. tt); rest = h }
+  statement_stays k (emit e) more h = record { runs = λ s. goes_value k e s _ (λ w s. tt); rest = h }
   statement_stays k (transition t) more h =
       let p = and_parts (nat_lt t.task k) (below k more) h in
       record { runs = λ s. ltb-true t.task k p.0; rest = p.1 }
@@ -73,7 +74,7 @@ mutual
       let b = block_stays k block (choice_targets others more) h in
       let c = choice_stays k others more b.rest in
       record {
-        runs = λ s. goes_value k (value_of e s.variables s.left) s (λ w s. if holds w then run_block block s else run_choice others s)
+        runs = λ s. goes_value k e s (λ w s. if holds w then run_block block s else run_choice others s)
             (λ w s. goes_if k (holds w) (run_block block s) (run_choice others s) (b.runs s) (c.runs s));
         rest = c.rest;
       }

@@ -2,14 +2,14 @@
 -- last decide began.
 use Rattle.std.proofs.Common.{◌≡◌, ◌≤◌, ℕ, refl, arith, Bool, true, false, cond, List, [], ◌∷◌, ◌++◌}
 use Rattle.std.proofs.lemmas.Bool.Decides.{nat_tests}
-use Rattle.model_runs.specs.fram_board.Board.{BoardValue}
-use Rattle.model_runs.specs.fram_board.Effects.{Effect}
-use Rattle.model_runs.specs.fram_board.Run.{Action, PowerUp, Execute, Moment}
-use Rattle.model_runs.specs.machine_effects.World.{World, world_after_one}
-use Rattle.model_runs.specs.machine_effects.Runs.{action_effects}
-use Rattle.model_runs.specs.crash_rules.History.{Done, History, is_done, is_decide, with_effect, behind_boot, behind_done, behind_decide, behind_gate}
-use Rattle.model_runs.specs.crash_rules.History.{observe_one, observe, first_history}
-use Rattle.model_runs.specs.run_charges.Charges.{behind_action, observed}
+use Rattle.fram_board.specs.Effects.{Effect}
+use Rattle.fram_board.specs.Run.{Action, PowerUp, Execute, Moment}
+use Rattle.machine_effects.specs.World.{World, world_after_one}
+use Rattle.crash_rules.specs.Model.{Marks}
+use Rattle.crash_rules.specs.History.{Done, History, is_done, is_decide, with_effect, behind_boot, behind_done, behind_decide, behind_gate}
+use Rattle.crash_rules.specs.History.{observe_one, observe, first_history}
+use Rattle.run_charges.specs.View.{outside_effects}
+use Rattle.run_charges.specs.Charges.{behind_action, behind_moment, observed}
 use Rattle.source_report.specs.Apart.{AreApart}
 use Rattle.source_runs.specs.Transitions.{committed_by}
 
@@ -41,27 +41,27 @@ record IsPending (h : History) : Type 0 where
   taken : h.span_to ≤ h.taken
 
 -- the spans of the dones, and that of the decide where GATE is 1
-record Ordered (gate : ℕ) (h : History) : Type 0 where
+record Ordered (marks : Marks) (h : History) : Type 0 where
   dones : UpTo 0 h.completed h.since
   since : h.since ≤ h.taken
-  pending : h.world.fram gate ≡ 1 → IsPending h
+  pending : h.world.fram marks.gate ≡ 1 → IsPending h
 
-first_ordered : (gate : ℕ) (x : World) → Ordered gate (first_history gate x)
-first_ordered gate x = record {
+first_ordered : (marks : Marks) (x : World) → Ordered marks (first_history marks x)
+first_ordered marks x = record {
   dones = omega arith;
   since = omega arith;
   pending = λ e. record { behind = omega arith; onward = omega arith; taken = omega arith };
 }
 
-boot_ordered : (gate : ℕ) (h : History) → Ordered gate h → Ordered gate (behind_boot h)
-boot_ordered gate h o = record {
+boot_ordered : (marks : Marks) (h : History) → Ordered marks h → Ordered marks (behind_boot h)
+boot_ordered marks h o = record {
   dones = further 0 h.completed h.since h.taken o.dones o.since;
   since = omega arith;
   pending = λ e. let p = o.pending e in record { behind = p.behind; onward = p.onward; taken = p.taken };
 }
 
 -- a history behind an effect, where GATE was so before it
-record IsBehind (gate before : ℕ) (h : History) : Type 0 where
+record IsBehind (before : ℕ) (h : History) : Type 0 where
   dones : UpTo 0 h.completed h.since
   since : h.since ≤ h.taken
   pending : before ≡ 1 → IsPending h
@@ -75,13 +75,13 @@ is_none before now e f = grind (arith, nat_tests, e)
 stayed_one : (before now : ℕ) → is_decide before now ≡ false → now ≡ 1 → before ≡ 1
 stayed_one before now e f = grind (arith, nat_tests, e)
 
-event_ordered : (gate before now : ℕ) (h : History) → now ≡ h.world.fram gate → IsBehind gate before h → Ordered gate (behind_gate before now h)
-event_ordered gate before now h is b = by_done (is_done before now) refl
+event_ordered : (marks : Marks) (before now : ℕ) (h : History) → now ≡ h.world.fram marks.gate → IsBehind before h → Ordered marks (behind_gate before now h)
+event_ordered marks before now h is b = by_done (is_done before now) refl
   where
     done : Done
     done = record { span_from = h.span_from; span_to = h.span_to; world = h.world }
 
-    by_decide : (q : Bool) → is_decide before now ≡ q → Ordered gate (cond q (behind_decide h) h)
+    by_decide : (q : Bool) → is_decide before now ≡ q → Ordered marks (cond q (behind_decide h) h)
     by_decide true e = record {
       dones = b.dones;
       since = b.since;
@@ -89,7 +89,7 @@ event_ordered gate before now h is b = by_done (is_done before now) refl
     }
     by_decide false e = record { dones = b.dones; since = b.since; pending = λ one. b.pending (stayed_one before now e (omega (arith, is, one))) }
 
-    by_done : (p : Bool) → is_done before now ≡ p → Ordered gate (cond p (behind_done h) (cond (is_decide before now) (behind_decide h) h))
+    by_done : (p : Bool) → is_done before now ≡ p → Ordered marks (cond p (behind_done h) (cond (is_decide before now) (behind_decide h) h))
     by_done true e =
         let p = b.pending (was_one before now e) in
         record {
@@ -99,32 +99,32 @@ event_ordered gate before now h is b = by_done (is_done before now) refl
         }
     by_done false e = by_decide (is_decide before now) refl
 
-one_ordered : (gate : ℕ) (e : Effect) (h : History) → Ordered gate h → Ordered gate (observe_one gate e h)
-one_ordered gate e h o =
+one_ordered : (marks : Marks) (e : Effect) (h : History) → Ordered marks h → Ordered marks (observe_one marks e h)
+one_ordered marks e h o =
     let since = o.since in
-    let behind : IsBehind gate (h.world.fram gate) (with_effect e h) = record {
+    let behind : IsBehind (h.world.fram marks.gate) (with_effect e h) = record {
       dones = o.dones;
       since = omega (arith, since);
       pending = λ one. let p = o.pending one in let taken = p.taken in record { behind = p.behind; onward = p.onward; taken = omega (arith, taken) };
     } in
-    event_ordered gate (h.world.fram gate) ((world_after_one e h.world).fram gate) (with_effect e h) refl behind
+    event_ordered marks (h.world.fram marks.gate) ((world_after_one e h.world).fram marks.gate) (with_effect e h) refl behind
 
-effects_ordered : (gate : ℕ) (es : List Effect) (h : History) → Ordered gate h → Ordered gate (observe gate es h)
-effects_ordered gate [] h o = o
-effects_ordered gate (e ∷ es) h o = effects_ordered gate es (observe_one gate e h) (one_ordered gate e h o)
+effects_ordered : (marks : Marks) (es : List Effect) (h : History) → Ordered marks h → Ordered marks (observe marks es h)
+effects_ordered marks [] h o = o
+effects_ordered marks (e ∷ es) h o = effects_ordered marks es (observe_one marks e h) (one_ordered marks e h o)
 
-moment_ordered : (gate : ℕ) (a : Action) (before after : BoardValue) (h : History) → Ordered gate h → Ordered gate (behind_action gate a before after h)
-moment_ordered gate PowerUp before after h o = boot_ordered gate h o
-moment_ordered gate (Execute done offered) before after h o = effects_ordered gate (action_effects (Execute done offered) before after) h o
+action_ordered : (marks : Marks) (a : Action) (es : List Effect) (h : History) → Ordered marks h → Ordered marks (behind_action marks a es h)
+action_ordered marks PowerUp es h o = boot_ordered marks h o
+action_ordered marks (Execute done offered) es h o = effects_ordered marks es h o
 
-moments_ordered : (gate : ℕ) (ms : List Moment) (h : History) → Ordered gate h → Ordered gate (observed gate ms h)
-moments_ordered gate [] h o = o
-moments_ordered gate (m ∷ ms) h o =
-    moments_ordered gate ms (behind_action gate m.action m.before m.after h) (moment_ordered gate m.action m.before m.after h o)
+moments_ordered : (marks : Marks) (ms : List Moment) (h : History) → Ordered marks h → Ordered marks (observed marks ms h)
+moments_ordered marks [] h o = o
+moments_ordered marks (m ∷ ms) h o =
+    moments_ordered marks ms (behind_moment marks m h) (action_ordered marks m.action (outside_effects m) h o)
 
 -- the spans of a run's dones, of which the last ended with the last done
-pub spans_are_apart : (gate : ℕ) (x : World) (ms : List Moment) (end : ℕ) → (observed gate ms (first_history gate x)).since ≤ end
-    → AreApart 0 end (committed_by (observed gate ms (first_history gate x)).completed)
-spans_are_apart gate x ms end inside =
-    let k = observed gate ms (first_history gate x) in
-    apart 0 k.completed k.since end (moments_ordered gate ms (first_history gate x) (first_ordered gate x)).dones inside
+pub spans_are_apart : (marks : Marks) (x : World) (ms : List Moment) (end : ℕ) → (observed marks ms (first_history marks x)).since ≤ end
+    → AreApart 0 end (committed_by (observed marks ms (first_history marks x)).completed)
+spans_are_apart marks x ms end inside =
+    let k = observed marks ms (first_history marks x) in
+    apart 0 k.completed k.since end (moments_ordered marks ms (first_history marks x) (first_ordered marks x)).dones inside

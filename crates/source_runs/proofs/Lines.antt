@@ -5,22 +5,22 @@ use Rattle.std.proofs.Math.Seq.{drop-append_seam}
 use Rattle.std.proofs.lemmas.Bool.Decides.{nat_tests}
 use Rattle.std.proofs.lemmas.Option.{slice_get-map}
 use Rattle.std.specs.Prelude.{slice_get}
-use Rattle.model_runs.specs.alp_io.Report.{step_line, value_line}
-use Rattle.source_report.specs.task_ast.declared.SharedDeclaration.{SharedDeclaration}
-use Rattle.source_report.specs.task_ast.declared.Extent.{Extent}
-use Rattle.source_report.specs.task_ast.declared.Extent.TheVariants.{Scalar, Long, Array}
-use Rattle.model_runs.specs.image_map.declared.parts.ValueType.{ValueType}
-use Rattle.model_runs.specs.image_map.declared.parts.ValueType.TheVariants as value_type
-use Rattle.model_runs.specs.image_map.declared.parts.Variable.{Variable}
-use Rattle.model_runs.specs.image_map.MapValue.{MapValue, is_long, word_count}
-use Rattle.model_runs.specs.board_run.History.{SharedNumber, array_words, scalar_number, number_of, variable_numbers, shared_numbers}
-use Rattle.model_runs.specs.board_run.History.{changed_line}
-use Rattle.model_runs.specs.board_run.History as board
-use Rattle.source_report.specs.source_values.Runs.{CheckedProgram, is_long_extent, State, Transition, state_after}
+use Rattle.alp_io.specs.Report.{step_line, value_line}
+use Rattle.task_ast.specs.declared.SharedDeclaration.{SharedDeclaration}
+use Rattle.task_ast.specs.declared.Extent.{Extent}
+use Rattle.task_ast.specs.declared.Extent.TheVariants.{Scalar, Long, Array}
+use Rattle.image_map.specs.declared.parts.ValueType.{ValueType}
+use Rattle.image_map.specs.declared.parts.ValueType.TheVariants as value_type
+use Rattle.image_map.specs.declared.parts.Variable.{Variable}
+use Rattle.image_map.specs.MapValue.{MapValue, is_long, word_count}
+use Rattle.board_run.specs.History.{SharedNumber, array_words, scalar_number, number_of, variable_numbers, shared_numbers}
+use Rattle.board_run.specs.History.{changed_line}
+use Rattle.board_run.specs.History as board
+use Rattle.source_values.specs.Runs.{CheckedProgram, is_long_extent, State, Transition, state_after}
 use Rattle.source_report.specs.SourceReport.{spelled, Committed, emitted_lines, change_line, element_lines, variable_lines, transition_lines, source_report}
 use Rattle.source_report.specs.SourceReport as source
-use Rattle.model_runs.specs.machine_effects.World.{World}
-use Rattle.model_runs.specs.crash_rules.History.{Done}
+use Rattle.machine_effects.specs.World.{World}
+use Rattle.crash_rules.specs.History.{Done}
 use Rattle.model_runs.specs.Events.{counted, words_between, word_lines, change_lines, done_lines, dones_lines}
 use Rattle.model_runs.proofs.Interface.{few_words_have_lines}
 use Rattle.source_runs.specs.Naming.{length_of, AreVariablesOf, IsMapOf}

@@ -2,32 +2,33 @@
 use Rattle.std.proofs.Common.{◌≡◌, ◌≤◌, ℕ, ◌+◌, ◌-◌, refl, sym, ap, subst, arith, Bool, true, false, if◌then◌else◌, List, [], ◌∷◌, ◌++◌, length}
 use Rattle.std.proofs.Common.{length-append, append-nil, Option, Some, None, Result, Ok, Err, ◌∙◌}
 use Rattle.std.proofs.lemmas.List.Sums.{sum_by-cons}
-use Rattle.model_runs.specs.msp_isa.declared.instructions.Instr.{Instr}
-use Rattle.model_runs.specs.msp_step.declared.machine.Stop.{Stop}
-use Rattle.model_runs.specs.msp_step.declared.machine.Stepped as cpu
-use Rattle.model_runs.specs.msp_step.Registers.{registers_of}
-use Rattle.model_runs.specs.msp_step.Step.{execution}
-use Rattle.model_runs.specs.image_map.MapValue.{MapValue}
-use Rattle.model_runs.specs.image_map.Kept.{IsMap}
-use Rattle.model_runs.specs.fram_board.declared.receiver.Receiver.{Receiver}
-use Rattle.model_runs.specs.fram_board.declared.board.Stepped.{Stepped}
-use Rattle.model_runs.specs.fram_board.Bus.{BusState, board_bus}
-use Rattle.model_runs.specs.fram_board.Board.{BoardValue, opened, answer_of, executed, powered, is_accepted, accepted_word, receiver_after}
-use Rattle.model_runs.specs.fram_board.Run.{Measure, Moment, Charges, Stopped, RunOutcome, run_outcome, BoardCharge, price, ChargeRun, Spent, NoInstruction}
-use Rattle.model_runs.specs.fram_board.Run.{TooDear, Refused, Executed, Run, Over, Next, Last, word_list, accepted_by, accepted_words}
-use Rattle.model_runs.proofs.fram_board.Interface.{price_low, counted}
+use Rattle.msp_isa.specs.declared.instructions.Instr.{Instr}
+use Rattle.msp_step.specs.declared.machine.Stop.{Stop}
+use Rattle.msp_step.specs.declared.machine.Stepped as cpu
+use Rattle.msp_step.specs.Registers.{registers_of}
+use Rattle.msp_step.specs.Step.{execution}
+use Rattle.image_map.specs.MapValue.{MapValue}
+use Rattle.image_map.specs.Kept.{IsMap}
+use Rattle.fram_board.specs.declared.receiver.Receiver.{Receiver}
+use Rattle.fram_board.specs.declared.board.Stepped.{Stepped}
+use Rattle.fram_board.specs.Bus.{BusState, board_bus}
+use Rattle.fram_board.specs.Board.{BoardValue, opened, answer_of, executed, powered, is_accepted, accepted_word, receiver_after}
+use Rattle.fram_board.specs.Run.{Measure, Moment, Charges, Stopped, RunOutcome, run_outcome, BoardCharge, price, ChargeRun, Spent, NoInstruction}
+use Rattle.fram_board.specs.Run.{TooDear, Refused, Executed, Run, Over, Next, Last, word_list, accepted_by, accepted_words}
+use Rattle.fram_board.proofs.Interface.{price_low, counted}
 use Rattle.source_report.specs.SourceReport.{words_in}
-use Rattle.source_report.specs.source_values.Runs.{State, Transition, state_after}
-use Rattle.model_runs.specs.machine_effects.World.{World}
-use Rattle.model_runs.specs.machine_effects.Runs.{last_board}
-use Rattle.model_runs.specs.crash_rules.History.{Done, first_history}
-use Rattle.model_runs.specs.run_charges.Charges.{observed}
-use Rattle.model_runs.specs.run_charges.Laws.{IsRunOfWords}
-use Rattle.model_runs.proofs.run_charges.Interface.{IsMomentFrom, PowersUp, Instructs, AreMoments, charge_last, front_moments, Counts, moments_count}
-use Rattle.model_runs.specs.Events.{last_world}
+use Rattle.source_values.specs.Runs.{State, Transition, state_after}
+use Rattle.machine_effects.specs.World.{World}
+use Rattle.machine_effects.specs.Runs.{last_board}
+use Rattle.crash_rules.specs.History.{Done, first_history}
+use Rattle.run_charges.specs.Charges.{observed}
+use Rattle.run_charges.specs.Laws.{IsRunOfWords}
+use Rattle.run_charges.specs.View.{IsMomentFrom, PowersUp, Instructs, AreMoments}
+use Rattle.run_charges.proofs.Interface.{follows_keeps, charge_last, front_moments, Counts, moments_count}
+use Rattle.model_runs.specs.Events.{marks_of, last_world}
 use Rattle.model_runs.specs.EventLaws.{StartsWith}
 use Rattle.model_runs.proofs.Interface.{Together, moments_lead, first_histories_are_the_same}
-use Rattle.model_runs.specs.board_run.History.{start_with}
+use Rattle.board_run.specs.History.{start_with}
 use Rattle.source_runs.specs.Transitions.{HasWordsOf, StandForTransitions}
 use Rattle.model_runs.specs.Runs.{all_amounts}
 
@@ -98,28 +99,29 @@ words_counted : (b : BoardValue) (ms : List Moment) → AreMoments b ms
     → (last_board b ms).receiver.accepted ≡ b.receiver.accepted + length (accepted_words ms)
 words_counted b [] all = omega arith
 words_counted b (m ∷ ms) all =
-    let one = moment_counted b m all.0 in
-    let more = words_counted m.after ms all.1 in
+    let same = (follows_keeps b m.before all.0).heard in
+    let one = moment_counted m.before m all.1 in
+    let more = words_counted m.after ms all.2 in
     let both = length-append (accepted_by m.action) (accepted_words ms) in
-    omega (arith, one, more, both)
+    omega (arith, same, one, more, both)
 
 -- so it accepted what the transitions emitted
 pub words_are_received : (m : MapValue) (x : World) (cs : List BoardCharge) (b : BoardValue) (r : RunOutcome) (s : State) (ts : List Transition)
     → IsMap m → StartsWith b x → IsRunOfWords cs b r → HasWordsOf m x s
-    → StandForTransitions m s (observed m.words.gate r.moments (first_history m.words.gate x)).completed ts → words_in ts ≤ r.board.receiver.accepted
+    → StandForTransitions m s (observed (marks_of m) r.moments (first_history (marks_of m) x)).completed ts → words_in ts ≤ r.board.receiver.accepted
 words_are_received m x cs b r s ts ok starts run here stand =
     let begun = first_histories_are_the_same b m x ok starts in
-    let k = first_history m.words.gate x in
+    let k = first_history (marks_of m) x in
     let t : Together m x b (start_with b.fram (Some m)) k = record { whole = run.whole; words = run.words; same = begun.0; tells = begun.1 } in
     let moments = front_moments cs b r r.moments [] run.starts run.run (sym (append-nil r.moments)) in
     let end = (moments_lead m x ok b (start_with b.fram (Some m)) k r.moments t moments).together in
-    let done = (observed m.words.gate r.moments k).completed in
+    let done = (observed (marks_of m) r.moments k).completed in
     let words = words_at_last m x s done ts here stand in
     let all = ap length end.same.alike.words_are in
     let both = length-append (last_world x done).accepted end.same.alike.words in
     let first : Counts b k x.accepted =
     record { whole = run.whole; words = run.words; accepted = refl; count = starts.accepted; taken = sym starts.taken } in
-    let heard = ap length (moments_count m.words.gate b k x.accepted r.moments first moments).accepted in
+    let heard = ap length (moments_count (marks_of m) b k x.accepted r.moments first moments).accepted in
     let begin = ap length here.accepted in
     let told = length-append x.accepted (accepted_words r.moments) in
     let count = words_counted b r.moments moments in

@@ -1,32 +1,33 @@
 -- The spans of the transitions of a run, read off its moments, are those of the dones that are read off its effects; and so each of its
 -- charges pays for its transitions.
-use Rattle.std.proofs.Common.{◌≡◌, ℕ, ◌+◌, ◌*◌, ◌≤◌, refl, sym, ap, ap₂, ◌∙◌, subst, arith, Bool, true, false, cond, if◌then◌else◌, List, [], ◌∷◌, ◌++◌}
-use Rattle.std.proofs.Common.{length, map, append_assoc, append-nil, length-append, Some, Ok}
+use Rattle.std.proofs.Common.{◌≡◌, ℕ, ◌+◌, refl, sym, ap, ap₂, ◌∙◌, subst, arith, Bool, true, false, cond, if◌then◌else◌, List, [], ◌∷◌, ◌++◌}
+use Rattle.std.proofs.Common.{length, append_assoc, append-nil, length-append, Ok}
 use Rattle.std.proofs.lemmas.List.{length-map, map-append}
-use Rattle.model_runs.specs.msp_isa.declared.instructions.Instr.{Instr}
-use Rattle.model_runs.specs.image_map.MapValue.{MapValue}
-use Rattle.model_runs.specs.image_map.Kept.{IsMap}
-use Rattle.model_runs.specs.fram_board.declared.board.Stepped.{Stepped}
-use Rattle.model_runs.specs.fram_board.Board.{BoardValue, PowerState, powered, executed, IsNextInstruction}
-use Rattle.model_runs.specs.fram_board.Run.{Execute, Moment, moment_of, power_up_of, Charges, RunOutcome, run_outcome, after_moments, BoardCharge}
-use Rattle.model_runs.specs.board_run.History.{noted, is_done, word_in}
-use Rattle.model_runs.specs.board_run.History as board
-use Rattle.model_runs.specs.board_run.Report.{after_all}
-use Rattle.model_runs.specs.machine_effects.World.{World}
-use Rattle.model_runs.specs.machine_effects.Runs.{action_effects, last_board}
-use Rattle.model_runs.specs.crash_rules.History.{Done, History, is_decide, behind_boot, behind_decide, behind_done, behind_gate, first_history, observe}
-use Rattle.model_runs.proofs.crash_rules.Interface.{with_effects}
-use Rattle.model_runs.specs.run_charges.Charges.{ArePowerStates, behind_action, observed}
-use Rattle.model_runs.specs.run_charges.Laws.{IsRunOfWords}
-use Rattle.model_runs.proofs.run_charges.Interface.{IsMomentFrom, PowersUp, Instructs, AreMoments, charge_moments, charge_last, first_start, other_starts}
-use Rattle.model_runs.proofs.run_charges.Interface.{front_moments}
-use Rattle.model_runs.specs.Events.{SaysTheSame}
+use Rattle.msp_isa.specs.declared.instructions.Instr.{Instr}
+use Rattle.image_map.specs.MapValue.{MapValue}
+use Rattle.image_map.specs.Kept.{IsMap}
+use Rattle.fram_board.specs.declared.board.Stepped.{Stepped}
+use Rattle.fram_board.specs.Board.{BoardValue, powered, executed, IsNextInstruction}
+use Rattle.fram_board.specs.Run.{Moment, moment_of, power_up_of, Charges, RunOutcome, run_outcome, BoardCharge}
+use Rattle.board_run.specs.History.{noted, is_done, word_in}
+use Rattle.board_run.specs.History as board
+use Rattle.board_run.specs.Report.{after_all}
+use Rattle.machine_effects.specs.World.{World}
+use Rattle.machine_effects.specs.Runs.{last_board}
+use Rattle.crash_rules.specs.Model.{Marks}
+use Rattle.crash_rules.specs.History.{History, is_decide, behind_decide, behind_done, behind_gate, first_history}
+use Rattle.crash_rules.proofs.Interface.{with_effects}
+use Rattle.run_charges.specs.View.{outside_effects, IsMomentFrom, PowersUp, Instructs, AreMoments}
+use Rattle.run_charges.specs.Charges.{ArePowerStates, behind_moment, observed}
+use Rattle.run_charges.specs.Laws.{IsRunOfWords}
+use Rattle.run_charges.proofs.Interface.{no_gap, charge_moments, charge_last, first_start, other_starts, front_moments}
+use Rattle.model_runs.specs.Events.{marks_of}
 use Rattle.model_runs.specs.EventLaws.{StartsWith}
-use Rattle.model_runs.proofs.Interface.{Together, observed_so, moment_leads, moments_lead, first_histories_are_the_same}
+use Rattle.model_runs.proofs.Interface.{Together, together_on, observed_so, moment_leads, moments_lead, first_histories_are_the_same}
 use Rattle.source_report.specs.SourceReport.{Committed}
 use Rattle.source_runs.specs.Transitions.{committed_by}
 use Rattle.model_runs.specs.Runs as model
-use Rattle.model_runs.specs.Runs.{Progresses}
+use Rattle.model_runs.specs.Runs.{no_delay, Progresses}
 use Rattle.source_runs.specs.Tells.{spans_by, spans_of, at_first, PaysFor, EachChargePays, AllSpent, SpentOne, StoppedIn}
 
 -- a span, or none
@@ -51,15 +52,18 @@ module _ (m : MapValue) (x : World) (ok : IsMap m) where
   abbrev gate : ℕ
   gate = m.words.gate
 
+  abbrev marks : Marks
+  marks = marks_of m
+
   -- the history by effects behind a moment adds the spans of the moment
   abbrev Adds : board.History → History → Moment → Type 0
-  Adds h k o = committed_by (behind_action gate o.action o.before o.after k).completed ≡ committed_by k.completed ++ spans_by m h o.action o.after
+  Adds h k o = committed_by (behind_moment marks o k).completed ≡ committed_by k.completed ++ spans_by m h o.action o.after
 
   instruction_adds : (b : BoardValue) (h : board.History) (k : History) → Together m x b h k → (i : Instr) (done : Stepped) → IsNextInstruction b i
       → (executed b i).answer ≡ Ok done → Adds h k (moment_of b i done)
   instruction_adds b h k t i done current answer =
       let after = (executed b i).board in
-      let moved = with_effects (action_effects (Execute done (executed b i).offered) b after) k in
+      let moved = with_effects (outside_effects (moment_of b i done)) k in
       let before : ℕ = k.world.fram gate in
       let now : ℕ = word_in after.fram gate in
       let a = t.same.alike in
@@ -76,20 +80,21 @@ module _ (m : MapValue) (x : World) (ok : IsMap m) where
 
   -- and behind all of them
   moments_add : (b : BoardValue) (h : board.History) (k : History) (ms : List Moment) → Together m x b h k → AreMoments b ms
-      → committed_by (observed gate ms k).completed ≡ committed_by k.completed ++ spans_of m h ms
+      → committed_by (observed marks ms k).completed ≡ committed_by k.completed ++ spans_of m h ms
   moments_add b h k [] t are = sym (append-nil (committed_by k.completed))
   moments_add b h k (o ∷ ms) t are =
-      let j = behind_action gate o.action o.before o.after k in
-      let one = moment_leads m x ok b h k t o are.0 in
-      moments_add o.after (noted h o) j ms one.together are.1
-      ∙ ap (λ l. l ++ spans_of m (noted h o) ms) (moment_adds b h k t o are.0)
+      let j = behind_moment marks o k in
+      let here = together_on m x b o.before h k are.0 t in
+      let one = moment_leads m x ok o.before h k here o are.1 in
+      moments_add o.after (noted h o) j ms one.together are.2
+      ∙ ap (λ l. l ++ spans_of m (noted h o) ms) (moment_adds o.before h k here o are.1)
       ∙ append_assoc (committed_by k.completed) (spans_by m h o.action o.after) (spans_of m (noted h o) ms)
 
   -- a charge that pays for dones pays for the transitions that are read off its moments
   pays_so : (c : BoardCharge) (k j : History) (spans : List Committed) → committed_by j.completed ≡ committed_by k.completed ++ spans
-      → model.PaysFor m.bound c k j → PaysFor m c spans
+      → model.PaysFor m.bound 0 c k j → PaysFor m c spans
   pays_so c k j spans e pays is n enough =
-      let more = pays is n enough in
+      let more = pays is n (omega (arith, enough)) in
       let all : length (committed_by j.completed) ≡ length (committed_by k.completed) + length spans =
       ap length e ∙ length-append (committed_by k.completed) spans in
       let now : length (committed_by j.completed) ≡ length j.completed = length-map j.completed (λ d. record { from = d.span_from; to = d.span_to }) in
@@ -97,40 +102,42 @@ module _ (m : MapValue) (x : World) (ok : IsMap m) where
       omega (arith, more, all, now, old)
 
   charges_pay : (cs : List BoardCharge) (b : BoardValue) (k : History) (r : RunOutcome) (h : board.History) → Together m x b h k → ArePowerStates cs
-      → Progresses gate m.bound cs b k r → EachChargePays m cs b h r
+      → Progresses marks m.bound no_delay cs b k r → EachChargePays m cs b h r
   charges_pay cs b k r h t starts (model.AllSpent _ _) = AllSpent b h
   charges_pay cs b k r h t starts (model.SpentOne c ds _ _ ms end rest one pays more) =
       let start = first_start c ds starts in
       let own = power_up_of b c.start ∷ ms in
-      let are : AreMoments b own = (PowersUp c.start start refl, charge_moments c.measure c.amount (powered b c.start) (run_outcome ms Charges end) one) in
+      let are : AreMoments b own =
+      (no_gap b, PowersUp c.start start refl, charge_moments c.measure c.amount (powered b c.start) (run_outcome ms Charges end) one) in
       let there : last_board (powered b c.start) ms ≡ end = charge_last c.measure c.amount (powered b c.start) (run_outcome ms Charges end) one refl in
-      let P : BoardValue → Type 0 = λ y. Together m x y (after_all h own) (observed gate own k) in
+      let P : BoardValue → Type 0 = λ y. Together m x y (after_all h own) (observed marks own k) in
       let next = subst P there (moments_lead m x ok b h k own t are).together in
       SpentOne c ds b h ms end rest one
-      (pays_so c k (observed gate own k) (spans_of m h own) (moments_add b h k own t are) pays)
-      (charges_pay ds end (observed gate own k) rest (after_all h own) next (other_starts c ds starts) more)
+      (pays_so c k (observed marks own k) (spans_of m h own) (moments_add b h k own t are) pays)
+      (charges_pay ds end (observed marks own k) rest (after_all h own) next (other_starts c ds starts) more)
   charges_pay cs b k r h t starts (model.StoppedIn c ds _ _ ms stop end one) = StoppedIn c ds b h ms stop end one
 
 -- of a run from its beginning on: the spans, the readings taken at the last boot or done, and what its charges pay for
 pub record IsReadOff (m : MapValue) (cs : List BoardCharge) (b : BoardValue) (r : RunOutcome) (k : History) : Type 0 where
   pub spans : committed_by k.completed ≡ spans_of m (at_first m b) r.moments
   pub since : k.since ≡ (after_all (at_first m b) r.moments).since
-  pub pays : (x : World) → Progresses m.words.gate m.bound cs b (first_history m.words.gate x) r → StartsWith b x → EachChargePays m cs b (at_first m b) r
+  pub pays : (x : World) → Progresses (marks_of m) m.bound no_delay cs b (first_history (marks_of m) x) r → StartsWith b x
+      → EachChargePays m cs b (at_first m b) r
 
 -- the events that are read off moments are those of the effects
 pub read_off : (m : MapValue) (x : World) (cs : List BoardCharge) (b : BoardValue) (r : RunOutcome) → IsMap m → StartsWith b x → IsRunOfWords cs b r
-    → IsReadOff m cs b r (observed m.words.gate r.moments (first_history m.words.gate x))
+    → IsReadOff m cs b r (observed (marks_of m) r.moments (first_history (marks_of m) x))
 read_off m x cs b r ok starts run =
-    let k = first_history m.words.gate x in
+    let k = first_history (marks_of m) x in
     let t = together x starts in
     let are = front_moments cs b r r.moments [] run.starts run.run (sym (append-nil r.moments)) in
     record {
       spans = moments_add m x ok b (at_first m b) k r.moments t are;
       since = sym (moments_lead m x ok b (at_first m b) k r.moments t are).together.same.alike.since;
-      pays = λ y progress begins. charges_pay m y ok cs b (first_history m.words.gate y) r (at_first m b) (together y begins) run.starts progress;
+      pays = λ y progress begins. charges_pay m y ok cs b (first_history (marks_of m) y) r (at_first m b) (together y begins) run.starts progress;
     }
   where
-    together : (y : World) → StartsWith b y → Together m y b (at_first m b) (first_history m.words.gate y)
+    together : (y : World) → StartsWith b y → Together m y b (at_first m b) (first_history (marks_of m) y)
     together y begins =
         let begun = first_histories_are_the_same b m y ok begins in
         record { whole = run.whole; words = run.words; same = begun.0; tells = begun.1 }

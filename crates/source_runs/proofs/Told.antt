@@ -2,29 +2,29 @@
 use Rattle.std.proofs.Common.{◌≡◌, ℕ, ◌+◌, ◌-◌, ◌<◌, ◌≤◌, ◌^◌, refl, sym, ap, ap₂, ◌∙◌, subst, arith, List, [], ◌∷◌, ◌++◌, length, drop, append-nil}
 use Rattle.std.proofs.Common.{length-append, Some}
 use Rattle.std.proofs.lemmas.List.{length-map, map-append}
-use Rattle.model_runs.specs.alp_io.declared.report.Reason.{Reason}
-use Rattle.model_runs.specs.alp_io.declared.report.Reason.TheVariants as reason
-use Rattle.model_runs.specs.alp_io.Report.{bound_line, end_line}
-use Rattle.model_runs.specs.image_map.MapValue.{MapValue}
-use Rattle.model_runs.specs.msp_step.declared.machine.Stop.{Stop}
-use Rattle.model_runs.specs.msp_step.declared.machine.Stop.TheVariants.{NoReading}
-use Rattle.model_runs.specs.fram_board.Board.{BoardValue}
-use Rattle.model_runs.specs.fram_board.Run.{End, Charges, Stopped, BoardCharge, RunOutcome}
-use Rattle.model_runs.specs.board_run.History.{start_with}
-use Rattle.model_runs.specs.board_run.History as board
-use Rattle.model_runs.specs.board_run.Report.{report_of, last_line}
-use Rattle.source_report.specs.source_values.Statements.{Outcome, short}
-use Rattle.source_report.specs.source_values.Runs.{CheckedProgram, State, Transition, first_state, state_after, state_behind, attempt_of}
+use Rattle.alp_io.specs.declared.report.Reason.{Reason}
+use Rattle.alp_io.specs.declared.report.Reason.TheVariants as reason
+use Rattle.alp_io.specs.Report.{bound_line, end_line}
+use Rattle.image_map.specs.MapValue.{MapValue}
+use Rattle.msp_step.specs.declared.machine.Stop.{Stop}
+use Rattle.msp_step.specs.declared.machine.Stop.TheVariants.{NoReading}
+use Rattle.fram_board.specs.Board.{BoardValue}
+use Rattle.fram_board.specs.Run.{End, Charges, Stopped, BoardCharge, RunOutcome}
+use Rattle.board_run.specs.History.{start_with}
+use Rattle.board_run.specs.History as board
+use Rattle.board_run.specs.Report.{report_of, last_line}
+use Rattle.source_values.specs.Statements.{Outcome, short}
+use Rattle.source_values.specs.Runs.{CheckedProgram, State, Transition, first_state, state_after, state_behind, attempt_of}
 use Rattle.source_report.specs.Apart.{AreApart}
 use Rattle.source_report.specs.SourceReport.{IsConsecutive, position_after, source_report}
-use Rattle.model_runs.specs.machine_effects.World.{World}
-use Rattle.model_runs.specs.crash_rules.Model.{Model, bound}
-use Rattle.model_runs.specs.crash_rules.History.{Done, History, first_history}
-use Rattle.model_runs.specs.crash_rules.Runs.{Program}
-use Rattle.model_runs.specs.crash_rules.Laws.{Origin, Resting, Pending, IsSettled, Reaches, IsLawful, SourceRun}
-use Rattle.model_runs.specs.run_charges.Charges.{observed}
-use Rattle.model_runs.specs.run_charges.Laws.{IsRunOfWords}
-use Rattle.model_runs.specs.Events.{counted, dones_lines}
+use Rattle.machine_effects.specs.World.{World}
+use Rattle.crash_rules.specs.Model.{Model, Marks, Inputs, bound}
+use Rattle.crash_rules.specs.History.{Done, History, first_history, inputs_from}
+use Rattle.crash_rules.specs.Runs.{Program}
+use Rattle.crash_rules.specs.Laws.{Origin, Resting, Pending, IsSettled, Reaches, IsLawful, SourceRun}
+use Rattle.run_charges.specs.Charges.{observed}
+use Rattle.run_charges.specs.Laws.{IsRunOfWords}
+use Rattle.model_runs.specs.Events.{marks_of, counted, dones_lines}
 use Rattle.model_runs.specs.EventLaws.{StartsWith}
 use Rattle.model_runs.proofs.Interface.{report_is_of_dones, fronts_are_lawful, stops_where_short, makes_progress, dones_are_few, takes_what_is_there}
 use Rattle.model_runs.proofs.Interface.{spans_are_in_order, spans_past_are_in_order}
@@ -60,28 +60,30 @@ module _ (text : List ℕ) (program : CheckedProgram) (m : MapValue) (model : Mo
   abbrev h : History
   h = events_of m x r
 
-  -- by the model's address of GATE or by the map's
+  -- by the model's marks or by the map's
   same : history_behind model x r.moments ≡ h
-  same = ap (λ g. observed g r.moments (first_history g x)) is.gate
+  same = ap (λ g. observed g r.moments (first_history g x)) is.marks
 
   lawful : IsLawful model b.readings origin h
   lawful = subst (IsLawful model b.readings origin) same
       (fronts_are_lawful model c b.readings origin x cs b r run bears r.moments [] (sym (append-nil r.moments))).0
 
   few_dones : length h.completed < 2 ^ 64
-  few_dones = let l = dones_are_few cs b r run m.words.gate (first_history m.words.gate x) in omega (arith, l, few)
+  few_dones = let l = dones_are_few cs b r run (marks_of m) (first_history (marks_of m) x) in omega (arith, l, few)
 
   off : IsReadOff m cs b r h
   off = read_off m x cs b r is.is_map starts run
 
   progress : EachChargePays m cs b (at_first m b) r
   progress =
-      let P : ℕ → Type 0 = λ g. Progresses g (bound model) cs b (first_history g x) r in
-      let Q : ℕ → Type 0 = λ n. Progresses m.words.gate n cs b (first_history m.words.gate x) r in
-      off.pays x (subst Q is.bound (subst P is.gate (makes_progress model c b.readings origin x cs b r run bears))) starts
+      let P : Marks → Type 0 = λ g. Progresses g (bound model) model.delay cs b (first_history g x) r in
+      let Q : ℕ → Type 0 = λ n. Progresses (marks_of m) n model.delay cs b (first_history (marks_of m) x) r in
+      let R : (Inputs → ℕ) → Type 0 = λ d. Progresses (marks_of m) m.bound d cs b (first_history (marks_of m) x) r in
+      let made = makes_progress model c b.readings origin x cs b r run bears in
+      off.pays x (subst R is.delay (subst Q is.bound (subst P is.marks made))) starts
 
   in_readings : h.since ≤ length b.readings
-  in_readings = takes_what_is_there cs b r run m.words.gate (first_history m.words.gate x) (sym starts.taken) (omega arith)
+  in_readings = takes_what_is_there cs b r run (marks_of m) (first_history (marks_of m) x) (sym starts.taken) (omega arith)
 
   heard : r.board.receiver.accepted + r.board.receiver.repeats < b.receiver.accepted + b.receiver.repeats + 2 ^ 64
   heard = let all = run_hears cs b r run.run in omega (arith, all, few)
@@ -151,7 +153,7 @@ module _ (text : List ℕ) (program : CheckedProgram) (m : MapValue) (model : Mo
     short_next : IsShort model b.readings origin h → next (drop h.since b.readings) (state_behind s all.transitions) ≡ short
     short_next q =
         ap (next (drop h.since b.readings)) (sym (same_end q.state (onward q.state q.reached)))
-        ∙ is.is_short q.state (drop h.since b.readings) q.is_task q.short
+        ∙ is.is_short q.state (inputs_from b.readings h.since) q.is_task q.short
 
     by_end : (end : End) → r.ending ≡ end → EndsSo end
     by_end Charges e = record { why = reason.Charges; line = counts reason.Charges; ending = refl }
@@ -188,7 +190,7 @@ module _ (text : List ℕ) (program : CheckedProgram) (m : MapValue) (model : Mo
           lines = lines;
           ending = subst Ends off.since es.ending;
           progress = progress;
-          apart = subst (AreApart 0 (length b.readings)) spans_are (spans_are_apart m.words.gate x r.moments (length b.readings) in_readings);
+          apart = subst (AreApart 0 (length b.readings)) spans_are (spans_are_apart (marks_of m) x r.moments (length b.readings) in_readings);
           words = words_are_received m x cs b r s0 (first ++ all.transitions) is.is_map starts run here stand_all;
           heard = heard;
           uninterrupted = subst Alone off.since (λ one. let k = consecutive 0 h.since (length b.readings) ds (alone one) in_readings in
@@ -199,7 +201,7 @@ module _ (text : List ℕ) (program : CheckedProgram) (m : MapValue) (model : Mo
     (r : RunOutcome) (is : IsOfSource text program m model) where
   -- in one charge
   by_map : (P : History → Type 0) → P (history_behind model x r.moments) → P (events_of m x r)
-  by_map P h = subst P (ap (λ g. observed g r.moments (first_history g x)) is.gate) h
+  by_map P h = subst P (ap (λ g. observed g r.moments (first_history g x)) is.marks) h
 
   one_charge : (s : State) → BearsModel model c b.readings (Resting s) x b → model.Undecided s x → (cs : List BoardCharge) → IsRunOfWords cs b r
       → length cs ≡ 1 → AreInOrder 0 (events_of m x r).since (events_of m x r).completed

@@ -5,11 +5,11 @@ use Rattle.std.proofs.lemmas.List.Elements.{All-nil, All-append, All-replicate, 
 use Rattle.energy_trace.specs.declared.charge.Charge.{Charge}
 use Rattle.energy_trace.specs.Ranges.{IsCharge}
 use Rattle.energy_trace.specs.TraceValue.{charge_count}
-use Rattle.model_runs.specs.fram_board.Steps.{IsPowerState}
-use Rattle.model_runs.specs.fram_board.Run.{BoardCharge}
-use Rattle.model_runs.proofs.fram_board.Interface.{fill_is_a_power_state}
-use Rattle.model_runs.specs.board_run.Charges.{charge_of, charges_of}
-use Rattle.model_runs.specs.run_charges.Charges.{ArePowerStates}
+use Rattle.fram_board.specs.Steps.{IsPowerState}
+use Rattle.fram_board.specs.Run.{BoardCharge}
+use Rattle.fram_board.proofs.Interface.{fill_is_a_power_state}
+use Rattle.board_run.specs.Charges.{charge_of, charges_of}
+use Rattle.run_charges.specs.Charges.{ArePowerStates}
 use Rattle.model_runs.specs.Runs.{all_amounts}
 use Rattle.source_runs.specs.Laws.{TracesAreFew}
 

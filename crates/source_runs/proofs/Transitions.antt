@@ -3,20 +3,20 @@ use Rattle.std.proofs.Common.{◌≡◌, ℕ, ◌≤◌, refl, ap, ◌∙◌, su
 use Rattle.std.proofs.lemmas.List.Elements.{All-get_or}
 use Rattle.std.proofs.lemmas.Option.{slice_get_within, get_or_from_slice_get}
 use Rattle.std.specs.Prelude.{slice_get}
-use Rattle.source_report.specs.task_ast.Tree.{Task}
-use Rattle.source_report.specs.task_ast.declared.names.VariableName.{VariableName}
-use Rattle.source_report.specs.task_ast.declared.names.TaskName.{TaskName}
-use Rattle.model_runs.specs.image_map.MapValue.{MapValue}
-use Rattle.source_report.specs.source_values.Values.{◌>>?◌}
-use Rattle.source_report.specs.source_values.Statements.{Outcome, goes_on, to_task, short, block_emits}
-use Rattle.source_report.specs.source_values.Runs.{CheckedProgram, State, Transition, Completion, EmitsFit, body_of, task_body, fresh_attempt, attempt_of}
-use Rattle.source_report.specs.source_values.Runs.{completion_of}
-use Rattle.source_report.specs.source_values.Runs.{exactly, transition_of, source_run, state_after, state_behind}
-use Rattle.source_report.proofs.source_values.Interface.{EmitsUpTo, block_up_to}
+use Rattle.task_ast.specs.Tree.{Task}
+use Rattle.task_ast.specs.declared.names.VariableName.{VariableName}
+use Rattle.task_ast.specs.declared.names.TaskName.{TaskName}
+use Rattle.image_map.specs.MapValue.{MapValue}
+use Rattle.source_values.specs.Values.{◌>>?◌}
+use Rattle.source_values.specs.Statements.{Outcome, goes_on, to_task, short, block_emits}
+use Rattle.source_values.specs.Runs.{CheckedProgram, State, Transition, Completion, EmitsFit, body_of, task_body, fresh_attempt, attempt_of}
+use Rattle.source_values.specs.Runs.{completion_of}
+use Rattle.source_values.specs.Runs.{exactly, transition_of, source_run, state_after, state_behind}
+use Rattle.source_values.proofs.Interface.{EmitsUpTo, block_up_to}
 use Rattle.source_report.specs.SourceReport.{readings_of}
-use Rattle.model_runs.specs.crash_rules.Model.{Model}
-use Rattle.model_runs.specs.crash_rules.History.{Done, done_readings}
-use Rattle.model_runs.specs.crash_rules.Laws.{SourceRun}
+use Rattle.crash_rules.specs.Model.{Model}
+use Rattle.crash_rules.specs.History.{Done, done_readings, done_inputs}
+use Rattle.crash_rules.specs.Laws.{SourceRun}
 use Rattle.source_runs.specs.Transitions.{StandForTransitions, committed_by}
 use Rattle.source_runs.specs.Sources.{IsOfSource}
 
@@ -74,7 +74,7 @@ module _ (text : List ℕ) (program : CheckedProgram) (m : MapValue) (model : Mo
   tells readings s u [] run = record { transitions = []; source = refl; stand = tt; end = run }
   tells readings s u (d ∷ ds) run =
       let next = run.0 in
-      let k = is.transits s next (done_readings readings d) run.1 in
+      let k = is.transits s next (done_inputs readings d) run.1 in
       let t = k.0 in
       let P : State → Type 0 = λ y. SourceRun model readings y ds u in
       let Q : State → Type 0 = λ y. model.Rests y d.world in

@@ -1,10 +1,10 @@
 -- The join of a run's lines and a source's.
 use Rattle.std.specs.Prelude.{◌≡◌, ℕ, ◌+◌, ◌^◌, ◌<◌, List, length}
-use Rattle.model_runs.specs.image_map.MapValue.{MapValue}
-use Rattle.source_report.specs.source_values.Runs.{CheckedProgram, State, Transition}
+use Rattle.image_map.specs.MapValue.{MapValue}
+use Rattle.source_values.specs.Runs.{CheckedProgram, State, Transition}
 use Rattle.source_report.specs.SourceReport.{source_report}
-use Rattle.model_runs.specs.machine_effects.World.{World}
-use Rattle.model_runs.specs.crash_rules.History.{Done}
+use Rattle.machine_effects.specs.World.{World}
+use Rattle.crash_rules.specs.History.{Done}
 use Rattle.model_runs.specs.Events.{counted, dones_lines}
 use Rattle.source_runs.specs.Naming.{IsMapOf}
 use Rattle.source_runs.specs.Transitions.{HasWordsOf, StandForTransitions, committed_by}

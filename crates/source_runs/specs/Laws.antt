@@ -1,19 +1,19 @@
 -- A run of a compiled source is told by the source.
 use Rattle.std.specs.Prelude.{ℕ, ◌<◌, ◌^◌, List, [], Some}
-use Rattle.model_runs.specs.image_map.MapValue.{MapValue}
+use Rattle.image_map.specs.MapValue.{MapValue}
 use Rattle.energy_trace.specs.TraceValue.{TraceValue}
-use Rattle.model_runs.specs.fram_board.Board.{BoardValue}
-use Rattle.model_runs.specs.fram_board.Run.{BoardCharge, RunOutcome}
-use Rattle.model_runs.specs.board_run.Charges.{charges_of}
-use Rattle.model_runs.specs.board_run.History.{start_with}
-use Rattle.model_runs.specs.board_run.Report.{report_of}
-use Rattle.source_report.specs.source_values.Runs.{CheckedProgram, State, Transition}
-use Rattle.model_runs.specs.machine_effects.World.{World}
-use Rattle.model_runs.specs.crash_rules.Model.{Model}
-use Rattle.model_runs.specs.crash_rules.Runs.{Program}
-use Rattle.model_runs.specs.crash_rules.Laws.{Resting, Pending}
-use Rattle.model_runs.specs.run_charges.Charges.{ArePowerStates}
-use Rattle.model_runs.specs.run_charges.Laws.{IsRunOfWords}
+use Rattle.fram_board.specs.Board.{BoardValue}
+use Rattle.fram_board.specs.Run.{BoardCharge, RunOutcome}
+use Rattle.board_run.specs.Charges.{charges_of}
+use Rattle.board_run.specs.History.{start_with}
+use Rattle.board_run.specs.Report.{report_of}
+use Rattle.source_values.specs.Runs.{CheckedProgram, State, Transition}
+use Rattle.machine_effects.specs.World.{World}
+use Rattle.crash_rules.specs.Model.{Model}
+use Rattle.crash_rules.specs.Runs.{Program}
+use Rattle.crash_rules.specs.Laws.{Resting, Pending}
+use Rattle.run_charges.specs.Charges.{ArePowerStates}
+use Rattle.run_charges.specs.Laws.{IsRunOfWords}
 use Rattle.model_runs.specs.EventLaws.{StartsWith}
 use Rattle.model_runs.specs.Runs.{BearsModel, all_amounts}
 use Rattle.source_runs.specs.Traces.{IsTraceOfWords}

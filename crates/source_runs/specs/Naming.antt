@@ -1,11 +1,11 @@
 -- A map that is a source's.
 use Rattle.std.specs.Prelude.{◌≡◌, ℕ, List, [], ◌∷◌, map, Option, Some, None}
-use Rattle.source_report.specs.task_ast.declared.SharedDeclaration.{SharedDeclaration}
-use Rattle.source_report.specs.task_ast.declared.Extent.{Extent}
-use Rattle.source_report.specs.task_ast.declared.Extent.TheVariants.{Scalar, Long, Array}
-use Rattle.model_runs.specs.image_map.declared.parts.Variable.{Variable}
-use Rattle.model_runs.specs.image_map.MapValue.{MapValue, is_long}
-use Rattle.source_report.specs.source_values.Runs.{CheckedProgram, is_long_extent}
+use Rattle.task_ast.specs.declared.SharedDeclaration.{SharedDeclaration}
+use Rattle.task_ast.specs.declared.Extent.{Extent}
+use Rattle.task_ast.specs.declared.Extent.TheVariants.{Scalar, Long, Array}
+use Rattle.image_map.specs.declared.parts.Variable.{Variable}
+use Rattle.image_map.specs.MapValue.{MapValue, is_long}
+use Rattle.source_values.specs.Runs.{CheckedProgram, is_long_extent}
 use Rattle.source_report.specs.SourceReport.{spelled}
 
 -- the length of an array; nothing for a scalar

@@ -1,16 +1,16 @@
 -- A run of the board that goes on from a saved state, as its source tells it.
 use Rattle.std.specs.Prelude.{◌≡◌, ℕ, ◌+◌, ◌^◌, ◌≤◌, ◌<◌, List, [], ◌∷◌, ◌++◌, length, map, drop, sum_by, Some}
-use Rattle.model_runs.specs.alp_io.declared.report.Reason.{Reason}
-use Rattle.model_runs.specs.alp_io.declared.report.Reason.TheVariants as reason
-use Rattle.model_runs.specs.alp_io.Report.{bound_line, end_line}
-use Rattle.model_runs.specs.image_map.MapValue.{MapValue}
-use Rattle.model_runs.specs.fram_board.Board.{BoardValue}
-use Rattle.model_runs.specs.fram_board.Run.{Charges, RunOutcome, BoardCharge}
-use Rattle.model_runs.specs.board_run.Report.{after_all}
-use Rattle.source_report.specs.source_values.Runs.{CheckedProgram, State, Transition, state_after, state_behind, source_run, attempt_of}
+use Rattle.alp_io.specs.declared.report.Reason.{Reason}
+use Rattle.alp_io.specs.declared.report.Reason.TheVariants as reason
+use Rattle.alp_io.specs.Report.{bound_line, end_line}
+use Rattle.image_map.specs.MapValue.{MapValue}
+use Rattle.fram_board.specs.Board.{BoardValue}
+use Rattle.fram_board.specs.Run.{Charges, RunOutcome, BoardCharge}
+use Rattle.board_run.specs.Report.{after_all}
+use Rattle.source_values.specs.Runs.{CheckedProgram, State, Transition, state_after, state_behind, source_run, attempt_of}
 use Rattle.source_report.specs.Apart.{AreApart}
 use Rattle.source_report.specs.SourceReport.{Committed, readings_of, source_report}
-use Rattle.model_runs.specs.machine_effects.World.{World}
+use Rattle.machine_effects.specs.World.{World}
 use Rattle.source_runs.specs.Tells.{spans_of, at_first, EachChargePays, IsEndOf, IsUninterrupted}
 use Rattle.source_runs.specs.Transitions.{HasWordsOf}
 

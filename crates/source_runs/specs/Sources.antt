@@ -1,33 +1,35 @@
 -- A model of the crash theorem that is a source's, and a board that begins with it.
-use Rattle.std.specs.Prelude.{◌≡◌, ℕ, ◌<◌, List, [], All, Some}
-use Rattle.model_runs.specs.image_map.MapValue.{MapValue}
-use Rattle.model_runs.specs.image_map.Kept.{IsMap}
-use Rattle.model_runs.specs.fram_board.Board.{BoardValue}
-use Rattle.model_runs.specs.fram_board.Run.{RunOutcome}
-use Rattle.source_report.specs.source_values.Statements.{short}
-use Rattle.source_report.specs.source_values.Runs.{CheckedProgram, State, Transition, EmitsFit, first_state, state_after, transition_of, attempt_of}
-use Rattle.model_runs.specs.machine_effects.World.{World}
-use Rattle.model_runs.specs.crash_rules.Model.{Model, Ends, Short, bound}
-use Rattle.model_runs.specs.crash_rules.History.{History, first_history}
-use Rattle.model_runs.specs.crash_rules.Runs.{Program}
-use Rattle.model_runs.specs.crash_rules.Laws.{Resting}
-use Rattle.model_runs.specs.run_charges.Charges.{observed}
+use Rattle.std.specs.Prelude.{◌≡◌, ℕ, ◌<◌, List, All, Some}
+use Rattle.image_map.specs.MapValue.{MapValue}
+use Rattle.image_map.specs.Kept.{IsMap}
+use Rattle.fram_board.specs.Board.{BoardValue}
+use Rattle.fram_board.specs.Run.{RunOutcome}
+use Rattle.source_values.specs.Statements.{short}
+use Rattle.source_values.specs.Runs.{CheckedProgram, State, Transition, EmitsFit, first_state, state_after, transition_of, attempt_of}
+use Rattle.machine_effects.specs.World.{World}
+use Rattle.crash_rules.specs.Model.{Model, Inputs, no_inputs, Ends, Short, bound}
+use Rattle.crash_rules.specs.History.{History, first_history}
+use Rattle.crash_rules.specs.Runs.{Program}
+use Rattle.crash_rules.specs.Laws.{Resting}
+use Rattle.run_charges.specs.Charges.{observed}
+use Rattle.model_runs.specs.Events.{marks_of}
 use Rattle.model_runs.specs.EventLaws.{StartsWith}
 use Rattle.source_runs.specs.Naming.{IsMapOf}
 use Rattle.source_runs.specs.Transitions.{HasWordsOf}
-use Rattle.model_runs.specs.Runs.{BearsModel}
+use Rattle.model_runs.specs.Runs.{BearsModel, no_delay}
 
--- a model whose tasks are a source's, and where GATE and the words of each state are as a map says
+-- a model whose tasks are a source's and whose commits nothing delays, and where GATE and the words of each state are as a map says
 pub record IsOfSource (text : List ℕ) (program : CheckedProgram) (m : MapValue) (model : Model State) : Type 0 where
   pub is_map : IsMap m
   pub of_source : IsMapOf text program m
   pub emits_fit : All EmitsFit program.tasks
-  pub gate : model.gate ≡ m.words.gate
+  pub marks : model.marks ≡ marks_of m
   pub bound : bound model ≡ m.bound
-  pub transits : (s u : State) (readings : List ℕ) → model.task s readings ≡ Ends u []
-      → (t : Transition) × (transition_of program s readings ≡ Some t) × (u ≡ state_after s t)
-  pub is_short : (s : State) (readings : List ℕ) → model.task_number s < model.tasks → model.task s readings ≡ Short
-      → attempt_of program s.task s.shared readings ≡ short
+  pub delay : model.delay ≡ no_delay
+  pub transits : (s u : State) (inputs : Inputs) → model.task s inputs ≡ Ends u no_inputs
+      → (t : Transition) × (transition_of program s inputs.readings ≡ Some t) × (u ≡ state_after s t)
+  pub is_short : (s : State) (inputs : Inputs) → model.task_number s < model.tasks → model.task s inputs ≡ Short
+      → attempt_of program s.task s.shared inputs.readings ≡ short
   pub rests : (s : State) (x : World) → model.Rests s x → HasWordsOf m x s
 
 -- a board that begins with a compiled source at its first state
@@ -39,4 +41,4 @@ pub record BeginsWithSource (program : CheckedProgram) (m : MapValue) (model : M
 
 -- what is known of a run, by the events at GATE
 abbrev pub events_of : MapValue → World → RunOutcome → History
-events_of m x r = observed m.words.gate r.moments (first_history m.words.gate x)
+events_of m x r = observed (marks_of m) r.moments (first_history (marks_of m) x)

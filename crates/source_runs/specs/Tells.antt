@@ -1,18 +1,18 @@
 -- A run of the board as its source tells it.
 use Rattle.std.specs.Prelude.{◌≡◌, ℕ, ◌+◌, ◌*◌, ◌^◌, ◌≤◌, ◌<◌, if◌then◌else◌, List, [], ◌∷◌, ◌++◌, length, map, drop, sum_by, Some}
-use Rattle.model_runs.specs.alp_io.declared.report.Reason.{Reason}
-use Rattle.model_runs.specs.alp_io.declared.report.Reason.TheVariants as reason
-use Rattle.model_runs.specs.alp_io.Report.{bound_line, end_line}
-use Rattle.model_runs.specs.image_map.MapValue.{MapValue}
-use Rattle.model_runs.specs.msp_step.declared.machine.Stop.{Stop}
-use Rattle.model_runs.specs.msp_step.declared.machine.Stop.TheVariants as stop
-use Rattle.model_runs.specs.fram_board.Board.{BoardValue, powered}
-use Rattle.model_runs.specs.fram_board.Run.{Cycles, Action, PowerUp, Execute, Moment, End, Charges, Stopped, RunOutcome, run_outcome, after_moments}
-use Rattle.model_runs.specs.fram_board.Run.{BoardCharge, ChargeRun, power_up_of}
-use Rattle.model_runs.specs.board_run.History.{History, start_with, is_done, word_in, noted}
-use Rattle.model_runs.specs.board_run.Report.{after_all}
-use Rattle.source_report.specs.source_values.Statements.{Outcome, short}
-use Rattle.source_report.specs.source_values.Runs.{CheckedProgram, Transition, first_state, state_behind, source_run, attempt_of}
+use Rattle.alp_io.specs.declared.report.Reason.{Reason}
+use Rattle.alp_io.specs.declared.report.Reason.TheVariants as reason
+use Rattle.alp_io.specs.Report.{bound_line, end_line}
+use Rattle.image_map.specs.MapValue.{MapValue}
+use Rattle.msp_step.specs.declared.machine.Stop.{Stop}
+use Rattle.msp_step.specs.declared.machine.Stop.TheVariants as stop
+use Rattle.fram_board.specs.Board.{BoardValue, powered}
+use Rattle.fram_board.specs.Run.{Cycles, Action, PowerUp, Execute, Moment, End, Charges, Stopped, RunOutcome, run_outcome, after_moments}
+use Rattle.fram_board.specs.Run.{BoardCharge, ChargeRun, power_up_of}
+use Rattle.board_run.specs.History.{History, start_with, is_done, word_in, noted}
+use Rattle.board_run.specs.Report.{after_all}
+use Rattle.source_values.specs.Statements.{Outcome, short}
+use Rattle.source_values.specs.Runs.{CheckedProgram, Transition, first_state, state_behind, source_run, attempt_of}
 use Rattle.source_report.specs.Apart.{AreApart}
 use Rattle.source_report.specs.SourceReport.{Committed, IsConsecutive, position_after, readings_of, source_report}
 

@@ -1,11 +1,11 @@
 -- A source's transitions and the dones of a run that stand for them.
 use Rattle.std.specs.Prelude.{◌≡◌, ◌≤◌, ◌+◌, ℕ, zero, suc, List, [], ◌∷◌, map, length}
-use Rattle.model_runs.specs.image_map.declared.parts.Variable.{Variable}
-use Rattle.model_runs.specs.image_map.MapValue.{MapValue, word_count}
-use Rattle.source_report.specs.source_values.Runs.{State, Transition, state_after}
+use Rattle.image_map.specs.declared.parts.Variable.{Variable}
+use Rattle.image_map.specs.MapValue.{MapValue, word_count}
+use Rattle.source_values.specs.Runs.{State, Transition, state_after}
 use Rattle.source_report.specs.SourceReport.{Committed}
-use Rattle.model_runs.specs.machine_effects.World.{World}
-use Rattle.model_runs.specs.crash_rules.History.{Done}
+use Rattle.machine_effects.specs.World.{World}
+use Rattle.crash_rules.specs.History.{Done}
 
 -- so many words of a world, from an address on
 abbrev pub words_at : World → ℕ → ℕ → List ℕ

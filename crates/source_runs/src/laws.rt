@@ -1,8 +1,8 @@
 //! Laws of a board's run and its source. The functions do nothing: their contracts are the laws.
 
-ghost use Rattle.source_report.specs.source_values.Runs.{State};
-ghost use Rattle.model_runs.specs.crash_rules.Model.{Model};
-ghost use Rattle.model_runs.specs.crash_rules.Runs.{Program};
+ghost use Rattle.source_values.specs.Runs.{State};
+ghost use Rattle.crash_rules.specs.Model.{Model};
+ghost use Rattle.crash_rules.specs.Runs.{Program};
 ghost use Rattle.source_runs.specs.Laws.{ResumedRunsAreTold, RunsAreTold, TracesAreFew};
 ghost use Rattle.source_runs.specs.EventLaws.{DonesAreTransitions};
 

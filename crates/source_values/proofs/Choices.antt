@@ -1,5 +1,6 @@
 -- The conditions of an `if`, one after another, and what its blocks emit.
-use Rattle.std.proofs.Common.{◌≡◌, ◌<◌, ◌≤◌, ◌+◌, ℕ, zero, suc, max, true, false, List, [], ◌∷◌, map, length, drop, get_or, sym, ap, ◌∙◌, arith, Option, Some}
+use Rattle.std.proofs.Common.{◌≡◌, ◌<◌, ◌≤◌, ◌+◌, ℕ, zero, suc, max, Bool, true, false, List, [], ◌∷◌, map, length, drop, get_or, sym, ap, ◌∙◌, arith, Option}
+use Rattle.std.proofs.Common.{Some}
 use Rattle.std.proofs.Common.{None, drop-cons, if◌then◌else◌, OnSome, subst}
 use denote.Bor.{Bor}
 use Rattle.source_values.specs.declared.statements.Chosen.{Chosen}
@@ -12,27 +13,20 @@ use Rattle.task_ast.specs.declared.names.VariableName.{VariableName}
 use Rattle.task_ast.specs.declared.names.TaskName.{TaskName}
 use Rattle.task_ast.specs.declared.Arm.{Arm, fold_out-Arm}
 use Rattle.task_ast.specs.declared.Stmt.{Stmt}
-use Rattle.source_values.specs.Values.{value_of, holds}
+use Rattle.source_values.specs.Values.{Evaluated, value_of, holds}
 use Rattle.source_values.specs.Statements.{Attempt, if_value, run_choice, run_block, block_emits, choice_emits}
 
 -- an arm's condition and block
 arm_view : (arm : Arm VariableName TaskName) → tested_of arm ≡ record { condition = expression_of arm.condition; block = block_view arm.block.items }
 arm_view arm = fold_out-Arm VariableName TaskName (Statement VariableName TaskName) (Tested VariableName TaskName) statement_step tested_step arm
 
--- what the first condition leaves where it has a value
-pub choice_taken : (c : Expression VariableName) (block : Block VariableName TaskName) (more : Choice VariableName TaskName) (s : Attempt) (w : ℕ)
-    (left : List ℕ)
-    → Some (w, left) ≡ value_of c s.variables s.left → holds w ≡ true → run_choice (test c block more) s ≡ run_block block (record s { left = left })
-choice_taken c block more s w left e h =
-    ap (λ o. if_value o s (λ w s. if holds w then run_block block s else run_choice more s)) (sym e)
-    ∙ ap (λ b. if b then run_block block (record s { left = left }) else run_choice more (record s { left = left })) h
-
-pub choice_passed : (c : Expression VariableName) (block : Block VariableName TaskName) (more : Choice VariableName TaskName) (s : Attempt) (w : ℕ)
-    (left : List ℕ)
-    → Some (w, left) ≡ value_of c s.variables s.left → holds w ≡ false → run_choice (test c block more) s ≡ run_choice more (record s { left = left })
-choice_passed c block more s w left e h =
-    ap (λ o. if_value o s (λ w s. if holds w then run_block block s else run_choice more s)) (sym e)
-    ∙ ap (λ b. if b then run_block block (record s { left = left }) else run_choice more (record s { left = left })) h
+-- where the first condition has a value
+choice_by : (c : Expression VariableName) (block : Block VariableName TaskName) (more : Choice VariableName TaskName) (s : Attempt) (x : Evaluated)
+    (b : Bool) → Some x ≡ value_of c s → holds x.value ≡ b
+    → run_choice (test c block more) s ≡ (if b then run_block block x.behind else run_choice more x.behind)
+choice_by c block more s x b e h =
+    ap (λ o. if_value o (λ w s. if holds w then run_block block s else run_choice more s)) (sym e)
+    ∙ ap (λ b. if b then run_block block x.behind else run_choice more x.behind) h
 
 -- the arms from number i on
 choice_at : (arms : List (Arm VariableName TaskName)) (i : ℕ) (arm : Arm VariableName TaskName) (last : Option (Block VariableName TaskName))
@@ -45,23 +39,23 @@ choice_at arms i arm last h is =
     ∙ ap (λ t. test t.condition t.block (choice_of (map tested_of (drop (i + 1) arms)) last)) (arm_view arm)
 
 pub arm_taken : (arms : List (Arm VariableName TaskName)) (i : ℕ) (arm : Arm VariableName TaskName) (last : Option (Block VariableName TaskName))
-    (body : List (Stmt VariableName TaskName)) (s : Attempt) (w : ℕ) (left : List ℕ)
+    (body : List (Stmt VariableName TaskName)) (s : Attempt) (x : Evaluated)
     → i < length arms → arm ≡ get_or arms i arm → body ≡ arm.block.items
-    → Some (w, left) ≡ value_of (expression_of arm.condition) s.variables s.left → holds w ≡ true
-    → run_choice (choice_of (map tested_of (drop i arms)) last) s ≡ run_block (block_view body) (record s { left = left })
-arm_taken arms i arm last body s w left h is e v t =
+    → Some x ≡ value_of (expression_of arm.condition) s → holds x.value ≡ true
+    → run_choice (choice_of (map tested_of (drop i arms)) last) s ≡ run_block (block_view body) x.behind
+arm_taken arms i arm last body s x h is e v t =
     ap (λ choice. run_choice choice s) (choice_at arms i arm last h is)
-    ∙ choice_taken (expression_of arm.condition) (block_view arm.block.items) (choice_of (map tested_of (drop (i + 1) arms)) last) s w left v t
-    ∙ ap (λ b. run_block (block_view b) (record s { left = left })) (sym e)
+    ∙ choice_by (expression_of arm.condition) (block_view arm.block.items) (choice_of (map tested_of (drop (i + 1) arms)) last) s x true v t
+    ∙ ap (λ b. run_block (block_view b) x.behind) (sym e)
 
 pub arm_passed : (arms : List (Arm VariableName TaskName)) (i : ℕ) (arm : Arm VariableName TaskName) (last : Option (Block VariableName TaskName))
-    (s : Attempt) (w : ℕ) (left : List ℕ)
+    (s : Attempt) (x : Evaluated)
     → i < length arms → arm ≡ get_or arms i arm
-    → Some (w, left) ≡ value_of (expression_of arm.condition) s.variables s.left → holds w ≡ false
-    → run_choice (choice_of (map tested_of (drop i arms)) last) s ≡ run_choice (choice_of (map tested_of (drop (i + 1) arms)) last) (record s { left = left })
-arm_passed arms i arm last s w left h is v t =
+    → Some x ≡ value_of (expression_of arm.condition) s → holds x.value ≡ false
+    → run_choice (choice_of (map tested_of (drop i arms)) last) s ≡ run_choice (choice_of (map tested_of (drop (i + 1) arms)) last) x.behind
+arm_passed arms i arm last s x h is v t =
     ap (λ choice. run_choice choice s) (choice_at arms i arm last h is)
-    ∙ choice_passed (expression_of arm.condition) (block_view arm.block.items) (choice_of (map tested_of (drop (i + 1) arms)) last) s w left v t
+    ∙ choice_by (expression_of arm.condition) (block_view arm.block.items) (choice_of (map tested_of (drop (i + 1) arms)) last) s x false v t
 
 -- ---- emitted words
 

@@ -69,12 +69,17 @@ word_set (row ∷ rows) zero i w (suc u) j other = refl
 word_set (row ∷ rows) (suc v) i w zero j other = refl
 word_set (row ∷ rows) (suc v) i w (suc u) j other = word_set rows v i w u j (λ e f. other (ap suc e) f)
 
-pub covers_set : (m n : MarksValue) (base a b : List (List ℕ)) (v i w : ℕ) → b ≡ slice_set a v (slice_set (get_or a v []) i w) → IsMarked n v i
-    → ((u j : ℕ) → IsMarked m u j → IsMarked n u j) → Covers m base a → Covers n base b
-covers_set m n base a b v i w e marked others h u j not =
+-- the marks behind one on this word
+pub record IsMarkedToo (m n : MarksValue) (v i : ℕ) : Type 0 where
+  pub marked : IsMarked n v i
+  pub others : (u j : ℕ) → IsMarked m u j → IsMarked n u j
+
+covers_set : (m n : MarksValue) (base a b : List (List ℕ)) (v i w : ℕ) → b ≡ slice_set a v (slice_set (get_or a v []) i w)
+    → IsMarkedToo m n v i → Covers m base a → Covers n base b
+covers_set m n base a b v i w e mark h u j not =
     let P : ℕ → ℕ → Type 0 = λ x y. IsMarked n x y in
-    let other : u ≡ v → j ≡ i → ⊥ = λ f g. not (subst (λ x. P x j) (sym f) (subst (P v) (sym g) marked)) in
-    h u j (λ is. not (others u j is)) ∙ sym (word_set a v i w u j other) ∙ ap (λ rows. word_in rows u j) (sym e)
+    let other : u ≡ v → j ≡ i → ⊥ = λ f g. not (subst (λ x. P x j) (sym f) (subst (P v) (sym g) mark.marked)) in
+    h u j (λ is. not (mark.others u j is)) ∙ sym (word_set a v i w u j other) ∙ ap (λ rows. word_in rows u j) (sym e)
 
 -- a row that becomes the other one's leaves the others
 word_put : (a b : List (List ℕ)) (v u j : ℕ) → word_in a u j ≡ word_in b u j → word_in (slice_set a v (get_or b v [])) u j ≡ word_in b u j
@@ -140,10 +145,14 @@ row_all m v to from i f end =
 
 -- ---- a word that is set in rows beside what they were
 
+-- the rows behind a word that is set
+pub record IsRowSet (a b : List (List ℕ)) (v i w : ℕ) : Type 0 where
+  pub set : b ≡ slice_set a v (slice_set (get_or a v []) i w)
+  pub same_lengths : map (length {A = ℕ}) b ≡ map (length {A = ℕ}) a
+
 pub set_tracks : (m n : MarksValue) (base a b : List (List ℕ)) (v i w : ℕ) → map (length {A = ℕ}) a ≡ map (length {A = ℕ}) base
-    → b ≡ slice_set a v (slice_set (get_or a v []) i w) → map (length {A = ℕ}) b ≡ map (length {A = ℕ}) a → IsMarked n v i
-    → ((u j : ℕ) → IsMarked m u j → IsMarked n u j) → Covers m base a → (map (length {A = ℕ}) b ≡ map (length {A = ℕ}) base) × Covers n base b
-set_tracks m n base a b v i w lengths e same marked others h = (same ∙ lengths, covers_set m n base a b v i w e marked others h)
+    → IsRowSet a b v i w → IsMarkedToo m n v i → Covers m base a → (map (length {A = ℕ}) b ≡ map (length {A = ℕ}) base) × Covers n base b
+set_tracks m n base a b v i w lengths row mark h = (row.same_lengths ∙ lengths, covers_set m n base a b v i w row.set mark h)
 
 -- what a slice of a whole vector leaves of it
 pub written_whole : {A : Type 0} (n : ℕ) (new old : List A) → length new ≡ n → take n (new ++ drop (length new) old) ≡ new

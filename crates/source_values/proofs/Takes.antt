@@ -1,73 +1,98 @@
--- The value of an expression depends on the readings that it takes, and on no others.
-use Rattle.std.proofs.Common.{◌≡◌, ℕ, List, [], ◌∷◌, ◌++◌, Bool, true, false, refl, ap, sym, ◌∙◌, Option, Some, None, append_assoc, if◌then◌else◌}
-use Rattle.alp_words.specs.Words.{bit}
+-- The value of an expression depends on the readings that it takes, and on no others; all else stays as it was.
+use Rattle.std.proofs.Common.{◌≡◌, ℕ, List, [], ◌∷◌, ◌++◌, Bool, true, false, refl, ap, sym, ◌∙◌, subst, Option, Some, None, append_assoc, if◌then◌else◌}
 use Rattle.task_ast.specs.Tree.{Expression, number, long_number, name, element, sense, unary, binary, shift, short_circuit}
 use Rattle.task_ast.specs.declared.names.VariableName.{VariableName}
-use Rattle.source_values.specs.Values.{◌>>?◌, Variables, word_at, scalar_value, type_of, unary_result, binary_result, shift_result, holds, is_settled}
-use Rattle.source_values.specs.Values.{next_reading, value_of}
+use Rattle.source_values.specs.Values.{◌>>?◌, Variables, Attempt, Evaluated, word_at, scalar_value, type_of, unary_result, binary_result, shift_result}
+use Rattle.source_values.specs.Values.{gives, made_of, reading_of, next_reading, truth_word, is_settled, value_of}
+use Rattle.source_values.specs.Statements.{Outcome, short, if_value, with_value}
 
 pub bind_some : {A B : Type 0} (o : Option A) (f : A → Option B) (y : B) → (o >>? f) ≡ Some y → (x : A) × (o ≡ Some x) × (f x ≡ Some y)
 bind_some None f y e = cc
 bind_some (Some x) f y e = (x, refl, e)
 
+-- an attempt that has the variables and the emitted words of another one
+pub record IsBehind (s u : Attempt) : Type 0 where
+  pub variables : u.variables ≡ s.variables
+  pub emitted : u.emitted ≡ s.emitted
+
 -- the readings that were taken, and that any others may stand behind them
-pub record Takes (read : List ℕ → Option (ℕ × List ℕ)) (rs : List ℕ) (x : ℕ × List ℕ) : Type 0 where
+pub record Takes (read : Attempt → Option Evaluated) (s : Attempt) (x : Evaluated) : Type 0 where
   pub used : List ℕ
-  pub front : rs ≡ used ++ x.1
-  pub same : (more : List ℕ) → read (used ++ more) ≡ Some (x.0, more)
+  pub front : s.left ≡ used ++ x.behind.left
+  pub same : (more : List ℕ) → read (record s { left = used ++ more }) ≡ gives x.value (record x.behind { left = more })
+  pub keeps : IsBehind s x.behind
 
-abbrev pub TakesItsOwn : (List ℕ → Option (ℕ × List ℕ)) → Type 0
-TakesItsOwn read = (rs : List ℕ) (x : ℕ × List ℕ) → read rs ≡ Some x → Takes read rs x
+abbrev pub TakesItsOwn : (Attempt → Option Evaluated) → Type 0
+TakesItsOwn read = (s : Attempt) (x : Evaluated) → read s ≡ Some x → Takes read s x
 
-takes_none : (v : ℕ) → TakesItsOwn (λ rs. Some (v, rs))
-takes_none v rs x e =
-    let word : v ≡ x.0 = cc in
-    let left : rs ≡ x.1 = cc in
-    record { used = []; front = left; same = λ more. ap (λ w. Some (w, more)) word }
+-- what holds of a value that is given
+abbrev OfValue : (Evaluated → Type 0) → Option Evaluated → Type 0
+OfValue P None = ⊥
+OfValue P (Some x) = P x
+
+takes_none : (value : Variables → ℕ) → TakesItsOwn (λ s. gives (value s.variables) s)
+takes_none value s x e =
+    let read : Attempt → Option Evaluated = λ s. gives (value s.variables) s in
+    subst (OfValue (Takes read s)) e (record { used = []; front = refl; same = λ more. refl; keeps = record { variables = refl; emitted = refl } })
 
 takes_one : TakesItsOwn next_reading
-takes_one [] x e = cc
-takes_one (r ∷ rs) x e =
-    let word : r ≡ x.0 = cc in
-    let left : rs ≡ x.1 = cc in
-    record { used = r ∷ []; front = ap (λ t. r ∷ t) left; same = λ more. ap (λ w. Some (w, more)) word }
+takes_one s x e = go s.left refl e
+  where
+    go : (rs : List ℕ) → s.left ≡ rs → reading_of rs s ≡ Some x → Takes next_reading s x
+    go [] is e = cc
+    go (r ∷ rs) is e = subst (OfValue (Takes next_reading s)) e
+        (record { used = r ∷ []; front = is; same = λ more. refl; keeps = record { variables = refl; emitted = refl } })
 
 -- one behind the other
-takes_then : (first : List ℕ → Option (ℕ × List ℕ)) (next : ℕ → List ℕ → Option (ℕ × List ℕ)) → TakesItsOwn first → ((w : ℕ) → TakesItsOwn (next w))
-    → TakesItsOwn (λ rs. first rs >>? λ x. next x.0 x.1)
-takes_then first next p q rs x e =
-    let y = bind_some (first rs) (λ x. next x.0 x.1) x e in
-    let one = p rs y.0 y.1 in
-    let two = q y.0.0 y.0.1 x y.2 in
+takes_then : (first : Attempt → Option Evaluated) (next : ℕ → Attempt → Option Evaluated) → TakesItsOwn first → ((w : ℕ) → TakesItsOwn (next w))
+    → TakesItsOwn (λ s. first s >>? λ x. next x.value x.behind)
+takes_then first next p q s x e =
+    let y = bind_some (first s) (λ x. next x.value x.behind) x e in
+    let one = p s y.0 y.1 in
+    let two = q y.0.value y.0.behind x y.2 in
     record {
       used = one.used ++ two.used;
-      front = one.front ∙ ap (λ t. one.used ++ t) two.front ∙ sym (append_assoc one.used two.used x.1);
-      same = λ more. ap (λ t. first t >>? λ x. next x.0 x.1) (append_assoc one.used two.used more)
-          ∙ ap (λ o. o >>? λ x. next x.0 x.1) (one.same (two.used ++ more)) ∙ two.same more;
+      front = one.front ∙ ap (λ t. one.used ++ t) two.front ∙ sym (append_assoc one.used two.used x.behind.left);
+      same = λ more. ap (λ t. first (record s { left = t }) >>? λ x. next x.value x.behind) (append_assoc one.used two.used more)
+          ∙ ap (λ o. o >>? λ x. next x.value x.behind) (one.same (two.used ++ more)) ∙ two.same more;
+      keeps = record { variables = two.keeps.variables ∙ one.keeps.variables; emitted = two.keeps.emitted ∙ one.keeps.emitted };
     }
 
-takes_if : (b : Bool) (first second : List ℕ → Option (ℕ × List ℕ)) → TakesItsOwn first → TakesItsOwn second
-    → TakesItsOwn (λ rs. if b then first rs else second rs)
+takes_if : (b : Bool) (first second : Attempt → Option Evaluated) → TakesItsOwn first → TakesItsOwn second
+    → TakesItsOwn (λ s. if b then first s else second s)
 takes_if true first second p q = p
 takes_if false first second p q = q
 
-pub value_takes : (e : Expression VariableName) (m : Variables) → TakesItsOwn (value_of e m)
-value_takes (number n) m = takes_none n
-value_takes (long_number n) m = takes_none n
-value_takes (name x) m = takes_none (scalar_value m x)
-value_takes (element x index) m = takes_then (value_of index m) (λ i rs. Some (word_at m x.variable i, rs)) (value_takes index m)
-    (λ i. takes_none (word_at m x.variable i))
-value_takes sense m = takes_one
-value_takes (unary op e) m = takes_then (value_of e m) (λ w rs. Some (unary_result op (type_of e) w, rs)) (value_takes e m)
-    (λ w. takes_none (unary_result op (type_of e) w))
-value_takes (binary op a b) m =
+-- what is made of a value
+takes_made : (f : ℕ → ℕ) (first : Attempt → Option Evaluated) → TakesItsOwn first → TakesItsOwn (λ s. made_of f (first s))
+takes_made f first p = takes_then first (λ w s. gives (f w) s) p (λ w. takes_none (λ m. f w))
+
+pub value_takes : (e : Expression VariableName) → TakesItsOwn (value_of e)
+value_takes (number n) = takes_none (λ m. n)
+value_takes (long_number n) = takes_none (λ m. n)
+value_takes (name x) = takes_none (λ m. scalar_value m x)
+value_takes (element x index) = takes_then (value_of index) (λ i s. gives (word_at s.variables x.variable i) s) (value_takes index)
+    (λ i. takes_none (λ m. word_at m x.variable i))
+value_takes sense = takes_one
+value_takes (unary op e) = takes_made (unary_result op (type_of e)) (value_of e) (value_takes e)
+value_takes (binary op a b) =
     let value : ℕ → ℕ → ℕ = binary_result op.operator (type_of a) (type_of b) in
-    takes_then (value_of a m) (λ x rs. value_of b m rs >>? λ y. Some (value x y.0, y.1)) (value_takes a m)
-    (λ x. takes_then (value_of b m) (λ y rs. Some (value x y, rs)) (value_takes b m) (λ y. takes_none (value x y)))
-value_takes (shift op e count) m = takes_then (value_of e m) (λ w rs. Some (shift_result op (type_of e) w count.value, rs)) (value_takes e m)
-    (λ w. takes_none (shift_result op (type_of e) w count.value))
-value_takes (short_circuit op a b) m =
-    takes_then (value_of a m) (λ x rs. if is_settled op x then Some (bit (holds x), rs) else (value_of b m rs >>? λ y. Some (bit (holds y.0), y.1)))
-    (value_takes a m)
-    (λ x. takes_if (is_settled op x) (λ rs. Some (bit (holds x), rs)) (λ rs. value_of b m rs >>? λ y. Some (bit (holds y.0), y.1)) (takes_none (bit (holds x)))
-    (takes_then (value_of b m) (λ y rs. Some (bit (holds y), rs)) (value_takes b m) (λ y. takes_none (bit (holds y)))))
+    takes_then (value_of a) (λ x s. made_of (value x) (value_of b s)) (value_takes a) (λ x. takes_made (value x) (value_of b) (value_takes b))
+value_takes (shift op e count) = takes_made (λ w. shift_result op (type_of e) w count.value) (value_of e) (value_takes e)
+value_takes (short_circuit op a b) =
+    takes_then (value_of a) (λ x s. if is_settled op x then gives (truth_word x) s else made_of truth_word (value_of b s)) (value_takes a)
+    (λ x. takes_if (is_settled op x) (gives (truth_word x)) (λ s. made_of truth_word (value_of b s)) (takes_none (λ m. truth_word x))
+    (takes_made truth_word (value_of b) (value_takes b)))
+
+-- the same of what is made of its value
+pub made_behind : (f : ℕ → ℕ) (e : Expression VariableName) (s : Attempt) (x : Evaluated) → made_of f (value_of e s) ≡ Some x → IsBehind s x.behind
+made_behind f e s x is = (takes_made f (value_of e) (value_takes e) s x is).keeps
+
+-- what holds where there is no value, and of what goes on with one, whichever it is, holds of the outcome
+pub for_value : (P : Outcome → Type 0) (e : Expression VariableName) (s : Attempt) (next : ℕ → Attempt → Outcome) → P short
+    → ((w : ℕ) (u : Attempt) → IsBehind s u → P (next w u)) → P (with_value e s next)
+for_value P e s next none some = go (value_of e s) refl
+  where
+    go : (o : Option Evaluated) → value_of e s ≡ o → P (if_value o next)
+    go None h = none
+    go (Some x) h = some x.value x.behind (value_takes e s x h).keeps

@@ -27,20 +27,31 @@ task_holds P tasks i t h is all =
     let inside : i < length (map task_of tasks) = omega (arith, length-map tasks task_of) in
     subst P (get_or-map task_of tasks i t ∙ ap task_of (sym is)) (All-get_or P (map task_of tasks) i (task_of t) inside all)
 
+-- the code reached the body of a task
+pub record ReachesBody (source : Source VariableName TaskName) (i : ℕ) (t : TaskDeclaration VariableName TaskName)
+    (body : List (Stmt VariableName TaskName)) : Type 0 where
+  pub inside : i < length source.tasks.items
+  pub is : t ≡ get_or source.tasks.items i t
+  pub of_task : body ≡ t.body.items
+
+-- words that no statement has changed
+pub record IsFresh (s : Scratch) (shared : List (List ℕ)) : Type 0 where
+  pub rows : s.shared.rows ≡ shared
+  pub locals : s.locals.items ≡ new_locals
+  pub emitted : s.emitted.items ≡ []
+
 -- the attempt that the code makes
 pub attempt_is : (source : Source VariableName TaskName) (task i : ℕ) (t : TaskDeclaration VariableName TaskName) (body : List (Stmt VariableName TaskName))
-    (s : Scratch) (shared : List (List ℕ)) (readings : List ℕ)
-    → i ≡ task → i < length source.tasks.items → t ≡ get_or source.tasks.items i t → body ≡ t.body.items
-    → s.shared.rows ≡ shared → s.locals.items ≡ new_locals → s.emitted.items ≡ []
+    (s : Scratch) (shared : List (List ℕ)) (readings : List ℕ) → i ≡ task → ReachesBody source i t body → IsFresh s shared
     → attempt_of (program_of source) task shared readings ≡ run_block (block_view body) (attempt_in s readings)
-attempt_is source task i t body s shared readings same h is b rows locals emitted =
+attempt_is source task i t body s shared readings same reached begins =
     let found : task_body (program_of source) i ≡ block_view body =
-    ap body_of (slice_get-map task_of source.tasks.items i ∙ ap (option_map task_of) (slice_get-get_or source.tasks.items i t h))
-    ∙ ap (λ t. block_view t.body.items) (sym is) ∙ ap block_view (sym b) in
+    ap body_of (slice_get-map task_of source.tasks.items i ∙ ap (option_map task_of) (slice_get-get_or source.tasks.items i t reached.inside))
+    ∙ ap (λ t. block_view t.body.items) (sym reached.is) ∙ ap block_view (sym reached.of_task) in
     let fresh : fresh_attempt shared readings ≡ attempt_in s readings =
-    ap (λ r. fresh_attempt r readings) (sym rows)
-    ∙ ap (λ l. record { variables = record { shared = s.shared.rows; locals = l }; emitted = []; left = readings }) (sym locals)
-    ∙ ap (λ e. record { variables = record { shared = s.shared.rows; locals = s.locals.items }; emitted = e; left = readings }) (sym emitted) in
+    ap (λ r. fresh_attempt r readings) (sym begins.rows)
+    ∙ ap (λ l. record { variables = record { shared = s.shared.rows; locals = l }; emitted = []; left = readings }) (sym begins.locals)
+    ∙ ap (λ e. record { variables = record { shared = s.shared.rows; locals = s.locals.items }; emitted = e; left = readings }) (sym begins.emitted) in
     ap (λ j. attempt_of (program_of source) j shared readings) (sym same)
     ∙ ap (λ b. run_block b (fresh_attempt shared readings)) found ∙ ap (run_block (block_view body)) fresh
 

@@ -8,7 +8,7 @@ use Rattle.task_ast.specs.declared.WordType.TheVariants.{Unsigned, Int, Long}
 use Rattle.task_ast.specs.declared.names.Variable.{Variable}
 use Rattle.task_ast.specs.declared.names.VariableName.{VariableName}
 use Rattle.task_ast.specs.declared.names.TaskName.{TaskName}
-use Rattle.source_values.specs.Values.{by_width, type_of, converted, value_of, holds}
+use Rattle.source_values.specs.Values.{Evaluated, by_width, type_of, converted, value_of, holds}
 use Rattle.source_values.specs.Statements.{Attempt, Outcome, goes_on, to_task, short, and_then, if_value, with_value, assigned, assigned_to, assigned_value}
 use Rattle.source_values.specs.Statements.{word_of, turns, run_statement}
 use Rattle.source_values.specs.Statements.{run_choice, run_block}
@@ -92,18 +92,18 @@ uses_then first second p q s o e w = go (first s) refl e
     go short h e = absurd (not_short o e w)
 
 uses_value : (e : Expression VariableName) (next : ℕ → Attempt → Outcome) → ((v : ℕ) → UsesItsOwn (next v)) → UsesItsOwn (λ s. with_value e s next)
-uses_value e next p s o h w = go (value_of e s.variables s.left) refl h
+uses_value e next p s o h w = go (value_of e s) refl h
   where
-    go : (v : Option (ℕ × List ℕ)) → value_of e s.variables s.left ≡ v → if_value v s next ≡ o → Uses (λ s. with_value e s next) s o
+    go : (v : Option Evaluated) → value_of e s ≡ v → if_value v next ≡ o → Uses (λ s. with_value e s next) s o
     go None k h = absurd (not_short o h w)
     go (Some x) k h =
-        let one = value_takes e s.variables s.left x k in
-        let two = p x.0 (record s { left = x.1 }) o h w in
+        let one = value_takes e s x k in
+        let two = p x.value x.behind o h w in
         record {
           used = one.used ++ two.used;
           front = one.front ∙ ap (λ t. one.used ++ t) two.front ∙ sym (append_assoc one.used two.used (left_of o));
           same = λ more. ap (λ t. with_value e (record s { left = t }) next) (append_assoc one.used two.used more)
-              ∙ ap (λ v. if_value v (record s { left = one.used ++ (two.used ++ more) }) next) (one.same (two.used ++ more)) ∙ two.same more;
+              ∙ ap (λ v. if_value v next) (one.same (two.used ++ more)) ∙ two.same more;
         }
 
 uses_if : (b : Bool) (first second : Attempt → Outcome) → UsesItsOwn first → UsesItsOwn second → UsesItsOwn (λ s. if b then first s else second s)

@@ -1,10 +1,14 @@
 -- Marks on the words of rows that may differ from what they were.
-use Rattle.std.specs.Prelude.{◌≡◌, ℕ, ◌+◌, ◌*◌, ◌/◌, ◌%◌, Bool, true, false, List, [], slice_index, slice_index_or}
+use Rattle.std.specs.Prelude.{◌≡◌, ℕ, ◌+◌, ◌*◌, ◌/◌, ◌%◌, Bool, true, false, List, [], replicate, slice_index, slice_index_or}
 
 -- a mark for each variable, and marks for the blocks of 64 words
 pub record MarksValue : Type 0 where
   pub variables : List Bool
   pub blocks : List Bool
+
+-- none is set
+abbrev pub no_marks : MarksValue
+no_marks = record { variables = replicate 256 false; blocks = replicate 1024 false }
 
 -- the number of the mark of a word's block
 abbrev pub mark_of : ℕ → ℕ → ℕ

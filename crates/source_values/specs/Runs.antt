@@ -116,11 +116,3 @@ TransitionComes tasks task = (s : Attempt) → EndsWell tasks (run_block task.bo
 -- the task emits at most 256 words
 abbrev pub EmitsFit : Task VariableName TaskName → Type 0
 EmitsFit task = block_emits task.body ≤ 256
-
--- what is kept of a run: the shared words at the last transition and at the one before, the words emitted between them, and
--- the current task
-pub record RunState : Type 0 where
-  pub before : List (List ℕ)
-  pub shared : List (List ℕ)
-  pub emitted : List ℕ
-  pub task : ℕ

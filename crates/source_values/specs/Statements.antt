@@ -1,18 +1,13 @@
 -- What statements do: the new words of the variables, the words emitted, the readings left, and whether the task goes on.
-use Rattle.std.specs.Prelude.{ℕ, zero, suc, ◌+◌, ◌-◌, ◌*◌, ◌/◌, ◌%◌, max, List, [], ◌∷◌, ◌++◌, Option, Some, None, if◌then◌else◌}
+use Rattle.std.specs.Prelude.{ℕ, zero, suc, ◌+◌, ◌-◌, ◌*◌, ◌/◌, ◌%◌, max, [], ◌∷◌, ◌++◌, Option, Some, None, if◌then◌else◌}
 use Rattle.task_ast.specs.Tree.{Expression, Statement, declare, assign, store, choose, loop, emit, transition, Choice, nothing, otherwise, test, Block, end}
 use Rattle.task_ast.specs.Tree.{step}
 use Rattle.task_ast.specs.declared.WordType.TheVariants.{Unsigned}
 use Rattle.task_ast.specs.declared.names.Variable.{Variable}
 use Rattle.task_ast.specs.declared.names.VariableName.{VariableName}
 use Rattle.task_ast.specs.declared.names.TaskName.{TaskName}
-use Rattle.source_values.specs.Values.{Variables, with_word, by_width, type_of, converted, value_of, holds}
-
--- what an attempt has made so far: the words of the variables, the words emitted, and the readings left
-pub record Attempt : Type 0 where
-  pub variables : Variables
-  pub emitted : List ℕ
-  pub left : List ℕ
+pub use Rattle.source_values.specs.Values.{Attempt}
+use Rattle.source_values.specs.Values.{Evaluated, with_word, by_width, type_of, converted, value_of, holds}
 
 -- how statements end: behind the last one, at a transition to a task, or where the readings run out
 pub data Outcome : Type 0 where
@@ -26,14 +21,14 @@ and_then (goes_on s) next = next s
 and_then (to_task t s) next = to_task t s
 and_then short next = short
 
--- goes on with a value, and the readings left of an attempt
-abbrev pub if_value : Option (ℕ × List ℕ) → Attempt → (ℕ → Attempt → Outcome) → Outcome
-if_value None s next = short
-if_value (Some x) s next = next x.0 (record s { left = x.1 })
+-- goes on with a value, and the attempt behind it
+abbrev pub if_value : Option Evaluated → (ℕ → Attempt → Outcome) → Outcome
+if_value None next = short
+if_value (Some x) next = next x.value x.behind
 
 -- evaluates an expression and goes on with its value
 abbrev pub with_value : Expression VariableName → Attempt → (ℕ → Attempt → Outcome) → Outcome
-with_value e s next = if_value (value_of e s.variables s.left) s next
+with_value e s next = if_value (value_of e s) next
 
 -- the attempt with another word of a variable
 abbrev pub assigned : Attempt → Variable → ℕ → ℕ → Attempt

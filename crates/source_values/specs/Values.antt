@@ -39,6 +39,12 @@ abbrev pub with_word : Variables → Variable → ℕ → ℕ → Variables
 with_word m (Shared v) i w = record m { shared = slice_set m.shared v (slice_set (slice_index_or m.shared v []) i w) }
 with_word m (Local n) i w = record m { locals = slice_set m.locals n w }
 
+-- what an attempt has made so far: the words of the variables, the words emitted, and the readings left
+pub record Attempt : Type 0 where
+  pub variables : Variables
+  pub emitted : List ℕ
+  pub left : List ℕ
+
 -- what a row of words shows at an index: a word, or at 0 the number of a long's two words
 abbrev pub shown : Bool → List ℕ → ℕ → ℕ
 shown is_long row i = if is_long then (if i == 0 then two_words (slice_index row 0) (slice_index row 1) else 0) else slice_index row i
@@ -158,28 +164,51 @@ shift_result op t a count = by_width t (shift_value op t a count) (long_shift_va
 
 -- ---- expressions
 
--- the next reading, and those behind it
-abbrev pub next_reading : List ℕ → Option (ℕ × List ℕ)
-next_reading [] = None
-next_reading (r ∷ rs) = Some (r, rs)
+-- the value of an expression, and the attempt behind it
+pub record Evaluated : Type 0 where
+  pub value : ℕ
+  pub behind : Attempt
+
+abbrev pub evaluated : ℕ → Attempt → Evaluated
+evaluated w s = record { value = w; behind = s }
+
+-- there is this value, and this attempt behind it
+abbrev pub gives : ℕ → Attempt → Option Evaluated
+gives w s = Some (evaluated w s)
+
+-- what is made of a value, if there is one; the attempt behind it stays
+abbrev pub made_of : (ℕ → ℕ) → Option Evaluated → Option Evaluated
+made_of f o = o >>? λ x. gives (f x.value) x.behind
+
+-- the first of these readings, and those behind it left
+abbrev pub reading_of : List ℕ → Attempt → Option Evaluated
+reading_of [] s = None
+reading_of (r ∷ rs) s = gives r (record s { left = rs })
+
+-- the next reading
+abbrev pub next_reading : Attempt → Option Evaluated
+next_reading s = reading_of s.left s
+
+-- a condition as a number: 1 where it holds, else 0
+abbrev pub truth_word : ℕ → ℕ
+truth_word w = bit (holds w)
 
 -- whether the left side settles `&&` or `||`: the right side is then not evaluated
 abbrev pub is_settled : ShortCircuitOperator → ℕ → Bool
 is_settled BothHold w = not (holds w)
 is_settled OneHolds w = holds w
 
--- the value of an expression over these variables, and the readings left of these; None where they run out. Readings are
--- taken from left to right
-abbrev pub value_of : Expression VariableName → Variables → List ℕ → Option (ℕ × List ℕ)
-value_of (number n) m readings = Some (n, readings)
-value_of (long_number n) m readings = Some (n, readings)
-value_of (name x) m readings = Some (scalar_value m x, readings)
-value_of (element x index) m readings = value_of index m readings >>? λ i. Some (word_at m x.variable i.0, i.1)
-value_of sense m readings = next_reading readings
-value_of (unary op e) m readings = value_of e m readings >>? λ x. Some (unary_result op (type_of e) x.0, x.1)
-value_of (binary op a b) m readings = value_of a m readings >>? λ x. value_of b m x.1
-    >>? λ y. Some (binary_result op.operator (type_of a) (type_of b) x.0 y.0, y.1)
-value_of (shift op e count) m readings =
-    value_of e m readings >>? λ x. Some (shift_result op (type_of e) x.0 count.value, x.1)
-value_of (short_circuit op a b) m readings = value_of a m readings
-    >>? λ x. if is_settled op x.0 then Some (bit (holds x.0), x.1) else (value_of b m x.1 >>? λ y. Some (bit (holds y.0), y.1))
+-- the value of an expression in an attempt, and the attempt behind it; None where the readings run out. What stands further left is
+-- evaluated first
+abbrev pub value_of : Expression VariableName → Attempt → Option Evaluated
+value_of (number n) s = gives n s
+value_of (long_number n) s = gives n s
+value_of (name x) s = gives (scalar_value s.variables x) s
+value_of (element x index) s = value_of index s >>? λ i. gives (word_at i.behind.variables x.variable i.value) i.behind
+value_of sense s = next_reading s
+value_of (unary op e) s = made_of (λ w. unary_result op (type_of e) w) (value_of e s)
+value_of (binary op a b) s =
+    value_of a s >>? λ x. made_of (λ w. binary_result op.operator (type_of a) (type_of b) x.value w) (value_of b x.behind)
+value_of (shift op e count) s = made_of (λ w. shift_result op (type_of e) w count.value) (value_of e s)
+value_of (short_circuit op a b) s =
+    value_of a s >>? λ x. if is_settled op x.value then gives (truth_word x.value) x.behind else made_of truth_word (value_of b x.behind)

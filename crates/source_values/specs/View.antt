@@ -4,9 +4,11 @@ pub use Rattle.source_values.specs.Rows.{rows_of}
 use Rattle.task_ast.specs.Tree.{Block, choice_of}
 use Rattle.task_ast.specs.declared.names.VariableName.{VariableName}
 use Rattle.task_ast.specs.declared.names.TaskName.{TaskName}
-use Rattle.source_values.specs.Values.{Variables}
+use Rattle.source_values.specs.Values.{Variables, Evaluated, evaluated}
+use Rattle.source_values.specs.Numbers.{number_value}
 use Rattle.source_values.specs.Statements.{Attempt, Outcome, goes_on, to_task, short, run_choice}
 use Rattle.source_values.specs.declared.scratch.Scratch.{Scratch}
+use Rattle.source_values.specs.declared.values.Value.{Value}
 use Rattle.source_values.specs.declared.statements.Ran.{Ran}
 use Rattle.source_values.specs.declared.statements.Chosen.{Chosen}
 use Rattle.source_values.specs.declared.statements.Chosen.TheVariants.{Behind, NoneHolds}
@@ -18,6 +20,10 @@ variables_of s = record { shared = s.shared.rows; locals = s.locals.items }
 -- an attempt that has these readings left
 abbrev pub attempt_in : Scratch → List ℕ → Attempt
 attempt_in s left = record { variables = variables_of s; emitted = s.emitted.items; left = left }
+
+-- a value that left an attempt
+abbrev pub evaluated_in : Scratch → Value → Evaluated
+evaluated_in s x = evaluated (number_value x.number) (attempt_in s x.left.now)
 
 -- the outcome of statements that left this: the task that they go to, if they go to one, and the readings left
 abbrev pub ended : Option ℕ → Attempt → Outcome

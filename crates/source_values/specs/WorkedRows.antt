@@ -12,8 +12,8 @@ use Rattle.task_ast.specs.declared.Literal.{Literal}
 use Rattle.task_ast.specs.declared.Extent.TheVariants as extent
 use Rattle.task_ast.specs.declared.names.Variable.TheVariants.{Shared, Local}
 use Rattle.task_ast.specs.declared.names.VariableName.{VariableName}
-use Rattle.source_values.specs.Values.{Variables, value_of, type_of}
-use Rattle.source_values.specs.Statements.{Attempt, goes_on, to_task, short, run_statement, run_block}
+use Rattle.source_values.specs.Values.{Variables, Attempt, gives, value_of, type_of}
+use Rattle.source_values.specs.Statements.{goes_on, to_task, short, run_statement, run_block}
 use Rattle.source_values.specs.Runs.{initial_words}
 
 -- `shared int p = -3; shared unsigned a[2];` and a local
@@ -49,27 +49,31 @@ longs = longs_are 65533 65535 65535 7
 abbrev pub attempt : Variables → List ℕ → List ℕ → Attempt
 attempt m emitted left = record { variables = m; emitted = emitted; left = left }
 
+-- the same where nothing is emitted
+abbrev pub on : Variables → List ℕ → Attempt
+on m left = attempt m [] left
+
 abbrev pub locals_are : ℕ → Variables
 locals_are w = record { shared = (65533 ∷ []) ∷ (5 ∷ 6 ∷ []) ∷ []; locals = w ∷ [] }
 
 -- what the definitions give
 pub record WorkedRows : Type 0 where
-  pub sums_wrap : value_of (binary (here Add) (number 65535) (number 1)) words [] ≡ Some (0, [])
-  pub quotient_by_zero : value_of (binary (here Divide) (number 7) (number 0)) words [] ≡ Some (65535, [])
-  pub remainder_by_zero : value_of (binary (here Remainder) (number 7) (number 0)) words [] ≡ Some (7, [])
-  pub quotient_is_unsigned : value_of (binary (here Divide) (name p) (number 2)) words [] ≡ Some (32766, [])
-  pub shift_of_int : value_of (shift Right (name p) by_one) words [] ≡ Some (65534, [])
-  pub shift_of_unsigned : value_of (shift Right (binary (here Add) (name p) sense) by_one) words (0 ∷ []) ≡ Some (32766, [])
-  pub less_of_ints : value_of (binary (here Less) (name p) (number 2)) words [] ≡ Some (1, [])
-  pub less_of_int_and_unsigned : value_of (binary (here Less) (name p) (number 40000)) words [] ≡ Some (0, [])
+  pub sums_wrap : value_of (binary (here Add) (number 65535) (number 1)) (on words []) ≡ gives 0 (on words [])
+  pub quotient_by_zero : value_of (binary (here Divide) (number 7) (number 0)) (on words []) ≡ gives 65535 (on words [])
+  pub remainder_by_zero : value_of (binary (here Remainder) (number 7) (number 0)) (on words []) ≡ gives 7 (on words [])
+  pub quotient_is_unsigned : value_of (binary (here Divide) (name p) (number 2)) (on words []) ≡ gives 32766 (on words [])
+  pub shift_of_int : value_of (shift Right (name p) by_one) (on words []) ≡ gives 65534 (on words [])
+  pub shift_of_unsigned : value_of (shift Right (binary (here Add) (name p) sense) by_one) (on words (0 ∷ [])) ≡ gives 32766 (on words [])
+  pub less_of_ints : value_of (binary (here Less) (name p) (number 2)) (on words []) ≡ gives 1 (on words [])
+  pub less_of_int_and_unsigned : value_of (binary (here Less) (name p) (number 40000)) (on words []) ≡ gives 0 (on words [])
   pub literals : (type_of (number 32767) ≡ Int) × (type_of (number 32768) ≡ Unsigned) × (type_of (unary Negate (number 40000)) ≡ Unsigned)
       × (type_of (unary Not (number 40000)) ≡ Int)
-  pub index_at_the_length_reads_0 : value_of (element a (number 2)) words [] ≡ Some (0, [])
-  pub readings_from_the_left : value_of (binary (here Less) sense sense) words (1 ∷ 2 ∷ 3 ∷ []) ≡ Some (1, 3 ∷ [])
-  pub and_leaves_the_right_side : value_of (short_circuit short_circuit_operator.And (number 0) sense) words (9 ∷ []) ≡ Some (0, 9 ∷ [])
-  pub and_takes_the_right_side : value_of (short_circuit short_circuit_operator.And (number 3) sense) words (9 ∷ []) ≡ Some (1, [])
-  pub or_leaves_the_right_side : value_of (short_circuit short_circuit_operator.Or (number 3) sense) words (9 ∷ []) ≡ Some (1, 9 ∷ [])
-  pub too_few_readings : value_of (binary (here Add) sense sense) words (7 ∷ []) ≡ None
+  pub index_at_the_length_reads_0 : value_of (element a (number 2)) (on words []) ≡ gives 0 (on words [])
+  pub readings_from_the_left : value_of (binary (here Less) sense sense) (on words (1 ∷ 2 ∷ 3 ∷ [])) ≡ gives 1 (on words (3 ∷ []))
+  pub and_leaves_the_right_side : value_of (short_circuit short_circuit_operator.And (number 0) sense) (on words (9 ∷ [])) ≡ gives 0 (on words (9 ∷ []))
+  pub and_takes_the_right_side : value_of (short_circuit short_circuit_operator.And (number 3) sense) (on words (9 ∷ [])) ≡ gives 1 (on words [])
+  pub or_leaves_the_right_side : value_of (short_circuit short_circuit_operator.Or (number 3) sense) (on words (9 ∷ [])) ≡ gives 1 (on words (9 ∷ []))
+  pub too_few_readings : value_of (binary (here Add) sense sense) (on words (7 ∷ [])) ≡ None
   pub index_at_the_length_writes_nothing : run_statement (store a (number 2) (number 1)) (attempt words [] []) ≡ goes_on (attempt words [] [])
   pub index_before_value : run_statement (store a sense sense) (attempt words [] (1 ∷ 9 ∷ []))
       ≡ goes_on (attempt (record { shared = (65533 ∷ []) ∷ (5 ∷ 9 ∷ []) ∷ []; locals = 7 ∷ [] }) [] [])
@@ -79,23 +83,23 @@ pub record WorkedRows : Type 0 where
       ≡ to_task 2 (attempt words [] [])
   pub short_of_a_reading : run_block (step (emit sense) end) (attempt words [] []) ≡ short
   pub shared_words_start_at_0 : initial_words (extent.Array 2) ≡ 0 ∷ 0 ∷ []
-  pub long_scalar : value_of (name l) longs [] ≡ Some (4294967295, [])
-  pub long_sums_wrap : value_of (binary (here Add) (name l) (number 1)) longs [] ≡ Some (0, [])
-  pub long_differences_wrap : value_of (binary (here Subtract) (number 0) (long_number 1)) longs [] ≡ Some (4294967295, [])
-  pub int_becomes_long_by_its_sign : value_of (binary (here Add) (long_number 5) (name p)) longs [] ≡ Some (2, [])
-  pub unsigned_becomes_long_by_zeros : value_of (binary (here Add) sense (long_number 5)) longs (65533 ∷ []) ≡ Some (65538, [])
-  pub long_negation : value_of (unary Negate (long_number 1)) longs [] ≡ Some (4294967295, [])
-  pub long_complement : value_of (unary Complement (long_number 1)) longs [] ≡ Some (4294967294, [])
-  pub not_of_a_long : value_of (unary Not (long_number 65536)) longs [] ≡ Some (0, [])
-  pub long_bits : (value_of (binary (here And) (name l) (long_number 65536)) longs [] ≡ Some (65536, []))
-      × (value_of (binary (here Or) (long_number 65536) (number 1)) longs [] ≡ Some (65537, []))
-      × (value_of (binary (here Xor) (name l) (long_number 65537)) longs [] ≡ Some (4294901758, []))
-  pub longs_compare_unsigned : value_of (binary (here Less) (name p) (name l)) longs [] ≡ Some (1, [])
-  pub longs_compare_by_the_high_word : value_of (binary (here GreaterEqual) (long_number 65536) (number 9)) longs [] ≡ Some (1, [])
-  pub longs_are_equal_in_both_words : value_of (binary (here Equal) (long_number 65536) (number 0)) longs [] ≡ Some (0, [])
-  pub long_shifts : (value_of (shift Left (long_number 1) (by 31)) longs [] ≡ Some (2147483648, []))
-      × (value_of (shift Left (name l) (by 1)) longs [] ≡ Some (4294967294, []))
-      × (value_of (shift Right (name l) (by 17)) longs [] ≡ Some (32767, []))
+  pub long_scalar : value_of (name l) (on longs []) ≡ gives 4294967295 (on longs [])
+  pub long_sums_wrap : value_of (binary (here Add) (name l) (number 1)) (on longs []) ≡ gives 0 (on longs [])
+  pub long_differences_wrap : value_of (binary (here Subtract) (number 0) (long_number 1)) (on longs []) ≡ gives 4294967295 (on longs [])
+  pub int_becomes_long_by_its_sign : value_of (binary (here Add) (long_number 5) (name p)) (on longs []) ≡ gives 2 (on longs [])
+  pub unsigned_becomes_long_by_zeros : value_of (binary (here Add) sense (long_number 5)) (on longs (65533 ∷ [])) ≡ gives 65538 (on longs [])
+  pub long_negation : value_of (unary Negate (long_number 1)) (on longs []) ≡ gives 4294967295 (on longs [])
+  pub long_complement : value_of (unary Complement (long_number 1)) (on longs []) ≡ gives 4294967294 (on longs [])
+  pub not_of_a_long : value_of (unary Not (long_number 65536)) (on longs []) ≡ gives 0 (on longs [])
+  pub long_bits : (value_of (binary (here And) (name l) (long_number 65536)) (on longs []) ≡ gives 65536 (on longs []))
+      × (value_of (binary (here Or) (long_number 65536) (number 1)) (on longs []) ≡ gives 65537 (on longs []))
+      × (value_of (binary (here Xor) (name l) (long_number 65537)) (on longs []) ≡ gives 4294901758 (on longs []))
+  pub longs_compare_unsigned : value_of (binary (here Less) (name p) (name l)) (on longs []) ≡ gives 1 (on longs [])
+  pub longs_compare_by_the_high_word : value_of (binary (here GreaterEqual) (long_number 65536) (number 9)) (on longs []) ≡ gives 1 (on longs [])
+  pub longs_are_equal_in_both_words : value_of (binary (here Equal) (long_number 65536) (number 0)) (on longs []) ≡ gives 0 (on longs [])
+  pub long_shifts : (value_of (shift Left (long_number 1) (by 31)) (on longs []) ≡ gives 2147483648 (on longs []))
+      × (value_of (shift Left (name l) (by 1)) (on longs []) ≡ gives 4294967294 (on longs []))
+      × (value_of (shift Right (name l) (by 17)) (on longs []) ≡ gives 32767 (on longs []))
   pub long_types : (type_of (binary (here Add) (name p) (long_number 0)) ≡ Long) × (type_of (binary (here Add) sense (name l)) ≡ Long)
       × (type_of (binary (here Less) (name l) (name l)) ≡ Int) × (type_of (unary Not (name l)) ≡ Int) × (type_of (shift Right (name l) (by 1)) ≡ Long)
   pub long_takes_an_int : run_statement (assign l (name p)) (attempt longs [] []) ≡ goes_on (attempt (longs_are 65533 65533 65535 7) [] [])

@@ -1,6 +1,6 @@
 //! Marks on the words of shared variables that may have been written.
 ghost use Rattle.std.specs.Prelude.{◌≡◌, ℕ, ◌<◌, ◌≤◌, ◌^◌, IfOk, length};
-ghost use Rattle.source_values.specs.Marks.{IsMarked, mark_of};
+ghost use Rattle.source_values.specs.Marks.{IsMarked, mark_of, no_marks};
 
 use std::alloc::{AllocError, Global};
 use std::marker::Model;
@@ -41,7 +41,9 @@ fn mark_of(v: usize, i: usize) -> usize
 
 impl Marks {
     /// None is set.
-    pub fn new(alloc: Global) -> Result<Marks, AllocError> {
+    pub fn new(alloc: Global) -> Result<Marks, AllocError>
+        ensures { IfOk result (λ m. m ≡ no_marks) }
+    {
         Ok(Marks {
             variables: vec![in alloc; false; VARIABLES]?,
             blocks: vec![in alloc; false; BLOCKS]?,
@@ -59,7 +61,9 @@ impl Marks {
     }
 
     /// Clears all.
-    pub fn clear(&mut self) {
+    pub fn clear(&mut self)
+        ensures { self.new ≡ no_marks }
+    {
         self.variables.fill(false);
         self.blocks.fill(false);
     }
@@ -70,6 +74,7 @@ impl Marks {
         requires inside { i < end }
         requires few { end < 2 ^ 63 }
         ensures later { i ≤ result }
+        ensures here { result ≡ i → IsMarked self.now v i }
         ensures none { (j : ℕ) → i ≤ j → j < result → IsMarked self.now v j → ⊥ }
     {
         if !self.variables[v % VARIABLES] {
@@ -85,6 +90,7 @@ impl Marks {
     pub fn next(&self, v: usize, from: usize, end: usize) -> usize
         requires few { end < 2 ^ 63 }
         ensures later { from ≤ result }
+        ensures here { result < end → IsMarked self.now v result }
         ensures none { (j : ℕ) → from ≤ j → j < result → IsMarked self.now v j → ⊥ }
     {
         let mut i = from;

@@ -6,6 +6,7 @@ ghost use Rattle.task_ast.specs.View.{block_view, program_of};
 ghost use Rattle.task_ast.specs.declared.Extent.TheVariants.{Long};
 ghost use Rattle.source_values.specs.Statements.{Attempt, run_block, block_emits, short, to_task};
 ghost use Rattle.source_values.specs.Runs.{initial_words, initial_rows, new_locals, fresh_attempt, attempt_of, completion_of, EndsWell};
+ghost use Rattle.source_values.specs.Marks.{IsMarked};
 ghost use Rattle.source_values.specs.Running.{IsRunnable, fresh_run};
 ghost use Rattle.source_values.specs.View.{rows_of, attempt_in, outcome_of};
 
@@ -46,13 +47,19 @@ pub struct SourceRun {
 
 impl Model for SourceRun {
     ghost use Rattle.std.specs.Prelude.{◌≡◌, map, length};
-    ghost use Rattle.source_values.specs.Runs.{RunState};
+    ghost use Rattle.source_values.specs.Running.{RunState};
     ghost use Rattle.source_values.specs.View.{rows_of};
     ghost use Rattle.source_values.specs.Marks.{Covers};
 
     ghost Value = { RunState };
 
-    ghost view = { λ r. record { before = rows_of r.before.items; shared = r.scratch.shared.base; emitted = r.emitted.items; task = r.task } };
+    ghost view = { λ r. record {
+      before = rows_of r.before.items;
+      shared = r.scratch.shared.base;
+      written = r.written;
+      emitted = r.emitted.items;
+      task = r.task;
+    } };
 
     ghost invariant = { λ r. (map length (rows_of r.before.items) ≡ map length r.scratch.shared.base)
         × (r.scratch.shared.rows ≡ r.scratch.shared.base)
@@ -200,12 +207,13 @@ impl SourceRun {
         row_word(&self.before, v as usize, i as usize)
     }
 
-    /// The first index from one on at which the last transition may have changed the word of shared variable `v`, if it comes before
-    /// the end; else the end.
+    /// The first index from one on at which the word of shared variable `v` is marked as written by the last transition, if it comes
+    /// before the end; else the end. No other word changed. A mark may be that of another word of the same 64.
     pub fn next_written(&self, v: u16, from: u16, end: u16) -> u16
         requires { from ≤ end }
         ensures later { from ≤ result }
         ensures inside { result ≤ end }
+        ensures here { result < end → IsMarked self.now.written v result }
         ensures same { (i : ℕ) → from ≤ i → i < result
             → slice_index (slice_index_or self.now.before v []) i ≡ slice_index (slice_index_or self.now.shared v []) i }
     {

@@ -3,10 +3,9 @@
 ghost use Rattle.std.specs.Prelude.{◌≡◌, IfSome, IfNone, Some, None};
 ghost use Rattle.std.specs.Option.{option_map};
 ghost use Rattle.task_ast.specs.View.{expression_of};
-ghost use Rattle.alp_words.specs.Words.{bit};
-ghost use Rattle.source_values.specs.Values.{type_of, value_of, next_reading, holds, is_settled};
+ghost use Rattle.source_values.specs.Values.{Attempt, evaluated, type_of, value_of, reading_of, truth_word, is_settled};
 ghost use Rattle.source_values.specs.Numbers.{number_type, number_value};
-ghost use Rattle.source_values.specs.View.{variables_of};
+ghost use Rattle.source_values.specs.View.{attempt_in, evaluated_in};
 ghost use Rattle.task_ast.specs.declared.WordType.TheVariants as WordType;
 
 use crate::numbers::{Number, binary_number, number_of, shifted_number, unary_number};
@@ -31,7 +30,7 @@ fn is_settled(op: ShortCircuitOperator, number: Number) -> bool
 }
 
 fn sense(readings: &[u16]) -> Option<Value<'_>>
-    ensures value { option_map (λ x. (number_value x.number, x.left.now)) result ≡ next_reading readings.now }
+    ensures value { (s : Attempt) → option_map (λ x. evaluated (number_value x.number) (record s { left = x.left.now })) result ≡ reading_of readings.now s }
     ensures word_type { IfSome result (λ x. number_type x.number ≡ WordType.Unsigned) }
 {
     let (first, left) = readings.split_first()?;
@@ -47,8 +46,7 @@ pub fn evaluate<'r>(
     scratch: &Scratch,
     readings: &'r [u16],
 ) -> Option<Value<'r>>
-    ensures value { option_map (λ x. (number_value x.number, x.left.now)) result
-        ≡ value_of (expression_of e.now) (variables_of scratch.now) readings.now }
+    ensures value { option_map (evaluated_in scratch.now) result ≡ value_of (expression_of e.now) (attempt_in scratch.now readings.now) }
     ensures word_type { IfSome result (λ x. number_type x.number ≡ type_of (expression_of e.now)) }
 {
     match e {
@@ -107,7 +105,7 @@ pub fn evaluate<'r>(
 
 // 1 where the value isn't 0, else 0.
 fn truth(x: Value<'_>) -> Value<'_>
-    ensures word { number_value result.number ≡ bit (holds (number_value x.entry.number)) }
+    ensures word { number_value result.number ≡ truth_word (number_value x.entry.number) }
     ensures word_type { number_type result.number ≡ WordType.Int }
     ensures left { result.left.now ≡ x.entry.left.now }
 {

@@ -2,7 +2,7 @@
 use Rattle.std.proofs.Common.{◌≡◌, ℕ, suc, ◌+◌, ◌*◌, ◌%◌, ◌<◌, ◌≤◌, List, ◌++◌, refl, sym, ap, ap₂, ◌∙◌, subst, ⊎_elim, inl, inr, ◌⊎◌, arith, length}
 use Rattle.std.proofs.Math.Path.{fun_ext}
 use Rattle.std.proofs.lemmas.Bool.{cases_eq}
-use Rattle.runtime_effects.specs.fram_board.Effects.{Store, Send}
+use Rattle.runtime_effects.specs.fram_board.Effects.{Store, Outside, Offered}
 use Rattle.runtime_effects.specs.machine_effects.World.{World, put, accepted_after, world_after_one, world_after}
 use Rattle.runtime_effects.proofs.machine_effects.Interface.{put_same, put_other}
 use Rattle.runtime_effects.specs.Places.{CopyPair, entry_bytes, entries_from, listed}
@@ -11,8 +11,9 @@ use Rattle.runtime_effects.specs.Stages.{emits_sent, commit_effects}
 use Rattle.crash_rules.specs.Model.{HoldsThroughout}
 use Rattle.stands_for.specs.Layout.{ProgramPlaces, StateView, IsSharedWord, IsAmong, HaveRoom}
 use Rattle.stands_for.specs.StandsFor.{HoldsWords, words_at, RestsAt, IsPendingCommit, CommittingTo}
+use Rattle.stands_for.proofs.Sends.{next_base, IsEmit}
 use Rattle.stands_for.proofs.Keeps.{put_either, put_words}
-use Rattle.stands_for.proofs.Walks.{next_base, commit_before, through}
+use Rattle.stands_for.proofs.Walks.{commit_before, through}
 use Rattle.stands_for.proofs.Behind.{IsHome, copies_behind, copies_related, closed, behind_commit, IsSent, one_sent, emits_received, words_alike}
 use Rattle.stands_for.proofs.Pending.{few, copies_apart, still_to_send}
 use Rattle.runtime_effects.specs.memory_map.MemoryMap.{MemoryMap, word_place}
@@ -183,15 +184,14 @@ module _ (l : ProgramPlaces) (apart : AreApart l.map) (room : HaveRoom l) (x : W
       }
 
   -- a word is sent
-  send_within : (i n v : ℕ) (y : World) → i < f (word_place m EmitCount) → n ≡ (f (word_place m SentBase) + i) % 0x10000
-      → v ≡ f (m.emits.address + 2 * i) → IsWithin i y → IsWithin (suc i) (world_after_one (Send n v) y)
-  send_within i n v y lt num ev w =
+  send_within : (i n v : ℕ) (y : World) → IsEmit m f i n v → IsWithin i y → IsWithin (suc i) (world_after_one (Outside (Offered n v)) y)
+  send_within i n v y e w =
       record {
         same = w.same;
         words = w.words;
         current_task = w.current_task;
         base = w.base;
-        sent = one_sent m f (few l apart x p room) all i n v y.accepted lt num ev w.sent;
+        sent = one_sent m f (few l apart x p room) all i n v y.accepted e w.sent;
       }
 
   -- CUR and BASE become those of the next state
@@ -223,10 +223,16 @@ pub committing : {St : Type 0} (l : ProgramPlaces) (v : StateView St) → AreApa
     → HoldsThroughout (CommittingTo l v to) (commit_before l.map x.fram) x
 committing l v apart room to x d =
     let p = d.pending in
-    through l.map x (p.words (word_place l.map SentBase)) (CommittingTo l v to) (IsWithin l apart room x p)
-    (λ k y w. record {
-      pending = within_pending l apart room x p k y w;
-      rests = subst (RestsAt l v to) (sym (within_end l apart room x p k y w)) d.rests;
+    through l.map x (CommittingTo l v to) (IsWithin l apart room x p)
+    (record {
+      gives = λ k y w. record {
+        pending = within_pending l apart room x p k y w;
+        rests = subst (RestsAt l v to) (sym (within_end l apart room x p k y w)) d.rests;
+      };
+      small = p.words (word_place l.map SentBase);
+      sent = send_within l apart room x p;
+      current = cur_within l apart room x p;
+      based = base_within l apart room x p;
     })
-    (copy_within l apart room x p) (send_within l apart room x p) (cur_within l apart room x p) (base_within l apart room x p)
+    (copy_within l apart room x p)
     (at_start l apart room x p)

@@ -5,15 +5,15 @@ use Rattle.std.proofs.Common.{arith, ne_eqb, eq-eqb, cond, length, drop, length-
 use Rattle.std.proofs.Math.Seq.{drop-cons, drop-length}
 use Rattle.std.proofs.lemmas.Bool.{cases_eq}
 use Rattle.std.specs.List.{slice_index}
-use Rattle.runtime_effects.specs.fram_board.Effects.{Store, Send}
+use Rattle.runtime_effects.specs.fram_board.Effects.{Store, Outside, Offered}
 use Rattle.runtime_effects.specs.machine_effects.World.{World, put, received, fram_after, accepted_after, world_after_one, world_after}
 use Rattle.runtime_effects.proofs.machine_effects.Interface.{world_after-append, put_same, put_other}
 use Rattle.runtime_effects.specs.Places.{CopyPair, listed}
 use Rattle.runtime_effects.specs.Stages.{copied_home, sends, emits_sent, commit_closed, commit_effects}
 use Rattle.stands_for.specs.Layout.{IsAmong}
 use Rattle.stands_for.specs.StandsFor.{words_at}
+use Rattle.stands_for.proofs.Sends.{next_base, IsEmit, IsSending, sends_begin, next_emit, sends_on}
 use Rattle.stands_for.proofs.Keeps.{same_number}
-use Rattle.stands_for.proofs.Walks.{next_base}
 use Rattle.runtime_effects.specs.memory_map.MemoryMap.{MemoryMap, word_place}
 use Rattle.runtime_effects.specs.memory_map.declared.words.RuntimeWord.TheVariants.{CurrentTask, NextTask, Gate, EmitCount, Base, SentBase}
 
@@ -78,7 +78,7 @@ copies_world (q ∷ qs) x = copies_world qs (world_after_one (Store q.home (x.fr
 sends_world : (n k p : ℕ) (f : ℕ → ℕ) (x : World)
     → world_after (sends n k p f) x ≡ record { fram = x.fram; accepted = accepted_after (sends n k p f) x.accepted }
 sends_world zero k p f x = refl
-sends_world (suc n) k p f x = sends_world n ((k + 1) % 0x10000) (p + 2) f (world_after_one (Send k (f p)) x)
+sends_world (suc n) k p f x = sends_world n ((k + 1) % 0x10000) (p + 2) f (world_after_one (Outside (Offered k (f p))) x)
 
 -- the world behind a commit
 pub behind_commit : (m : MemoryMap) (x : World) → world_after (commit_effects m x.fram) x
@@ -110,13 +110,13 @@ pub record IsSent (m : MemoryMap) (f : ℕ → ℕ) (all : List ℕ) (i : ℕ) (
 
 module _ (m : MemoryMap) (f : ℕ → ℕ) (few : f (word_place m EmitCount) ≤ 256) (all : List ℕ) where
   -- word i is sent: it is the next one, or known
-  pub one_sent : (i n w : ℕ) (ws : List ℕ) → i < f (word_place m EmitCount) → n ≡ (f (word_place m SentBase) + i) % 0x10000
-      → w ≡ f (m.emits.address + 2 * i) → IsSent m f all i ws → IsSent m f all (suc i) (received n w ws)
-  one_sent i n w ws lt num ew s = by_left s.left refl
+  pub one_sent : (i n w : ℕ) (ws : List ℕ) → IsEmit m f i n w → IsSent m f all i ws → IsSent m f all (suc i) (received n w ws)
+  one_sent i n w ws emit s = by_left s.left refl
     where
       by_left : (left : ℕ) → s.left ≡ left → IsSent m f all (suc i) (received n w ws)
       by_left left e =
           let at_least = s.at_least in let joins = s.joins in let number = s.number in
+          let lt = emit.below in let num = emit.number_is in let ew = emit.word_is in
           ⊎_elim
           (λ same.
           let k = left - 1 in
@@ -155,20 +155,18 @@ module _ (m : MemoryMap) (f : ℕ → ℕ) (few : f (word_place m EmitCount) ≤
           (cases_eq i s.count)
 
   -- all are sent
-  all_sent : (n i k p : ℕ) (ws : List ℕ) → i + n ≡ f (word_place m EmitCount) → k ≡ (f (word_place m SentBase) + i) % 0x10000
-      → p ≡ m.emits.address + 2 * i → IsSent m f all i ws → accepted_after (sends n k p f) ws ≡ all
-  all_sent zero i k p ws e ek ep s =
-      let at_least = s.at_least in let joins = s.joins in
+  all_sent : (n i k p : ℕ) (ws : List ℕ) → IsSending m f n i k p → IsSent m f all i ws → accepted_after (sends n k p f) ws ≡ all
+  all_sent zero i k p ws h s =
+      let at_least = s.at_least in let joins = s.joins in let e = h.count in
       let none : 0 ≡ s.left = omega (arith, e, at_least, joins) in
       sym (append-nil ws) ∙ ap (λ j. ws ++ words_at j (m.emits.address + 2 * s.count) f) none ∙ s.rest
-  all_sent (suc n) i k p ws e ek ep s =
-      all_sent n (suc i) ((k + 1) % 0x10000) (p + 2) (received k (f p) ws) (omega (arith, e)) (omega (arith, ek)) (omega (arith, ep))
-      (one_sent i k (f p) ws (omega (arith, e)) ek (ap f ep) s)
+  all_sent (suc n) i k p ws h s =
+      all_sent n (suc i) ((k + 1) % 0x10000) (p + 2) (received k (f p) ws) (sends_on m f n i k p h) (one_sent i k (f p) ws (next_emit m f n i k p h) s)
 
   -- what the receiver has behind the sends of a commit
   pub emits_received : (ws : List ℕ) → f (word_place m SentBase) < 0x10000 → IsSent m f all 0 ws → accepted_after (emits_sent m f) ws ≡ all
   emits_received ws small s =
-      all_sent (f (word_place m EmitCount)) 0 (f (word_place m SentBase)) m.emits.address ws (omega arith) (omega (arith, small)) (omega arith) s
+      all_sent (f (word_place m EmitCount)) 0 (f (word_place m SentBase)) m.emits.address ws (sends_begin m f small) s
 
 pub words_length : (n p : ℕ) (f : ℕ → ℕ) → length (words_at n p f) ≡ n
 words_length zero p f = refl

@@ -7,9 +7,11 @@ use Rattle.runtime_effects.specs.Places.{CopyPair, listed}
 use Rattle.runtime_effects.specs.Stages.{emits_sent}
 use Rattle.crash_rules.specs.Model.{HoldsThroughout}
 use Rattle.stands_for.specs.Layout.{ProgramPlaces, StateView, IsSharedWord, HaveRoom}
-use Rattle.stands_for.specs.StandsFor.{RestsAt, DecidedWith, DecidedFrom, IsPendingCommit, CommittingTo, words_at}
-use Rattle.stands_for.proofs.Keeps.{With, few, few_words, few_emits, copy_keeps, cur_keeps, base_keeps, weaken, send_keeps}
-use Rattle.stands_for.proofs.Walks.{next_base, commit_before, through}
+use Rattle.stands_for.specs.StandsFor.{RestsAt, SendsAndCloses, CopiesHome, DecidedFrom, IsPendingCommit, CommittingTo, words_at}
+use Rattle.stands_for.proofs.Sends.{next_base}
+use Rattle.stands_for.proofs.Keeps.{Transition, So, few_emits, shared_sends, cur_keeps, base_keeps, weaken, send_keeps}
+use Rattle.stands_for.proofs.Keeps.{few, few_words, bears_home, copy_home}
+use Rattle.stands_for.proofs.Walks.{commit_before, SendsKeep, through}
 use Rattle.stands_for.proofs.Behind.{any_among, copies_behind, copies_related, closed, closed_other, behind_commit, emits_received, words_are}
 use Rattle.stands_for.proofs.Pending.{copies_apart, current_behind, rest_behind}
 use Rattle.runtime_effects.specs.memory_map.MemoryMap.{word_place}
@@ -28,34 +30,51 @@ module _ {St : Type 0} (l : ProgramPlaces) (apart : AreApart l.map) (room : Have
   abbrev es : List ℕ
   es = from.emits
 
-  abbrev So : ℕ → World → Type 0
-  So k y = With l apart room v s next ps es k y
+  abbrev d : SendsAndCloses l v s next es 0 x
+  d = from.decided.sends
 
-  abbrev d : So 0 x
-  d = from.decided
+  abbrev h : CopiesHome l v s next ps x
+  h = from.decided.home
 
-  decided_of : (k : ℕ) (y : World) → So k y → DecidedFrom l v s next y
-  decided_of k y w = record {
-    emits = es;
-    decided = subst (λ q. DecidedWith l v s next q es 0 y) (sym w.pairs_listed) (weaken l apart room v s next ps es k 0 y zero-le w);
-  }
+  abbrev t : Transition St
+  t = record { places = l; apart = apart; room = room; view = v; from = s; to = next; emits = es; is_task = d.is_task }
+
+  -- the words that are copied home stay what they are to be behind stores to CUR and BASE
+  abbrev Also : World → Type 0
+  Also y = CopiesHome l v s next ps y
+
+  abbrev At : ℕ → World → Type 0
+  At k y = So t Also (bears_home t ps) k y
+
+  decided_of : (k : ℕ) (y : World) → At k y → DecidedFrom l v s next y
+  decided_of k y w =
+      let z = weaken t Also (bears_home t ps) k 0 y zero-le w in
+      record { emits = es; decided = record { sends = z.0; home = subst (λ q. CopiesHome l v s next q y) (sym w.1.pairs_listed) z.1 } }
 
   -- SB and EN are those of the state and of its words at each effect
-  number_there : (k : ℕ) (y : World) → So k y → next_base l.map f ≡ next_base l.map y.fram
-  number_there k y w = ap₂ (λ a b. (a + b) % 0x10000) (d.sent_base ∙ sym w.sent_base) (d.emit_count ∙ sym w.emit_count)
+  number_there : (k : ℕ) (y : World) → At k y → next_base l.map f ≡ next_base l.map y.fram
+  number_there k y w = ap₂ (λ a b. (a + b) % 0x10000) (d.sent_base ∙ sym w.0.sent_base) (d.emit_count ∙ sym w.0.emit_count)
+
+  keep : SendsKeep l.map f (DecidedFrom l v s next) At
+  keep =
+      let count = d.emit_count in let sent_base = d.sent_base in
+      record {
+        gives = decided_of;
+        small = d.words (word_place l.map SentBase);
+        sent = λ i n w y e q.
+            let lt = e.below in let num = e.number_is in
+            let below : i < length es = omega (arith, lt, count) in
+            send_keeps t Also (bears_home t ps) i n w y below (omega (arith, num, sent_base)) (e.word_is ∙ d.buffer i below) q;
+        current = λ k y w. cur_keeps t Also (bears_home t ps) k y (f (word_place l.map NextTask)) (d.words (word_place l.map NextTask)) d.next_task w;
+        based = λ k y w. base_keeps t Also (bears_home t ps) k y (next_base l.map f) (omega arith) (number_there k y w) w;
+      }
 
   -- each effect keeps the world decided
   pub stays_decided : HoldsThroughout (DecidedFrom l v s next) (commit_before l.map f) x
   stays_decided =
-      let count = d.emit_count in let sent_base = d.sent_base in
-      through l.map x (d.words (word_place l.map SentBase)) (DecidedFrom l v s next) So decided_of
-      (λ y p h w. copy_keeps l apart room v s next ps es 0 y p h w)
-      (λ i n w y lt num ew q.
-      let below : i < length es = omega (arith, lt, count) in
-      send_keeps l apart room v s next ps es i n w y below (omega (arith, num, sent_base)) (ew ∙ d.buffer i below) q)
-      (λ k y w. cur_keeps l apart room v s next ps es k y (f (word_place l.map NextTask)) (d.words (word_place l.map NextTask)) d.next_task w)
-      (λ k y w. base_keeps l apart room v s next ps es k y (next_base l.map f) (omega arith) (number_there k y w) w)
-      d
+      through l.map x (DecidedFrom l v s next) At keep
+      (λ y p q w. (shared_sends t 0 y p.home (y.fram p.copy) (w.1.homes p q) (w.0.words p.copy) w.0, copy_home t ps y p q w.1))
+      (d, h)
 
   -- how many of its words are accepted
   sent_are : length x.accepted % 0x10000 ≡ (f (word_place l.map SentBase) + d.accepted.count) % 0x10000
@@ -71,7 +90,7 @@ module _ {St : Type 0} (l : ProgramPlaces) (apart : AreApart l.map) (room : Have
   is_pending =
       let count = d.emit_count in
       let next_task = d.next_task in let next_is = d.next_is_task in let is_task = d.is_task in
-      let most = few_emits l apart room v s next ps es 0 x d in
+      let most = few_emits t 0 x d in
       let so = d.accepted.at_most in
       record {
         words = d.words;
@@ -79,11 +98,11 @@ module _ {St : Type 0} (l : ProgramPlaces) (apart : AreApart l.map) (room : Have
         current_task = ⊎_elim {C = f (word_place l.map CurrentTask) < l.tasks} (λ e. omega (arith, e, is_task)) (λ e. omega (arith, e, next_is))
             d.current_task;
         next_task = omega (arith, next_task, next_is);
-        list_length = few l apart room v s next ps es 0 x d;
-        entries = d.entries;
-        list_words = few_words l apart room v s next ps es 0 x d;
-        homes = d.homes;
-        copies = d.copies;
+        list_length = few t ps x h;
+        entries = h.entries;
+        list_words = few_words t ps x h;
+        homes = h.homes;
+        copies = h.copies;
         emit_count = omega (arith, count, most);
         sent = d.accepted.count;
         sent_some = omega (arith, count, so);
@@ -100,9 +119,9 @@ module _ {St : Type 0} (l : ProgramPlaces) (apart : AreApart l.map) (room : Have
 
   -- behind the copies each shared word is the next state's, and all are words
   shared_behind : (a : ℕ) → IsSharedWord l a → g a ≡ v.word next a
-  shared_behind a h =
-      copies_related (λ b u w. u ≡ v.word next b) ps f f a (copies_apart l apart x is_pending) (λ p k. d.copied p k)
-      (⊎_elim (λ k. inr k) (λ none. inl (d.others a h none)) (any_among ps a))
+  shared_behind a sh =
+      copies_related (λ b u w. u ≡ v.word next b) ps f f a (copies_apart l apart x is_pending) (λ p k. h.copied p k)
+      (⊎_elim (λ k. inr k) (λ none. inl (h.others a sh none)) (any_among ps a))
 
   accepted_behind : accepted_after (emits_sent l.map f) x.accepted ≡ v.emitted next
   accepted_behind =
@@ -134,8 +153,8 @@ module _ {St : Type 0} (l : ProgramPlaces) (apart : AreApart l.map) (room : Have
           base = r.base ∙ ap (λ ws. length ws % 0x10000) accepted_behind;
           versions = r.versions;
         };
-        shared = λ a h. closed_other m f g a (λ e. omega (arith, apart, h, e)) (λ e. omega (arith, apart, h, e)) (λ e. omega (arith, apart, h, e))
-            ∙ shared_behind a h;
+        shared = λ a sh. closed_other m f g a (λ e. omega (arith, apart, sh, e)) (λ e. omega (arith, apart, sh, e)) (λ e. omega (arith, apart, sh, e))
+            ∙ shared_behind a sh;
       }
 
   -- it leaves the next state

@@ -1,3 +1,4 @@
+mod Sends
 mod Keeps
 mod Walks
 mod Behind

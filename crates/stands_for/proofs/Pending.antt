@@ -7,12 +7,13 @@ use Rattle.runtime_effects.proofs.machine_effects.Interface.{world_after-append,
 use Rattle.runtime_effects.specs.Places.{CopyPair, listed}
 use Rattle.runtime_effects.specs.Stages.{emits_sent, commit_effects}
 use Rattle.runtime_effects.specs.Needs.{IsCopied, CanCommit}
-use Rattle.crash_rules.specs.Model.{HoldsThroughout, IsElsewhere, IsBetween, CommitKeeps}
+use Rattle.crash_rules.specs.Model.{Inputs, HoldsThroughout, IsElsewhere, IsBetween, CommitKeeps}
 use Rattle.stands_for.specs.Layout.{ProgramPlaces, StateView, IsSharedWord, IsAmong, HaveRoom}
 use Rattle.stands_for.specs.StandsFor.{HoldsWords, words_at, RestsAt, IsAtRest, IsPendingCommit, CommittingTo}
 use Rattle.stands_for.specs.Program.{ProgramParts, program_model, IsCommitStore}
+use Rattle.stands_for.proofs.Sends.{next_base}
 use Rattle.stands_for.proofs.Keeps.{put_words}
-use Rattle.stands_for.proofs.Walks.{next_base, commit_before, commit_is, commit_takes, commit_stores_so}
+use Rattle.stands_for.proofs.Walks.{commit_before, commit_is, commit_takes, commit_stores_so}
 use Rattle.stands_for.proofs.Behind.{CopiesAreApart, copies_behind, copies_related, closed, closed_other, behind_commit, words_length, IsSent, emits_received}
 use Rattle.runtime_effects.specs.memory_map.MemoryMap.{MemoryMap, word_place}
 use Rattle.runtime_effects.specs.memory_map.declared.words.RuntimeWord.TheVariants.{CurrentTask, NextTask, Gate, EmitCount, Base, SentBase, Version}
@@ -191,9 +192,10 @@ module _ (l : ProgramPlaces) (apart : AreApart l.map) (x : World) (p : IsPending
     commit_rests = subst (IsAtRest l) (sym (behind_commit m x)) rest_behind
 
 -- what a commit keeps up to its last effect, where it leaves a state
-pub commit_keeps : {St : Type 0} (l : ProgramPlaces) (v : StateView St) (p : ProgramParts St) → AreApart l.map → (Kept : World → Type 0) (to : St) (x : World)
-    → CommittingTo l v to x → HoldsThroughout Kept (commit_before l.map x.fram) x → CommitKeeps (program_model l v p) Kept to x
-commit_keeps l v p apart Kept to x d h =
+pub commit_keeps : {St : Type 0} (l : ProgramPlaces) (v : StateView St) (p : ProgramParts St) → AreApart l.map → (Kept : World → Type 0) (to : St)
+    → (inputs : Inputs) (x : World) → CommittingTo l v to x → HoldsThroughout Kept (commit_before l.map x.fram) x
+    → CommitKeeps (program_model l v p) Kept to inputs x
+commit_keeps l v p apart Kept to inputs x d h =
     let before = commit_before l.map x.fram in
     let gate = word_place l.map Gate in
     record {

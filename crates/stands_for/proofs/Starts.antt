@@ -3,14 +3,14 @@ use Rattle.std.proofs.Common.{◌≡◌, ℕ, zero, suc, ◌+◌, ◌*◌, ◌<�
 use Rattle.std.proofs.Common.{true, false}
 use Rattle.std.proofs.lemmas.Bool.{cases_eq}
 use Rattle.std.proofs.lemmas.Bool.Decides.{nat_tests}
-use Rattle.runtime_effects.specs.fram_board.Effects.{Effect, Store, Take, Send}
+use Rattle.runtime_effects.specs.fram_board.Effects.{Effect, Store, Take, Outside}
 use Rattle.runtime_effects.specs.machine_effects.World.{World, put, world_after_one, world_after, fram_after, readings_taken, EachStore}
 use Rattle.runtime_effects.proofs.machine_effects.Interface.{readings_taken-append, world_after-append, each_store-append, put_same, put_other}
 use Rattle.runtime_effects.specs.Places.{CopyPair}
 use Rattle.runtime_effects.specs.Stages.{is_at_end, clearing_if, cleared, counting_effects, opening_effects, copied_in, start_effects}
 use Rattle.crash_rules.specs.Model.{HoldsThroughout, IsElsewhere}
 use Rattle.crash_rules.proofs.Interface.{world_fram, holds-append}
-use Rattle.stands_for.specs.Layout.{ProgramPlaces, StateView, IsSharedWord, IsCopyWord, IsAmong, ArePrivate}
+use Rattle.stands_for.specs.Layout.{ProgramPlaces, StateView, IsSharedWord, IsAmong, ArePrivate}
 use Rattle.stands_for.specs.StandsFor.{VersionsWithin, UndecidedAt, StartedAt}
 use Rattle.stands_for.specs.Program.{IsStartStore, StartContract}
 use Rattle.stands_for.proofs.Keeps.{put_either, put_words}
@@ -23,14 +23,14 @@ pub each_weaker : (P Q : ℕ → ℕ → Type 0) → ((a w : ℕ) → P a w → 
 each_weaker P Q h [] k = tt
 each_weaker P Q h (Store a w ∷ es) k = (h a w k.0, each_weaker P Q h es k.1)
 each_weaker P Q h (Take w ∷ es) k = (tt, each_weaker P Q h es k.1)
-each_weaker P Q h (Send n w ∷ es) k = (tt, each_weaker P Q h es k.1)
+each_weaker P Q h (Outside o ∷ es) k = (tt, each_weaker P Q h es k.1)
 
 -- stores elsewhere leave a word
 pub elsewhere_same : (address : ℕ) (es : List Effect) (f : ℕ → ℕ) → EachStore (IsElsewhere address) es → fram_after es f address ≡ f address
 elsewhere_same address [] f h = refl
 elsewhere_same address (Store a w ∷ es) f h = elsewhere_same address es (put f a w) h.1 ∙ put_other f a w address (λ e. h.0 (sym e))
 elsewhere_same address (Take w ∷ es) f h = elsewhere_same address es f h.1
-elsewhere_same address (Send n w ∷ es) f h = elsewhere_same address es f h.1
+elsewhere_same address (Outside o ∷ es) f h = elsewhere_same address es f h.1
 
 cleared_takes : (n p : ℕ) → readings_taken (cleared n p) ≡ []
 cleared_takes zero p = refl
@@ -52,31 +52,37 @@ below_end n l e = grind (arith, nat_tests, l, e)
 
 module _ {St : Type 0} (l : ProgramPlaces) (apart : AreApart l.map) (v : StateView St) where
   module _ (s : St) where
-    -- a store to none of the words that an undecided world speaks of, but for VER and the version words
-    store_keeps : (x : World) (a w : ℕ) → w < 0x10000 → (IsSharedWord l a → ⊥) → (a ≡ word_place l.map CurrentTask → ⊥) → (a ≡ word_place l.map Gate → ⊥)
-        → (a ≡ word_place l.map Base → ⊥)
-        → VersionsWithin l (put x.fram a w) → UndecidedAt l v s x → UndecidedAt l v s (world_after_one (Store a w) x)
-    store_keeps x a w small sh c g b versions u =
+    -- an address of none of the words that an undecided world speaks of, but for VER and the version words
+    record IsFree (a : ℕ) : Type 0 where
+      shared : IsSharedWord l a → ⊥
+      current : a ≡ word_place l.map CurrentTask → ⊥
+      gate : a ≡ word_place l.map Gate → ⊥
+      base : a ≡ word_place l.map Base → ⊥
+
+    -- a store there
+    store_keeps : (x : World) (a w : ℕ) → w < 0x10000 → IsFree a → VersionsWithin l (put x.fram a w) → UndecidedAt l v s x
+        → UndecidedAt l v s (world_after_one (Store a w) x)
+    store_keeps x a w small free versions u =
         record {
           is_open = record {
             is_state = u.is_open.is_state;
             is_task = u.is_open.is_task;
             words = put_words x.fram a w u.is_open.words small;
-            current_task = put_other x.fram a w (word_place l.map CurrentTask) (λ q. c (sym q)) ∙ u.is_open.current_task;
-            gate = put_other x.fram a w (word_place l.map Gate) (λ q. g (sym q)) ∙ u.is_open.gate;
+            current_task = put_other x.fram a w (word_place l.map CurrentTask) (λ q. free.current (sym q)) ∙ u.is_open.current_task;
+            gate = put_other x.fram a w (word_place l.map Gate) (λ q. free.gate (sym q)) ∙ u.is_open.gate;
             accepted = u.is_open.accepted;
-            base = put_other x.fram a w (word_place l.map Base) (λ q. b (sym q)) ∙ u.is_open.base;
+            base = put_other x.fram a w (word_place l.map Base) (λ q. free.base (sym q)) ∙ u.is_open.base;
             versions = versions;
           };
-          shared = λ y h. ⊎_elim (λ f. inl f) (λ e. inr (put_other x.fram a w y (λ q. sh (subst (IsSharedWord l) q h)) ∙ e)) (u.shared y h);
+          shared = λ y h. ⊎_elim (λ f. inl f) (λ e. inr (put_other x.fram a w y (λ q. free.shared (subst (IsSharedWord l) q h)) ∙ e)) (u.shared y h);
         }
 
     -- a store elsewhere
-    scratch : (x : World) (a w : ℕ) → w < 0x10000 → (IsSharedWord l a → ⊥) → (a ≡ word_place l.map CurrentTask → ⊥) → (a ≡ word_place l.map Gate → ⊥)
-        → (a ≡ word_place l.map Base → ⊥) → (a ≡ word_place l.map Version → ⊥) → ((i : ℕ) → i < l.map.versions.words → a ≡ l.map.versions.address + 2 * i → ⊥)
-        → UndecidedAt l v s x → UndecidedAt l v s (world_after_one (Store a w) x)
-    scratch x a w small sh c g b ver vs u =
-        store_keeps x a w small sh c g b
+    scratch : (x : World) (a w : ℕ) → w < 0x10000 → IsFree a → (a ≡ word_place l.map Version → ⊥)
+        → ((i : ℕ) → i < l.map.versions.words → a ≡ l.map.versions.address + 2 * i → ⊥) → UndecidedAt l v s x
+        → UndecidedAt l v s (world_after_one (Store a w) x)
+    scratch x a w small free ver vs u =
+        store_keeps x a w small free
         (λ i h. let k = u.is_open.versions i h in let e = put_other x.fram a w (l.map.versions.address + 2 * i)
         (λ q. vs i h (sym q)) in let f = put_other x.fram a w (word_place l.map Version) (λ q. ver (sym q)) in omega (arith, e, f, k)) u
 
@@ -95,8 +101,8 @@ module _ {St : Type 0} (l : ProgramPlaces) (apart : AreApart l.map) (v : StateVi
         let ver : put x.fram a 0 (word_place l.map Version) ≡ x.fram (word_place l.map Version) = put_other x.fram a 0 (word_place l.map Version)
         (λ q. omega (arith, apart, q)) in
         let u2 : UndecidedAt l v s y =
-        store_keeps x a 0 (omega arith) (λ h. omega (arith, apart, h, e)) (λ q. omega (arith, apart, q)) (λ q. omega (arith, apart, q))
-        (λ q. omega (arith, apart, q))
+        store_keeps x a 0 (omega arith)
+        (record { shared = λ h. omega (arith, apart, h, e); current = λ q. omega (arith, apart, q); gate = λ q. omega (arith, apart, q); base = λ q. omega (arith, apart, q) })
         (λ i h. ⊎_elim {C = put x.fram a 0 (l.map.versions.address + 2 * i) ≤ put x.fram a 0 (word_place l.map Version)}
         (λ p. let p1 = p.1 in omega (arith, p1))
         (λ p. let p1 = p.1 in let k = u.is_open.versions i h in omega (arith, p1, ver, k)) (put_either x.fram a 0 (l.map.versions.address + 2 * i))) u in
@@ -121,8 +127,8 @@ module _ {St : Type 0} (l : ProgramPlaces) (apart : AreApart l.map) (v : StateVi
         → UndecidedAt l v s (world_after_one (Store (word_place l.map Version) 0) x)
     reset_keeps x u z =
         let m = l.map in
-        store_keeps x (word_place m Version) 0 (omega arith) (λ h. omega (arith, apart, h)) (λ q. omega (arith, apart, q)) (λ q. omega (arith, apart, q))
-        (λ q. omega (arith, apart, q))
+        store_keeps x (word_place m Version) 0 (omega arith)
+        (record { shared = λ h. omega (arith, apart, h); current = λ q. omega (arith, apart, q); gate = λ q. omega (arith, apart, q); base = λ q. omega (arith, apart, q) })
         (λ i h. let k = put_other x.fram (word_place m Version) 0 (m.versions.address + 2 * i) (λ q. omega (arith, apart, q)) in
         let e = z i h in omega (arith, k, e)) u
 
@@ -163,15 +169,15 @@ module _ {St : Type 0} (l : ProgramPlaces) (apart : AreApart l.map) (v : StateVi
         let z1 : (i : ℕ) → i < m.versions.words → x1.fram (m.versions.address + 2 * i) ≤ n =
         λ i h. let same = put_other x.fram (word_place m Version) w (m.versions.address + 2 * i) (λ q. omega (arith, apart, q)) in
         let most = u.is_open.versions i h in omega (arith, same, most) in
-        let u1 = store_keeps x (word_place m Version) w (omega arith) (λ h. omega (arith, apart, h)) (λ q. omega (arith, apart, q))
-        (λ q. omega (arith, apart, q))
-        (λ q. omega (arith, apart, q)) (λ i h. let k = z1 i h in omega (arith, k, v1)) u in
-        let u2 = scratch x1 (word_place m ListLength) 0 (omega arith) (λ h. omega (arith, apart, h)) (λ q. omega (arith, apart, q))
-        (λ q. omega (arith, apart, q))
-        (λ q. omega (arith, apart, q)) (λ q. omega (arith, apart, q)) (λ i h q. omega (arith, apart, q)) u1 in
-        let u3 = scratch x2 (word_place m EmitCount) 0 (omega arith) (λ h. omega (arith, apart, h)) (λ q. omega (arith, apart, q))
-        (λ q. omega (arith, apart, q))
-        (λ q. omega (arith, apart, q)) (λ q. omega (arith, apart, q)) (λ i h q. omega (arith, apart, q)) u2 in
+        let u1 = store_keeps x (word_place m Version) w (omega arith)
+        (record { shared = λ h. omega (arith, apart, h); current = λ q. omega (arith, apart, q); gate = λ q. omega (arith, apart, q); base = λ q. omega (arith, apart, q) })
+        (λ i h. let k = z1 i h in omega (arith, k, v1)) u in
+        let u2 = scratch x1 (word_place m ListLength) 0 (omega arith)
+        (record { shared = λ h. omega (arith, apart, h); current = λ q. omega (arith, apart, q); gate = λ q. omega (arith, apart, q); base = λ q. omega (arith, apart, q) })
+        (λ q. omega (arith, apart, q)) (λ i h q. omega (arith, apart, q)) u1 in
+        let u3 = scratch x2 (word_place m EmitCount) 0 (omega arith)
+        (record { shared = λ h. omega (arith, apart, h); current = λ q. omega (arith, apart, q); gate = λ q. omega (arith, apart, q); base = λ q. omega (arith, apart, q) })
+        (λ q. omega (arith, apart, q)) (λ i h q. omega (arith, apart, q)) u2 in
         let same : (a : ℕ) → (a ≡ word_place m ListLength → ⊥) → (a ≡ word_place m EmitCount → ⊥) → x3.fram a ≡ x1.fram a =
         λ a p q. put_other x2.fram (word_place m EmitCount) 0 a q
         ∙ put_other x1.fram (word_place m ListLength) 0 a p in
@@ -219,9 +225,9 @@ module _ {St : Type 0} (l : ProgramPlaces) (apart : AreApart l.map) (v : StateVi
         let home = laid.0 in let fixed = laid.1 in let place = laid.2 in
         let y = world_after_one (Store a w) x in
         let value : w ≡ v.word s p.home = ⊎_elim {C = w ≡ v.word s p.home} (λ f. absurd (cc (f, fixed))) (λ e. e) (o.undecided.shared p.home home) in
-        let u2 = scratch x a w (o.undecided.is_open.words p.home) (λ h. omega (arith, apart, h, place)) (λ q. omega (arith, apart, q, place))
-        (λ q. omega (arith, apart, q, place)) (λ q. omega (arith, apart, q, place)) (λ q. omega (arith, apart, q, place))
-        (λ i h q. omega (arith, apart, q, h, place)) o.undecided in
+        let u2 = scratch x a w (o.undecided.is_open.words p.home)
+        (record { shared = λ h. omega (arith, apart, h, place); current = λ q. omega (arith, apart, q, place); gate = λ q. omega (arith, apart, q, place); base = λ q. omega (arith, apart, q, place) })
+        (λ q. omega (arith, apart, q, place)) (λ i h q. omega (arith, apart, q, h, place)) o.undecided in
         let o2 : Opened y = record {
           undecided = u2;
           list_length = put_other x.fram a w (word_place m ListLength) (λ q. omega (arith, apart, q, place)) ∙ o.list_length;
@@ -274,41 +280,53 @@ module _ {St : Type 0} (l : ProgramPlaces) (apart : AreApart l.map) (v : StateVi
         }
 
   -- where a start stores: 0 to the version words, to VER, 0 to CLN and EN, and to copies
-  module _ (P : ℕ → ℕ → Type 0) (version_words : (i : ℕ) → i < l.map.versions.words → P (l.map.versions.address + 2 * i) 0)
-      (version : (w : ℕ) → w < 0x10000 → P (word_place l.map Version) w) (list_length : P (word_place l.map ListLength) 0)
-      (emit_count : P (word_place l.map EmitCount) 0)
-      (copies : (a w : ℕ) → IsCopyWord l a → P a w) where
-    cleared_so : (n j : ℕ) → j + n ≡ l.map.versions.words → EachStore P (cleared n (l.map.versions.address + 2 * j))
-    cleared_so zero j e = tt
-    cleared_so (suc n) j e =
-        let next : l.map.versions.address + 2 * suc j ≡ l.map.versions.address + 2 * j + 2 = omega arith in
-        (version_words j (omega (arith, e)), subst (λ p. EachStore P (cleared n p)) next (cleared_so n (suc j) (omega (arith, e))))
+  cleared_so : (n j : ℕ) → j + n ≡ l.map.versions.words → EachStore (IsStartStore l) (cleared n (l.map.versions.address + 2 * j))
+  cleared_so zero j e = tt
+  cleared_so (suc n) j e =
+      let next : l.map.versions.address + 2 * suc j ≡ l.map.versions.address + 2 * j + 2 = omega arith in (
+        record { from = omega (arith, apart); below = omega (arith, apart, e); list_length = λ q. refl; emit_count = λ q. refl },
+        subst (λ p. EachStore (IsStartStore l) (cleared n p)) next (cleared_so n (suc j) (omega (arith, e))),
+      )
 
-    copied_in_so : (t : ℕ) (ps : List CopyPair) (f : ℕ → ℕ) → ArePrivate l t ps → EachStore P (copied_in ps f)
-    copied_in_so t [] f h = tt
-    copied_in_so t (p ∷ ps) f h = (copies p.copy (f p.home) h.2, copied_in_so t ps (put f p.copy (f p.home)) h.4)
+  version_so : (w : ℕ) → IsStartStore l (word_place l.map Version) w
+  version_so w = record {
+    from = omega (arith, apart);
+    below = omega (arith, apart);
+    list_length = λ e. omega (arith, e);
+    emit_count = λ e. omega (arith, e);
+  }
 
-    clearing_so : (b : Bool) → EachStore P (clearing_if l.map b)
-    clearing_so true =
-        let first : l.map.versions.address + 2 * 0 ≡ l.map.versions.address = omega arith in
-        each_store-append P (cleared l.map.versions.words l.map.versions.address) (Store (word_place l.map Version) 0 ∷ [])
-        (subst (λ p. EachStore P (cleared l.map.versions.words p)) first (cleared_so l.map.versions.words 0 (omega arith))) (version 0 (omega arith), tt)
-    clearing_so false = tt
+  copied_in_so : (t : ℕ) (ps : List CopyPair) (f : ℕ → ℕ) → ArePrivate l t ps → EachStore (IsStartStore l) (copied_in ps f)
+  copied_in_so t [] f h = tt
+  copied_in_so t (p ∷ ps) f h =
+      let c = h.2 in (
+        record {
+          from = omega (arith, apart, c);
+          below = omega (arith, c);
+          list_length = λ e. omega (arith, apart, c, e);
+          emit_count = λ e. omega (arith, apart, c, e);
+        },
+        copied_in_so t ps (put f p.copy (f p.home)) h.4,
+      )
 
-    opening_so : (f : ℕ → ℕ) → EachStore P (opening_effects l.map f)
-    opening_so f =
-        let b = is_at_end l.map f in
-        let g = fram_after (clearing_if l.map b) f in
-        let raised = version ((g (word_place l.map Version) + 1) % 0x10000) (omega arith) in
-        each_store-append P (clearing_if l.map b) (counting_effects l.map g) (clearing_so b) (raised, (list_length, (emit_count, tt)))
+  clearing_so : (b : Bool) → EachStore (IsStartStore l) (clearing_if l.map b)
+  clearing_so true =
+      let first : l.map.versions.address + 2 * 0 ≡ l.map.versions.address = omega arith in
+      each_store-append (IsStartStore l) (cleared l.map.versions.words l.map.versions.address) (Store (word_place l.map Version) 0 ∷ [])
+      (subst (λ p. EachStore (IsStartStore l) (cleared l.map.versions.words p)) first (cleared_so l.map.versions.words 0 (omega arith))) (version_so 0, tt)
+  clearing_so false = tt
 
-    -- each store of a start is of this kind
-    start_stores_so : (privates : ℕ → List CopyPair) → ((t : ℕ) → ArePrivate l t (privates t)) → (f : ℕ → ℕ)
-        → EachStore P (start_effects l.map privates f)
-    start_stores_so privates laid f =
-        each_store-append P (opening_effects l.map f) _ (opening_so f)
-        (copied_in_so (f (word_place l.map CurrentTask)) (privates (f (word_place l.map CurrentTask))) (fram_after (opening_effects l.map f) f)
-        (laid (f (word_place l.map CurrentTask))))
+  opening_so : (f : ℕ → ℕ) → EachStore (IsStartStore l) (opening_effects l.map f)
+  opening_so f =
+      let b = is_at_end l.map f in
+      let g = fram_after (clearing_if l.map b) f in
+      each_store-append (IsStartStore l) (clearing_if l.map b) (counting_effects l.map g) (clearing_so b) (
+        version_so ((g (word_place l.map Version) + 1) % 0x10000),
+        (
+          record { from = omega (arith, apart); below = omega (arith, apart); list_length = λ e. refl; emit_count = λ e. refl },
+          (record { from = omega (arith, apart); below = omega (arith, apart); list_length = λ e. refl; emit_count = λ e. refl }, tt),
+        ),
+      )
 
   pub start_elsewhere : (es : List Effect) → EachStore (IsStartStore l) es → EachStore (IsElsewhere (word_place l.map CurrentTask)) es
   start_elsewhere es h = each_weaker (IsStartStore l) (IsElsewhere (word_place l.map CurrentTask)) (λ a w k e. omega (arith, apart, k, e)) es h
@@ -319,28 +337,9 @@ module _ {St : Type 0} (l : ProgramPlaces) (apart : AreApart l.map) (v : StateVi
   module _ (privates : ℕ → List CopyPair) (laid : (t : ℕ) → ArePrivate l t (privates t)) where
     start_stores : (f : ℕ → ℕ) → EachStore (IsStartStore l) (start_effects l.map privates f)
     start_stores f =
-        start_stores_so (IsStartStore l)
-        (λ i h. record {
-          from = omega (arith, apart);
-          below = omega (arith, apart, h);
-          list_length = λ e. refl;
-          emit_count = λ e. refl;
-        })
-        (λ w small. record {
-          from = omega (arith, apart);
-          below = omega (arith, apart);
-          list_length = λ e. omega (arith, e);
-          emit_count = λ e. omega (arith, e);
-        })
-        (record { from = omega (arith, apart); below = omega (arith, apart); list_length = λ e. refl; emit_count = λ e. refl })
-        (record { from = omega (arith, apart); below = omega (arith, apart); list_length = λ e. refl; emit_count = λ e. refl })
-        (λ a w c. record {
-          from = omega (arith, apart, c);
-          below = omega (arith, c);
-          list_length = λ e. omega (arith, apart, c, e);
-          emit_count = λ e. omega (arith, apart, c, e);
-        })
-        privates laid f
+        let task = f (word_place l.map CurrentTask) in
+        each_store-append (IsStartStore l) (opening_effects l.map f) _ (opening_so f)
+        (copied_in_so task (privates task) (fram_after (opening_effects l.map f) f) (laid task))
 
     start_takes : (f : ℕ → ℕ) → readings_taken (start_effects l.map privates f) ≡ []
     start_takes f =

@@ -1,5 +1,5 @@
 -- The laws of what a world stands for.
-use Rattle.std.proofs.Common.{[], ◌++◌, take, drop, sym, ap, ◌∙◌, subst, inr}
+use Rattle.std.proofs.Common.{[], ◌++◌, take, drop, refl, sym, ap, ◌∙◌, subst, inr}
 use Rattle.std.proofs.lemmas.List.{take-append-drop}
 use Rattle.crash_rules.specs.Model.{IsBetween}
 use Rattle.stands_for.specs.Program.{KeepsTheLaws, NumberedStarts, PendingCanCommit, CommitStores}
@@ -14,24 +14,26 @@ use Rattle.stands_for.proofs.Attempts.{attempts}
 pub keeps_the_laws : (St : Type 0) → KeepsTheLaws St
 keeps_the_laws St l v privates p apart room start tasks =
     record {
-      rests_undecided = λ s x r. record { is_open = r.is_open; shared = λ a h. inr (r.shared a h) };
+      rests_settled = λ s x r. record { is_open = r.is_open; shared = λ a h. inr (r.shared a h) };
       rests_words = λ s x r. r.is_open.accepted;
+      settled_undecided = λ s x u. u;
       undecided_gate = λ s x u. u.is_open.gate;
       undecided_task = λ s x u. u.is_open.is_task;
       undecided_words = λ s x u. u.is_open.accepted;
       decided_words = λ s next x d. record {
-        sent = take d.decided.accepted.count d.emits;
-        unsent = drop d.decided.accepted.count d.emits;
-        accepted_is = d.decided.accepted.is;
-        to_is = d.decided.emitted ∙ ap (λ l. v.emitted s ++ l) (sym (take-append-drop d.decided.accepted.count d.emits));
+        sent = take d.decided.sends.accepted.count d.emits;
+        unsent = drop d.decided.sends.accepted.count d.emits;
+        accepted_is = d.decided.sends.accepted.is;
+        to_is = d.decided.sends.emitted ∙ ap (λ l. v.emitted s ++ l) (sym (take-append-drop d.decided.sends.accepted.count d.emits));
       };
-      decided_commits = λ s next x d. commit_keeps l v p apart _ next x (decided_committing l apart room v s next x d)
+      decided_commits = λ s next x d inputs. commit_keeps l v p apart _ next inputs x (decided_committing l apart room v s next x d)
           (stays_decided l apart room v s next x d);
       decided_committing = decided_committing l apart room v;
       committing_gate = λ to x d. d.pending.gate;
       committing_words = λ to x d. subst (λ ws. IsBetween [] ws x.accepted)
           (sym (ap (λ y. y.accepted) (behind_commit l.map x)) ∙ d.rests.is_open.accepted) (sent_first l apart x d.pending room);
-      commits = λ to x d. commit_keeps l v p apart _ to x d (committing l v apart room to x d);
+      commits = λ to x inputs d. commit_keeps l v p apart _ to inputs x d (committing l v apart room to x d);
+      recovers = λ s x u. record { stays = record { takes_none = refl; elsewhere = tt; undecided = u }; settled = u };
       attempts = attempts l v privates p apart start tasks;
     }
 

@@ -1,6 +1,6 @@
 -- The effects of a commit one by one: what each of them keeps, the commit keeps up to its last.
-use Rattle.std.proofs.Common.{◌≡◌, ℕ, zero, suc, ◌+◌, ◌*◌, ◌%◌, ◌<◌, List, [], ◌∷◌, ◌++◌, refl, sym, ap, ◌∙◌, subst, inl, inr, arith, append_assoc}
-use Rattle.runtime_effects.specs.fram_board.Effects.{Effect, Store, Send}
+use Rattle.std.proofs.Common.{◌≡◌, ℕ, zero, suc, ◌+◌, ◌%◌, ◌<◌, List, [], ◌∷◌, ◌++◌, refl, sym, ap, ◌∙◌, subst, inl, inr, arith, append_assoc}
+use Rattle.runtime_effects.specs.fram_board.Effects.{Effect, Store, Outside, Offered}
 use Rattle.runtime_effects.specs.machine_effects.World.{World, put, world_after_one, world_after, readings_taken, EachStore}
 use Rattle.runtime_effects.proofs.machine_effects.Interface.{readings_taken-append, each_store-append}
 use Rattle.runtime_effects.specs.Places.{CopyPair, listed}
@@ -9,12 +9,9 @@ use Rattle.runtime_effects.proofs.Interface.{sends_store}
 use Rattle.crash_rules.specs.Model.{HoldsThroughout}
 use Rattle.crash_rules.proofs.Interface.{holds-append}
 use Rattle.stands_for.specs.Layout.{IsAmong}
+use Rattle.stands_for.proofs.Sends.{next_base, IsEmit, IsSending, sends_begin, next_emit, sends_on}
 use Rattle.runtime_effects.specs.memory_map.MemoryMap.{MemoryMap, word_place}
 use Rattle.runtime_effects.specs.memory_map.declared.words.RuntimeWord.TheVariants.{CurrentTask, NextTask, Gate, EmitCount, Base, SentBase}
-
--- the number behind the last word of a commit
-abbrev pub next_base : MemoryMap → (ℕ → ℕ) → ℕ
-next_base m f = (f (word_place m SentBase) + f (word_place m EmitCount)) % 0x10000
 
 -- the last stores but GATE's
 abbrev pub closed_before : MemoryMap → (ℕ → ℕ) → List Effect
@@ -57,45 +54,49 @@ commit_stores_so m P f homes cur base =
     (each_store-append P (emits_sent m f) _ (sends_store P (f (word_place m EmitCount)) (f (word_place m SentBase)) m.emits.address f)
     (cur _, (base _, tt)))
 
--- What each effect keeps. Q says it behind so many words that were sent
-module _ (m : MemoryMap) (x : World) (small : x.fram (word_place m SentBase) < 0x10000) (P : World → Type 0) (Q : ℕ → World → Type 0)
-    (so : (k : ℕ) (y : World) → Q k y → P y)
-    (copies : (y : World) (p : CopyPair) → IsAmong (listed m x.fram) p → Q 0 y → Q 0 (world_after_one (Store p.home (y.fram p.copy)) y))
-    (sent : (i n w : ℕ) (y : World) → i < x.fram (word_place m EmitCount) → n ≡ (x.fram (word_place m SentBase) + i) % 0x10000
-    → w ≡ x.fram (m.emits.address + 2 * i) → Q i y → Q (suc i) (world_after_one (Send n w) y))
-    (current : (k : ℕ) (y : World) → Q k y → Q k (world_after_one (Store (word_place m CurrentTask) (x.fram (word_place m NextTask))) y))
-    (based : (k : ℕ) (y : World) → Q k y → Q k (world_after_one (Store (word_place m Base) (next_base m x.fram)) y)) where
+-- What each of a commit's sends and last stores keeps, from FRAM as it is at the commit's start. Q says it behind so many words that were
+-- sent, and gives P
+pub record SendsKeep (m : MemoryMap) (f : ℕ → ℕ) (P : World → Type 0) (Q : ℕ → World → Type 0) : Type 0 where
+  pub gives : (k : ℕ) (y : World) → Q k y → P y
+  pub small : f (word_place m SentBase) < 0x10000
+  pub sent : (i n w : ℕ) (y : World) → IsEmit m f i n w → Q i y → Q (suc i) (world_after_one (Outside (Offered n w)) y)
+  pub current : (k : ℕ) (y : World) → Q k y → Q k (world_after_one (Store (word_place m CurrentTask) (f (word_place m NextTask))) y)
+  pub based : (k : ℕ) (y : World) → Q k y → Q k (world_after_one (Store (word_place m Base) (next_base m f)) y)
+
+module _ (m : MemoryMap) (f : ℕ → ℕ) (P : World → Type 0) (Q : ℕ → World → Type 0) (keep : SendsKeep m f P Q) where
+  sends_through : (n i number place : ℕ) (y : World) → IsSending m f n i number place → Q i y
+      → HoldsThroughout P (sends n number place f) y × Q (f (word_place m EmitCount)) (world_after (sends n number place f) y)
+  sends_through zero i number place y h d = let e = h.count in (keep.gives i y d, subst (λ j. Q j y) (omega (arith, e)) d)
+  sends_through (suc n) i number place y h d =
+      let r = sends_through n (suc i) ((number + 1) % 0x10000) (place + 2) (world_after_one (Outside (Offered number (f place))) y)
+      (sends_on m f n i number place h) (keep.sent i number (f place) y (next_emit m f n i number place h) d) in
+      ((keep.gives i y d, r.0), r.1)
+
+  -- all sends, and the last stores but GATE's
+  pub closes_through : (y : World) → Q 0 y → HoldsThroughout P (emits_sent m f ++ closed_before m f) y
+  closes_through y d =
+      let n = f (word_place m EmitCount) in
+      let b = emits_sent m f in
+      let two = sends_through n 0 (f (word_place m SentBase)) m.emits.address y (sends_begin m f keep.small) d in
+      let y2 = world_after b y in
+      let y3 = world_after_one (Store (word_place m CurrentTask) (f (word_place m NextTask))) y2 in
+      let y4 = world_after_one (Store (word_place m Base) (next_base m f)) y3 in
+      let d3 = keep.current n y2 two.1 in
+      let d4 = keep.based n y3 d3 in
+      holds-append P b (closed_before m f) y two.0 (keep.gives n y2 two.1, (keep.gives n y3 d3, keep.gives n y4 d4))
+
+-- a commit, where each copy home keeps it too
+module _ (m : MemoryMap) (x : World) (P : World → Type 0) (Q : ℕ → World → Type 0) (keep : SendsKeep m x.fram P Q)
+    (copies : (y : World) (p : CopyPair) → IsAmong (listed m x.fram) p → Q 0 y → Q 0 (world_after_one (Store p.home (y.fram p.copy)) y)) where
   copies_through : (qs : List CopyPair) (y : World) → ((q : CopyPair) → IsAmong qs q → IsAmong (listed m x.fram) q) → Q 0 y
       → HoldsThroughout P (copied_home qs y.fram) y × Q 0 (world_after (copied_home qs y.fram) y)
-  copies_through [] y h d = (so 0 y d, d)
+  copies_through [] y h d = (keep.gives 0 y d, d)
   copies_through (q ∷ qs) y h d =
       let r = copies_through qs (world_after_one (Store q.home (y.fram q.copy)) y) (λ p a. h p (inr a)) (copies y q (h q (inl refl)) d) in
-      ((so 0 y d, r.0), r.1)
-
-  sends_through : (n i k p : ℕ) (y : World) → i + n ≡ x.fram (word_place m EmitCount) → k ≡ (x.fram (word_place m SentBase) + i) % 0x10000
-      → p ≡ m.emits.address + 2 * i → Q i y
-      → HoldsThroughout P (sends n k p x.fram) y × Q (x.fram (word_place m EmitCount)) (world_after (sends n k p x.fram) y)
-  sends_through zero i k p y e ek ep d = (so i y d, subst (λ j. Q j y) (omega (arith, e)) d)
-  sends_through (suc n) i k p y e ek ep d =
-      let w = x.fram p in
-      let d2 = sent i k w y (omega (arith, e)) ek (ap x.fram ep) d in
-      let r = sends_through n (suc i) ((k + 1) % 0x10000) (p + 2) (world_after_one (Send k w) y) (omega (arith, e)) (omega (arith, ek)) (omega (arith, ep))
-      d2 in
-      ((so i y d, r.0), r.1)
+      ((keep.gives 0 y d, r.0), r.1)
 
   pub through : Q 0 x → HoldsThroughout P (commit_before m x.fram) x
   through d =
-      let f = x.fram in
-      let n = f (word_place m EmitCount) in
-      let a = copied_home (listed m f) f in let b = emits_sent m f in
-      let y1 = world_after a x in
-      let one = copies_through (listed m f) x (λ q h. h) d in
-      let number : f (word_place m SentBase) ≡ (f (word_place m SentBase) + 0) % 0x10000 = omega (arith, small) in
-      let place : m.emits.address ≡ m.emits.address + 2 * 0 = omega arith in
-      let two = sends_through n 0 (f (word_place m SentBase)) m.emits.address y1 (omega arith) number place one.1 in
-      let y2 = world_after b y1 in
-      let y3 = world_after_one (Store (word_place m CurrentTask) (f (word_place m NextTask))) y2 in
-      let d3 = current n y2 two.1 in
-      let d4 = based n y3 d3 in
-      holds-append P a (b ++ closed_before m f) x one.0
-      (holds-append P b (closed_before m f) y1 two.0 (so n y2 two.1, (so n y3 d3, so n (world_after_one (Store (word_place m Base) (next_base m f)) y3) d4)))
+      let a = copied_home (listed m x.fram) x.fram in
+      let one = copies_through (listed m x.fram) x (λ q h. h) d in
+      holds-append P a (emits_sent m x.fram ++ closed_before m x.fram) x one.0 (closes_through m x.fram P Q keep (world_after a x) one.1)

@@ -1,5 +1,5 @@
 -- A compiled program as the crash theorem takes it, and what its start and its tasks owe.
-use Rattle.std.specs.Prelude.{◌≡◌, ℕ, ◌<◌, ◌≤◌, List, [], ◌++◌, All}
+use Rattle.std.specs.Prelude.{◌≡◌, ℕ, ◌<◌, ◌≤◌, List, []}
 use Rattle.runtime_effects.specs.memory_map.MemoryMap.{word_place}
 use Rattle.runtime_effects.specs.memory_map.Places.{end_of}
 use Rattle.runtime_effects.specs.memory_map.declared.words.RuntimeWord.TheVariants.{CurrentTask, Gate, ListLength, EmitCount}
@@ -8,27 +8,23 @@ use Rattle.runtime_effects.specs.machine_effects.World.{World, world_after, fram
 use Rattle.runtime_effects.specs.Places.{CopyPair}
 use Rattle.runtime_effects.specs.Stages.{commit_effects, start_effects}
 use Rattle.runtime_effects.specs.Needs.{CanCommit}
-use Rattle.crash_rules.specs.Model.{Outcome, ProgramEffects, program_effects, HoldsThroughout, IsWord, Model, ModelLaws, AttemptContract}
+use Rattle.crash_rules.specs.Model.{Outcome, ProgramEffects, behind_effects, HoldsThroughout, Inputs, InputsAreWords, Model, ModelLaws, AttemptContract}
 use Rattle.runtime_effects.specs.memory_map.Laws.{AreApart}
 use Rattle.stands_for.specs.Layout.{ProgramPlaces, StateView, HaveRoom, ArePrivate}
 use Rattle.stands_for.specs.StandsFor.{RestsAt, UndecidedAt, DecidedFrom, IsPendingCommit, CommittingTo, StartedAt}
 
--- effects in front of a program's
-abbrev pub behind_start : List Effect → ProgramEffects → ProgramEffects
-behind_start es p = program_effects (es ++ p.effects) p.ends
-
--- a start, from FRAM, and a task by its number, from FRAM and readings
+-- a start, from FRAM, and a task by its number, from FRAM and inputs
 pub record ProgramParts (St : Type 0) : Type 0 where
-  pub task : St → List ℕ → Outcome St  -- the source: a whole task from a state on
+  pub task : St → Inputs → Outcome St  -- the source: a whole task from a state on
   pub cost : ℕ → ℕ  -- of each task the cycles of a boot, an attempt and its commit
   pub start : (ℕ → ℕ) → List Effect
-  pub body : ℕ → (ℕ → ℕ) → List ℕ → ProgramEffects
+  pub body : ℕ → (ℕ → ℕ) → Inputs → ProgramEffects
 
 -- an attempt: the start, then the task that CUR names
-abbrev pub attempt_effects : {St : Type 0} → ProgramPlaces → ProgramParts St → (ℕ → ℕ) → List ℕ → ProgramEffects
-attempt_effects l p f readings = behind_start (p.start f) (p.body (f (word_place l.map CurrentTask)) (fram_after (p.start f) f) readings)
+abbrev pub attempt_effects : {St : Type 0} → ProgramPlaces → ProgramParts St → (ℕ → ℕ) → Inputs → ProgramEffects
+attempt_effects l p f inputs = behind_effects (p.start f) (p.body (f (word_place l.map CurrentTask)) (fram_after (p.start f) f) inputs)
 
--- the source with its layout and its runtime
+-- the source with its layout and its runtime: a commit takes no inputs, and a boot has nothing to recover
 abbrev pub program_model : {St : Type 0} → ProgramPlaces → StateView St → ProgramParts St → Model St
 program_model l v p = record {
   task = p.task;
@@ -36,11 +32,14 @@ program_model l v p = record {
   emitted = v.emitted;
   tasks = l.tasks;
   task_cost = p.cost;
-  gate = word_place l.map Gate;
-  commit = commit_effects l.map;
+  delay = λ inputs. 0;
+  marks = record { gate = word_place l.map Gate };
+  commit = λ f inputs. commit_effects l.map f;
+  recover = λ f. [];
   attempt = attempt_effects l p;
   Rests = RestsAt l v;
   Undecided = UndecidedAt l v;
+  Settled = UndecidedAt l v;
   Decided = DecidedFrom l v;
   Committing = CommittingTo l v;
 }
@@ -63,8 +62,8 @@ pub record StartContract {St : Type 0} (l : ProgramPlaces) (v : StateView St) (p
 
 -- what the tasks owe: from a started attempt on they decide, or are short exactly where the source is
 abbrev pub TasksContract : {St : Type 0} → ProgramPlaces → StateView St → (ℕ → List CopyPair) → ProgramParts St → Type 0
-TasksContract {St} l v privates p = (s : St) (x : World) (readings : List ℕ) → All IsWord readings → StartedAt l v s (privates (v.task s)) x
-    → AttemptContract (program_model l v p) s readings x (p.task s readings) (p.body (v.task s) x.fram readings)
+TasksContract {St} l v privates p = (s : St) (x : World) (inputs : Inputs) → InputsAreWords inputs → StartedAt l v s (privates (v.task s)) x
+    → AttemptContract (program_model l v p) s inputs x (p.task s inputs) (p.body (v.task s) x.fram inputs)
 
 -- from a start and from tasks that keep their contracts, all that the crash theorem needs
 abbrev pub KeepsTheLaws : (St : Type 0) → Type 0

@@ -51,9 +51,9 @@ pub record AcceptedFrom {St : Type 0} (v : StateView St) (s : St) (emits : List 
   pub at_most : count ≤ length emits
   pub is : x.accepted ≡ v.emitted s ++ take count emits
 
--- it is decided from s to the next state, with these words to copy and to send, of which at least so many are accepted
-pub record DecidedWith {St : Type 0} (l : ProgramPlaces) (v : StateView St) (s next : St) (pairs : List CopyPair) (emits : List ℕ) (least : ℕ)
-    (x : World) : Type 0 where
+-- a transition from s to the next state is decided, with these words to send, of which at least so many are accepted: NEXT is the next
+-- state's task, CUR that of one of the two, the words to send are numbered from SB on, and BASE is SB, or SB + EN
+pub record SendsAndCloses {St : Type 0} (l : ProgramPlaces) (v : StateView St) (s next : St) (emits : List ℕ) (least : ℕ) (x : World) : Type 0 where
   pub is_state : v.is_state s ≡ true
   pub next_is_state : v.is_state next ≡ true
   pub is_task : v.task s < l.tasks
@@ -61,15 +61,6 @@ pub record DecidedWith {St : Type 0} (l : ProgramPlaces) (v : StateView St) (s n
   pub words : HoldsWords x.fram
   pub gate : x.fram (word_place l.map Gate) ≡ 1
   pub next_task : x.fram (word_place l.map NextTask) ≡ v.task next
-  pub pairs_listed : listed l.map x.fram ≡ pairs
-  pub entries : EntriesHaveWords l x.fram
-  pub within_list : x.fram (word_place l.map ListLength) ≤ l.list_capacity (v.task s)
-  pub within_words : length pairs ≤ l.list_capacity (v.task s)
-  pub homes : (p : CopyPair) → IsAmong pairs p → IsSharedWord l p.home
-  pub copies : (p : CopyPair) → IsAmong pairs p → IsCopyWord l p.copy
-  pub copied : (p : CopyPair) → IsAmong pairs p → x.fram p.copy ≡ v.word next p.home
-  pub either : (p : CopyPair) → IsAmong pairs p → (x.fram p.home ≡ v.word s p.home) ⊎ (x.fram p.home ≡ v.word next p.home)
-  pub others : (a : ℕ) → IsSharedWord l a → ((p : CopyPair) → IsAmong pairs p → p.home ≡ a → ⊥) → x.fram a ≡ v.word next a
   pub current_task : (x.fram (word_place l.map CurrentTask) ≡ v.task s) ⊎ (x.fram (word_place l.map CurrentTask) ≡ v.task next)
   pub emitted : v.emitted next ≡ v.emitted s ++ emits
   pub emit_count : x.fram (word_place l.map EmitCount) ≡ length emits
@@ -80,6 +71,25 @@ pub record DecidedWith {St : Type 0} (l : ProgramPlaces) (v : StateView St) (s n
       ⊎ (x.fram (word_place l.map Base) ≡ (x.fram (word_place l.map SentBase) + x.fram (word_place l.map EmitCount)) % 0x10000)
   pub accepted : AcceptedFrom v s emits least x
   pub versions : VersionsWithin l x.fram
+
+-- these words are to be copied home: the list names them, each copy is the next state's word, and each home this or still that of s; every
+-- other shared word is the next state's
+pub record CopiesHome {St : Type 0} (l : ProgramPlaces) (v : StateView St) (s next : St) (pairs : List CopyPair) (x : World) : Type 0 where
+  pub pairs_listed : listed l.map x.fram ≡ pairs
+  pub entries : EntriesHaveWords l x.fram
+  pub within_list : x.fram (word_place l.map ListLength) ≤ l.list_capacity (v.task s)
+  pub within_words : length pairs ≤ l.list_capacity (v.task s)
+  pub homes : (p : CopyPair) → IsAmong pairs p → IsSharedWord l p.home
+  pub copies : (p : CopyPair) → IsAmong pairs p → IsCopyWord l p.copy
+  pub copied : (p : CopyPair) → IsAmong pairs p → x.fram p.copy ≡ v.word next p.home
+  pub either : (p : CopyPair) → IsAmong pairs p → (x.fram p.home ≡ v.word s p.home) ⊎ (x.fram p.home ≡ v.word next p.home)
+  pub others : (a : ℕ) → IsSharedWord l a → ((p : CopyPair) → IsAmong pairs p → p.home ≡ a → ⊥) → x.fram a ≡ v.word next a
+
+-- it is decided from s to the next state, with these words to copy and to send, of which at least so many are accepted
+pub record DecidedWith {St : Type 0} (l : ProgramPlaces) (v : StateView St) (s next : St) (pairs : List CopyPair) (emits : List ℕ) (least : ℕ)
+    (x : World) : Type 0 where
+  pub sends : SendsAndCloses l v s next emits least x
+  pub home : CopiesHome l v s next pairs x
 
 -- it is decided from s to the next state: with the words that the commit list names, and those that the next state has emitted beyond s
 pub record DecidedFrom {St : Type 0} (l : ProgramPlaces) (v : StateView St) (s next : St) (x : World) : Type 0 where

@@ -1,10 +1,10 @@
 -- The program of a task decides, or is short exactly where the task is, and stores before the code.
-use Rattle.std.proofs.Common.{◌≡◌, ℕ, suc, ◌<◌, ◌≤◌, List, [], ◌∷◌, ◌++◌, length, true, false, refl, sym, ap, ◌∙◌, subst, arith, All, append-nil}
-use Rattle.std.specs.List.{AllByRecursion}
+use Rattle.std.proofs.Common.{◌≡◌, ℕ, ◌≤◌, List, [], ◌∷◌, ◌++◌, length, true, false, refl, sym, ap, ◌∙◌, subst, arith, append-nil}
 use Rattle.std.proofs.lemmas.List.{append_cancel_right}
 use Rattle.std.proofs.lemmas.Option.{get_or_from_slice_get}
 use Rattle.layout_facts.specs.fram_board.Effects.{Effect, Store}
 use Rattle.layout_facts.specs.machine_effects.World.{readings_taken, EachStore}
+use Rattle.layout_facts.specs.machine_effects.Inputs.{InputsAreWords, inputs_taken, no_inputs}
 use Rattle.layout_facts.proofs.machine_effects.Interface.{readings_taken-append, each_store-append}
 use Rattle.layout_facts.specs.cost_bound.Counts.{emits_of, stores_of}
 use Rattle.layout_facts.specs.lower.Seen.{some_path_writes}
@@ -15,30 +15,25 @@ use Rattle.layout_facts.specs.array_versions.Program.{Program}
 use Rattle.layout_facts.specs.array_versions.Behaviour.{WordState, End, GoesOn, Jumps, Short as Starves, Broken, behaviour, started}
 use Rattle.layout_facts.specs.array_versions.Laws.{EndsByEffects, IsSound}
 use Rattle.layout_facts.proofs.array_versions.Interface.{behaves_by_effects, whole_ends_soundly, StoresWords, stores_words}
-use Rattle.layout_facts.specs.crash_rules.Model.{Ends, program_effects, IsWord, IsElsewhere, Model, AttemptContract, Decides, RunsShort}
+use Rattle.layout_facts.specs.crash_rules.Model.{Ends, program_effects, IsElsewhere, Model, AttemptContract, Decides, RunsShort}
 use Rattle.layout_facts.specs.lower.Agreement.{TakesAndStores, EndsAs, BlocksAgree}
 use Rattle.layout_facts.specs.lower.Lowered.{lowered_block}
 use Rattle.layout_facts.specs.compiled_model.Parts.{task_program, outcome_of, whole_task, has_jumped, effects_of, program_parts, compiled_model}
 use Rattle.layout_facts.specs.compiled_model.Needs.{LeavesFor}
 use Rattle.task_attempts.specs.Laws.{IsBelowCode}
 use Rattle.task_attempts.proofs.Rows.{HasRows, block_rows}
-use Rattle.layout_facts.proofs.source_meaning.Interface.{emits_same}
+use Rattle.source_meaning.proofs.Interface.{emits_same}
 use Rattle.task_attempts.proofs.Quiet.{stores_each, stores_as, quiet_through}
 use Rattle.task_attempts.proofs.Tasks.{body_is, program_is}
 use Rattle.task_attempts.proofs.Stores.{Safe, StoresOf, task_safe, emits_fit}
 use Rattle.task_attempts.proofs.Starts.{held_attempt, held_runs, attempt_stands}
 use Rattle.task_attempts.proofs.Started.{Started, scene}
-use Rattle.task_attempts.proofs.Decided.{bounds, Transition, before, effects_are, safe_before, quiet_before, quiet_start, quiet_of, next, decided}
+use Rattle.task_attempts.proofs.Decided.{setting, bounds, Transition, before, effects_are, safe_before, quiet_before, quiet_start, quiet_of, next, decided}
 use Rattle.layout_facts.specs.memory_map.declared.words.RuntimeWord.TheVariants.{Gate}
 use Rattle.layout_facts.specs.memory_map.MemoryMap.{word_place}
 
--- the readings are words
-words_of : (rs : List ℕ) → All IsWord rs → AllByRecursion (λ v. v < 0x10000) rs
-words_of [] h = tt
-words_of (r ∷ rs) h = (h 0 r (omega arith), words_of rs (λ k d b. h (suc k) d (omega (arith, b))))
-
 module _ (run : Started) where
-  open run use {program as p, map as l, given, state as s, is_task, task as i, world as x, readings, start as st}
+  open run use {program as p, map as l, given, state as s, is_task, task as i, world as x, inputs, start as st}
   open (scene run) use {here, code, space, facts, sites, view, ver}
 
   abbrev model : Model State
@@ -47,12 +42,12 @@ module _ (run : Started) where
   -- what is known of a behaviour's effects and end, and of the source's outcome
   record Meets (es : List Effect) (e : End) (o : Outcome) : Type 0 where
     agrees : EndsAs here (bounds run) [] es e o
-    by_effects : EndsByEffects (started x.fram readings) es e
+    by_effects : EndsByEffects (started x.fram inputs) es e
     sound : IsSound e
     of_words : StoresWords es
     well : EndsWell (length p.tasks) o
     rows : HasRows (length s.shared) o
-    source : completion_of (attempt_of p s.task s.shared readings) ≡ completion_of o
+    source : completion_of (attempt_of p s.task s.shared inputs.readings) ≡ completion_of o
 
   off_gate : (es : List Effect) → TakesAndStores (Safe run) es → EachStore (IsElsewhere (word_place l Gate)) es
   off_gate es h = stores_each (Safe run) (IsElsewhere (word_place l Gate)) (λ a w q e. q.quiet.gate e) es h
@@ -95,24 +90,24 @@ module _ (run : Started) where
     taken =
         ap readings_taken (effects_are run t) ∙ readings_taken-append front (Store (word_place l Gate) 1 ∷ []) ∙ append-nil (readings_taken front)
 
-    reads : readings_taken front ++ m.left ≡ readings
-    reads = ap (λ r. r ++ m.left) (sym taken) ∙ ap (λ r. readings_taken es ++ r) (sym h.agrees.readings) ∙ h.by_effects.1
+    reads : readings_taken front ++ m.left ≡ inputs.readings
+    reads = ap (λ r. r ++ m.left) (sym taken) ∙ ap (λ r. readings_taken es ++ r) (sym h.agrees.readings) ∙ h.by_effects.1.readings
 
     abbrev completion : Completion
     completion = record { next = task; shared = m.variables.shared; emitted = m.emitted; left = m.left }
 
-    exact : whole_task p s (readings_taken front) ≡ Ends (next run t) []
+    exact : whole_task p s (inputs_taken front) ≡ Ends (next run t) no_inputs
     exact =
-        let r = readings_left_over_lem p s.task s.shared readings completion h.source in
+        let r = readings_left_over_lem p s.task s.shared inputs.readings completion h.source in
         let used : r.0 ≡ readings_taken front = append_cancel_right r.0 (readings_taken front) m.left (sym r.1 ∙ sym reads) in
-        ap (whole_task p s) (sym used ∙ sym (append-nil r.0)) ∙ ap (outcome_of s) (r.2 [])
+        ap (λ taken. whole_task p s (record { readings = taken })) (sym used ∙ sym (append-nil r.0)) ∙ ap (outcome_of s) (r.2 [])
 
-    decides : Decides model s (next run t) m.left readings x (program_effects es true)
+    decides : Decides model s (next run t) (record { readings = m.left }) inputs x (program_effects es true)
     decides = record {
       before = front;
       is = ap (λ e. program_effects e true) (effects_are run t);
       elsewhere = off_gate front (safe_before run t);
-      reads = reads;
+      reads = record { readings = reads };
       undecided = quiet_through sites view s ver front x (quiet_before run t) (quiet_start run);
       decided = decided run t;
       exact = exact;
@@ -136,7 +131,7 @@ module _ (run : Started) where
 
   -- ---- each end
 
-  keeps : (es : List Effect) (e : End) (o : Outcome) → Meets es e o → AttemptContract model s readings x (outcome_of s (completion_of o))
+  keeps : (es : List Effect) (e : End) (o : Outcome) → Meets es e o → AttemptContract model s inputs x (outcome_of s (completion_of o))
       (program_effects es (has_jumped e))
   keeps es (GoesOn t) o h = absurd h.sound
   keeps es Broken o h = absurd h.sound
@@ -164,7 +159,7 @@ module _ (run : Started) where
   program = lowered_block here code
 
   abbrev attempt : Attempt
-  attempt = fresh_attempt s.shared readings
+  attempt = fresh_attempt s.shared inputs.readings
 
   few_emits : block_emits code ≤ emits_of code
   few_emits = let e = emits_same code in omega (arith, e)
@@ -174,43 +169,42 @@ module _ (run : Started) where
       subst (TransitionComes (length p.tasks)) (get_or_from_slice_get p.tasks s.task i.task i.task i.task_is)
       (given.runnable.transition_comes s.task i.task is_task) attempt
 
-  meets : BlocksAgree → All IsWord readings → Meets (behaviour program (started x.fram readings)).effects (behaviour program (started x.fram readings)).end
+  meets : BlocksAgree → InputsAreWords inputs → Meets (behaviour program (started x.fram inputs)).effects (behaviour program (started x.fram inputs)).end
       (run_block code attempt)
   meets agree small =
-      let w = started x.fram readings in
+      let w = started x.fram inputs in
       let b = behaviour program w in
       record {
         -- the program agrees with the attempt from what FRAM has, which comes to what the source's attempt comes to
         agrees = subst (EndsAs here (bounds run) [] b.effects b.end) (held_runs run)
-            (agree here (some_path_writes code) space (λ v. stores_of v code) code (held_attempt run) [] w
-            facts.apart facts.even facts.has_room facts.fits (attempt_stands run)
+            (agree (setting run) code (held_attempt run) [] w refl facts.formed (λ v h. h) (attempt_stands run)
             (let f = few_emits in omega (arith, f)) (λ v. omega arith));
         by_effects = behaves_by_effects program w;
-        sound = whole_ends_soundly program x.fram readings facts.whole;
+        sound = whole_ends_soundly program x.fram inputs facts.whole;
         of_words = stores_words program w facts.of_words
-            (record { stack = tt; locals = λ n v e. cc e; fram = st.undecided.is_open.words; readings = words_of readings small });
+            (record { stack = tt; locals = λ n v e. cc e; fram = st.undecided.is_open.words; inputs = small });
         well = ends_well;
         rows = block_rows code attempt (length s.shared) refl;
         source = ap (λ b. completion_of (run_block b attempt)) (body_is p l given s.task i);
       }
 
-  pub program_keeps : BlocksAgree → All IsWord readings
-      → AttemptContract model s readings x (whole_task p s readings) ((program_parts p l).body s.task x.fram readings)
+  pub program_keeps : BlocksAgree → InputsAreWords inputs
+      → AttemptContract model s inputs x (whole_task p s inputs) ((program_parts p l).body s.task x.fram inputs)
   program_keeps agree small =
-      let b = behaviour program (started x.fram readings) in
+      let b = behaviour program (started x.fram inputs) in
       let k = keeps b.effects b.end (run_block code attempt) (meets agree small) in
-      subst (λ q. AttemptContract model s readings x (whole_task p s readings) (effects_of (behaviour q (started x.fram readings))))
+      subst (λ q. AttemptContract model s inputs x (whole_task p s inputs) (effects_of (behaviour q (started x.fram inputs))))
       (sym (program_is p l given s.task i))
-      (subst (λ c. AttemptContract model s readings x (outcome_of s (completion_of (run_block c attempt))) (effects_of b)) (sym (body_is p l given s.task i)) k)
+      (subst (λ c. AttemptContract model s inputs x (outcome_of s (completion_of (run_block c attempt))) (effects_of b)) (sym (body_is p l given s.task i)) k)
 
-  pub program_stores : BlocksAgree → All IsWord readings → EachStore (IsBelowCode l) ((program_parts p l).body s.task x.fram readings).effects
+  pub program_stores : BlocksAgree → InputsAreWords inputs → EachStore (IsBelowCode l) ((program_parts p l).body s.task x.fram inputs).effects
   program_stores agree small =
-      let b = behaviour program (started x.fram readings) in
-      subst (λ q. EachStore (IsBelowCode l) (behaviour q (started x.fram readings)).effects) (sym (program_is p l given s.task i))
+      let b = behaviour program (started x.fram inputs) in
+      subst (λ q. EachStore (IsBelowCode l) (behaviour q (started x.fram inputs)).effects) (sym (program_is p l given s.task i))
       (stores_before_code b.effects b.end (run_block code attempt) (meets agree small))
 
-  pub program_leaves : BlocksAgree → All IsWord readings → LeavesFor l.commit.address (behaviour (task_program p l s.task) (started x.fram readings)).end
+  pub program_leaves : BlocksAgree → InputsAreWords inputs → LeavesFor l.commit.address (behaviour (task_program p l s.task) (started x.fram inputs)).end
   program_leaves agree small =
-      let b = behaviour program (started x.fram readings) in
-      subst (λ q. LeavesFor l.commit.address (behaviour q (started x.fram readings)).end) (sym (program_is p l given s.task i))
+      let b = behaviour program (started x.fram inputs) in
+      subst (λ q. LeavesFor l.commit.address (behaviour q (started x.fram inputs)).end) (sym (program_is p l given s.task i))
       (leaves b.effects b.end (run_block code attempt) (meets agree small))

@@ -13,7 +13,7 @@ use Rattle.layout_facts.proofs.machine_effects.Interface.{fram_after-append, wor
 use Rattle.layout_facts.proofs.crash_rules.Interface.{world_fram}
 use Rattle.layout_facts.specs.task_ast.declared.SharedDeclaration.{SharedDeclaration}
 use Rattle.layout_facts.specs.task_ast.declared.names.Variable.TheVariants.{Shared}
-use Rattle.layout_facts.specs.cost_bound.Counts.{emits_of}
+use Rattle.layout_facts.specs.cost_bound.Counts.{emits_of, stores_of}
 use Rattle.layout_facts.specs.cost_bound.Allowance.{is_written, list_of}
 use Rattle.layout_facts.proofs.war_analysis.Interface.{element as item_at}
 use Rattle.layout_facts.specs.source_values.Values.{word_at}
@@ -26,9 +26,11 @@ use Rattle.layout_facts.specs.lower.Seen.{some_path_writes}
 use Rattle.layout_facts.proofs.lower.Interface.{takes_append, few_entries, runs_are_few, scalar_seen, array_seen, array_read}
 use Rattle.layout_facts.specs.lower.Runs.{runs_of}
 use Rattle.layout_facts.specs.stands_for.Layout.{IsAmong, IsSharedWord, IsCopyWord}
-use Rattle.layout_facts.specs.stands_for.StandsFor.{EntriesHaveWords, DecidedWith, DecidedFrom}
+use Rattle.layout_facts.specs.stands_for.StandsFor.{EntriesHaveWords, SendsAndCloses, CopiesHome, DecidedFrom}
 use Rattle.layout_facts.proofs.stands_for.Interface.{put_words}
-use Rattle.layout_facts.specs.lower.Agreement.{TakesAndStores, transition_effects, element_pair, Bounds, bounds_of, Left, place_length}
+use Rattle.layout_facts.specs.lower.Agreement.{TakesAndStores, transition_effects, element_pair, Bounds, Left, place_length}
+use Rattle.layout_facts.specs.lower.Agreement as agreement
+use Rattle.layout_facts.specs.lower.Spots.{listed_of}
 use Rattle.layout_facts.specs.compiled_model.Places.{stays_in_place}
 use Rattle.layout_facts.specs.compiled_model.View.{are_rows}
 use Rattle.layout_facts.proofs.memory_map.Interface.{scalar_home, privates_few}
@@ -55,12 +57,28 @@ use Rattle.layout_facts.specs.memory_map.Spots.{scalar_address, private_words, I
 use Rattle.layout_facts.specs.memory_map.Spots.{element, copy, spot_address, element_address, copy_address, IsWordOf}
 
 module _ (run : Started) where
-  open run use {program as p, map as l, given, state as s, is_task, task as i, world as x, readings, start as st}
+  open run use {program as p, map as l, given, state as s, is_task, task as i, world as x, inputs, start as st}
   open (scene run) use {here, code, space, facts, sites, view, ver}
+
+  -- what its statements stand in
+  abbrev pub setting : agreement.Scene
+  setting = record {
+    shared = p.shared;
+    p = here;
+    written = some_path_writes code;
+    room = space;
+    stores = λ v. stores_of v code;
+    ver = x.fram (word_place here.map Version);
+    apart = facts.apart;
+    even = facts.even;
+    has_room = facts.has_room;
+    declared = facts.declared;
+    copied = facts.copied;
+  }
 
   -- the bounds of the task's statements
   abbrev pub bounds : Bounds
-  bounds = bounds_of here (some_path_writes code) space code [] (started x.fram readings)
+  bounds = agreement.bounds setting x.fram (λ v. listed_of v [] + stores_of v code)
 
   pub quiet_start : IsQuietAt sites view s ver x
   quiet_start = record { undecided = st.undecided; version = refl }
@@ -470,8 +488,8 @@ module _ (run : Started) where
         let same : l.emits.address + 2 * n ≡ 2 * n + l.emits.address = omega arith in
         z_there (l.emits.address + 2 * n) (high_stays (l.emits.address + 2 * n) (omega arith)) ∙ ap left.there.fram same ∙ left.stands.emitted.emits n h
 
-    pub decided_with : DecidedWith sites view s next (listed sites.map z.fram) m.emitted 0 z
-    decided_with =
+    sends_and_closes : SendsAndCloses sites view s next m.emitted 0 z
+    sends_and_closes =
         let o = u.undecided.is_open in
         let apart = given.apart in
         let few_tasks = given.runnable.few_tasks in
@@ -483,17 +501,6 @@ module _ (run : Started) where
           words = put_words y.fram (word_place l Gate) 1 o.words (omega arith);
           gate = put_same y.fram (word_place l Gate) 1;
           next_task = let e = next_is in omega (arith, e, next_task, few_tasks);
-          pairs_listed = refl;
-          entries = entries_have_words;
-          within_list = subst (λ b. z.fram (word_place l ListLength) ≤ list_of p.shared b) (sym (body_is p l given s.task i))
-              (let e = z_count in let f = few in omega (arith, e, f));
-          within_words = subst (λ b. length (listed sites.map z.fram) ≤ list_of p.shared b) (sym (body_is p l given s.task i))
-              (let e = list_words in let f = few_words in omega (arith, e, f));
-          homes = λ q h. is_home q (pair_of_list q h);
-          copies = λ q h. is_copy q (pair_of_list q h);
-          copied = λ q h. is_copied q (pair_of_list q h);
-          either = λ q h. inl (home_is q.home (is_home q (pair_of_list q h)) (pair_not_in_place q (pair_of_list q h)));
-          others = others_kept;
           current_task = inl (z_before (word_place l CurrentTask) (λ e. omega (arith, apart, e)) ∙ o.current_task);
           emitted = refl;
           emit_count = emit_count_is;
@@ -509,5 +516,21 @@ module _ (run : Started) where
               omega (arith, most, a, b);
         }
 
+    copies_home : CopiesHome sites view s next (listed sites.map z.fram) z
+    copies_home =
+        record {
+          pairs_listed = refl;
+          entries = entries_have_words;
+          within_list = subst (λ b. z.fram (word_place l ListLength) ≤ list_of p.shared b) (sym (body_is p l given s.task i))
+              (let e = z_count in let f = few in omega (arith, e, f));
+          within_words = subst (λ b. length (listed sites.map z.fram) ≤ list_of p.shared b) (sym (body_is p l given s.task i))
+              (let e = list_words in let f = few_words in omega (arith, e, f));
+          homes = λ q h. is_home q (pair_of_list q h);
+          copies = λ q h. is_copy q (pair_of_list q h);
+          copied = λ q h. is_copied q (pair_of_list q h);
+          either = λ q h. inl (home_is q.home (is_home q (pair_of_list q h)) (pair_not_in_place q (pair_of_list q h)));
+          others = others_kept;
+        }
+
     pub decided : DecidedFrom sites view s next z
-    decided = record { emits = m.emitted; decided = decided_with }
+    decided = record { emits = m.emitted; decided = record { sends = sends_and_closes; home = copies_home } }

@@ -26,18 +26,19 @@ use Rattle.layout_facts.specs.memory_map.Spots.{places_of, address_of, Element, 
 use Rattle.layout_facts.specs.lower.Spots.{AreApart, AreEven, HasRoom}
 use Rattle.layout_facts.specs.lower.Seen.{some_path_writes, map_seen}
 use Rattle.layout_facts.specs.lower.Lowered.{lowered_task}
-use Rattle.layout_facts.specs.lower.Agreement.{place_length, BlockFits}
+use Rattle.layout_facts.specs.lower.Agreement.{place_length, AsDeclared, HasCopies}
 use Rattle.layout_facts.specs.compiled_model.Places.{is_private_in, program_places}
 use Rattle.layout_facts.specs.compiled_model.View.{shared_word, are_rows}
 use Rattle.layout_facts.specs.Facts.{HasLayout, IsTaskAt, task_room, task_places}
 use Rattle.task_attempts.proofs.Held.{scalar_block}
 use Rattle.layout_facts.proofs.Interface.{each_is_one_word, scalar_declared, places_are_declared, addresses_are, tasks_match, places_are_apart, tasks_have_room}
-use Rattle.layout_facts.proofs.Interface.{names_fit}
+use Rattle.layout_facts.proofs.Interface.{places_are_as_declared, written_arrays_have_copies}
 use Rattle.layout_facts.proofs.Interface.{shared_words_are_of_variables, words_of_variables_are_shared, lists_have_room, privates_are_theirs, elements_stand}
 use Rattle.layout_facts.proofs.Interface.{task_places_are_apart, task_places_are_even, view_has_their_words, rows_fit_places}
-use Rattle.layout_facts.specs.whole_programs.Laws.{IsLaidOutText}
+use Rattle.whole_programs.specs.Laws.{IsLaidOutText}
+use Rattle.checked_trees.specs.WellFormed.{WellFormedBlock}
 use Rattle.checked_trees.proofs.Interface.{task_checked}
-use Rattle.layout_facts.proofs.whole_programs.Interface.{tasks_are_whole, privates_are_few}
+use Rattle.whole_programs.proofs.Interface.{tasks_are_whole, privates_are_few}
 
 -- rows have the places' lengths
 abbrev pub FitPlaces : MemoryMap → List (List ℕ) → Type 0
@@ -68,8 +69,8 @@ pub record ArePrivates (l : MemoryMap) (body : CheckedBlock) (t : TaskPlace) : T
       → Contains t.privates (record { number = v; home = home; copy = copy; width = width })
   pub only : (s : PrivateScalar) → Contains t.privates s → (is_private_in body s.number ≡ true) × HasItsPlace l.variables s
 
--- what is asked of a task with its layout: its places are apart, even, with room; its names are used as they were declared, scalars not as
--- arrays, and given all their words; and its word program is whole, and of words
+-- what is asked of a task with its layout: its places are apart, even, with room, and as declared; it is well-formed, scalars are given all
+-- their words; and its word program is whole, and of words
 pub record IsTaskGiven (p : CheckedProgram) (l : MemoryMap) (task : CheckedTask) (t : TaskPlace) : Type 0 where
   pub apart : AreApart (task_places l task t) (task_room p task)
   pub even : AreEven (task_places l task t)
@@ -77,7 +78,9 @@ pub record IsTaskGiven (p : CheckedProgram) (l : MemoryMap) (task : CheckedTask)
   pub privates : ArePrivates l task.body t
   pub copies : (x : Element) → IsCopied (task_places l task t) x → IsCopyWord (program_places p l) (copy_address (task_places l task t) x)
   pub versions : (x : Element) → IsCopied (task_places l task t) x → IsVersionWord l (version_address (task_places l task t) x)
-  pub fits : BlockFits (task_places l task t) (some_path_writes task.body) task.body
+  pub declared : AsDeclared p.shared (task_places l task t)
+  pub copied : HasCopies p.shared (task_places l task t) (some_path_writes task.body)
+  pub formed : WellFormedBlock p.shared task.body
   pub scalars : (v home copy : ℕ) (width : ScalarWidth) → slice_get l.variables v ≡ Some (Scalar home copy width)
       → IsScalarIn v (scalar_words width) task.body
   pub whole : IsWhole (lowered_task l t task.body)
@@ -115,7 +118,7 @@ module _ (text : List ℕ) (p : CheckedProgram) (allow : Allow) (plans : List Ta
   task_given k task t is_task is_layout =
       let at : IsTaskAt p l k task t = record { is_task = is_task; is_layout = is_layout } in
       let e = elements_stand p allow plans l has k task t at in
-      let uses = (task_checked text p laid.accepted.checks k task is_task).uses in
+      let formed = (task_checked text p laid.accepted.checks k task is_task).statements in
       let w = tasks_are_whole text p allow plans l laid k task t is_task is_layout in
       record {
         apart = task_places_are_apart p allow plans l has k task t at;
@@ -124,12 +127,14 @@ module _ (text : List ℕ) (p : CheckedProgram) (allow : Allow) (plans : List Ta
         privates = privates_of k task t at;
         copies = e.copy;
         versions = λ x c. let v = e.version x c in record { number = v.0; below = v.1; is = v.2 };
-        fits = names_fit p allow plans l has k task t at uses;
+        declared = places_are_as_declared p allow plans l has k task t at;
+        copied = written_arrays_have_copies p allow plans l has k task t at formed;
+        formed = formed;
         scalars = λ v home copy width is.
             let match = places_are_declared p allow plans l has in
             let scalar = match.is_scalar v home copy width is in
             let d = scalar_declared p.shared v scalar in
-            scalar_block p.shared v scalar d.0 d.1 d.2 (scalar_words width) (match.is_wide v home copy width d.0 is d.1) task.body uses;
+            scalar_block p.shared v scalar d.0 d.1 d.2 (scalar_words width) (match.is_wide v home copy width d.0 is d.1) task.body formed;
         whole = w.0;
         of_words = w.1;
       }

@@ -23,7 +23,7 @@ use Rattle.layout_facts.specs.source_values.Statements.{Attempt, run_block}
 use Rattle.layout_facts.specs.war_analysis.Plans.{is_scalar, IsScalarAt, IsArrayAt}
 use Rattle.layout_facts.specs.source_values.Runs.{is_long_extent}
 use Rattle.layout_facts.specs.privatise.Sizes.{home_part}
-use Rattle.checked_trees.specs.Uses.{IsArrayName, IsLocal, IsOfType, StatementUses, ChoiceUses, BlockUses}
+use Rattle.checked_trees.specs.WellFormed.{IsArrayName, IsLocal, IsOfType, WellFormedStatement, WellFormedChoice, WellFormedBlock}
 use Rattle.layout_facts.specs.path_runs.Laws.{IsScalarInStatement, IsScalarInChoice, IsScalarIn}
 use Rattle.layout_facts.proofs.path_runs.Interface.{first_writes_forget}
 
@@ -69,7 +69,7 @@ module _ (shared : List SharedDeclaration) (v : ℕ) (scalar : IsScalarAt shared
   no_local (Shared u) h e = h
 
   mutual
-    scalar_statement : (s : CheckedStatement) → StatementUses shared s → IsScalarInStatement v n s
+    scalar_statement : (s : CheckedStatement) → WellFormedStatement shared s → IsScalarInStatement v n s
     scalar_statement (t.declare of x None) u = tt
     scalar_statement (t.declare of x (Some e)) u = λ h. absurd (no_local x.variable u.0 h)
     scalar_statement (t.assign x e) u = gives_all x.word_type x.variable u.2
@@ -79,13 +79,13 @@ module _ (shared : List SharedDeclaration) (v : ℕ) (scalar : IsScalarAt shared
     scalar_statement (t.emit e) u = tt
     scalar_statement (t.transition task) u = tt
 
-    scalar_choice : (c : CheckedChoice) → ChoiceUses shared c → IsScalarInChoice v n c
+    scalar_choice : (c : CheckedChoice) → WellFormedChoice shared c → IsScalarInChoice v n c
     scalar_choice t.nothing u = tt
     scalar_choice (t.otherwise block) u = scalar_block block u
     scalar_choice (t.test e block more) u = (scalar_block block u.1, scalar_choice more u.2)
 
-    -- a scalar is one in a block that uses names as they were declared
-    pub scalar_block : (b : CheckedBlock) → BlockUses shared b → IsScalarIn v n b
+    -- a scalar is one in a well-formed block
+    pub scalar_block : (b : CheckedBlock) → WellFormedBlock shared b → IsScalarIn v n b
     scalar_block t.end u = tt
     scalar_block (t.step s more) u = (scalar_statement s u.0, scalar_block more u.1)
 

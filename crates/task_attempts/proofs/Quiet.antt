@@ -1,7 +1,7 @@
 -- Stores that an undecided world bears.
 use Rattle.std.proofs.Common.{◌≡◌, ℕ, ◌+◌, ◌*◌, ◌<◌, ◌≤◌, List, [], ◌∷◌, ◌⊎◌, true, refl, sym, ◌∙◌, subst, ⊎_elim, inl, inr, arith}
 use Rattle.std.proofs.lemmas.Bool.{cases_eq}
-use Rattle.layout_facts.specs.fram_board.Effects.{Effect, Store, Take, Send}
+use Rattle.layout_facts.specs.fram_board.Effects.{Effect, Store, Take, Outside}
 use Rattle.layout_facts.specs.machine_effects.World.{World, put, world_after_one, world_after, fram_after, EachStore}
 use Rattle.layout_facts.proofs.machine_effects.Interface.{put_other}
 use Rattle.layout_facts.specs.crash_rules.Model.{HoldsThroughout}
@@ -75,20 +75,20 @@ module _ {St : Type 0} (l : ProgramPlaces) (v : StateView St) (s : St) (ver : �
   quiet_through [] x h u = u.undecided
   quiet_through (Store a w ∷ es) x h u = (u.undecided, quiet_through es (world_after_one (Store a w) x) h.1 (quiet_keeps x a w h.0 u))
   quiet_through (Take r ∷ es) x h u = (u.undecided, quiet_through es x h u)
-  quiet_through (Send n w ∷ es) x h u = absurd h
+  quiet_through (Outside o ∷ es) x h u = absurd h
 
   pub quiet_behind : (es : List Effect) (x : World) → TakesAndStores (IsQuiet l (v.task s) ver) es → IsQuietAt x → IsQuietAt (world_after es x)
   quiet_behind [] x h u = u
   quiet_behind (Store a w ∷ es) x h u = quiet_behind es (world_after_one (Store a w) x) h.1 (quiet_keeps x a w h.0 u)
   quiet_behind (Take r ∷ es) x h u = quiet_behind es x h u
-  quiet_behind (Send n w ∷ es) x h u = absurd h
+  quiet_behind (Outside o ∷ es) x h u = absurd h
 
 -- effects that send nothing accept nothing
 pub accepts_none : (P : ℕ → ℕ → Type 0) (es : List Effect) (x : World) → TakesAndStores P es → (world_after es x).accepted ≡ x.accepted
 accepts_none P [] x h = refl
 accepts_none P (Store a w ∷ es) x h = accepts_none P es (world_after_one (Store a w) x) h.1
 accepts_none P (Take r ∷ es) x h = accepts_none P es x h
-accepts_none P (Send n w ∷ es) x h = absurd h
+accepts_none P (Outside o ∷ es) x h = absurd h
 
 -- what follows of each store that is of a word
 pub stores_as : (P Q : ℕ → ℕ → Type 0) → ((a w : ℕ) → P a w → w < 0x10000 → Q a w) → (es : List Effect) → TakesAndStores P es
@@ -96,14 +96,14 @@ pub stores_as : (P Q : ℕ → ℕ → Type 0) → ((a w : ℕ) → P a w → w 
 stores_as P Q f [] h k = tt
 stores_as P Q f (Store a w ∷ es) h k = (f a w h.0 k.0, stores_as P Q f es h.1 k.1)
 stores_as P Q f (Take r ∷ es) h k = stores_as P Q f es h k.1
-stores_as P Q f (Send n w ∷ es) h k = absurd h
+stores_as P Q f (Outside o ∷ es) h k = absurd h
 
 -- the same said of each store alone
 pub stores_each : (P Q : ℕ → ℕ → Type 0) → ((a w : ℕ) → P a w → Q a w) → (es : List Effect) → TakesAndStores P es → EachStore Q es
 stores_each P Q f [] h = tt
 stores_each P Q f (Store a w ∷ es) h = (f a w h.0, stores_each P Q f es h.1)
 stores_each P Q f (Take r ∷ es) h = (tt, stores_each P Q f es h)
-stores_each P Q f (Send n w ∷ es) h = absurd h
+stores_each P Q f (Outside o ∷ es) h = absurd h
 
 -- stores of no more than a number to an address leave no more there
 pub stays_within : (P : ℕ → ℕ → Type 0) (address most : ℕ) → ((w : ℕ) → P address w → w ≤ most) → (es : List Effect) (f : ℕ → ℕ) → TakesAndStores P es
@@ -116,4 +116,4 @@ stays_within P address most b (Store a w ∷ es) f h k =
     (λ q. let e = q.1 in omega (arith, e, k))
     (put_either f a w address))
 stays_within P address most b (Take r ∷ es) f h k = stays_within P address most b es f h k
-stays_within P address most b (Send n w ∷ es) f h k = absurd h
+stays_within P address most b (Outside o ∷ es) f h k = absurd h

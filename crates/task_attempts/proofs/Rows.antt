@@ -1,5 +1,5 @@
 -- Rows of words: statements keep how many there are, and rows of the declared lengths are a state's.
-use Rattle.std.proofs.Common.{◌≡◌, ℕ, zero, suc, ◌+◌, ◌-◌, ◌/◌, ◌%◌, ◌<◌, List, [], ◌∷◌, ◌++◌, length, Option, Some, None, Bool, true, false, get_or, refl}
+use Rattle.std.proofs.Common.{◌≡◌, ℕ, zero, suc, ◌+◌, ◌-◌, ◌/◌, ◌%◌, ◌<◌, List, [], ◌∷◌, ◌++◌, length, Some, None, Bool, true, false, get_or, refl}
 use Rattle.std.proofs.Common.{sym, ap, ◌∙◌}
 use Rattle.std.proofs.Common.{arith, eq-eqb, if◌then◌else◌}
 use Rattle.std.specs.Prelude.{◌&&◌, ◌==◌, nat_lt, slice_get}
@@ -7,7 +7,7 @@ use Rattle.std.proofs.Math.ListN.{length-set}
 use Rattle.std.proofs.lemmas.Bool.{lt-ltb, and_from, and_parts}
 use Rattle.std.proofs.lemmas.List.{length-replicate}
 use Rattle.layout_facts.specs.task_ast.Tree as t
-use Rattle.layout_facts.specs.task_ast.Paths.{CheckedStatement, CheckedChoice, CheckedBlock}
+use Rattle.layout_facts.specs.task_ast.Paths.{CheckedExpression, CheckedStatement, CheckedChoice, CheckedBlock}
 use Rattle.layout_facts.specs.task_ast.declared.Extent.{Extent}
 use Rattle.layout_facts.specs.task_ast.declared.Extent.TheVariants as extent
 use Rattle.layout_facts.specs.task_ast.declared.SharedDeclaration.{SharedDeclaration}
@@ -16,8 +16,8 @@ use Rattle.layout_facts.specs.task_ast.declared.WordType.TheVariants.{Unsigned, 
 use Rattle.layout_facts.specs.task_ast.declared.names.VariableName.{VariableName}
 use Rattle.layout_facts.specs.task_ast.declared.names.Variable.{Variable}
 use Rattle.layout_facts.specs.task_ast.declared.names.Variable.TheVariants.{Shared, Local}
-use Rattle.layout_facts.specs.source_values.Values.{by_width, type_of, converted, value_of, holds}
-use Rattle.layout_facts.specs.source_values.Statements.{Attempt, Outcome, goes_on, to_task, short, and_then, if_value, assigned, assigned_to, assigned_value}
+use Rattle.layout_facts.specs.source_values.Values.{by_width, type_of, converted, holds}
+use Rattle.layout_facts.specs.source_values.Statements.{Attempt, Outcome, goes_on, to_task, short, and_then, with_value, assigned, assigned_to, assigned_value}
 use Rattle.layout_facts.specs.source_values.Statements.{word_of, turns, run_statement, run_choice, run_block}
 use Rattle.layout_facts.specs.source_values.Runs.{initial_words}
 use Rattle.layout_facts.specs.memory_map.declared.place.VariablePlace.{VariablePlace}
@@ -26,6 +26,7 @@ use Rattle.layout_facts.specs.memory_map.Places.{scalar_words}
 use Rattle.layout_facts.specs.privatise.Layouts.{IsPlaceOf}
 use Rattle.layout_facts.specs.lower.Agreement.{place_length}
 use Rattle.layout_facts.specs.compiled_model.View.{are_words, are_rows}
+use Rattle.layout_facts.proofs.source_values.Interface.{for_value}
 
 -- where an outcome has variables, there are so many shared ones
 abbrev pub HasRows : ℕ → Outcome → Type 0
@@ -39,10 +40,9 @@ rows_then n (goes_on s) next h f = f s h
 rows_then n (to_task task s) next h f = h
 rows_then n short next h f = tt
 
-rows_value : (n : ℕ) (o : Option (ℕ × List ℕ)) (m : Attempt) (next : ℕ → Attempt → Outcome)
-    → ((v : ℕ) (left : List ℕ) → HasRows n (next v (record m { left = left }))) → HasRows n (if_value o m next)
-rows_value n None m next f = tt
-rows_value n (Some x) m next f = f x.0 x.1
+rows_value : (n : ℕ) (e : CheckedExpression) (m : Attempt) (next : ℕ → Attempt → Outcome) → length m.variables.shared ≡ n
+    → ((v : ℕ) (s : Attempt) → length s.variables.shared ≡ n → HasRows n (next v s)) → HasRows n (with_value e m next)
+rows_value n e m next h f = for_value (HasRows n) e m next tt (λ v s is. f v s (ap (λ u. length u.shared) is.variables ∙ h))
 
 rows_if : (n : ℕ) (b : Bool) (o q : Outcome) → HasRows n o → HasRows n q → HasRows n (if b then o else q)
 rows_if n true o q h k = h
@@ -71,30 +71,25 @@ mutual
   statement_rows : (s : CheckedStatement) (m : Attempt) (n : ℕ) → length m.variables.shared ≡ n → HasRows n (run_statement s m)
   statement_rows (t.declare of x None) m n h = h
   statement_rows (t.declare of x (Some e)) m n h =
-      rows_value n (value_of e m.variables m.left) m (λ w s. goes_on (assigned_value s x e w))
-      (λ v left. rows_assigned_to (record m { left = left }) x (converted (type_of e) x.word_type v) n h)
+      rows_value n e m (λ w s. goes_on (assigned_value s x e w)) h (λ v s k. rows_assigned_to s x (converted (type_of e) x.word_type v) n k)
   statement_rows (t.assign x e) m n h =
-      rows_value n (value_of e m.variables m.left) m (λ w s. goes_on (assigned_value s x e w))
-      (λ v left. rows_assigned_to (record m { left = left }) x (converted (type_of e) x.word_type v) n h)
+      rows_value n e m (λ w s. goes_on (assigned_value s x e w)) h (λ v s k. rows_assigned_to s x (converted (type_of e) x.word_type v) n k)
   statement_rows (t.store x index e) m n h =
-      rows_value n (value_of index m.variables m.left) m
-      (λ i s. if_value (value_of e s.variables s.left) s (λ w s. goes_on (assigned s x.variable i (word_of e w))))
-      (λ i left. rows_value n (value_of e m.variables left) (record m { left = left }) (λ w s. goes_on (assigned s x.variable i (word_of e w)))
-      (λ v more. rows_assigned (record m { left = more }) x.variable i (word_of e v) n h))
+      rows_value n index m (λ i s. with_value e s (λ w s. goes_on (assigned s x.variable i (word_of e w)))) h
+      (λ i s k. rows_value n e s (λ w s. goes_on (assigned s x.variable i (word_of e w))) k
+      (λ v u l. rows_assigned u x.variable i (word_of e v) n l))
   statement_rows (t.choose choice) m n h = choice_rows choice m n h
   statement_rows (t.loop x from tested below stepped body) m n h = rows_turns n x.variable (run_block body) (λ u g. block_rows body u n g)
       (below - from) from m h
-  statement_rows (t.emit e) m n h =
-      rows_value n (value_of e m.variables m.left) m (λ w s. goes_on (record s { emitted = s.emitted ++ word_of e w ∷ [] })) (λ v left. h)
+  statement_rows (t.emit e) m n h = rows_value n e m (λ w s. goes_on (record s { emitted = s.emitted ++ word_of e w ∷ [] })) h (λ v s k. k)
   statement_rows (t.transition task) m n h = h
 
   choice_rows : (c : CheckedChoice) (m : Attempt) (n : ℕ) → length m.variables.shared ≡ n → HasRows n (run_choice c m)
   choice_rows t.nothing m n h = h
   choice_rows (t.otherwise block) m n h = block_rows block m n h
   choice_rows (t.test e block more) m n h =
-      rows_value n (value_of e m.variables m.left) m (λ w s. if holds w then run_block block s else run_choice more s)
-      (λ v left. rows_if n (holds v) (run_block block (record m { left = left })) (run_choice more (record m { left = left }))
-      (block_rows block (record m { left = left }) n h) (choice_rows more (record m { left = left }) n h))
+      rows_value n e m (λ w s. if holds w then run_block block s else run_choice more s) h
+      (λ v s k. rows_if n (holds v) (run_block block s) (run_choice more s) (block_rows block s n k) (choice_rows more s n k))
 
   -- statements keep how many shared variables there are
   pub block_rows : (b : CheckedBlock) (m : Attempt) (n : ℕ) → length m.variables.shared ≡ n → HasRows n (run_block b m)

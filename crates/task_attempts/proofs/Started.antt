@@ -1,6 +1,7 @@
 -- A started attempt of a task, and what the laws on it speak of.
-use Rattle.std.proofs.Common.{ℕ, ◌<◌, List, length}
+use Rattle.std.proofs.Common.{ℕ, ◌<◌, length}
 use Rattle.layout_facts.specs.machine_effects.World.{World}
+use Rattle.layout_facts.specs.machine_effects.Inputs.{Inputs}
 use Rattle.layout_facts.specs.cost_bound.Counts.{CheckedBlock}
 use Rattle.layout_facts.specs.source_values.Runs.{CheckedProgram, State}
 use Rattle.layout_facts.specs.boot_runtime.Entries.{task_entries}
@@ -16,7 +17,7 @@ use Rattle.layout_facts.specs.memory_map.Spots.{Places}
 use Rattle.task_attempts.proofs.Given.{IsGiven, IsTaskGiven}
 use Rattle.task_attempts.proofs.Tasks.{IsAt, task_at, places, body, room, task_given}
 
--- a source with its layout, a state of it, the state's task with its layout, the world behind the start of an attempt, and the readings that are left
+-- a source with its layout, a state of it, the state's task with its layout, the world behind the start of an attempt, and the inputs that are left
 pub record Started : Type 0 where
   pub program : CheckedProgram
   pub map : MemoryMap
@@ -25,13 +26,13 @@ pub record Started : Type 0 where
   pub is_task : state.task < length program.tasks
   pub task : IsAt program map state.task
   pub world : World
-  pub readings : List ℕ
+  pub inputs : Inputs
   pub start : StartedAt (program_places program map) (state_view program map) state (privates_in (task_entries map) state.task) world
 
 -- what an attempt's start leaves
-abbrev pub attempt_at : (p : CheckedProgram) (l : MemoryMap) (given : IsGiven p l) (s : State) (x : World) → List ℕ
+abbrev pub attempt_at : (p : CheckedProgram) (l : MemoryMap) (given : IsGiven p l) (s : State) (x : World) → Inputs
     → StartedAt (program_places p l) (state_view p l) s (privates_in (task_entries l) s.task) x → Started
-attempt_at p l given s x readings st =
+attempt_at p l given s x inputs st =
     let is_task = st.undecided.is_open.is_task in
     record {
       program = p;
@@ -41,7 +42,7 @@ attempt_at p l given s x readings st =
       is_task = is_task;
       task = task_at p l given.count s.task is_task;
       world = x;
-      readings = readings;
+      inputs = inputs;
       start = st;
     }
 

@@ -53,7 +53,7 @@ unheld_of true false c h = refl
 unheld_of false b c h = refl
 
 module _ (run : Started) where
-  open run use {program as p, map as l, given, state as s, task as i, world as x, readings, start as st}
+  open run use {program as p, map as l, given, state as s, task as i, world as x, inputs, start as st}
   open (scene run) use {here, code, facts}
 
   -- the scalars that the task writes in place, and their words in FRAM
@@ -67,14 +67,14 @@ module _ (run : Started) where
   held_word v n = x.fram (2 * n + home_in (slice_get l.variables v))
 
   abbrev own : Variables
-  own = (fresh_attempt s.shared readings).variables
+  own = (fresh_attempt s.shared inputs.readings).variables
 
   -- the variables as FRAM has them: the state's words, but for the scalars that the task writes in place
   abbrev held : Variables
   held = refreshed is_held held_words held_word (length l.variables) own
 
   abbrev pub held_attempt : Attempt
-  held_attempt = record (fresh_attempt s.shared readings) { variables = held }
+  held_attempt = record (fresh_attempt s.shared inputs.readings) { variables = held }
 
   count_is : length s.shared ≡ length l.variables
   count_is = rows_count p.shared s.shared st.undecided.is_open.is_state ∙ sym given.variables.count
@@ -85,7 +85,7 @@ module _ (run : Started) where
       (scalar_at_is (slice_get l.variables v) parts.0, parts.1)
 
   -- the task comes to the same from what FRAM has as from the state
-  pub held_runs : run_block code held_attempt ≡ run_block code (fresh_attempt s.shared readings)
+  pub held_runs : run_block code held_attempt ≡ run_block code (fresh_attempt s.shared inputs.readings)
   held_runs =
       refreshed_runs is_held held_words held_word code (λ v h.
       let at = held_scalar v h in
@@ -95,7 +95,7 @@ module _ (run : Started) where
         λ private.
             let clash : true ≡ false = sym (is_private_of (Shared v) code private) ∙ in_place_not_private code v at.1 in absurd (cc),
       ))
-      (length l.variables) (fresh_attempt s.shared readings)
+      (length l.variables) (fresh_attempt s.shared inputs.readings)
 
   -- a word that is written in place is one of a held scalar
   in_place_held : (v n a : ℕ) → IsWordOf l v n a → (program_places p l).written_in_place s.task a ≡ true → is_held v ≡ true
@@ -193,7 +193,7 @@ module _ (run : Started) where
       → (v < length s.shared) × (length (slice_index_or s.shared v []) ≡ place_length place)
   lengths_are v place e = length_seen v place (seen_from (some_path_writes code) l.variables v place e)
 
-  pub attempt_stands : StandsFor here held_attempt [] (started x.fram readings)
+  pub attempt_stands : StandsFor here held_attempt [] (started x.fram inputs)
   attempt_stands =
       let count = count_is in
       record {

@@ -20,8 +20,8 @@ use Rattle.layout_facts.specs.memory_map.MemoryMap.{word_place}
 use Rattle.layout_facts.specs.memory_map.declared.words.RuntimeWord.TheVariants.{CurrentTask}
 
 pub tasks_contract : TasksKeepTheirContract
-tasks_contract text p allow plans l laid runnable s x readings small st =
-    program_keeps (attempt_at p l (given text p allow plans l laid runnable) s x readings st) blocks_agree small
+tasks_contract text p allow plans l laid runnable s x inputs small st =
+    program_keeps (attempt_at p l (given text p allow plans l laid runnable) s x inputs st) blocks_agree small
 
 pub compiled_laws : CompiledSourcesKeepTheLaws
 compiled_laws text p allow plans l laid runnable =
@@ -31,24 +31,24 @@ compiled_laws text p allow plans l laid runnable =
     (tasks_contract text p allow plans l laid runnable)
 
 pub stores_below_code : AttemptsStoreBelowCode
-stores_below_code text p allow plans l laid runnable s x readings small u =
+stores_below_code text p allow plans l laid runnable s x inputs small u =
     let g = given text p allow plans l laid runnable in
     let start = numbered_starts State (program_places p l) (state_view p l) (privates_in (task_entries l)) g.apart g.privates in
     let es = (program_parts p l).start x.fram in
     let y = world_after es x in
     let apart = g.apart in
     let code = g.code in
-    let task = program_stores (attempt_at p l g s y readings (start.started s x u)) blocks_agree small in
-    each_store-append (IsBelowCode l) es ((program_parts p l).body (x.fram (word_place l CurrentTask)) (fram_after es x.fram) readings).effects
+    let task = program_stores (attempt_at p l g s y inputs (start.started s x u)) blocks_agree small in
+    each_store-append (IsBelowCode l) es ((program_parts p l).body (x.fram (word_place l CurrentTask)) (fram_after es x.fram) inputs).effects
     (each_weaker (IsStartStore (program_places p l)) (IsBelowCode l) (λ a w k. record {
       from = omega (arith, apart, k);
       below = omega (arith, apart, k, code);
       list = λ e. let none = k.list_length e in omega (arith, none);
       emits = λ e. let none = k.emit_count e in omega (arith, none);
     }) es (start.stores x.fram))
-    (subst (λ k. EachStore (IsBelowCode l) ((program_parts p l).body k (fram_after es x.fram) readings).effects) (sym u.is_open.current_task)
-    (subst (λ f. EachStore (IsBelowCode l) ((program_parts p l).body s.task f readings).effects) (world_fram es x) task))
+    (subst (λ k. EachStore (IsBelowCode l) ((program_parts p l).body k (fram_after es x.fram) inputs).effects) (sym u.is_open.current_task)
+    (subst (λ f. EachStore (IsBelowCode l) ((program_parts p l).body s.task f inputs).effects) (world_fram es x) task))
 
 pub tasks_leave : TasksLeaveForTheCommit
-tasks_leave text p allow plans l laid runnable s x readings small st =
-    program_leaves (attempt_at p l (given text p allow plans l laid runnable) s x readings st) blocks_agree small
+tasks_leave text p allow plans l laid runnable s x inputs small st =
+    program_leaves (attempt_at p l (given text p allow plans l laid runnable) s x inputs st) blocks_agree small

@@ -9,6 +9,6 @@ pub use Rattle.layout_facts.specs.cost_bound as cost_bound
 pub use Rattle.layout_facts.specs.war_analysis as war_analysis
 pub use Rattle.layout_facts.specs.source_values as source_values
 pub use Rattle.layout_facts.specs.array_versions as array_versions
-pub use Rattle.layout_facts.specs.whole_programs as whole_programs
+pub use Rattle.whole_programs.specs as whole_programs
 pub use Rattle.layout_facts.specs.compiled_model as compiled_model
 pub use Rattle.layout_facts.specs as layout_facts

@@ -1,46 +1,46 @@
 -- The fold over lowered programs: a fact that holds of steps, and of what is put together of what has it, holds of expressions and statements.
-use Rattle.std.proofs.Common.{◌≡◌, ℕ, suc, ◌/◌, ◌%◌, ◌<◌, ◌≤◌, ◌||◌, Bool, false, List, [], ◌∷◌, Option, Some, None, arith, inl, inr, slice_get}
+use Rattle.std.proofs.Common.{◌≡◌, ℕ, suc, ◌+◌, ◌/◌, ◌%◌, ◌<◌, ◌≤◌, ◌||◌, Bool, false, List, [], ◌∷◌, Option, Some, None, arith, slice_get}
 use Rattle.std.proofs.lemmas.Bool.{or_parts}
 use Rattle.std.specs.List.{AllByRecursion}
-use Rattle.lower.specs.alp_words.Words.{IsWord}
-use Rattle.lower.specs.task_ast.Tree as t
-use Rattle.lower.specs.task_ast.Paths.{CheckedExpression, CheckedStatement, CheckedChoice, CheckedBlock}
-use Rattle.lower.specs.task_ast.declared.SharedDeclaration.{SharedDeclaration}
-use Rattle.lower.specs.task_ast.declared.WordType.{WordType}
-use Rattle.lower.specs.task_ast.declared.WordType.TheVariants.{Unsigned, Int, Long}
-use Rattle.lower.specs.task_ast.declared.BinaryOperator.{BinaryOperator}
-use Rattle.lower.specs.task_ast.declared.ShiftOperator.{ShiftOperator}
-use Rattle.lower.specs.task_ast.declared.ShiftOperator.TheVariants as shift_operator
-use Rattle.lower.specs.task_ast.declared.UnaryOperator.{UnaryOperator}
-use Rattle.lower.specs.task_ast.declared.UnaryOperator.TheVariants as unary_operator
-use Rattle.lower.specs.task_ast.declared.PlacedOperator.{PlacedOperator}
-use Rattle.lower.specs.task_ast.declared.ShortCircuitOperator.{ShortCircuitOperator}
-use Rattle.lower.specs.task_ast.declared.ShortCircuitOperator.TheVariants.{And as BothHold, Or as OneHolds}
-use Rattle.lower.specs.task_ast.declared.names.Variable.{Variable}
-use Rattle.lower.specs.task_ast.declared.names.Variable.TheVariants.{Shared, Local}
-use Rattle.lower.specs.path_checks.Loops.{is_same_local, statement_assigns, choice_assigns, block_assigns}
-use Rattle.lower.specs.source_values.Values.{joined_type, type_of}
-use Rattle.lower.specs.array_versions.declared.operations.UnaryOperation.{UnaryOperation}
-use Rattle.lower.specs.array_versions.declared.operations.UnaryOperation.TheVariants.{Negate, Complement}
-use Rattle.lower.specs.array_versions.declared.operations.BinaryOperation.{BinaryOperation}
-use Rattle.lower.specs.array_versions.declared.operations.BinaryOperation.TheVariants.{Plain}
-use Rattle.lower.specs.array_versions.declared.operations.PlainOperation.{PlainOperation}
-use Rattle.lower.specs.array_versions.declared.operations.PlainOperation.TheVariants.{Subtract, And, Xor, Or}
-use Rattle.lower.specs.array_versions.declared.operations.Comparison.{Comparison}
-use Rattle.lower.specs.array_versions.declared.operations.Comparison.TheVariants.{CommonBit}
-use Rattle.lower.specs.array_versions.declared.operations.ShiftOperation.{ShiftOperation}
-use Rattle.lower.specs.array_versions.declared.operations.LongOperation.TheVariants as with_longs
-use Rattle.lower.specs.array_versions.declared.program.ArrayPlace.{ArrayPlace}
-use Rattle.lower.specs.array_versions.declared.program.ListPlace.{ListPlace}
-use Rattle.lower.specs.array_versions.Program.{Step, Test, Program, number, load, keep, local, set_local, update_local, unary, binary, shift, long, element}
-use Rattle.lower.specs.array_versions.Program.{update, emit_word, list_entry, versioned_read, sense, truth, choose, repeat, store_number, move_word, jump}
-use Rattle.lower.specs.array_versions.Program.{holds, compares, both, either, fails, nothing, step, joined}
-use Rattle.lower.specs.array_versions.Form.{ArrayOfWords, ListOfWords, StepOfWords}
-use Rattle.lower.specs.memory_map.MemoryMap.{word_place}
-use Rattle.lower.specs.memory_map.declared.words.RuntimeWord.TheVariants.{NextTask, Gate, ListLength, EmitCount, Base, SentBase, Version}
-use Rattle.lower.specs.memory_map.declared.place.VariablePlace.{VariablePlace}
-use Rattle.lower.specs.memory_map.declared.place.VariablePlace.TheVariants.{Scalar, Array}
-use Rattle.lower.specs.memory_map.Spots.{Places, address_of}
+use Rattle.alp_words.specs.Words.{IsWord}
+use Rattle.task_ast.specs.Tree as t
+use Rattle.task_ast.specs.Paths.{CheckedExpression, CheckedStatement, CheckedChoice, CheckedBlock}
+use Rattle.task_ast.specs.declared.SharedDeclaration.{SharedDeclaration}
+use Rattle.task_ast.specs.declared.WordType.{WordType}
+use Rattle.task_ast.specs.declared.WordType.TheVariants.{Unsigned, Int, Long}
+use Rattle.task_ast.specs.declared.BinaryOperator.{BinaryOperator}
+use Rattle.task_ast.specs.declared.ShiftOperator.{ShiftOperator}
+use Rattle.task_ast.specs.declared.ShiftOperator.TheVariants as shift_operator
+use Rattle.task_ast.specs.declared.UnaryOperator.{UnaryOperator}
+use Rattle.task_ast.specs.declared.UnaryOperator.TheVariants as unary_operator
+use Rattle.task_ast.specs.declared.PlacedOperator.{PlacedOperator}
+use Rattle.task_ast.specs.declared.ShortCircuitOperator.{ShortCircuitOperator}
+use Rattle.task_ast.specs.declared.ShortCircuitOperator.TheVariants.{And as BothHold, Or as OneHolds}
+use Rattle.task_ast.specs.declared.names.Variable.{Variable}
+use Rattle.task_ast.specs.declared.names.Variable.TheVariants.{Shared, Local}
+use Rattle.path_checks.specs.Loops.{is_same_local, statement_assigns, choice_assigns, block_assigns}
+use Rattle.source_values.specs.Values.{joined_type, type_of}
+use Rattle.array_versions.specs.declared.operations.UnaryOperation.{UnaryOperation}
+use Rattle.array_versions.specs.declared.operations.UnaryOperation.TheVariants.{Negate, Complement}
+use Rattle.array_versions.specs.declared.operations.BinaryOperation.{BinaryOperation}
+use Rattle.array_versions.specs.declared.operations.BinaryOperation.TheVariants.{Plain}
+use Rattle.array_versions.specs.declared.operations.PlainOperation.{PlainOperation}
+use Rattle.array_versions.specs.declared.operations.PlainOperation.TheVariants.{Subtract, And, Xor, Or}
+use Rattle.array_versions.specs.declared.operations.Comparison.{Comparison}
+use Rattle.array_versions.specs.declared.operations.Comparison.TheVariants.{CommonBit}
+use Rattle.array_versions.specs.declared.operations.ShiftOperation.{ShiftOperation}
+use Rattle.array_versions.specs.declared.operations.LongOperation.TheVariants as with_longs
+use Rattle.array_versions.specs.declared.program.ArrayPlace.{ArrayPlace}
+use Rattle.array_versions.specs.declared.program.ListPlace.{ListPlace}
+use Rattle.array_versions.specs.Program.{Step, Test, Program, number, load, keep, local, set_local, update_local, unary, binary, shift, long, element}
+use Rattle.array_versions.specs.Program.{update, emit_word, list_entry, versioned_read, sense, truth, choose, repeat, store_number, move_word, jump}
+use Rattle.array_versions.specs.Program.{holds, compares, both, either, fails, nothing, step, joined}
+use Rattle.array_versions.specs.Form.{ArrayOfWords, ListOfWords, StepOfWords}
+use Rattle.memory_map.specs.MemoryMap.{word_place}
+use Rattle.memory_map.specs.declared.words.RuntimeWord.TheVariants.{NextTask, Gate, ListLength, EmitCount, Base, SentBase, Version}
+use Rattle.memory_map.specs.declared.place.VariablePlace.{VariablePlace}
+use Rattle.memory_map.specs.declared.place.VariablePlace.TheVariants.{Scalar, Array}
+use Rattle.memory_map.specs.Spots.{Places, address_of}
 use Rattle.lower.specs.declared.runs.Run.{Run}
 use Rattle.lower.specs.Runs.{runs_of}
 use Rattle.lower.specs.declared.operations.BinaryMeaning.{BinaryMeaning}
@@ -58,10 +58,9 @@ use Rattle.lower.specs.Lowered.{lowered_expression, lowered_long, lowered_test, 
 use Rattle.lower.specs.Lowered.{index_and_value, element_updating, element_sides_set, element_assignment, loop_local, entries, lowered_transition}
 use Rattle.lower.specs.Lowered.{lowered_statement, lowered_choice, lowered_block}
 use Rattle.lower.proofs.Interface.{RunOfWords, runs_of_words}
-use Rattle.checked_trees.specs.Needs.{ExpressionFits, StatementFits, ChoiceFits, BlockFits}
-use Rattle.checked_trees.specs.Uses.{IsWordName, IsLocal, ExpressionUses, StatementUses, ChoiceUses, BlockUses}
+use Rattle.checked_trees.specs.WellFormed.{IsWordName, IsLocal, stack_words, enough, HasRoom, WellFormedExpression, WellFormedStatement}
+use Rattle.checked_trees.specs.WellFormed.{WellFormedChoice, WellFormedBlock}
 use Rattle.whole_programs.proofs.Placed.{PlaceOfWords, PlacesOfWords}
-use Rattle.checked_trees.proofs.Interface.{GoodStatement, GoodChoice, GoodBlock, is_good}
 
 -- ---- steps of expressions
 
@@ -108,28 +107,19 @@ Reads F (t.shift op e count) = Reads F e
 Reads F (t.short_circuit op a b) = Reads F a × Reads F b
 
 -- an expression leaves a word, or two
-pub two_fit : (room d : ℕ) (e : CheckedExpression) → ExpressionFits room d e → suc (suc d) ≤ room
-two_fit room d (t.number w) h = let l = h.0 in omega (arith, l)
-two_fit room d (t.long_number w) h = let l = h.0 in omega (arith, l)
-two_fit room d (t.name x) h = omega (arith, h)
-two_fit room d (t.element x index) h = two_fit room d index h
-two_fit room d t.sense h = omega (arith, h)
-two_fit room d (t.unary op e) h = let more = two_fit room (suc (suc d)) e h in omega (arith, more)
-two_fit room d (t.binary op a b) h = two_fit room d a h.0
-two_fit room d (t.shift op e count) h = two_fit room d e h.0
-two_fit room d (t.short_circuit op a b) h = two_fit room d a h.0
+two_needed : (e : CheckedExpression) → 2 ≤ stack_words e
+two_needed (t.number w) = omega arith
+two_needed (t.long_number w) = omega arith
+two_needed (t.name x) = omega arith
+two_needed (t.element x index) = two_needed index
+two_needed t.sense = omega arith
+two_needed (t.unary op e) = omega arith
+two_needed (t.binary op a b) = let few = two_needed a in omega (arith, few)
+two_needed (t.shift op e count) = two_needed e
+two_needed (t.short_circuit op a b) = let few = two_needed a in omega (arith, few)
 
--- with fewer words beneath
-pub fits_above : (room d c : ℕ) (e : CheckedExpression) → d ≤ c → ExpressionFits room c e → ExpressionFits room d e
-fits_above room d c (t.number w) l h = let within = h.0 in (omega (arith, within, l), h.1)
-fits_above room d c (t.long_number w) l h = let within = h.0 in (omega (arith, within, l), h.1)
-fits_above room d c (t.name x) l h = omega (arith, h, l)
-fits_above room d c (t.element x index) l h = fits_above room d c index l h
-fits_above room d c t.sense l h = omega (arith, h, l)
-fits_above room d c (t.unary op e) l h = fits_above room (suc (suc d)) (suc (suc c)) e (omega (arith, l)) h
-fits_above room d c (t.binary op a b) l h = (fits_above room d c a l h.0, fits_above room (suc (suc d)) (suc (suc c)) b (omega (arith, l)) h.1)
-fits_above room d c (t.shift op e count) l h = (fits_above room d c e l h.0, h.1)
-fits_above room d c (t.short_circuit op a b) l h = (fits_above room d c a l h.0, fits_above room d c b l h.1)
+pub two_fit : (room d : ℕ) (e : CheckedExpression) → stack_words e + d ≤ room → suc (suc d) ≤ room
+two_fit room d e few = let two = two_needed e in omega (arith, two, few)
 
 -- ---- a fact
 
@@ -309,7 +299,7 @@ module _ {ℓ} {room : ℕ} (F : Fact {ℓ} room) where
 
   -- ---- expressions
 
-  module _ (p : Places) (words : PlacesOfWords p) where
+  module _ (p : Places) (words : PlacesOfWords p) (shared : List SharedDeclaration) where
     read_has : (d : ℕ) (x : Variable) → suc d ≤ room → ReadOf F.of_local x → F.of_program d (suc d) (one (read_step p x))
     read_has d (Shared v) few r = single d (suc d) (load (address_of p v)) (a_load (address_of p v)) (words.addresses v) few
     read_has d (Local n) few r = F.alone d (suc d) (local (n % 65536)) (F.reads d n r few)
@@ -343,37 +333,40 @@ module _ {ℓ} {room : ℕ} (F : Fact {ℓ} room) where
             single (suc d) (suc d) (versioned_read (array_place elements length c) (list_place p))
             (a_version (array_place elements length c) (list_place p)) ((h.0, h.2.0, h.2.1, h.1), list_of_words p words) few
 
-    -- the fact holds of each expression that fits, on the locals that it reads
-    pub lowering_has : (d : ℕ) (e : CheckedExpression) → ExpressionFits room d e → Reads F.of_local e → Built d (lowering p e)
-    lowering_has d (t.number w) f r =
-        let two = two_fit room d (t.number w) f in word_built d _ two (single d (suc d) (number w) (a_number w) f.1 (omega (arith, two)))
-    lowering_has d (t.long_number w) f r =
-        let two = two_fit room d (t.long_number w) f in
-        let below = f.1 in
-        let high : IsWord (w / 65536) = omega (arith, below) in
+    -- the fact holds of each well-formed expression that has room, on the locals that it reads
+    pub lowering_has : (d : ℕ) (e : CheckedExpression) → WellFormedExpression shared e → stack_words e + d ≤ room → Reads F.of_local e
+        → Built d (lowering p e)
+    lowering_has d (t.number w) is few r =
+        let two = two_fit room d (t.number w) few in word_built d _ two (single d (suc d) (number w) (a_number w) is (omega (arith, two)))
+    lowering_has d (t.long_number w) is few r =
+        let two = two_fit room d (t.long_number w) few in
+        let high : IsWord (w / 65536) = omega (arith, is) in
         long_built d _ two
         (last d (suc d) (suc (suc d)) (one (number (w % 65536))) (number (w / 65536))
         (single d (suc d) (number (w % 65536)) (a_number (w % 65536)) (omega arith) (omega (arith, two))) (a_number (w / 65536)) high two)
-    lowering_has d (t.name x) f r = name_has d x.word_type x.variable (two_fit room d (t.name x) f) r
-    lowering_has d (t.element x index) f r =
-        let two = two_fit room d index f in
+    lowering_has d (t.name x) is few r = name_has d x.word_type x.variable (two_fit room d (t.name x) few) r
+    lowering_has d (t.element x index) is few r =
+        let two = two_fit room d index few in
         word_built d _ two
-        (F.chain d (suc d) (suc d) (lowered_expression p index) (one (element_step p x.variable)) (lowering_has d index f r).word
+        (F.chain d (suc d) (suc d) (lowered_expression p index) (one (element_step p x.variable)) (lowering_has d index is.1 few r).word
         (element_has d x.variable (omega (arith, two))))
-    lowering_has d t.sense f r = let two = two_fit room d t.sense f in word_built d _ two (single d (suc d) sense a_reading tt (omega (arith, two)))
-    lowering_has d (t.unary op e) f r =
-        let inner = fits_above room d (suc (suc d)) e (omega arith) f in
-        operand_has d (type_of e) op (lowering p e) (two_fit room d e inner) (lowering_has d e inner r) (lowering_has (suc (suc d)) e f r)
-    lowering_has d (t.binary op a b) f r =
-        let beneath = fits_above room (suc d) (suc (suc d)) b (omega arith) f.1 in
+    lowering_has d t.sense is few r = let two = two_fit room d t.sense few in word_built d _ two (single d (suc d) sense a_reading tt (omega (arith, two)))
+    lowering_has d (t.unary op e) is few r =
+        let own : stack_words e + d ≤ room = omega (arith, few) in
+        operand_has d (type_of e) op (lowering p e) (two_fit room d e own) (lowering_has d e is own r)
+        (lowering_has (suc (suc d)) e is (omega (arith, few)) r)
+    lowering_has d (t.binary op a b) is few r =
+        let right : stack_words b + suc (suc d) ≤ room = omega (arith, few) in
         sides_have d (operand_type op.operator (joined_type (type_of a) (type_of b))) op.operator (widened_type a) (widened_type b)
-        (lowering p a) (lowering p b) (two_fit room (suc (suc d)) b f.1)
-        (lowering_has d a f.0 r.0) (lowering_has (suc d) b beneath r.1) (lowering_has (suc (suc d)) b f.1 r.1)
-    lowering_has d (t.shift op e count) f r =
-        shift_has d (type_of e) op (lowering p e) count.value f.1 (two_fit room d e f.0) (lowering_has d e f.0 r)
-    lowering_has d (t.short_circuit op a b) f r =
-        test_built d _ (two_fit room d a f.0)
-        (both_have d op (lowered_test p a) (lowered_test p b) (lowering_has d a f.0 r.0).test (lowering_has d b f.1 r.1).test)
+        (lowering p a) (lowering p b) (two_fit room (suc (suc d)) b right)
+        (lowering_has d a is.0 (omega (arith, few)) r.0) (lowering_has (suc d) b is.1 (omega (arith, right)) r.1)
+        (lowering_has (suc (suc d)) b is.1 right r.1)
+    lowering_has d (t.shift op e count) is few r =
+        shift_has d (type_of e) op (lowering p e) count.value is.1 (two_fit room d e few) (lowering_has d e is.0 few r)
+    lowering_has d (t.short_circuit op a b) is few r =
+        let left : stack_words a + d ≤ room = omega (arith, few) in
+        test_built d _ (two_fit room d a left)
+        (both_have d op (lowered_test p a) (lowered_test p b) (lowering_has d a is.0 left r.0).test (lowering_has d b is.1 (omega (arith, few)) r.1).test)
 
 -- ---- a fact of each step alone
 
@@ -441,36 +434,45 @@ whatever_the_stack p G room = record {
 }
 
 -- the locals of an expression are below 256
-reads_low : (shared : List SharedDeclaration) (e : CheckedExpression) → ExpressionUses shared e → Reads (λ n. n < 256) e
-reads_low shared (t.number w) u = tt
-reads_low shared (t.long_number w) u = tt
-reads_low shared (t.name x) u = by_variable x.variable u.0
+reads_low : (shared : List SharedDeclaration) (e : CheckedExpression) → WellFormedExpression shared e → Reads (λ n. n < 256) e
+reads_low shared (t.number w) is = tt
+reads_low shared (t.long_number w) is = tt
+reads_low shared (t.name x) is = by_variable x.variable is.0
   where
     by_variable : (v : Variable) → IsWordName shared v → ReadOf (λ n. n < 256) v
     by_variable (Shared v) h = tt
     by_variable (Local n) h = h
-reads_low shared (t.element x index) u = reads_low shared index u.1
-reads_low shared t.sense u = tt
-reads_low shared (t.unary op e) u = reads_low shared e u
-reads_low shared (t.binary op a b) u = (reads_low shared a u.0, reads_low shared b u.1)
-reads_low shared (t.shift op e count) u = reads_low shared e u
-reads_low shared (t.short_circuit op a b) u = (reads_low shared a u.0, reads_low shared b u.1)
+reads_low shared (t.element x index) is = reads_low shared index is.1
+reads_low shared t.sense is = tt
+reads_low shared (t.unary op e) is = reads_low shared e is
+reads_low shared (t.binary op a b) is = (reads_low shared a is.0, reads_low shared b is.1)
+reads_low shared (t.shift op e count) is = reads_low shared e is.0
+reads_low shared (t.short_circuit op a b) is = (reads_low shared a is.0, reads_low shared b is.1)
 
 -- a local may stand for a word
 local_word : (shared : List SharedDeclaration) (x : Variable) → IsLocal x → IsWordName shared x
 local_word shared (Shared v) h = absurd h
 local_word shared (Local n) h = h
 
-module _ (p : Places) (G : EachStep p) (words : PlacesOfWords p) (room : ℕ) (shared : List SharedDeclaration) where
+-- a well-formed expression with room above so many words
+abbrev pub FitsAbove : List SharedDeclaration → ℕ → CheckedExpression → Type 0
+FitsAbove shared d e = WellFormedExpression shared e × HasRoom d e
+
+-- so is the right side of an operator, without the left one
+pub right_fits : (shared : List SharedDeclaration) (d : ℕ) (op : PlacedOperator) (b c : CheckedExpression) → FitsAbove shared d (t.binary op b c)
+    → FitsAbove shared d c
+right_fits shared d op b c fits = let few = fits.1 in (fits.0.1, omega (arith, few))
+
+module _ (p : Places) (G : EachStep p) (words : PlacesOfWords p) (shared : List SharedDeclaration) where
   -- a step behind a program
   then_step : (q : Program) (s : Step) → G.of_program q → G.of_step s → G.of_program (joined q (one s))
   then_step q s h k = G.chain q (one s) h (G.alone s k)
 
-  expression_built : (d : ℕ) (e : CheckedExpression) → ExpressionFits room d e → ExpressionUses shared e → Built (whatever_the_stack p G room) d (lowering p e)
-  expression_built d e f u = lowering_has (whatever_the_stack p G room) p words d e f (reads_low shared e u)
+  expression_built : (d : ℕ) (e : CheckedExpression) → FitsAbove shared d e → Built (whatever_the_stack p G enough) d (lowering p e)
+  expression_built d e is = lowering_has (whatever_the_stack p G enough) p words shared d e is.0 is.1 (reads_low shared e is.0)
 
-  word_has : (d : ℕ) (e : CheckedExpression) → ExpressionFits room d e → ExpressionUses shared e → G.of_program (lowered_expression p e)
-  word_has d e f u = (expression_built d e f u).word
+  word_has : (d : ℕ) (e : CheckedExpression) → FitsAbove shared d e → G.of_program (lowered_expression p e)
+  word_has d e is = (expression_built d e is).word
 
   stored_of_words : (x : Variable) → ArrayOfWords (stored_array p x)
   stored_of_words (Local n) = (zero_is_word, zero_is_word, zero_is_word, zero_is_word)
@@ -499,27 +501,26 @@ module _ (p : Places) (G : EachStep p) (words : PlacesOfWords p) (room : ℕ) (s
   write_long_has (Local n) l a =
       let low = long with_longs.LowWord in then_step (one low) (set_local (n % 65536)) (G.alone low (G.leaf 2 1 low a_low_word tt)) (G.writes n l a)
 
-  setting_has : (x : Variable) (e : CheckedExpression) → IsWordName shared x → IsApart G.spared x → ExpressionFits room 0 e → ExpressionUses shared e
-      → G.of_program (setting p x e)
-  setting_has x e n a f u = then_step (lowered_expression p e) (write_step p x) (word_has 0 e f u) (write_has x n a)
+  setting_has : (x : Variable) (e : CheckedExpression) → IsWordName shared x → IsApart G.spared x → FitsAbove shared 0 e → G.of_program (setting p x e)
+  setting_has x e n a is = then_step (lowered_expression p e) (write_step p x) (word_has 0 e is) (write_has x n a)
 
   sides_set_has : (x : Variable) (op : PlacedOperator) (b c : CheckedExpression) (o : Option PlainOperation) → IsWordName shared x → IsApart G.spared x
-      → ExpressionFits room 0 (t.binary op b c) → ExpressionUses shared (t.binary op b c) → G.of_program (sides_set p x op b c o)
-  sides_set_has x op b c None n a f u = setting_has x (t.binary op b c) n a f u
-  sides_set_has x op b c (Some o) n a f u = then_step (lowered_expression p c) (update_step p o x) (word_has 2 c f.1 u.1) (update_has o x n a)
+      → FitsAbove shared 0 (t.binary op b c) → G.of_program (sides_set p x op b c o)
+  sides_set_has x op b c None n a is = setting_has x (t.binary op b c) n a is
+  sides_set_has x op b c (Some o) n a is =
+      then_step (lowered_expression p c) (update_step p o x) (word_has 0 c (right_fits shared 0 op b c is)) (update_has o x n a)
 
   -- the first clause makes it a proof by cases
-  assignment_has : (x : Variable) (e : CheckedExpression) → IsWordName shared x → IsApart G.spared x → ExpressionFits room 0 e → ExpressionUses shared e
-      → G.of_program (assignment p x e)
-  assignment_has x (t.binary op b c) n a f u = sides_set_has x op b c (of_words (joined_type (type_of b) (type_of c)) (updating x op.operator b)) n a f u
-  assignment_has x e n a f u = setting_has x e n a f u
+  assignment_has : (x : Variable) (e : CheckedExpression) → IsWordName shared x → IsApart G.spared x → FitsAbove shared 0 e → G.of_program (assignment p x e)
+  assignment_has x (t.binary op b c) n a is = sides_set_has x op b c (of_words (joined_type (type_of b) (type_of c)) (updating x op.operator b)) n a is
+  assignment_has x e n a is = setting_has x e n a is
 
-  typed_assignment_has : (of : WordType) (x : Variable) (e : CheckedExpression) → IsWordName shared x → IsApart G.spared x → ExpressionFits room 0 e
-      → ExpressionUses shared e → G.of_program (scalar_assignment p of x e)
-  typed_assignment_has Int x e n a f u = assignment_has x e n a f u
-  typed_assignment_has Unsigned x e n a f u = assignment_has x e n a f u
-  typed_assignment_has Long x e n a f u =
-      let long = long_has (whatever_the_stack p G room) 0 (widened_type e) (lowering p e) (two_fit room 0 e f) (expression_built 0 e f u) in
+  typed_assignment_has : (of : WordType) (x : Variable) (e : CheckedExpression) → IsWordName shared x → IsApart G.spared x → FitsAbove shared 0 e
+      → G.of_program (scalar_assignment p of x e)
+  typed_assignment_has Int x e n a is = assignment_has x e n a is
+  typed_assignment_has Unsigned x e n a is = assignment_has x e n a is
+  typed_assignment_has Long x e n a is =
+      let long = long_has (whatever_the_stack p G enough) 0 (widened_type e) (lowering p e) (two_fit enough 0 e is.1) (expression_built 0 e is) in
       G.chain (lowered_long p e) (write_long p x) long (write_long_has x n a)
 
   -- a step behind an index and a value
@@ -534,19 +535,18 @@ module _ (p : Places) (G : EachStep p) (words : PlacesOfWords p) (room : ℕ) (s
       index_and_value_have index e (store_step p x) h k (G.stores (store_step p x) (an_element_store x) (stored_of_words x, list_of_words p words))
 
   element_sides_have : (x : Variable) (index : CheckedExpression) (op : PlacedOperator) (b c : CheckedExpression) (o : Option PlainOperation)
-      → G.of_program (lowered_expression p index) → ExpressionFits room 1 (t.binary op b c) → ExpressionUses shared (t.binary op b c)
-      → G.of_program (element_sides_set p x index op b c o)
-  element_sides_have x index op b c None h f u = store_has x index (t.binary op b c) h (word_has 1 (t.binary op b c) f u)
-  element_sides_have x index op b c (Some o) h f u =
-      index_and_value_have index c (update_element_step p o x) h (word_has 3 c f.1 u.1)
+      → G.of_program (lowered_expression p index) → FitsAbove shared 1 (t.binary op b c) → G.of_program (element_sides_set p x index op b c o)
+  element_sides_have x index op b c None h is = store_has x index (t.binary op b c) h (word_has 1 (t.binary op b c) is)
+  element_sides_have x index op b c (Some o) h is =
+      index_and_value_have index c (update_element_step p o x) h (word_has 1 c (right_fits shared 1 op b c is))
       (G.stores (update_element_step p o x) (an_element_update o x) (stored_of_words x, list_of_words p words))
 
   -- the first clause makes it a proof by cases
-  element_assignment_has : (x : Variable) (index e : CheckedExpression) → G.of_program (lowered_expression p index) → ExpressionFits room 1 e
-      → ExpressionUses shared e → G.of_program (element_assignment p x index e)
-  element_assignment_has x index (t.binary op b c) h f u =
-      element_sides_have x index op b c (of_words (joined_type (type_of b) (type_of c)) (element_updating x index op.operator b)) h f u
-  element_assignment_has x index e h f u = store_has x index e h (word_has 1 e f u)
+  element_assignment_has : (x : Variable) (index e : CheckedExpression) → G.of_program (lowered_expression p index) → FitsAbove shared 1 e
+      → G.of_program (element_assignment p x index e)
+  element_assignment_has x index (t.binary op b c) h is =
+      element_sides_have x index op b c (of_words (joined_type (type_of b) (type_of c)) (element_updating x index op.operator b)) h is
+  element_assignment_has x index e h is = store_has x index e h (word_has 1 e is)
 
   -- ---- statements
 
@@ -581,51 +581,48 @@ module _ (p : Places) (G : EachStep p) (words : PlacesOfWords p) (room : ℕ) (s
   second_leaves f g h y s = (or_parts (f (Local y)) (g (Local y)) (h y s)).1
 
   -- what the fact asks of the bodies of loops beside itself holds of each that doesn't assign the loop's local
-  module _ (body_has : (n : ℕ) (b : CheckedBlock) → n < 256 → block_assigns (Local n) b ≡ false → BlockFits room b → BlockUses shared b → GoodBlock b
+  module _ (body_has : (n : ℕ) (b : CheckedBlock) → n < 256 → block_assigns (Local n) b ≡ false → WellFormedBlock shared b
       → G.of_body (n % 65536) (lowered_block p b)) where
     -- a loop by its local
     loop_has : (v : Variable) (from below : ℕ) (b : CheckedBlock) → IsLocal v → IsApart G.spared v → IsWord from → IsWord below
-        → block_assigns v b ≡ false → BlockFits room b → BlockUses shared b → GoodBlock b → G.of_program (lowered_block p b)
+        → block_assigns v b ≡ false → WellFormedBlock shared b → G.of_program (lowered_block p b)
         → G.of_step (repeat (loop_local v) from below (lowered_block p b))
-    loop_has (Shared v) from below b is a i j s f u g h = absurd is
-    loop_has (Local n) from below b low a i j s f u g h = G.counted n from below (lowered_block p b) low a i j (body_has n b low s f u g) h
+    loop_has (Shared v) from below b low a i j s is h = absurd low
+    loop_has (Local n) from below b low a i j s is h = G.counted n from below (lowered_block p b) low a i j (body_has n b low s is) h
 
     mutual
-      statement_has : (s : CheckedStatement) → LeavesAlone (λ v. statement_assigns v s) → StatementFits room s → StatementUses shared s → GoodStatement s
+      statement_has : (s : CheckedStatement) → LeavesAlone (λ v. statement_assigns v s) → WellFormedStatement shared s
           → G.of_program (lowered_statement p s)
-      statement_has (t.declare of x None) a f u g = G.empty
-      statement_has (t.declare of x (Some e)) a f u g = assignment_has x.variable e (local_word shared x.variable u.0) a f.1 u.1
-      statement_has (t.assign x e) a f u g = typed_assignment_has x.word_type x.variable e u.0 a f u.1
-      statement_has (t.store x index e) a f u g = element_assignment_has x.variable index e (word_has 0 index f.0 u.1) f.1 u.2
-      statement_has (t.choose choice) a f u g = choice_has choice a f u g
-      statement_has (t.loop x from y below z body) a f u g =
+      statement_has (t.declare of x None) a is = G.empty
+      statement_has (t.declare of x (Some e)) a is = assignment_has x.variable e (local_word shared x.variable is.0) a (is.1, is.3)
+      statement_has (t.assign x e) a is = typed_assignment_has x.word_type x.variable e is.0 a (is.1, is.3)
+      statement_has (t.store x index e) a is = element_assignment_has x.variable index e (word_has 0 index (is.1, is.4)) (is.2, is.5)
+      statement_has (t.choose choice) a is = choice_has choice a is
+      statement_has (t.loop x from y below z body) a is =
           let others : Variable → Bool = λ v. is_same_local y.variable v || is_same_local z.variable v in
           let names : Variable → Bool = λ v. is_same_local x.variable v || others v in
           let own = first_leaves (λ v. is_same_local x.variable v) others (first_leaves names (λ v. block_assigns v body) a) in
-          let inner : GoodBlock body = λ at bad. g at (inr bad) in
-          let h = block_has body (second_leaves names (λ v. block_assigns v body) a) f.2 u.1 inner in
+          let h = block_has body (second_leaves names (λ v. block_assigns v body) a) is.1 in
           G.alone (repeat (loop_local x.variable) from below (lowered_block p body))
-          (loop_has x.variable from below body u.0 own f.0 f.1 (is_good x y z from below body g) f.2 u.1 inner h)
-      statement_has (t.emit e) a f u g =
+          (loop_has x.variable from below body is.0 own is.2 is.3 is.4 is.1 h)
+      statement_has (t.emit e) a is =
           let emits = emit_word (word_place p.map EmitCount) p.map.emits.address in
-          then_step (lowered_expression p e) emits (word_has 0 e f u) (G.stores emits an_emission (words.words EmitCount, words.emits))
-      statement_has (t.transition task) a f u g = transition_has task.task
+          then_step (lowered_expression p e) emits (word_has 0 e is) (G.stores emits an_emission (words.words EmitCount, words.emits))
+      statement_has (t.transition task) a is = transition_has task.task
 
-      choice_has : (c : CheckedChoice) → LeavesAlone (λ v. choice_assigns v c) → ChoiceFits room c → ChoiceUses shared c → GoodChoice c
-          → G.of_program (lowered_choice p c)
-      choice_has t.nothing a f u g = G.empty
-      choice_has (t.otherwise b) a f u g = block_has b a f u g
-      choice_has (t.test e b more) a f u g =
-          let taken = block_has b (first_leaves (λ v. block_assigns v b) (λ v. choice_assigns v more) a) f.1 u.1 (λ at bad. g at (inl bad)) in
-          let passed = choice_has more (second_leaves (λ v. block_assigns v b) (λ v. choice_assigns v more) a) f.2 u.2 (λ at bad. g at (inr bad)) in
+      choice_has : (c : CheckedChoice) → LeavesAlone (λ v. choice_assigns v c) → WellFormedChoice shared c → G.of_program (lowered_choice p c)
+      choice_has t.nothing a is = G.empty
+      choice_has (t.otherwise b) a is = block_has b a is
+      choice_has (t.test e b more) a is =
+          let taken = block_has b (first_leaves (λ v. block_assigns v b) (λ v. choice_assigns v more) a) is.1 in
+          let passed = choice_has more (second_leaves (λ v. block_assigns v b) (λ v. choice_assigns v more) a) is.2 in
           G.alone (choose (lowered_test p e) (lowered_block p b) (lowered_choice p more))
-          (G.chosen (lowered_test p e) (lowered_block p b) (lowered_choice p more) (expression_built 0 e f.0 u.0).test taken passed)
+          (G.chosen (lowered_test p e) (lowered_block p b) (lowered_choice p more) (expression_built 0 e (is.0, is.3)).test taken passed)
 
-      -- the fact holds of the program of each block that is used as declared, fits, and has no bad loop
-      pub block_has : (b : CheckedBlock) → LeavesAlone (λ v. block_assigns v b) → BlockFits room b → BlockUses shared b → GoodBlock b
-          → G.of_program (lowered_block p b)
-      block_has t.end a f u g = G.empty
-      block_has (t.step s more) a f u g =
+      -- the fact holds of the program of each well-formed block
+      pub block_has : (b : CheckedBlock) → LeavesAlone (λ v. block_assigns v b) → WellFormedBlock shared b → G.of_program (lowered_block p b)
+      block_has t.end a is = G.empty
+      block_has (t.step s more) a is =
           G.chain (lowered_statement p s) (lowered_block p more)
-          (statement_has s (first_leaves (λ v. statement_assigns v s) (λ v. block_assigns v more) a) f.0 u.0 (λ at bad. g at (inl bad)))
-          (block_has more (second_leaves (λ v. statement_assigns v s) (λ v. block_assigns v more) a) f.1 u.1 (λ at bad. g at (inr bad)))
+          (statement_has s (first_leaves (λ v. statement_assigns v s) (λ v. block_assigns v more) a) is.0)
+          (block_has more (second_leaves (λ v. statement_assigns v s) (λ v. block_assigns v more) a) is.1)

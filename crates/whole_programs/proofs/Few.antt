@@ -3,21 +3,21 @@ use Rattle.std.proofs.Common.{◌≡◌, ℕ, ◌≤◌, List, [], ◌∷◌, ma
 use Rattle.std.specs.Prelude.{All, Bool, Option, IsSomeAnd, slice_get}
 use Rattle.std.proofs.lemmas.List.Elements.{All-weaker, All-head, All-tail}
 use Rattle.std.proofs.lemmas.Option.{slice_get_within}
-use Rattle.lower.proofs.path_sums.Interface.{writes_some}
-use Rattle.lower.specs.task_ast.declared.Extent.{Extent}
-use Rattle.lower.specs.task_ast.declared.Extent.TheVariants as extent
-use Rattle.lower.specs.task_ast.declared.SharedDeclaration.{SharedDeclaration}
-use Rattle.lower.specs.task_ast.declared.names.Variable.TheVariants.{Shared}
-use Rattle.lower.specs.cost_bound.Counts.{block_assigns}
-use Rattle.lower.specs.cost_bound.Allowance.{scalar_part}
-use Rattle.lower.specs.memory_map.declared.place.VariablePlace.{VariablePlace}
-use Rattle.lower.specs.memory_map.declared.place.VariablePlace.TheVariants.{Scalar, Array}
-use Rattle.lower.specs.memory_map.declared.place.PrivateScalar.{PrivateScalar}
-use Rattle.lower.specs.memory_map.Places.{scalar_words, HasItsPlace}
-use Rattle.lower.specs.memory_map.Spots.{private_words, words_at}
+use Rattle.path_sums.proofs.Interface.{writes_some}
+use Rattle.task_ast.specs.declared.Extent.{Extent}
+use Rattle.task_ast.specs.declared.Extent.TheVariants as extent
+use Rattle.task_ast.specs.declared.SharedDeclaration.{SharedDeclaration}
+use Rattle.task_ast.specs.declared.names.Variable.TheVariants.{Shared}
+use Rattle.cost_bound.specs.Counts.{block_assigns}
+use Rattle.cost_bound.specs.Allowance.{scalar_part}
+use Rattle.memory_map.specs.declared.place.VariablePlace.{VariablePlace}
+use Rattle.memory_map.specs.declared.place.VariablePlace.TheVariants.{Scalar, Array}
+use Rattle.memory_map.specs.declared.place.PrivateScalar.{PrivateScalar}
+use Rattle.memory_map.specs.Places.{scalar_words, HasItsPlace}
+use Rattle.memory_map.specs.Spots.{private_words, words_at}
 use Rattle.privatise.specs.Layouts.{IsPlaceOf}
-use Rattle.privatise.specs.war_analysis.Plans.{is_scalar, IsScalarAt, IsPrivateIn}
-use Rattle.privatise.proofs.war_analysis.Interface.{element, words_of_all, HasWords, marked_are_counted}
+use Rattle.war_analysis.specs.Plans.{is_scalar, IsScalarAt, IsPrivateIn}
+use Rattle.war_analysis.proofs.Interface.{element, words_of_all, HasWords, marked_are_counted}
 use Rattle.whole_programs.specs.Laws.{PrivatesAreFew}
 use Rattle.checked_trees.proofs.Interface.{all_at, task_checked, block_assigned}
 
@@ -42,14 +42,14 @@ words_by_number variables (s ∷ more) h =
 
 pub privates_are_few : PrivatesAreFew
 privates_are_few text program allow plans l laid k task t e f =
-    let uses = (task_checked text program laid.accepted.checks k task e).uses in
+    let formed = (task_checked text program laid.accepted.checks k task e).statements in
     let inside = slice_get_within program.tasks k task e in
     let count = laid.plan.count in
     let plan = element plans k (omega (arith, inside, count)) in
     let is = (laid.plan.each k task plan.0 e plan.1).private_scalars in
     let few = marked_are_counted (λ i. block_assigns i task.body) words program.shared plan.0.private_scalars is.ascending
     (All-weaker (IsPrivateIn program.shared task.body) (λ i. HasWords program.shared i (words i) × (block_assigns i task.body ≡ true))
-    (λ i h. (has_words i h.scalar, block_assigned i program.shared task.body uses (writes_some (Shared i) task.body h.owed.0)))
+    (λ i h. (has_words i h.scalar, block_assigned i program.shared task.body formed (writes_some (Shared i) task.body h.owed.0)))
     plan.0.private_scalars is.only) in
     let numbers = ap (words_of_all words) (laid.layout.tasks.each k task plan.0 t e plan.1 f).privates in
     let their = words_by_number l.variables t.privates (all_at (λ t. All (HasItsPlace l.variables) t.privates) l.tasks k t laid.layout.rules.privates f) in

@@ -6,4 +6,3 @@ mod Spared
 mod Whole
 mod Few
 pub mod Interface
-pub use Rattle.source_meaning.proofs as source_meaning

@@ -6,18 +6,18 @@ use Rattle.std.specs.List.{flat_map, AllByRecursion}
 use Rattle.std.specs.Option.{option_map}
 use Rattle.std.proofs.lemmas.Option.{slice_get-map}
 use Rattle.std.proofs.lemmas.List.Elements.{All-head, All-tail}
-use Rattle.lower.specs.alp_words.Words.{IsWord}
-use Rattle.lower.specs.address_space.Limits.{reset_vector}
-use Rattle.lower.specs.memory_map.declared.words.RuntimeWord.{RuntimeWord}
-use Rattle.lower.specs.memory_map.declared.place.Region.{Region}
-use Rattle.lower.specs.memory_map.declared.place.ArrayCopies.{ArrayCopies}
-use Rattle.lower.specs.memory_map.declared.place.VariablePlace.{VariablePlace}
-use Rattle.lower.specs.memory_map.declared.place.VariablePlace.TheVariants.{Scalar, Array}
-use Rattle.lower.specs.memory_map.declared.place.PrivateScalar.{PrivateScalar}
-use Rattle.lower.specs.memory_map.MemoryMap.{MemoryMap, TaskPlace, word_place}
-use Rattle.lower.specs.memory_map.Places.{end_of, scalar_words, AreInOrder, home_region, copy_regions, version_regions, HasItsPlace, IsLaidOut}
-use Rattle.lower.proofs.memory_map.Interface.{parts_in_fram, words_stand, in_order_within, in_order_split, in_order_end}
-use Rattle.lower.specs.memory_map.Spots.{Places, places_of, address_of, copy_among, home_in, home_of, copy_else}
+use Rattle.alp_words.specs.Words.{IsWord}
+use Rattle.address_space.specs.Limits.{reset_vector}
+use Rattle.memory_map.specs.declared.words.RuntimeWord.{RuntimeWord}
+use Rattle.memory_map.specs.declared.place.Region.{Region}
+use Rattle.memory_map.specs.declared.place.ArrayCopies.{ArrayCopies}
+use Rattle.memory_map.specs.declared.place.VariablePlace.{VariablePlace}
+use Rattle.memory_map.specs.declared.place.VariablePlace.TheVariants.{Scalar, Array}
+use Rattle.memory_map.specs.declared.place.PrivateScalar.{PrivateScalar}
+use Rattle.memory_map.specs.MemoryMap.{MemoryMap, TaskPlace, word_place}
+use Rattle.memory_map.specs.Places.{end_of, scalar_words, AreInOrder, home_region, copy_regions, version_regions, HasItsPlace, IsLaidOut}
+use Rattle.memory_map.proofs.Interface.{parts_in_fram, words_stand, in_order_within, in_order_split, in_order_end}
+use Rattle.memory_map.specs.Spots.{Places, places_of, address_of, copy_among, home_in, home_of, copy_else}
 
 abbrev pub CopiesOfWords : Option ArrayCopies → Type 0
 CopiesOfWords None = Unit {0}

@@ -2,18 +2,16 @@
 use Rattle.std.proofs.Common.{◌≡◌, ℕ, ◌%◌, ◌==◌, ◌<◌, false, List, refl, sym, subst, arith}
 use Rattle.std.specs.Prelude.{◌≢◌}
 use Rattle.std.proofs.lemmas.Bool.Decides.{nat_tests}
-use Rattle.lower.specs.task_ast.Paths.{CheckedBlock}
-use Rattle.lower.specs.task_ast.declared.SharedDeclaration.{SharedDeclaration}
-use Rattle.lower.specs.task_ast.declared.names.Variable.TheVariants.{Local}
-use Rattle.lower.specs.path_checks.Loops.{block_assigns}
-use Rattle.lower.specs.array_versions.Program.{Step, Program, nothing, step, joined}
-use Rattle.lower.specs.array_versions.Form.{StepSpares, TestSpares, Spares}
-use Rattle.lower.specs.memory_map.Spots.{Places}
+use Rattle.task_ast.specs.Paths.{CheckedBlock}
+use Rattle.task_ast.specs.declared.SharedDeclaration.{SharedDeclaration}
+use Rattle.task_ast.specs.declared.names.Variable.TheVariants.{Local}
+use Rattle.path_checks.specs.Loops.{block_assigns}
+use Rattle.array_versions.specs.Program.{Step, Program, nothing, step, joined}
+use Rattle.array_versions.specs.Form.{StepSpares, TestSpares, Spares}
+use Rattle.memory_map.specs.Spots.{Places}
 use Rattle.lower.specs.Lowered.{lowered_block}
-use Rattle.checked_trees.specs.Needs.{BlockFits}
-use Rattle.checked_trees.specs.Uses.{BlockUses}
+use Rattle.checked_trees.specs.WellFormed.{WellFormedBlock}
 use Rattle.whole_programs.proofs.Placed.{PlacesOfWords}
-use Rattle.checked_trees.proofs.Interface.{GoodBlock}
 use Rattle.whole_programs.proofs.Built.{Leaf, a_number, Stores, a_store, IsApart, EachStep, block_has}
 
 -- a step without a local spares each; the first clauses make them proofs by cases
@@ -63,7 +61,7 @@ module _ (p : Places) (y : ℕ) (low : y < 256) where
     turned = λ c h. h;
   }
 
-pub block_spares : (p : Places) → PlacesOfWords p → (room : ℕ) (shared : List SharedDeclaration) (y : ℕ) (b : CheckedBlock) → y < 256
-    → block_assigns (Local y) b ≡ false → BlockFits room b → BlockUses shared b → GoodBlock b → Spares (y % 65536) (lowered_block p b)
-block_spares p words room shared y b low h f u g =
-    block_has p (each_spares p y low) words room shared (λ n b l s f u g. tt) b (λ z is. subst (λ x. block_assigns (Local x) b ≡ false) (sym is) h) f u g
+pub block_spares : (p : Places) → PlacesOfWords p → (shared : List SharedDeclaration) (y : ℕ) (b : CheckedBlock) → y < 256
+    → block_assigns (Local y) b ≡ false → WellFormedBlock shared b → Spares (y % 65536) (lowered_block p b)
+block_spares p words shared y b low spared is =
+    block_has p (each_spares p y low) words shared (λ n b l s is. tt) b (λ z same. subst (λ x. block_assigns (Local x) b ≡ false) (sym same) spared) is

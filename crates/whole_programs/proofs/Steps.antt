@@ -1,17 +1,15 @@
 -- Each step of a task's program: its locals are below 256, its loops count, and its numbers are words.
 use Rattle.std.proofs.Common.{ℕ, ◌%◌, ◌<◌, List, arith}
-use Rattle.lower.specs.alp_words.Words.{IsWord}
-use Rattle.lower.specs.task_ast.Paths.{CheckedBlock}
-use Rattle.lower.specs.task_ast.declared.SharedDeclaration.{SharedDeclaration}
-use Rattle.lower.specs.array_versions.Program.{Step, Test, Program, nothing, step, joined}
-use Rattle.lower.specs.array_versions.Form.{StepLocalsBelow, TestLocalsBelow, LocalsBelow, StepLoopsCount, TestLoopsCount, LoopsCount, StepOfWords}
-use Rattle.lower.specs.array_versions.Form.{TestOfWords, OfWords, Spares}
-use Rattle.lower.specs.memory_map.Spots.{Places}
+use Rattle.alp_words.specs.Words.{IsWord}
+use Rattle.task_ast.specs.Paths.{CheckedBlock}
+use Rattle.task_ast.specs.declared.SharedDeclaration.{SharedDeclaration}
+use Rattle.array_versions.specs.Program.{Step, Test, Program, nothing, step, joined}
+use Rattle.array_versions.specs.Form.{StepLocalsBelow, TestLocalsBelow, LocalsBelow, StepLoopsCount, TestLoopsCount, LoopsCount, StepOfWords}
+use Rattle.array_versions.specs.Form.{TestOfWords, OfWords, Spares}
+use Rattle.memory_map.specs.Spots.{Places}
 use Rattle.lower.specs.Lowered.{lowered_block}
-use Rattle.checked_trees.specs.Needs.{BlockFits}
-use Rattle.checked_trees.specs.Uses.{BlockUses}
+use Rattle.checked_trees.specs.WellFormed.{WellFormedBlock}
 use Rattle.whole_programs.proofs.Placed.{PlacesOfWords}
-use Rattle.checked_trees.proofs.Interface.{GoodBlock}
 use Rattle.whole_programs.proofs.Built.{Leaf, a_number, Stores, a_store, EachStep, block_has}
 use Rattle.whole_programs.proofs.Spared.{block_spares}
 
@@ -70,7 +68,6 @@ each_sound p = record {
   turned = λ c h. h;
 }
 
-pub block_sound : (p : Places) → PlacesOfWords p → (shared : List SharedDeclaration) (room : ℕ) (b : CheckedBlock) → BlockFits room b → BlockUses shared b
-    → GoodBlock b → Sound (lowered_block p b)
-block_sound p words shared room b f u g =
-    block_has p (each_sound p) words room shared (λ n b l s f u g. block_spares p words room shared n b l s f u g) b (λ y none. absurd none) f u g
+pub block_sound : (p : Places) → PlacesOfWords p → (shared : List SharedDeclaration) (b : CheckedBlock) → WellFormedBlock shared b → Sound (lowered_block p b)
+block_sound p words shared b is =
+    block_has p (each_sound p) words shared (λ n b low spared is. block_spares p words shared n b low spared is) b (λ y none. absurd none) is

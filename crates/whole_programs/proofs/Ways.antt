@@ -3,42 +3,41 @@
 use Rattle.std.proofs.Common.{◌≡◌, ℕ, zero, suc, ◌+◌, ◌-◌, ◌%◌, ◌==◌, ◌<◌, ◌≤◌, ◌||◌, Bool, true, false, nat_eq, List, [], ◌∷◌, ◌++◌, Option, Some}
 use Rattle.std.proofs.Common.{None, refl, sym, ap, subst, ◌∙◌, arith, if◌then◌else◌}
 use Rattle.std.proofs.lemmas.Bool.Decides.{nat_tests}
-use Rattle.lower.specs.task_ast.Tree as t
-use Rattle.lower.specs.task_ast.Paths.{CheckedExpression, CheckedStatement, CheckedChoice, CheckedBlock, Access, read, write, unset, End, goes_on}
-use Rattle.lower.specs.task_ast.Paths.{goes_to, StatementPath, ChoicePath, TurnsPath, BlockPath}
-use Rattle.lower.specs.task_ast.Paths as path
-use Rattle.lower.specs.task_ast.declared.SharedDeclaration.{SharedDeclaration}
-use Rattle.lower.specs.task_ast.declared.WordType.{WordType}
-use Rattle.lower.specs.task_ast.declared.WordType.TheVariants.{Unsigned, Int, Long}
-use Rattle.lower.specs.task_ast.declared.PlacedOperator.{PlacedOperator}
-use Rattle.lower.specs.task_ast.declared.names.Variable.{Variable}
-use Rattle.lower.specs.task_ast.declared.names.Variable.TheVariants.{Shared, Local}
-use Rattle.lower.specs.task_ast.declared.names.VariableName.{VariableName}
-use Rattle.lower.specs.path_checks.Loops.{is_local}
-use Rattle.lower.specs.source_values.Values.{joined_type, type_of}
-use Rattle.lower.specs.array_versions.declared.operations.PlainOperation.{PlainOperation}
-use Rattle.lower.specs.array_versions.Program.{Step, Test, Program, emit_word, store_number, move_word, jump, nothing}
-use Rattle.lower.specs.array_versions.Program.{step, joined, truth, holds, local, compares}
-use Rattle.lower.specs.array_versions.declared.operations.Comparison.{Comparison}
-use Rattle.lower.specs.array_versions.Form.{Place, start, assigning, Moves, EachTurn, EachStepWay, EachTestWay, EachWay, StepOfWords}
-use Rattle.lower.specs.memory_map.MemoryMap.{word_place}
-use Rattle.lower.specs.memory_map.declared.words.RuntimeWord.TheVariants.{Gate, ListLength, EmitCount, Base, SentBase}
+use Rattle.task_ast.specs.Tree as t
+use Rattle.task_ast.specs.Paths.{CheckedExpression, CheckedStatement, CheckedChoice, CheckedBlock, Access, read, write, unset, End, goes_on}
+use Rattle.task_ast.specs.Paths.{goes_to, StatementPath, ChoicePath, TurnsPath, BlockPath}
+use Rattle.task_ast.specs.Paths as path
+use Rattle.task_ast.specs.declared.SharedDeclaration.{SharedDeclaration}
+use Rattle.task_ast.specs.declared.WordType.{WordType}
+use Rattle.task_ast.specs.declared.WordType.TheVariants.{Unsigned, Int, Long}
+use Rattle.task_ast.specs.declared.PlacedOperator.{PlacedOperator}
+use Rattle.task_ast.specs.declared.names.Variable.{Variable}
+use Rattle.task_ast.specs.declared.names.Variable.TheVariants.{Shared, Local}
+use Rattle.task_ast.specs.declared.names.VariableName.{VariableName}
+use Rattle.path_checks.specs.Loops.{is_local}
+use Rattle.source_values.specs.Values.{joined_type, type_of}
+use Rattle.array_versions.specs.declared.operations.PlainOperation.{PlainOperation}
+use Rattle.array_versions.specs.Program.{Step, Test, Program, emit_word, store_number, move_word, jump, nothing}
+use Rattle.array_versions.specs.Program.{step, joined, truth, holds, local, compares}
+use Rattle.array_versions.specs.declared.operations.Comparison.{Comparison}
+use Rattle.array_versions.specs.Form.{Place, start, assigning, Moves, EachTurn, EachStepWay, EachTestWay, EachWay, StepOfWords}
+use Rattle.memory_map.specs.MemoryMap.{word_place}
+use Rattle.memory_map.specs.declared.words.RuntimeWord.TheVariants.{Gate, ListLength, EmitCount, Base, SentBase}
 use Rattle.lower.specs.declared.runs.Run.{Run}
 use Rattle.lower.specs.Runs.{runs_of}
-use Rattle.lower.specs.memory_map.Spots.{Places}
+use Rattle.memory_map.specs.Spots.{Places}
 use Rattle.lower.specs.Lowered.{one, write_step, write_long, store_step}
 use Rattle.lower.specs.Lowered.{lowering, lowered_expression, widened_type, lowered_long, assignment}
 use Rattle.lower.specs.Lowered.{scalar_assignment}
 use Rattle.lower.specs.Lowered.{update_step, setting, long_setting, updating, of_words, sides_set}
 use Rattle.lower.specs.Lowered.{update_element_step, index_and_value, element_updating, element_sides_set, element_assignment}
 use Rattle.lower.specs.Lowered.{loop_local, entries, lowered_transition, lowered_statement, lowered_choice, lowered_block}
-use Rattle.checked_trees.specs.Needs.{ExpressionFits, StatementFits, ChoiceFits, BlockFits}
-use Rattle.checked_trees.specs.Uses.{IsWordName, IsArrayName, ExpressionUses, StatementUses, ChoiceUses, BlockUses}
+use Rattle.checked_trees.specs.WellFormed.{enough, IsWordName, IsArrayName, WellFormedExpression, WellFormedStatement, WellFormedChoice, WellFormedBlock}
 use Rattle.lower.proofs.Interface.{small_modulo, is_update}
 use Rattle.whole_programs.proofs.Placed.{PlacesOfWords}
 use Rattle.whole_programs.proofs.Built.{Leaf, a_number, a_load, a_reading, a_unary, a_shift, an_element, a_version, a_binary, a_widening, a_join, a_low_word}
-use Rattle.whole_programs.proofs.Built.{a_complement, a_left_shift, a_right_shift, a_calculation, is_below, is_above, ReadOf, Reads, two_fit, fits_above, Fact}
-use Rattle.whole_programs.proofs.Built.{lowering_has, long_has}
+use Rattle.whole_programs.proofs.Built.{a_complement, a_left_shift, a_right_shift, a_calculation, is_below, is_above, ReadOf, Reads, two_fit, Fact}
+use Rattle.whole_programs.proofs.Built.{FitsAbove, right_fits, lowering_has, long_has}
 use Rattle.checked_trees.proofs.Interface.{names_read, is_path, some_turns, some_block, written, forgotten, behind, behind_both, behind_names}
 use Rattle.checked_trees.proofs.Interface.{behind_expression, IsAssigned, Safe, safe_both, safe_expression}
 
@@ -136,9 +135,18 @@ module _ (room : ℕ) (a : ℕ → Bool) where
     turned = λ d c h held failed x y. h failed held y x;
   }
 
-expression_way : (room : ℕ) (p : Places) → PlacesOfWords p → (d : ℕ) (a : ℕ → Bool) (e : CheckedExpression) (next : Place → Type 0)
-    → ExpressionFits room d e → Reads (Assigned a) e → next (at (suc d) a) → EachWay room (lowered_expression p e) next (at d a)
-expression_way room p words d a e next f r h = (lowering_has (ways room a) p words d e f r).word next h
+-- a well-formed expression with room above so many words, whose locals are assigned
+abbrev Ready : List SharedDeclaration → (ℕ → Bool) → ℕ → CheckedExpression → Type 0
+Ready shared a d e = FitsAbove shared d e × Reads (Assigned a) e
+
+-- so is the right side of an operator
+right_ready : (shared : List SharedDeclaration) (a : ℕ → Bool) (d : ℕ) (op : PlacedOperator) (b e : CheckedExpression) → Ready shared a d (t.binary op b e)
+    → Ready shared a d e
+right_ready shared a d op b e r = (right_fits shared d op b e r.0, r.1.1)
+
+expression_way : (p : Places) → PlacesOfWords p → (shared : List SharedDeclaration) (d : ℕ) (a : ℕ → Bool) (e : CheckedExpression) (next : Place → Type 0)
+    → Ready shared a d e → next (at (suc d) a) → EachWay enough (lowered_expression p e) next (at d a)
+expression_way p words shared d a e next r h = (lowering_has (ways enough a) p words shared d e r.0.0 r.0.1 r.1).word next h
 
 -- ---- locals
 
@@ -180,7 +188,7 @@ covers_forgotten u a x c y l h = c y l (by_test (is_local y x.variable) h)
     by_test false h = h
 
 -- what an expression reads is assigned
-reads_assigned : (shared : List SharedDeclaration) (u a : ℕ → Bool) (e : CheckedExpression) → Covers u a → ExpressionUses shared e → Safe u (names_read e)
+reads_assigned : (shared : List SharedDeclaration) (u a : ℕ → Bool) (e : CheckedExpression) → Covers u a → WellFormedExpression shared e → Safe u (names_read e)
     → Reads (Assigned a) e
 reads_assigned shared u a (t.number w) c n s = tt
 reads_assigned shared u a (t.long_number w) c n s = tt
@@ -194,7 +202,7 @@ reads_assigned shared u a t.sense c n s = tt
 reads_assigned shared u a (t.unary op e) c n s = reads_assigned shared u a e c n s
 reads_assigned shared u a (t.binary op x y) c n s =
     let r = safe_expression u x (names_read y) s in (reads_assigned shared u a x c n.0 r.0, reads_assigned shared u a y c n.1 r.1)
-reads_assigned shared u a (t.shift op e count) c n s = reads_assigned shared u a e c n s
+reads_assigned shared u a (t.shift op e count) c n s = reads_assigned shared u a e c n.0 s
 reads_assigned shared u a (t.short_circuit op x y) c n s =
     let r = safe_expression u x (names_read y) s in (reads_assigned shared u a x c n.0 r.0, reads_assigned shared u a y c n.1 r.1)
 
@@ -237,35 +245,35 @@ module _ (room : ℕ) (x : VariableName) (code : Program) (body : CheckedBlock) 
       way (written u x) _ _ (covers_written u a x c)
       (turn_follows m (written u x) next _ h (λ xs q b d. turns_way m (behind (written u x) xs) b next d (turns_follow m (written u x) next xs h q)))
 
-module _ (room : ℕ) (p : Places) (words : PlacesOfWords p) (shared : List SharedDeclaration) (even : p.map.commit.address % 2 ≡ 0) where
+module _ (p : Places) (words : PlacesOfWords p) (shared : List SharedDeclaration) (even : p.map.commit.address % 2 ≡ 0) where
   write_way : (u a : ℕ → Bool) (x : VariableName) (next : Place → Type 0) → Covers u a → ((b : ℕ → Bool) → Covers (written u x) b → next (at 0 b))
-      → EachStepWay room (write_step p x.variable) next (at 1 a)
+      → EachStepWay enough (write_step p x.variable) next (at 1 a)
   write_way u a x next c h = by_variable x.variable refl
     where
-      by_variable : (v : Variable) → x.variable ≡ v → EachStepWay room (write_step p v) next (at 1 a)
-      by_variable (Shared v) is = moves room 1 0 1 0 a next (omega arith) (omega arith) (omega arith) (h a (covers_shared u a x v is c))
+      by_variable : (v : Variable) → x.variable ≡ v → EachStepWay enough (write_step p v) next (at 1 a)
+      by_variable (Shared v) is = moves enough 1 0 1 0 a next (omega arith) (omega arith) (omega arith) (h a (covers_shared u a x v is c))
       by_variable (Local n) is =
-          moves room 1 0 1 0 a (λ q. next (assigning (n % 65536) q)) (omega arith) (omega arith) (omega arith)
+          moves enough 1 0 1 0 a (λ q. next (assigning (n % 65536) q)) (omega arith) (omega arith) (omega arith)
           (h (λ m. nat_eq m (n % 65536) || a m) (subst (λ v. Covers (written u x) (λ m. nat_eq m (loop_local v) || a m)) is (covers_written u a x c)))
 
   -- the same of a long
-  long_write_way : (u a : ℕ → Bool) (x : VariableName) (next : Place → Type 0) → 2 ≤ room → Covers u a
+  long_write_way : (u a : ℕ → Bool) (x : VariableName) (next : Place → Type 0) → 2 ≤ enough → Covers u a
       → ((b : ℕ → Bool) → Covers (written u x) b → next (at 0 b))
-      → EachWay room (write_long p x.variable) next (at 2 a)
+      → EachWay enough (write_long p x.variable) next (at 2 a)
   long_write_way u a x next l c h = by_variable x.variable refl
     where
-      by_variable : (v : Variable) → x.variable ≡ v → EachWay room (write_long p v) next (at 2 a)
+      by_variable : (v : Variable) → x.variable ≡ v → EachWay enough (write_long p v) next (at 2 a)
       by_variable (Shared v) is =
-          moves room 1 0 2 1 a (Moves room 1 0 next) (omega arith) (omega arith) (omega (arith, l))
-          (moves room 1 0 1 0 a next (omega arith) (omega arith) (omega arith) (h a (covers_shared u a x v is c)))
+          moves enough 1 0 2 1 a (Moves enough 1 0 next) (omega arith) (omega arith) (omega (arith, l))
+          (moves enough 1 0 1 0 a next (omega arith) (omega arith) (omega arith) (h a (covers_shared u a x v is c)))
       by_variable (Local n) is =
-          moves room 2 1 2 1 a (EachStepWay room (write_step p (Local n)) next) (omega arith) (omega arith) (omega (arith, l))
-          (subst (λ v. EachStepWay room (write_step p v) next (at 1 a)) is (write_way u a x next c h))
+          moves enough 2 1 2 1 a (EachStepWay enough (write_step p (Local n)) next) (omega arith) (omega arith) (omega (arith, l))
+          (subst (λ v. EachStepWay enough (write_step p v) next (at 1 a)) is (write_way u a x next c h))
 
   -- where the variable is assigned it may be updated
   update_way : (a : ℕ → Bool) (o : PlainOperation) (v : Variable) (next : Place → Type 0) → ReadOf (Assigned a) v
-      → EachStepWay room (write_step p v) next (at 1 a)
-      → EachStepWay room (update_step p o v) next (at 1 a)
+      → EachStepWay enough (write_step p v) next (at 1 a)
+      → EachStepWay enough (update_step p o v) next (at 1 a)
   update_way a o (Shared v) next r h = h
   update_way a o (Local n) next r h = (r, h)
 
@@ -274,107 +282,104 @@ module _ (room : ℕ) (p : Places) (words : PlacesOfWords p) (shared : List Shar
   Written u x e next = (b : ℕ → Bool) → Covers (behind u (names_read e ++ write x ∷ [])) b → next (at 0 b)
 
   write_behind : (u a : ℕ → Bool) (x : VariableName) (e : CheckedExpression) (next : Place → Type 0) → Covers u a → Written u x e next
-      → EachStepWay room (write_step p x.variable) next (at 1 a)
+      → EachStepWay enough (write_step p x.variable) next (at 1 a)
   write_behind u a x e next c h = write_way u a x next c (λ b d. h b (subst (λ v. Covers v b) (sym (behind_expression u e (write x ∷ []))) d))
 
   -- an expression's value is set
-  setting_way : (u a : ℕ → Bool) (x : VariableName) (e : CheckedExpression) (next : Place → Type 0) → ExpressionFits room 0 e → Covers u a
-      → Reads (Assigned a) e → Written u x e next → EachWay room (setting p x.variable e) next (at 0 a)
-  setting_way u a x e next f c r h =
-      joined_way room (lowered_expression p e) (one (write_step p x.variable)) next (at 0 a)
-      (expression_way room p words 0 a e _ f r (write_behind u a x e next c h))
+  setting_way : (u a : ℕ → Bool) (x : VariableName) (e : CheckedExpression) (next : Place → Type 0) → Ready shared a 0 e → Covers u a
+      → Written u x e next → EachWay enough (setting p x.variable e) next (at 0 a)
+  setting_way u a x e next r c h =
+      joined_way enough (lowered_expression p e) (one (write_step p x.variable)) next (at 0 a)
+      (expression_way p words shared 0 a e _ r (write_behind u a x e next c h))
 
   -- so is one of two words
-  long_setting_way : (u a : ℕ → Bool) (x : VariableName) (e : CheckedExpression) (next : Place → Type 0) → ExpressionFits room 0 e → Covers u a
-      → Reads (Assigned a) e → Written u x e next → EachWay room (long_setting p x.variable e) next (at 0 a)
-  long_setting_way u a x e next f c r h =
-      joined_way room (lowered_long p e) (write_long p x.variable) next (at 0 a)
-      (long_has (ways room a) 0 (widened_type e) (lowering p e) (two_fit room 0 e f) (lowering_has (ways room a) p words 0 e f r)
-      (EachWay room (write_long p x.variable) next)
-      (long_write_way u a x next (two_fit room 0 e f) c (λ b d. h b (subst (λ v. Covers v b) (sym (behind_expression u e (write x ∷ []))) d))))
+  long_setting_way : (u a : ℕ → Bool) (x : VariableName) (e : CheckedExpression) (next : Place → Type 0) → Ready shared a 0 e → Covers u a
+      → Written u x e next → EachWay enough (long_setting p x.variable e) next (at 0 a)
+  long_setting_way u a x e next r c h =
+      let two = two_fit enough 0 e r.0.1 in
+      joined_way enough (lowered_long p e) (write_long p x.variable) next (at 0 a)
+      (long_has (ways enough a) 0 (widened_type e) (lowering p e) two (lowering_has (ways enough a) p words shared 0 e r.0.0 r.0.1 r.1)
+      (EachWay enough (write_long p x.variable) next)
+      (long_write_way u a x next two c (λ b d. h b (subst (λ v. Covers v b) (sym (behind_expression u e (write x ∷ []))) d))))
 
   sides_set_way : (u a : ℕ → Bool) (x : VariableName) (op : PlacedOperator) (b e : CheckedExpression) (o : Option PlainOperation) (next : Place → Type 0)
-      → updating x.variable op.operator b ≡ o → ExpressionFits room 0 (t.binary op b e) → Covers u a → Reads (Assigned a) (t.binary op b e)
-      → Written u x (t.binary op b e) next → EachWay room (sides_set p x.variable op b e o) next (at 0 a)
-  sides_set_way u a x op b e None next is f c r h = setting_way u a x (t.binary op b e) next f c r h
-  sides_set_way u a x op b e (Some o) next is f c r h =
+      → updating x.variable op.operator b ≡ o → Ready shared a 0 (t.binary op b e) → Covers u a
+      → Written u x (t.binary op b e) next → EachWay enough (sides_set p x.variable op b e o) next (at 0 a)
+  sides_set_way u a x op b e None next is r c h = setting_way u a x (t.binary op b e) next r c h
+  sides_set_way u a x op b e (Some o) next is r c h =
       let update = is_update x.variable op.operator b o is in
-      let own : ReadOf (Assigned a) x.variable = subst (ReadOf (Assigned a)) update.same (subst (Reads (Assigned a)) update.is r.0) in
-      joined_way room (lowered_expression p e) (one (update_step p o x.variable)) next (at 0 a)
-      (expression_way room p words 0 a e _ (fits_above room 0 (suc (suc 0)) e (omega arith) f.1) r.1
+      let own : ReadOf (Assigned a) x.variable = subst (ReadOf (Assigned a)) update.same (subst (Reads (Assigned a)) update.is r.1.0) in
+      joined_way enough (lowered_expression p e) (one (update_step p o x.variable)) next (at 0 a)
+      (expression_way p words shared 0 a e _ (right_ready shared a 0 op b e r)
       (update_way a o x.variable next own (write_behind u a x (t.binary op b e) next c h)))
 
   -- the first clause makes it a proof by cases
-  assignment_way : (u a : ℕ → Bool) (x : VariableName) (e : CheckedExpression) (next : Place → Type 0) → ExpressionFits room 0 e → Covers u a
-      → Reads (Assigned a) e → Written u x e next → EachWay room (assignment p x.variable e) next (at 0 a)
-  assignment_way u a x (t.binary op b e) next f c r h = by_type (joined_type (type_of b) (type_of e))
+  assignment_way : (u a : ℕ → Bool) (x : VariableName) (e : CheckedExpression) (next : Place → Type 0) → Ready shared a 0 e → Covers u a
+      → Written u x e next → EachWay enough (assignment p x.variable e) next (at 0 a)
+  assignment_way u a x (t.binary op b e) next r c h = by_type (joined_type (type_of b) (type_of e))
     where
-      by_type : (of : WordType) → EachWay room (sides_set p x.variable op b e (of_words of (updating x.variable op.operator b))) next (at 0 a)
-      by_type Long = setting_way u a x (t.binary op b e) next f c r h
-      by_type Int = sides_set_way u a x op b e (updating x.variable op.operator b) next refl f c r h
-      by_type Unsigned = sides_set_way u a x op b e (updating x.variable op.operator b) next refl f c r h
-  assignment_way u a x e next f c r h = setting_way u a x e next f c r h
+      by_type : (of : WordType) → EachWay enough (sides_set p x.variable op b e (of_words of (updating x.variable op.operator b))) next (at 0 a)
+      by_type Long = setting_way u a x (t.binary op b e) next r c h
+      by_type Int = sides_set_way u a x op b e (updating x.variable op.operator b) next refl r c h
+      by_type Unsigned = sides_set_way u a x op b e (updating x.variable op.operator b) next refl r c h
+  assignment_way u a x e next r c h = setting_way u a x e next r c h
 
-  typed_assignment_way : (u a : ℕ → Bool) (of : WordType) (x : VariableName) (e : CheckedExpression) (next : Place → Type 0) → ExpressionFits room 0 e
-      → Covers u a → Reads (Assigned a) e → Written u x e next → EachWay room (scalar_assignment p of x.variable e) next (at 0 a)
-  typed_assignment_way u a Long x e next f c r h = long_setting_way u a x e next f c r h
-  typed_assignment_way u a Int x e next f c r h = assignment_way u a x e next f c r h
-  typed_assignment_way u a Unsigned x e next f c r h = assignment_way u a x e next f c r h
+  typed_assignment_way : (u a : ℕ → Bool) (of : WordType) (x : VariableName) (e : CheckedExpression) (next : Place → Type 0) → Ready shared a 0 e
+      → Covers u a → Written u x e next → EachWay enough (scalar_assignment p of x.variable e) next (at 0 a)
+  typed_assignment_way u a Long x e next r c h = long_setting_way u a x e next r c h
+  typed_assignment_way u a Int x e next r c h = assignment_way u a x e next r c h
+  typed_assignment_way u a Unsigned x e next r c h = assignment_way u a x e next r c h
 
-  assigned_way : (u a : ℕ → Bool) (of : WordType) (x : VariableName) (e : CheckedExpression) (next : Place → Type 0) → ExpressionFits room 0 e
-      → ExpressionUses shared e → Covers u a → Safe u (names_read e ++ write x ∷ []) → Written u x e next
-      → EachWay room (scalar_assignment p of x.variable e) next (at 0 a)
-  assigned_way u a of x e next f n c s h =
-      typed_assignment_way u a of x e next f c (reads_assigned shared u a e c n (safe_expression u e (write x ∷ []) s).0) h
+  assigned_way : (u a : ℕ → Bool) (of : WordType) (x : VariableName) (e : CheckedExpression) (next : Place → Type 0) → FitsAbove shared 0 e
+      → Covers u a → Safe u (names_read e ++ write x ∷ []) → Written u x e next
+      → EachWay enough (scalar_assignment p of x.variable e) next (at 0 a)
+  assigned_way u a of x e next f c s h =
+      typed_assignment_way u a of x e next (f, reads_assigned shared u a e c f.0 (safe_expression u e (write x ∷ []) s).0) c h
 
   entries_way : (count list : ℕ) (runs : List Run) (next : Place → Type 0) (o : Place) → next o
-      → EachWay room (entries count list runs) next o
+      → EachWay enough (entries count list runs) next o
   entries_way count list [] next o h = h
   entries_way count list (s ∷ more) next o h = entries_way count list more next o h
 
-  transition_way : (task : ℕ) (next : Place → Type 0) (o : Place) → EachWay room (lowered_transition p task) next o
+  transition_way : (task : ℕ) (next : Place → Type 0) (o : Place) → EachWay enough (lowered_transition p task) next o
   transition_way task next o =
       let close : Program = step (move_word (word_place p.map Base) (word_place p.map SentBase))
       (step (store_number (word_place p.map Gate) 1) (one (jump p.map.commit.address))) in
-      joined_way room (entries (word_place p.map ListLength) p.map.list.address (runs_of p.privates)) close next o
-      (entries_way (word_place p.map ListLength) p.map.list.address (runs_of p.privates) (EachWay room close next) o even)
+      joined_way enough (entries (word_place p.map ListLength) p.map.list.address (runs_of p.privates)) close next o
+      (entries_way (word_place p.map ListLength) p.map.list.address (runs_of p.privates) (EachWay enough close next) o even)
 
   -- an index and a value, and a step behind both
-  index_and_value_way : (a : ℕ → Bool) (index e : CheckedExpression) (s : Step) (next : Place → Type 0) → ExpressionFits room 0 index
-      → ExpressionFits room 1 e → Reads (Assigned a) index → Reads (Assigned a) e → EachStepWay room s next (at 2 a)
-      → EachWay room (joined (index_and_value p index e) (one s)) next (at 0 a)
-  index_and_value_way a index e s next f g q r h =
-      joined_way room (index_and_value p index e) (one s) next (at 0 a)
-      (joined_way room (lowered_expression p index) (lowered_expression p e) (EachWay room (one s) next) (at 0 a)
-      (expression_way room p words 0 a index _ f q (expression_way room p words 1 a e _ g r h)))
+  index_and_value_way : (a : ℕ → Bool) (index e : CheckedExpression) (s : Step) (next : Place → Type 0) → Ready shared a 0 index → Ready shared a 1 e
+      → EachStepWay enough s next (at 2 a) → EachWay enough (joined (index_and_value p index e) (one s)) next (at 0 a)
+  index_and_value_way a index e s next q r h =
+      joined_way enough (index_and_value p index e) (one s) next (at 0 a)
+      (joined_way enough (lowered_expression p index) (lowered_expression p e) (EachWay enough (one s) next) (at 0 a)
+      (expression_way p words shared 0 a index _ q (expression_way p words shared 1 a e _ r h)))
 
   element_sides_way : (a : ℕ → Bool) (x : Variable) (index : CheckedExpression) (op : PlacedOperator) (b e : CheckedExpression) (o : Option PlainOperation)
-      (next : Place → Type 0) → ExpressionFits room 0 index → ExpressionFits room 1 (t.binary op b e)
-      → Reads (Assigned a) index → Reads (Assigned a) (t.binary op b e) → Moves room 2 0 next (at 2 a)
-      → EachWay room (element_sides_set p x index op b e o) next (at 0 a)
-  element_sides_way a x index op b e None next f g q r h = index_and_value_way a index (t.binary op b e) (store_step p x) next f g q r h
-  element_sides_way a x index op b e (Some o) next f g q r h =
-      index_and_value_way a index e (update_element_step p o x) next f (fits_above room 1 (suc (suc 1)) e (omega arith) g.1) q r.1 h
+      (next : Place → Type 0) → Ready shared a 0 index → Ready shared a 1 (t.binary op b e) → Moves enough 2 0 next (at 2 a)
+      → EachWay enough (element_sides_set p x index op b e o) next (at 0 a)
+  element_sides_way a x index op b e None next q r h = index_and_value_way a index (t.binary op b e) (store_step p x) next q r h
+  element_sides_way a x index op b e (Some o) next q r h =
+      index_and_value_way a index e (update_element_step p o x) next q (right_ready shared a 1 op b e r) h
 
   -- the first clause makes it a proof by cases
-  element_assignment_way : (a : ℕ → Bool) (x : Variable) (index e : CheckedExpression) (next : Place → Type 0) → ExpressionFits room 0 index
-      → ExpressionFits room 1 e → Reads (Assigned a) index → Reads (Assigned a) e → Moves room 2 0 next (at 2 a)
-      → EachWay room (element_assignment p x index e) next (at 0 a)
-  element_assignment_way a x index (t.binary op b e) next f g q r h =
-      element_sides_way a x index op b e (of_words (joined_type (type_of b) (type_of e)) (element_updating x index op.operator b)) next f g q r h
-  element_assignment_way a x index e next f g q r h = index_and_value_way a index e (store_step p x) next f g q r h
+  element_assignment_way : (a : ℕ → Bool) (x : Variable) (index e : CheckedExpression) (next : Place → Type 0) → Ready shared a 0 index
+      → Ready shared a 1 e → Moves enough 2 0 next (at 2 a) → EachWay enough (element_assignment p x index e) next (at 0 a)
+  element_assignment_way a x index (t.binary op b e) next q r h =
+      element_sides_way a x index op b e (of_words (joined_type (type_of b) (type_of e)) (element_updating x index op.operator b)) next q r h
+  element_assignment_way a x index e next q r h = index_and_value_way a index e (store_step p x) next q r h
 
   -- of an index and a value
-  element_assigned_way : (u a : ℕ → Bool) (x : VariableName) (index e : CheckedExpression) (next : Place → Type 0) → ExpressionFits room 0 index
-      → ExpressionFits room 1 e
-      → IsArrayName shared x.variable → ExpressionUses shared index → ExpressionUses shared e → Covers u a
+  element_assigned_way : (u a : ℕ → Bool) (x : VariableName) (index e : CheckedExpression) (next : Place → Type 0) → FitsAbove shared 0 index
+      → FitsAbove shared 1 e → IsArrayName shared x.variable → Covers u a
       → Safe u (names_read index ++ (names_read e ++ write x ∷ []))
       → ((b : ℕ → Bool) → Covers (behind u (names_read index ++ (names_read e ++ write x ∷ []))) b → next (at 0 b))
-      → EachWay room (element_assignment p x.variable index e) next (at 0 a)
-  element_assigned_way u a x index e next f g array m n c s h =
+      → EachWay enough (element_assignment p x.variable index e) next (at 0 a)
+  element_assigned_way u a x index e next f g array c s h =
       let first = safe_expression u index (names_read e ++ write x ∷ []) s in
       let second = safe_expression u e (write x ∷ []) first.1 in
-      element_assignment_way a x.variable index e next f g (reads_assigned shared u a index c m first.0) (reads_assigned shared u a e c n second.0)
+      element_assignment_way a x.variable index e next (f, reads_assigned shared u a index c f.0 first.0) (g, reads_assigned shared u a e c g.0 second.0)
       (by_variable x.variable refl array)
     where
       reaches : (v : ℕ) → x.variable ≡ Shared v → Covers (behind u (names_read index ++ (names_read e ++ write x ∷ []))) a
@@ -382,8 +387,8 @@ module _ (room : ℕ) (p : Places) (words : PlacesOfWords p) (shared : List Shar
           subst (λ w. Covers w a) (sym (behind_expression u index (names_read e ++ write x ∷ []) ∙ behind_expression u e (write x ∷ [])))
           (covers_shared u a x v is c)
 
-      by_variable : (v : Variable) → x.variable ≡ v → IsArrayName shared v → Moves room 2 0 next (at 2 a)
-      by_variable (Shared v) is k = moves room 2 0 2 0 a next (omega arith) (omega arith) (omega arith) (h a (reaches v is))
+      by_variable : (v : Variable) → x.variable ≡ v → IsArrayName shared v → Moves enough 2 0 next (at 2 a)
+      by_variable (Shared v) is k = moves enough 2 0 2 0 a next (omega arith) (omega arith) (omega arith) (h a (reaches v is))
       by_variable (Local v) is k = absurd k
 
   -- what follows a statement, where others stand behind it
@@ -425,61 +430,62 @@ module _ (room : ℕ) (p : Places) (words : PlacesOfWords p) (shared : List Shar
   }
 
   mutual
-    statement_way : (s : CheckedStatement) (u a : ℕ → Bool) (next : Place → Type 0) → StatementFits room s → StatementUses shared s → Covers u a
-        → Follows (StatementPath s) u next → EachWay room (lowered_statement p s) next (at 0 a)
-    statement_way (t.declare of x None) u a next f n c h = h.on (unset x ∷ []) (path.declare_unset of x) a (covers_forgotten u a x c)
-    statement_way (t.declare of x (Some e)) u a next f n c h =
+    statement_way : (s : CheckedStatement) (u a : ℕ → Bool) (next : Place → Type 0) → WellFormedStatement shared s → Covers u a
+        → Follows (StatementPath s) u next → EachWay enough (lowered_statement p s) next (at 0 a)
+    statement_way (t.declare of x None) u a next is c h = h.on (unset x ∷ []) (path.declare_unset of x) a (covers_forgotten u a x c)
+    statement_way (t.declare of x (Some e)) u a next is c h =
         let q = path.declare_set of x e (names_read e) (is_path e) in
-        assigned_way u a Unsigned x e next f.1 n.1 c (h.safe (names_read e ++ write x ∷ []) goes_on q) (h.on (names_read e ++ write x ∷ []) q)
-    statement_way (t.assign x e) u a next f n c h =
+        assigned_way u a Unsigned x e next (is.1, is.3) c (h.safe (names_read e ++ write x ∷ []) goes_on q) (h.on (names_read e ++ write x ∷ []) q)
+    statement_way (t.assign x e) u a next is c h =
         let q = path.assign x e (names_read e) (is_path e) in
-        assigned_way u a x.word_type x e next f n.1 c (h.safe (names_read e ++ write x ∷ []) goes_on q) (h.on (names_read e ++ write x ∷ []) q)
-    statement_way (t.store x index e) u a next f n c h =
+        assigned_way u a x.word_type x e next (is.1, is.3) c (h.safe (names_read e ++ write x ∷ []) goes_on q) (h.on (names_read e ++ write x ∷ []) q)
+    statement_way (t.store x index e) u a next is c h =
         let q = path.store x index e (names_read index) (names_read e) (is_path index) (is_path e) in
         let xs = names_read index ++ (names_read e ++ write x ∷ []) in
-        element_assigned_way u a x index e next f.0 f.1 n.0 n.1 n.2 c (h.safe xs goes_on q) (h.on xs q)
-    statement_way (t.choose choice) u a next f n c h =
-        choice_way choice u a next f n c (record {
+        element_assigned_way u a x index e next (is.1, is.4) (is.2, is.5) is.0 c (h.safe xs goes_on q) (h.on xs q)
+    statement_way (t.choose choice) u a next is c h =
+        choice_way choice u a next is c (record {
           safe = λ xs end q. h.safe xs end (path.choose choice xs end q);
           on = λ xs q. h.on xs (path.choose choice xs goes_on q);
         })
-    statement_way (t.loop x from tested below stepped body) u a next f n c h =
-        turns_way room x (lowered_block p body) body (λ v b rest d k. block_way body v b rest f.2 n.1 d k) (below - from) u a next c (record {
+    statement_way (t.loop x from tested below stepped body) u a next is c h =
+        turns_way enough x (lowered_block p body) body (λ v b rest d k. block_way body v b rest is.1 d k) (below - from) u a next c (record {
           safe = λ xs end q. h.safe (write x ∷ xs) end (path.loop x from tested below stepped body xs end q);
           on = λ xs q. h.on (write x ∷ xs) (path.loop x from tested below stepped body xs goes_on q);
         })
-    statement_way (t.emit e) u a next f n c h =
+    statement_way (t.emit e) u a next is c h =
         let q = path.emit e (names_read e) (is_path e) in
-        joined_way room (lowered_expression p e) (one (emit_word (word_place p.map EmitCount) p.map.emits.address)) next (at 0 a)
-        (expression_way room p words 0 a e _ f (reads_assigned shared u a e c n (h.safe (names_read e) goes_on q))
-        (moves room 1 0 1 0 a next (omega arith) (omega arith) (omega arith) (h.on (names_read e) q a (subst (λ v. Covers v a) (sym (behind_names u e)) c))))
-    statement_way (t.transition task) u a next f n c h = transition_way task.task next (at 0 a)
+        joined_way enough (lowered_expression p e) (one (emit_word (word_place p.map EmitCount) p.map.emits.address)) next (at 0 a)
+        (expression_way p words shared 0 a e _ (is, reads_assigned shared u a e c is.0 (h.safe (names_read e) goes_on q))
+        (moves enough 1 0 1 0 a next (omega arith) (omega arith) (omega arith) (h.on (names_read e) q a (subst (λ v. Covers v a) (sym (behind_names u e)) c))))
+    statement_way (t.transition task) u a next is c h = transition_way task.task next (at 0 a)
 
-    choice_way : (choice : CheckedChoice) (u a : ℕ → Bool) (next : Place → Type 0) → ChoiceFits room choice → ChoiceUses shared choice → Covers u a
-        → Follows (ChoicePath choice) u next → EachWay room (lowered_choice p choice) next (at 0 a)
-    choice_way t.nothing u a next f n c h = h.on [] path.nothing a c
-    choice_way (t.otherwise b) u a next f n c h =
-        block_way b u a next f n c
+    choice_way : (choice : CheckedChoice) (u a : ℕ → Bool) (next : Place → Type 0) → WellFormedChoice shared choice → Covers u a
+        → Follows (ChoicePath choice) u next → EachWay enough (lowered_choice p choice) next (at 0 a)
+    choice_way t.nothing u a next is c h = h.on [] path.nothing a c
+    choice_way (t.otherwise b) u a next is c h =
+        block_way b u a next is c
         (record { safe = λ xs end q. h.safe xs end (path.otherwise b xs end q); on = λ xs q. h.on xs (path.otherwise b xs goes_on q) })
-    choice_way (t.test e b more) u a next f n c h =
+    choice_way (t.test e b more) u a next is c h =
         let some = some_block b in
         let s = h.safe (names_read e ++ some.accesses) some.end (path.taken e b more (names_read e) some.accesses some.end (is_path e) some.is) in
-        let reads = reads_assigned shared u a e c n.0 (safe_expression u e some.accesses s).0 in
-        (lowering_has (ways room a) p words 0 e f.0 reads).test (EachWay room (lowered_block p b) next) (EachWay room (lowered_choice p more) next)
-        (block_way b u a next f.1 n.1 c (taken_follows e b more u next h)) (choice_way more u a next f.2 n.2 c (passed_follows e b more u next h))
+        let reads = reads_assigned shared u a e c is.0 (safe_expression u e some.accesses s).0 in
+        (lowering_has (ways enough a) p words shared 0 e is.0 is.3 reads).test (EachWay enough (lowered_block p b) next)
+        (EachWay enough (lowered_choice p more) next)
+        (block_way b u a next is.1 c (taken_follows e b more u next h)) (choice_way more u a next is.2 c (passed_follows e b more u next h))
 
-    block_way : (b : CheckedBlock) (u a : ℕ → Bool) (next : Place → Type 0) → BlockFits room b → BlockUses shared b → Covers u a
-        → Follows (BlockPath b) u next → EachWay room (lowered_block p b) next (at 0 a)
-    block_way t.end u a next f n c h = h.on [] path.finished a c
-    block_way (t.step s more) u a next f n c h =
-        joined_way room (lowered_statement p s) (lowered_block p more) next (at 0 a)
-        (statement_way s u a (EachWay room (lowered_block p more) next) f.0 n.0 c
-        (step_follows s more u next (EachWay room (lowered_block p more) next) h
-        (λ xs q b d. block_way more (behind u xs) b next f.1 n.1 d (block_follows s more u next xs h q))))
+    block_way : (b : CheckedBlock) (u a : ℕ → Bool) (next : Place → Type 0) → WellFormedBlock shared b → Covers u a
+        → Follows (BlockPath b) u next → EachWay enough (lowered_block p b) next (at 0 a)
+    block_way t.end u a next is c h = h.on [] path.finished a c
+    block_way (t.step s more) u a next is c h =
+        joined_way enough (lowered_statement p s) (lowered_block p more) next (at 0 a)
+        (statement_way s u a (EachWay enough (lowered_block p more) next) is.0 c
+        (step_follows s more u next (EachWay enough (lowered_block p more) next) h
+        (λ xs q b d. block_way more (behind u xs) b next is.1 d (block_follows s more u next xs h q))))
 
   -- from the start of a task, of which no path reads an unassigned local or goes on behind its end
-  pub task_way : (b : CheckedBlock) → BlockFits room b → BlockUses shared b → ((xs : List Access) (end : End) → BlockPath b xs end → Safe (λ x. true) xs)
+  pub task_way : (b : CheckedBlock) → WellFormedBlock shared b → ((xs : List Access) (end : End) → BlockPath b xs end → Safe (λ x. true) xs)
       → ((xs : List Access) → BlockPath b xs goes_on → ⊥)
-      → EachWay room (lowered_block p b) (λ q. ⊥) start
-  task_way b f n safe none =
-      block_way b (λ x. true) (λ x. false) (λ q. ⊥) f n (λ x l h. absurd (cc)) (record { safe = safe; on = λ xs q a c. none xs q })
+      → EachWay enough (lowered_block p b) (λ q. ⊥) start
+  task_way b is safe none =
+      block_way b (λ x. true) (λ x. false) (λ q. ⊥) is (λ x l h. absurd (cc)) (record { safe = safe; on = λ xs q a c. none xs q })

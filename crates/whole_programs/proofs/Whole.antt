@@ -2,39 +2,39 @@
 use Rattle.std.proofs.Common.{◌≡◌, ◌%◌, ℕ, suc, List, [], ◌∷◌, Some, refl, arith, slice_get}
 use Rattle.std.specs.Prelude.{All}
 use Rattle.std.proofs.lemmas.List.Elements.{All-nil, All-cons}
-use Rattle.lower.specs.task_ast.Tree.{Task}
-use Rattle.lower.specs.task_ast.Paths.{CheckedBlock}
-use Rattle.lower.specs.task_ast.declared.SharedDeclaration.{SharedDeclaration}
-use Rattle.lower.specs.task_ast.declared.names.VariableName.{VariableName}
-use Rattle.lower.specs.task_ast.declared.names.TaskName.{TaskName}
-use Rattle.lower.specs.memory_map.MemoryMap.{MemoryMap, TaskPlace}
-use Rattle.lower.specs.memory_map.Places.{HasItsPlace}
-use Rattle.lower.proofs.memory_map.Interface.{even_of}
-use Rattle.lower.specs.array_versions.Program as word
-use Rattle.lower.specs.array_versions.Form.{IsWhole, OfWords}
-use Rattle.lower.specs.memory_map.Spots.{Places, places_of}
+use Rattle.task_ast.specs.Tree.{Task}
+use Rattle.task_ast.specs.Paths.{CheckedBlock}
+use Rattle.task_ast.specs.declared.SharedDeclaration.{SharedDeclaration}
+use Rattle.task_ast.specs.declared.names.VariableName.{VariableName}
+use Rattle.task_ast.specs.declared.names.TaskName.{TaskName}
+use Rattle.memory_map.specs.MemoryMap.{MemoryMap, TaskPlace}
+use Rattle.memory_map.specs.Places.{HasItsPlace}
+use Rattle.memory_map.proofs.Interface.{even_of}
+use Rattle.array_versions.specs.Program as word
+use Rattle.array_versions.specs.Form.{IsWhole, OfWords}
+use Rattle.memory_map.specs.Spots.{Places, places_of}
 use Rattle.lower.specs.Seen.{some_path_writes, map_seen}
 use Rattle.lower.specs.Lowered.{lowered_block, lowered_task, lowered_tasks}
 use Rattle.lower.proofs.Interface.{privates_seen, seen_laid_out}
-use Rattle.checked_trees.specs.StackLaws.{enough}
+use Rattle.checked_trees.specs.WellFormed.{enough, IsWellFormed}
 use Rattle.whole_programs.specs.Laws.{TasksAreWhole, ProgramsAreWhole}
 use Rattle.whole_programs.proofs.Ways.{task_way}
 use Rattle.whole_programs.proofs.Steps.{Sound, block_sound}
 use Rattle.whole_programs.proofs.Placed.{PlacesOfWords, task_places}
-use Rattle.checked_trees.proofs.Interface.{all_at, IsChecked, task_checked}
+use Rattle.checked_trees.proofs.Interface.{all_at, task_checked, safe_paths}
 
--- a checked task's program, where its places are words and the commit stands at an even address
-block_whole : (p : Places) (shared : List SharedDeclaration) (b : CheckedBlock) → PlacesOfWords p → p.map.commit.address % 2 ≡ 0 → IsChecked shared b
+-- a well-formed task's program, where its places are words and the commit stands at an even address
+block_whole : (p : Places) (shared : List SharedDeclaration) (b : CheckedBlock) → PlacesOfWords p → p.map.commit.address % 2 ≡ 0 → IsWellFormed shared b
     → IsWhole (lowered_block p b) × OfWords (lowered_block p b)
-block_whole p shared b words even checked =
-    let sound : Sound (lowered_block p b) = block_sound p words shared enough b checked.fits checked.uses checked.good in (
+block_whole p shared b words even formed =
+    let sound : Sound (lowered_block p b) = block_sound p words shared b formed.statements in (
       record {
         locals = 256;
         room = enough;
         fits = omega arith;
         low_locals = sound.0;
         loops_count = sound.1;
-        ways = task_way enough p words shared even b checked.fits checked.uses checked.safe checked.ends;
+        ways = task_way p words shared even b formed.statements (safe_paths b formed.assigned) formed.ends;
       },
       sound.2,
     )

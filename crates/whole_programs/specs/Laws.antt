@@ -1,17 +1,17 @@
 -- What holds of the word programs of accepted sources.
 use Rattle.std.specs.Prelude.{◌≡◌, ◌≤◌, ℕ, List, All, Some, slice_get}
-use Rattle.lower.specs.task_ast.Tree.{Program, Task}
-use Rattle.lower.specs.task_ast.declared.names.VariableName.{VariableName}
-use Rattle.lower.specs.task_ast.declared.names.TaskName.{TaskName}
-use Rattle.lower.specs.cost_bound.declared.allowance.Allow.{Allow}
-use Rattle.lower.specs.cost_bound.Allowance.{scalars_of}
+use Rattle.task_ast.specs.Tree.{Program, Task}
+use Rattle.task_ast.specs.declared.names.VariableName.{VariableName}
+use Rattle.task_ast.specs.declared.names.TaskName.{TaskName}
+use Rattle.cost_bound.specs.declared.allowance.Allow.{Allow}
+use Rattle.cost_bound.specs.Allowance.{scalars_of}
 use Rattle.source_meaning.specs.Acceptance.{IsAcceptedText}
-use Rattle.privatise.specs.war_analysis.PlanValue.{TaskPlanValue}
-use Rattle.privatise.specs.war_analysis.Plans.{IsPlan}
-use Rattle.lower.specs.memory_map.MemoryMap.{MemoryMap, TaskPlace}
-use Rattle.lower.specs.memory_map.Spots.{private_words}
+use Rattle.war_analysis.specs.PlanValue.{TaskPlanValue}
+use Rattle.war_analysis.specs.Plans.{IsPlan}
+use Rattle.memory_map.specs.MemoryMap.{MemoryMap, TaskPlace}
+use Rattle.memory_map.specs.Spots.{private_words}
 use Rattle.privatise.specs.Layouts.{IsLayout}
-use Rattle.lower.specs.array_versions.Form.{IsWhole, OfWords}
+use Rattle.array_versions.specs.Form.{IsWhole, OfWords}
 use Rattle.lower.specs.Lowered.{lowered_task, lowered}
 
 -- an accepted text, with a plan and a layout of its source

@@ -1,2 +1,2 @@
 pub mod Laws
-pub use Rattle.lower.specs.source_values as source_values
+pub use Rattle.source_values.specs as source_values

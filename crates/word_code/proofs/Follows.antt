@@ -10,7 +10,7 @@ pub record StandsFor (z : Setting) (pc : ℕ) (w : WordState) (u : Core) : Type 
   pub at : u.pc ≡ pc
   pub memory : Memory z u.sp u.ram (local_words u.work) w.stack w.locals
   pub fram : u.fram ≡ w.fram
-  pub readings : u.readings_left ≡ w.readings
+  pub inputs : u.inputs ≡ w.inputs
 
 -- what a stretch of code does, by how the program's part ends
 abbrev pub FollowsEnd : Setting → ℕ → ℕ → Core → List Effect → End → Type 0
@@ -80,13 +80,13 @@ guarded z false pc most u b h = tt
 
 -- the machine elsewhere, with other words in R4 to R7
 pub stands_elsewhere : (z : Setting) (pc pc' : ℕ) (w : WordState) (u t : Core) → StandsFor z pc w u → t.pc ≡ pc' → t.sp ≡ u.sp → t.ram ≡ u.ram
-    → local_words t.work ≡ local_words u.work → t.fram ≡ u.fram → t.readings_left ≡ u.readings_left → StandsFor z pc' w t
+    → local_words t.work ≡ local_words u.work → t.fram ≡ u.fram → t.inputs ≡ u.inputs → StandsFor z pc' w t
 stands_elsewhere z pc pc' w u t i p q r k f d =
     record {
       at = p;
       memory = subst (λ l. Memory z t.sp t.ram l w.stack w.locals) (sym k) (rw (q, r) i.memory);
       fram = f ∙ i.fram;
-      readings = d ∙ i.readings;
+      inputs = d ∙ i.inputs;
     }
 
 -- the stack under a name

@@ -58,7 +58,7 @@ pub record HasStack (pc base : ℕ) (u t : Core) : Type 0 where
   pub at : t.pc ≡ pc
   pub sp : t.sp ≡ base
   pub fram : t.fram ≡ u.fram
-  pub readings : t.readings_left ≡ u.readings_left
+  pub inputs : t.inputs ≡ u.inputs
 
 set_by : (z : Setting) (locals : ℕ) (b : Bool) (u : Core) → nat_lt 8 locals ≡ b → u.sp ≡ 0x2400
     → (let ms : List Form = if b then SetStack (stack_base locals) ∷ [] else [] in Stands z.code u.pc ms
@@ -67,10 +67,10 @@ set_by z locals true u e sp h =
     let base = stack_base locals in
     let t : Core = record u { pc = u.pc + 4; sp = base } in
     hop z (SetStack base) 2 u t [] 2 (HasStack (u.pc + 4) base u) h.0 (omega arith) refl (omega arith)
-    (record { at = refl; sp = refl; fram = refl; readings = refl })
+    (record { at = refl; sp = refl; fram = refl; inputs = refl })
 set_by z locals false u e sp h =
     let few : locals ≤ 8 = grind (arith, nat_tests) in
-    dearer z (omega arith) (nothing_run z (record { at = omega arith; sp = omega (arith, sp, few); fram = refl; readings = refl }))
+    dearer z (omega arith) (nothing_run z (record { at = omega arith; sp = omega (arith, sp, few); fram = refl; inputs = refl }))
 
 pub stack_part : (z : Setting) (locals : ℕ) (u : Core) → u.sp ≡ 0x2400 → Stands z.code u.pc (stack_set locals)
     → Runs z.code [] stack_cycles u (HasStack (u.pc + forms_bytes (stack_set locals)) (stack_base locals) u)

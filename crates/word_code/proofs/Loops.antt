@@ -57,7 +57,7 @@ module _ (z : Setting) where
                   subst (λ y. Memory z u.sp u.ram (local_words (put u.work r y)) w.stack (assigned w.locals n (k + 1))) (sym next)
                   (set_register z u.sp n (k + 1) u.ram u.work w.stack w.locals b i.memory);
               fram = i.fram;
-              readings = i.readings;
+              inputs = i.inputs;
             };
         held = put_same u.work r ((u.work r + 1 + 0) % 0x10000) ∙ next;
       }) in
@@ -82,7 +82,7 @@ module _ (z : Setting) where
                   subst (λ y. Memory z u.sp (put u.ram a y) (local_words u.work) w.stack (assigned w.locals n (k + 1))) (sym next)
                   (set_ram z u.sp n (k + 1) u.ram (local_words u.work) w.stack w.locals b lt i.memory);
               fram = i.fram;
-              readings = i.readings;
+              inputs = i.inputs;
             };
         held = next;
       }) in

@@ -26,6 +26,7 @@ pub use Rattle.array_versions.specs.fram_board.Effects.{Effect, Store, Take}
 pub use Rattle.array_versions.specs.machine_effects.Going.{At, stretch, Goes, StepOutcome, Stops, Stretch, Halted, after_effects, continued, going}
 pub use Rattle.array_versions.specs.machine_effects.Machine.{IsFram, IsRam, MachineBoard, exec, Code}
 pub use Rattle.array_versions.specs.machine_effects.World.{put, IsPrefix}
+pub use Rattle.array_versions.specs.machine_effects.Inputs.{Inputs}
 pub use Rattle.array_versions.specs.machine_effects.msp_cycles.Cycles.{CycleRow, cycles_of, source_cycles, to_register, to_memory, push}
 pub use Rattle.array_versions.specs.msp_step.Effect.{word_sum as sum16, distance, is_met, operated, writes_destination}
 -- forms of instructions
@@ -43,7 +44,7 @@ pub use Rattle.array_versions.proofs.Interface.{whole_ends_soundly, local_words,
 pub use Rattle.array_versions.specs.Behaviour.{WordState, is_place, stored, word_emitted, entry_stored, Behaviour, End, GoesOn, Jumps, Short, Strays, Broken}
 pub use Rattle.array_versions.specs.Behaviour.{behind_effects, on_end, strays, raised, ends_before, listed_behind, first_stored, with_stack, assigned}
 pub use Rattle.array_versions.specs.Behaviour.{step_behaviour, behaviour, with_local, turns, pushed, behaves, goes_on, broken, word_stored, jumped, with_top}
-pub use Rattle.array_versions.specs.Behaviour.{with_two, at_place, element_pushed, own_element, versioned_pushed, versioned_stored, reading_pushed, own_stored}
+pub use Rattle.array_versions.specs.Behaviour.{with_two, at_place, element_pushed, own_element, versioned_pushed, versioned_stored, with_readings, reading_pushed, own_stored}
 pub use Rattle.array_versions.specs.Behaviour.{own_place, own_kept, own_updated, versioned_updated, started, local_pushed, local_updated, number_pushed}
 pub use Rattle.array_versions.specs.Behaviour.{way_by_top, way_by_two, then_on, tested}
 pub use Rattle.array_versions.specs.Cost.{spent_on, unary_words, binary_words, right_words, shift_words, step_words, test_words, words_of, turns_spent}

@@ -229,7 +229,7 @@ module _ (z : Setting) where
 
   -- the machine elsewhere, with the same words waiting
   pub describes_elsewhere : (os : List Waiting) (pc pc' : ℕ) (w : WordState) (u t : Core) → Describes z os pc w u → t.pc ≡ pc' → t.sp ≡ u.sp → t.ram ≡ u.ram
-      → local_words t.work ≡ local_words u.work → t.fram ≡ u.fram → t.readings_left ≡ u.readings_left
+      → local_words t.work ≡ local_words u.work → t.fram ≡ u.fram → t.inputs ≡ u.inputs
       → waiting_words w.fram w.locals t.work os ≡ waiting_words w.fram w.locals u.work os → Describes z os pc' w t
   describes_elsewhere os pc pc' w u t d p q r l f e k =
       record {
@@ -262,7 +262,7 @@ module _ (z : Setting) where
                   subst (λ y. Memory z (u.sp - 2) (put u.ram (u.sp - 2) y) (local_words u.work) (v ∷ w.stack) w.locals) (sym (source_word o pc w u i h))
                   (push_memory z v i.memory s);
               fram = i.fram;
-              readings = i.readings;
+              inputs = i.inputs;
             };
         held = refl;
       })
@@ -350,7 +350,7 @@ module _ (z : Setting) where
         fram = i.fram;
         value = m.stack.0;
         needs = pop_needs z m;
-        left = dressed pc (with_stack vs w) _ (record { at = i.at; memory = pop_memory z m; fram = i.fram; readings = i.readings });
+        left = dressed pc (with_stack vs w) _ (record { at = i.at; memory = pop_memory z m; fram = i.fram; inputs = i.inputs });
         same = refl;
       }
   take_part (o ∷ os) pc w v vs u e d =

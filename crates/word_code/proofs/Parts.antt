@@ -25,7 +25,7 @@ module _ (z : Setting) where
         at = omega (arith, i.at);
         memory = push_memory z (constant_value k) i.memory s;
         fram = i.fram;
-        readings = i.readings;
+        inputs = i.inputs;
       })
 
   -- a local that stands in RAM
@@ -41,7 +41,7 @@ module _ (z : Setting) where
         memory =
             subst (λ g. Memory z (u.sp - 2) (put u.ram (u.sp - 2) g) (local_words u.work) (v ∷ w.stack) w.locals) (sym same) (push_memory z v i.memory s);
         fram = i.fram;
-        readings = i.readings;
+        inputs = i.inputs;
       })
 
   -- a word that a source gives is stored
@@ -59,7 +59,7 @@ module _ (z : Setting) where
       guarded z (is_place a) end most u (goes_on (Store a v ∷ []) (stored a v (with_stack vs w))) (λ g.
       hop z m most u (after v) (Store a v ∷ []) price _ (ap z.code k.at ∙ h.0) (k.needs, place_is a g)
       (ap (λ y. Goes (Store a y ∷ []) price (after y)) k.value) l
-      (record { at = to; memory = i.memory; fram = ap (λ f. put f a v) i.fram; readings = i.readings }))
+      (record { at = to; memory = i.memory; fram = ap (λ f. put f a v) i.fram; inputs = i.inputs }))
 
   pub keep_part : (x : Option Waiting) (a pc v : ℕ) (vs : List ℕ) (w : WordState) (u : Core)
       → (let ms = Move (source_from x) (ToFram a) ∷ [] in Stands z.code pc ms → Top z (source_from x) [] pc w v vs u
@@ -92,7 +92,7 @@ module _ (z : Setting) where
       (ap (λ y. Goes (Store a y ∷ []) price (after y)) k.value) (store_price x)
       (record {
         rest = d.rest;
-        is = record { at = to; memory = d.is.memory; fram = ap (λ f. put f a v) d.is.fram; readings = d.is.readings };
+        is = record { at = to; memory = d.is.memory; fram = ap (λ f. put f a v) d.is.fram; inputs = d.is.inputs };
         stack = d.stack ∙ ap (λ xs. xs ++ d.rest) (sym (words_beside w.fram w.locals t.work a v os f));
         there = d.there;
         fits = d.fits;
@@ -118,7 +118,7 @@ module _ (z : Setting) where
       let to : u.pc + (2 + source_bytes s + 0) ≡ pc + forms_bytes (m ∷ []) = omega (arith, k.at) in
       let after : ℕ → Core = λ y. record t { pc = u.pc + (2 + source_bytes s + 0); work = put t.work r y } in
       hop z m most u (after v) [] price _ (ap z.code k.at ∙ h.0) (k.needs, tt) (ap (λ y. Goes [] price (after y)) k.value) p
-      (record { at = to; memory = set_register z t.sp n v t.ram t.work vs w.locals e i.memory; fram = i.fram; readings = i.readings })
+      (record { at = to; memory = set_register z t.sp n v t.ram t.work vs w.locals e i.memory; fram = i.fram; inputs = i.inputs })
   set_by false s most n v pc vs w u e lt p q h k =
       let m = Move s (ToRam (local_address n)) in
       let t = source_read s u in
@@ -127,7 +127,7 @@ module _ (z : Setting) where
       let to : u.pc + (2 + source_bytes s + 2) ≡ pc + forms_bytes (m ∷ []) = omega (arith, k.at) in
       let after : ℕ → Core = λ y. record t { pc = u.pc + (2 + source_bytes s + 2); ram = put t.ram (local_address n) y } in
       hop z m most u (after v) [] price _ (ap z.code k.at ∙ h.0) (k.needs, local_needs z n e lt) (ap (λ y. Goes [] price (after y)) k.value) q
-      (record { at = to; memory = set_ram z t.sp n v t.ram (local_words t.work) vs w.locals e lt i.memory; fram = i.fram; readings = i.readings })
+      (record { at = to; memory = set_ram z t.sp n v t.ram (local_words t.work) vs w.locals e lt i.memory; fram = i.fram; inputs = i.inputs })
 
   pub set_part : (x : Option Waiting) (n v pc : ℕ) (vs : List ℕ) (w : WordState) (u : Core) → n < z.locals
       → (let ms = Move (source_from x) (local_target n) ∷ [] in Stands z.code pc ms → Top z (source_from x) [] pc w v vs u
@@ -150,11 +150,11 @@ module _ (z : Setting) where
       guarded z (is_place to) (pc + 6) 6 u (goes_on (Store to (w.fram from) ∷ []) (stored to (w.fram from) w)) (λ g.
       straight z ms 6 u (t (w.fram from)) (Store to (w.fram from) ∷ []) 6 _ (tt, tt) (stands_at z.code pc ms u h i.at) ((f, place_is to g), tt)
       (ap (λ x. stretch (Store to x ∷ []) 6 (At (t x))) (ap (λ g. g from) i.fram)) (omega arith)
-      (record { at = omega (arith, i.at); memory = i.memory; fram = ap (λ g. put g to (w.fram from)) i.fram; readings = i.readings }))
+      (record { at = omega (arith, i.at); memory = i.memory; fram = ap (λ g. put g to (w.fram from)) i.fram; inputs = i.inputs }))
 
   pub jump_part : (to pc : ℕ) (w : WordState) (u : Core) → to % 2 ≡ 0 → Stands z.code pc (Branch to ∷ []) → StandsFor z pc w u
       → Follows z (pc + 4) 3 u (jumped to w)
   jump_part to pc w u ev h i =
       subst (λ b. Follows z (pc + 4) 3 u (if b then behaves [] (Jumps to w) else broken)) (sym (eq-eqb (to % 2) 0 ev))
       (hop z (Branch to) 3 u (record u { pc = to }) [] 3 (HasJumped to w) (ap z.code i.at ∙ h.0) ev refl (omega arith)
-      (record { pc = refl; fram = i.fram; readings = i.readings }))
+      (record { pc = refl; fram = i.fram; inputs = i.inputs }))

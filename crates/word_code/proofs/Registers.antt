@@ -2,7 +2,7 @@
 use Rattle.word_code.proofs.Names.{sym, subst, ◌≡◌, ℕ, ◌+◌, ◌-◌, ◌%◌, ◌<◌, ◌==◌, List, [], ◌∷◌, Some, refl, ap, ap₂, ◌∙◌, arith, Bool, false, nat_le}
 use Rattle.word_code.proofs.Names.{if◌then◌else◌, Flags, Effect, stretch, At, FormsNeed, AreStraight, forms_run, end_of, stands_at, work_number, WorkRegister}
 use Rattle.word_code.proofs.Names.{bytes_are, nat_tests, Word, sum_of, Condition, sum16, distance, is_met, Core, Form, Jump, Skip, instruction_of, Stands}
-use Rattle.word_code.proofs.Names.{forms_bytes, Runs, WordState}
+use Rattle.word_code.proofs.Names.{forms_bytes, Runs, WordState, Inputs}
 use Rattle.word_code.proofs.Memory.{Memory, local_words}
 use Rattle.word_code.proofs.Stretches.{straight, hop, so_runs, Setting}
 use Rattle.word_code.proofs.Follows.{StandsFor, stands_elsewhere}
@@ -41,9 +41,17 @@ IsZero b f = f.z ≡ b
 abbrev pub IsCarry : Bool → Flags → Type 0
 IsCarry b f = f.c ≡ b
 
--- what straight code leaves as it was that writes nothing but R4 to R7: SP, RAM, the locals in registers, the readings and FRAM
-abbrev pub rest_of : Core → ℕ × (ℕ → ℕ) × List ℕ × List ℕ × (ℕ → ℕ)
-rest_of u = (u.sp, u.ram, local_words u.work, u.readings_left, u.fram)
+-- what straight code that writes nothing but R4 to R7 leaves as it was
+pub record Kept : Type 0 where
+  pub sp : ℕ
+  pub ram : ℕ → ℕ
+  pub locals : List ℕ  -- the words of the locals in registers
+  pub inputs : Inputs
+  pub fram : ℕ → ℕ
+
+-- the same of a machine
+abbrev pub kept_by : Core → Kept
+kept_by u = record { sp = u.sp; ram = u.ram; locals = local_words u.work; inputs = u.inputs; fram = u.fram }
 
 module _ (z : Setting) where
   -- the machine stands for the state, and its registers hold such words
@@ -64,23 +72,23 @@ module _ (z : Setting) where
   -- straight code that writes R4 to R7 and words of FRAM
   pub store_line : {pc : ℕ} {w : WordState} {t : Core} (ms : List Form) (es : List Effect) (f : ℕ → ℕ) (c pc' : ℕ) (Q : Core → Type 0) → StandsFor z pc w t
       → AreStraight ms → Stands z.code pc ms → FormsNeed ms t → (let r = forms_run ms t in let v = end_of t r.status in r ≡ stretch r.effects c (At v)
-      → rest_of (record v { fram = t.fram }) ≡ rest_of t → v.pc ≡ pc' → r.effects ≡ es → v.fram ≡ f → (StandsFor z pc' (record w { fram = f }) v → Q v)
+      → kept_by (record v { fram = t.fram }) ≡ kept_by t → v.pc ≡ pc' → r.effects ≡ es → v.fram ≡ f → (StandsFor z pc' (record w { fram = f }) v → Q v)
       → Runs z.code es c t Q)
   store_line {pc} {w} {t} ms es f c pc' Q i st h ok e k p made fram q =
       let r = forms_run ms t in
-      let words = subst (λ x. Memory z x.0 x.1 x.2 w.stack w.locals) (sym k) i.memory in
+      let words = subst (λ x. Memory z x.sp x.ram x.locals w.stack w.locals) (sym k) i.memory in
       subst (λ l. Runs z.code l c t Q) made
       (straight z ms c t (end_of t r.status) r.effects c Q st (stands_at z.code pc ms t h i.at) ok e (omega arith)
-      (q (record { at = p; memory = words; fram = fram; readings = ap (λ x. x.3) k ∙ i.readings })))
+      (q (record { at = p; memory = words; fram = fram; inputs = ap (λ x. x.inputs) k ∙ i.inputs })))
 
   -- straight code that writes R4 to R7 alone
   pub line : {pc : ℕ} {w : WordState} {t : Core} (ms : List Form) (c pc' : ℕ) (Q : Core → Type 0) → StandsFor z pc w t → AreStraight ms → Stands z.code pc ms
-      → FormsNeed ms t → (let v = end_of t (forms_run ms t).status in forms_run ms t ≡ stretch [] c (At v) → rest_of v ≡ rest_of t → v.pc ≡ pc'
+      → FormsNeed ms t → (let v = end_of t (forms_run ms t).status in forms_run ms t ≡ stretch [] c (At v) → kept_by v ≡ kept_by t → v.pc ≡ pc'
       → (StandsFor z pc' w v → Q v) → Runs z.code [] c t Q)
   line {pc} {w} {t} ms c pc' Q i st h ok e k p q =
-      let words = subst (λ x. Memory z x.0 x.1 x.2 w.stack w.locals) (sym k) i.memory in
+      let words = subst (λ x. Memory z x.sp x.ram x.locals w.stack w.locals) (sym k) i.memory in
       straight z ms c t (end_of t (forms_run ms t).status) [] c Q st (stands_at z.code pc ms t h i.at) ok e (omega arith)
-      (q (record { at = p; memory = words; fram = ap (λ x. x.4) k ∙ i.fram; readings = ap (λ x. x.3) k ∙ i.readings }))
+      (q (record { at = p; memory = words; fram = ap (λ x. x.fram) k ∙ i.fram; inputs = ap (λ x. x.inputs) k ∙ i.inputs }))
 
   -- ---- jumps
 

@@ -12,7 +12,7 @@ use Rattle.word_code.proofs.Names.{versioned_pushed, versioned_stored, reading_p
 use Rattle.word_code.proofs.Names.{flushed, top_of, source_from, below_top, any_held, cleared, kept, top_to_four, top_to_five, plain_instruction, update_code}
 use Rattle.word_code.proofs.Names.{sides, right_source, power, known_element, two_code, power_code, power_result, two_to_registers, unary_middle, binary_middle}
 use Rattle.word_code.proofs.Names.{binary_result, shift_middle, element_code, emit_code, read_code, write_code, top_number, element_at, is_inside}
-use Rattle.word_code.proofs.Names.{waiting_behind, step_code, Store, stored}
+use Rattle.word_code.proofs.Names.{waiting_behind, step_code, Store, stored, with_readings, Inputs}
 use Rattle.std.specs.Int.{trailing_zeros}
 use Rattle.code_forms.specs.Forms as forms
 use Rattle.word_code.specs.declared.waiting.Waiting.TheVariants as waiting
@@ -556,28 +556,28 @@ module _ (z : Setting) where
   -- ---- a reading
 
   taken_part : (ks : List Waiting) (pc : ℕ) (w : WordState) (r : ℕ) (rs : List ℕ) (t : Core) → any_held ks ≡ false → length w.stack < z.room
-      → w.readings ≡ r ∷ rs → Stands z.code pc (forms.Sense R4 ∷ []) → Describes z ks pc w t
-      → Runs z.code (Take r ∷ []) 3 t (Describes z (waiting.R4 ∷ ks) (pc + 4) (pushed r (record w { readings = rs })))
+      → w.inputs.readings ≡ r ∷ rs → Stands z.code pc (forms.Sense R4 ∷ []) → Describes z ks pc w t
+      → Runs z.code (Take r ∷ []) 3 t (Describes z (waiting.R4 ∷ ks) (pc + 4) (pushed r (with_readings rs w)))
   taken_part ks pc w r rs t none room e h d =
-      let left : WordState = record w { readings = rs } in
-      let after : Core = record t { pc = t.pc + 4; work = put t.work 4 r; readings_left = rs } in
-      hop z (forms.Sense R4) 3 t after (Take r ∷ []) 3 _ (ap z.code d.is.at ∙ h.0) tt (ap (λ l. sensed l R4 t) (d.is.readings ∙ e)) (omega arith)
+      let left : WordState = with_readings rs w in
+      let after : Core = record t { pc = t.pc + 4; work = put t.work 4 r; inputs = record t.inputs { readings = rs } } in
+      hop z (forms.Sense R4) 3 t after (Take r ∷ []) 3 _ (ap z.code d.is.at ∙ h.0) tt (ap (λ l. sensed l R4 t) (ap (λ x. x.readings) d.is.inputs ∙ e)) (omega arith)
       (result_waits z waiting.R4 ks (pc + 4) left r w.stack d.rest t.work after d.stack (tt, d.there) none room refl
-      (record { at = omega (arith, d.is.at); memory = d.is.memory; fram = d.is.fram; readings = refl }))
+      (record { at = omega (arith, d.is.at); memory = d.is.memory; fram = d.is.fram; inputs = ap {A = Inputs} (λ x. record x { readings = rs }) d.is.inputs }))
 
-  pub sense_part : (os : List Waiting) (pc : ℕ) (w : WordState) (rs : List ℕ) (u : Core) → length w.stack < z.room → w.readings ≡ rs
+  pub sense_part : (os : List Waiting) (pc : ℕ) (w : WordState) (rs : List ℕ) (u : Core) → length w.stack < z.room → w.inputs.readings ≡ rs
       → StepDoes [] os sense 6 pc w u (reading_pushed rs w)
   sense_part os pc w rs u room e h d =
       let mid = pc + forms_bytes (cleared os) in
       does_behind (cleared os) (forms.Sense R4 ∷ []) (waiting.R4 ∷ kept os) (6 + owed (kept os)) (6 + owed os) pc u (reading_pushed rs w)
       (omega (arith, owed_kept os)) h (clear_under z [] os pc w u d) (λ t s k. by rs t e s k.is)
     where
-      by : (rs : List ℕ) (t : Core) → w.readings ≡ rs → Stands z.code (pc + forms_bytes (cleared os)) (forms.Sense R4 ∷ [])
+      by : (rs : List ℕ) (t : Core) → w.inputs.readings ≡ rs → Stands z.code (pc + forms_bytes (cleared os)) (forms.Sense R4 ∷ [])
           → Describes z (kept os) (pc + forms_bytes (cleared os)) w t
           → Does (waiting.R4 ∷ kept os) (pc + forms_bytes (cleared os) + 4) (6 + owed (kept os)) t (reading_pushed rs w)
       by [] t q s j =
           dearer_stall z [] 3 (6 + owed (kept os)) t (omega arith)
-          (starved z (forms.Sense R4) t 3 (ap z.code j.is.at ∙ s.0) tt (ap (λ l. sensed l R4 t) (j.is.readings ∙ q)))
+          (starved z (forms.Sense R4) t 3 (ap z.code j.is.at ∙ s.0) tt (ap (λ l. sensed l R4 t) (ap (λ x. x.readings) j.is.inputs ∙ q)))
       by (r ∷ rs) t q s j =
           record {
             spent = 3;

@@ -33,7 +33,7 @@ module _ (z : Setting) where
       guarded z (is_place a) end (store_cycles x) u (goes_on (Store a y ∷ []) (stored a y (with_stack vs w))) (λ g.
       hop z m (store_cycles x) u (after y) (Store a y ∷ []) price _ (ap z.code k.at ∙ h.0)
       (needs.0, needs.1, k.needs, place_is a g) (ap (λ q. Goes (Store a q ∷ []) price (after q)) is) (store_price x)
-      (record { at = to; memory = i.memory; fram = ap (λ q. put q a y) k.fram; readings = i.readings }))
+      (record { at = to; memory = i.memory; fram = ap (λ q. put q a y) k.fram; inputs = i.inputs }))
 
   -- a local in a register
   update_register : (o : PlainOperation) (x : Option Waiting) (n y v pc : ℕ) (vs : List ℕ) (w : WordState) (u : Core) → nat_lt n 8 ≡ true → n < z.locals
@@ -51,7 +51,7 @@ module _ (z : Setting) where
         at = omega (arith, k.at);
         memory = set_register z t.sp n made t.ram t.work vs w.locals b i.memory;
         fram = i.fram;
-        readings = i.readings;
+        inputs = i.inputs;
       })
 
   -- the top to R5, and a local in RAM to R4
@@ -67,7 +67,7 @@ module _ (z : Setting) where
       straight z ms 3 t (end_of t (forms_run ms t).status) [] 3 _ (tt, tt)
       (stands_at z.code mid ms t h.1 i.at) ((local_needs z n b lt, tt), tt) refl (omega arith)
       (record {
-        is = record { at = omega (arith, i.at); memory = i.memory; fram = i.fram; readings = i.readings };
+        is = record { at = omega (arith, i.at); memory = i.memory; fram = i.fram; inputs = i.inputs };
         held = record { four = in_ram (local_words t.work) t.ram n b ∙ i.memory.vars n y lt q; five = j.held };
       }))
 
@@ -86,7 +86,7 @@ module _ (z : Setting) where
             subst (λ y. Memory z t.sp (put t.ram (local_address n) y) (local_words t.work) w.stack (assigned w.locals n v)) (sym k.held)
             (set_ram z t.sp n v t.ram (local_words t.work) w.stack w.locals b lt i.memory);
         fram = i.fram;
-        readings = i.readings;
+        inputs = i.inputs;
       })
 
   -- by where the local stands

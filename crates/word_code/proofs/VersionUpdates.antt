@@ -336,7 +336,7 @@ module _ (z : Setting) (o : PlainOperation) (x : Source) (r : ℕ) (reads : sour
         at = ap (λ p. p + (2 + source_bytes x + 2)) i.at;
         memory = i.memory;
         fram = ap (λ f. put f c y) i.fram;
-        readings = i.readings;
+        inputs = i.inputs;
       })
 
   module _ (k pc : ℕ) (writes : source_cycles to_memory (source_operand x) ≤ 6) (h : Stands z.code pc (known_update o x place list k)) (v : ℕ) (w : WordState)

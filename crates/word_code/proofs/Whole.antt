@@ -1,6 +1,6 @@
 -- The code of a word program does what the program does, within the cycles of the way that it takes.
-use Rattle.word_code.proofs.Names.{top_of, instruction_of, Condition, Runs, ◌≤◌, R4, form_small, ◌≡◌, ℕ, suc, ◌+◌, ◌-◌, ◌*◌, ◌<◌, Bool, true, false, not}
-use Rattle.word_code.proofs.Names.{nat_lt, if◌then◌else◌, List, [], ◌∷◌, ◌++◌, length, All, Some, ◌≢◌, None, refl, sym, ap, subst, arith, AllByRecursion}
+use Rattle.word_code.proofs.Names.{top_of, instruction_of, Condition, Runs, ◌≤◌, R4, form_small, ◌≡◌, ℕ, ◌+◌, ◌-◌, ◌*◌, ◌<◌, Bool, true, false, not}
+use Rattle.word_code.proofs.Names.{nat_lt, if◌then◌else◌, List, [], ◌∷◌, ◌++◌, length, Some, ◌≢◌, None, refl, sym, ap, subst, arith}
 use Rattle.word_code.proofs.Names.{Effect, Core, Form, form_bytes, Move, Branch, Fram, ToFram, Stands, forms_bytes, stands_front, stands_back, forms_behind}
 use Rattle.word_code.proofs.Names.{forms_bytes-append, Comparison, is_true, compare_words, Step, Test, Program, number, load, keep, update, local, set_local}
 use Rattle.word_code.proofs.Names.{update_local, unary, binary, shift, long, element, emit_word, list_entry, versioned_read, versioned_write, versioned_update}
@@ -65,7 +65,7 @@ ready_popped bs next q n w us f m h b e l =
       place = record q { depth = q.depth - n + 0 };
       fit = f;
       matches = record { depth = omega (arith, e, m.depth); assigned = m.assigned };
-      words_in = record { stack = l; locals = h.locals; fram = h.fram; readings = h.readings };
+      words_in = record { stack = l; locals = h.locals; fram = h.fram; inputs = h.inputs };
       bounded = b;
     }
 
@@ -241,7 +241,7 @@ module _ (z : Setting) where
         write_reaches z bs place list os pc w w.stack u o.0.3 r.words_in.fram r.bounded refl r.words_in.stack h d
     step_follows bs (versioned_update op place list) next os pc w u r o l c spared h d =
         in_place_reaches z op place list o.0.3 bs os pc w w.stack u r.words_in.fram r.bounded refl r.words_in.stack h d
-    step_follows bs sense next os pc w u r o l c spared h d = sense_part z os pc w w.readings u (omega (arith, r.fit.1, r.matches.depth)) refl h d
+    step_follows bs sense next os pc w u r o l c spared h d = sense_part z os pc w w.inputs.readings u (omega (arith, r.fit.1, r.matches.depth)) refl h d
     step_follows bs (truth t) next os pc w u r o l c spared h d =
         let a = test_code bs t false 2 in
         let at = pc + forms_bytes (flushed os) in
@@ -423,11 +423,6 @@ module _ (z : Setting) where
         (steps_follow bs more next mid pc' v t q o.1 l.1 c.1 (spared_so bs (λ n. Spares n (step first more)) (λ n. Spares n more) (λ n k. k.1) spared)
         (stands_back z.code pc a rest h) j))))
 
--- each of a list by its head and its tail
-all_by_recursion : (vs : List ℕ) → All (λ r. r < 0x10000) vs → AllByRecursion (λ r. r < 0x10000) vs
-all_by_recursion [] h = tt
-all_by_recursion (v ∷ vs) h = (h 0 0 (omega arith), all_by_recursion vs (λ k d l. h (suc k) d (omega arith)))
-
 none_has_no_word : (v w : ℕ) → None ≡ Some v → w ≡ v
 none_has_no_word v w e = cc
 
@@ -437,7 +432,7 @@ code_does_as_program code at p u tidy h whole o entry =
     let locals = locals_of p in
     let few = program_least whole.locals p whole.low_locals in
     let z : Setting = record { code = code; tidy = tidy; locals = locals; room = whole.room; roomy = omega (arith, whole.fits, few) } in
-    let s = started u.fram u.readings_left in
+    let s = started u.fram u.inputs in
     let b = behaviour p s in
     let front = stack_set locals in
     let mid = at + forms_bytes front in
@@ -445,14 +440,13 @@ code_does_as_program code at p u tidy h whole o entry =
       at = k.at;
       memory = record { depth = omega (arith, k.sp); fits = omega arith; stack = tt; vars = λ n v l q. none_has_no_word v _ q };
       fram = k.fram;
-      readings = k.readings;
+      inputs = k.inputs;
     } in
     let r : Ready [] (EachWay whole.room p (λ q. ⊥)) s = record {
       place = start;
       fit = whole.ways;
-      matches = start_matches u.fram u.readings_left;
-      words_in =
-          record { stack = tt; locals = λ n v q. absurd (let q' = q in (cc)); fram = entry.fram; readings = all_by_recursion u.readings_left entry.readings };
+      matches = start_matches u.fram u.inputs;
+      words_in = record { stack = tt; locals = λ n v q. absurd (let q' = q in (cc)); fram = entry.fram; inputs = entry.inputs };
       bounded = tt;
     } in
     let set : Runs code [] stack_cycles u (HasStack mid (stack_base locals) u) =
@@ -462,7 +456,7 @@ code_does_as_program code at p u tidy h whole o entry =
     by_end z (code_spent p s) b.effects b.end
     (then_end z (mid + forms_bytes (block_code [] p)) (spent p s) b.effects b.end set (λ t k. block_follows z [] p mid s t body
     (λ hs. steps_follow z [] p (λ q. ⊥) [] mid s t r o (program_below locals p (omega arith)) whole.loops_count tt hs (dressed z mid s t (there t k)))))
-    (whole_ends_soundly p u.fram u.readings_left whole)
+    (whole_ends_soundly p u.fram u.inputs whole)
   where
     by_end : (z : Setting) (most : ℕ) (es : List Effect) (e : End)
         → FollowsEnd z (at + forms_bytes (stack_set (locals_of p)) + forms_bytes (block_code [] p)) most u es e → IsSound e → ComesTo z.code most u es e

@@ -1,7 +1,8 @@
 -- What the code of a word program does.
-use Rattle.std.specs.Prelude.{◌≡◌, ℕ, ◌*◌, ◌<◌, ◌≤◌, List, All, length}
+use Rattle.std.specs.Prelude.{◌≡◌, ℕ, ◌*◌, ◌<◌, ◌≤◌, List, length}
 use Rattle.array_versions.specs.fram_board.Effects.{Effect}
 use Rattle.array_versions.specs.machine_effects.World.{IsPrefix}
+use Rattle.array_versions.specs.machine_effects.Inputs.{InputsAreWords}
 use Rattle.array_versions.specs.machine_effects.Going.{going}
 use Rattle.array_versions.specs.machine_effects.Machine.{Code, MachineStretch, exec}
 use Rattle.code_forms.specs.Forms.{Core, board_of}
@@ -13,18 +14,18 @@ use Rattle.array_versions.specs.Form.{IsWhole, OfWords}
 use Rattle.array_versions.specs.Cost.{words_of}
 use Rattle.word_code.specs.Code.{code_of, code_spent}
 
--- the machine at the entry of a program's code: the stack is empty, FRAM and the readings left are words
+-- the machine at the entry of a program's code: the stack is empty, FRAM and the inputs are words
 pub record IsEntry (at : ℕ) (u : Core) : Type 0 where
   pub pc : u.pc ≡ at
   pub sp : u.sp ≡ 0x2400
   pub fram : (a : ℕ) → u.fram a < 0x10000
-  pub readings : All (λ r. r < 0x10000) u.readings_left
+  pub inputs : InputsAreWords u.inputs
 
--- the machine behind a jump: FRAM and the readings left are the program's
+-- the machine behind a jump: FRAM and the inputs left are the program's
 pub record HasJumped (to : ℕ) (s : WordState) (u : Core) : Type 0 where
   pub pc : u.pc ≡ to
   pub fram : u.fram ≡ s.fram
-  pub readings : u.readings_left ≡ s.readings
+  pub inputs : u.inputs ≡ s.inputs
 
 -- the code from here makes these effects within so many cycles, and comes to such an end. Nothing is said where an address isn't
 -- that of a word of FRAM
@@ -38,7 +39,7 @@ ComesTo code most u es Broken = ⊥
 -- code in which the code of a whole program stands does what the program does, within its cycles on the way that it takes
 abbrev pub CodeDoesAsProgram : Type 0
 CodeDoesAsProgram = (code : Code) (at : ℕ) (p : Program) (u : Core) → IsTidy code → Stands code at (code_of p) → IsWhole p → OfWords p → IsEntry at u
-    → let s = started u.fram u.readings_left in let b = behaviour p s in ComesTo code (code_spent p s) u b.effects b.end
+    → let s = started u.fram u.inputs in let b = behaviour p s in ComesTo code (code_spent p s) u b.effects b.end
 
 -- a stretch so far: its effects are a prefix of these, its cycles within so many
 pub record IsWithin (most : ℕ) (es : List Effect) (r : MachineStretch) : Type 0 where

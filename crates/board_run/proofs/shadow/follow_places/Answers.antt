@@ -1,5 +1,5 @@
-use Rattle.std.proofs.Common.{◌≡◌, ◌∙◌, ◌+◌, ◌*◌, ◌<◌, ℕ, ap, sym, subst, arith, slice_index, length-set}
-use Rattle.image_text.specs.address_space.Limits.{place_of, fram_words}
+use Rattle.std.proofs.Common.{◌∙◌, ◌<◌, ℕ, refl, sym, subst, slice_index, length-set}
+use Rattle.image_text.specs.address_space.Limits.{fram_words}
 use Rattle.board_run.proofs.Marks.{cut_place, rest_next}
 use Rattle.board_run.proofs.shadow.follow_places.Goals as goal
 
@@ -7,7 +7,6 @@ pub loop-listed-preserved : goal.loop-listed-preserved
 loop-listed-preserved c =
     let place = c.from-place.result in
     let k = c.loop-listed.listed-index in
-    let at : place_of (17408 + 2 * c.from-place.result) ≡ c.from-place.result = omega arith in
     let P : ℕ → Type 0 = λ p. p < fram_words in
     record {
       lengths = record {
@@ -16,7 +15,7 @@ loop-listed-preserved c =
         blocks = length-set _ _ _ ∙ c.loop-listed.invariant.lengths.blocks;
         regions = length-set _ _ _ ∙ c.loop-listed.invariant.lengths.regions;
       };
-      rest = rest_next _ _ _ _ k place c.word.result c.loop-listed.invariant.lengths.words
-          (subst P (sym c.from-place.ensures) (c.requires.inside k 0 c.loop-listed-test.true)) (c.word.ensures ∙ ap (slice_index c.args.board.now.fram) at)
+      rest = rest_next _ _ _ _ k place (slice_index c.args.fram.now place) c.loop-listed.invariant.lengths.words
+          (subst P (sym c.from-place.ensures) (c.requires.inside k 0 c.loop-listed-test.true)) refl
           (cut_place c.args.places.now k place c.loop-listed-test.true c.from-place.ensures) c.loop-listed.invariant.rest;
     }

@@ -1,4 +1,4 @@
-use Rattle.std.proofs.Common.{rules, arith, ◌<◌}
+use Rattle.std.proofs.Common.{rules, arith}
 use Rattle.std.proofs.lemmas.Bool.{ltb-true, lt-ltb}
 use Rattle.msp_step.proofs.Fetched.{have_words, longer_by, first_missing, second_missing, third_missing, words_stand}
 use Rattle.msp_step.proofs.machine.words_at.Goals as goal

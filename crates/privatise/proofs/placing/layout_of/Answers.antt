@@ -58,17 +58,39 @@ new-requires c =
     λ i l. c.written_variables-written.ensures i l ∙ ap (λ ts. is_written (map task_of ts) i) c.as_slice-tasks.ensures.value in
     laid_out (program_of c.args.source.now) c.args.allow.now c.args.plan.now c.sizes_of.result c.regions_of-regions.result c.written_variables-written.result
     c.in_ok-variables.variables.items c.in_ok-layouts.layouts.items
-    c.requires.few marks c.requires.allowed c.sizes_of.ensures c.regions_of-regions.ensures (rw c.as_slice-shared.ensures.value at c.in_ok-variables.ensures)
-    (tasks_moved _ _ _ _ _ _ _ _ _ _ c.as_slice-shared.ensures.value c.as_slice.ensures.value c.as_slice-tasks.ensures.value c.tasks.ensures
-    c.in_ok-layouts.ensures)
+    (record {
+      few = c.requires.few;
+      written_so = marks;
+      allowed = c.requires.allowed;
+      sizes = c.sizes_of.ensures;
+      regions = c.regions_of-regions.ensures;
+      variables = rw c.as_slice-shared.ensures.value at c.in_ok-variables.ensures;
+      tasks = tasks_moved _ _ _ _ (λ j. record {
+        shared = c.as_slice-shared.ensures.value j;
+        places = c.as_slice.ensures.value j;
+        tasks = c.as_slice-tasks.ensures.value j;
+        plans = c.tasks.ensures j;
+      }) c.in_ok-layouts.ensures;
+    })
 
 pub returns : goal.returns
 returns c =
     let marks : AreWritten (program_of c.args.source.now) c.written_variables-written.result =
     λ i l. c.written_variables-written.ensures i l ∙ ap (λ ts. is_written (map task_of ts) i) c.as_slice-tasks.ensures.value in
-    let is = whole (program_of c.args.source.now) c.args.allow.now c.args.plan.now c.sizes_of.result c.regions_of-regions.result
-    c.written_variables-written.result c.in_ok-variables.variables.items c.in_ok-layouts.layouts.items
-    c.requires.few marks c.requires.allowed c.sizes_of.ensures c.regions_of-regions.ensures (rw c.as_slice-shared.ensures.value at c.in_ok-variables.ensures)
-    (tasks_moved _ _ _ _ _ _ _ _ _ _ c.as_slice-shared.ensures.value c.as_slice.ensures.value c.as_slice-tasks.ensures.value c.tasks.ensures
-    c.in_ok-layouts.ensures) in
+    let is = whole (program_of c.args.source.now) c.args.allow.now c.args.plan.now c.sizes_of.result c.regions_of-regions.result c.written_variables-written.result
+    c.in_ok-variables.variables.items c.in_ok-layouts.layouts.items
+    (record {
+      few = c.requires.few;
+      written_so = marks;
+      allowed = c.requires.allowed;
+      sizes = c.sizes_of.ensures;
+      regions = c.regions_of-regions.ensures;
+      variables = rw c.as_slice-shared.ensures.value at c.in_ok-variables.ensures;
+      tasks = tasks_moved _ _ _ _ (λ j. record {
+        shared = c.as_slice-shared.ensures.value j;
+        places = c.as_slice.ensures.value j;
+        tasks = c.as_slice-tasks.ensures.value j;
+        plans = c.tasks.ensures j;
+      }) c.in_ok-layouts.ensures;
+    }) in
     subst (IsLayout (program_of c.args.source.now) c.args.allow.now c.args.plan.now) (sym c.new.ensures) is

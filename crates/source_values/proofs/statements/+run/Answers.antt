@@ -9,8 +9,7 @@ use Rattle.task_ast.specs.declared.Stmt as stmt
 use Rattle.task_ast.specs.declared.Arm.{Arm}
 use Rattle.task_ast.specs.declared.Arm as arm
 use Rattle.source_values.specs.Statements.{Attempt, short, run_statement, run_block, turns, statement_emits, block_emits, choice_emits}
-use Rattle.source_values.specs.Numbers.{number_value}
-use Rattle.source_values.specs.View.{attempt_in, ended}
+use Rattle.source_values.specs.View.{attempt_in, evaluated_in, ended}
 use Rattle.source_values.proofs.Choices.{arm_taken, arm_passed, arm_emits, none_emits, last_emits, none_kept, behind_most, on_some}
 use Rattle.source_values.proofs.Views.{if_view, for_view}
 use Rattle.source_values.proofs.Turns.{turns_step, attempt_set, turn_emits, ended_stays, ended_goes_on}
@@ -33,14 +32,14 @@ run_arms-run_block-requires t c =
 pub run_arms-returns-in_err-run_block-clause-outcome : goal.run_arms-returns-in_err-run_block-clause-outcome
 run_arms-returns-in_err-run_block-clause-outcome t c = λ last.
     let step = arm_taken c.args.arms.now c.loop-arm.arm-index c.arm-item.result last c.deref.result.now (attempt_in c.loop-arm.scratch c.loop-arm.left.now)
-    (number_value c.in_ok-x.x.number) c.in_ok-x.x.left.now c.loop-arm-test.true c.arm-item.is c.deref.ensures.value c.in_ok-x.ensures.value
+    (evaluated_in c.loop-arm.scratch c.in_ok-x.x) c.loop-arm-test.true c.arm-item.is c.deref.ensures.value c.in_ok-x.ensures.value
     (sym c.if-holds.ensures) in
     rw c.from_residual-in_err-run_block.ensures (sym (c.loop-arm.invariant.rest last) ∙ step ∙ c.in_err-run_block.ensures.outcome)
 
 pub run_arms-returns-then-holds-clause-outcome : goal.run_arms-returns-then-holds-clause-outcome
 run_arms-returns-then-holds-clause-outcome t c = λ last.
     let step = arm_taken c.args.arms.now c.loop-arm.arm-index c.arm-item.result last c.deref.result.now (attempt_in c.loop-arm.scratch c.loop-arm.left.now)
-    (number_value c.in_ok-x.x.number) c.in_ok-x.x.left.now c.loop-arm-test.true c.arm-item.is c.deref.ensures.value c.in_ok-x.ensures.value
+    (evaluated_in c.loop-arm.scratch c.in_ok-x.x) c.loop-arm-test.true c.arm-item.is c.deref.ensures.value c.in_ok-x.ensures.value
     (sym c.if-holds.ensures) in
     sym (c.loop-arm.invariant.rest last) ∙ step ∙ c.in_ok-run_block.ensures.outcome
 
@@ -53,7 +52,7 @@ run_arms-returns-then-holds-clause-emitted t c =
 pub run_arms-loop-arm-preserved : goal.run_arms-loop-arm-preserved
 run_arms-loop-arm-preserved t c = record {
   rest = λ last. sym (arm_passed c.args.arms.now c.loop-arm.arm-index c.arm-item.result last (attempt_in c.loop-arm.scratch c.loop-arm.left.now)
-      (number_value c.in_ok-x.x.number) c.in_ok-x.x.left.now c.loop-arm-test.true c.arm-item.is c.in_ok-x.ensures.value (sym c.if-holds.ensures))
+      (evaluated_in c.loop-arm.scratch c.in_ok-x.x) c.loop-arm-test.true c.arm-item.is c.in_ok-x.ensures.value (sym c.if-holds.ensures))
       ∙ c.loop-arm.invariant.rest last;
   same = c.loop-arm.invariant.same;
 }

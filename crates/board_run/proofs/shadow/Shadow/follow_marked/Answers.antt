@@ -1,5 +1,4 @@
-use Rattle.std.proofs.Common.{◌≡◌, ◌∙◌, ◌+◌, ◌*◌, ap, arith, slice_index}
-use Rattle.image_text.specs.address_space.Limits.{place_of}
+use Rattle.std.proofs.Common.{◌∙◌, ap, sym, arith, length, slice_index}
 use Rattle.board_run.proofs.Marks.{followed_first, followed_next, followed_all, followed_none}
 use Rattle.board_run.proofs.shadow.Shadow.follow_marked.Goals as goal
 
@@ -8,12 +7,11 @@ loop-place-init c = followed_first _ _ _ c.whole.ensures c.requires c.next-place
 
 pub loop-place-preserved : goal.loop-place-preserved
 loop-place-preserved c =
-    let at : place_of (17408 + 2 * c.loop-place.place) ≡ c.loop-place.place = omega arith in
-    followed_next _ _ _ _ _ _ c.loop-place.invariant c.loop-place-test.true (c.word.ensures ∙ ap (slice_index c.args.board.now.fram) at)
+    followed_next _ _ _ _ _ _ c.loop-place.invariant c.loop-place-test.true (ap (λ f. slice_index f c.loop-place.place) c.fram-fram.ensures.value)
     c.put.ensures c.next-place-in-loop-place.ensures.none
 
 pub returns-clause-words : goal.returns-clause-words
-returns-clause-words c = followed_all _ _ _ c.loop-place.invariant (omega (arith, c.loop-place-test.false)) c.taken-taken.ensures.valid.fram
+returns-clause-words c = followed_all _ _ _ c.loop-place.invariant (omega (arith, c.loop-place-test.false)) (ap length (sym c.fram-fram.ensures.value) ∙ c.fram-fram.ensures.len)
 
 pub returns-clause-none : goal.returns-clause-none
 returns-clause-none c i m = followed_none _ _ _ _ c.loop-place.invariant (omega (arith, c.loop-place-test.false)) m

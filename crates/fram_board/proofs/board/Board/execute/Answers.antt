@@ -1,7 +1,6 @@
 use Rattle.std.proofs.Common.{arith, ◌∙◌, ap}
 use Rattle.fram_board.proofs.Steps.{heard_few_of, closed_is, taken_grows, stopped_keeps}
 use Rattle.fram_board.proofs.board.Board.execute.Goals as goal
-use Rattle.fram_board.proofs.board.Board.execute.Goals.{in-Ok, in-Err}
 
 pub overflow_sub-result : goal.overflow_sub-result
 overflow_sub-result c =
@@ -20,29 +19,36 @@ returns-clause-board c =
     c.self.view_is c.self.invariant c.execute-answer.ensures.executes c.reg-pc.ensures.valid.long
     c.receive-accepted.ensures.devices c.receive-accepted.ensures.receiver
 
-pub returns-clause-stopped : goal.returns-clause-stopped
-returns-clause-stopped c = elim c.match-answer.branch [
-  | in-Ok w ↦ rw w.result-is tt
-  | in-Err w ↦ rw w.result-is (stopped_keeps c.args.self.now c.self.inside.cpu c.self.inside.devices c.self.inside.receiver
-      c.execute-answer.new.cpu c.execute-answer.new.bus c.receive-accepted.new.devices c.receive-accepted.new.receiver
-      c.self.view_is c.self.invariant w.in-Err.ensures.cpu w.in-Err.ensures.reads
-      c.receive-accepted.ensures.devices c.receive-accepted.ensures.receiver)
-]
+pub returns-in-Err-clause-board : goal.returns-in-Err-clause-board
+returns-in-Err-clause-board c =
+    closed_is c.args.self.now c.self.inside.cpu c.self.inside.devices c.self.inside.receiver c.args.instruction.now
+    c.execute-answer.result c.execute-answer.new.cpu c.execute-answer.new.bus c.receive.new.devices c.receive.new.receiver
+    c.self.view_is c.self.invariant c.execute-answer.ensures.executes c.reg-pc.ensures.valid.long
+    c.receive.ensures.devices c.receive.ensures.receiver
+
+pub returns-in-Err-clause-stopped : goal.returns-in-Err-clause-stopped
+returns-in-Err-clause-stopped c = stopped_keeps c.args.self.now c.self.inside.cpu c.self.inside.devices c.self.inside.receiver
+    c.execute-answer.new.cpu c.execute-answer.new.bus c.receive.new.devices c.receive.new.receiver
+    c.self.view_is c.self.invariant c.in-Err.ensures.cpu c.in-Err.ensures.reads
+    c.receive.ensures.devices c.receive.ensures.receiver
 
 pub returns-clause-took : goal.returns-clause-took
-returns-clause-took c = elim c.match-answer.branch [
-  | in-Ok w ↦
-      let grown = taken_grows c.args.instruction.now c.self.inside.cpu c.self.inside.devices c.execute-answer.result c.execute-answer.new.cpu
-      c.execute-answer.new.bus c.execute-answer.ensures.executes in
-      let to = grown.to in
-      let before = c.taken-before.ensures.taken in
-      let after = w.taken.ensures.taken ∙ ap (λ s. s.taken) c.receive-accepted.ensures.devices in
-      rw w.result-is (omega arith)
-  | in-Err w ↦ rw w.result-is tt
-]
+returns-clause-took c =
+    let grown = taken_grows c.args.instruction.now c.self.inside.cpu c.self.inside.devices c.execute-answer.result c.execute-answer.new.cpu
+    c.execute-answer.new.bus c.execute-answer.ensures.executes in
+    let to = grown.to in
+    let before = c.taken-before.ensures.taken in
+    let after = c.taken.ensures.taken ∙ ap (λ s. s.taken) c.receive-accepted.ensures.devices in
+    omega arith
 
 pub returns-clause-counts : goal.returns-clause-counts
 returns-clause-counts c =
     let d = c.execute-answer.new.bus in
     heard_few_of d.outnum d.offered c.self.inside.receiver c.args.self.now.receiver c.receive-accepted.new.receiver (ap (λ x. x.receiver) c.self.view_is)
     c.receive-accepted.ensures.receiver
+
+pub returns-in-Err-clause-counts : goal.returns-in-Err-clause-counts
+returns-in-Err-clause-counts c =
+    let d = c.execute-answer.new.bus in
+    heard_few_of d.outnum d.offered c.self.inside.receiver c.args.self.now.receiver c.receive.new.receiver (ap (λ x. x.receiver) c.self.view_is)
+    c.receive.ensures.receiver

@@ -34,8 +34,16 @@ returns-in-None-clause-short c =
     let h : c.self.inside.task ≡ c.args.self.now.task = ap (λ r. r.task) c.self.view_is in
     let attempt = attempt_is c.args.source.now c.args.self.now.task c.self.inside.task c.index.result.now c.deref.result.now c.restart.new.scratch
     c.args.self.now.shared c.args.readings.now
-    h (omega (arith, h, c.requires.task, length-map c.args.source.now.tasks.items task_of)) c.index.ensures c.deref.ensures.value
-    (ap (λ t. t.rows) c.restart.ensures.shared ∙ c.self.invariant.1 ∙ ap (λ r. r.shared) c.self.view_is) c.restart.ensures.locals c.restart.ensures.emitted in
+    h (record {
+      inside = omega (arith, h, c.requires.task, length-map c.args.source.now.tasks.items task_of);
+      is = c.index.ensures;
+      of_task = c.deref.ensures.value;
+    })
+    (record {
+      rows = ap (λ t. t.rows) c.restart.ensures.shared ∙ c.self.invariant.1 ∙ ap (λ r. r.shared) c.self.view_is;
+      locals = c.restart.ensures.locals;
+      emitted = c.restart.ensures.emitted;
+    }) in
     attempt ∙ c.in-None.ensures.short
 
 pub returns-in-Some-clause-done : goal.returns-in-Some-clause-done
@@ -43,8 +51,16 @@ returns-in-Some-clause-done c =
     let h : c.self.inside.task ≡ c.args.self.now.task = ap (λ r. r.task) c.self.view_is in
     let attempt = attempt_is c.args.source.now c.args.self.now.task c.self.inside.task c.index.result.now c.deref.result.now c.restart.new.scratch
     c.args.self.now.shared c.args.readings.now
-    h (omega (arith, h, c.requires.task, length-map c.args.source.now.tasks.items task_of)) c.index.ensures c.deref.ensures.value
-    (ap (λ t. t.rows) c.restart.ensures.shared ∙ c.self.invariant.1 ∙ ap (λ r. r.shared) c.self.view_is) c.restart.ensures.locals c.restart.ensures.emitted in
+    h (record {
+      inside = omega (arith, h, c.requires.task, length-map c.args.source.now.tasks.items task_of);
+      is = c.index.ensures;
+      of_task = c.deref.ensures.value;
+    })
+    (record {
+      rows = ap (λ t. t.rows) c.restart.ensures.shared ∙ c.self.invariant.1 ∙ ap (λ r. r.shared) c.self.view_is;
+      locals = c.restart.ensures.locals;
+      emitted = c.restart.ensures.emitted;
+    }) in
     let rest = (task_leaves (block_view c.deref.result.now) (attempt_in c.restart.new.scratch c.args.readings.now) c.in-Some.next
     (attempt_in c.run_task.new.scratch c.in-Some.left.now) c.in-Some.ensures.done).rest in
     let done = ap completion_of (attempt ∙ c.in-Some.ensures.done) in

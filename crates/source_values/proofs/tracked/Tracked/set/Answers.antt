@@ -22,4 +22,5 @@ invariant_of-self c =
     let same = c.set_row_word.ensures.same_lengths ∙ ap (λ rows. map (length {A = ℕ}) (rows_of rows)) c.deref_mut.ensures.value in
     subst P (sym (written_whole c.self.inside.rows.len c.set_row_word.new.rows c.self.inside.rows.items count))
     (set_tracks c.self.inside.marks c.mark.new.self (rows_of c.self.inside.base.items) (rows_of c.self.inside.rows.items) (rows_of c.set_row_word.new.rows)
-    c.args.v c.args.i c.args.w c.self.invariant.0 set same c.mark.ensures.marked c.mark.ensures.others c.self.invariant.1)
+    c.args.v c.args.i c.args.w c.self.invariant.0 (record { set = set; same_lengths = same })
+    (record { marked = c.mark.ensures.marked; others = c.mark.ensures.others }) c.self.invariant.1)

@@ -1,0 +1,20 @@
+//! The runtime that a source is compiled for.
+
+/// What makes a cut attempt void. Under redo it works in copies, which the commit brings home; so nothing is to be put back.
+#[derive(Clone, Copy)]
+pub enum Logging {
+    Redo,
+}
+
+/// Whom a board's words are for: a board that is alone offers them to the receiver at its ports.
+#[derive(Clone, Copy)]
+pub enum Role {
+    Alone,
+}
+
+/// The runtime that a source is compiled for. What the start of an attempt, the commit and the words of FRAM are for is chosen by it.
+#[derive(Clone, Copy)]
+pub struct Runtime {
+    pub logging: Logging,
+    pub role: Role,
+}

@@ -1,0 +1,49 @@
+-- What a program is told of the board on which it runs and of what the board does, and how moments follow one another. Now that is all of
+-- the board, and nothing comes from outside between two moments. What is to run on a board beside its program, or to reach it between two
+-- steps, is said here.
+use Rattle.std.specs.Prelude.{◌≡◌, List, [], ◌∷◌, Ok}
+use Rattle.msp_isa.specs.declared.instructions.Instr.{Instr}
+use Rattle.fram_board.specs.declared.board.Stepped.{Stepped}
+use Rattle.fram_board.specs.Board.{BoardValue, PowerState, executed, IsNextInstruction}
+use Rattle.fram_board.specs.Steps.{IsPowerState}
+use Rattle.fram_board.specs.Effects.{Effect}
+use Rattle.fram_board.specs.Run.{PowerUp, Moment, moment_of, power_up_of}
+use Rattle.machine_effects.specs.Machine.{MachineBoard}
+use Rattle.machine_effects.specs.View.{machine_of, IsWhole, IsOfWords}
+use Rattle.machine_effects.specs.Runs.{action_effects}
+
+-- the machine that a board is to its program
+abbrev pub outside_of : BoardValue → MachineBoard
+outside_of b = machine_of b
+
+-- what a moment does to it
+abbrev pub outside_effects : Moment → List Effect
+outside_effects m = action_effects m.action m.before m.after
+
+-- the next moment begins on the board that the last one left, but for what came from outside in between: nothing
+pub record Follows (left next : BoardValue) : Type 0 where
+  pub same : next ≡ left
+
+-- a moment that may begin on this board
+pub data IsMomentFrom (b : BoardValue) (m : Moment) : Type 0 where
+  -- a power-up
+  PowersUp : (p : PowerState) → IsPowerState p → m ≡ power_up_of b p → IsMomentFrom b m
+  -- an instruction that is executed
+  Instructs : (i : Instr) (done : Stepped) → IsNextInstruction b i → (executed b i).answer ≡ Ok done → m ≡ moment_of b i done → IsMomentFrom b m
+
+-- moments from this board on, one behind the other
+abbrev pub AreMoments : BoardValue → List Moment → Type 0
+AreMoments b [] = Unit {0}
+AreMoments b (m ∷ ms) = Follows b m.before × IsMomentFrom m.before m × AreMoments m.after ms
+
+-- moments that begin with a power-up, if there are any
+abbrev pub BeginWithPower : List Moment → Type 0
+BeginWithPower [] = Unit {0}
+BeginWithPower (m ∷ ms) = m.action ≡ PowerUp
+
+-- the moments of a run so far, on a whole board of words, up to any instruction of any charge
+pub record IsFront (b : BoardValue) (ms : List Moment) : Type 0 where
+  pub whole : IsWhole b
+  pub words : IsOfWords b
+  pub moments : AreMoments b ms
+  pub begins : BeginWithPower ms
