@@ -1,5 +1,5 @@
 -- What holds of the behaviour of word programs.
-use Rattle.std.specs.Prelude.{ℕ, ◌≡◌, ◌+◌, ◌<◌, ◌≤◌, List, ◌++◌, Some}
+use Rattle.std.specs.Prelude.{ℕ, ◌≡◌, ◌+◌, ◌<◌, ◌≤◌, List, Some}
 use Rattle.std.specs.List.{AllByRecursion}
 use Rattle.machine_effects.specs.fram_board.Effects.{Effect}
 use Rattle.machine_effects.specs.World.{fram_after, readings_taken}

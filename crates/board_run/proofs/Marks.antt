@@ -1,6 +1,6 @@
 -- Marks on the words of the FRAM.
 use Rattle.std.proofs.Common.{◌≡◌, ◌<◌, ◌≤◌, ◌+◌, arith, ℕ, zero, suc, Option, Some, None, refl, sym, ◌∙◌, ap, subst, ⊎_elim, Bool, true, false}
-use Rattle.std.proofs.Common.{List, [], ◌∷◌, length, length-set, drop, drop-cons, get_or, replicate, slice_index, slice_index_or, slice_set, nat_lt, Contains}
+use Rattle.std.proofs.Common.{List, [], ◌∷◌, length, length-set, drop, drop-cons, get_or, slice_index, slice_index_or, slice_set, nat_lt, Contains}
 use Rattle.std.proofs.lemmas.Bool.{cases_eq, cases_lt}
 use Rattle.std.proofs.lemmas.Bool.Decides.{nat_tests}
 use Rattle.std.proofs.lemmas.List.{get_or-set_same, get_or-set_other, ext_get_or}
@@ -164,16 +164,7 @@ rest_next ws ms fram places k place word len inside is cut r =
     let P : List ℕ → Type 0 = λ xs. AreRest ws ms fram xs in
     rest_put ws ms fram (drop (k + 1) places) place word len inside is (subst P cut r)
 
-pub no_mark_set : (n i : ℕ) → slice_index_or (replicate n false) i false ≡ true → ⊥
-no_mark_set zero i e = let c : true ≡ false = sym e in cc
-no_mark_set (suc n) zero e = let c : true ≡ false = sym e in cc
-no_mark_set (suc n) (suc i) e = no_mark_set n i e
-
--- whether an instruction wrote a word of the FRAM, by the address that it wrote, or 0
-pub writes_elsewhere : (wrote : Option ℕ) (i : ℕ) → unwrap_or wrote 0 < fram_first → IsWritten wrote i → ⊥
-writes_elsewhere None i low w = w
-writes_elsewhere (Some a) i low w = let high = w.0 in omega (arith, low, high)
-
+-- an instruction wrote a word of the FRAM, by the address that it wrote, or 0
 pub writes_there : (wrote : Option ℕ) → fram_first ≤ unwrap_or wrote 0 → (i : ℕ) × IsWritten wrote i
 writes_there None high = absurd (omega (arith, high))
 writes_there (Some a) high = (place_of a, (high, refl))

@@ -79,10 +79,3 @@ same_gate m h b =
 
 pub still_gated : (m : MapValue) (h k : History) (b : BoardValue) (gate : ℕ) → h.gate ≡ gate → h ≡ k → h ≡ gated m k b gate
 still_gated m h k b gate is same = sym (same_gate m h b) ∙ ap (gated m h b) is ∙ ap (λ x. gated m x b gate) same
-
-pub still_silent : {A E : Type 0} (old : Option (List ℕ)) (r : Result A E) (gate now : ℕ) (lines : List ℕ) → gate ≡ now → Writes old old r []
-    → Writes old old r (if is_done gate now then lines else [])
-still_silent old r gate now lines same w =
-    let P : List ℕ → Type 0 = λ t. Writes old old r t in
-    let none : [] ≡ (if is_done gate now then lines else []) = ap (λ t. if t then lines else []) (sym (no_event gate).0) ∙ ap (λ n. if is_done gate n then lines else []) same in
-    subst P none w

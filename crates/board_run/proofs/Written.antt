@@ -1,5 +1,5 @@
 -- An instruction changes no word of the FRAM but the one that it wrote.
-use Rattle.std.proofs.Common.{◌≡◌, ◌≤◌, ◌-◌, ◌%◌, if◌then◌else◌, arith, ℕ, refl, sym, ◌∙◌, ap, subst, Bool, true, false, List, [], ◌∷◌, ◌++◌, map}
+use Rattle.std.proofs.Common.{◌≡◌, ◌-◌, ◌%◌, if◌then◌else◌, arith, ℕ, refl, sym, ◌∙◌, ap, subst, Bool, true, false, List, [], ◌∷◌, ◌++◌, map}
 use Rattle.std.proofs.Common.{slice_index, slice_set, slice_range, Option, Some, None, Result, Ok, Err, OnOk}
 use Rattle.std.proofs.lemmas.List.{get_or-set_other}
 use Rattle.msp_isa.specs.declared.instructions.Instr.{Instr}

@@ -9,19 +9,18 @@ use Rattle.runtime_code.specs.msp_isa.declared.operands.Konst.TheVariants.{One, 
 use Rattle.runtime_code.specs.msp_step.Effect.{word_sum, distance}
 use Rattle.runtime_code.specs.fram_board.Effects.{Effect, Store}
 use Rattle.runtime_code.specs.machine_effects.World.{put, fram_after}
-use Rattle.runtime_code.specs.machine_effects.Inputs.{Inputs}
 use Rattle.runtime_code.specs.machine_effects.Going.{Goes}
 use Rattle.runtime_code.specs.machine_effects.Machine.{Code, IsFram}
 use Rattle.runtime_code.proofs.machine_effects.Interface.{fram_after-append, put_other}
 use Rattle.runtime_code.specs.code_forms.Forms.{Core, Form, Compare, Update, Jump, Constant}
-use Rattle.runtime_code.specs.code_forms.Code.{Stands, IsTidy, forms_run, forms_bytes}
+use Rattle.runtime_code.specs.code_forms.Code.{Stands, IsTidy, forms_run}
 use Rattle.runtime_code.proofs.code_forms.Interface.{stands_at, stands_front, stands_back, end_of}
 use Rattle.runtime_code.specs.runtime_effects.Stages.{is_at_end, clearing_if, cleared, counting_effects, opening_effects}
 use Rattle.runtime_code.specs.runtime_effects.Needs.{AreInFram, KeepsTask}
 use Rattle.runtime_code.specs.Comes.{Comes, IsAt}
 use Rattle.runtime_code.specs.Counted.{if_any}
 use Rattle.runtime_code.proofs.Interface.{straight, one_form, comes_on, recounted, nothing, then_on, moved_to, known_at}
-use Rattle.runtime_code.proofs.Interface.{tested, one_less, begun, turn_stands, passes, begins, goes_back, leaves}
+use Rattle.runtime_code.proofs.Interface.{tested, one_less, begun, Loop, turn_stands, passes, begins, goes_back, leaves}
 use Rattle.boot_runtime.specs.Listing.{end_tested, clearing_begins, clear_turn, clear_loop, version_cleared, clearing, counts_set, opening}
 use Rattle.memory_map.specs.declared.words.RuntimeWord.TheVariants.{CurrentTask, ListLength, EmitCount, Version}
 use Rattle.memory_map.specs.MemoryMap.{MemoryMap, word_place}
@@ -94,17 +93,21 @@ module _ (code : Code) (tidy : IsTidy code) (m : MemoryMap) (places : AreInFram 
     abbrev done : ℕ
     done = p + 18
 
-    clear_there : word_sum (p + 2 + 2) (distance 7) ≡ done
-    clear_there = omega arith
-
-    clears_counted : p + 2 + 2 + 4 + forms_bytes clear_turn ≡ p + 14
-    clears_counted = omega arith
-
-    clear_back : word_sum (p + 14 + 2 + 2) (distance (0x400 - 5)) ≡ p + 2 + 2 + 4
-    clear_back = omega arith
-
-    behind_clears : p + 14 + 2 + 2 ≡ done
-    behind_clears = omega arith
+    abbrev clears_loop : Loop code
+    clears_loop = record {
+      at = p;
+      address = m.versions.address;
+      over = 7;
+      back = 0x400 - 5;
+      count = p + 14;
+      end = done;
+      turn = clear_turn;
+      stands = stands;
+      passed = omega arith;
+      turned = omega arith;
+      again = omega arith;
+      out = omega arith;
+    }
 
     -- a version word becomes 0
     one_cleared : (u : Core) → u.pc ≡ p + 2 + 2 + 4 → IsFram (u.work 5)
@@ -113,7 +116,7 @@ module _ (code : Code) (tidy : IsTidy code) (m : MemoryMap) (places : AreInFram 
         let t = end_of u (forms_run clear_turn u).status in
         straight code tidy clear_turn 2 u t (Store (u.work 5) 0 ∷ []) 5 (λ v. v ≡ t) (tt, (tt, tt))
         (stands_at code (p + 2 + 2 + 4) clear_turn u
-        (turn_stands code tidy p m.versions.address 7 (0x400 - 5) (p + 14) done clear_turn stands clear_there clears_counted clear_back behind_clears) e)
+        (turn_stands code tidy clears_loop) e)
         ((tt, word), ((tt, tt), tt)) refl refl refl
 
     -- from a turn on, the words that are left
@@ -125,8 +128,7 @@ module _ (code : Code) (tidy : IsTidy code) (m : MemoryMap) (places : AreInFram 
         let es : List Effect = Store (u.work 5) 0 ∷ [] in
         then_on code 2 2 5 3 u u1 _ es [] (one_cleared u e (in_fram (u.work 5) 0 i))
         (then_on code 2 0 3 0 u1 t _ [] []
-        (leaves code tidy p m.versions.address 7 (0x400 - 5) (p + 14) done clear_turn stands clear_there clears_counted clear_back behind_clears u1
-        (omega (arith, e)) c)
+        (leaves code tidy clears_loop u1 (omega (arith, e)) c)
         (nothing code t _ (record { pc = refl; fram = refl; inputs = refl })))
     turns (suc n) u e c l i =
         let even = i.even in let low = i.low in let top = i.high in let end = places.versions.high in
@@ -143,8 +145,7 @@ module _ (code : Code) (tidy : IsTidy code) (m : MemoryMap) (places : AreInFram 
         recounted code _ (2 + (2 + (4 + n * 4))) (4 + suc n * 4) (5 + (3 + (8 + n * 8))) (8 + suc n * 8) u _ (omega arith) (omega arith)
         (then_on code 2 (2 + (4 + n * 4)) 5 (3 + (8 + n * 8)) u u1 _ es _ (one_cleared u e (in_fram q (suc n) i))
         (then_on code 2 (4 + n * 4) 3 (8 + n * 8) u1 t _ [] _
-        (goes_back code tidy p m.versions.address 7 (0x400 - 5) (p + 14) done clear_turn stands clear_there clears_counted clear_back behind_clears n u1
-        (omega (arith, e)) c (omega (arith, c, l))) r))
+        (goes_back code tidy clears_loop n u1 (omega (arith, e)) c (omega (arith, c, l))) r))
 
     -- from its test on, all of them
     clears_all : (n : ℕ) (u : Core) → u.pc ≡ p → u.work 4 ≡ n → n < 0x10000 → InVersions m.versions.address n
@@ -153,15 +154,14 @@ module _ (code : Code) (tidy : IsTidy code) (m : MemoryMap) (places : AreInFram 
     clears_all zero u e c l i =
         let t : Core = record (tested u) { pc = done } in
         then_on code 2 0 3 0 u t _ [] []
-        (passes code tidy p m.versions.address 7 (0x400 - 5) (p + 14) done clear_turn stands clear_there clears_counted clear_back behind_clears u e c)
+        (passes code tidy clears_loop u e c)
         (nothing code t _ (record { pc = refl; fram = refl; inputs = refl }))
     clears_all (suc n) u e c l i =
         let t = begun p m.versions.address u in
         let es = cleared (suc n) m.versions.address in
         recounted code es (3 + (4 + n * 4)) (2 + 1 + suc n * 4) (5 + (8 + n * 8)) (3 + 2 + suc n * 8) u _ (omega arith) (omega arith)
         (then_on code 3 (4 + n * 4) 5 (8 + n * 8) u t _ [] es
-        (begins code tidy p m.versions.address 7 (0x400 - 5) (p + 14) done clear_turn stands clear_there clears_counted clear_back behind_clears u e
-        (omega (arith, c, l)) (omega (arith, c)))
+        (begins code tidy clears_loop u e (omega (arith, c, l)) (omega (arith, c)))
         (turns n t refl c l i))
 
   -- VER is compared with its end: on to the clearing, or over it

@@ -10,7 +10,7 @@ use Rattle.runtime_code.specs.machine_effects.Inputs.{Inputs}
 use Rattle.runtime_code.specs.machine_effects.Machine.{Code, IsFram}
 use Rattle.runtime_code.proofs.machine_effects.Interface.{fram_after-append}
 use Rattle.runtime_code.specs.code_forms.Forms.{Core, Form, Branch, instruction_of}
-use Rattle.runtime_code.specs.code_forms.Code.{Stands, IsTidy, forms_run, forms_bytes}
+use Rattle.runtime_code.specs.code_forms.Code.{Stands, IsTidy, forms_run}
 use Rattle.runtime_code.proofs.code_forms.Interface.{stands_at, stands_front, stands_back, forms_at, end_of}
 use Rattle.runtime_code.specs.runtime_effects.Places.{CopyPair, run_pairs, entries_from, listed}
 use Rattle.runtime_code.specs.runtime_effects.Stages.{copied_home, sends, emits_sent, commit_closed, commit_effects}
@@ -19,7 +19,7 @@ use Rattle.runtime_code.proofs.runtime_effects.Interface.{run_length, entries_al
 use Rattle.runtime_code.specs.Comes.{Comes, IsAt}
 use Rattle.runtime_code.specs.Counted.{if_any}
 use Rattle.runtime_code.proofs.Interface.{straight, one_form, recounted, nothing, then_on, comes_on, moved_to, known_at}
-use Rattle.runtime_code.proofs.Interface.{if_any_grows, tested, one_less, begun, turn_stands, jumps_to, passes, begins, goes_back, leaves}
+use Rattle.runtime_code.proofs.Interface.{if_any_grows, tested, one_less, begun, Loop, turn_stands, jumps_to, passes, begins, goes_back, leaves}
 use Rattle.commit_runtime.specs.Listing.{copies_begin, entry_begin, word_loop, copy_loop, sends_begin, send_turn, send_loop, closing, commit_forms}
 use Rattle.commit_runtime.specs.Listing.{commit_steps, commit_cycles}
 use Rattle.commit_runtime.specs.Laws.{CommitIsMade}
@@ -53,20 +53,24 @@ module _ (code : Code) (tidy : IsTidy code) (m : MemoryMap) (places : AreInFram 
     abbrev copied : ℕ
     copied = p + 30
 
-    copy_there : word_sum (p + 2 + 2) (distance 13) ≡ copied
-    copy_there = omega arith
-
     to_count : word_sum (p + 14 + 2) (distance 3) ≡ p + 22
     to_count = omega arith
 
-    entries_counted : p + 2 + 2 + 4 + forms_bytes entry_turn ≡ p + 26
-    entries_counted = omega arith
-
-    copy_back : word_sum (p + 26 + 2 + 2) (distance (0x400 - 11)) ≡ p + 2 + 2 + 4
-    copy_back = omega arith
-
-    behind_copies : p + 26 + 2 + 2 ≡ copied
-    behind_copies = omega arith
+    abbrev copies_loop : Loop code
+    copies_loop = record {
+      at = p;
+      address = m.list.address;
+      over = 13;
+      back = 0x400 - 11;
+      count = p + 26;
+      end = copied;
+      turn = entry_turn;
+      stands = stands;
+      passed = omega arith;
+      turned = omega arith;
+      again = omega arith;
+      out = omega arith;
+    }
 
     reads_there : Stands code (p + 2 + 2 + 4) entry_begin
     reads_there = subst (λ x. Stands code x entry_begin) (omega arith) (forms_at code p 3 3 (copy_loop m) stands)
@@ -81,7 +85,7 @@ module _ (code : Code) (tidy : IsTidy code) (m : MemoryMap) (places : AreInFram 
         let count = h.entries_left in
         let t : Core = record (one_less v) { pc = p + 2 + 2 + 4 } in
         then_on code 2 0 3 0 v t _ [] []
-        (goes_back code tidy p m.list.address 13 (0x400 - 11) (p + 26) copied entry_turn stands copy_there entries_counted copy_back behind_copies n v h.at.pc
+        (goes_back code tidy copies_loop n v h.at.pc
         count (omega (arith, count, l)))
         (nothing code t _ (record {
           at = record { pc = refl; fram = h.at.fram; inputs = h.at.inputs };
@@ -94,7 +98,7 @@ module _ (code : Code) (tidy : IsTidy code) (m : MemoryMap) (places : AreInFram 
     leaves_copies q g inputs v h =
         let t : Core = record (one_less v) { pc = copied } in
         then_on code 2 0 3 0 v t _ [] []
-        (leaves code tidy p m.list.address 13 (0x400 - 11) (p + 26) copied entry_turn stands copy_there entries_counted copy_back behind_copies v h.at.pc
+        (leaves code tidy copies_loop v h.at.pc
         h.entries_left)
         (nothing code t _ (record { pc = refl; fram = h.at.fram; inputs = h.at.inputs }))
 
@@ -222,7 +226,7 @@ module _ (code : Code) (tidy : IsTidy code) (m : MemoryMap) (places : AreInFram 
     copies zero u e c l i few ok =
         let t : Core = record (tested u) { pc = copied } in
         then_on code 2 0 3 0 u t _ [] []
-        (passes code tidy p m.list.address 13 (0x400 - 11) (p + 26) copied entry_turn stands copy_there entries_counted copy_back behind_copies u e c)
+        (passes code tidy copies_loop u e c)
         (nothing code t _ (record { pc = refl; fram = refl; inputs = refl }))
     copies (suc n) u e c l i few ok =
         let xs = entries_from (suc n) m.list.address u.fram in
@@ -231,8 +235,7 @@ module _ (code : Code) (tidy : IsTidy code) (m : MemoryMap) (places : AreInFram 
         recounted code (copied_home xs u.fram) (3 + x) (2 + 1 + suc n * 8 + length xs * 4) (5 + y) (3 + 2 + suc n * 14 + length xs * 9) u _
         (omega arith) (omega arith)
         (then_on code 3 x 5 y u t _ [] (copied_home xs u.fram)
-        (begins code tidy p m.list.address 13 (0x400 - 11) (p + 26) copied entry_turn stands copy_there entries_counted copy_back behind_copies u e
-        (omega (arith, c, l)) (omega (arith, c)))
+        (begins code tidy copies_loop u e (omega (arith, c, l)) (omega (arith, c)))
         (copying n m.list.address u.fram t refl c refl refl l i few ok))
 
   -- behind the sends: the number behind that of the last word
@@ -244,17 +247,21 @@ module _ (code : Code) (tidy : IsTidy code) (m : MemoryMap) (places : AreInFram 
     abbrev sent : ℕ
     sent = p + 22
 
-    send_there : word_sum (p + 2 + 2) (distance 9) ≡ sent
-    send_there = omega arith
-
-    sends_counted : p + 2 + 2 + 4 + forms_bytes send_turn ≡ p + 18
-    sends_counted = omega arith
-
-    send_back : word_sum (p + 18 + 2 + 2) (distance (0x400 - 7)) ≡ p + 2 + 2 + 4
-    send_back = omega arith
-
-    behind_sends : p + 18 + 2 + 2 ≡ sent
-    behind_sends = omega arith
+    abbrev sends_loop : Loop code
+    sends_loop = record {
+      at = p;
+      address = m.emits.address;
+      over = 9;
+      back = 0x400 - 7;
+      count = p + 18;
+      end = sent;
+      turn = send_turn;
+      stands = stands;
+      passed = omega arith;
+      turned = omega arith;
+      again = omega arith;
+      out = omega arith;
+    }
 
     -- a word is sent
     one_sent : (u : Core) → u.pc ≡ p + 2 + 2 + 4 → IsFram (u.work 5) → u.work 5 + 2 < 0x10000
@@ -263,7 +270,7 @@ module _ (code : Code) (tidy : IsTidy code) (m : MemoryMap) (places : AreInFram 
         let t = end_of u (forms_run send_turn u).status in
         straight code tidy send_turn 3 u t (Outside (Offered (u.work 7) (u.fram (u.work 5))) ∷ []) 10 (λ v. v ≡ t) (tt, (tt, (tt, tt)))
         (stands_at code (p + 2 + 2 + 4) send_turn u
-        (turn_stands code tidy p m.emits.address 9 (0x400 - 7) (p + 18) sent send_turn stands send_there sends_counted send_back behind_sends) e)
+        (turn_stands code tidy sends_loop) e)
         ((tt, tt), (((word, room), tt), ((tt, tt), tt))) refl refl refl
 
     -- from a turn on, the words that are left
@@ -278,8 +285,7 @@ module _ (code : Code) (tidy : IsTidy code) (m : MemoryMap) (places : AreInFram 
         let es : List Effect = Outside (Offered (u.work 7) (u.fram (u.work 5))) ∷ [] in
         then_on code 3 2 10 3 u u1 _ es [] (one_sent u e w (omega (arith, top, end)))
         (then_on code 2 0 3 0 u1 t _ [] []
-        (leaves code tidy p m.emits.address 9 (0x400 - 7) (p + 18) sent send_turn stands send_there sends_counted send_back behind_sends u1
-        (omega (arith, e)) c)
+        (leaves code tidy sends_loop u1 (omega (arith, e)) c)
         (nothing code t _ (record { at = record { pc = refl; fram = refl; inputs = refl }; next_number = omega arith })))
     sending (suc n) u e c l i =
         let even = i.even in let low = i.low in let top = i.high in let end = places.emits.high in
@@ -299,8 +305,7 @@ module _ (code : Code) (tidy : IsTidy code) (m : MemoryMap) (places : AreInFram 
         recounted code _ (3 + (2 + (5 + n * 5))) (5 + suc n * 5) (10 + (3 + (13 + n * 13))) (13 + suc n * 13) u _ (omega arith) (omega arith)
         (then_on code 3 (2 + (5 + n * 5)) 10 (3 + (13 + n * 13)) u u1 _ es _ (one_sent u e w (omega (arith, top, end)))
         (then_on code 2 (5 + n * 5) 3 (13 + n * 13) u1 t _ [] _
-        (goes_back code tidy p m.emits.address 9 (0x400 - 7) (p + 18) sent send_turn stands send_there sends_counted send_back behind_sends n u1
-        (omega (arith, e)) c (omega (arith, c, l))) r))
+        (goes_back code tidy sends_loop n u1 (omega (arith, e)) c (omega (arith, c, l))) r))
 
     -- from its test on, all of them
     sends_all : (n : ℕ) (u : Core) → u.pc ≡ p → u.work 4 ≡ n → n < 0x10000 → InEmits m.emits.address n → u.work 7 < 0x10000
@@ -309,15 +314,14 @@ module _ (code : Code) (tidy : IsTidy code) (m : MemoryMap) (places : AreInFram 
     sends_all zero u e c l i word =
         let t : Core = record (tested u) { pc = sent } in
         then_on code 2 0 3 0 u t _ [] []
-        (passes code tidy p m.emits.address 9 (0x400 - 7) (p + 18) sent send_turn stands send_there sends_counted send_back behind_sends u e c)
+        (passes code tidy sends_loop u e c)
         (nothing code t _ (record { at = record { pc = refl; fram = refl; inputs = refl }; next_number = omega (arith, word) }))
     sends_all (suc n) u e c l i word =
         let t = begun p m.emits.address u in
         let es = sends (suc n) (u.work 7) m.emits.address u.fram in
         recounted code es (3 + (5 + n * 5)) (2 + 1 + suc n * 5) (5 + (13 + n * 13)) (3 + 2 + suc n * 13) u _ (omega arith) (omega arith)
         (then_on code 3 (5 + n * 5) 5 (13 + n * 13) u t _ [] es
-        (begins code tidy p m.emits.address 9 (0x400 - 7) (p + 18) sent send_turn stands send_there sends_counted send_back behind_sends u e
-        (omega (arith, c, l)) (omega (arith, c)))
+        (begins code tidy sends_loop u e (omega (arith, c, l)) (omega (arith, c)))
         (sending n t refl c l i))
 
   -- the entries, from the first instruction on

@@ -1,5 +1,5 @@
 -- The code makes each attempt and each commit within the task's bound.
-use Rattle.std.proofs.Common.{◌≡◌, ◌<◌, ◌≤◌, ◌+◌, ℕ, Bool, true, List, [], ◌∷◌, ◌++◌, length, refl, sym, ap, ◌∙◌, subst, inl, inr, All, arith, append-nil}
+use Rattle.std.proofs.Common.{◌≡◌, ◌<◌, ◌≤◌, ◌+◌, ℕ, Bool, true, List, [], ◌∷◌, ◌++◌, length, refl, sym, ap, ◌∙◌, subst, arith, append-nil}
 use Rattle.compiled_model.specs.msp_step.declared.machine.Stop.TheVariants as stop
 use Rattle.compiled_model.specs.fram_board.Effects.{Effect, Store}
 use Rattle.compiled_model.specs.machine_effects.World.{World, put, fram_after, world_after, world_after_one}

@@ -1,9 +1,10 @@
 -- What is printed of a map reads back as that map.
 use Rattle.std.proofs.Common.{◌≡◌, ◌≤◌, ◌<◌, ◌^◌, ℕ, suc, ◌+◌, ◌*◌, ◌/◌, ◌%◌, ◌&&◌, List, [], ◌∷◌, ◌++◌, length, map, arith, refl, ap, sym, subst}
-use Rattle.std.proofs.Common.{◌∙◌, if◌then◌else◌, nat_lt, nat_le, Bool, true, false, Option, Some, None, Result, Ok, Err, append_assoc, All}
+use Rattle.std.proofs.Common.{not, ◌∙◌, if◌then◌else◌, nat_lt, nat_le, Bool, true, false, Option, Some, None, Result, Ok, Err, append_assoc, All}
 use Rattle.std.proofs.Common.{codes, append-nil}
 use Rattle.std.specs.Fmt.{decimal}
 use Rattle.std.specs.Prelude.{IfSome}
+use Rattle.std.specs.Char.{is_ascii_digit}
 use Rattle.std.specs.List.{list_all}
 use Rattle.std.specs.Str.{bytes_eq}
 use Rattle.std.proofs.lemmas.Bool.Decides.{nat_tests}
@@ -22,7 +23,7 @@ use Rattle.image_map.specs.declared.parts.Place.{Place}
 use Rattle.image_map.specs.declared.parts.ValueType.{ValueType}
 use Rattle.image_map.specs.declared.parts.ValueType.TheVariants as value_type
 use Rattle.image_map.specs.declared.parts.Variable.{Variable}
-use Rattle.image_map.specs.Names.{is_name, is_letter, is_name_byte, name_of}
+use Rattle.image_map.specs.Names.{is_name, is_name_byte, name_of}
 use Rattle.image_map.specs.MapValue.{MapValue, TaskValue, IsFramWord, AreFramWords, IsPlace, IsVariable, fits, word_count, are_scalars, takes_variable}
 use Rattle.image_map.specs.Kept.{IsMap}
 use Rattle.image_map.specs.MapValue.{takes_task, takes_private, with_private}
@@ -56,8 +57,8 @@ name_inked (b ∷ bs) h = let p = and_parts (is_name_byte b) (list_all is_name_b
 name_word : (n : List ℕ) (ws : List (List ℕ)) → is_name n ≡ true → AreWords ws → AreWords (n ∷ ws)
 name_word [] ws h l = cc
 name_word (b ∷ bs) ws h l =
-    let p = and_parts (nat_le (length (b ∷ bs)) 31) (is_letter b && list_all is_name_byte (b ∷ bs)) h in
-    let q = and_parts (is_letter b) (list_all is_name_byte (b ∷ bs)) p.1 in
+    let p = and_parts (nat_le (length (b ∷ bs)) 31) (not (is_ascii_digit b) && list_all is_name_byte (b ∷ bs)) h in
+    let q = and_parts (not (is_ascii_digit b)) (list_all is_name_byte (b ∷ bs)) p.1 in
     let i = name_inked (b ∷ bs) q.1 in
     (i.0, i.1, l)
 

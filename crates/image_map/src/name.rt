@@ -1,7 +1,7 @@
 //! Names of variables and tasks.
 ghost use Rattle.std.specs.Prelude.{◌≡◌, ◌<◌, ◌≤◌, ◌==◌, ◌||◌, ◌&&◌, length, nat_le, true};
 ghost use Rattle.std.specs.List.{list_all};
-ghost use Rattle.image_map.specs.Names.{is_letter, is_name_byte, is_name, name_of};
+ghost use Rattle.image_map.specs.Names.{is_name_byte, is_name, name_of};
 
 use arrayvec::ArrayVec;
 use std::marker::Model;
@@ -23,16 +23,10 @@ impl Model for Name {
     ghost invariant = { λ n. is_name n.bytes.items ≡ true };
 }
 
-fn is_letter(b: u8) -> bool
-    ensures { result ≡ is_letter b }
-{
-    b.is_ascii_alphabetic() || b == b'_'
-}
-
 fn is_name_byte(b: u8) -> bool
     ensures { result ≡ is_name_byte b }
 {
-    is_letter(b) || b.is_ascii_digit()
+    b.is_ascii_alphanumeric() || b == b'_'
 }
 
 fn all_name_bytes(text: &[u8]) -> bool
@@ -46,7 +40,7 @@ fn is_name(text: &[u8]) -> bool
 {
     match text {
         [] => false,
-        [first, ..] => text.len() <= 31 && is_letter(*first) && all_name_bytes(text),
+        [first, ..] => text.len() <= 31 && !first.is_ascii_digit() && all_name_bytes(text),
     }
 }
 

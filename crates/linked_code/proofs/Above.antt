@@ -1,12 +1,12 @@
 -- No part of the code names a word of RAM below where its stack begins.
-use Rattle.std.proofs.Common.{ℕ, ◌+◌, List, [], ◌∷◌, ◌++◌, refl, arith}
+use Rattle.std.proofs.Common.{ℕ, ◌+◌, List, [], ◌∷◌, ◌++◌, arith}
 use Rattle.boot_runtime.specs.address_space.Limits.{stack_top}
 use Rattle.boot_runtime.specs.code_forms.Forms.{Form, Branch}
 use Rattle.boot_runtime.specs.memory_map.MemoryMap.{MemoryMap}
 use Rattle.boot_runtime.specs.runtime_code.Addresses.{start_address}
 use Rattle.boot_runtime.specs.runtime_effects.Places.{CopyPair}
 use Rattle.boot_runtime.specs.Entries.{task_entries}
-use Rattle.boot_runtime.specs.Listing.{TaskEntry, rung_to, stub_bytes, stubs_address, copies_in, stub_to, stub, stubs, ladder_to, fixed_forms, boot_forms}
+use Rattle.boot_runtime.specs.Listing.{TaskEntry, stub_bytes, stubs_address, copies_in, stub_to, stub, stubs, ladder_to, fixed_forms, boot_forms}
 use Rattle.commit_runtime.specs.Listing.{commit_forms}
 use Rattle.word_code.specs.TaskForms.{EachForm, NamesRamFrom}
 use Rattle.word_code.proofs.Interface.{code_names_ram_from, each-append}

@@ -1,5 +1,5 @@
 -- The stretches of linked code: from the boot to the start of an attempt and to the commit, from there to a task, the task's body, the commit.
-use Rattle.std.proofs.Common.{◌≡◌, ◌<◌, ◌+◌, ℕ, zero, suc, List, [], ◌∷◌, length, map, get_or, refl, sym, ap, subst, All, arith}
+use Rattle.std.proofs.Common.{◌≡◌, ◌<◌, ◌+◌, ℕ, zero, suc, List, [], ◌∷◌, length, map, get_or, refl, sym, ap, subst, arith}
 use Rattle.std.proofs.lemmas.Option.{slice_get-get_or}
 use Rattle.boot_runtime.specs.fram_board.Effects.{Store}
 use Rattle.boot_runtime.specs.machine_effects.World.{put, fram_after}

@@ -22,7 +22,6 @@ pub fn layouts_have_room()
 {}
 
 /// No part of the code names a word of RAM below where its stack begins: boot and commit name none, and a task's code none below its locals.
-#[tactic(auto, using(crate::proofs::Above::linked_keeps_above))]
 pub fn linked_code_keeps_above_its_stacks()
     ensures { LinkedKeepsAbove }
 {}

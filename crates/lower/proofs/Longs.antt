@@ -1,5 +1,5 @@
 -- The programs of longs leave both words of their values, the high one on top.
-use Rattle.std.proofs.Common.{◌≡◌, ℕ, ◌+◌, ◌-◌, ◌*◌, ◌/◌, ◌%◌, ◌==◌, List, Option, Some, None, Bool, true, false, not, nat_lt, refl, sym, ap, ◌∙◌, subst, arith}
+use Rattle.std.proofs.Common.{◌≡◌, ℕ, ◌+◌, ◌-◌, ◌*◌, ◌/◌, ◌%◌, ◌==◌, Option, Some, None, Bool, true, false, not, nat_lt, refl, sym, ap, ◌∙◌, subst, arith}
 use Rattle.std.proofs.Common.{eq-eqb, ne_eqb, ⊎_elim, bit_or, bit_xor}
 use Rattle.std.proofs.lemmas.Bool.{cases_eq}
 use Rattle.std.proofs.lemmas.Nat.{le_or_l, le_or_r}
@@ -12,7 +12,7 @@ use Rattle.task_ast.specs.declared.BinaryOperator.TheVariants as operator
 use Rattle.task_ast.specs.declared.ShiftOperator.{ShiftOperator}
 use Rattle.task_ast.specs.declared.ShiftOperator.TheVariants as shift_operator
 use Rattle.task_ast.specs.Types.{IsOneWord}
-use Rattle.source_values.specs.Values.{◌>>?◌, Attempt, Evaluated, evaluated, gives, made_of, holds, converted, long_difference, long_binary_value}
+use Rattle.source_values.specs.Values.{Attempt, Evaluated, evaluated, gives, made_of, holds, converted, long_difference, long_binary_value}
 use Rattle.source_values.specs.Values.{long_shift_value}
 use Rattle.array_versions.specs.declared.operations.PlainOperation.{PlainOperation}
 use Rattle.array_versions.specs.declared.operations.PlainOperation.TheVariants as plain

@@ -1,6 +1,6 @@
 -- What the lines of a report say, as they are printed: their fields, and what an audit reads in them.
 use Rattle.std.proofs.Common.{◌≡◌, ◌<◌, ◌^◌, ℕ, ◌+◌, ◌==◌, ◌&&◌, nat_le, List, [], ◌∷◌, ◌++◌, length, length-append, take, arith, refl, ap, ◌∙◌, subst}
-use Rattle.std.proofs.Common.{append_assoc, codes, decimal, true, false, Option, Some, None, slice_get}
+use Rattle.std.proofs.Common.{not, append_assoc, codes, decimal, true, false, Option, Some, None, slice_get}
 use Rattle.std.specs.List.{list_all}
 use Rattle.std.proofs.lemmas.Bool.{and_parts}
 use Rattle.std.proofs.lemmas.Bool.Decides.{nat_tests}
@@ -8,6 +8,7 @@ use Rattle.std.proofs.Math.Seq.{take-append_seam}
 use Rattle.std.proofs.lemmas.List.Elements.{All-get_or}
 use Rattle.std.proofs.lemmas.Option.{slice_get_within, get_or_from_slice_get}
 use Rattle.std.specs.Option.{option_map}
+use Rattle.std.specs.Char.{is_ascii_digit}
 use Rattle.alp_text.specs.Lines.{line_len}
 use Rattle.alp_text.proofs.Interface.{number_back}
 use Rattle.alp_io.specs.declared.report.Reason.{Reason}
@@ -16,7 +17,7 @@ use Rattle.alp_io.specs.Report.{task_text, step_line, end_line, bound_line, reas
 use Rattle.text_parts.specs.Fields.{fields}
 use Rattle.text_parts.specs.Printed.{spaced}
 use Rattle.text_parts.proofs.Interface.{Inked, AreWords, decimal_word, fields_spaced}
-use Rattle.source_maps.specs.model_runs.image_map.Names.{is_letter, is_name_byte, is_name}
+use Rattle.source_maps.specs.model_runs.image_map.Names.{is_name_byte, is_name}
 use Rattle.source_report.specs.task_ast.Tree.{Task}
 use Rattle.source_report.specs.task_ast.declared.names.VariableName.{VariableName}
 use Rattle.source_report.specs.task_ast.declared.names.TaskName.{TaskName}
@@ -94,8 +95,8 @@ task_word : (o : Option (List ℕ)) (ws : List (List ℕ)) → IsNamed o → Are
 task_word None ws h l = (omega arith, tt, l)
 task_word (Some []) ws h l = cc
 task_word (Some (b ∷ bs)) ws h l =
-    let short = and_parts (nat_le (length (b ∷ bs)) 31) (is_letter b && list_all is_name_byte (b ∷ bs)) h in
-    let begun = and_parts (is_letter b) (list_all is_name_byte (b ∷ bs)) short.1 in
+    let short = and_parts (nat_le (length (b ∷ bs)) 31) (not (is_ascii_digit b) && list_all is_name_byte (b ∷ bs)) h in
+    let begun = and_parts (not (is_ascii_digit b)) (list_all is_name_byte (b ∷ bs)) short.1 in
     let bytes = named_bytes b bs begun.1 in
     (bytes.0, bytes.1, l)
 

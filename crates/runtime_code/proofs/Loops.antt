@@ -46,6 +46,21 @@ begun p address u = record (tested u) { pc = p + 2 + 2 + 4; work = put u.work 5 
 abbrev pub one_less : Core → Core
 one_less u = end_of u (forms_run (Calculate Sub (Constant One) R4 ∷ []) u).status
 
+-- a loop that counts R4 down while it goes over what stands from an address on. Its turn begins 8 bytes behind its test; behind the turn stands its count
+pub record Loop (code : Code) : Type 0 where
+  pub at : ℕ
+  pub address : ℕ
+  pub over : ℕ
+  pub back : ℕ
+  pub count : ℕ
+  pub end : ℕ
+  pub turn : List Form
+  pub stands : Stands code at (counted address turn over back)
+  pub passed : word_sum (at + 2 + 2) (distance over) ≡ end
+  pub turned : at + 2 + 2 + 4 + forms_bytes turn ≡ count
+  pub again : word_sum (count + 2 + 2) (distance back) ≡ at + 2 + 2 + 4
+  pub out : count + 2 + 2 ≡ end
+
 module _ (code : Code) (tidy : IsTidy code) where
   -- a jump that is always taken
   pub jumps_to : (p q o : ℕ) (u : Core) → code p ≡ Some (instruction_of (Jump Always o)) → u.pc ≡ p → word_sum (p + 2) (distance o) ≡ q
@@ -54,15 +69,14 @@ module _ (code : Code) (tidy : IsTidy code) where
       one_form code tidy (Jump Always o) u (record u { pc = q }) [] 2 (λ v. v ≡ record u { pc = q }) (ap code e ∙ h) tt
       (ap (λ x. Goes [] 2 (record u { pc = word_sum (x + 2) (distance o) })) e ∙ ap (λ x. Goes [] 2 (record u { pc = x })) there) refl
 
-  -- a loop: its turn begins 8 bytes behind its test, and its count stands at q
-  module _ (p address over back q end : ℕ) (turn : List Form) (stands : Stands code p (counted address turn over back))
-      (there : word_sum (p + 2 + 2) (distance over) ≡ end) (count_at : p + 2 + 2 + 4 + forms_bytes turn ≡ q)
-      (again : word_sum (q + 2 + 2) (distance back) ≡ p + 2 + 2 + 4) (out : q + 2 + 2 ≡ end) where
+  module _ (loop : Loop code) where
+    open loop use {at as p, address, over, back, count as q, end, turn, stands, passed, turned, again, out}
+
     pub turn_stands : Stands code (p + 2 + 2 + 4) turn
     turn_stands = stands_front code (p + 2 + 2 + 4) turn (loop_end back) stands.1.1.1
 
     counting : Stands code q (loop_end back)
-    counting = subst (λ x. Stands code x (loop_end back)) count_at (stands_back code (p + 2 + 2 + 4) turn (loop_end back) stands.1.1.1)
+    counting = subst (λ x. Stands code x (loop_end back)) turned (stands_back code (p + 2 + 2 + 4) turn (loop_end back) stands.1.1.1)
 
     check : (u : Core) → u.pc ≡ p → Comes code [] 1 1 u (λ v. v ≡ tested u)
     check u e = straight code tidy (Calculate Cmp (Constant Zero) R4 ∷ []) 1 u (tested u) [] 1 (λ v. v ≡ tested u) (tt, tt) (ap code e ∙ stands.0, tt)
@@ -76,7 +90,7 @@ module _ (code : Code) (tidy : IsTidy code) where
         (one_form code tidy (Jump Equal over) (tested u) t [] 2 (λ v. v ≡ t) (ap (λ x. code (x + 2)) e ∙ stands.1.0) tt
         (ap (λ x. Goes [] 2 (record (tested u) { pc = if x then word_sum (u.pc + 2 + 2) (distance over) else u.pc + 2 + 2 })) z
         ∙ ap (λ x. Goes [] 2 (record (tested u) { pc = if b then word_sum (x + 2 + 2) (distance over) else x + 2 + 2 })) e
-        ∙ ap (λ x. Goes [] 2 (record (tested u) { pc = if b then x else p + 2 + 2 })) there)
+        ∙ ap (λ x. Goes [] 2 (record (tested u) { pc = if b then x else p + 2 + 2 })) passed)
         refl)
 
     -- a count of 0: over it all

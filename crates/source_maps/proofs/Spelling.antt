@@ -35,6 +35,13 @@ use Rattle.source_report.specs.SourceReport.{spelled}
 
 -- ---- a word
 
+-- a letter is no digit, and the bytes of a word are those of a name
+no_digit : (b : ℕ) → is_letter b ≡ true → not (is_ascii_digit b) ≡ true
+no_digit b h = grind (arith, nat_tests, h)
+
+name_byte : (b : ℕ) → is_word b ≡ true → is_name_byte b ≡ true
+name_byte b h = grind (arith, nat_tests, h)
+
 take_more : (x : ℕ) (xs : List ℕ) (n : ℕ) → take (1 + n) (x ∷ xs) ≡ x ∷ take n xs
 take_more x xs n = let e : 1 + n ≡ suc n = omega arith in ap (λ m. take m (x ∷ xs)) e
 
@@ -44,7 +51,7 @@ all_name_bytes (x ∷ xs) = go (is_word x) refl (all_name_bytes xs)
   where
     go : (b : Bool) → is_word x ≡ b → list_all is_name_byte (take (prefix_len is_word xs) xs) ≡ true
         → list_all is_name_byte (take (cond b (1 + prefix_len is_word xs) 0) (x ∷ xs)) ≡ true
-    go true e more = ap (list_all is_name_byte) (take_more x xs (prefix_len is_word xs)) ∙ and_from (is_name_byte x) _ e more
+    go true e more = ap (list_all is_name_byte) (take_more x xs (prefix_len is_word xs)) ∙ and_from (is_name_byte x) _ (name_byte x e) more
     go false e more = refl
 
 word_is_name : (xs : List ℕ) → is_letter (slice_index xs 0) ≡ true → prefix_len is_word xs ≤ 31 → is_name (take (prefix_len is_word xs) xs) ≡ true
@@ -57,7 +64,7 @@ word_is_name (x ∷ xs) h l =
     let few : n + 1 ≤ 31 = omega (arith, count, l) in
     let most : length (take n xs) ≤ n = at_most n xs in
     let fits : nat_le (length (x ∷ take n xs)) 31 ≡ true = grind (arith, nat_tests, few, most) in
-    ap is_name front ∙ and_from _ _ fits (and_from _ _ h (ap (list_all is_name_byte) (sym front) ∙ all_name_bytes (x ∷ xs)))
+    ap is_name front ∙ and_from _ _ fits (and_from _ _ (no_digit x h) (ap (list_all is_name_byte) (sym front) ∙ all_name_bytes (x ∷ xs)))
   where
     at_most : (n : ℕ) (ys : List ℕ) → length (take n ys) ≤ n
     at_most zero ys = omega arith

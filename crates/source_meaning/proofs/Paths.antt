@@ -1,5 +1,5 @@
 -- A run that goes on behind a block makes a path that does.
-use Rattle.std.proofs.Common.{ℕ, zero, suc, ◌+◌, ◌-◌, Bool, true, false, List, [], ◌∷◌, ◌++◌, Option, Some, None, if◌then◌else◌}
+use Rattle.std.proofs.Common.{ℕ, zero, suc, ◌+◌, ◌-◌, Bool, true, false, List, [], ◌∷◌, ◌++◌, Some, None, if◌then◌else◌}
 use Rattle.task_ast.specs.Tree.{Expression, Statement, Choice, Block}
 use Rattle.task_ast.specs.Tree as t
 use Rattle.task_ast.specs.Paths.{Access, write, End, ExpressionPath, StatementPath, ChoicePath, TurnsPath, BlockPath}

@@ -1,5 +1,6 @@
 -- The conditions of an `if`, one after another, and what its blocks emit.
-use Rattle.std.proofs.Common.{◌≡◌, ◌<◌, ◌≤◌, ◌+◌, ℕ, zero, suc, max, Bool, true, false, List, [], ◌∷◌, map, length, drop, get_or, sym, ap, ◌∙◌, arith, Option, Some}
+use Rattle.std.proofs.Common.{◌≡◌, ◌<◌, ◌≤◌, ◌+◌, ℕ, zero, suc, max, Bool, true, false, List, [], ◌∷◌, map, length, drop, get_or, sym, ap, ◌∙◌, arith, Option}
+use Rattle.std.proofs.Common.{Some}
 use Rattle.std.proofs.Common.{None, drop-cons, if◌then◌else◌, OnSome, subst}
 use denote.Bor.{Bor}
 use Rattle.source_values.specs.declared.statements.Chosen.{Chosen}

@@ -1,5 +1,5 @@
 -- An attempt emits no more words than its block counts, however it ends.
-use Rattle.std.proofs.Common.{ℕ, zero, suc, ◌+◌, ◌-◌, ◌*◌, ◌/◌, ◌%◌, ◌≤◌, subst, arith, List, [], ◌∷◌, ◌++◌, length, length-append, ap, ◌∙◌, Option, Some, None, Bool}
+use Rattle.std.proofs.Common.{ℕ, zero, suc, ◌+◌, ◌-◌, ◌*◌, ◌/◌, ◌%◌, ◌≤◌, subst, arith, [], ◌∷◌, ◌++◌, length, length-append, ap, ◌∙◌, Some, None, Bool}
 use Rattle.std.proofs.Common.{true, false}
 use Rattle.std.proofs.Common.{if◌then◌else◌}
 use Rattle.std.proofs.Math.Nat.{suc-mul}

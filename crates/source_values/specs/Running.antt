@@ -1,7 +1,7 @@
 -- What a run of a program needs, and begins with.
 use Rattle.std.specs.Prelude.{◌≡◌, ℕ, ◌<◌, ◌≤◌, List, [], map, length, All}
-use Rattle.source_values.specs.Marks.{no_marks}
-use Rattle.source_values.specs.Runs.{CheckedProgram, EmitsFit, RunState, TransitionComes, initial_rows}
+use Rattle.source_values.specs.Marks.{MarksValue, no_marks}
+use Rattle.source_values.specs.Runs.{CheckedProgram, EmitsFit, TransitionComes, initial_rows}
 
 -- each shared variable has as many words as it starts with
 abbrev pub IsShaped : CheckedProgram → List (List ℕ) → Type 0
@@ -15,6 +15,15 @@ pub record IsRunnable (program : CheckedProgram) : Type 0 where
   pub entry : program.entry.task < length program.tasks
   pub emits_fit : All EmitsFit program.tasks
   pub transition_comes : All (TransitionComes (length program.tasks)) program.tasks
+
+-- what is kept of a run: the shared words at the last transition and at the one before, marks on those that were written between
+-- them, the words emitted there, and the current task
+pub record RunState : Type 0 where
+  pub before : List (List ℕ)
+  pub shared : List (List ℕ)
+  pub written : MarksValue
+  pub emitted : List ℕ
+  pub task : ℕ
 
 -- a run of which no transition was made
 abbrev pub fresh_run : CheckedProgram → RunState

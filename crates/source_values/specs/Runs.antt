@@ -6,7 +6,6 @@ use Rattle.task_ast.specs.declared.Extent.{Extent}
 use Rattle.task_ast.specs.declared.Extent.TheVariants.{Scalar, Long, Array}
 use Rattle.task_ast.specs.declared.names.VariableName.{VariableName}
 use Rattle.task_ast.specs.declared.names.TaskName.{TaskName}
-use Rattle.source_values.specs.Marks.{MarksValue}
 use Rattle.source_values.specs.Values.{◌>>?◌}
 use Rattle.source_values.specs.Statements.{Attempt, Outcome, goes_on, to_task, short, run_block, block_emits}
 
@@ -117,12 +116,3 @@ TransitionComes tasks task = (s : Attempt) → EndsWell tasks (run_block task.bo
 -- the task emits at most 256 words
 abbrev pub EmitsFit : Task VariableName TaskName → Type 0
 EmitsFit task = block_emits task.body ≤ 256
-
--- what is kept of a run: the shared words at the last transition and at the one before, marks on those that were written between
--- them, the words emitted there, and the current task
-pub record RunState : Type 0 where
-  pub before : List (List ℕ)
-  pub shared : List (List ℕ)
-  pub written : MarksValue
-  pub emitted : List ℕ
-  pub task : ℕ

@@ -47,13 +47,19 @@ pub struct SourceRun {
 
 impl Model for SourceRun {
     ghost use Rattle.std.specs.Prelude.{◌≡◌, map, length};
-    ghost use Rattle.source_values.specs.Runs.{RunState};
+    ghost use Rattle.source_values.specs.Running.{RunState};
     ghost use Rattle.source_values.specs.View.{rows_of};
     ghost use Rattle.source_values.specs.Marks.{Covers};
 
     ghost Value = { RunState };
 
-    ghost view = { λ r. record { before = rows_of r.before.items; shared = r.scratch.shared.base; written = r.written; emitted = r.emitted.items; task = r.task } };
+    ghost view = { λ r. record {
+      before = rows_of r.before.items;
+      shared = r.scratch.shared.base;
+      written = r.written;
+      emitted = r.emitted.items;
+      task = r.task;
+    } };
 
     ghost invariant = { λ r. (map length (rows_of r.before.items) ≡ map length r.scratch.shared.base)
         × (r.scratch.shared.rows ≡ r.scratch.shared.base)

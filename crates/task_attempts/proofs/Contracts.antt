@@ -1,6 +1,5 @@
 -- The program of a task decides, or is short exactly where the task is, and stores before the code.
-use Rattle.std.proofs.Common.{◌≡◌, ℕ, suc, ◌<◌, ◌≤◌, List, [], ◌∷◌, ◌++◌, length, true, false, refl, sym, ap, ◌∙◌, subst, arith, All, append-nil}
-use Rattle.std.specs.List.{AllByRecursion}
+use Rattle.std.proofs.Common.{◌≡◌, ℕ, ◌≤◌, List, [], ◌∷◌, ◌++◌, length, true, false, refl, sym, ap, ◌∙◌, subst, arith, append-nil}
 use Rattle.std.proofs.lemmas.List.{append_cancel_right}
 use Rattle.std.proofs.lemmas.Option.{get_or_from_slice_get}
 use Rattle.layout_facts.specs.fram_board.Effects.{Effect, Store}
@@ -16,7 +15,7 @@ use Rattle.layout_facts.specs.array_versions.Program.{Program}
 use Rattle.layout_facts.specs.array_versions.Behaviour.{WordState, End, GoesOn, Jumps, Short as Starves, Broken, behaviour, started}
 use Rattle.layout_facts.specs.array_versions.Laws.{EndsByEffects, IsSound}
 use Rattle.layout_facts.proofs.array_versions.Interface.{behaves_by_effects, whole_ends_soundly, StoresWords, stores_words}
-use Rattle.layout_facts.specs.crash_rules.Model.{Ends, program_effects, IsWord, IsElsewhere, Model, AttemptContract, Decides, RunsShort}
+use Rattle.layout_facts.specs.crash_rules.Model.{Ends, program_effects, IsElsewhere, Model, AttemptContract, Decides, RunsShort}
 use Rattle.layout_facts.specs.lower.Agreement.{TakesAndStores, EndsAs, BlocksAgree}
 use Rattle.layout_facts.specs.lower.Lowered.{lowered_block}
 use Rattle.layout_facts.specs.compiled_model.Parts.{task_program, outcome_of, whole_task, has_jumped, effects_of, program_parts, compiled_model}

@@ -1,6 +1,6 @@
 -- The code of a word program does what the program does, within the cycles of the way that it takes.
-use Rattle.word_code.proofs.Names.{top_of, instruction_of, Condition, Runs, ◌≤◌, R4, form_small, ◌≡◌, ℕ, suc, ◌+◌, ◌-◌, ◌*◌, ◌<◌, Bool, true, false, not}
-use Rattle.word_code.proofs.Names.{nat_lt, if◌then◌else◌, List, [], ◌∷◌, ◌++◌, length, All, Some, ◌≢◌, None, refl, sym, ap, subst, arith, AllByRecursion}
+use Rattle.word_code.proofs.Names.{top_of, instruction_of, Condition, Runs, ◌≤◌, R4, form_small, ◌≡◌, ℕ, ◌+◌, ◌-◌, ◌*◌, ◌<◌, Bool, true, false, not}
+use Rattle.word_code.proofs.Names.{nat_lt, if◌then◌else◌, List, [], ◌∷◌, ◌++◌, length, Some, ◌≢◌, None, refl, sym, ap, subst, arith}
 use Rattle.word_code.proofs.Names.{Effect, Core, Form, form_bytes, Move, Branch, Fram, ToFram, Stands, forms_bytes, stands_front, stands_back, forms_behind}
 use Rattle.word_code.proofs.Names.{forms_bytes-append, Comparison, is_true, compare_words, Step, Test, Program, number, load, keep, update, local, set_local}
 use Rattle.word_code.proofs.Names.{update_local, unary, binary, shift, long, element, emit_word, list_entry, versioned_read, versioned_write, versioned_update}

@@ -1,5 +1,5 @@
 -- What the code of a word program does.
-use Rattle.std.specs.Prelude.{◌≡◌, ℕ, ◌*◌, ◌<◌, ◌≤◌, List, All, length}
+use Rattle.std.specs.Prelude.{◌≡◌, ℕ, ◌*◌, ◌<◌, ◌≤◌, List, length}
 use Rattle.array_versions.specs.fram_board.Effects.{Effect}
 use Rattle.array_versions.specs.machine_effects.World.{IsPrefix}
 use Rattle.array_versions.specs.machine_effects.Inputs.{InputsAreWords}

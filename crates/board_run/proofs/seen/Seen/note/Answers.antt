@@ -1,5 +1,4 @@
-use Rattle.std.proofs.Common.{subst, sym, Option, option_map, OnOk}
-use Rattle.image_text.specs.image_map.MapValue.{MapValue}
+use Rattle.std.proofs.Common.{subst, sym, option_map, OnOk}
 use Rattle.board_run.specs.State.{FollowsBy, FollowsButBy}
 use Rattle.board_run.proofs.Written.{follows_noted}
 use Rattle.board_run.proofs.seen.Seen.note.Goals as goal

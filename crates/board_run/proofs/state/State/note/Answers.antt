@@ -1,14 +1,24 @@
 use Rattle.std.proofs.Common.{◌≡◌, ◌∙◌, ap, sym, subst, ℕ, Some, OnOk, [], if◌then◌else◌}
-use Rattle.std.proofs.KnownBytes.{Appends-nil}
 use Rattle.alp_io.specs.Sink.{Writes}
 use Rattle.image_text.specs.address_space.Limits.{place_of}
 use Rattle.image_text.specs.image_map.declared.parts.RuntimeWords.{RuntimeWords}
 use Rattle.fram_board.specs.Run.{word_list}
 use Rattle.board_run.specs.History.{History, word_in, with_words, gated, is_done, transition_lines}
 use Rattle.board_run.specs.State.{history_of, shared_in}
-use Rattle.board_run.proofs.Transitions.{still_gated, still_silent}
+use Rattle.board_run.proofs.Transitions.{still_gated}
 use Rattle.board_run.proofs.Written.{gate_noted}
 use Rattle.board_run.proofs.state.State.note.Goals as goal
+
+pub returns-then-not-in_fram-clause-history : goal.returns-then-not-in_fram-clause-history
+returns-then-not-in_fram-clause-history g c =
+    let m = c.args.map.now in
+    let before = history_of (Some m) c.args.self.now in
+    let ws = word_list c.args.done.now.accepted in
+    let elsewhere = c.note_write-in_fram.ensures.elsewhere c.if-not-in_fram.true (place_of m.words.gate) in
+    let known = sym c.keep_accepted.ensures.known ∙ c.if-self.true in
+    still_gated m (history_of (Some m) c.keep_accepted.new.self) (with_words before ws) c.args.board.now (word_in c.args.board.now.fram m.words.gate)
+    (c.keep_accepted.ensures.gate ∙ c.requires.gate elsewhere known)
+    (c.keep_accepted.ensures.history (Some m) ∙ ap (λ x. with_words (record before { shared = shared_in (Some m) x }) ws) c.note_write-in_fram.ensures.words)
 
 pub returns-clause-history : goal.returns-clause-history
 returns-clause-history g c =
