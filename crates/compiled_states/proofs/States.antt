@@ -9,8 +9,7 @@ use Rattle.fram_state.specs.OtherImage.{SameBut}
 use Rattle.fram_state.specs.Named.{is_named}
 use Rattle.fram_state.specs.Sound as state
 use Rattle.fram_state.specs.Belongs.{Belongs}
-use Rattle.image_reports.specs.layout_facts.memory_map.declared.words.RuntimeWord.TheVariants.{Gate}
-use Rattle.image_reports.specs.layout_facts.memory_map.MemoryMap.{MemoryMap, word_place}
+use Rattle.image_reports.specs.layout_facts.memory_map.MemoryMap.{MemoryMap}
 use Rattle.image_reports.specs.layout_facts.Facts.{HasLayout}
 use Rattle.image_reports.proofs.layout_facts.whole_programs.Interface.{privates_are_few}
 use Rattle.image_reports.specs.image_laws.image_map.MapValue.{MapValue}

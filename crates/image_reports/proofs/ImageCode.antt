@@ -10,7 +10,7 @@ use Rattle.msp_step.specs.Effect.{word_sum}
 use Rattle.msp_step.specs.Step.{off_bit, FetchedAt}
 use Rattle.image_text.specs.ImageValue.{place_of}
 use Rattle.fram_board.specs.Bus.{board_bus, memory_word, ram_place}
-use Rattle.fram_board.specs.Board.{BoardValue, powered, opened}
+use Rattle.fram_board.specs.Board.{BoardValue, opened}
 use Rattle.fram_board.specs.Effects.{Effect}
 use Rattle.machine_effects.specs.Going.{StepOutcome, Goes, Stops, At, Halted, going, continued}
 use Rattle.machine_effects.specs.Machine.{MachineBoard, Code, standing, exec, fram_of}

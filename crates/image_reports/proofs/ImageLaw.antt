@@ -8,8 +8,7 @@ use Rattle.machine_effects.specs.Runs.{last_board}
 use Rattle.cost_bound.specs.declared.allowance.Allow.{Allow}
 use Rattle.source_values.specs.Runs.{CheckedProgram, State, first_state}
 use Rattle.source_meaning.specs.Acceptance.{IsAcceptedText}
-use Rattle.memory_map.specs.declared.words.RuntimeWord.TheVariants.{Gate}
-use Rattle.memory_map.specs.MemoryMap.{MemoryMap, word_place}
+use Rattle.memory_map.specs.MemoryMap.{MemoryMap}
 use Rattle.crash_rules.specs.History.{first_history}
 use Rattle.crash_rules.specs.Laws.{Origin, Resting, StandsFor}
 use Rattle.crash_rules.proofs.Interface.{runs_may_begin}

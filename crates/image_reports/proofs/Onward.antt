@@ -13,7 +13,7 @@ use Rattle.fram_board.specs.Run.{BoardCharge, PowerUp, Moment, RunOutcome}
 use Rattle.fram_board.proofs.Interface.{fill_is_a_power_state}
 use Rattle.machine_effects.specs.World.{World, fram_after, IsPrefix}
 use Rattle.machine_effects.specs.Going.{going, continued}
-use Rattle.machine_effects.specs.Machine.{MachineBoard, fram_of}
+use Rattle.machine_effects.specs.Machine.{fram_of}
 use Rattle.machine_effects.specs.Runs.{last_board}
 use Rattle.code_forms.specs.Placed.{words_of, Holds}
 use Rattle.cost_bound.specs.declared.allowance.Allow.{Allow}
@@ -28,8 +28,8 @@ use Rattle.boot_runtime.specs.Entries.{task_entries}
 use Rattle.boot_runtime.specs.Listing.{privates_in}
 use Rattle.crash_rules.specs.Model.{IsElsewhere, Model, ModelLaws, Inputs, program_effects, with_commit, attempt_from, script}
 use Rattle.crash_rules.specs.History.{History, first_history, inputs_from}
-use Rattle.crash_rules.specs.Runs.{Program, Charge, Charged}
-use Rattle.crash_rules.specs.Laws.{Origin, Phase, UndecidedPhase, DecidedPhase, CommittingPhase, StandsFor, Begins, PowersUpBehind, ScriptsStore}
+use Rattle.crash_rules.specs.Runs.{Program}
+use Rattle.crash_rules.specs.Laws.{Origin, Phase, UndecidedPhase, DecidedPhase, CommittingPhase, StandsFor, Begins, ScriptsStore}
 use Rattle.machine_effects.proofs.Interface.{power_up_keeps_words}
 use Rattle.crash_rules.proofs.Interface.{world_fram, never_lost, sent_once, pending_sends, stops_short, stores_only}
 use Rattle.run_charges.specs.View.{outside_of, IsMomentFrom, PowersUp, Instructs, AreMoments}

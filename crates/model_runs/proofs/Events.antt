@@ -13,7 +13,7 @@ use Rattle.image_map.specs.Kept.{IsMap}
 use Rattle.fram_board.specs.Board.{BoardValue}
 use Rattle.fram_board.specs.Effects.{Effect, Outside}
 use Rattle.fram_board.specs.Run.{word_list}
-use Rattle.board_run.specs.History.{shared_numbers, word_in, values_in, task_name, more_lines, changed_lines, transition_lines, with_word, with_words}
+use Rattle.board_run.specs.History.{shared_numbers, word_in, task_name, more_lines, changed_lines, transition_lines, with_word, with_words}
 use Rattle.board_run.specs.History.{completed}
 use Rattle.board_run.specs.History.{decided}
 use Rattle.board_run.specs.History as board

@@ -15,7 +15,7 @@ use Rattle.fram_board.specs.Board.{offered_to}
 use Rattle.fram_board.specs.Saved.{TakesNextBehind}
 use Rattle.fram_board.specs.Steps.{IsPowerState}
 use Rattle.fram_board.specs.Effects.{Effect, Store, Take, Outside, OutsideEffect, Offered, sends_of, effects_of, heard}
-use Rattle.fram_board.specs.Run.{Measure, Instructions, price, Moment, moment_of, power_up_of, Charges, RunOutcome, run_outcome, after_moments}
+use Rattle.fram_board.specs.Run.{Measure, Instructions, price, Moment, moment_of, Charges, RunOutcome, run_outcome, after_moments}
 use Rattle.fram_board.specs.Run.{ChargeRun}
 use Rattle.fram_board.specs.Run.{Spent, NoInstruction, TooDear, Refused, BoardCharge, Run, Over, Next, Last, word_list}
 use Rattle.fram_board.specs.Run as run

@@ -17,7 +17,7 @@ use Rattle.board_run.specs.History.{SharedNumber, array_words, scalar_number, nu
 use Rattle.board_run.specs.History.{changed_line}
 use Rattle.board_run.specs.History as board
 use Rattle.source_values.specs.Runs.{CheckedProgram, is_long_extent, State, Transition, state_after}
-use Rattle.source_report.specs.SourceReport.{spelled, Committed, emitted_lines, change_line, element_lines, variable_lines, transition_lines, source_report}
+use Rattle.source_report.specs.SourceReport.{spelled, Committed, change_line, element_lines, variable_lines, transition_lines, source_report}
 use Rattle.source_report.specs.SourceReport as source
 use Rattle.machine_effects.specs.World.{World}
 use Rattle.crash_rules.specs.History.{Done}
