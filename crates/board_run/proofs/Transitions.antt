@@ -1,6 +1,6 @@
 -- The lines of a transition, part by part.
-use Rattle.std.proofs.Common.{◌≡◌, ℕ, zero, suc, List, [], ◌++◌, refl, arith, ap, ap₂, sym, subst, ◌∙◌, Option, Result, IsErr, flat_map, true, false, not, ◌&&◌, ne_eqb}
-use Rattle.std.proofs.Common.{if◌then◌else◌, append-nil}
+use Rattle.std.proofs.Common.{◌≡◌, ℕ, zero, suc, List, [], ◌++◌, refl, arith, ap, ap₂, sym, subst, ◌∙◌, Option, Result, IsErr, flat_map, true, false}
+use Rattle.std.proofs.Common.{not, ◌&&◌, ne_eqb, if◌then◌else◌, append-nil}
 use Rattle.std.specs.Io.KnownBytes.{Appends}
 use Rattle.alp_io.specs.Count.{risen}
 use Rattle.alp_io.specs.Sink.{AppendsProperPrefix, Writes}

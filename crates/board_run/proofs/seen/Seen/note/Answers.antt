@@ -6,12 +6,14 @@ use Rattle.board_run.proofs.seen.Seen.note.Goals as goal
 pub note-requires-clause-covers : goal.note-requires-clause-covers
 note-requires-clause-covers g c =
     let s = c.args.self.now.state in
-    (subst (λ o. FollowsButBy (option_map (λ m. m.now) o) c.args.done.now.wrote s.shadow s.is_gate_known s.gate c.args.board.now.fram) c.in-Some.is c.requires).0
+    let P : _ → Type 0 = λ o. FollowsButBy (option_map (λ m. m.now) o) c.args.done.now.wrote s.shadow s.is_gate_known s.gate c.args.board.now.fram in
+    (subst P c.in-Some.is c.requires).0
 
 pub note-requires-clause-gate : goal.note-requires-clause-gate
 note-requires-clause-gate g c =
     let s = c.args.self.now.state in
-    (subst (λ o. FollowsButBy (option_map (λ m. m.now) o) c.args.done.now.wrote s.shadow s.is_gate_known s.gate c.args.board.now.fram) c.in-Some.is c.requires).1
+    let P : _ → Type 0 = λ o. FollowsButBy (option_map (λ m. m.now) o) c.args.done.now.wrote s.shadow s.is_gate_known s.gate c.args.board.now.fram in
+    (subst P c.in-Some.is c.requires).1
 
 pub returns-in-Some-clause-follows : goal.returns-in-Some-clause-follows
 returns-in-Some-clause-follows g c =

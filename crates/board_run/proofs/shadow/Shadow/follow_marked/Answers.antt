@@ -11,7 +11,8 @@ loop-place-preserved c =
     c.put.ensures c.next-place-in-loop-place.ensures.none
 
 pub returns-clause-words : goal.returns-clause-words
-returns-clause-words c = followed_all _ _ _ c.loop-place.invariant (omega (arith, c.loop-place-test.false)) (ap length (sym c.fram-fram.ensures.value) ∙ c.fram-fram.ensures.len)
+returns-clause-words c = followed_all _ _ _ c.loop-place.invariant (omega (arith, c.loop-place-test.false))
+    (ap length (sym c.fram-fram.ensures.value) ∙ c.fram-fram.ensures.len)
 
 pub returns-clause-none : goal.returns-clause-none
 returns-clause-none c i m = followed_none _ _ _ _ c.loop-place.invariant (omega (arith, c.loop-place-test.false)) m
