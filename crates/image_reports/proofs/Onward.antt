@@ -354,7 +354,7 @@ module _ (text : List ℕ) (p : CheckedProgram) (allow : Allow) (image : ImageVa
   record BeginsCharge (t : BoardValue) : Type 0 where
     pub history : History
     pub at : IsReached t history
-    pub words : HoldsWords (outside_of t).fram
+    pub fram_words : HoldsWords (outside_of t).fram
 
   raises_from : (t : BoardValue) → BeginsCharge t → (steps first more : List Moment) → steps ≡ first ++ more → length first ≡ 5
       → AreInstructionMoments first → (boot : Moment) → boot.action ≡ PowerUp → IsMomentFrom t boot → AreMoments boot.after first
@@ -369,7 +369,7 @@ module _ (text : List ℕ) (p : CheckedProgram) (allow : Allow) (image : ImageVa
         rest = more;
         are = cut;
         soon = omega (arith, five);
-        raised = raised_by_five t from.history from.at power powers first own are five gate (below_end _ (from.words (word_place l Version)) end);
+        raised = raised_by_five t from.history from.at power powers first own are five gate (below_end _ (from.fram_words (word_place l Version)) end);
       }) moments
 
   pub raises : RaisesVersion l r.moments
@@ -389,7 +389,7 @@ module _ (text : List ℕ) (p : CheckedProgram) (allow : Allow) (image : ImageVa
       let known = (fronts_are_lawful model program readings origin x cs b r run bearing ms tail e).1.fram in
       let same : (outside_of boot.before).fram ≡ h.world.fram = ap (λ s. s.fram) (follows_keeps t boot.before moments.0).outside ∙ known in
       let from : BeginsCharge boot.before =
-      record { history = h; at = at; words = subst HoldsWords (sym same) (keeps_versions ms tail e).words } in
+      record { history = h; at = at; fram_words = subst HoldsWords (sym same) (keeps_versions ms tail e).words } in
       raises_from boot.before from steps first more cut five (front_are first more (subst AreInstructionMoments cut are)) boot up moments.1 moments.2
 
   -- each charge that is spent pays for its transitions
