@@ -11,7 +11,7 @@ use Rattle.fram_state.specs.Sound as state
 use Rattle.fram_state.specs.Belongs.{Belongs}
 use Rattle.image_reports.specs.layout_facts.memory_map.MemoryMap.{MemoryMap}
 use Rattle.image_reports.specs.layout_facts.Facts.{HasLayout}
-use Rattle.image_reports.proofs.layout_facts.whole_programs.Interface.{privates_are_few}
+use Rattle.whole_programs.proofs.Interface.{privates_are_few}
 use Rattle.image_reports.specs.image_laws.image_map.MapValue.{MapValue}
 use Rattle.image_reports.specs.image_laws.image_text.ImageValue.{ImageValue}
 use Rattle.image_reports.specs.image_laws.fram_board.Board.{BoardValue}
