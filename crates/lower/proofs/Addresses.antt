@@ -3,7 +3,7 @@ use Rattle.std.proofs.Common.{◌≡◌, ℕ, ◌+◌, ◌*◌, ◌%◌, ◌<◌
 use Rattle.std.proofs.Common.{⊎_elim, if◌then◌else◌}
 use Rattle.std.proofs.lemmas.Bool.{cases_eq}
 use Rattle.std.specs.Prelude.{slice_get}
-use Rattle.array_versions.specs.fram_board.Bus.{is_fram}
+use Rattle.fram_board.specs.Bus.{is_fram}
 use Rattle.array_versions.specs.Behaviour.{Behaviour, strays, is_place, at_place}
 use Rattle.memory_map.specs.declared.place.ArrayCopies.{ArrayCopies}
 use Rattle.memory_map.proofs.Interface.{words_scalar}

@@ -3,8 +3,8 @@ use Rattle.std.proofs.Common.{◌≡◌, ℕ, zero, suc, ◌+◌, ◌-◌, ◌*�
 use Rattle.std.proofs.Common.{sym, ap, ◌∙◌, subst, arith, if◌then◌else◌, le_refl, ⊎_elim}
 use Rattle.std.specs.Prelude.{slice_get, get_or}
 use Rattle.std.proofs.lemmas.Bool.{cases_lt}
-use Rattle.array_versions.specs.fram_board.Effects.{Store}
-use Rattle.array_versions.specs.machine_effects.World.{put}
+use Rattle.fram_board.specs.Effects.{Store}
+use Rattle.machine_effects.specs.World.{put}
 use Rattle.task_ast.specs.Tree as t
 use Rattle.task_ast.specs.Paths.{CheckedExpression, CheckedStatement, CheckedChoice, CheckedBlock}
 use Rattle.task_ast.specs.declared.PlacedOperator.{PlacedOperator}
@@ -535,10 +535,14 @@ module _ (z : Scene) where
         within = λ v. let a = fewer v in let b = here.within v in omega (arith, a, b);
       } in
       let P : List ℕ → Type 0 = λ s. Does z here.w.fram once s (behaviour q first.w) (run first.m) in
-      does_then z q first.w once here.most stack (length m.emitted + e) (run first.m) (words.turns j (i % 65536) (k + 1) (behaviour q))
-      (source.turns j (k + 1) (Local i) run) here.number fewer
-      (subst P same (turn.does first))
-      (turn.emitted first.m (length m.emitted + e) (omega arith))
+      does_then z once here.most stack (length m.emitted + e) (run first.m) (record {
+        q = q;
+        w = first.w;
+        ver = here.number;
+        does = subst P same (turn.does first);
+        emits = turn.emitted first.m (length m.emitted + e) (omega arith);
+      })
+      (words.turns j (i % 65536) (k + 1) (behaviour q)) (source.turns j (k + 1) (Local i) run) fewer
       (λ s u listing is there. let below = there.few_emitted in turns_do i q run e c low turn j (k + 1) stack (record {
         m = u;
         listed = listing;
@@ -699,10 +703,14 @@ module _ (z : Scene) where
           within = λ v. let a = fewer v in let b = here.within v in omega (arith, a, b);
         } in
         subst P (sym (joined_go_on (lowered_statement z.p s) (lowered_block z.p more) w))
-        (does_then z (lowered_statement z.p s) w once here.most w.stack (length m.emitted + statement_emits s) (run_statement s m)
-        (behaviour (lowered_block z.p more)) (run_block more) here.number fewer
-        (statement_does s first fits.0 (λ v k. writes v (first_writes v s more k)))
-        (statement_emitted s m (length m.emitted + statement_emits s) (omega arith))
+        (does_then z once here.most w.stack (length m.emitted + statement_emits s) (run_statement s m) (record {
+          q = lowered_statement z.p s;
+          w = w;
+          ver = here.number;
+          does = statement_does s first fits.0 (λ v k. writes v (first_writes v s more k));
+          emits = statement_emitted s m (length m.emitted + statement_emits s) (omega arith);
+        })
+        (behaviour (lowered_block z.p more)) (run_block more) fewer
         (λ u n listing is there.
         let below = there.few_emitted in
         let Q : List ℕ → Type 0 = λ l. Does z u.fram here.most l (behaviour (lowered_block z.p more) u) (run_block more n) in

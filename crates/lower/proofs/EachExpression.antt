@@ -93,33 +93,49 @@ operand_agrees op Long w l o h k = long_operand_agrees op w l o h k
 operand_agrees op Int w l o h k = as_one_word (unary_type op Int) (one_word.unary_word op Int tt) w _ _ (unary_agrees op w l o h)
 operand_agrees op Unsigned w l o h k = as_one_word (unary_type op Unsigned) (one_word.unary_word op Unsigned tt) w _ _ (unary_agrees op w l o h)
 
--- two operands of types s and t, which become long by types u and v: the second behind the first as one word, and both as longs
-record OperandsAgree (s of u v : WordType) (w : WordState) (l r : Lowering) (o : Option Evaluated) (second : Attempt → Option Evaluated) : Type 0 where
-  left : AgreesAs s w l o
-  right : (x : Evaluated) → o ≡ Some x → AgreesAs of (valued w x) r (second x.behind)
-  longs : LongSidesAgree w (long_program u l) (long_program v r) (converted_to s Long o) (λ m. converted_to of Long (second m))
+-- Two operands of these types, and by which types they become long: their programs, the value of the first, and what the second gives of
+-- the attempt behind it. The second stands behind the first as one word, and both as longs
+record Operands : Type 0 where
+  left_type : WordType
+  right_type : WordType
+  left_wide : WordType
+  right_wide : WordType
+  w : WordState
+  l : Lowering
+  r : Lowering
+  o : Option Evaluated
+  second : Attempt → Option Evaluated
+  left : AgreesAs left_type w l o
+  right : (x : Evaluated) → o ≡ Some x → AgreesAs right_type (valued w x) r (second x.behind)
+  longs : LongSidesAgree w (long_program left_wide l) (long_program right_wide r) (converted_to left_type Long o)
+      (λ m. converted_to right_type Long (second m))
+
+-- what an operator gives of them, and its type
+abbrev applied : BinaryOperator → Operands → Option Evaluated
+applied op h = pair_value (binary_result op h.left_type h.right_type) h.o h.second
+
+abbrev result_type : BinaryOperator → Operands → WordType
+result_type op h = binary_type op h.left_type h.right_type
 
 -- an operator between words
-words_agree_by : (is : WordType) (op : BinaryOperator) (s of u v : WordType) → IsOneWord is → joined_type s of ≡ is → (w : WordState) (l r : Lowering)
-    (o : Option Evaluated) (second : Attempt → Option Evaluated) → OperandsAgree s of u v w l r o second
-    → AgreesAs (binary_type op s of) w (binary_lowering (binary_meaning op is) (joined (word_program l) (word_program r)))
-    (pair_value (binary_result op s of) o second)
-words_agree_by is op s of u v k e w l r o second h =
-    let words = joined_words s of (subst IsOneWord (sym e) k) in
-    let left = word_program l in
-    let right = word_program r in
-    let sides : SidesAgree w left right o second = record {
-      left_side = (of_one_word s words.0 w l o h.left).word;
-      right_side = λ x is. (of_one_word of words.1 (valued w x) r (second x.behind) (h.right x is)).word;
+words_agree_by : (is : WordType) (op : BinaryOperator) (h : Operands) → IsOneWord is → joined_type h.left_type h.right_type ≡ is
+    → AgreesAs (result_type op h) h.w (binary_lowering (binary_meaning op is) (joined (word_program h.l) (word_program h.r))) (applied op h)
+words_agree_by is op h k e =
+    let words = joined_words h.left_type h.right_type (subst IsOneWord (sym e) k) in
+    let left = word_program h.l in
+    let right = word_program h.r in
+    let sides : SidesAgree h.w left right h.o h.second = record {
+      left_side = (of_one_word h.left_type words.0 h.w h.l h.o h.left).word;
+      right_side = λ x is. (of_one_word h.right_type words.1 (valued h.w x) h.r (h.second x.behind) (h.right x is)).word;
     } in
-    as_one_word (binary_type op s of) (one_word.binary_word op s of words.0 words.1) w _ _
-    (subst (LoweringAgrees w (binary_lowering (binary_meaning op is) (joined left right)))
-    (pair_same (binary_value op is) (binary_result op s of) o second (λ x y. sym (same x y)))
-    (binary_agrees (binary_meaning op is) w left right o second (binary_value op is) sides (binary_same op is)))
+    as_one_word (result_type op h) (one_word.binary_word op h.left_type h.right_type words.0 words.1) h.w _ _
+    (subst (LoweringAgrees h.w (binary_lowering (binary_meaning op is) (joined left right)))
+    (pair_same (binary_value op is) (binary_result op h.left_type h.right_type) h.o h.second (λ x y. sym (same x y)))
+    (binary_agrees (binary_meaning op is) h.w left right h.o h.second (binary_value op is) sides (binary_same op is)))
   where
-    same : (x y : ℕ) → binary_result op s of x y ≡ binary_value op is x y
+    same : (x y : ℕ) → binary_result op h.left_type h.right_type x y ≡ binary_value op is x y
     same x y =
-        let long = long_binary_value op (converted s Long x) (converted of Long y) in
+        let long = long_binary_value op (converted h.left_type Long x) (converted h.right_type Long y) in
         ap (λ z. by_width z (binary_value op z x y) long) e ∙ one_word.by_one_word is (binary_value op is x y) long k
 
 -- the type of what an operator gives of two longs
@@ -149,29 +165,29 @@ pair_converted f s of (Some x) second = by (second x.behind)
     by (Some y) = refl
 
 -- an operator with a long among its operands
-longs_agree_by : (op : BinaryOperator) (s of u v : WordType) → joined_type s of ≡ Long → is_refused op Long ≡ false → (w : WordState) (l r : Lowering)
-    (o : Option Evaluated) (second : Attempt → Option Evaluated) → OperandsAgree s of u v w l r o second
-    → AgreesAs (binary_type op s of) w (sides_lowering Long op u v l r) (pair_value (binary_result op s of) o second)
-longs_agree_by op s of u v e k w l r o second h =
+longs_agree_by : (op : BinaryOperator) (h : Operands) → joined_type h.left_type h.right_type ≡ Long → is_refused op Long ≡ false
+    → AgreesAs (result_type op h) h.w (sides_lowering Long op h.left_wide h.right_wide h.l h.r) (applied op h)
+longs_agree_by op h e k =
     let m = long_meaning op in
-    let others : Attempt → Option Evaluated = λ m. converted_to of Long (second m) in
-    subst (λ z. AgreesAs z w (sides_lowering Long op u v l r) (pair_value (binary_result op s of) o second)) (long_type op s of e k)
-    (subst (AgreesAs (long_meaning_type m) w (sides_lowering Long op u v l r))
-    (pair_converted (long_meaning_value m) s of o second ∙ pair_same _ (binary_result op s of) o second same)
-    (long_binary_agrees m w (long_program u l) (long_program v r) (converted_to s Long o) others h.longs))
+    let lowered = sides_lowering Long op h.left_wide h.right_wide h.l h.r in
+    let others : Attempt → Option Evaluated = λ m. converted_to h.right_type Long (h.second m) in
+    subst (λ z. AgreesAs z h.w lowered (applied op h)) (long_type op h.left_type h.right_type e k)
+    (subst (AgreesAs (long_meaning_type m) h.w lowered)
+    (pair_converted (long_meaning_value m) h.left_type h.right_type h.o h.second ∙ pair_same _ (binary_result op h.left_type h.right_type) h.o h.second same)
+    (long_binary_agrees m h.w (long_program h.left_wide h.l) (long_program h.right_wide h.r) (converted_to h.left_type Long h.o) others h.longs))
   where
-    same : (x y : ℕ) → long_meaning_value (long_meaning op) (converted s Long x) (converted of Long y) ≡ binary_result op s of x y
+    same : (x y : ℕ) → long_meaning_value (long_meaning op) (converted h.left_type Long x) (converted h.right_type Long y)
+        ≡ binary_result op h.left_type h.right_type x y
     same x y =
-        let a = converted s Long x in
-        let b = converted of Long y in
+        let a = converted h.left_type Long x in
+        let b = converted h.right_type Long y in
         long_same op a b k ∙ sym (ap (λ z. by_width z (binary_value op z x y) (long_binary_value op a b)) e)
 
-operands_agree : (is : WordType) (op : BinaryOperator) (s of u v : WordType) → joined_type s of ≡ is → is_refused op is ≡ false → (w : WordState)
-    (l r : Lowering) (o : Option Evaluated) (second : Attempt → Option Evaluated) → OperandsAgree s of u v w l r o second
-    → AgreesAs (binary_type op s of) w (sides_lowering is op u v l r) (pair_value (binary_result op s of) o second)
-operands_agree Long op s of u v e k w l r o second h = longs_agree_by op s of u v e k w l r o second h
-operands_agree Int op s of u v e k w l r o second h = words_agree_by Int op s of u v tt e w l r o second h
-operands_agree Unsigned op s of u v e k w l r o second h = words_agree_by Unsigned op s of u v tt e w l r o second h
+operands_agree : (is : WordType) (op : BinaryOperator) (h : Operands) → joined_type h.left_type h.right_type ≡ is → is_refused op is ≡ false
+    → AgreesAs (result_type op h) h.w (sides_lowering is op h.left_wide h.right_wide h.l h.r) (applied op h)
+operands_agree Long op h e k = longs_agree_by op h e k
+operands_agree Int op h e k = words_agree_by Int op h tt e
+operands_agree Unsigned op h e k = words_agree_by Unsigned op h tt e
 
 -- an operator that isn't refused takes operands of their joined type
 operands_as_joined : (of : WordType) (op : BinaryOperator) → is_refused op of ≡ false → operand_type op of ≡ of
@@ -237,7 +253,7 @@ lowering_agrees shared p room (t.element x index) m w apart even declared fits h
     as_one_word x.word_type (array_word shared x.word_type x.variable fits.0 fits.2) w _ _
     (by_word w (joined (word_program l) last) _
     (then_step w (word_program l) last o (λ i. gives (word_at i.behind.variables x.variable i.value) i.behind) agrees.word
-    (λ i is. element_agrees p room x.variable i.value i.behind.variables w i.behind apart even (array_known shared p declared x.variable fits.0)
+    (λ i is. element_agrees p room apart even x.variable i.value i.behind.variables w i.behind (array_known shared p declared x.variable fits.0)
     (held_behind p w s i.behind (value_takes index s i is).keeps h))))
 lowering_agrees shared p room t.sense m w apart even declared fits h = by_word w (one sense) _ (sense_agrees w (in_state w m) w.inputs.readings)
 lowering_agrees shared p room (t.unary op e) m w apart even declared fits h =
@@ -253,7 +269,16 @@ lowering_agrees shared p room (t.binary op a b) m w apart even declared fits h =
     let first = in_state w m in
     let o = value_of a first in
     let left = lowering_agrees shared p room a m w apart even declared fits.0 h in
-    let operands : OperandsAgree s of u v w l r o (value_of b) = record {
+    let operands : Operands = record {
+      left_type = s;
+      right_type = of;
+      left_wide = u;
+      right_wide = v;
+      w = w;
+      l = l;
+      r = r;
+      o = o;
+      second = value_of b;
       left = left;
       right = λ x is. lowering_agrees shared p room b x.behind (valued w x) apart even declared fits.1
           (held_behind p w first x.behind (value_takes a first x is).keeps h);
@@ -266,7 +291,7 @@ lowering_agrees shared p room (t.binary op a b) m w apart even declared fits h =
     } in
     let P : WordType → Type 0 = λ z. AgreesAs (binary_type op.operator s of) w (sides_lowering z op.operator u v l r) (value_of (t.binary op a b) first) in
     subst P (sym (operands_as_joined (joined_type s of) op.operator fits.2))
-    (operands_agree (joined_type s of) op.operator s of u v refl fits.2 w l r o (value_of b) operands)
+    (operands_agree (joined_type s of) op.operator operands refl fits.2)
 lowering_agrees shared p room (t.shift op e count) m w apart even declared fits h =
     shift_agrees (type_of e) op count.value w (lowering p e) (value_of e (in_state w m)) (lowering_agrees shared p room e m w apart even declared fits.0 h)
 lowering_agrees shared p room (t.short_circuit op a b) m w apart even declared fits h =

@@ -4,11 +4,11 @@ use Rattle.std.proofs.Common.{sym, ap, ◌∙◌, subst, arith, ⊎_elim, length
 use Rattle.std.proofs.lemmas.Bool.{cases_eq, cases_lt}
 use Rattle.std.proofs.lemmas.List.{length-map}
 use Rattle.std.proofs.lemmas.List.Elements.{All-same}
-use Rattle.array_versions.specs.fram_board.Effects.{Effect, Store}
-use Rattle.array_versions.specs.machine_effects.World.{put}
-use Rattle.array_versions.proofs.machine_effects.Interface.{put_other}
+use Rattle.fram_board.specs.Effects.{Effect, Store}
+use Rattle.machine_effects.specs.World.{put}
+use Rattle.machine_effects.proofs.Interface.{put_other}
 use Rattle.task_ast.specs.declared.names.Variable.TheVariants.{Shared}
-use Rattle.source_values.specs.Values.{Variables, word_at, with_word}
+use Rattle.source_values.specs.Values.{word_at, with_word}
 use Rattle.source_values.specs.Statements.{Attempt, Outcome, goes_on}
 use Rattle.array_versions.specs.declared.operations.PlainOperation.{PlainOperation}
 use Rattle.array_versions.specs.Operations.{plain_word}
@@ -22,7 +22,7 @@ use Rattle.memory_map.specs.declared.place.ArrayCopies.{ArrayCopies}
 use Rattle.memory_map.specs.declared.place.VariablePlace.{VariablePlace}
 use Rattle.memory_map.specs.declared.place.VariablePlace.TheVariants.{Array}
 use Rattle.memory_map.proofs.Interface.{word_even}
-use Rattle.memory_map.specs.Spots.{Places, private_words, IsArrayAt, Element, IsCopied, element, copy, version, element_address, copy_address, version_address}
+use Rattle.memory_map.specs.Spots.{private_words, IsArrayAt, Element, IsCopied, element, copy, version, element_address, copy_address, version_address}
 use Rattle.lower.specs.Lowered.{array_place, list_place}
 use Rattle.lower.specs.Spots.{listed_of}
 use Rattle.lower.specs.Agreement.{own_word, element_pair, at_copy, at_version, HoldVariables, StandsFor, Scene, bounds, WentOn}
@@ -60,17 +60,6 @@ list_fits {z} here = z.has_room here.listed here.stands.list.are_listed (λ v. l
 
 pub few_emitted : {z : Scene} {n : ℕ} {count : ℕ → ℕ} (here : Start z n count) → length here.m.emitted ≤ z.room.emits
 few_emitted here = let a = here.emits in omega (arith, a)
-
--- past the end nothing changes
-past_set : (p : Places) (n i v elements len : ℕ) (c : ArrayCopies) (m : Variables) (f : ℕ → ℕ) (locals : ℕ → Option ℕ) → IsArrayAt p n elements len (Some c)
-    → len ≤ i
-    → HoldVariables p m f locals → HoldVariables p (with_word m (Shared n) i v) f locals
-past_set p n i v elements len c m f locals at past h =
-    let row = h.rows n (Array elements len (Some c)) at.place in
-    let l = h.lengths n (Array elements len (Some c)) at.place in
-    let short : length (get_or m.shared n []) ≤ i = omega (arith, l, past) in
-    set_holds p n i v m f f locals row h (λ u j is. h.words u j is ∙ sym (word_past m n i v u j row short))
-    (λ x is. h.elements x is ∙ sym (word_past m n i v x.array x.index row short))
 
 -- a store to an element of array n
 module _ (z : Scene) (n i v elements len : ℕ) (c : ArrayCopies) (at : IsArrayAt z.p n elements len (Some c))
@@ -125,6 +114,16 @@ module _ (z : Scene) (n i v elements len : ℕ) (c : ArrayCopies) (at : IsArrayA
       ∙ sym (ap (λ a. put w.fram a v n) (copy_is z.p x elements len c at))
       ∙ put_other w.fram (copy_address z.p x) v n (λ e. let d = z.apart.distinct (version x) (copy x) is is e in cc)
 
+  -- past the end nothing changes
+  past_set : len ≤ i → HoldVariables z.p (with_word m.variables (Shared n) i v) w.fram w.locals
+  past_set past =
+      let held = h.stands.variables in
+      let row = held.rows n (Array elements len (Some c)) at.place in
+      let l = held.lengths n (Array elements len (Some c)) at.place in
+      let short : length (get_or m.variables.shared n []) ≤ i = omega (arith, l, past) in
+      set_holds z.p n i v m.variables w.fram w.fram w.locals row held (λ u j is. held.words u j is ∙ sym (word_past m.variables n i v u j row short))
+      (λ y is. held.elements y is ∙ sym (word_past m.variables n i v y.array y.index row short))
+
   past : len ≤ i → Result (versioned_stored place (list_place z.p) i v w)
   past l =
       subst Result (sym (stores_nothing place (list_place z.p) i v w l)) (record {
@@ -132,7 +131,7 @@ module _ (z : Scene) (n i v elements len : ℕ) (c : ArrayCopies) (at : IsArrayA
         stack_kept = refl;
         listed = listed;
         stands = record {
-          variables = past_set z.p n i v elements len c m.variables w.fram w.locals at l h.stands.variables;
+          variables = past_set l;
           emitted = h.stands.emitted;
           list = h.stands.list;
           readings = h.stands.readings;

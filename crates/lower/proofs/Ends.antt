@@ -3,9 +3,9 @@ use Rattle.std.proofs.Common.{◌≡◌, ℕ, ◌<◌, ◌≤◌, List, [], ◌�
 use Rattle.std.proofs.Common.{append-nil}
 use Rattle.memory_map.specs.MemoryMap.{word_place}
 use Rattle.memory_map.specs.declared.words.RuntimeWord.TheVariants.{ListLength, EmitCount, Version}
-use Rattle.array_versions.specs.fram_board.Effects.{Effect, Store, Take, Outside}
-use Rattle.array_versions.specs.machine_effects.World.{put, fram_after}
-use Rattle.array_versions.proofs.machine_effects.Interface.{fram_after-append, put_other}
+use Rattle.fram_board.specs.Effects.{Effect, Store, Take, Outside}
+use Rattle.machine_effects.specs.World.{put, fram_after}
+use Rattle.machine_effects.proofs.Interface.{fram_after-append, put_other}
 use Rattle.source_values.specs.Values.{Attempt, Evaluated}
 use Rattle.source_values.specs.Statements.{Outcome, goes_on, to_task, short, and_then, if_value}
 use Rattle.array_versions.specs.Program.{Program, nothing}
@@ -132,32 +132,41 @@ pub record IsThere (z : Scene) (few : ℕ → ℕ) (stack : List ℕ) (n : ℕ) 
   pub few_emitted : length m.emitted ≤ n
   pub few_listed : (v : ℕ) → listed_of v listed ≤ few v
 
-pub does_then : (z : Scene) (q : Program) (w : WordState) (few most : ℕ → ℕ) (stack : List ℕ) (n : ℕ) (o : Outcome) (next : WordState → Behaviour)
-    (more : Attempt → Outcome)
-    → w.fram (word_place z.p.map Version) ≡ z.ver → ((v : ℕ) → few v ≤ most v) → Does z w.fram few stack (behaviour q w) o → EmitsAtMost n o
+-- a program that runs first: from a state with VER on it comes to this outcome, which emits so much at most
+pub record First (z : Scene) (few : ℕ → ℕ) (stack : List ℕ) (n : ℕ) (o : Outcome) : Type 0 where
+  pub q : Program
+  pub w : WordState
+  pub ver : w.fram (word_place z.p.map Version) ≡ z.ver
+  pub does : Does z w.fram few stack (behaviour q w) o
+  pub emits : EmitsAtMost n o
+
+pub does_then : (z : Scene) (few most : ℕ → ℕ) (stack : List ℕ) (n : ℕ) (o : Outcome) (first : First z few stack n o) (next : WordState → Behaviour)
+    (more : Attempt → Outcome) → ((v : ℕ) → few v ≤ most v)
     → ((s : WordState) (m : Attempt) (listed : List Element) → o ≡ goes_on m → IsThere z few stack n s m listed → Does z s.fram most stack (next s) (more m))
-    → Does z w.fram most stack (then_on (behaviour q w) next) (and_then o more)
-does_then z q w few most stack n o next more ver less h emits k = go (behaviour q w).effects (behaviour q w).end o (behaves_by_effects q w) h emits k
+    → Does z first.w.fram most stack (then_on (behaviour first.q first.w) next) (and_then o more)
+does_then z few most stack n o first next more less k =
+    let b = behaviour first.q first.w in
+    go b.effects b.end o (behaves_by_effects first.q first.w) first.does first.emits k
   where
-    go : (es : List Effect) (e : End) (o : Outcome) → EndsByEffects w es e → Ends z w.fram few stack es e o → EmitsAtMost n o
+    go : (es : List Effect) (e : End) (o : Outcome) → EndsByEffects first.w es e → Ends z first.w.fram few stack es e o → EmitsAtMost n o
         → ((s : WordState) (m : Attempt) (listed : List Element) → o ≡ goes_on m → IsThere z few stack n s m listed
         → Does z s.fram most stack (next s) (more m))
-        → Does z w.fram most stack (behind_effects es (on_end e next)) (and_then o more)
+        → Does z first.w.fram most stack (behind_effects es (on_end e next)) (and_then o more)
     go es (GoesOn s) (goes_on m) by h emits k =
         let kept : s.fram (word_place z.p.map Version) ≡ z.ver =
         ap (λ f. f (word_place z.p.map Version)) by.0
-        ∙ stores_keep z.p z.written z.room z.ver (word_place z.p.map Version) es w.fram z.apart (keeps_version z.p z.room z.apart) h.stores ∙ ver in
-        ends_behind z w.fram s.fram most stack es (next s).effects (next s).end (more m) by.0 h.stores
+        ∙ stores_keep z.p z.written z.room z.ver (word_place z.p.map Version) es first.w.fram z.apart (keeps_version z.p z.room z.apart) h.stores ∙ first.ver in
+        ends_behind z first.w.fram s.fram most stack es (next s).effects (next s).end (more m) by.0 h.stores
         (k s m h.listed refl (record { stack_kept = h.stack_kept; stands = h.stands; number = kept; few_emitted = emits; few_listed = h.few }))
     go es (GoesOn s) (to_task task m) by h emits k = absurd h
     go es (GoesOn s) short by h emits k = absurd h
     go es (Jumps to s) (goes_on m) by h emits k = absurd h
-    go es (Jumps to s) (to_task task m) by h emits k = ends_alone z w.fram most stack es (Jumps to s) (to_task task m)
-        (left_with_fewer z w.fram most few es to s task m less h)
+    go es (Jumps to s) (to_task task m) by h emits k = ends_alone z first.w.fram most stack es (Jumps to s) (to_task task m)
+        (left_with_fewer z first.w.fram most few es to s task m less h)
     go es (Jumps to s) short by h emits k = absurd h
     go es Short (goes_on m) by h emits k = absurd h
     go es Short (to_task task m) by h emits k = absurd h
-    go es Short short by h emits k = ends_alone z w.fram most stack es Short short h
+    go es Short short by h emits k = ends_alone z first.w.fram most stack es Short short h
     go es Strays o by h emits k = absurd h
     go es Broken o by h emits k = tt
 

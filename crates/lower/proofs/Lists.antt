@@ -4,9 +4,9 @@ use Rattle.std.proofs.Common.{subst, arith, Bool, true, false, if◌then◌else�
 use Rattle.std.proofs.lemmas.Bool.{cases_eq}
 use Rattle.std.proofs.lemmas.Bool.Decides.{nat_tests}
 use Rattle.std.proofs.lemmas.List.Elements.{All-contains, Contains-append_right}
-use Rattle.array_versions.specs.fram_board.Effects.{Effect, Store}
-use Rattle.array_versions.specs.machine_effects.World.{put}
-use Rattle.array_versions.proofs.machine_effects.Interface.{put_same, put_other}
+use Rattle.fram_board.specs.Effects.{Effect, Store}
+use Rattle.machine_effects.specs.World.{put}
+use Rattle.machine_effects.proofs.Interface.{put_same, put_other}
 use Rattle.array_versions.specs.Behaviour.{WordState, Behaviour, goes_on, at_place, raised, entry_stored, ends_before, listed_behind, word_listed}
 use Rattle.memory_map.specs.MemoryMap.{word_place}
 use Rattle.memory_map.specs.declared.words.RuntimeWord.TheVariants.{ListLength}

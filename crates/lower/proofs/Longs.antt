@@ -4,7 +4,7 @@ use Rattle.std.proofs.Common.{eq-eqb, ne_eqb, ⊎_elim, bit_or, bit_xor}
 use Rattle.std.proofs.lemmas.Bool.{cases_eq}
 use Rattle.std.proofs.lemmas.Nat.{le_or_l, le_or_r}
 use Rattle.std.specs.Int.Bits.{xor_self, xor_assoc, xor_zero_r}
-use Rattle.array_versions.specs.alp_words.Words.{bit}
+use Rattle.alp_words.specs.Words.{bit}
 use Rattle.task_ast.specs.declared.WordType.{WordType}
 use Rattle.task_ast.specs.declared.WordType.TheVariants.{Unsigned, Int, Long}
 use Rattle.task_ast.specs.declared.BinaryOperator.{BinaryOperator}

@@ -6,8 +6,8 @@ use Rattle.std.proofs.lemmas.List.{get_or-set_same, get_or-set_other, length-set
 use Rattle.runtime_effects.specs.Places.{CopyPair, entries_from}
 use Rattle.runtime_effects.proofs.Interface.{entries_alike, entries_are_few}
 use Rattle.std.proofs.Math.Seq.{get_or-append_seam}
-use Rattle.array_versions.specs.machine_effects.World.{put}
-use Rattle.array_versions.proofs.machine_effects.Interface.{put_at, put_other}
+use Rattle.machine_effects.specs.World.{put}
+use Rattle.machine_effects.proofs.Interface.{put_at, put_other}
 use Rattle.task_ast.specs.declared.names.Variable.TheVariants.{Shared, Local}
 use Rattle.source_values.specs.Values.{Variables, word_at, with_word}
 use Rattle.array_versions.specs.Behaviour.{assigned}

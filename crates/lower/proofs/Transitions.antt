@@ -1,8 +1,8 @@
 -- The program of a transition.
 use Rattle.std.proofs.Common.{◌≡◌, ℕ, ◌+◌, ◌*◌, ◌%◌, ◌≤◌, List, [], ◌∷◌, ◌++◌, length, true, refl, sym, ap, ◌∙◌, arith, eq-eqb, append_assoc, if◌then◌else◌}
-use Rattle.array_versions.specs.fram_board.Effects.{Effect, Store}
-use Rattle.array_versions.specs.machine_effects.World.{put, fram_after}
-use Rattle.array_versions.proofs.machine_effects.Interface.{put_at, put_other}
+use Rattle.fram_board.specs.Effects.{Effect, Store}
+use Rattle.machine_effects.specs.World.{put, fram_after}
+use Rattle.machine_effects.proofs.Interface.{put_at, put_other}
 use Rattle.array_versions.specs.Program.{Program, store_number, move_word, jump, nothing, step, joined}
 use Rattle.array_versions.specs.Behaviour.{WordState, Jumps, Behaviour, behaves, goes_on, broken, behind_effects, then_on, is_place, at_place, word_stored}
 use Rattle.array_versions.specs.Behaviour.{raised, entry_stored, jumped, step_behaviour, behaviour}

@@ -1,8 +1,8 @@
 -- The programs of expressions of words leave their values.
 use Rattle.std.proofs.Common.{◌≡◌, ℕ, ◌+◌, ◌*◌, ◌%◌, ◌==◌, ◌<◌, ◌≤◌, List, [], ◌∷◌, ◌++◌, Option, Some, None, Bool, true, false, not, nat_le, nat_lt, refl, sym}
 use Rattle.std.proofs.Common.{ap, ◌∙◌, subst, arith, le-ltb, lt-ltb, get_or, ⊎_elim, if◌then◌else◌, bit_and}
-use Rattle.array_versions.specs.alp_words.Words.{bit}
-use Rattle.array_versions.specs.fram_board.Effects.{Effect, Store, Take, Outside}
+use Rattle.alp_words.specs.Words.{bit}
+use Rattle.fram_board.specs.Effects.{Effect, Store, Take, Outside}
 use Rattle.std.proofs.lemmas.Bool.{cases_lt}
 use Rattle.std.proofs.lemmas.List.{get_or_past}
 use Rattle.task_ast.specs.declared.WordType.{WordType}
@@ -193,55 +193,55 @@ past_end p v elements length i copies m f locals at h l =
     let e = h.lengths v (Array elements length copies) at.place in
     get_or_past (get_or m.shared v []) i 0 (omega (arith, e, l))
 
-array_agrees : (p : Places) (room : Room) (v elements length i : ℕ) (copies : Option ArrayCopies) (m : Variables) (w : WordState) (behind : Attempt)
-    → AreApart p room → AreEven p
-    → IsArrayAt p v elements length copies → HoldVariables p m w.fram w.locals
-    → AgreesWithValue w (behaviour (one (element_read p (Some (Array elements length copies)))) (valued w (evaluated i behind)))
-    (gives (word_at m (Shared v) i) behind)
-array_agrees p room v elements length i None m w behind apart even at h =
-    let x : Element = record { array = v; index = i } in
-    let e = 2 * i + elements in
-    let word = word_at m (Shared v) i in
-    let P : ℕ → Type 0 = λ a. is_place a ≡ true in
-    let Q : Option VariablePlace → Type 0 = λ o. own_word p w.fram o i ≡ word in
-    index_agrees w i length word behind (at_place e (goes_on [] (valued w (evaluated (w.fram e) behind))))
-    (λ l.
-    let is : IsElement p x = record { elements = elements; length = length; copies = None; is_array = at; below = l } in
-    one_agrees w e (w.fram e) word behind (subst P (element_is p x elements length None at) (spot_place p room (element x) apart even is))
-    (subst Q at.place (h.elements x is)))
-    (past_end p v elements length i None m w.fram w.locals at h)
-array_agrees p room v elements length i (Some c) m w behind apart even at h =
-    let x : Element = record { array = v; index = i } in
-    let e = 2 * i + elements in
-    let o = 2 * i + c.copies in
-    let n = 2 * i + c.versions in
-    let ver = word_place p.map Version in
-    let word = word_at m (Shared v) i in
-    let P : ℕ → Type 0 = λ a. is_place a ≡ true in
-    let Q : Option VariablePlace → Type 0 = λ o. own_word p w.fram o i ≡ word in
-    let R : Behaviour → Type 0 = λ b. AgreesWithValue w (then_on b (behaviour nothing)) (gives word behind) in
-    let read : Behaviour = if w.fram ver == w.fram n then at_place o (goes_on [] (valued w (evaluated (w.fram o) behind))) else at_place e
-    (goes_on [] (valued w (evaluated (w.fram e) behind))) in
-    index_agrees w i length word behind (at_place ver (at_place n read))
-    (λ l.
-    let is : IsCopied p x = record { elements = elements; length = length; copies = c; is_array = at; below = l } in
-    let at_version = placed ver (at_place n read) (fram_place ver (word_even p.map Version even.row) (omega (arith, apart)) (omega (arith, apart))) in
-    let at_mark = placed n read (subst P (version_is p x elements length c at) (spot_place p room (version x) apart even is)) in
-    subst R (sym (at_version ∙ at_mark))
-    (either_agrees w (w.fram ver == w.fram n) o e (w.fram o) (w.fram e) word behind
-    (subst P (copy_is p x elements length c at) (spot_place p room (copy x) apart even is))
-    (subst P (element_is p x elements length (Some c) at) (spot_place p room (element x) apart even (has_element p x is)))
-    (subst Q at.place (h.elements x (has_element p x is)))))
-    (past_end p v elements length i (Some c) m w.fram w.locals at h)
+module _ (p : Places) (room : Room) (apart : AreApart p room) (even : AreEven p) where
+  -- the word of an array
+  array_agrees : (v elements length i : ℕ) (copies : Option ArrayCopies) (m : Variables) (w : WordState) (behind : Attempt)
+      → IsArrayAt p v elements length copies → HoldVariables p m w.fram w.locals
+      → AgreesWithValue w (behaviour (one (element_read p (Some (Array elements length copies)))) (valued w (evaluated i behind)))
+      (gives (word_at m (Shared v) i) behind)
+  array_agrees v elements length i None m w behind at h =
+      let x : Element = record { array = v; index = i } in
+      let e = 2 * i + elements in
+      let word = word_at m (Shared v) i in
+      let P : ℕ → Type 0 = λ a. is_place a ≡ true in
+      let Q : Option VariablePlace → Type 0 = λ o. own_word p w.fram o i ≡ word in
+      index_agrees w i length word behind (at_place e (goes_on [] (valued w (evaluated (w.fram e) behind))))
+      (λ l.
+      let is : IsElement p x = record { elements = elements; length = length; copies = None; is_array = at; below = l } in
+      one_agrees w e (w.fram e) word behind (subst P (element_is p x elements length None at) (spot_place p room (element x) apart even is))
+      (subst Q at.place (h.elements x is)))
+      (past_end p v elements length i None m w.fram w.locals at h)
+  array_agrees v elements length i (Some c) m w behind at h =
+      let x : Element = record { array = v; index = i } in
+      let e = 2 * i + elements in
+      let o = 2 * i + c.copies in
+      let n = 2 * i + c.versions in
+      let ver = word_place p.map Version in
+      let word = word_at m (Shared v) i in
+      let P : ℕ → Type 0 = λ a. is_place a ≡ true in
+      let Q : Option VariablePlace → Type 0 = λ o. own_word p w.fram o i ≡ word in
+      let R : Behaviour → Type 0 = λ b. AgreesWithValue w (then_on b (behaviour nothing)) (gives word behind) in
+      let read : Behaviour = if w.fram ver == w.fram n then at_place o (goes_on [] (valued w (evaluated (w.fram o) behind))) else at_place e
+      (goes_on [] (valued w (evaluated (w.fram e) behind))) in
+      index_agrees w i length word behind (at_place ver (at_place n read))
+      (λ l.
+      let is : IsCopied p x = record { elements = elements; length = length; copies = c; is_array = at; below = l } in
+      let at_version = placed ver (at_place n read) (fram_place ver (word_even p.map Version even.row) (omega (arith, apart)) (omega (arith, apart))) in
+      let at_mark = placed n read (subst P (version_is p x elements length c at) (spot_place p room (version x) apart even is)) in
+      subst R (sym (at_version ∙ at_mark))
+      (either_agrees w (w.fram ver == w.fram n) o e (w.fram o) (w.fram e) word behind
+      (subst P (copy_is p x elements length c at) (spot_place p room (copy x) apart even is))
+      (subst P (element_is p x elements length (Some c) at) (spot_place p room (element x) apart even (has_element p x is)))
+      (subst Q at.place (h.elements x (has_element p x is)))))
+      (past_end p v elements length i (Some c) m w.fram w.locals at h)
 
-pub element_agrees : (p : Places) (room : Room) (x : Variable) (i : ℕ) (m : Variables) (w : WordState) (behind : Attempt) → AreApart p room → AreEven p
-    → IsArray p x → HoldVariables p m w.fram w.locals
-    → AgreesWithValue w (behaviour (one (element_step p x)) (valued w (evaluated i behind))) (gives (word_at m x i) behind)
-element_agrees p room (Shared v) i m w behind apart even k h =
-    let P : Option VariablePlace → Type 0 =
-    λ o. AgreesWithValue w (behaviour (one (element_read p o)) (valued w (evaluated i behind))) (gives (word_at m (Shared v) i) behind) in
-    subst P (sym k.3.place) (array_agrees p room v k.0 k.1 i k.2 m w behind apart even k.3 h)
-element_agrees p room (Local n) i m w behind apart even k h = absurd k
+  pub element_agrees : (x : Variable) (i : ℕ) (m : Variables) (w : WordState) (behind : Attempt) → IsArray p x → HoldVariables p m w.fram w.locals
+      → AgreesWithValue w (behaviour (one (element_step p x)) (valued w (evaluated i behind))) (gives (word_at m x i) behind)
+  element_agrees (Shared v) i m w behind k h =
+      let P : Option VariablePlace → Type 0 =
+      λ o. AgreesWithValue w (behaviour (one (element_read p o)) (valued w (evaluated i behind))) (gives (word_at m (Shared v) i) behind) in
+      subst P (sym k.3.place) (array_agrees v k.0 k.1 i k.2 m w behind k.3 h)
+  element_agrees (Local n) i m w behind k h = absurd k
 
 -- ---- operators
 

@@ -5,9 +5,9 @@ use Rattle.std.proofs.lemmas.List.{map-append}
 use Rattle.std.proofs.lemmas.List.Elements.{All-append, All-map, All-weaker, Contains-append_left, Contains-append_right, Contains-append_cases}
 use Rattle.std.proofs.lemmas.List.Elements.{Contains-get_or}
 use Rattle.std.proofs.lemmas.List.Quantifiers.{all_pairs_push}
-use Rattle.array_versions.specs.fram_board.Effects.{Effect, Store}
-use Rattle.array_versions.specs.machine_effects.World.{put}
-use Rattle.array_versions.proofs.machine_effects.Interface.{put_at, put_other}
+use Rattle.fram_board.specs.Effects.{Effect, Store}
+use Rattle.machine_effects.specs.World.{put}
+use Rattle.machine_effects.proofs.Interface.{put_at, put_other}
 use Rattle.task_ast.specs.declared.names.Variable.TheVariants.{Shared}
 use Rattle.source_values.specs.Values.{Variables, word_at, with_word}
 use Rattle.array_versions.specs.declared.operations.PlainOperation.{PlainOperation}

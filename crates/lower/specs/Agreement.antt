@@ -2,8 +2,8 @@
 -- for the outcome.
 use Rattle.std.specs.Prelude.{◌≡◌, ℕ, ◌+◌, ◌*◌, ◌/◌, ◌%◌, ◌<◌, ◌≤◌, ◌==◌, Bool, true, if◌then◌else◌, Contains, List, [], ◌∷◌, ◌++◌, length, map, Option}
 use Rattle.std.specs.Prelude.{Some, None, slice_get, slice_index, slice_index_or}
-use Rattle.array_versions.specs.fram_board.Effects.{Effect, Store, Take, Outside}
-use Rattle.array_versions.specs.machine_effects.World.{fram_after}
+use Rattle.fram_board.specs.Effects.{Effect, Store, Take, Outside}
+use Rattle.machine_effects.specs.World.{fram_after}
 use Rattle.task_ast.specs.declared.SharedDeclaration.{SharedDeclaration}
 use Rattle.task_ast.specs.Paths.{CheckedExpression, CheckedBlock}
 use Rattle.task_ast.specs.Types.{type_of}

@@ -1,6 +1,6 @@
 -- Where the words that a task works on stand apart from the runtime's, and for how much there is room.
 use Rattle.std.specs.Prelude.{◌≡◌, ℕ, ◌+◌, ◌*◌, ◌%◌, ◌≤◌, ◌==◌, if◌then◌else◌, List, [], ◌∷◌, length, All, AllPairs}
-use Rattle.memory_map.specs.address_space.Limits.{fram_first, fram_end, reset_vector}
+use Rattle.address_space.specs.Limits.{fram_first, fram_end, reset_vector}
 use Rattle.memory_map.specs.MemoryMap.{row_region}
 use Rattle.memory_map.specs.Places.{end_of}
 use Rattle.memory_map.specs.Spots.{Places, private_words, Element, IsCopied, Spot, IsSpot, spot_address}
