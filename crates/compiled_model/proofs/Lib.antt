@@ -1,3 +1,5 @@
+mod Redo
+pub mod Interface
 pub use Rattle.linked_code.proofs.memory_map as memory_map
 pub use Rattle.linked_code.proofs.machine_effects as machine_effects
 pub use Rattle.linked_code.proofs.code_forms as code_forms

@@ -1,11 +1,14 @@
 -- A compiled source as the crash theorem takes it: its tasks, its start, its tasks' programs, and the cycles that each is allowed.
-use Rattle.std.specs.Prelude.{ℕ, Bool, true, false, ◌++◌, Option, Some, None, get_or}
+use Rattle.std.specs.Prelude.{ℕ, Bool, true, false, ◌++◌, length, Option, Some, None, get_or}
 use Rattle.linked_code.specs.machine_effects.Inputs.{Inputs}
 use Rattle.linked_code.specs.cost_bound.Allowance.{task_bound, versions_of}
 use Rattle.lower.specs.source_values.Runs.{CheckedProgram, State, Completion, completion_of, attempt_of, task_body}
 use Rattle.linked_code.specs.array_versions.Program.{Program, nothing}
 use Rattle.linked_code.specs.array_versions.Behaviour.{Behaviour, End, GoesOn, Jumps, Short as Starves, Strays, Broken, behaviour, started}
-use Rattle.linked_code.specs.memory_map.MemoryMap.{MemoryMap}
+use Rattle.linked_code.specs.memory_map.declared.runtime.Logging.{Logging}
+use Rattle.linked_code.specs.memory_map.declared.runtime.Logging.TheVariants.{Redo}
+use Rattle.linked_code.specs.memory_map.declared.words.RuntimeWord.TheVariants.{Gate}
+use Rattle.linked_code.specs.memory_map.MemoryMap.{MemoryMap, word_place}
 use Rattle.linked_code.specs.runtime_effects.Stages.{start_effects}
 use Rattle.linked_code.specs.boot_runtime.Entries.{task_entries}
 use Rattle.linked_code.specs.boot_runtime.Listing.{privates_in}
@@ -49,6 +52,35 @@ program_parts p l = record {
   body = λ t fram inputs. effects_of (behaviour (task_program p l t) (started fram inputs));
 }
 
--- the source with its layout, as the crash theorem takes it
+-- the source with its layout under redo
+abbrev pub redo_model : CheckedProgram → MemoryMap → Model State
+redo_model p l = program_model (program_places p l) (state_view p l) (program_parts p l)
+
+-- the same under each runtime
+abbrev pub model_under : Logging → CheckedProgram → MemoryMap → Model State
+model_under Redo = redo_model
+
+-- The source with its layout, as the crash theorem takes it. How attempts start, what commits and recoveries do and what FRAM stands for
+-- are its runtime's; tasks, costs and marks are the same under each
+abbrev pub model_by : Logging → CheckedProgram → MemoryMap → Model State
+model_by logging p l = let chosen = model_under logging p l in record {
+  task = whole_task p;
+  task_number = λ s. s.task;
+  emitted = λ s. s.emitted;
+  tasks = length p.tasks;
+  task_cost = (program_parts p l).cost;
+  delay = λ inputs. 0;
+  marks = record { gate = word_place l Gate };
+  commit = chosen.commit;
+  recover = chosen.recover;
+  attempt = chosen.attempt;
+  Rests = chosen.Rests;
+  Undecided = chosen.Undecided;
+  Settled = chosen.Settled;
+  Decided = chosen.Decided;
+  Committing = chosen.Committing;
+}
+
+-- under the runtime that the memory map names
 abbrev pub compiled_model : CheckedProgram → MemoryMap → Model State
-compiled_model p l = program_model (program_places p l) (state_view p l) (program_parts p l)
+compiled_model p l = model_by l.runtime.logging p l

@@ -1,13 +1,15 @@
 -- A run leaves the code as it is, and stays in it.
-use Rattle.std.proofs.Common.{◌≡◌, ◌<◌, ◌*◌, ◌/◌, ℕ, length, refl, inl, arith}
+use Rattle.std.proofs.Common.{◌≡◌, ◌<◌, ◌*◌, ◌/◌, ℕ, length, refl, inl, sym, subst, arith}
 use Rattle.compiled_model.proofs.memory_map.Interface.{apart_of, even_of}
 use Rattle.compiled_model.specs.msp_step.declared.machine.Stop.TheVariants as stop
+use Rattle.compiled_model.specs.machine_effects.World.{EachStore}
 use Rattle.compiled_model.specs.machine_effects.Machine.{machine_powered}
 use Rattle.compiled_model.specs.code_forms.Forms.{core_of}
 use Rattle.compiled_model.specs.code_forms.Placed.{words_of, IsOutside}
 use Rattle.compiled_model.proofs.code_forms.Interface.{powered_has_a_core}
+use Rattle.compiled_model.specs.source_values.Runs.{State}
 use Rattle.compiled_model.specs.lower.Lowered.{lowered}
-use Rattle.compiled_model.specs.crash_rules.Model.{IsElsewhere}
+use Rattle.compiled_model.specs.crash_rules.Model.{Model, IsElsewhere}
 use Rattle.compiled_model.specs.crash_rules.Runs.{ProgramLaws}
 use Rattle.compiled_model.specs.crash_rules.Laws.{PowersUpBehind, ScriptsStore}
 use Rattle.compiled_model.proofs.crash_rules.Interface.{stops_short, stores_only}
@@ -15,6 +17,7 @@ use Rattle.compiled_model.proofs.stands_for.Interface.{each_weaker, commit_store
 use Rattle.compiled_model.proofs.linked_code.Interface.{linked_is_code}
 use Rattle.compiled_model.specs.Places.{program_places}
 use Rattle.compiled_model.specs.Parts.{compiled_model}
+use Rattle.compiled_model.proofs.Interface.{is_redo}
 use Rattle.compiled_runs.specs.Program.{source_code, compiled_program}
 use Rattle.compiled_runs.specs.Laws.{CodeIsPlaced, RunsLeaveTheCode}
 use Rattle.compiled_runs.proofs.Program.{code_keeps_the_laws}
@@ -58,12 +61,15 @@ runs_leave_the_code p l r laws below readings origin x s begins charges t k char
     let boot = (apart_of l r.fits.rules).boot in
     let end = (linked_is_code l (lowered l p) r.fits).end in
     let high = r.fits.high in
-    let scripts : ScriptsStore m P = record {
+    let Stores : Model State → Type 0 = λ k. ScriptsStore k P in
+    let scripts : ScriptsStore m P = subst Stores (sym (is_redo p l)) (record {
       recoveries = λ st y u. tt;
-      attempts = below.below;
+      attempts = λ st y inputs words u.
+          let Q : Model State → Type 0 = λ k. EachStore P (k.attempt y.fram inputs).effects in
+          subst Q (is_redo p l) (below.below st y inputs words u);
       commits = λ to y inputs d. each_weaker _ P (λ a w h. let b = h.below in omega (arith, b, copies, boot)) _
           (commit_stores_there places y r.apart d.pending);
-    } in
+    }) in
     let stores = stores_only m c P laws own scripts readings origin q up n in
     record {
       code = record {

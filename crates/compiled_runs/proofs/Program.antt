@@ -32,13 +32,14 @@ use Rattle.compiled_model.specs.commit_runtime.Listing.{commit_steps, commit_cyc
 use Rattle.compiled_model.specs.lower.Lowered.{lowered}
 use Rattle.compiled_model.specs.crash_rules.Model.{Model, Outcome, Ends, Short, ProgramEffects, program_effects, bound, ModelLaws, AttemptContract}
 use Rattle.compiled_model.specs.crash_rules.Model.{with_commit}
-use Rattle.compiled_model.specs.crash_rules.Runs.{Program, Makes}
+use Rattle.compiled_model.specs.crash_rules.Runs.{Program, ProgramLaws, Makes}
 use Rattle.compiled_model.specs.stands_for.Program.{StartContract}
 use Rattle.compiled_model.specs.stands_for.StandsFor.{HoldsWords, StartedAt}
 use Rattle.compiled_model.proofs.stands_for.Interface.{numbered_starts, pending_can_commit}
 use Rattle.compiled_model.specs.Places.{program_places}
 use Rattle.compiled_model.specs.View.{state_view}
-use Rattle.compiled_model.specs.Parts.{has_jumped, task_program, compiled_model}
+use Rattle.compiled_model.specs.Parts.{has_jumped, task_program, redo_model}
+use Rattle.compiled_model.proofs.Interface.{is_redo}
 use Rattle.compiled_model.specs.Needs.{whole_cycles, LeavesFor}
 use Rattle.compiled_model.specs.linked_code.Linked.{ProgramsAreWhole}
 use Rattle.compiled_model.proofs.commit_runtime.Interface.{commit_grows}
@@ -47,18 +48,18 @@ use Rattle.compiled_runs.specs.Program.{placed_code, IsBooting, IsStarting, comp
 use Rattle.compiled_runs.specs.Laws.{CanRun, CodeKeepsTheLaws}
 use Rattle.compiled_runs.proofs.Steps.{code_takes}
 
--- a source with its layout, whose code can run and which keeps the laws of a model
+-- a source with its layout, whose code can run and which keeps the laws of redo's model
 record Source : Type 0 where
   program : CheckedProgram
   map : MemoryMap
   can : CanRun program map
-  laws : ModelLaws (compiled_model program map)
+  laws : ModelLaws (redo_model program map)
 
 module _ (source : Source) where
   open source use {program as p, map as l, can as r, laws}
 
   abbrev m : Model State
-  m = compiled_model p l
+  m = redo_model p l
 
   abbrev c : Program
   c = compiled_program p l
@@ -361,11 +362,13 @@ module _ (source : Source) where
 
 pub code_keeps_the_laws : CodeKeepsTheLaws
 code_keeps_the_laws p l r laws =
-    let source : Source = record { program = p; map = l; can = r; laws = laws } in
-    record {
+    let L : Model State → Type 0 = λ m. ModelLaws m in
+    let P : Model State → Type 0 = λ m. ProgramLaws m (compiled_program p l) in
+    let source : Source = record { program = p; map = l; can = r; laws = subst L (is_redo p l) laws } in
+    subst P (sym (is_redo p l)) (record {
       changes = λ s. code_changes_by_effects (placed_code p l) s;
       takes_cycles = λ s. code_takes (placed_code p l) s;
       makes_boot = makes_boot source;
       makes_attempt = λ s x b k. makes_from source s x b (from_start source b k);
       makes_commit = makes_commit source;
-    }
+    })

@@ -8,7 +8,8 @@ use Rattle.fram_board.specs.Run.{BoardCharge, RunOutcome, Run}
 use Rattle.board_run.specs.Charges.{charges_of}
 use Rattle.machine_effects.specs.World.{World}
 use Rattle.machine_effects.proofs.Interface.{fresh_is_whole}
-use Rattle.source_values.specs.Runs.{CheckedProgram, first_state}
+use Rattle.source_values.specs.Runs.{CheckedProgram, State, first_state}
+use Rattle.crash_rules.specs.Model.{Model}
 use Rattle.crash_rules.specs.Laws.{Resting, Begins}
 use Rattle.crash_rules.proofs.Interface.{runs_may_begin}
 use Rattle.run_charges.specs.View.{outside_of}
@@ -16,6 +17,7 @@ use Rattle.run_charges.specs.Charges.{ArePowerStates, IsPlacedProgram}
 use Rattle.run_charges.specs.Laws.{IsRunOfWords}
 use Rattle.memory_map.specs.MemoryMap.{MemoryMap}
 use Rattle.compiled_model.specs.Parts.{compiled_model}
+use Rattle.compiled_model.proofs.Interface.{is_redo}
 use Rattle.compiled_runs.specs.Program.{source_code, compiled_program}
 use Rattle.compiled_runs.proofs.Interface.{code_keeps_the_laws, code_is_placed, runs_leave_the_code}
 use Rattle.model_runs.specs.Runs.{BearsModel}
@@ -38,13 +40,17 @@ module _ (text : List ℕ) (p : CheckedProgram) (allow : Allow) (image : ImageVa
   abbrev b : BoardValue
   b = fresh image.words readings
 
+  pub undecided : (compiled_model p l).Undecided (first_state p) x
+  undecided =
+      let P : Model State → Type 0 = λ m. m.Rests (first_state p) x in
+      ready.model.settled_undecided (first_state p) x (ready.model.rests_settled (first_state p) x (subst P (sym (is_redo p l)) new.rests))
+
   abbrev pub begins : Begins (compiled_model p l) readings (Resting (first_state p)) x (outside_of b)
   begins = record {
     fram = refl;
     readings_left = refl;
     words = words;
-    stands = (runs_may_begin (compiled_model p l) ready.model readings).resting (first_state p) x
-        (ready.model.settled_undecided (first_state p) x (ready.model.rests_settled (first_state p) x new.rests));
+    stands = (runs_may_begin (compiled_model p l) ready.model readings).resting (first_state p) x undecided;
   }
 
   abbrev pub bears : BearsModel (compiled_model p l) (compiled_program p l) readings (Resting (first_state p)) x b
@@ -67,7 +73,7 @@ module _ (text : List ℕ) (p : CheckedProgram) (allow : Allow) (image : ImageVa
   begins_with_source = record {
     bears = bears;
     starts = record { fram = refl; accepted = refl; taken = refl };
-    undecided = ready.model.settled_undecided (first_state p) x (ready.model.rests_settled (first_state p) x new.rests);
+    undecided = undecided;
     words = new.has_words;
   }
 

@@ -1,5 +1,5 @@
 -- Each run of an image of an accepted text keeps the laws.
-use Rattle.std.proofs.Common.{◌≡◌, ◌<◌, ◌≤◌, ℕ, refl, subst, arith, List, [], ◌++◌, length, All}
+use Rattle.std.proofs.Common.{◌≡◌, ◌<◌, ◌≤◌, ℕ, refl, sym, subst, arith, List, [], ◌++◌, length, All}
 use Rattle.image_text.specs.ImageValue.{ImageValue}
 use Rattle.fram_board.specs.Board.{fresh}
 use Rattle.fram_board.specs.Run.{BoardCharge, Moment, RunOutcome, Run}
@@ -9,6 +9,7 @@ use Rattle.cost_bound.specs.declared.allowance.Allow.{Allow}
 use Rattle.source_values.specs.Runs.{CheckedProgram, State, first_state}
 use Rattle.source_meaning.specs.Acceptance.{IsAcceptedText}
 use Rattle.memory_map.specs.MemoryMap.{MemoryMap}
+use Rattle.crash_rules.specs.Model.{Model}
 use Rattle.crash_rules.specs.History.{first_history}
 use Rattle.crash_rules.specs.Laws.{Origin, Resting, StandsFor}
 use Rattle.crash_rules.proofs.Interface.{runs_may_begin}
@@ -17,6 +18,7 @@ use Rattle.run_charges.specs.Laws.{IsRunOfWords}
 use Rattle.model_runs.proofs.Interface.{stops_where_short}
 use Rattle.stands_for.specs.StandsFor.{SoundAtRest}
 use Rattle.compiled_model.specs.Parts.{compiled_model}
+use Rattle.compiled_model.proofs.Interface.{is_redo}
 use Rattle.compiled_bounds.specs.Laws.{KeepsCapacities}
 use Rattle.compiled_runs.specs.Program.{compiled_program}
 use Rattle.compiled_laws.specs.Ready.{IsReadyToRun}
@@ -26,7 +28,7 @@ use Rattle.image_laws.specs.Laws.{fresh_world, IsFreshImage}
 use Rattle.image_laws.proofs.Interface.{laid_out, images_are_fresh}
 use Rattle.image_reports.specs.ImageLaw.{runtime_marks, known_behind, KeepsCode, HoldsAt, ImagesKeepTheLaws}
 use Rattle.image_reports.specs.Resumed.{BelongsTo, HoldsFrom, ImagesBelong}
-use Rattle.image_reports.proofs.Begins.{run_of_states}
+use Rattle.image_reports.proofs.Begins.{undecided, run_of_states}
 use Rattle.image_reports.proofs.Capacities.{at_first}
 use Rattle.image_reports.proofs.Told.{runs_are_told}
 use Rattle.image_reports.proofs.Onward.{bearing, front, raises, pays}
@@ -67,9 +69,7 @@ module _ (text : List ℕ) (p : CheckedProgram) (allow : Allow) (image : ImageVa
   belongs = images_belong text p allow image ok c
 
   begun : StandsFor (compiled_model p l) readings origin (first_history (runtime_marks l) x)
-  begun =
-      let undecided = ready.model.settled_undecided (first_state p) x (ready.model.rests_settled (first_state p) x new.rests) in
-      (runs_may_begin (compiled_model p l) ready.model readings).resting (first_state p) x undecided
+  begun = (runs_may_begin (compiled_model p l) ready.model readings).resting (first_state p) x (undecided text p allow image c readings words ready new)
 
   held : (ms rest : List Moment) → r.moments ≡ ms ++ rest
       → HoldsAt p l image readings (last_board (fresh image.words readings) ms) ms (known_behind l image ms)
@@ -102,7 +102,9 @@ images_keep_the_laws text p allow image ok c cs starts readings words few r go =
     record {
       rests = first.rests;
       apart = own.code.apart;
-      commits = own.model.decided_commits;
+      commits = λ s next y decided.
+          let P : Model State → Type 0 = λ m. m.Decided s next y in
+          own.model.decided_commits s next y (subst P (sym (is_redo p c.layout)) decided);
       fronts = held text p allow image ok c cs starts readings words few r go;
       stops = stops_where_short (compiled_model p c.layout) (compiled_program p c.layout) readings state (fresh_world image) cs
           (fresh image.words readings) r same bears;

@@ -11,7 +11,7 @@ use Rattle.fram_board.specs.Steps.{IsPowerState}
 use Rattle.fram_board.specs.Effects.{Effect}
 use Rattle.fram_board.specs.Run.{BoardCharge, PowerUp, Moment, RunOutcome}
 use Rattle.fram_board.proofs.Interface.{fill_is_a_power_state}
-use Rattle.machine_effects.specs.World.{World, fram_after, IsPrefix}
+use Rattle.machine_effects.specs.World.{World, fram_after, EachStore, IsPrefix}
 use Rattle.machine_effects.specs.Going.{going, continued}
 use Rattle.machine_effects.specs.Machine.{fram_of}
 use Rattle.machine_effects.specs.Runs.{last_board}
@@ -43,7 +43,8 @@ use Rattle.model_runs.proofs.Interface.{stood, AtFront, at_front, powers_up, sta
 use Rattle.stands_for.specs.StandsFor.{HoldsWords, IsSound, SoundAtRest, SoundPending}
 use Rattle.stands_for.proofs.Interface.{commit_stores_there, each_weaker}
 use Rattle.compiled_model.specs.Places.{program_places}
-use Rattle.compiled_model.specs.Parts.{compiled_model}
+use Rattle.compiled_model.specs.Parts.{redo_model, compiled_model}
+use Rattle.compiled_model.proofs.Interface.{is_redo}
 use Rattle.compiled_bounds.specs.Laws.{KeepsCapacities}
 use Rattle.compiled_bounds.proofs.Interface.{bound_is_the_sources, capacities_are_kept}
 use Rattle.compiled_runs.specs.Program.{source_code, placed_code, compiled_program}
@@ -65,11 +66,14 @@ use Rattle.image_reports.proofs.ImageCode.{GoesOn, StopsAtReadings, goes_on, Sta
 -- what is due is the crash theorem's script, behind a boot as behind a done
 due_is_script : (p : CheckedProgram) (l : MemoryMap) (booted : Bool) (f : ℕ → ℕ) (inputs : Inputs)
     → (script (compiled_model p l) booted f inputs).effects ≡ all_due p l f inputs
-due_is_script p l booted f inputs = by (f (word_place l Gate) == 1) booted
+due_is_script p l booted f inputs = subst P (sym (is_redo p l)) (by (f (word_place l Gate) == 1) booted)
   where
+    P : Model State → Type 0
+    P m = (script m booted f inputs).effects ≡ all_due p l f inputs
+
     by : (b booted : Bool) → ◌≡◌ {A = List Effect}
         (if b then program_effects (commit_effects l f) true
-        else with_commit (compiled_model p l) f inputs (attempt_from (compiled_model p l) booted f inputs)).effects
+        else with_commit (redo_model p l) f inputs (attempt_from (redo_model p l) booted f inputs)).effects
         (if b then (if b then commit_effects l f else [])
         else attempt_due p l
         (let es = (if b then commit_effects l f else []) in es ++ start_due l (fram_after es f))
@@ -92,16 +96,21 @@ record KeepsVersions (l : MemoryMap) (f : ℕ → ℕ) : Type 0 where
   pub words : HoldsWords f
   pub versions : (i : ℕ) → i < l.versions.words → f (l.versions.address + 2 * i) ≤ f (word_place l Version)
 
+-- what a run stands for under the runtime of a map it stands for under redo
+redo_phase : (p : CheckedProgram) (l : MemoryMap) (readings : List ℕ) (origin : Origin State) (s : State) (h : History)
+    → Phase (compiled_model p l) readings origin s h → Phase (redo_model p l) readings origin s h
+redo_phase p l readings origin s h = let P : Model State → Type 0 = λ m. Phase m readings origin s h in subst P (is_redo p l)
+
 -- what a run stands for is so
 phase_keeps_versions : (p : CheckedProgram) (l : MemoryMap) (readings : List ℕ) (origin : Origin State) (s : State) (h : History)
-    → Phase (compiled_model p l) readings origin s h → KeepsVersions l h.world.fram
+    → Phase (redo_model p l) readings origin s h → KeepsVersions l h.world.fram
 phase_keeps_versions p l readings origin s h (UndecidedPhase u settled w) = record { words = w.is_open.words; versions = w.is_open.versions }
 phase_keeps_versions p l readings origin s h (DecidedPhase next d t w) = record { words = w.decided.sends.words; versions = w.decided.sends.versions }
 phase_keeps_versions p l readings origin s h (CommittingPhase d k n w) = record { words = w.pending.words; versions = w.pending.versions }
 
 -- what a run stands for is sound
-phase_sound : (p : CheckedProgram) (l : MemoryMap) → ModelLaws (compiled_model p l) → (readings : List ℕ) (origin : Origin State) (s : State) (h : History)
-    → Phase (compiled_model p l) readings origin s h → IsSound (program_places p l) h.world
+phase_sound : (p : CheckedProgram) (l : MemoryMap) → ModelLaws (redo_model p l) → (readings : List ℕ) (origin : Origin State) (s : State) (h : History)
+    → Phase (redo_model p l) readings origin s h → IsSound (program_places p l) h.world
 phase_sound p l laws readings origin s h (UndecidedPhase d settled w) =
     let o = w.is_open in
     let cur = o.current_task in let task = o.is_task in
@@ -158,6 +167,9 @@ module _ (text : List ℕ) (p : CheckedProgram) (allow : Allow) (image : ImageVa
   stands_there = holds_as (fram_of fram) (fram_of image.words) (words_of (source_code p l)) l.boot.address (code_is_placed p l new.fits).even
       belongs.code.code new.code
 
+  redo_laws : ModelLaws (redo_model p l)
+  redo_laws = let P : Model State → Type 0 = λ m. ModelLaws m in subst P (is_redo p l) ready.model
+
   abbrev pub begins : Begins model readings origin x (outside_of b)
   begins = record { fram = refl; readings_left = refl; words = words; stands = begun }
 
@@ -194,12 +206,15 @@ module _ (text : List ℕ) (p : CheckedProgram) (allow : Allow) (image : ImageVa
   never_there a from es t k charged q up fram left n =
       let P : ℕ → ℕ → Type 0 = λ d w. d < l.boot.address in
       let apart = ready.code.apart in
-      let scripts : ScriptsStore model P = record {
+      let Stores : Model State → Type 0 = λ m. ScriptsStore m P in
+      let scripts : ScriptsStore model P = subst Stores (sym (is_redo p l)) (record {
         recoveries = λ st y u. tt;
-        attempts = λ st y inputs w u. ready.stores.below st y inputs w u;
+        attempts = λ st y inputs w u.
+            let Q : Model State → Type 0 = λ m. EachStore P (m.attempt y.fram inputs).effects in
+            subst Q (is_redo p l) (ready.stores.below st y inputs w u);
         commits = λ to y inputs d.
             each_weaker _ P (λ d w h. let low = h.below in omega (arith, low, apart)) _ (commit_stores_there (program_places p l) y apart d.pending);
-      } in
+      }) in
       each_weaker P (IsElsewhere a) (λ d w low e. omega (arith, low, from, e)) _
       (stores_only model program P ready.model bearing.program scripts readings origin q
       (powers_up model program readings origin x b bearing es t k charged q up fram left) n)
@@ -226,7 +241,9 @@ module _ (text : List ℕ) (p : CheckedProgram) (allow : Allow) (image : ImageVa
   keeps_versions : (ms rest : List Moment) → r.moments ≡ ms ++ rest → KeepsVersions l (known_from l x ms).world.fram
   keeps_versions ms rest e =
       let lawful = (fronts_are_lawful model program readings origin x cs b r run bearing ms rest e).0 in
-      phase_keeps_versions p l readings origin lawful.stands.state (known_from l x ms) lawful.stands.phase
+      let s = lawful.stands.state in
+      let h = known_from l x ms in
+      phase_keeps_versions p l readings origin s h (redo_phase p l readings origin s h lawful.stands.phase)
 
   -- and so at the last boot or done
   began : (ms rest : List Moment) → r.moments ≡ ms ++ rest → KeepsVersions l (known_from l x ms).start.fram
@@ -295,6 +312,7 @@ module _ (text : List ℕ) (p : CheckedProgram) (allow : Allow) (image : ImageVa
     front =
         let known = fronts_are_lawful model program readings origin x cs b r run bearing ms rest e in
         let lawful = known.0 in
+        let state = lawful.stands.state in
         let same = known.1.fram in
         let first : Counts b (first_history (runtime_marks l) x) accepted_before =
         record { whole = run.whole; words = run.words; accepted = refl; count = starts_with.accepted; taken = refl } in
@@ -310,7 +328,8 @@ module _ (text : List ℕ) (p : CheckedProgram) (allow : Allow) (image : ImageVa
           effects = subst (IsPrefix h.effects) (due_is_script p l h.booted h.start.fram (inputs_from readings h.since)) lawful.follows;
           stands = lawful.stands;
           never_lost = λ decided. let kept = never_lost model ready.model readings origin h lawful decided in
-              (ap (λ f. f (word_place l Gate)) same ∙ kept.0, kept.1);
+              let IsAt : State → Model State → Type 0 = λ s m. m.Undecided s h.world in
+              (ap (λ f. f (word_place l Gate)) same ∙ kept.0, λ s u. kept.1 s (subst (IsAt s) (sym (is_redo p l)) u));
           accepted = sent_once model ready.model readings origin h lawful.stands;
           sent = λ to is none.
               let P : Origin State → Type 0 = λ o. Begins model readings o x (outside_of b) in
@@ -326,7 +345,7 @@ module _ (text : List ℕ) (p : CheckedProgram) (allow : Allow) (image : ImageVa
           belongs = record {
             code = subst Code same keeps_code;
             capacities = subst Capacities same keeps_capacities;
-            sound = phase_sound p l ready.model readings origin lawful.stands.state h lawful.stands.phase;
+            sound = phase_sound p l redo_laws readings origin state h (redo_phase p l readings origin state h lawful.stands.phase);
           };
           kept = kept;
           fetches = fetches;

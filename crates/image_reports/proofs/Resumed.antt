@@ -35,6 +35,7 @@ use Rattle.stands_for.proofs.Interface.{unsent_are_few}
 use Rattle.compiled_model.specs.Places.{program_places}
 use Rattle.compiled_model.specs.View.{state_in, state_left}
 use Rattle.compiled_model.specs.Parts.{compiled_model}
+use Rattle.compiled_model.proofs.Interface.{is_redo}
 use Rattle.compiled_runs.specs.Program.{compiled_program}
 use Rattle.compiled_laws.specs.Ready.{IsReadyToRun}
 use Rattle.compiled_laws.proofs.Interface.{sources_are_ready}
@@ -108,9 +109,14 @@ module _ (text : List ℕ) (p : CheckedProgram) (allow : Allow) (image : ImageVa
   in_commit : x.fram (word_place l Gate) ≡ 1 → Pending (state_left l x) ≡ origin
   in_commit e = sym (ap (λ n. if n == 1 then Pending (state_left l x) else Resting (state_in l x)) e)
 
-  -- the state that a sound world has is undecided
+  -- a sound world is undecided at the state that it has, or about to commit the one that its commit leaves
   undecided_there : IsAtRest (program_places p l) x → model.Undecided (state_in l x) x
-  undecided_there q = ready.model.settled_undecided (state_in l x) x (ready.model.rests_settled (state_in l x) x (states.rest x q))
+  undecided_there q =
+      let Rests : Model State → Type 0 = λ k. k.Rests (state_in l x) x in
+      ready.model.settled_undecided (state_in l x) x (ready.model.rests_settled (state_in l x) x (subst Rests (sym (is_redo p l)) (states.rest x q)))
+
+  committing_there : IsPendingCommit (program_places p l) x → model.Committing (state_left l x) x
+  committing_there q = let Commits : Model State → Type 0 = λ k. k.Committing (state_left l x) x in subst Commits (sym (is_redo p l)) (states.commit x q)
 
   begun_by : IsSound (program_places p l) x → StandsFor model readings origin (first_history (runtime_marks l) x)
   begun_by (SoundAtRest q) =
@@ -118,7 +124,7 @@ module _ (text : List ℕ) (p : CheckedProgram) (allow : Allow) (image : ImageVa
       ((runs_may_begin model ready.model readings).resting (state_in l x) x (undecided_there q))
   begun_by (SoundPending q) =
       subst (λ o. StandsFor model readings o (first_history (runtime_marks l) x)) (in_commit q.gate)
-      ((runs_may_begin model ready.model readings).pending (state_left l x) x (states.commit x q))
+      ((runs_may_begin model ready.model readings).pending (state_left l x) x (committing_there q))
 
   begun : StandsFor model readings origin (first_history (runtime_marks l) x)
   begun = begun_by belongs.sound

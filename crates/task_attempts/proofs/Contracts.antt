@@ -18,7 +18,7 @@ use Rattle.layout_facts.proofs.array_versions.Interface.{behaves_by_effects, who
 use Rattle.layout_facts.specs.crash_rules.Model.{Ends, program_effects, IsElsewhere, Model, AttemptContract, Decides, RunsShort}
 use Rattle.layout_facts.specs.lower.Agreement.{TakesAndStores, EndsAs, BlocksAgree}
 use Rattle.layout_facts.specs.lower.Lowered.{lowered_block}
-use Rattle.layout_facts.specs.compiled_model.Parts.{task_program, outcome_of, whole_task, has_jumped, effects_of, program_parts, compiled_model}
+use Rattle.layout_facts.specs.compiled_model.Parts.{task_program, outcome_of, whole_task, has_jumped, effects_of, program_parts, redo_model}
 use Rattle.layout_facts.specs.compiled_model.Needs.{LeavesFor}
 use Rattle.task_attempts.specs.Laws.{IsBelowCode}
 use Rattle.task_attempts.proofs.Rows.{HasRows, block_rows}
@@ -37,7 +37,7 @@ module _ (run : Started) where
   open (scene run) use {here, code, space, facts, sites, view, ver}
 
   abbrev model : Model State
-  model = compiled_model p l
+  model = redo_model p l
 
   -- what is known of a behaviour's effects and end, and of the source's outcome
   record Meets (es : List Effect) (e : End) (o : Outcome) : Type 0 where

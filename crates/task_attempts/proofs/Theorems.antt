@@ -11,7 +11,9 @@ use Rattle.layout_facts.proofs.lower.Interface.{blocks_agree}
 use Rattle.layout_facts.specs.stands_for.Program.{IsStartStore}
 use Rattle.layout_facts.specs.compiled_model.Places.{program_places}
 use Rattle.layout_facts.specs.compiled_model.View.{state_view}
+use Rattle.layout_facts.specs.crash_rules.Model.{Model, ModelLaws}
 use Rattle.layout_facts.specs.compiled_model.Parts.{program_parts}
+use Rattle.compiled_model.proofs.Interface.{is_redo}
 use Rattle.task_attempts.specs.Laws.{TasksKeepTheirContract, CompiledSourcesKeepTheLaws, IsBelowCode, AttemptsStoreBelowCode, TasksLeaveForTheCommit}
 use Rattle.task_attempts.proofs.Given.{given}
 use Rattle.task_attempts.proofs.Started.{attempt_at}
@@ -27,8 +29,10 @@ pub compiled_laws : CompiledSourcesKeepTheLaws
 compiled_laws text p allow plans l laid runnable =
     let g = given text p allow plans l laid runnable in
     let start = numbered_starts State (program_places p l) (state_view p l) (privates_in (task_entries l)) g.apart g.privates in
-    keeps_the_laws State (program_places p l) (state_view p l) (privates_in (task_entries l)) (program_parts p l) g.apart g.room start
-    (tasks_contract text p allow plans l laid runnable)
+    let P : Model State → Type 0 = λ m. ModelLaws m in
+    subst P (sym (is_redo p l))
+    (keeps_the_laws State (program_places p l) (state_view p l) (privates_in (task_entries l)) (program_parts p l) g.apart g.room start
+    (tasks_contract text p allow plans l laid runnable))
 
 pub stores_below_code : AttemptsStoreBelowCode
 stores_below_code text p allow plans l laid runnable s x inputs small u =
@@ -39,7 +43,9 @@ stores_below_code text p allow plans l laid runnable s x inputs small u =
     let apart = g.apart in
     let code = g.code in
     let task = program_stores (attempt_at p l g s y inputs (start.started s x u)) blocks_agree small in
-    each_store-append (IsBelowCode l) es ((program_parts p l).body (x.fram (word_place l CurrentTask)) (fram_after es x.fram) inputs).effects
+    let P : Model State → Type 0 = λ m. EachStore (IsBelowCode l) (m.attempt x.fram inputs).effects in
+    subst P (sym (is_redo p l))
+    (each_store-append (IsBelowCode l) es ((program_parts p l).body (x.fram (word_place l CurrentTask)) (fram_after es x.fram) inputs).effects
     (each_weaker (IsStartStore (program_places p l)) (IsBelowCode l) (λ a w k. record {
       from = omega (arith, apart, k);
       below = omega (arith, apart, k, code);
@@ -47,7 +53,7 @@ stores_below_code text p allow plans l laid runnable s x inputs small u =
       emits = λ e. let none = k.emit_count e in omega (arith, none);
     }) es (start.stores x.fram))
     (subst (λ k. EachStore (IsBelowCode l) ((program_parts p l).body k (fram_after es x.fram) inputs).effects) (sym u.is_open.current_task)
-    (subst (λ f. EachStore (IsBelowCode l) ((program_parts p l).body s.task f inputs).effects) (world_fram es x) task))
+    (subst (λ f. EachStore (IsBelowCode l) ((program_parts p l).body s.task f inputs).effects) (world_fram es x) task)))
 
 pub tasks_leave : TasksLeaveForTheCommit
 tasks_leave text p allow plans l laid runnable s x inputs small st =

@@ -1,0 +1,13 @@
+-- The one runtime that there is: what holds of a source under redo holds of it under the runtime of its memory map, and the other way.
+use Rattle.std.proofs.Common.{◌≡◌, refl, ap}
+use Rattle.linked_code.specs.memory_map.declared.runtime.Logging.{Logging}
+use Rattle.linked_code.specs.memory_map.declared.runtime.Logging.TheVariants.{Redo}
+use Rattle.linked_code.specs.memory_map.MemoryMap.{MemoryMap}
+use Rattle.lower.specs.source_values.Runs.{CheckedProgram}
+use Rattle.compiled_model.specs.Parts.{redo_model, model_by, compiled_model}
+
+only_redo : (logging : Logging) → logging ≡ Redo
+only_redo Redo = refl
+
+pub is_redo : (p : CheckedProgram) (l : MemoryMap) → compiled_model p l ≡ redo_model p l
+is_redo p l = ap (λ logging. model_by logging p l) (only_redo l.runtime.logging)
