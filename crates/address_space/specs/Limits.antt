@@ -1,5 +1,5 @@
 -- The limits of memory (MSP430FR5969: 2 KB of RAM, and the FRAM below 10000), and the board's ports.
-use Rattle.std.specs.Prelude.{◌≡◌, ℕ, ◌-◌, ◌/◌, ◌%◌, ◌<◌, ◌≤◌}
+use Rattle.std.specs.Prelude.{◌≡◌, ℕ, ◌+◌, ◌-◌, ◌*◌, ◌/◌, ◌%◌, ◌<◌, ◌≤◌}
 
 -- the port SENSOR: a word read here is a reading
 abbrev pub sensor_port : ℕ
@@ -25,6 +25,14 @@ ram_end = 0x2400
 abbrev pub stack_top : ℕ
 stack_top = ram_end
 
+-- how many words of RAM a compiled task leaves free below its stack, at the least
+abbrev pub spare_words : ℕ
+spare_words = 16
+
+-- a stack that grows down from this address has room for so many words
+pub record HasStackRoom (lowest words : ℕ) : Type 0 where
+  pub fits : ram_first + 2 * (spare_words + words) ≤ lowest
+
 -- the first word of the FRAM
 abbrev pub fram_first : ℕ
 fram_first = 0x4400
@@ -40,6 +48,10 @@ fram_words = 24064
 -- its last word, which holds the address at which the CPU starts
 abbrev pub reset_vector : ℕ
 reset_vector = 0xFFFE
+
+-- where the words and the code of a compiled source end at the latest: above it there is room for what stands at one place in every image
+abbrev pub program_end : ℕ
+program_end = 0xFF18
 
 -- which word of the FRAM an address belongs to, counted from 0
 abbrev pub place_of : ℕ → ℕ
