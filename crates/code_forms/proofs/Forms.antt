@@ -88,7 +88,7 @@ module _ (u : Core) (p : ℕ) where
   from_source (Number n) h = refl
   from_source (Constant k) h = refl
   from_source (Fram a) h = rw (read_fram (inside u) a h) refl
-  from_source (Ram a) h = rw (read_ram (inside u) a h) refl
+  from_source (Ram a) h = rw (read_ram (inside u) a h.0) refl
   from_source (Pointed b) h = rw (got b, read_fram (inside u) (u.work (work_number b)) h) refl
   from_source (PointedNext b) h =
       let e : word_sum (u.work (work_number b)) 2 ≡ u.work (work_number b) + 2 = let hi = h.high in omega arith in
@@ -338,7 +338,7 @@ pushed_at : (v pc c : ℕ) (t : Core) → HasPushRoom t.sp
     → machine_outcome pc c (pushed machine_bus Word v (regs_in t t.pc) (inside t)) ≡ Goes [] c
     (board_of (record t { sp = t.sp - 2; ram = put t.ram (t.sp - 2) v }))
 pushed_at v pc c t h =
-    let even = h.even in let low = h.low in let high = h.high in
+    let even = h.even in let room = h.room.fits in let high = h.high in
     let k : IsRam (t.sp - 2) = record { even = omega arith; low = omega arith; high = omega arith } in
     let word = is_word_ram (t.sp - 2) k in let ram = is_ram_ram (t.sp - 2) k in let g = even_ram (t.sp - 2) k in
     let l : word_sum t.sp 0xFFFE ≡ t.sp - 2 = omega arith in

@@ -1,7 +1,7 @@
 -- The forms of instructions that the compiler and its runtime write, on a machine whose registers are told apart: what each is
 -- as an instruction, how long it is, what it needs and what it does (SLAU049 and SLAU144, CPU chapter).
 use Rattle.std.specs.Prelude.{ℕ, ◌+◌, ◌-◌, ◌%◌, ◌≡◌, ◌<◌, ◌≤◌, true, false, ◌==◌, if◌then◌else◌, List, [], ◌∷◌, Option, Some, None}
-use Rattle.machine_effects.specs.address_space.Limits.{ram_first, fram_end, stack_top}
+use Rattle.machine_effects.specs.address_space.Limits.{fram_end, stack_top, HasStackRoom}
 use Rattle.machine_effects.specs.alp_words.declared.Flags.{Flags}
 use Rattle.machine_effects.specs.alp_words.declared.Width.TheVariants.{Word}
 use Rattle.machine_effects.specs.msp_isa.declared.registers.IndexRegister.{IndexRegister}
@@ -137,7 +137,7 @@ pub data Source : Type 0 where
   Number : (n : ℕ) → Source  -- an immediate
   Constant : (k : Konst) → Source
   Fram : (a : ℕ) → Source
-  Ram : (a : ℕ) → Source
+  Ram : (a : ℕ) → Source  -- a word of RAM, at SP or above
   Pointed : (b : WorkRegister) → Source  -- the word of FRAM at the register's address
   PointedNext : (b : WorkRegister) → Source  -- the same, and the register goes up by 2
   Indexed : (b : WorkRegister) → (x : ℕ) → Source  -- the word of FRAM at the register's address plus x
@@ -197,11 +197,17 @@ SourceNeeds (Register b) u = Unit {0}
 SourceNeeds (Number n) u = Unit {0}
 SourceNeeds (Constant k) u = Unit {0}
 SourceNeeds (Fram a) u = IsPlace a
-SourceNeeds (Ram a) u = IsRam a
+SourceNeeds (Ram a) u = IsRam a × (u.sp ≤ a)
 SourceNeeds (Pointed b) u = IsPlace (u.work (work_number b))
 SourceNeeds (PointedNext b) u = IsPlace (u.work (work_number b))
 SourceNeeds (Indexed b x) u = IsPlace (u.work (work_number b) + x)
 SourceNeeds Popped u = IsRam u.sp
+
+-- the address in RAM at which it reads, if it does
+abbrev pub source_ram : Source → Core → Option ℕ
+source_ram (Ram a) u = Some a
+source_ram Popped u = Some u.sp
+source_ram _ u = None
 
 -- destinations of MOV
 pub data Target : Type 0 where
@@ -358,7 +364,7 @@ form_step (SkipBy b) u =
 -- room in RAM below SP for a word
 pub record HasPushRoom (sp : ℕ) : Type 0 where
   pub even : sp % 2 ≡ 0
-  pub low : ram_first + 2 ≤ sp
+  pub room : HasStackRoom sp 1
   pub high : sp ≤ stack_top
 
 -- an operation that reads its destination
@@ -381,6 +387,15 @@ FormNeeds (Skip n) u = n % 2 ≡ 0
 FormNeeds (Branch a) u = a % 2 ≡ 0
 FormNeeds (BranchIndexed b x) u = IsPlace (u.work (work_number b) + x) × (u.fram (u.work (work_number b) + x) % 2 ≡ 0)
 FormNeeds (SkipBy b) u = u.work (work_number b) % 2 ≡ 0
+
+-- the address in RAM at which a form reads, if it does
+abbrev pub ram_read : Form → Core → Option ℕ
+ram_read (Move x y) u = source_ram x u
+ram_read (Calculate op x b) u = source_ram x u
+ram_read (Compare x a) u = source_ram x u
+ram_read (Update op x a) u = source_ram x u
+ram_read (Push x) u = source_ram x u
+ram_read _ u = None
 
 -- an even address with room behind it for an instruction of three words
 pub record IsCodeAddress (pc : ℕ) : Type 0 where
