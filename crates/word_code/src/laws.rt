@@ -18,7 +18,6 @@ pub fn effects_so_far_are_a_prefix()
 {}
 
 /// In front of each instruction on the way no word of RAM below SP is read: what stands there makes no difference.
-#[tactic(auto, using(crate::proofs::Stretches::runs_read_from_sp, crate::proofs::Stretches::starving_reads_from_sp))]
 pub fn runs_read_from_sp()
     ensures runs { RunsReadFromSp }
     ensures starves { StarvingReadsFromSp }
