@@ -30,266 +30,263 @@ use Rattle.word_code.proofs.CodeTakes.{cleared_takes, four_takes, top_to_four_ta
 use Rattle.word_code.proofs.Locals.{program_below, test_below}
 use Rattle.word_code.proofs.LongLengths.{long_takes}
 
--- ---- the parts of steps
-
-unary_takes : {k : ℕ} (o : UnaryOperation) → Takes k (unary_middle o) 4 (2 * unary_words o)
-unary_takes Negate = record { each = search arith; bytes = omega arith }
-unary_takes _ = record { each = search arith; bytes = omega arith }
-
--- of each operation alike: the first clause makes it a proof by cases
-binary_takes : {k : ℕ} (o : BinaryOperation) → Takes k (binary_middle o) (kept_bytes_of (binary_result o) + 4) (2 * binary_words o)
-binary_takes Multiply = record { each = search arith; bytes = omega arith }
-binary_takes _ = record { each = search arith; bytes = omega arith }
-
-zero_takes : {k : ℕ} → Takes k zero_code 0 4
-zero_takes = record { each = search arith; bytes = omega arith }
-
--- code behind the check of an index
-checked_takes : {k : ℕ} {ms : List Form} {n : ℕ} (length over : ℕ) → over < 0x400 → Takes k ms 0 n → Takes k (check_code length over ++ ms) 0 (6 + n)
-checked_takes {k} length over l x =
-    joined (made_of (check_code length over) 6 (number_is k length, (l, tt)) (omega (arith, number_bytes length))) x (omega arith)
-
-element_code_takes : {k : ℕ} (b : Bool) (base length : ℕ) → Takes k (element_code b base length) 0 16
-element_code_takes true base length = record { each = search arith; bytes = omega arith }
-element_code_takes false base length =
-    checked_takes length 4 (omega arith) (behind (made_of (fetch_code base) 6 (search arith) (omega arith)) zero_takes)
-
--- by whether the entry has one word
-entry_takes : {k : ℕ} (count list home copy words : ℕ) (b : Bool) → Takes k (pair_code count list home copy ++ (Move (if b then Constant konst.One else
-    Number words) (ToIndexed R4 (word_sum list 4)) ∷ Update op.Add (Constant konst.One) count ∷ [])) 0 (2 * (if b then 16 else 17))
-entry_takes count list home copy words true = record { each = search arith; bytes = omega arith }
-entry_takes count list home copy words false = record { each = search arith; bytes = omega arith }
-
-own_takes : {k : ℕ} (over : ℕ) (place : ArrayPlace) (list : ListPlace) → over < 0x400 → Takes k (own_code over place list) 0 22
-own_takes over place list l = record { each = search (arith, l); bytes = omega arith }
-
-read_takes : {k : ℕ} (b : Bool) (place : ArrayPlace) (list : ListPlace) → Takes k (read_code b place list) 0 32
-read_takes true place list = so_takes (own_takes 2 place list (omega arith)) (omega arith)
-read_takes false place list = checked_takes place.length 12 (omega arith) (behind (own_takes 4 place list (omega arith)) zero_takes)
-
-stored_takes : {k : ℕ} (place : ArrayPlace) (list : ListPlace) → Takes k (stored_code place list) 0 108
-stored_takes place list = record { each = search arith; bytes = omega arith }
-
-write_takes : {k : ℕ} (b : Bool) (place : ArrayPlace) (list : ListPlace) → Takes k (write_code b place list) 0 114
-write_takes true place list = so_takes (stored_takes place list) (omega arith)
-write_takes false place list = checked_takes place.length 54 (omega arith) (stored_takes place list)
-
--- ---- jumps
+-- ---- facts on numbers
 
 near_is : (d : ℕ) → nat_le d 511 ≡ true → d < 0x400
 near_is d e = grind (arith, nat_tests)
 
--- a jump, by whether it is near
-jump_takes : {k : ℕ} (near : Bool) (met opposite : Condition) (offset far : ℕ) → (near ≡ true → offset < 0x400)
-    → Takes k (if near then Jump met offset ∷ [] else (Jump opposite 2 ∷ Skip far ∷ [])) 0 6
-jump_takes true met opposite offset far f = record { each = (f refl, tt); bytes = omega arith }
-jump_takes false met opposite offset far f = record { each = search arith; bytes = omega arith }
-
-decision_takes : {k : ℕ} (when : Bool) (d : ℕ) (met opposite : Condition) → Takes k (decision when d met opposite) 0 6
-decision_takes true d met opposite = jump_takes (nat_le d 511) met opposite d (2 * d) (near_is d)
-decision_takes false d met opposite = jump_takes (nat_le d 511) opposite met d (2 * d) (near_is d)
-
-pass_fits : {k : ℕ} (d : ℕ) → Takes k (pass_over d) 0 4
-pass_fits {k} d = either_takes (d == 0) (λ b. 4) (nothing_takes 0 4 (omega arith)) (by (nat_le d 511) refl)
-  where
-    by : (near : Bool) → nat_le d 511 ≡ near → Takes k (if near then Jump condition.Always d ∷ [] else (Skip (2 * d) ∷ [])) 0 4
-    by true e = record { each = (near_is d e, tt); bytes = omega arith }
-    by false e = record { each = (tt, tt); bytes = omega arith }
-
--- ---- locals, of which those in RAM stand above the stack
-
+-- a local in RAM stands above the stack
 above : (k n : ℕ) → n < k → stack_base k ≤ local_address n
 above k n l = omega (arith, l)
-
--- a word to a local
-target_takes : {k : ℕ} (b : Bool) (n : ℕ) (x : Source) → n < k → IsRead k x
-    → Takes k (Move x (if b then ToRegister (local_register n) else ToRam (local_address n)) ∷ []) 0 (source_bytes x + 4)
-target_takes true n x l h = record { each = ((h, tt), tt); bytes = omega arith }
-target_takes {k} false n x l h = record { each = ((h, above k n l), tt); bytes = omega arith }
-
-local_takes : {k : ℕ} (b : Bool) (n : ℕ) (os : List Waiting) → n < k → Takes k (if b then [] else (flushed os ++ Push (Ram (local_address n)) ∷ []))
-    (kept_bytes (if b then waiting.Local n ∷ os else [])) (4 + kept_bytes os)
-local_takes true n os l = nothing_takes (kept_bytes os + 4) (4 + kept_bytes os) (omega arith)
-local_takes {k} false n os l =
-    joined (flushed_takes os) (made_of (Push (Ram (local_address n)) ∷ []) 4 (above k n l, tt) (omega arith)) (omega arith)
-
-update_takes : {k : ℕ} (o : PlainOperation) (n : ℕ) (x : Source) → n < k → IsRead k x → Takes k (update_code o n x) 0 (source_bytes x + 12)
-update_takes {k} o n x l h =
-    either_takes (nat_lt n 8) (λ b. source_bytes x + 12) (record { each = (h, tt); bytes = omega arith })
-    (made_of (ram_update o n x) (source_bytes x + 12) ((h, tt), ((above k n l, tt), (tt, ((tt, above k n l), tt)))) (omega arith))
-
-turn_end_fits : {k : ℕ} (n below : ℕ) → n < k → Takes k (turn_end n below) 0 14
-turn_end_fits {k} n below l =
-    either_takes (nat_lt n 8) (λ b. 14) (record { each = (tt, (number_is k below, tt)); bytes = omega (arith, number_bytes below) })
-    (made_of (ram_turn_end n below) 14 ((above k n l, tt), (tt, ((tt, above k n l), (number_is k below, tt)))) (omega (arith, number_bytes below)))
-
--- turns have ten words more than their body
-turns_takes : {k j m : ℕ} (n below : ℕ) (body : List Form) → n < k → Takes k body j m → Takes k (turns_code n below body) j (m + 20)
-turns_takes n below body l x =
-    let d = size (body ++ turn_end n below) in
-    let back = jump_takes (nat_le d 511) condition.NotEqual condition.Equal (1023 - d) (0xFFFA - 2 * d) (λ e. omega arith) in
-    joined (behind x (turn_end_fits n below l)) back (omega arith)
-
--- ---- words that wait
-
--- what brings both sides, with the reading instruction's extension word
-sides_take : {k : ℕ} (os : List Waiting)
-    → Takes k (sides os) (source_bytes (right_source (top_of os)) + kept_bytes (kept (below_top (below_top os)))) (4 + kept_bytes os)
-sides_take os =
-    let under = below_top os in
-    joined (cleared_takes (below_top under)) (behind (side_takes (stays (top_of os)) R5 os) (four_takes under)) (omega arith)
-
--- a plain operation behind that
-plain_takes : {k : ℕ} (o : PlainOperation) (os : List Waiting)
-    → Takes k (two_code os (Plain o)) (kept_bytes (kept (below_top (below_top os))) + 2) (8 + kept_bytes os)
-plain_takes {k} o os =
-    let s = right_source (top_of os) in
-    let is = side_is k (stays (top_of os)) (top_of os) R5 in
-    joined (sides_take os) (made_of (Calculate (plain_instruction o) s R4 ∷ []) (2 + source_bytes s) (is, tt) (omega arith)) (omega arith)
-
--- what an operation on two words and its result take
-abbrev OperationTakes : ℕ → Waiting → List Waiting → List Form → BinaryOperation → Type 0
-OperationTakes k r os ms o = Takes k ms (kept_bytes (kept (below_top (below_top os))) + kept_bytes_of r) (2 * binary_words o + kept_bytes os)
-
-two_code_takes : {k : ℕ} (o : BinaryOperation) (os : List Waiting) → OperationTakes k (binary_result o) os (two_code os o) o
-two_code_takes (Plain o) os = plain_takes o os
-two_code_takes o os = joined (two_takes os) (binary_takes o) (omega arith)
-
-power_takes : {k : ℕ} (p : Option ℕ) (n : ℕ) (os : List Waiting) (o : BinaryOperation)
-    → OperationTakes k (power_result p o) (waiting.Number n ∷ os) (power_code p (waiting.Number n ∷ os) o) o
-power_takes None n os o = two_code_takes o (waiting.Number n ∷ os)
-power_takes (Some m) n os Multiply =
-    joined (top_to_four_takes os) (shift_takes Left m) (omega (arith, shift_most (nat_le m 15) (nat_lt m 8) m m refl refl (omega arith)))
-power_takes (Some m) n os Divide =
-    joined (top_to_four_takes os) (shift_takes Right m)
-    (omega (arith, shift_most (nat_le m 15) (nat_lt m 8) m (right_words m) refl refl (right_low m)))
-power_takes (Some m) n os Remainder = so_takes (plain_takes And (waiting.Number (n - 1) ∷ os)) (omega arith)
-power_takes (Some m) n os (Plain o) = two_code_takes (Plain o) (waiting.Number n ∷ os)
-
-operation_takes : {k : ℕ} (o : BinaryOperation) (os : List Waiting)
-    → OperationTakes k (power_result (top_power (top_of os)) o) os (power_code (top_power (top_of os)) os o) o
-operation_takes o (waiting.Number n ∷ os) = power_takes (power n) n os o
-operation_takes o os = two_code_takes o os
 
 known_bytes_most : (b : Bool) (a : ℕ) → kept_bytes_of (if b then waiting.Fram a else (waiting.Number 0)) ≤ 4
 known_bytes_most true a = omega arith
 known_bytes_most false a = omega arith
 
--- an element, at a number that waits and elsewhere
-element_takes : {k : ℕ} (b : Bool) (base n : ℕ) (os : List Waiting)
-    → Takes k (element_at b (top_number (top_of os)) os base n) (kept_bytes (waiting_behind os (element base n))) (20 + kept_bytes os)
-element_takes b base n (waiting.Number m ∷ os) =
-    record { each = tt; bytes = omega (arith, known_bytes_most (nat_lt m n) (word_sum base (word_sum m m))) }
-element_takes b base n os = joined (top_to_four_takes os) (element_code_takes b base n) (omega arith)
+-- what an operation on two words and its result take
+abbrev OperationTakes : ℕ → Waiting → List Waiting → List Form → BinaryOperation → Type 0
+OperationTakes k r os ms o = Takes k ms (kept_bytes (kept (below_top (below_top os))) + kept_bytes_of r) (2 * binary_words o + kept_bytes os)
 
--- ---- an element that is updated in place
+-- the code of a task whose locals are below a number
+module _ {k : ℕ} where
+  -- ---- the parts of steps
 
-first_takes : {k : ℕ} (o : PlainOperation) (x : Source) (place : ArrayPlace) (list : ListPlace) → IsRead k x
-    → Takes k (first_update o x place list) 0 (106 + source_bytes x)
-first_takes {k} o x place list h =
-    let stored = (stored_takes {k = k} place list).each in
-    record { each = ((tt, tt), (h, ((tt, tt), ((tt, tt), stored.1.1.1.1.1)))); bytes = omega arith }
+  unary_takes : (o : UnaryOperation) → Takes k (unary_middle o) 4 (2 * unary_words o)
+  unary_takes Negate = record { each = search arith; bytes = omega arith }
+  unary_takes _ = record { each = search arith; bytes = omega arith }
 
--- the two ways of an update, which are short
-ways_takes : {k m n : ℕ} (again first : List Form) → m ≤ 400 → n ≤ 400 → Takes k again 0 m → Takes k first 0 n
-    → Takes k (by_version again first) 0 (4 + m + n)
-ways_takes again first la lf x y =
-    let near : size first < 0x400 = omega (arith, near_size first 400 (omega (arith, lf, y.bytes)) (omega arith)) in
-    let next = behind x (made_of (Jump condition.Always (size first) ∷ []) 2 (near, tt) (omega arith)) in
-    let leave = again ++ Jump condition.Always (size first) ∷ [] in
-    let far : size leave < 0x400 = omega (arith, near_size leave 402 (omega (arith, la, next.bytes)) (omega arith)) in
-    let both = behind next y in
-    record { each = (far, both.each); bytes = omega (arith, both.bytes) }
+  -- of each operation alike: the first clause makes it a proof by cases
+  binary_takes : (o : BinaryOperation) → Takes k (binary_middle o) (kept_bytes_of (binary_result o) + 4) (2 * binary_words o)
+  binary_takes Multiply = record { each = search arith; bytes = omega arith }
+  binary_takes _ = record { each = search arith; bytes = omega arith }
 
-inside_takes : {k : ℕ} (o : PlainOperation) (x : Source) (place : ArrayPlace) (list : ListPlace) → IsRead k x
-    → Takes k (inside_update o x place list) 0 (130 + 2 * source_bytes x)
-inside_takes o x place list h =
-    let small = reads_bytes o x in
-    let made = made_code o x place.copies place.copies in
-    let again = made_of made (10 + source_bytes x) ((tt, tt), (h, ((tt, tt), tt))) (omega arith) in
-    let ways = ways_takes made (first_update o x place list) (omega (arith, small)) (omega (arith, small)) again (first_takes o x place list h) in
-    record { each = (tt, ((tt, tt), (tt, ways.each))); bytes = omega (arith, ways.bytes) }
+  -- code behind the check of an index
+  checked_takes : {ms : List Form} {n : ℕ} (length over : ℕ) → over < 0x400 → Takes k ms 0 n → Takes k (check_code length over ++ ms) 0 (6 + n)
+  checked_takes length over l x =
+      joined (made_of (check_code length over) 6 (number_is k length, (l, tt)) (omega (arith, number_bytes length))) x (omega arith)
 
-known_takes : {k : ℕ} (o : PlainOperation) (x : Source) (place : ArrayPlace) (list : ListPlace) (n : ℕ) → IsRead k x
-    → Takes k (known_update o x place list n) 0 (126 + 2 * source_bytes x)
-known_takes {k} o x place list n h =
-    let small = reads_bytes o x in
-    let rest = first_takes {k = k} o x place list h in
-    let one = Update (plain_instruction o) x (word_sum place.copies (word_sum n n)) ∷ [] in
-    let all = Move (Number (word_sum n n)) (ToRegister R4) ∷ first_update o x place list in
-    let again = made_of one (4 + source_bytes x) (h, tt) (omega arith) in
-    let first = made_of all (110 + source_bytes x) ((tt, tt), rest.each) (omega (arith, rest.bytes)) in
-    let ways = ways_takes one all (omega (arith, small)) (omega (arith, small)) again first in
-    record { each = ((tt, tt), (tt, ways.each)); bytes = omega (arith, ways.bytes) }
+  element_code_takes : (b : Bool) (base length : ℕ) → Takes k (element_code b base length) 0 16
+  element_code_takes true base length = record { each = search arith; bytes = omega arith }
+  element_code_takes false base length =
+      checked_takes length 4 (omega arith) (made_of (fetch_code base ++ zero_code) 10 (search arith) (omega arith))
 
-indexed_takes : {k : ℕ} (sure : Bool) (o : PlainOperation) (x : Source) (place : ArrayPlace) (list : ListPlace) → IsRead k x
-    → Takes k (indexed_update sure o x place list) 0 (136 + 2 * source_bytes x)
-indexed_takes true o x place list h = so_takes (inside_takes o x place list h) (omega arith)
-indexed_takes {k} false o x place list h =
-    let ms = inside_update o x place list in
-    let inside = inside_takes {k = k} o x place list h in
-    let far : size ms < 0x400 = omega (arith, near_size ms 200 (omega (arith, inside.bytes, reads_bytes o x)) (omega arith)) in
-    record { each = (tt, (far, inside.each)); bytes = omega (arith, inside.bytes) }
+  -- by whether the entry has one word
+  entry_takes : (count list home copy words : ℕ) (b : Bool) → Takes k (pair_code count list home copy ++ (Move (if b then Constant konst.One else
+      Number words) (ToIndexed R4 (word_sum list 4)) ∷ Update op.Add (Constant konst.One) count ∷ [])) 0 (2 * (if b then 16 else 17))
+  entry_takes count list home copy words true = record { each = search arith; bytes = omega arith }
+  entry_takes count list home copy words false = record { each = search arith; bytes = omega arith }
 
-in_place_takes : {k : ℕ} (n : Option ℕ) (sure : Bool) (o : PlainOperation) (place : ArrayPlace) (list : ListPlace) (os : List Waiting)
-    → Takes k (update_at n sure os o place list) 0 (140 + kept_bytes os)
-in_place_takes {k} None sure o place list os =
-    let under = below_top os in
-    let last = indexed_takes {k = k} sure o (rest_source (top_of os)) place list (side_is k (rests (top_of os)) (top_of os) R5) in
-    joined (behind (flushed_takes (below_top under)) (behind (side_takes (rests (top_of os)) R5 os) (four_takes under))) last (omega arith)
-in_place_takes {k} (Some n) sure o place list os =
-    let under = below_top os in
-    let last = known_takes {k = k} o (rest_source (top_of os)) place list n (side_is k (rests (top_of os)) (top_of os) R5) in
-    joined (behind (flushed_takes (below_top under)) (side_takes (rests (top_of os)) R5 os)) last (omega (arith, source_short under))
+  read_takes : (b : Bool) (place : ArrayPlace) (list : ListPlace) → Takes k (read_code b place list) 0 32
+  read_takes true place list = record { each = search arith; bytes = omega arith }
+  read_takes false place list = checked_takes place.length 12 (omega arith) (made_of (own_code 4 place list ++ zero_code) 26 (search arith) (omega arith))
 
--- ---- steps
+  stored_takes : (place : ArrayPlace) (list : ListPlace) → Takes k (stored_code place list) 0 108
+  stored_takes place list = record { each = search arith; bytes = omega arith }
 
--- code behind the pushes of all that waits
-behind_flushed : {k : ℕ} {ms : List Form} {j n : ℕ} (os : List Waiting) → Takes k ms j n → Takes k (flushed os ++ ms) j (n + kept_bytes os)
-behind_flushed os x = joined (flushed_takes os) x (omega arith)
+  write_takes : (b : Bool) (place : ArrayPlace) (list : ListPlace) → Takes k (write_code b place list) 0 114
+  write_takes true place list = so_takes (stored_takes place list) (omega arith)
+  write_takes false place list = checked_takes place.length 54 (omega arith) (stored_takes place list)
 
--- a statement's instruction behind the pushes of what waits below its source
-behind_below : {k : ℕ} {ms : List Form} (n : ℕ) (os : List Waiting) → Takes k ms 0 (source_bytes (source_from (top_of os)) + n)
-    → Takes k (flushed (below_top os) ++ ms) 0 (n + kept_bytes os)
-behind_below n os x = joined (flushed_takes (below_top os)) x (omega (arith, source_short os))
+  -- ---- jumps
 
--- what sets the place of the stack
-set_takes : (k : ℕ) → Takes k (stack_set k) 0 (set_bytes k)
-set_takes k =
-    either_takes (nat_lt 8 k) (λ b. if b then 4 else 0) (made_of (SetStack (stack_base k) ∷ []) 4 (refl, tt) (omega arith))
-    (nothing_takes 0 0 (omega arith))
+  -- a jump, by whether it is near
+  jump_takes : (near : Bool) (met opposite : Condition) (offset far : ℕ) → (near ≡ true → offset < 0x400)
+      → Takes k (if near then Jump met offset ∷ [] else (Jump opposite 2 ∷ Skip far ∷ [])) 0 6
+  jump_takes true met opposite offset far f = record { each = (f refl, tt); bytes = omega arith }
+  jump_takes false met opposite offset far f = record { each = search arith; bytes = omega arith }
 
--- steps with no word waiting in front of them, and then those that wait behind them are pushed
-block_takes : {k : ℕ} (bs : List Bound) (p : Program)
-    → Takes k (steps_code bs [] p) (set_bytes (locals_of p) + kept_bytes (waiting_after [] p)) (2 * words_of p + 0)
-    → Takes k (block_code bs p) (set_bytes (locals_of p)) (2 * words_of p)
-block_takes bs p x = joined x (flushed_takes (waiting_after [] p)) (omega arith)
+  decision_takes : (when : Bool) (d : ℕ) (met opposite : Condition) → Takes k (decision when d met opposite) 0 6
+  decision_takes true d met opposite = jump_takes (nat_le d 511) met opposite d (2 * d) (near_is d)
+  decision_takes false d met opposite = jump_takes (nat_le d 511) opposite met d (2 * d) (near_is d)
 
-holds_takes : {k : ℕ} (os : List Waiting) (when : Bool) (d : ℕ) → Takes k (holds_code os when d) 0 (10 + kept_bytes os)
-holds_takes os when d =
-    let test = made_of (Calculate op.Cmp (Constant konst.Zero) R4 ∷ []) 2 (tt, tt) (omega arith) in
-    let decide = behind test (decision_takes when d condition.NotEqual condition.Equal) in
-    joined (behind (top_to_four_takes os) (flushed_takes (kept (below_top os)))) decide (omega arith)
+  pass_fits : (d : ℕ) → Takes k (pass_over d) 0 4
+  pass_fits d = either_takes (d == 0) (λ b. 4) (nothing_takes 0 4 (omega arith)) (by (nat_le d 511) refl)
+    where
+      by : (near : Bool) → nat_le d 511 ≡ near → Takes k (if near then Jump condition.Always d ∷ [] else (Skip (2 * d) ∷ [])) 0 4
+      by true e = record { each = (near_is d e, tt); bytes = omega arith }
+      by false e = record { each = (tt, tt); bytes = omega arith }
 
--- what brings both sides of a comparison
-compare_sides_take : {k : ℕ} (turned : Bool) (os : List Waiting) → Takes k (if turned then two_to_registers os else (sides os))
-    (source_bytes (if turned then Register R5 else (right_source (top_of os))) + kept_bytes (kept (below_top (below_top os)))) (4 + kept_bytes os)
-compare_sides_take true os = so_takes (two_takes os) (omega arith)
-compare_sides_take false os = sides_take os
+  -- ---- locals, of which those in RAM stand above the stack
 
-compare_takes : {k : ℕ} (c : Comparison) (o : Option Waiting)
-    → Takes k (compare_form c (compare_source c o) ∷ []) 0 (2 + source_bytes (compare_source c o))
-compare_takes Above o = record { each = (tt, tt); bytes = omega arith }
-compare_takes SignedAbove o = record { each = (tt, tt); bytes = omega arith }
-compare_takes {k} _ o = record { each = (side_is k (stays o) o R5, tt); bytes = omega arith }
+  -- a word to a local
+  target_takes : (b : Bool) (n : ℕ) (x : Source) → n < k → IsRead k x
+      → Takes k (Move x (if b then ToRegister (local_register n) else ToRam (local_address n)) ∷ []) 0 (source_bytes x + 4)
+  target_takes true n x l h = record { each = ((h, tt), tt); bytes = omega arith }
+  target_takes false n x l h = record { each = ((h, above k n l), tt); bytes = omega arith }
 
-compares_takes : {k : ℕ} (os : List Waiting) (c : Comparison) (when : Bool) (d : ℕ) → Takes k (compares_code os c when d) 0 (12 + kept_bytes os)
-compares_takes os c when d =
-    let decide = behind (compare_takes c (top_of os)) (decision_takes when d (holding c) (failing c)) in
-    joined (behind (compare_sides_take (is_turned c) os) (flushed_takes (kept (below_top (below_top os))))) decide (omega arith)
+  local_takes : (b : Bool) (n : ℕ) (os : List Waiting) → n < k → Takes k (if b then [] else (flushed os ++ Push (Ram (local_address n)) ∷ []))
+      (kept_bytes (if b then waiting.Local n ∷ os else [])) (4 + kept_bytes os)
+  local_takes true n os l = nothing_takes (kept_bytes os + 4) (4 + kept_bytes os) (omega arith)
+  local_takes false n os l =
+      joined (flushed_takes os) (made_of (Push (Ram (local_address n)) ∷ []) 4 (above k n l, tt) (omega arith)) (omega arith)
 
--- steps leave the bytes with which the place of the stack is set, where they name a local that stands in RAM
-module _ (k : ℕ) where
+  update_takes : (o : PlainOperation) (n : ℕ) (x : Source) → n < k → IsRead k x → Takes k (update_code o n x) 0 (source_bytes x + 12)
+  update_takes o n x l h =
+      either_takes (nat_lt n 8) (λ b. source_bytes x + 12) (record { each = (h, tt); bytes = omega arith })
+      (made_of (ram_update o n x) (source_bytes x + 12) ((h, tt), ((above k n l, tt), (tt, ((tt, above k n l), tt)))) (omega arith))
+
+  turn_end_fits : (n below : ℕ) → n < k → Takes k (turn_end n below) 0 14
+  turn_end_fits n below l =
+      either_takes (nat_lt n 8) (λ b. 14) (record { each = (tt, (number_is k below, tt)); bytes = omega (arith, number_bytes below) })
+      (made_of (ram_turn_end n below) 14 ((above k n l, tt), (tt, ((tt, above k n l), (number_is k below, tt)))) (omega (arith, number_bytes below)))
+
+  -- turns have ten words more than their body
+  turns_takes : {j m : ℕ} (n below : ℕ) (body : List Form) → n < k → Takes k body j m → Takes k (turns_code n below body) j (m + 20)
+  turns_takes n below body l x =
+      let d = size (body ++ turn_end n below) in
+      let back = jump_takes (nat_le d 511) condition.NotEqual condition.Equal (1023 - d) (0xFFFA - 2 * d) (λ e. omega arith) in
+      joined (behind x (turn_end_fits n below l)) back (omega arith)
+
+  -- ---- words that wait
+
+  -- what brings both sides, with the reading instruction's extension word
+  sides_take : (os : List Waiting)
+      → Takes k (sides os) (source_bytes (right_source (top_of os)) + kept_bytes (kept (below_top (below_top os)))) (4 + kept_bytes os)
+  sides_take os =
+      let under = below_top os in
+      joined (cleared_takes (below_top under)) (behind (side_takes (stays (top_of os)) R5 os) (four_takes under)) (omega arith)
+
+  -- a plain operation behind that
+  plain_takes : (o : PlainOperation) (os : List Waiting)
+      → Takes k (two_code os (Plain o)) (kept_bytes (kept (below_top (below_top os))) + 2) (8 + kept_bytes os)
+  plain_takes o os =
+      let s = right_source (top_of os) in
+      let is = side_is k (stays (top_of os)) (top_of os) R5 in
+      joined (sides_take os) (made_of (Calculate (plain_instruction o) s R4 ∷ []) (2 + source_bytes s) (is, tt) (omega arith)) (omega arith)
+
+  two_code_takes : (o : BinaryOperation) (os : List Waiting) → OperationTakes k (binary_result o) os (two_code os o) o
+  two_code_takes (Plain o) os = plain_takes o os
+  two_code_takes o os = joined (two_takes os) (binary_takes o) (omega arith)
+
+  power_takes : (p : Option ℕ) (n : ℕ) (os : List Waiting) (o : BinaryOperation)
+      → OperationTakes k (power_result p o) (waiting.Number n ∷ os) (power_code p (waiting.Number n ∷ os) o) o
+  power_takes None n os o = two_code_takes o (waiting.Number n ∷ os)
+  power_takes (Some m) n os Multiply =
+      joined (top_to_four_takes os) (shift_takes Left m) (omega (arith, shift_most m m (omega arith)))
+  power_takes (Some m) n os Divide =
+      joined (top_to_four_takes os) (shift_takes Right m) (omega (arith, shift_most m (right_words m) (right_low m)))
+  power_takes (Some m) n os Remainder = so_takes (plain_takes And (waiting.Number (n - 1) ∷ os)) (omega arith)
+  power_takes (Some m) n os (Plain o) = two_code_takes (Plain o) (waiting.Number n ∷ os)
+
+  operation_takes : (o : BinaryOperation) (os : List Waiting)
+      → OperationTakes k (power_result (top_power (top_of os)) o) os (power_code (top_power (top_of os)) os o) o
+  operation_takes o (waiting.Number n ∷ os) = power_takes (power n) n os o
+  operation_takes o os = two_code_takes o os
+
+  -- an element, at a number that waits and elsewhere
+  element_takes : (b : Bool) (base n : ℕ) (os : List Waiting)
+      → Takes k (element_at b (top_number (top_of os)) os base n) (kept_bytes (waiting_behind os (element base n))) (20 + kept_bytes os)
+  element_takes b base n (waiting.Number m ∷ os) =
+      record { each = tt; bytes = omega (arith, known_bytes_most (nat_lt m n) (word_sum base (word_sum m m))) }
+  element_takes b base n os = joined (top_to_four_takes os) (element_code_takes b base n) (omega arith)
+
+  -- ---- an element that is updated in place
+
+  first_takes : (o : PlainOperation) (x : Source) (place : ArrayPlace) (list : ListPlace) → IsRead k x
+      → Takes k (first_update o x place list) 0 (106 + source_bytes x)
+  first_takes o x place list h =
+      let stored = (stored_takes place list).each in
+      record { each = ((tt, tt), (h, ((tt, tt), ((tt, tt), stored.1.1.1.1.1)))); bytes = omega arith }
+
+  -- the two ways of an update, which are short
+  ways_takes : {m n : ℕ} (again first : List Form) → m ≤ 400 → n ≤ 400 → Takes k again 0 m → Takes k first 0 n
+      → Takes k (by_version again first) 0 (4 + m + n)
+  ways_takes again first la lf x y =
+      let leave = Jump condition.Always (size first) ∷ [] in
+      let near : size first < 0x400 = omega (arith, near_size first 400 (omega (arith, lf, y.bytes)) (omega arith)) in
+      let next = behind x (made_of leave 2 (near, tt) (omega arith)) in
+      let far : size (again ++ leave) < 0x400 = omega (arith, near_size (again ++ leave) 402 (omega (arith, la, next.bytes)) (omega arith)) in
+      let both = behind next y in
+      record { each = (far, both.each); bytes = omega (arith, both.bytes) }
+
+  inside_takes : (o : PlainOperation) (x : Source) (place : ArrayPlace) (list : ListPlace) → IsRead k x
+      → Takes k (inside_update o x place list) 0 (130 + 2 * source_bytes x)
+  inside_takes o x place list h =
+      let small = reads_bytes o x in
+      let made = made_code o x place.copies place.copies in
+      let again = made_of made (10 + source_bytes x) ((tt, tt), (h, ((tt, tt), tt))) (omega arith) in
+      let ways = ways_takes made (first_update o x place list) (omega (arith, small)) (omega (arith, small)) again (first_takes o x place list h) in
+      record { each = (tt, ((tt, tt), (tt, ways.each))); bytes = omega (arith, ways.bytes) }
+
+  known_takes : (o : PlainOperation) (x : Source) (place : ArrayPlace) (list : ListPlace) (n : ℕ) → IsRead k x
+      → Takes k (known_update o x place list n) 0 (126 + 2 * source_bytes x)
+  known_takes o x place list n h =
+      let small = reads_bytes o x in
+      let rest = first_takes o x place list h in
+      let one = Update (plain_instruction o) x (word_sum place.copies (word_sum n n)) ∷ [] in
+      let all = Move (Number (word_sum n n)) (ToRegister R4) ∷ first_update o x place list in
+      let again = made_of one (4 + source_bytes x) (h, tt) (omega arith) in
+      let first = made_of all (110 + source_bytes x) ((tt, tt), rest.each) (omega (arith, rest.bytes)) in
+      let ways = ways_takes one all (omega (arith, small)) (omega (arith, small)) again first in
+      record { each = ((tt, tt), (tt, ways.each)); bytes = omega (arith, ways.bytes) }
+
+  indexed_takes : (sure : Bool) (o : PlainOperation) (x : Source) (place : ArrayPlace) (list : ListPlace) → IsRead k x
+      → Takes k (indexed_update sure o x place list) 0 (136 + 2 * source_bytes x)
+  indexed_takes true o x place list h = so_takes (inside_takes o x place list h) (omega arith)
+  indexed_takes false o x place list h =
+      let ms = inside_update o x place list in
+      let inside = inside_takes o x place list h in
+      let far : size ms < 0x400 = omega (arith, near_size ms 200 (omega (arith, inside.bytes, reads_bytes o x)) (omega arith)) in
+      record { each = (tt, (far, inside.each)); bytes = omega (arith, inside.bytes) }
+
+  in_place_takes : (n : Option ℕ) (sure : Bool) (o : PlainOperation) (place : ArrayPlace) (list : ListPlace) (os : List Waiting)
+      → Takes k (update_at n sure os o place list) 0 (140 + kept_bytes os)
+  in_place_takes None sure o place list os =
+      let under = below_top os in
+      let last = indexed_takes sure o (rest_source (top_of os)) place list (side_is k (rests (top_of os)) (top_of os) R5) in
+      joined (behind (flushed_takes (below_top under)) (behind (side_takes (rests (top_of os)) R5 os) (four_takes under))) last (omega arith)
+  in_place_takes (Some n) sure o place list os =
+      let under = below_top os in
+      let last = known_takes o (rest_source (top_of os)) place list n (side_is k (rests (top_of os)) (top_of os) R5) in
+      joined (behind (flushed_takes (below_top under)) (side_takes (rests (top_of os)) R5 os)) last (omega (arith, source_short under))
+
+  -- ---- steps
+
+  -- code behind the pushes of all that waits
+  behind_flushed : {ms : List Form} {j n : ℕ} (os : List Waiting) → Takes k ms j n → Takes k (flushed os ++ ms) j (n + kept_bytes os)
+  behind_flushed os x = joined (flushed_takes os) x (omega arith)
+
+  -- a statement's instruction behind the pushes of what waits below its source
+  behind_below : {ms : List Form} (n : ℕ) (os : List Waiting) → Takes k ms 0 (source_bytes (source_from (top_of os)) + n)
+      → Takes k (flushed (below_top os) ++ ms) 0 (n + kept_bytes os)
+  behind_below n os x = joined (flushed_takes (below_top os)) x (omega (arith, source_short os))
+
+  -- what sets the place of the stack
+  set_takes : Takes k (stack_set k) 0 (set_bytes k)
+  set_takes =
+      either_takes (nat_lt 8 k) (λ b. if b then 4 else 0) (made_of (SetStack (stack_base k) ∷ []) 4 (refl, tt) (omega arith))
+      (nothing_takes 0 0 (omega arith))
+
+  -- steps with no word waiting in front of them, and then those that wait behind them are pushed
+  block_takes : (bs : List Bound) (p : Program)
+      → Takes k (steps_code bs [] p) (set_bytes (locals_of p) + kept_bytes (waiting_after [] p)) (2 * words_of p + 0)
+      → Takes k (block_code bs p) (set_bytes (locals_of p)) (2 * words_of p)
+  block_takes bs p x = joined x (flushed_takes (waiting_after [] p)) (omega arith)
+
+  holds_takes : (os : List Waiting) (when : Bool) (d : ℕ) → Takes k (holds_code os when d) 0 (10 + kept_bytes os)
+  holds_takes os when d =
+      let test = made_of (Calculate op.Cmp (Constant konst.Zero) R4 ∷ []) 2 (tt, tt) (omega arith) in
+      let decide = behind test (decision_takes when d condition.NotEqual condition.Equal) in
+      joined (behind (top_to_four_takes os) (flushed_takes (kept (below_top os)))) decide (omega arith)
+
+  -- what brings both sides of a comparison
+  compare_sides_take : (turned : Bool) (os : List Waiting) → Takes k (if turned then two_to_registers os else (sides os))
+      (source_bytes (if turned then Register R5 else (right_source (top_of os))) + kept_bytes (kept (below_top (below_top os)))) (4 + kept_bytes os)
+  compare_sides_take true os = so_takes (two_takes os) (omega arith)
+  compare_sides_take false os = sides_take os
+
+  compare_takes : (c : Comparison) (o : Option Waiting)
+      → Takes k (compare_form c (compare_source c o) ∷ []) 0 (2 + source_bytes (compare_source c o))
+  compare_takes Above o = record { each = (tt, tt); bytes = omega arith }
+  compare_takes SignedAbove o = record { each = (tt, tt); bytes = omega arith }
+  compare_takes _ o = record { each = (side_is k (stays o) o R5, tt); bytes = omega arith }
+
+  compares_takes : (os : List Waiting) (c : Comparison) (when : Bool) (d : ℕ) → Takes k (compares_code os c when d) 0 (12 + kept_bytes os)
+  compares_takes os c when d =
+      let decide = behind (compare_takes c (top_of os)) (decision_takes when d (holding c) (failing c)) in
+      joined (behind (compare_sides_take (is_turned c) os) (flushed_takes (kept (below_top (below_top os))))) decide (omega arith)
+
+  -- steps leave the bytes with which the place of the stack is set, where they name a local that stands in RAM
   mutual
     step_takes : (bs : List Bound) (s : Step) (os : List Waiting) → StepLocalsBelow k s
         → Takes k (step_code bs os s) (set_bytes (step_locals s) + kept_bytes (waiting_behind os s)) (2 * step_words s + kept_bytes os)
@@ -302,11 +299,9 @@ module _ (k : ℕ) where
     step_takes bs (update o a) os l = behind_below 4 os (record { each = (source_is k (top_of os), tt); bytes = omega arith })
     step_takes bs (local n) os l = so_takes (local_takes (nat_lt n 8) n os l) (omega (arith, set_small (n + 1)))
     step_takes bs (set_local n) os l =
-        let x = source_from (top_of os) in
-        so_takes (behind_below 4 os (target_takes (nat_lt n 8) n x l (source_is k (top_of os)))) (omega (arith, set_small (n + 1)))
+        so_takes (behind_below 4 os (target_takes (nat_lt n 8) n _ l (source_is k (top_of os)))) (omega (arith, set_small (n + 1)))
     step_takes bs (update_local o n) os l =
-        let x = source_from (top_of os) in
-        so_takes (behind_below 12 os (update_takes o n x l (source_is k (top_of os)))) (omega (arith, set_small (n + 1)))
+        so_takes (behind_below 12 os (update_takes o n _ l (source_is k (top_of os)))) (omega (arith, set_small (n + 1)))
     step_takes bs (unary o) os l = joined (top_to_five_takes os) (unary_takes o) (omega arith)
     step_takes bs (binary o) os l = so_takes (operation_takes o os) (omega arith)
     step_takes bs (shift o n) os l = joined (top_to_four_takes os) (shift_takes o n) (omega arith)
@@ -379,16 +374,16 @@ pub turn_end_takes : (n below : ℕ) → Takes (n + 1) (turn_end n below) 0 14
 turn_end_takes n below = turn_end_fits n below (omega arith)
 
 pub test_takes : (bs : List Bound) (t : Test) (when : Bool) (d : ℕ) → Takes (test_locals t) (test_code bs t when d) 0 (2 * test_words t)
-test_takes bs t when d = so_takes (test_fits (test_locals t) bs t when d (test_below (test_locals t) t (omega arith))) (omega arith)
+test_takes bs t when d = so_takes (test_fits bs t when d (test_below (test_locals t) t (omega arith))) (omega arith)
 
 block_fits : (bs : List Bound) (p : Program) → Takes (locals_of p) (block_code bs p) (set_bytes (locals_of p)) (2 * words_of p)
-block_fits bs p = let k = locals_of p in block_takes bs p (steps_takes k bs p [] (program_below k p (omega arith)))
+block_fits bs p = let k = locals_of p in block_takes bs p (steps_takes bs p [] (program_below k p (omega arith)))
 
 pub inner_takes : (bs : List Bound) (p : Program) → Takes (locals_of p) (block_code bs p) 0 (2 * words_of p)
 inner_takes bs p = so_takes (block_fits bs p) (omega arith)
 
 pub whole_takes : (p : Program) → Takes (locals_of p) (code_of p) 0 (2 * words_of p)
-whole_takes p = joined (set_takes (locals_of p)) (block_fits [] p) (omega arith)
+whole_takes p = joined set_takes (block_fits [] p) (omega arith)
 
 pub code_short : (p : Program) → forms_bytes (code_of p) ≤ 2 * words_of p
 code_short p = omega (arith, (whole_takes p).bytes)
