@@ -24,7 +24,7 @@ pub fn runs_read_from_sp()
 {}
 
 /// The code of a program is no longer than the program's words say, and each of its instructions has its words.
-#[tactic(auto, using(crate::proofs::Lengths::code_has_its_bytes, crate::proofs::Lengths::code_has_its_words, crate::proofs::Lengths::code_is_instructions))]
+#[tactic(auto, using(crate::proofs::Lengths::code_has_its_bytes, crate::proofs::Lengths::code_has_its_words, crate::proofs::TaskForms::code_is_instructions))]
 pub fn code_has_its_words()
     ensures bytes { CodeHasItsBytes }
     ensures words { CodeHasItsWords }
