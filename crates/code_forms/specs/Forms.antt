@@ -25,7 +25,8 @@ use Rattle.machine_effects.specs.msp_cycles.Cycles.{cycles_of}
 use Rattle.machine_effects.specs.msp_step.declared.machine.Stop.{Stop}
 use Rattle.machine_effects.specs.msp_step.declared.machine.Stop.TheVariants as stop
 use Rattle.machine_effects.specs.msp_step.Registers.{Registers}
-use Rattle.machine_effects.specs.msp_step.Effect.{status_with, operated, Operated, rotated, shifted, exchanged, sign_extended, writes_destination, word_sum, distance, is_met}
+use Rattle.machine_effects.specs.msp_step.Effect.{status_with, operated, Operated, rotated, shifted, exchanged, sign_extended, writes_destination}
+use Rattle.machine_effects.specs.msp_step.Effect.{word_sum, distance, is_met}
 use Rattle.machine_effects.specs.fram_board.Bus.{sensor_port, number_port, data_port}
 use Rattle.machine_effects.specs.fram_board.Effects.{Store, Take, Outside, Offered}
 use Rattle.machine_effects.specs.World.{put}

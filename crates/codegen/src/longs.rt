@@ -13,7 +13,7 @@ ghost use Rattle.word_code.specs.Code.{high_code, high_behind, short_code, short
 ghost use Rattle.word_code.specs.Code.{long_code, long_behind, step_code, waiting_behind};
 
 use crate::operations::plain_instruction;
-use crate::shifts::emit_shift_middle;
+use crate::shifts::{emit_shift_middle, emit_times};
 use crate::waiting::{
     emit_all, emit_cleared, emit_to_four, emit_to_rest, emit_top_to_four, rest_source, rests,
     source_from, take, top, under_top, wait, waiting_source,
@@ -249,23 +249,16 @@ fn emit_above(waiting: &mut Vec<Waiting>, code: &mut Vec<Form>) -> Result<(), Al
 fn emit_long_doubles(count: u16, code: &mut Vec<Form>) -> Result<(), AllocError>
     ensures { OnOk result (code.new.items ≡ code.old.items ++ times_code count long_double) }
 {
-    for i in 0..count {
-        code.extend_from_slice(&[Calculate(TwoOp::Add, Register(R4), R4), Calculate(TwoOp::Addc, Register(R6), R6)])?;
-    }
-    Ok(())
+    let low = Calculate(TwoOp::Add, Register(R4), R4);
+    emit_times(count, &[low, Calculate(TwoOp::Addc, Register(R6), R6)], code)
 }
 
 // Halved so many times, its top bit being 0.
 fn emit_long_halves(count: u16, code: &mut Vec<Form>) -> Result<(), AllocError>
     ensures { OnOk result (code.new.items ≡ code.old.items ++ times_code count long_halve) }
 {
-    for i in 0..count {
-        code.extend_from_slice(&[
-            Modify(Modification::Rra, R6),
-            Modify(Modification::Rrc, R4),
-        ])?;
-    }
-    Ok(())
+    let high = Modify(Modification::Rra, R6);
+    emit_times(count, &[high, Modify(Modification::Rrc, R4)], code)
 }
 
 // To the left by fewer than 16 bits.

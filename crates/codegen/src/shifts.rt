@@ -4,7 +4,7 @@ ghost use Rattle.std.specs.Prelude.{◌≡◌, [], ◌∷◌, ◌++◌, OnOk};
 ghost use Rattle.word_code.specs.code_forms.Forms as form;
 ghost use Rattle.word_code.specs.code_forms.declared.kinds.Modification.TheVariants as change;
 ghost use Rattle.word_code.specs.array_versions.declared.operations.ShiftOperation.TheVariants as shift_op;
-ghost use Rattle.word_code.specs.Code.{repeated, double, halve, right_code, shift_by, last_bit, shift_middle, step_code, waiting_behind};
+ghost use Rattle.word_code.specs.Code.{repeated, times_code, double, halve, right_code, shift_by, last_bit, shift_middle, step_code, waiting_behind};
 ghost use Rattle.word_code.specs.array_versions.Program as value;
 
 use crate::waiting::{emit_top_to_four, wait};
@@ -17,24 +17,30 @@ use word_code::forms::Target::ToRegister;
 use word_code::forms::WorkRegister::R4;
 use word_code::forms::{Form, Konst, Modification, TwoOp};
 
-// R4 doubled so many times.
-fn emit_doubles(count: u16, code: &mut Vec<Form>) -> Result<(), AllocError>
-    ensures { OnOk result (code.new.items ≡ code.old.items ++ repeated count double) }
+/// Appends forms so many times.
+pub fn emit_times(count: u16, forms: &[Form], code: &mut Vec<Form>) -> Result<(), AllocError>
+    ensures { OnOk result (code.new.items ≡ code.old.items ++ times_code count forms.now) }
 {
     for i in 0..count {
-        code.push(Calculate(TwoOp::Add, Register(R4), R4))?;
+        code.extend_from_slice(forms)?;
     }
     Ok(())
 }
 
+// R4 doubled so many times.
+#[tactic(auto, using(crate::proofs::Emitted::times_one))]
+fn emit_doubles(count: u16, code: &mut Vec<Form>) -> Result<(), AllocError>
+    ensures { OnOk result (code.new.items ≡ code.old.items ++ repeated count double) }
+{
+    emit_times(count, &[Calculate(TwoOp::Add, Register(R4), R4)], code)
+}
+
 // R4 halved so many times, its sign kept.
+#[tactic(auto, using(crate::proofs::Emitted::times_one))]
 fn emit_halves(count: u16, code: &mut Vec<Form>) -> Result<(), AllocError>
     ensures { OnOk result (code.new.items ≡ code.old.items ++ repeated count halve) }
 {
-    for i in 0..count {
-        code.push(Modify(Modification::Rra, R4))?;
-    }
-    Ok(())
+    emit_times(count, &[Modify(Modification::Rra, R4)], code)
 }
 
 // To the right by fewer than 8 bits.
