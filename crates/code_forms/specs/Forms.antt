@@ -35,7 +35,7 @@ use Rattle.machine_effects.specs.fram_board.Effects.{Store, Take, Outside, Offer
 use Rattle.machine_effects.specs.World.{put}
 use Rattle.machine_effects.specs.Inputs.{Inputs}
 use Rattle.machine_effects.specs.Going.{StepOutcome, Goes, Stops, Stretch}
-use Rattle.machine_effects.specs.Machine.{MachineBoard, MachineOutcome, IsFram, IsRam}
+use Rattle.machine_effects.specs.Machine.{MachineBoard, MachineOutcome, IsPlace, IsRam}
 
 -- the registers for work
 pub data WorkRegister : Type 0 where
@@ -196,11 +196,11 @@ abbrev pub SourceNeeds : Source → Core → Type 0
 SourceNeeds (Register b) u = Unit {0}
 SourceNeeds (Number n) u = Unit {0}
 SourceNeeds (Constant k) u = Unit {0}
-SourceNeeds (Fram a) u = IsFram a
+SourceNeeds (Fram a) u = IsPlace a
 SourceNeeds (Ram a) u = IsRam a
-SourceNeeds (Pointed b) u = IsFram (u.work (work_number b))
-SourceNeeds (PointedNext b) u = IsFram (u.work (work_number b)) × (u.work (work_number b) + 2 < fram_end)
-SourceNeeds (Indexed b x) u = IsFram (u.work (work_number b) + x)
+SourceNeeds (Pointed b) u = IsPlace (u.work (work_number b))
+SourceNeeds (PointedNext b) u = IsPlace (u.work (work_number b))
+SourceNeeds (Indexed b x) u = IsPlace (u.work (work_number b) + x)
 SourceNeeds Popped u = IsRam u.sp
 
 -- destinations of MOV
@@ -243,10 +243,10 @@ target_written ToOutdata c v u = Goes (Outside (Offered u.outnum v) ∷ []) c u
 -- what it needs
 abbrev pub TargetNeeds : Target → Core → Type 0
 TargetNeeds (ToRegister b) u = Unit {0}
-TargetNeeds (ToFram a) u = IsFram a
+TargetNeeds (ToFram a) u = IsPlace a
 TargetNeeds (ToRam a) u = IsRam a
-TargetNeeds (ToIndexed b x) u = IsFram (u.work (work_number b) + x)
-TargetNeeds (ToPointed b) u = IsFram (u.work (work_number b))
+TargetNeeds (ToIndexed b x) u = IsPlace (u.work (work_number b) + x)
+TargetNeeds (ToPointed b) u = IsPlace (u.work (work_number b))
 TargetNeeds ToOutnum u = Unit {0}
 TargetNeeds ToOutdata u = Unit {0}
 
@@ -370,8 +370,8 @@ IsNotMov _ = Unit {0}
 abbrev pub FormNeeds : Form → Core → Type 0
 FormNeeds (Move x y) u = SourceNeeds x u × TargetNeeds y (source_read x u)
 FormNeeds (Calculate op x b) u = IsNotMov op × SourceNeeds x u
-FormNeeds (Compare x a) u = SourceNeeds x u × IsFram a
-FormNeeds (Update op x a) u = IsNotMov op × (writes_destination op ≡ true) × SourceNeeds x u × IsFram a
+FormNeeds (Compare x a) u = SourceNeeds x u × IsPlace a
+FormNeeds (Update op x a) u = IsNotMov op × (writes_destination op ≡ true) × SourceNeeds x u × IsPlace a
 FormNeeds (Push x) u = SourceNeeds x u × HasPushRoom (source_read x u).sp
 FormNeeds (Modify m b) u = Unit {0}
 FormNeeds (SetStack n) u = n % 2 ≡ 0
@@ -379,7 +379,7 @@ FormNeeds (Sense b) u = Unit {0}
 FormNeeds (Jump c offset) u = Unit {0}
 FormNeeds (Skip n) u = n % 2 ≡ 0
 FormNeeds (Branch a) u = a % 2 ≡ 0
-FormNeeds (BranchIndexed b x) u = IsFram (u.work (work_number b) + x) × (u.fram (u.work (work_number b) + x) % 2 ≡ 0)
+FormNeeds (BranchIndexed b x) u = IsPlace (u.work (work_number b) + x) × (u.fram (u.work (work_number b) + x) % 2 ≡ 0)
 FormNeeds (SkipBy b) u = u.work (work_number b) % 2 ≡ 0
 
 -- an even address with room behind it for an instruction of three words

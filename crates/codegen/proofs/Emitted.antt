@@ -173,5 +173,5 @@ pub test_items : (bs : List Bound) (t : Test) (when : Bool) (d : ℕ) (own : Lis
 test_items bs t when d own e = omega (arith, own_words own (test_code bs t when d) e, (test_takes bs t when d).bytes)
 
 -- of a whole program no local is further up than RAM has room
-pub whole_locals : (p : Program) → IsWhole p → locals_of p ≤ 1008
-whole_locals p whole = omega (arith, program_least whole.locals p whole.low_locals, whole.fits)
+pub whole_locals : (p : Program) → IsWhole p → locals_of p ≤ 1016
+whole_locals p whole = omega (arith, program_least whole.locals p whole.low_locals, whole.fits.fits)

@@ -190,7 +190,7 @@ pub fn emit_entry(
 
 /// Appends the code that makes a local a number.
 pub fn emit_number(n: u16, number: u16, code: &mut Vec<Instr>) -> Result<(), AllocError>
-    requires { n < 1008 }
+    requires { n < 1016 }
     ensures { OnOk result (code.new.items ≡ code.old.items ++ instructions (number_code n number)) }
 {
     code.extend_from_slice(&[two(TwoOp::Mov, number_source(number), local_target(n))])
@@ -198,7 +198,7 @@ pub fn emit_number(n: u16, number: u16, code: &mut Vec<Instr>) -> Result<(), All
 
 /// Appends the end of a turn: the local goes up by one, and is compared with the number.
 pub fn emit_turn_end(bound: Bound, code: &mut Vec<Instr>) -> Result<(), AllocError>
-    requires { bound.local < 1008 }
+    requires { bound.local < 1016 }
     ensures { OnOk result (code.new.items ≡ code.old.items ++ instructions (turn_end bound.local bound.below)) }
 {
     let end = number_source(bound.below);
@@ -239,7 +239,7 @@ pub fn emit_local(
     waiting: &mut Vec<Waiting>,
     code: &mut Vec<Instr>,
 ) -> Result<(), AllocError>
-    requires { n < 1008 }
+    requires { n < 1016 }
     ensures code { OnOk result (code.new.items
         ≡ code.old.items ++ instructions (step_code [] waiting.old.items (value.local n))) }
     ensures waiting { OnOk result (waiting.new.items ≡ waiting_behind waiting.old.items (value.local n)) }
@@ -288,7 +288,7 @@ pub fn emit_set_local(
     waiting: &mut Vec<Waiting>,
     code: &mut Vec<Instr>,
 ) -> Result<(), AllocError>
-    requires { n < 1008 }
+    requires { n < 1016 }
     ensures code { OnOk result (code.new.items
         ≡ code.old.items ++ instructions (step_code [] waiting.old.items (value.set_local n))) }
     ensures waiting { OnOk result (waiting.new.items ≡ []) }
@@ -299,7 +299,7 @@ pub fn emit_set_local(
 
 // A local in RAM becomes what an operation gives of it and of a word.
 fn emit_ram_update(op: TwoOp, n: u16, source: Src, code: &mut Vec<Instr>) -> Result<(), AllocError>
-    requires { n < 1008 }
+    requires { n < 1016 }
     ensures { (operation : PlainOperation) (x : form.Source) → op ≡ plain_instruction operation → source ≡ form.source_operand x
         → OnOk result (code.new.items ≡ code.old.items ++ instructions (ram_update operation n x)) }
 {
@@ -319,7 +319,7 @@ pub fn emit_update_local(
     waiting: &mut Vec<Waiting>,
     code: &mut Vec<Instr>,
 ) -> Result<(), AllocError>
-    requires { n < 1008 }
+    requires { n < 1016 }
     ensures code { OnOk result (code.new.items
         ≡ code.old.items ++ instructions (step_code [] waiting.old.items (value.update_local operation n))) }
     ensures waiting { OnOk result (waiting.new.items ≡ []) }
