@@ -76,15 +76,20 @@ OfState (Halted price x) P = Unit {0}
 abbrev pub StepsAreForms : Code → ℕ → Core → Type 0
 StepsAreForms code steps u = (n : ℕ) → n < steps → OfState (going (exec code) n (board_of u)).status (IsAtForm code)
 
--- from u, the code makes these effects, in so many steps and at most so many cycles, and comes to a state with P
-pub record Runs (code : Code) (es : List Effect) (most : ℕ) (u : Core) (P : Core → Type 0) : Type 0 where
-  pub steps : ℕ
-  pub cycles : ℕ
+-- from u, the code makes exactly these effects in so many steps and cycles, and comes to a state with P
+pub record Comes (code : Code) (es : List Effect) (steps cycles : ℕ) (u : Core) (P : Core → Type 0) : Type 0 where
   pub end : Core
-  pub within : cycles ≤ most
   pub leads : Leads (exec code) steps es cycles (board_of u) (board_of end)
   pub forms : StepsAreForms code steps u
   pub holds : P end
+
+-- the same in some number of steps, and at most so many cycles
+pub record Runs (code : Code) (es : List Effect) (most : ℕ) (u : Core) (P : Core → Type 0) : Type 0 where
+  pub steps : ℕ
+  pub cycles : ℕ
+  pub within : cycles ≤ most
+  pub comes : Comes code es steps cycles u P
+  pub open comes use *
 
 -- from u, the code makes these effects and comes to an instruction that wants a reading where none is left; what was spent and
 -- that instruction's price are within the bound
