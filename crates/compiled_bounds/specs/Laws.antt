@@ -2,8 +2,7 @@
 use Rattle.std.specs.Prelude.{◌≡◌, ℕ, ◌+◌, ◌*◌, ◌<◌, ◌≤◌, List, ◌++◌}
 use Rattle.compiled_model.specs.fram_board.Board.{BoardValue}
 use Rattle.compiled_model.specs.fram_board.Run.{BoardCharge, Moment, RunOutcome}
-use Rattle.compiled_model.specs.machine_effects.World.{World, EachStore}
-use Rattle.compiled_model.specs.machine_effects.Inputs.{Inputs, InputsAreWords}
+use Rattle.compiled_model.specs.machine_effects.World.{World}
 use Rattle.compiled_model.specs.machine_effects.Runs.{last_board}
 use Rattle.compiled_model.specs.cost_bound.declared.allowance.Allow.{Allow}
 use Rattle.compiled_model.specs.cost_bound.Allowance.{CheckedProgram, IsAllowed, bound_of}
@@ -19,11 +18,8 @@ use Rattle.compiled_model.specs.crash_rules.Laws.{Origin}
 use Rattle.model_runs.specs.run_charges.View.{outside_of}
 use Rattle.model_runs.specs.run_charges.Laws.{IsRunOfWords}
 use Rattle.compiled_model.specs.memory_map.Laws.{AreApart}
-use Rattle.compiled_model.specs.stands_for.StandsFor.{UndecidedAt}
-use Rattle.compiled_model.specs.Places.{program_places}
-use Rattle.compiled_model.specs.View.{state_view}
 use Rattle.compiled_model.specs.Parts.{compiled_model}
-use Rattle.compiled_model.specs.Needs.{CostsAreWithin}
+use Rattle.compiled_model.specs.Needs.{CostsAreWithin, AttemptsStore}
 use Rattle.model_runs.specs.Runs.{BearsModel}
 
 -- the bound of a compiled source is that of its allowance
@@ -49,8 +45,7 @@ pub record CountsFit (l : MemoryMap) (a w : ℕ) : Type 0 where
 
 -- each attempt stores so
 abbrev pub AttemptsFit : CheckedProgram → MemoryMap → Type 0
-AttemptsFit p l = (s : State) (x : World) (inputs : Inputs) → InputsAreWords inputs → UndecidedAt (program_places p l) (state_view p l) s x
-    → EachStore (CountsFit l) ((compiled_model p l).attempt x.fram inputs).effects
+AttemptsFit p l = AttemptsStore (compiled_model p l) (CountsFit l)
 
 -- at each board of a run the capacities are kept, where they are at first
 abbrev pub CapacitiesAreKept : Program → Type 0

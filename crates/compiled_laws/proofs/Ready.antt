@@ -47,7 +47,7 @@ module _ (text : List ℕ) (p : CheckedProgram) (allow : Allow) (plans : List Ta
     room = tasks_have_room p allow plans l laid;
     privates = privates_are_theirs p allow plans l laid;
     programs = record { whole = λ k below. (one_whole k below).0; of_words = λ k below. (one_whole k below).1 };
-    leave = record { leave = tasks_leave text p allow plans l t run };
+    leave = tasks_leave text p allow plans l t run;
     costs = tasks_keep_to_the_bound p allow plans l t.accepted.allowed (privates_are_few text p allow plans l t) t.layout;
   }
 
@@ -55,8 +55,6 @@ pub sources_are_ready : SourcesAreReady
 sources_are_ready text p allow plans l t = record {
   model = compiled_laws text p allow plans l t (run text p allow plans l t);
   code = code text p allow plans l t;
-  stores = record {
-    below = λ s x inputs words undecided. each_weaker _ (λ a w. a < l.boot.address) (λ a w h. h.below) _
-        (stores_below_code text p allow plans l t (run text p allow plans l t) s x inputs words undecided);
-  };
+  stores = λ s x inputs words settled. each_weaker _ (λ a w. a < l.boot.address) (λ a w h. h.below) _
+      (stores_below_code text p allow plans l t (run text p allow plans l t) s x inputs words settled);
 }

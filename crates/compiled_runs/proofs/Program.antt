@@ -38,8 +38,9 @@ use Rattle.compiled_model.specs.stands_for.StandsFor.{HoldsWords, StartedAt}
 use Rattle.compiled_model.proofs.stands_for.Interface.{numbered_starts, pending_can_commit}
 use Rattle.compiled_model.specs.Places.{program_places}
 use Rattle.compiled_model.specs.View.{state_view}
-use Rattle.compiled_model.specs.Parts.{has_jumped, task_program, redo_model}
-use Rattle.compiled_model.proofs.Interface.{is_redo}
+use Rattle.memory_map.specs.declared.runtime.Logging.{Logging}
+use Rattle.compiled_model.specs.Parts.{has_jumped, task_program, redo_model, started_under}
+use Rattle.compiled_model.proofs.Interface.{is_redo, under_map}
 use Rattle.compiled_model.specs.Needs.{whole_cycles, LeavesFor}
 use Rattle.compiled_model.specs.linked_code.Linked.{ProgramsAreWhole}
 use Rattle.compiled_model.proofs.commit_runtime.Interface.{commit_grows}
@@ -240,7 +241,8 @@ module _ (source : Source) where
 
     leaves : LeavesFor l.commit.address b.end
     leaves =
-        let a = r.leave.leave s (world_after es x) u.inputs words is_started in
+        let P : Logging → Type 0 = λ logging. started_under logging p l s (world_after es x) in
+        let a = r.leave.leave s (world_after es x) u.inputs words (under_map l P is_started) in
         subst (λ t. LeavesFor l.commit.address (behaviour (task_program p l t) (started g u.inputs)).end) (sym is_current)
         (subst (λ h. LeavesFor l.commit.address (behaviour (task_program p l s.task) (started h u.inputs)).end) started_fram a)
 

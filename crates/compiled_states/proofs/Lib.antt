@@ -4,7 +4,6 @@ mod Words
 mod Named
 mod Listed
 mod Sound
-mod Keeping
 mod Ends
 mod Rows
 mod States

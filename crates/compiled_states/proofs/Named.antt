@@ -1,5 +1,5 @@
 -- What the map of a source names: the words of the runtime, the buffers, the variables and the copies, which are all in front of the code.
-use Rattle.std.proofs.Common.{◌≡◌, ◌⊎◌, inl, inr, ℕ, zero, suc, ◌+◌, ◌*◌, ◌%◌, ◌<◌, ◌≤◌, ◌||◌, Bool, true, false, List, [], ◌∷◌, Some, None, map, refl, sym}
+use Rattle.std.proofs.Common.{◌≡◌, ◌⊎◌, inl, inr, ℕ, zero, suc, ◌+◌, ◌*◌, ◌%◌, ◌<◌, ◌≤◌, ◌||◌, Bool, true, false, List, [], ◌∷◌, length, Some, None, map, refl, sym}
 use Rattle.std.proofs.Common.{ap, arith}
 use Rattle.std.specs.Prelude.{slice_get}
 use Rattle.std.proofs.lemmas.Bool.{false≢true, cases_lt, or_cases, or_from, or_left, or_right}
@@ -95,10 +95,27 @@ shared_at text (d ∷ ds) (other ∷ places) (suc n) i a place kinds at below is
     (shared_at text ds places n i a place kinds.1 at below is)
 
 -- ---- all that the map names
-module _ (text : List ℕ) (p : CheckedProgram) (allow : Allow) (plans : List TaskPlanValue) (l : MemoryMap) (laid : HasLayout p allow plans l)
-    (kinds : ArePlacesOf p.shared l.variables) where
+
+-- a source with its layout, and how its image's map names them: variables by their declarations, and each task
+pub record Mapped : Type 0 where
+  pub text : List ℕ
+  pub program : CheckedProgram
+  pub allow : Allow
+  pub plans : List TaskPlanValue
+  pub layout : MemoryMap
+  pub laid : HasLayout program allow plans layout
+  pub kinds : ArePlacesOf program.shared layout.variables
+  pub tasks : length (map_of text program layout allow).tasks ≡ length program.tasks
+
+-- the map
+abbrev pub its_map : Mapped → MapValue
+its_map own = map_of own.text own.program own.layout own.allow
+
+module _ (own : Mapped) where
+  open own use {text, program as p, allow, plans, layout as l, laid, kinds}
+
   abbrev m : MapValue
-  m = map_of text p l allow
+  m = its_map own
 
   apart : AreApart l
   apart = apart_of l laid.layout.rules

@@ -13,7 +13,7 @@ use Rattle.image_reports.specs.image_laws.image_map.MapValue.{TaskValue}
 use Rattle.image_reports.specs.image_laws.source_maps.Maps.{variables_of, shared_name, task_value_of, tasks_of, map_of}
 use Rattle.image_reports.specs.image_laws.source_maps.Placing.{ArePlacesOf}
 use Rattle.compiled_states.specs.Laws.{ImagesSuitTheirSources}
-use Rattle.compiled_states.proofs.States.{source_map}
+use Rattle.compiled_states.proofs.States.{source_map, image_of}
 
 -- each variable has the line of its declaration
 lines_are : (text : List ℕ) (ds : List SharedDeclaration) (places : List VariablePlace) → ArePlacesOf ds places
@@ -56,7 +56,7 @@ images_suit_their_sources text p allow image ok c = record {
   named = map_of text p c.layout allow;
   mapped = c.map;
   lines = record {
-    variables = lines_are text p.shared c.layout.variables (source_map text p allow image ok c).places;
+    variables = lines_are text p.shared c.layout.variables (source_map text image (image_of text p allow image ok c)).places;
     tasks = tasks_are text p.shared p.tasks c.plans c.layout.tasks c.is_plan.count c.is_layout.tasks.count c.is_layout.tasks.each;
   };
 }

@@ -18,9 +18,8 @@ use Rattle.image_reports.specs.image_laws.source_values.Runs as runs
 use Rattle.image_reports.specs.image_laws.source_meaning.Acceptance.{IsAcceptedText}
 use Rattle.image_reports.specs.image_laws.source_maps.Maps.{map_of}
 use Rattle.image_reports.specs.image_laws.memory_map.MemoryMap.{MemoryMap}
-use Rattle.image_reports.specs.image_laws.stands_for.StandsFor.{RestsAt}
-use Rattle.image_reports.specs.image_laws.compiled_model.Places.{program_places}
-use Rattle.image_reports.specs.image_laws.compiled_model.View.{state_view, state_in}
+use Rattle.image_reports.specs.image_laws.compiled_model.View.{state_in}
+use Rattle.compiled_model.specs.Parts.{compiled_model}
 use Rattle.image_reports.specs.image_laws.Compiled.{IsCompiled}
 use Rattle.image_reports.specs.Resumed.{IsToldOnward}
 
@@ -52,7 +51,7 @@ pub record BelongsAt (p : CheckedProgram) (l : MemoryMap) (image : ImageValue) (
   pub belongs : Belongs image s
   pub has : (accepted : List ℕ) → state_in l (world_of s accepted) ≡ state_with shared task accepted
   pub rests : (accepted : List ℕ) → MayHaveAccepted s accepted
-      → RestsAt (program_places p l) (state_view p l) (state_with shared task accepted) (world_of s accepted)
+      → (compiled_model p l).Rests (state_with shared task accepted) (world_of s accepted)
 
 -- the board that goes on from a state, on these readings
 abbrev pub board_of : State → List ℕ → BoardValue

@@ -1,10 +1,10 @@
 -- The world of an image before anything was done.
-use Rattle.std.proofs.Common.{◌≡◌, ◌≢◌, ℕ, ◌+◌, ◌-◌, ◌*◌, ◌/◌, ◌%◌, ◌<◌, ◌≤◌, ◌==◌, ◌&&◌, if◌then◌else◌, cond, ne_eqb, refl, ap, ◌∙◌}
+use Rattle.std.proofs.Common.{◌≡◌, ◌≢◌, ℕ, ◌+◌, ◌-◌, ◌*◌, ◌/◌, ◌%◌, ◌<◌, ◌≤◌, ◌==◌, ◌&&◌, if◌then◌else◌, cond, ne_eqb, refl, sym, ap, ◌∙◌, subst}
 use Rattle.std.proofs.Common.{arith, true, false, List, length, All}
 use Rattle.std.proofs.lemmas.Bool.Decides.{nat_tests}
 use Rattle.std.specs.Prelude.{slice_index}
 use Rattle.linked_code.specs.cost_bound.declared.allowance.Allow.{Allow}
-use Rattle.whole_programs.specs.source_values.Runs.{CheckedProgram, first_state, initial_rows}
+use Rattle.whole_programs.specs.source_values.Runs.{CheckedProgram, State, first_state, initial_rows}
 use Rattle.whole_programs.specs.source_values.Running.{IsRunnable}
 use Rattle.source_meaning.specs.Acceptance.{IsAcceptedText}
 use Rattle.source_meaning.proofs.Interface.{accepted_texts_run}
@@ -23,6 +23,8 @@ use Rattle.linked_code.specs.Linked.{CodeFits}
 use Rattle.linked_code.proofs.Interface.{linked_is_code}
 use Rattle.compiled_runs.specs.compiled_model.Places.{program_places}
 use Rattle.compiled_runs.specs.compiled_model.View.{is_within, shared_word, state_view}
+use Rattle.crash_rules.specs.Model.{Model}
+use Rattle.compiled_model.proofs.Interface.{is_redo}
 use Rattle.compiled_runs.proofs.Interface.{sources_have_room}
 use Rattle.image_laws.specs.Words.{code_words, code_region, data_word}
 use Rattle.image_laws.specs.Compiled.{IsCompiled}
@@ -172,7 +174,7 @@ module _ (text : List ℕ) (p : CheckedProgram) (allow : Allow) (image : ImageVa
     fits = fits;
     code = holds_by f l.boot.address (code_words p l) code_at;
     vector = vector;
-    rests = rests;
+    rests = (let P : Model State → Type 0 = λ m. m.Rests (first_state p) (fresh_world image) in subst P (sym (is_redo p l)) rests);
     has_words = finds_state text p allow c.plans l laid (first_state p) (fresh_world image) rests;
   }
 

@@ -1,5 +1,5 @@
 -- Where the world rests at a state of the source, the map finds the state's words in it.
-use Rattle.std.proofs.Common.{◌≡◌, ℕ, ◌+◌, ◌*◌, refl, ◌∙◌, List, [], true, Some}
+use Rattle.std.proofs.Common.{◌≡◌, ℕ, ◌+◌, ◌*◌, refl, ◌∙◌, subst, List, [], true, Some}
 use Rattle.std.specs.Prelude.{slice_get, slice_index_or}
 use Rattle.linked_code.specs.cost_bound.declared.allowance.Allow.{Allow}
 use Rattle.linked_code.specs.cost_bound.Allowance.{is_written}
@@ -14,7 +14,9 @@ use Rattle.compiled_runs.specs.stands_for.Layout.{IsSharedWord}
 use Rattle.compiled_runs.specs.stands_for.StandsFor.{RestsAt}
 use Rattle.source_maps.specs.source_runs.Transitions.{HasWordsOf}
 use Rattle.compiled_runs.specs.compiled_model.Places.{program_places}
+use Rattle.crash_rules.specs.Model.{Model}
 use Rattle.compiled_runs.specs.compiled_model.View.{state_view, state_in}
+use Rattle.compiled_model.proofs.Interface.{is_redo}
 use Rattle.memory_map.specs.Spots.{IsWordOf}
 use Rattle.whole_programs.proofs.Interface.{privates_are_few}
 use Rattle.layout_facts.specs.Facts.{HasLayout}
@@ -60,7 +62,9 @@ layout_of text p allow image ok c = record {
 }
 
 pub maps_find_states : MapsFindStates
-maps_find_states text p allow image ok c s x rests = finds_state text p allow c.plans c.layout (layout_of text p allow image ok c) s x rests
+maps_find_states text p allow image ok c s x rests =
+    let P : Model State → Type 0 = λ m. m.Rests s x in
+    finds_state text p allow c.plans c.layout (layout_of text p allow image ok c) s x (subst P (is_redo p c.layout) rests)
 
 -- what stands in each world is a state, and the map finds it
 pub worlds_stand : ImagesHaveStates

@@ -1,4 +1,4 @@
-use Rattle.image_reports.proofs.Told.{images_are_told}
+use Rattle.image_reports.proofs.ImageLaw.{images_are_told}
 use Rattle.image_reports.proofs.laws.images_are_told.Goals as goal
 
 pub returns : goal.returns

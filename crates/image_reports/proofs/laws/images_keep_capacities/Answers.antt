@@ -1,4 +1,4 @@
-use Rattle.image_reports.proofs.Capacities.{images_keep_capacities}
+use Rattle.image_reports.proofs.ImageLaw.{images_keep_capacities}
 use Rattle.image_reports.proofs.laws.images_keep_capacities.Goals as goal
 
 pub returns : goal.returns
