@@ -1,18 +1,18 @@
 -- The commit list and the emit buffer keep to their capacities, and version words to VER.
 use Rattle.std.proofs.Common.{ℕ, refl, sym, subst, arith, List}
-use Rattle.compiled_model.specs.machine_effects.World.{World, EachStore}
-use Rattle.compiled_model.specs.machine_effects.Inputs.{Inputs}
-use Rattle.compiled_model.specs.cost_bound.Allowance.{CheckedProgram}
-use Rattle.compiled_model.specs.source_values.Runs.{State}
-use Rattle.compiled_model.specs.memory_map.declared.words.RuntimeWord.TheVariants.{ListLength, EmitCount}
-use Rattle.compiled_model.specs.memory_map.MemoryMap.{MemoryMap, word_place}
-use Rattle.compiled_model.specs.crash_rules.Model.{Model}
-use Rattle.compiled_model.specs.crash_rules.History.{History}
-use Rattle.compiled_model.specs.crash_rules.Runs.{Program}
-use Rattle.compiled_model.specs.crash_rules.Laws.{Origin, Phase, UndecidedPhase, DecidedPhase, CommittingPhase, ScriptsStore}
-use Rattle.compiled_model.specs.memory_map.Laws.{AreApart}
-use Rattle.compiled_model.specs.stands_for.StandsFor.{CommittingTo, HoldsWords, VersionsWithin}
-use Rattle.compiled_model.proofs.stands_for.Interface.{commit_stores_all}
+use Rattle.machine_effects.specs.World.{World, EachStore}
+use Rattle.machine_effects.specs.Inputs.{Inputs}
+use Rattle.cost_bound.specs.Allowance.{CheckedProgram}
+use Rattle.source_values.specs.Runs.{State}
+use Rattle.memory_map.specs.declared.words.RuntimeWord.TheVariants.{ListLength, EmitCount}
+use Rattle.memory_map.specs.MemoryMap.{MemoryMap, word_place}
+use Rattle.crash_rules.specs.Model.{Model}
+use Rattle.crash_rules.specs.History.{History}
+use Rattle.crash_rules.specs.Runs.{Program}
+use Rattle.crash_rules.specs.Laws.{Origin, Phase, UndecidedPhase, DecidedPhase, CommittingPhase, ScriptsStore}
+use Rattle.memory_map.specs.Laws.{AreApart}
+use Rattle.stands_for.specs.StandsFor.{CommittingTo, HoldsWords, VersionsWithin}
+use Rattle.stands_for.proofs.Interface.{commit_stores_all}
 use Rattle.compiled_model.specs.Places.{program_places}
 use Rattle.compiled_model.specs.View.{state_view}
 use Rattle.compiled_model.specs.Parts.{redo_model, compiled_model}

@@ -1,9 +1,9 @@
 -- The one runtime that there is: what holds of a source under redo holds of it under the runtime of its memory map, and the other way.
 use Rattle.std.proofs.Common.{◌≡◌, refl, sym, ap, subst}
-use Rattle.linked_code.specs.memory_map.declared.runtime.Logging.{Logging}
-use Rattle.linked_code.specs.memory_map.declared.runtime.Logging.TheVariants.{Redo}
-use Rattle.linked_code.specs.memory_map.MemoryMap.{MemoryMap}
-use Rattle.lower.specs.source_values.Runs.{CheckedProgram}
+use Rattle.memory_map.specs.declared.runtime.Logging.{Logging}
+use Rattle.memory_map.specs.declared.runtime.Logging.TheVariants.{Redo}
+use Rattle.memory_map.specs.MemoryMap.{MemoryMap}
+use Rattle.source_values.specs.Runs.{CheckedProgram}
 use Rattle.compiled_model.specs.Parts.{redo_model, model_by, compiled_model}
 
 only_redo : (logging : Logging) → logging ≡ Redo

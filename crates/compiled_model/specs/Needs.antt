@@ -1,18 +1,18 @@
 -- What the code of a compiled source needs of its tasks, beyond the laws of the model: their cycles, and where they leave for.
 use Rattle.std.specs.Prelude.{◌≡◌, ℕ, ◌+◌, ◌<◌, ◌≤◌, true, length}
-use Rattle.linked_code.specs.machine_effects.World.{World, EachStore}
-use Rattle.linked_code.specs.machine_effects.Inputs.{Inputs, InputsAreWords}
-use Rattle.linked_code.specs.cost_bound.Allowance.{task_bound, versions_of, list_of}
-use Rattle.linked_code.specs.cost_bound.Counts.{emits_of}
-use Rattle.lower.specs.source_values.Runs.{CheckedProgram, State, task_body}
-use Rattle.linked_code.specs.array_versions.Behaviour.{End, GoesOn, Jumps, Short, Strays, Broken, behaviour, started}
-use Rattle.linked_code.specs.array_versions.Form.{IsWhole, OfWords}
-use Rattle.linked_code.specs.word_code.Code.{code_spent}
-use Rattle.linked_code.specs.memory_map.MemoryMap.{MemoryMap}
-use Rattle.linked_code.specs.boot_runtime.Entries.{task_entries}
-use Rattle.linked_code.specs.boot_runtime.Listing.{privates_in, start_cycles}
-use Rattle.linked_code.specs.commit_runtime.Listing.{commit_cycles}
-use Rattle.stands_for.specs.crash_rules.Model.{Model, bound}
+use Rattle.machine_effects.specs.World.{World, EachStore}
+use Rattle.machine_effects.specs.Inputs.{Inputs, InputsAreWords}
+use Rattle.cost_bound.specs.Allowance.{task_bound, versions_of, list_of}
+use Rattle.cost_bound.specs.Counts.{emits_of}
+use Rattle.source_values.specs.Runs.{CheckedProgram, State, task_body}
+use Rattle.array_versions.specs.Behaviour.{End, GoesOn, Jumps, Short, Strays, Broken, behaviour, started}
+use Rattle.array_versions.specs.Form.{IsWhole, OfWords}
+use Rattle.word_code.specs.Code.{code_spent}
+use Rattle.memory_map.specs.MemoryMap.{MemoryMap}
+use Rattle.boot_runtime.specs.Entries.{task_entries}
+use Rattle.boot_runtime.specs.Listing.{privates_in, start_cycles}
+use Rattle.commit_runtime.specs.Listing.{commit_cycles}
+use Rattle.crash_rules.specs.Model.{Model, bound}
 use Rattle.stands_for.specs.StandsFor.{HoldsWords}
 use Rattle.compiled_model.specs.Parts.{task_program, compiled_model, IsStarted}
 

@@ -1,21 +1,21 @@
 -- A compiled source as the crash theorem takes it: its tasks, its start, its tasks' programs, and the cycles that each is allowed.
 use Rattle.std.specs.Prelude.{ℕ, Bool, true, false, List, ◌++◌, length, Option, Some, None, get_or}
-use Rattle.linked_code.specs.machine_effects.fram_board.Effects.{Effect}
-use Rattle.linked_code.specs.machine_effects.Inputs.{Inputs}
-use Rattle.linked_code.specs.machine_effects.World.{World}
-use Rattle.linked_code.specs.cost_bound.Allowance.{task_bound, versions_of}
-use Rattle.lower.specs.source_values.Runs.{CheckedProgram, State, Completion, completion_of, attempt_of, task_body}
-use Rattle.linked_code.specs.array_versions.Program.{Program, nothing}
-use Rattle.linked_code.specs.array_versions.Behaviour.{Behaviour, End, GoesOn, Jumps, Short as Starves, Strays, Broken, behaviour, started}
-use Rattle.linked_code.specs.memory_map.declared.runtime.Logging.{Logging}
-use Rattle.linked_code.specs.memory_map.declared.runtime.Logging.TheVariants.{Redo}
-use Rattle.linked_code.specs.memory_map.declared.words.RuntimeWord.TheVariants.{Gate}
-use Rattle.linked_code.specs.memory_map.MemoryMap.{MemoryMap, word_place}
-use Rattle.linked_code.specs.runtime_effects.Stages.{start_effects}
-use Rattle.linked_code.specs.boot_runtime.Entries.{task_entries}
-use Rattle.linked_code.specs.boot_runtime.Listing.{privates_in}
+use Rattle.fram_board.specs.Effects.{Effect}
+use Rattle.machine_effects.specs.Inputs.{Inputs}
+use Rattle.machine_effects.specs.World.{World}
+use Rattle.cost_bound.specs.Allowance.{task_bound, versions_of}
+use Rattle.source_values.specs.Runs.{CheckedProgram, State, Completion, completion_of, attempt_of, task_body}
+use Rattle.array_versions.specs.Program.{Program, nothing}
+use Rattle.array_versions.specs.Behaviour.{Behaviour, End, GoesOn, Jumps, Short as Starves, Strays, Broken, behaviour, started}
+use Rattle.memory_map.specs.declared.runtime.Logging.{Logging}
+use Rattle.memory_map.specs.declared.runtime.Logging.TheVariants.{Redo}
+use Rattle.memory_map.specs.declared.words.RuntimeWord.TheVariants.{Gate}
+use Rattle.memory_map.specs.MemoryMap.{MemoryMap, word_place}
+use Rattle.runtime_effects.specs.Stages.{start_effects}
+use Rattle.boot_runtime.specs.Entries.{task_entries}
+use Rattle.boot_runtime.specs.Listing.{privates_in}
 use Rattle.lower.specs.Lowered.{lowered}
-use Rattle.stands_for.specs.crash_rules.Model.{Model, Outcome, Ends, Short, ProgramEffects, program_effects}
+use Rattle.crash_rules.specs.Model.{Model, Outcome, Ends, Short, ProgramEffects, program_effects}
 use Rattle.stands_for.specs.Program.{ProgramParts, program_model}
 use Rattle.stands_for.specs.StandsFor.{StartedAt}
 use Rattle.compiled_model.specs.Places.{program_places}

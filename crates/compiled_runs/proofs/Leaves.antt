@@ -1,21 +1,21 @@
 -- A run leaves the code as it is, and stays in it.
+use Rattle.msp_step.specs.declared.machine.Stop.TheVariants as stop
 use Rattle.std.proofs.Common.{◌≡◌, ◌<◌, ◌*◌, ◌/◌, ℕ, length, refl, inl, sym, subst, arith}
-use Rattle.compiled_model.proofs.memory_map.Interface.{apart_of, even_of}
-use Rattle.compiled_model.specs.msp_step.declared.machine.Stop.TheVariants as stop
-use Rattle.compiled_model.specs.machine_effects.Machine.{machine_powered}
-use Rattle.compiled_model.specs.code_forms.Forms.{core_of}
-use Rattle.compiled_model.specs.code_forms.Placed.{words_of, IsOutside}
-use Rattle.compiled_model.proofs.code_forms.Interface.{powered_has_a_core}
-use Rattle.compiled_model.specs.source_values.Runs.{CheckedProgram, State}
+use Rattle.memory_map.proofs.Interface.{apart_of, even_of}
+use Rattle.machine_effects.specs.Machine.{machine_powered}
+use Rattle.code_forms.specs.Forms.{core_of}
+use Rattle.code_forms.specs.Placed.{words_of, IsOutside}
+use Rattle.code_forms.proofs.Interface.{powered_has_a_core}
+use Rattle.source_values.specs.Runs.{CheckedProgram, State}
 use Rattle.memory_map.specs.MemoryMap.{MemoryMap}
 use Rattle.memory_map.specs.Laws.{AreApart}
-use Rattle.compiled_model.specs.lower.Lowered.{lowered}
-use Rattle.compiled_model.specs.crash_rules.Model.{Model, IsElsewhere}
-use Rattle.compiled_model.specs.crash_rules.Runs.{ProgramLaws}
-use Rattle.compiled_model.specs.crash_rules.Laws.{PowersUpBehind, ScriptsStore}
-use Rattle.compiled_model.proofs.crash_rules.Interface.{stops_short, stores_only}
-use Rattle.compiled_model.proofs.stands_for.Interface.{each_weaker, commit_stores_there}
-use Rattle.compiled_model.proofs.linked_code.Interface.{linked_is_code}
+use Rattle.lower.specs.Lowered.{lowered}
+use Rattle.crash_rules.specs.Model.{Model, IsElsewhere}
+use Rattle.crash_rules.specs.Runs.{ProgramLaws}
+use Rattle.crash_rules.specs.Laws.{PowersUpBehind, ScriptsStore}
+use Rattle.crash_rules.proofs.Interface.{stops_short, stores_only}
+use Rattle.stands_for.proofs.Interface.{each_weaker, commit_stores_there}
+use Rattle.linked_code.proofs.Interface.{linked_is_code}
 use Rattle.compiled_model.specs.Places.{program_places}
 use Rattle.compiled_model.specs.Parts.{compiled_model}
 use Rattle.compiled_model.specs.Needs.{AttemptsStore, AttemptsStoreBelow}

@@ -1,21 +1,11 @@
 -- The layout of a source leaves no word unused in front of its code.
-use Rattle.std.proofs.Common.{◌≡◌, ℕ, ◌+◌, ◌*◌, ◌≤◌, Bool, true, false, List, [], ◌∷◌, ◌∙◌, arith}
-use Rattle.image_reports.specs.layout_facts.task_ast.declared.Extent.{Extent}
-use Rattle.image_reports.specs.layout_facts.task_ast.declared.Extent.TheVariants.{Scalar, Long, Array}
-use Rattle.image_reports.specs.layout_facts.task_ast.declared.SharedDeclaration.{SharedDeclaration}
-use Rattle.image_reports.specs.layout_facts.cost_bound.declared.allowance.Allow.{Allow}
-use Rattle.image_reports.specs.layout_facts.cost_bound.Counts.{CheckedBlock, emits_of}
-use Rattle.image_reports.specs.layout_facts.cost_bound.Allowance.{CheckedProgram, CheckedTask, IsAllowed, shared_sum_from, place_part, version_part}
-use Rattle.image_reports.specs.layout_facts.cost_bound.Allowance.{is_written, total}
-use Rattle.image_reports.specs.layout_facts.cost_bound.Allowance.{greatest}
-use Rattle.image_reports.specs.layout_facts.cost_bound.Allowance.{task_words, list_of, words_of, versions_of}
-use Rattle.image_reports.specs.layout_facts.war_analysis.PlanValue.{TaskPlanValue}
-use Rattle.image_reports.specs.layout_facts.memory_map.MemoryMap.{MemoryMap}
-use Rattle.image_reports.specs.layout_facts.memory_map.Places.{end_of}
-use Rattle.image_reports.specs.layout_facts.memory_map.Laws.{AreApart}
-use Rattle.image_reports.proofs.layout_facts.memory_map.Interface.{apart_of}
-use Rattle.image_reports.specs.layout_facts.privatise.Sizes.{home_part, home_words, copy_part, copy_words, body_words, entry_words}
-use Rattle.image_reports.specs.layout_facts.privatise.Layouts.{IsLayout}
+use Rattle.compiled_states.proofs.Names.{◌≡◌, ℕ, ◌+◌, ◌*◌, ◌≤◌, Bool, true, false, List, [], ◌∷◌, ◌∙◌, arith, Extent, SharedDeclaration, Allow, CheckedProgram}
+use Rattle.compiled_states.proofs.Names.{CheckedTask, IsAllowed, shared_sum_from, place_part, version_part, is_written, total, greatest, task_words, list_of}
+use Rattle.compiled_states.proofs.Names.{versions_of, TaskPlanValue, MemoryMap, end_of, AreApart, apart_of, IsLayout}
+use Rattle.task_ast.specs.declared.Extent.TheVariants.{Scalar, Long, Array}
+use Rattle.cost_bound.specs.Counts.{CheckedBlock, emits_of}
+use Rattle.cost_bound.specs.Allowance.{words_of}
+use Rattle.privatise.specs.Sizes.{home_part, home_words, copy_part, copy_words, body_words, entry_words}
 
 -- each part in front of the code begins where the one before ends
 pub record IsFull (l : MemoryMap) : Type 0 where

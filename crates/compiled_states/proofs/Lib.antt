@@ -1,3 +1,4 @@
+mod Names
 mod Full
 mod Held
 mod Words

@@ -1,26 +1,12 @@
 -- The commit list of a state, entry by entry, and the words that it names, pair by pair.
-use Rattle.std.proofs.Common.{◌≡◌, inl, inr, ℕ, zero, suc, ◌+◌, ◌*◌, ◌%◌, ◌<◌, ◌≤◌, true, List, [], ◌∷◌, ◌++◌, length, refl, sym, ap}
-use Rattle.std.proofs.Common.{◌∙◌}
-use Rattle.std.proofs.Common.{subst, ⊎_elim, arith, length-append}
-use Rattle.std.specs.Prelude.{nat_le}
-use Rattle.std.specs.List.{list_all}
-use Rattle.std.proofs.lemmas.Bool.{leb-true, le-leb, eqb-true, eq-eqb, and_parts, and_from}
+use Rattle.compiled_states.proofs.Names.{◌≡◌, inl, inr, ℕ, zero, suc, ◌+◌, ◌*◌, ◌%◌, ◌<◌, ◌≤◌, true, List, [], ◌∷◌, ◌++◌, length, refl, sym, ap, ◌∙◌, subst}
+use Rattle.compiled_states.proofs.Names.{⊎_elim, arith, length-append, nat_le, list_all, leb-true, le-leb, eqb-true, eq-eqb, and_parts, and_from, end_of}
+use Rattle.compiled_states.proofs.Names.{even_of, CopyPair, run_pairs, entries_from, ProgramPlaces, IsSharedWord, IsCopyWord, IsAmong, program_places, MapValue}
+use Rattle.compiled_states.proofs.Names.{IsFramWord, IsFram, fram_of, Entry, lies_in, copies_words, is_shared, word_in, words_from, entries_of, are_shared}
+use Rattle.compiled_states.proofs.Names.{is_even, is_entry, words_of, first_entry, among_either, among_front, among_back}
 use Rattle.std.proofs.lemmas.List.Sums.{sum_by-cons}
-use Rattle.image_reports.specs.layout_facts.memory_map.Places.{end_of}
-use Rattle.image_reports.proofs.layout_facts.memory_map.Interface.{even_of}
-use Rattle.image_reports.specs.layout_facts.runtime_effects.Places.{CopyPair, run_pairs, entries_from}
-use Rattle.image_reports.proofs.layout_facts.runtime_effects.Interface.{run_length}
-use Rattle.image_reports.specs.layout_facts.stands_for.Layout.{ProgramPlaces, IsSharedWord, IsCopyWord, IsAmong}
-use Rattle.image_reports.specs.layout_facts.compiled_model.Places.{program_places}
-use Rattle.image_reports.specs.image_laws.image_map.MapValue.{MapValue, IsFramWord}
-use Rattle.image_reports.specs.image_laws.machine_effects.Machine.{IsFram, fram_of}
-use Rattle.fram_state.specs.declared.entry.Entry.{Entry}
-use Rattle.fram_state.specs.Stretch.{words_at, lies_in}
-use Rattle.fram_state.specs.Named.{copies_words, is_shared}
-use Rattle.fram_state.specs.Runtime.{word_in, words_from}
-use Rattle.fram_state.specs.Sound.{entries_of, are_shared, is_even, is_entry, words_of}
-use Rattle.fram_state.proofs.Interface.{first_entry}
-use Rattle.layout_facts.proofs.Interface.{among_either, among_front, among_back}
+use Rattle.runtime_effects.proofs.Interface.{run_length}
+use Rattle.fram_state.specs.Stretch.{words_at}
 use Rattle.compiled_states.proofs.Words.{fram_at}
 use Rattle.compiled_states.proofs.Named.{Mapped, its_map, shared_is, is_a_shared}
 

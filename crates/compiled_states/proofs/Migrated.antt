@@ -1,45 +1,20 @@
 -- What a migration makes of an old state belongs to the new image, and rests at the state that the old words make.
-use Rattle.std.proofs.Common.{◌≡◌, ◌⊎◌, inl, inr, ℕ, ◌+◌, ◌*◌, ◌%◌, ◌<◌, ◌≤◌, ◌==◌, if◌then◌else◌, Bool, false, List, [], length, map, Option, Some}
-use Rattle.std.proofs.Common.{refl, sym, ap, ap₂, ◌∙◌, subst, arith}
-use Rattle.std.specs.Prelude.{unwrap_or, IfSome}
-use Rattle.std.proofs.lemmas.List.{length-map}
-use Rattle.std.proofs.lemmas.Bool.{eq-eqb, ne_eqb}
-use Rattle.fram_state.specs.state_text.declared.state.State.{State}
-use Rattle.fram_state.specs.Named.{is_shared}
-use Rattle.fram_state.specs.Runtime.{word_in}
+use Rattle.compiled_states.proofs.Names.{◌≡◌, ◌⊎◌, inl, inr, ℕ, ◌+◌, ◌*◌, ◌<◌, ◌≤◌, ◌==◌, if◌then◌else◌, Bool, false, List, [], length, map, Option, Some, refl}
+use Rattle.compiled_states.proofs.Names.{sym, ap, ap₂, ◌∙◌, subst, arith, unwrap_or, IfSome, length-map, eq-eqb, ne_eqb, State, is_shared, word_in}
+use Rattle.compiled_states.proofs.Names.{EditionValue, edition_with, row_of, rows_of, shared_word, IsStateOf, IsPendingAt, IsMigrated, edition_of_state}
+use Rattle.compiled_states.proofs.Names.{row_length, RuntimeWord, CurrentTask, Gate, ListLength, EmitCount, Base, Version, MemoryMap, word_place, end_of}
+use Rattle.compiled_states.proofs.Names.{home_region, AreApart, WordStands, apart_of, even_of, words_stand, IsOpen, IsAtRest, SoundAtRest, program_places}
+use Rattle.compiled_states.proofs.Names.{row_in, state_view, state_in, MapValue, ImageValue, IsFram, fram_of, CheckedProgram, first_state, IsImageOf}
+use Rattle.compiled_states.proofs.Names.{fresh_world, images_are_fresh, worlds_stand, BelongsTo, images_belong, world_of, state_with, MayHaveAccepted}
+use Rattle.compiled_states.proofs.Names.{HasFramWords, HasCodeWords, BelongsAt, MigratedStatesBelong}
 use Rattle.fram_state.specs.Sound as state
-use Rattle.fram_state.specs.Kept.{task_names}
-use Rattle.fram_state.specs.Migrated.{EditionValue, edition_with, row_of, rows_of, shared_word, IsStateOf, IsPendingAt, IsMigrated}
-use Rattle.fram_state.specs.Editions.{IsEdition}
-use Rattle.fram_state.proofs.Interface.{edition_of_state, row_length}
-use Rattle.image_reports.specs.layout_facts.memory_map.declared.words.RuntimeWord.{RuntimeWord}
-use Rattle.image_reports.specs.layout_facts.memory_map.declared.words.RuntimeWord.TheVariants.{CurrentTask, Gate, ListLength, EmitCount, Base, Version}
-use Rattle.image_reports.specs.layout_facts.memory_map.MemoryMap.{MemoryMap, word_place}
-use Rattle.image_reports.specs.layout_facts.memory_map.Places.{end_of, home_region}
-use Rattle.image_reports.specs.layout_facts.memory_map.Laws.{AreApart, WordStands}
-use Rattle.image_reports.proofs.layout_facts.memory_map.Interface.{apart_of, even_of, words_stand}
-use Rattle.image_reports.specs.layout_facts.stands_for.StandsFor.{IsOpen, IsAtRest, SoundAtRest}
-use Rattle.image_reports.specs.layout_facts.compiled_model.Places.{program_places}
-use Rattle.image_reports.specs.layout_facts.compiled_model.View.{row_in, state_view, state_in}
-use Rattle.image_reports.specs.image_laws.image_map.MapValue.{MapValue}
-use Rattle.image_reports.specs.image_laws.image_map.Kept.{IsMap}
-use Rattle.image_reports.specs.image_laws.image_text.ImageValue.{ImageValue}
-use Rattle.image_reports.specs.image_laws.machine_effects.Machine.{IsFram, fram_of}
-use Rattle.image_reports.specs.image_laws.cost_bound.declared.allowance.Allow.{Allow}
-use Rattle.image_reports.specs.image_laws.source_values.Runs.{CheckedProgram, first_state}
-use Rattle.image_reports.specs.image_laws.source_meaning.Acceptance.{IsAcceptedText}
-use Rattle.image_reports.specs.image_laws.source_maps.Maps.{map_of}
-use Rattle.image_reports.specs.image_laws.Compiled.{IsImageOf}
-use Rattle.image_laws.specs.Laws.{fresh_world}
-use Rattle.crash_rules.specs.Model.{Model}
 use Rattle.source_values.specs.Runs as runs
+use Rattle.fram_state.specs.Kept.{task_names}
+use Rattle.fram_state.specs.Editions.{IsEdition}
+use Rattle.image_map.specs.Kept.{IsMap}
+use Rattle.crash_rules.specs.Model.{Model}
 use Rattle.compiled_model.specs.Parts.{compiled_model}
 use Rattle.compiled_model.proofs.Interface.{is_redo}
-use Rattle.image_reports.proofs.image_laws.Interface.{images_are_fresh, worlds_stand}
-use Rattle.image_reports.specs.Resumed.{BelongsTo}
-use Rattle.image_reports.proofs.Interface.{images_belong}
-use Rattle.compiled_states.specs.Worlds.{world_of, state_with, MayHaveAccepted, HasFramWords, HasCodeWords, BelongsAt}
-use Rattle.compiled_states.specs.Laws.{MigratedStatesBelong}
 use Rattle.compiled_states.proofs.Words.{fram_at, fram_small}
 use Rattle.compiled_states.proofs.Named.{its_map, not_shared}
 use Rattle.compiled_states.proofs.Rows.{none_there, position_below, rows_stand}

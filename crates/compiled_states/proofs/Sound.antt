@@ -1,44 +1,16 @@
 -- A state that keeps the rules is a sound world; and a sound world within its capacities, as a state of the map, keeps the rules.
-use Rattle.fram_state.specs.Named.{place_words, list_words, copies_words}
-use Rattle.fram_state.specs.Runtime.{word_in, words_from, runtime_of}
+use Rattle.compiled_states.proofs.Names.{place_words, list_words, copies_words, word_in, words_from, runtime_of, entries_of, is_entry, words_of, are_entries}
+use Rattle.compiled_states.proofs.Names.{is_pending, is_base, are_at_most, are_versions, is_list, keeps, fits_fram, Entry, parts_in_fram, words_stand, MapValue}
+use Rattle.compiled_states.proofs.Names.{fram_of, World, program_places, PartsInFram, word_place, end_of, CurrentTask, NextTask, Gate, ListLength, EmitCount}
+use Rattle.compiled_states.proofs.Names.{Base, SentBase, Version, RuntimeWord, CopyPair, listed, ProgramPlaces, IsSharedWord, IsCopyWord, IsAmong, IsAtRest}
+use Rattle.compiled_states.proofs.Names.{IsPendingCommit, IsSound, SoundAtRest, SoundPending, VersionsWithin, ap, length, refl, sym, ◌∙◌, subst, arith, All}
+use Rattle.compiled_states.proofs.Names.{◌≡◌, ◌⊎◌, inl, inr, ℕ, zero, suc, ◌+◌, ◌-◌, ◌*◌, ◌%◌, ◌<◌, ◌≤◌, ◌==◌, ◌&&◌, ◌||◌, if◌then◌else◌, Bool, true, false}
+use Rattle.compiled_states.proofs.Names.{not, List, le-leb, lt-ltb, eq-eqb, ne_eqb, and_from, or_left, or_right, leb-true, ltb-true, eqb-true, and_parts}
+use Rattle.compiled_states.proofs.Names.{or_cases, list_all, nat_le, nat_lt}
 use Rattle.fram_state.specs.Sound as state
-use Rattle.fram_state.specs.Sound.{entries_of, is_entry, words_of, are_entries, is_pending, is_base, are_at_most, are_versions, is_list, keeps}
-use Rattle.fram_state.specs.Stretch.{fits_fram}
 use Rattle.fram_state.specs.declared.fault.Rule.TheVariants as rule
-use Rattle.fram_state.specs.declared.entry.Entry.{Entry}
 use Rattle.fram_state.specs.declared.fault.Rule.{Rule}
 use Rattle.fram_state.specs.declared.runtime.Runtime.{Runtime}
-use Rattle.image_reports.proofs.layout_facts.memory_map.Interface.{parts_in_fram, words_stand}
-use Rattle.image_reports.specs.image_laws.image_map.MapValue.{MapValue}
-use Rattle.image_reports.specs.image_laws.machine_effects.Machine.{fram_of}
-use Rattle.image_reports.specs.image_laws.machine_effects.World.{World}
-use Rattle.image_reports.specs.image_laws.source_maps.Maps.{map_of}
-use Rattle.image_reports.specs.image_laws.source_maps.Placing.{ArePlacesOf}
-use Rattle.image_reports.specs.layout_facts.Facts.{HasLayout}
-use Rattle.image_reports.specs.layout_facts.compiled_model.Places.{program_places}
-use Rattle.image_reports.specs.layout_facts.cost_bound.Allowance.{CheckedProgram}
-use Rattle.image_reports.specs.layout_facts.cost_bound.declared.allowance.Allow.{Allow}
-use Rattle.image_reports.specs.layout_facts.memory_map.Laws.{PartsInFram}
-use Rattle.image_reports.specs.layout_facts.memory_map.MemoryMap.{MemoryMap, word_place}
-use Rattle.image_reports.specs.layout_facts.memory_map.Places.{end_of}
-use Rattle.image_reports.specs.layout_facts.memory_map.declared.words.RuntimeWord.TheVariants.{CurrentTask, NextTask, Gate, ListLength}
-use Rattle.image_reports.specs.layout_facts.memory_map.declared.words.RuntimeWord.TheVariants.{EmitCount, Base, SentBase, Version}
-use Rattle.image_reports.specs.layout_facts.memory_map.declared.words.RuntimeWord.{RuntimeWord}
-use Rattle.image_reports.specs.layout_facts.runtime_effects.Places.{CopyPair, listed}
-use Rattle.image_reports.specs.layout_facts.stands_for.Layout.{ProgramPlaces, IsSharedWord, IsCopyWord, IsAmong}
-use Rattle.image_reports.specs.layout_facts.stands_for.StandsFor.{IsAtRest, IsPendingCommit, IsSound, SoundAtRest, SoundPending}
-use Rattle.image_reports.specs.layout_facts.stands_for.StandsFor.{VersionsWithin, IsAtRest, IsPendingCommit, IsSound, SoundAtRest, SoundPending}
-use Rattle.image_reports.specs.layout_facts.war_analysis.PlanValue.{TaskPlanValue}
-use Rattle.std.proofs.Common.{ap}
-use Rattle.std.proofs.Common.{length, refl, sym, ap}
-use Rattle.std.proofs.Common.{◌∙◌, subst, arith, All}
-use Rattle.std.proofs.Common.{◌∙◌, subst, arith}
-use Rattle.std.proofs.Common.{◌≡◌, ◌⊎◌, inl, inr, ℕ, zero, suc, ◌+◌, ◌-◌, ◌*◌, ◌%◌, ◌<◌, ◌≤◌, ◌==◌, ◌&&◌, ◌||◌, if◌then◌else◌, Bool, true, false, not, List}
-use Rattle.std.proofs.Common.{◌≡◌, ◌⊎◌, inl, inr, ℕ, ◌+◌, ◌-◌, ◌*◌, ◌%◌, ◌<◌, ◌≤◌, ◌==◌, ◌&&◌, ◌||◌, if◌then◌else◌, Bool, true, false, not, List, length, sym}
-use Rattle.std.proofs.lemmas.Bool.{le-leb, lt-ltb, eq-eqb, ne_eqb, and_from, or_left, or_right}
-use Rattle.std.proofs.lemmas.Bool.{leb-true, ltb-true, eqb-true, eq-eqb, ne_eqb, and_parts, or_cases}
-use Rattle.std.specs.List.{list_all}
-use Rattle.std.specs.Prelude.{nat_le, nat_lt}
 use Rattle.compiled_states.proofs.Words.{fram_at, fram_small, each_at_most, all_at_most}
 use Rattle.compiled_states.proofs.Named.{Mapped, its_map}
 use Rattle.compiled_states.proofs.Listed.{all_length, good_entries, good_words, good_homes, good_copies, pairs_are, counts_some, all_pairs, entries_at, AreGood}

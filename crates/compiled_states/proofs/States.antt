@@ -1,46 +1,25 @@
 -- States that belong to the image of an accepted source are its worlds, and go on as it says.
-use Rattle.std.proofs.Common.{◌≡◌, ◌⊎◌, inl, inr, ℕ, ◌%◌, ◌<◌, ◌≤◌, false, List, [], ◌++◌, length, Option, Some, refl, sym, ap, ◌∙◌, subst, arith}
-use Rattle.std.proofs.Common.{All}
-use Rattle.std.proofs.Common.{append-nil, replicate}
-use Rattle.std.proofs.lemmas.List.{length-map, length-replicate}
-use Rattle.std.proofs.lemmas.Bool.{cases_lt}
-use Rattle.fram_state.specs.state_text.declared.state.State.{State}
-use Rattle.fram_state.specs.OtherImage.{SameBut}
-use Rattle.fram_state.specs.Named.{is_named}
+use Rattle.compiled_states.proofs.Names.{◌≡◌, ◌⊎◌, inl, inr, ℕ, ◌%◌, ◌<◌, ◌≤◌, false, List, [], ◌++◌, length, Option, Some, refl, sym, ap, ◌∙◌, subst, arith}
+use Rattle.compiled_states.proofs.Names.{All, append-nil, replicate, length-map, length-replicate, cases_lt, State, is_named, MemoryMap, MapValue, ImageValue}
+use Rattle.compiled_states.proofs.Names.{BoardValue, BoardCharge, Moment, RunOutcome, Run, saved, World, IsFram, fram_of, last_board, Counts, moments_count}
+use Rattle.compiled_states.proofs.Names.{front_moments, Allow, CheckedProgram, IsAcceptedText, map_of, IsCompiled, IsImageOf, IsFreshImage, laid_out}
+use Rattle.compiled_states.proofs.Names.{images_are_fresh, BelongsTo, known_from, IsToldOnward, IsResumedRun, made, images_belong, run_of_words, images_resume}
+use Rattle.compiled_states.proofs.Names.{world_of, MayHaveAccepted, HasFramWords, HasCodeWords, board_of, LeavesItsStates, StatesAreWorlds, WorldsAreStates}
+use Rattle.compiled_states.proofs.Names.{FreshStatesBelong, StatesGoOn, StatesAreTold, StatesStay}
 use Rattle.fram_state.specs.Sound as state
+use Rattle.fram_state.specs.OtherImage.{SameBut}
 use Rattle.fram_state.specs.Belongs.{Belongs}
-use Rattle.image_reports.specs.layout_facts.memory_map.MemoryMap.{MemoryMap}
 use Rattle.whole_programs.proofs.Interface.{privates_are_few}
-use Rattle.image_reports.specs.image_laws.image_map.MapValue.{MapValue}
-use Rattle.image_reports.specs.image_laws.image_text.ImageValue.{ImageValue}
-use Rattle.image_reports.specs.image_laws.fram_board.Board.{BoardValue}
-use Rattle.image_reports.specs.image_laws.fram_board.Run.{BoardCharge, Moment, RunOutcome, Run}
-use Rattle.image_reports.specs.image_laws.fram_board.Saved.{saved}
-use Rattle.image_reports.specs.image_laws.board_run.Charges.{charges_of}
-use Rattle.image_reports.specs.image_laws.board_run.History.{start_of}
-use Rattle.image_reports.specs.image_laws.board_run.Report.{report_of}
-use Rattle.image_reports.specs.image_laws.machine_effects.World.{World}
-use Rattle.image_reports.specs.image_laws.machine_effects.Machine.{IsFram, fram_of}
-use Rattle.image_reports.specs.image_laws.machine_effects.Runs.{last_board}
-use Rattle.image_reports.specs.image_laws.crash_rules.History.{first_history}
-use Rattle.image_reports.specs.image_laws.run_charges.Charges.{ArePowerStates}
-use Rattle.image_reports.specs.image_laws.run_charges.Laws.{IsRunOfWords}
-use Rattle.image_reports.proofs.image_laws.run_charges.Interface.{Counts, moments_count, front_moments}
-use Rattle.image_reports.specs.image_laws.cost_bound.declared.allowance.Allow.{Allow}
-use Rattle.image_reports.specs.image_laws.source_values.Runs.{CheckedProgram}
-use Rattle.image_reports.specs.image_laws.source_meaning.Acceptance.{IsAcceptedText}
-use Rattle.image_reports.proofs.image_laws.source_runs.Interface.{traces_are_few}
-use Rattle.image_reports.specs.image_laws.source_maps.Maps.{map_of}
-use Rattle.image_reports.specs.image_laws.source_maps.Laws.{IsSourceMap}
-use Rattle.image_reports.specs.image_laws.Compiled.{IsCompiled, IsImageOf}
-use Rattle.image_reports.specs.image_laws.Laws.{IsFreshImage}
-use Rattle.image_reports.proofs.image_laws.Interface.{laid_out, images_are_fresh}
-use Rattle.image_reports.proofs.image_laws.compiled_runs.Interface.{code_is_placed}
+use Rattle.board_run.specs.Charges.{charges_of}
+use Rattle.board_run.specs.History.{start_of}
+use Rattle.board_run.specs.Report.{report_of}
+use Rattle.crash_rules.specs.History.{first_history}
+use Rattle.run_charges.specs.Charges.{ArePowerStates}
+use Rattle.run_charges.specs.Laws.{IsRunOfWords}
+use Rattle.source_runs.proofs.Interface.{traces_are_few}
+use Rattle.source_maps.specs.Laws.{IsSourceMap}
+use Rattle.compiled_runs.proofs.Interface.{code_is_placed}
 use Rattle.image_reports.specs.ImageLaw.{runtime_marks, KeepsCode}
-use Rattle.image_reports.specs.Resumed.{BelongsTo, known_from, IsToldOnward, IsResumedRun}
-use Rattle.image_reports.proofs.Interface.{made, images_belong, run_of_words, images_resume}
-use Rattle.compiled_states.specs.Worlds.{world_of, MayHaveAccepted, HasFramWords, HasCodeWords, board_of, LeavesItsStates}
-use Rattle.compiled_states.specs.Laws.{StatesAreWorlds, WorldsAreStates, FreshStatesBelong, StatesGoOn, StatesAreTold, StatesStay}
 use Rattle.compiled_states.proofs.Words.{fram_at}
 use Rattle.compiled_states.proofs.Named.{Mapped, its_map, named, unnamed}
 use Rattle.compiled_states.proofs.Sound.{Saved, list_within, emits_within, versions_within, is_sound, keeps_rules}

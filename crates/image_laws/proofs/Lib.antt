@@ -1,3 +1,4 @@
+mod Names
 mod Fram
 mod Initial
 mod Rows

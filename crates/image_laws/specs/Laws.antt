@@ -1,20 +1,20 @@
 -- What holds of the image of an accepted source.
 use Rattle.std.specs.Prelude.{◌≡◌, ℕ, List, []}
-use Rattle.memory_map.specs.address_space.Limits.{reset_vector}
-use Rattle.linked_code.specs.cost_bound.declared.allowance.Allow.{Allow}
-use Rattle.whole_programs.specs.source_values.Runs.{CheckedProgram, State, first_state}
+use Rattle.address_space.specs.Limits.{reset_vector}
+use Rattle.cost_bound.specs.declared.allowance.Allow.{Allow}
+use Rattle.source_values.specs.Runs.{CheckedProgram, State, first_state}
 use Rattle.source_meaning.specs.Acceptance.{IsAcceptedText}
 use Rattle.image_text.specs.ImageValue.{ImageValue}
-use Rattle.linked_code.specs.machine_effects.World.{World}
-use Rattle.linked_code.specs.machine_effects.Machine.{fram_of}
-use Rattle.linked_code.specs.code_forms.Placed.{Holds}
+use Rattle.machine_effects.specs.World.{World}
+use Rattle.machine_effects.specs.Machine.{fram_of}
+use Rattle.code_forms.specs.Placed.{Holds}
 use Rattle.memory_map.specs.MemoryMap.{MemoryMap}
-use Rattle.compiled_runs.specs.stands_for.StandsFor.{HoldsWords, IsAtRest, IsPendingCommit}
-use Rattle.source_maps.specs.source_runs.Transitions.{HasWordsOf}
+use Rattle.stands_for.specs.StandsFor.{HoldsWords, IsAtRest, IsPendingCommit}
+use Rattle.source_runs.specs.Transitions.{HasWordsOf}
 use Rattle.lower.specs.Lowered.{lowered}
 use Rattle.linked_code.specs.Linked.{CodeFits}
-use Rattle.compiled_runs.specs.compiled_model.Places.{program_places}
-use Rattle.compiled_runs.specs.compiled_model.View.{state_in, state_left}
+use Rattle.compiled_model.specs.Places.{program_places}
+use Rattle.compiled_model.specs.View.{state_in, state_left}
 use Rattle.compiled_model.specs.Parts.{compiled_model}
 use Rattle.image_laws.specs.Words.{code_words}
 use Rattle.source_maps.specs.Maps.{map_of}

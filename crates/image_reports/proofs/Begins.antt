@@ -1,31 +1,11 @@
 -- A board of a source's image from which a run begins.
-use Rattle.std.proofs.Common.{◌≡◌, ◌<◌, ◌≤◌, ◌+◌, ◌*◌, ◌%◌, ℕ, refl, sym, ◌∙◌, subst, arith, List, [], ◌∷◌, length, All}
-use Rattle.cost_bound.specs.declared.allowance.Allow.{Allow}
-use Rattle.image_text.specs.ImageValue.{ImageValue}
-use Rattle.fram_board.specs.Board.{BoardValue, fresh, started}
-use Rattle.fram_board.specs.Run.{BoardCharge, RunOutcome, Run}
-use Rattle.machine_effects.specs.World.{World}
-use Rattle.machine_effects.specs.Machine.{fram_of}
-use Rattle.machine_effects.proofs.Interface.{fresh_is_whole}
-use Rattle.code_forms.specs.Placed.{words_of, Holds}
-use Rattle.source_values.specs.Runs.{CheckedProgram, State, first_state}
-use Rattle.crash_rules.specs.History.{first_history}
-use Rattle.crash_rules.specs.Laws.{Origin, Resting, StandsFor, Begins}
-use Rattle.crash_rules.proofs.Interface.{runs_may_begin}
-use Rattle.run_charges.specs.View.{outside_of}
-use Rattle.run_charges.specs.Charges.{ArePowerStates, IsPlacedProgram}
-use Rattle.run_charges.specs.Laws.{IsRunOfWords}
-use Rattle.memory_map.specs.MemoryMap.{MemoryMap}
-use Rattle.compiled_model.specs.Parts.{compiled_model}
-use Rattle.compiled_runs.specs.Program.{source_code, compiled_program}
-use Rattle.compiled_runs.proofs.Interface.{code_keeps_the_laws, code_is_placed, runs_leave_the_code}
-use Rattle.model_runs.specs.Runs.{BearsModel}
+use Rattle.image_reports.proofs.Names.{◌≡◌, ◌<◌, ◌≤◌, ◌+◌, ◌*◌, ◌%◌, ℕ, refl, sym, ◌∙◌, subst, arith, List, [], ◌∷◌, length, All, Allow, ImageValue, BoardValue}
+use Rattle.image_reports.proofs.Names.{fresh, started, BoardCharge, RunOutcome, Run, World, fram_of, fresh_is_whole, words_of, Holds, CheckedProgram, State}
+use Rattle.image_reports.proofs.Names.{first_state, first_history, Origin, Resting, StandsFor, Begins, runs_may_begin, outside_of, ArePowerStates}
+use Rattle.image_reports.proofs.Names.{IsPlacedProgram, IsRunOfWords, MemoryMap, compiled_model, source_code, compiled_program, code_keeps_the_laws}
+use Rattle.image_reports.proofs.Names.{code_is_placed, runs_leave_the_code, BearsModel, map_of, IsCompiled, fresh_world, IsFreshImage, IsReadyToRun}
+use Rattle.image_reports.proofs.Names.{runtime_marks, KeepsCode}
 use Rattle.source_runs.specs.Sources.{BeginsWithSource}
-use Rattle.source_maps.specs.Maps.{map_of}
-use Rattle.image_laws.specs.Compiled.{IsCompiled}
-use Rattle.image_laws.specs.Laws.{fresh_world, IsFreshImage}
-use Rattle.compiled_laws.specs.Ready.{IsReadyToRun}
-use Rattle.image_reports.specs.ImageLaw.{runtime_marks, KeepsCode}
 
 -- words that stand in a FRAM stand in each that has the same there
 holds_as : (f g : ℕ → ℕ) (ws : List ℕ) (a : ℕ) → a % 2 ≡ 0 → ((b : ℕ) → b % 2 ≡ 0 → a ≤ b → b < a + 2 * length ws → f b ≡ g b) → Holds g a ws → Holds f a ws

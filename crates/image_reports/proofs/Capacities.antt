@@ -1,23 +1,12 @@
 -- An image and its attempts keep to the capacities of the runtime's buffers.
-use Rattle.std.proofs.Common.{◌≡◌, ◌≤◌, ℕ, arith, List}
-use Rattle.cost_bound.specs.declared.allowance.Allow.{Allow}
-use Rattle.image_text.specs.ImageValue.{ImageValue}
-use Rattle.machine_effects.specs.Machine.{IsFram, fram_of}
-use Rattle.source_values.specs.Runs.{CheckedProgram}
-use Rattle.source_values.specs.Running.{IsRunnable}
-use Rattle.source_meaning.specs.Acceptance.{IsAcceptedText}
-use Rattle.source_meaning.proofs.Interface.{accepted_texts_run}
-use Rattle.memory_map.specs.declared.words.RuntimeWord.TheVariants.{Gate, ListLength, EmitCount}
-use Rattle.memory_map.specs.MemoryMap.{MemoryMap, word_place}
+use Rattle.image_reports.proofs.Names.{◌≡◌, ◌≤◌, ℕ, arith, List, Allow, ImageValue, IsFram, fram_of, CheckedProgram, IsRunnable, IsAcceptedText}
+use Rattle.image_reports.proofs.Names.{accepted_texts_run, Gate, ListLength, EmitCount, MemoryMap, word_place, each_weaker, KeepsCapacities, CountsFit}
+use Rattle.image_reports.proofs.Names.{AttemptsFit, IsCompiled, laid_out, zero_at, version}
 use Rattle.memory_map.proofs.Interface.{apart_of}
 use Rattle.runtime_code.proofs.Interface.{places_are_in_fram}
-use Rattle.stands_for.proofs.Interface.{each_weaker}
 use Rattle.task_attempts.specs.Laws.{IsBelowCode}
 use Rattle.task_attempts.proofs.Interface.{stores_below_code}
-use Rattle.compiled_bounds.specs.Laws.{KeepsCapacities, CountsFit, AttemptsFit}
 use Rattle.whole_programs.specs.Laws.{IsLaidOutText}
-use Rattle.image_laws.specs.Compiled.{IsCompiled}
-use Rattle.image_laws.proofs.Interface.{laid_out, zero_at, version}
 
 module _ (text : List ℕ) (p : CheckedProgram) (allow : Allow) (image : ImageValue) (ok : IsAcceptedText text p allow)
     (c : IsCompiled text p allow image) where

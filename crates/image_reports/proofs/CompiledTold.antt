@@ -1,9 +1,5 @@
 -- A run of a compiled source is told by the source.
-use Rattle.std.proofs.Common.{◌∙◌, refl, sym, ap}
-use Rattle.crash_rules.specs.Runs.{Program}
-use Rattle.compiled_model.specs.Parts.{compiled_model}
-use Rattle.compiled_bounds.proofs.Interface.{bound_is_the_sources}
-use Rattle.source_runs.proofs.Interface.{runs_are_told}
+use Rattle.image_reports.proofs.Names.{◌∙◌, refl, sym, ap, Program, compiled_model, bound_is_the_sources, runs_are_told}
 use Rattle.image_reports.specs.CompiledLaws.{ModelsAreOfSources, CompiledRunsAreTold}
 use Rattle.image_reports.proofs.Tasks.{transits, is_short}
 

@@ -1,28 +1,9 @@
 -- Each run of an image of an accepted text keeps the laws.
-use Rattle.std.proofs.Common.{ℕ, refl, subst, arith, List}
-use Rattle.image_text.specs.ImageValue.{ImageValue}
-use Rattle.fram_board.specs.Board.{BoardValue, fresh}
-use Rattle.fram_board.specs.Run.{Moment}
+use Rattle.image_reports.proofs.Names.{ℕ, refl, subst, arith, List, ImageValue, BoardValue, fresh, Moment, last_board, CheckedProgram, State, first_state}
+use Rattle.image_reports.proofs.Names.{MemoryMap, Model, History, Resting, traces_are_few, stops_where_short, SoundAtRest, compiled_model, is_redo}
+use Rattle.image_reports.proofs.Names.{KeepsCapacities, compiled_program, sources_are_ready, fresh_world, laid_out, images_are_fresh, known_behind, KeepsCode}
+use Rattle.image_reports.proofs.Names.{HoldsAt, ImagesKeepTheLaws, ImagesAreTold, ImagesKeepCapacities, HoldsFrom, ImagesBelong}
 use Rattle.board_run.specs.Charges.{charges_of}
-use Rattle.machine_effects.specs.Runs.{last_board}
-use Rattle.source_values.specs.Runs.{CheckedProgram, State, first_state}
-use Rattle.memory_map.specs.MemoryMap.{MemoryMap}
-use Rattle.crash_rules.specs.Model.{Model}
-use Rattle.crash_rules.specs.History.{History}
-use Rattle.crash_rules.specs.Laws.{Resting}
-use Rattle.source_runs.proofs.Interface.{traces_are_few}
-use Rattle.model_runs.proofs.Interface.{stops_where_short}
-use Rattle.stands_for.specs.StandsFor.{SoundAtRest}
-use Rattle.compiled_model.specs.Parts.{compiled_model}
-use Rattle.compiled_model.proofs.Interface.{is_redo}
-use Rattle.compiled_bounds.specs.Laws.{KeepsCapacities}
-use Rattle.compiled_runs.specs.Program.{compiled_program}
-use Rattle.compiled_laws.proofs.Interface.{sources_are_ready}
-use Rattle.image_laws.specs.Laws.{fresh_world}
-use Rattle.image_laws.proofs.Interface.{laid_out, images_are_fresh}
-use Rattle.image_reports.specs.ImageLaw.{known_behind, KeepsCode, HoldsAt, ImagesKeepTheLaws}
-use Rattle.image_reports.specs.Laws.{ImagesAreTold, ImagesKeepCapacities}
-use Rattle.image_reports.specs.Resumed.{HoldsFrom, ImagesBelong}
 use Rattle.image_reports.proofs.Begins.{at_first, bears, run_of_words}
 use Rattle.image_reports.proofs.Capacities.{fresh_capacities}
 use Rattle.image_reports.proofs.Told.{runs_are_told}

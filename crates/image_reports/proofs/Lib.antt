@@ -1,3 +1,4 @@
+mod Names
 pub mod Begins
 pub mod Told
 pub mod Capacities

@@ -1,57 +1,28 @@
 -- At each front of a run of an accepted text's image, from any world that belongs to the image.
-use Rattle.std.proofs.Common.{◌≡◌, ◌≢◌, ℕ, zero, ◌+◌, ◌*◌, ◌%◌, ◌<◌, ◌≤◌, refl, sym, ap, ◌∙◌, subst, arith}
-use Rattle.std.proofs.Common.{List, [], ◌∷◌, ◌++◌, length, take, drop, All, append_assoc, length-take-le}
+use Rattle.image_reports.proofs.Names.{◌≡◌, ◌≢◌, ℕ, zero, ◌+◌, ◌%◌, ◌<◌, ◌≤◌, refl, sym, ap, ◌∙◌, subst, arith, List, [], ◌∷◌, ◌++◌, length, take, drop}
+use Rattle.image_reports.proofs.Names.{append_assoc, length-take-le, encoding, BoardValue, PowerState, powered, started, filled, BoardCharge, PowerUp, Moment}
+use Rattle.image_reports.proofs.Names.{RunOutcome, World, fram_after, going, continued, fram_of, last_board, words_of, CheckedProgram, State, IsAcceptedText}
+use Rattle.image_reports.proofs.Names.{map_of, read_off, Gate, Version, MemoryMap, word_place, IsElsewhere, Model, ModelLaws, History, first_history, Program}
+use Rattle.image_reports.proofs.Names.{Origin, Phase, UndecidedPhase, DecidedPhase, CommittingPhase, Begins, power_up_keeps_words, world_fram, never_lost}
+use Rattle.image_reports.proofs.Names.{sent_once, pending_sends, stops_short, stores_only, outside_of, IsMomentFrom, PowersUp, Instructs, AreMoments}
+use Rattle.image_reports.proofs.Names.{AreInstructionMoments, IsRunOfWords, BearsModel, no_delay, Progresses, stood, AtFront, at_front, powers_up, starts_hold}
+use Rattle.image_reports.proofs.Names.{fronts_are_lawful, makes_progress, HoldsWords, IsSound, SoundAtRest, SoundPending, each_weaker, program_places}
+use Rattle.image_reports.proofs.Names.{redo_model, compiled_model, start_under, is_redo, under_map, KeepsCapacities, bound_is_the_sources, KeepsVersions}
+use Rattle.image_reports.proofs.Names.{phase_keeps_versions, capacities_are_kept, source_code, placed_code, compiled_program, code_is_placed}
+use Rattle.image_reports.proofs.Names.{power_ups_raise_version, scripts_store_below, at_first, EachChargePays, runtime_marks, VersionsBelow, KeepsCode}
+use Rattle.image_reports.proofs.Names.{FetchesCode, IsRaisedSoon, RaisesVersion, BelongsTo, known_from, HoldsFrom}
 use Rattle.std.proofs.lemmas.List.{take-append-drop}
-use Rattle.msp_isa.specs.Encoding.{encoding}
 use Rattle.msp_step.specs.Registers.{registers_of}
-use Rattle.image_text.specs.ImageValue.{ImageValue}
-use Rattle.fram_board.specs.Board.{BoardValue, PowerState, powered, started, filled}
 use Rattle.fram_board.specs.Saved.{TakesNextBehind}
 use Rattle.fram_board.specs.Steps.{IsPowerState}
-use Rattle.fram_board.specs.Effects.{Effect}
-use Rattle.fram_board.specs.Run.{BoardCharge, PowerUp, Moment, RunOutcome}
 use Rattle.fram_board.proofs.Interface.{fill_is_a_power_state}
-use Rattle.machine_effects.specs.World.{World, fram_after, EachStore, IsPrefix}
-use Rattle.machine_effects.specs.Going.{going, continued}
-use Rattle.machine_effects.specs.Machine.{fram_of}
-use Rattle.machine_effects.specs.Runs.{last_board}
-use Rattle.code_forms.specs.Placed.{words_of, Holds}
-use Rattle.cost_bound.specs.declared.allowance.Allow.{Allow}
-use Rattle.source_values.specs.Runs.{CheckedProgram, State}
-use Rattle.source_meaning.specs.Acceptance.{IsAcceptedText}
-use Rattle.source_maps.specs.Maps.{map_of}
-use Rattle.source_runs.proofs.Interface.{read_off}
-use Rattle.memory_map.specs.declared.words.RuntimeWord.TheVariants.{Gate, Version}
-use Rattle.memory_map.specs.MemoryMap.{MemoryMap, word_place}
 use Rattle.boot_runtime.specs.Entries.{task_entries}
 use Rattle.boot_runtime.specs.Listing.{privates_in}
-use Rattle.crash_rules.specs.Model.{IsElsewhere, Model, ModelLaws}
-use Rattle.crash_rules.specs.History.{History, first_history}
-use Rattle.crash_rules.specs.Runs.{Program}
-use Rattle.crash_rules.specs.Laws.{Origin, Phase, UndecidedPhase, DecidedPhase, CommittingPhase, Begins}
-use Rattle.machine_effects.proofs.Interface.{power_up_keeps_words}
-use Rattle.crash_rules.proofs.Interface.{world_fram, never_lost, sent_once, pending_sends, stops_short, stores_only}
-use Rattle.run_charges.specs.View.{outside_of, IsMomentFrom, PowersUp, Instructs, AreMoments}
-use Rattle.run_charges.specs.Charges.{AreInstructionMoments, IsPlacedProgram}
-use Rattle.run_charges.specs.Laws.{IsRunOfWords}
-use Rattle.run_charges.proofs.Interface.{follows_keeps, are_behind, front_moments, run_front, instructions_reach, PlacedProgram, is_powered, leads}
-use Rattle.run_charges.proofs.Interface.{reached_on, Counts, moments_count}
-use Rattle.model_runs.specs.Runs.{BearsModel, no_delay, Progresses}
+use Rattle.run_charges.proofs.Interface.{follows_keeps, are_behind, front_moments, run_front, instructions_reach, PlacedProgram, is_powered, leads, reached_on}
+use Rattle.run_charges.proofs.Interface.{Counts, moments_count}
 use Rattle.model_runs.specs.EventLaws.{StartsWith}
-use Rattle.model_runs.proofs.Interface.{stood, AtFront, at_front, powers_up, starts_hold, fronts_are_lawful, makes_progress}
-use Rattle.stands_for.specs.StandsFor.{HoldsWords, IsSound, SoundAtRest, SoundPending}
-use Rattle.stands_for.proofs.Interface.{each_weaker}
 use Rattle.memory_map.specs.declared.runtime.Logging.{Logging}
-use Rattle.compiled_model.specs.Places.{program_places}
-use Rattle.compiled_model.specs.Parts.{redo_model, compiled_model, start_under, start_of}
-use Rattle.compiled_model.proofs.Interface.{is_redo, under_map}
-use Rattle.compiled_bounds.specs.Laws.{KeepsCapacities}
-use Rattle.compiled_bounds.proofs.Interface.{bound_is_the_sources, KeepsVersions, phase_keeps_versions, capacities_are_kept}
-use Rattle.compiled_runs.specs.Program.{source_code, placed_code, compiled_program}
-use Rattle.compiled_runs.proofs.Interface.{code_is_placed, power_ups_raise_version, scripts_store_below}
-use Rattle.source_runs.specs.Tells.{at_first, EachChargePays}
-use Rattle.image_reports.specs.ImageLaw.{runtime_marks, VersionsBelow, KeepsCode, FetchesCode, IsRaisedSoon, RaisesVersion}
-use Rattle.image_reports.specs.Resumed.{BelongsTo, known_from, HoldsFrom}
+use Rattle.compiled_model.specs.Parts.{start_of}
 use Rattle.image_reports.proofs.Begins.{Beginning, first_world, first_board, begins, bears}
 use Rattle.image_reports.proofs.Capacities.{attempts_fit}
 use Rattle.image_reports.proofs.Told.{made}

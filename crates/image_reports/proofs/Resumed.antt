@@ -1,44 +1,16 @@
 -- Each run of a state that belongs to the image of an accepted text keeps the laws.
-use Rattle.std.proofs.Common.{◌≡◌, ◌<◌, ◌≤◌, ◌%◌, ◌^◌, ◌==◌, if◌then◌else◌, ℕ, refl, sym, ap, ◌∙◌, subst, arith, Option, Some, List, ◌++◌, length, drop, All}
+use Rattle.image_reports.proofs.Names.{◌≡◌, ◌<◌, ◌%◌, ◌^◌, ◌==◌, if◌then◌else◌, ℕ, refl, sym, ap, ◌∙◌, subst, arith, Option, Some, List, ◌++◌, length, drop}
+use Rattle.image_reports.proofs.Names.{All, MapValue, ImageValue, BoardValue, started, BoardCharge, RunOutcome, start_with, start_of, report_of, World}
+use Rattle.image_reports.proofs.Names.{world_after, fram_of, Allow, CheckedProgram, State, IsAcceptedText, map_of, resumed_runs_are_told, Gate, MemoryMap}
+use Rattle.image_reports.proofs.Names.{word_place, commit_effects, Model, first_history, Origin, Resting, Pending, StandsFor, runs_may_begin, IsRunOfWords}
+use Rattle.image_reports.proofs.Names.{BearsModel, all_amounts, stops_where_short, IsSound, SoundAtRest, SoundPending, IsAtRest, IsPendingCommit}
+use Rattle.image_reports.proofs.Names.{unsent_are_few, program_places, compiled_model, compiled_program, IsReadyToRun, sources_are_ready, IsCompiled, HasStates}
+use Rattle.image_reports.proofs.Names.{laid_out, images_are_fresh, worlds_stand, runtime_marks, BelongsTo, origin_of, pending_transition, IsToldOnward}
+use Rattle.image_reports.proofs.Names.{ToldAtRest, ToldPending, IsResumedRun, ImagesResume}
 use Rattle.std.proofs.Math.Seq.{drop-append_seam}
-use Rattle.image_map.specs.MapValue.{MapValue}
-use Rattle.image_text.specs.ImageValue.{ImageValue}
-use Rattle.fram_board.specs.Board.{BoardValue, started}
-use Rattle.fram_board.specs.Run.{BoardCharge, RunOutcome}
-use Rattle.board_run.specs.History.{start_with, start_of}
-use Rattle.board_run.specs.Report.{report_of}
-use Rattle.machine_effects.specs.World.{World, world_after}
-use Rattle.machine_effects.specs.Machine.{fram_of}
-use Rattle.cost_bound.specs.declared.allowance.Allow.{Allow}
-use Rattle.source_values.specs.Runs.{CheckedProgram, State}
-use Rattle.source_meaning.specs.Acceptance.{IsAcceptedText}
-use Rattle.source_maps.specs.Maps.{map_of}
 use Rattle.source_runs.specs.Resumed.{HasTransition}
 use Rattle.source_runs.specs.Laws.{ResumedRunIsTold}
-use Rattle.source_runs.proofs.Interface.{resumed_runs_are_told}
-use Rattle.memory_map.specs.declared.words.RuntimeWord.TheVariants.{Gate}
-use Rattle.memory_map.specs.MemoryMap.{MemoryMap, word_place}
-use Rattle.runtime_effects.specs.Stages.{commit_effects}
-use Rattle.crash_rules.specs.Model.{Model}
-use Rattle.crash_rules.specs.History.{first_history}
-use Rattle.crash_rules.specs.Laws.{Origin, Resting, Pending, StandsFor}
-use Rattle.crash_rules.proofs.Interface.{runs_may_begin}
-use Rattle.run_charges.specs.Laws.{IsRunOfWords}
-use Rattle.model_runs.specs.Runs.{BearsModel, all_amounts}
-use Rattle.model_runs.proofs.Interface.{stops_where_short}
-use Rattle.stands_for.specs.StandsFor.{IsSound, SoundAtRest, SoundPending, IsAtRest, IsPendingCommit}
-use Rattle.stands_for.proofs.Interface.{unsent_are_few}
-use Rattle.compiled_model.specs.Places.{program_places}
 use Rattle.compiled_model.specs.View.{state_in, state_left}
-use Rattle.compiled_model.specs.Parts.{compiled_model}
-use Rattle.compiled_runs.specs.Program.{compiled_program}
-use Rattle.compiled_laws.specs.Ready.{IsReadyToRun}
-use Rattle.compiled_laws.proofs.Interface.{sources_are_ready}
-use Rattle.image_laws.specs.Compiled.{IsCompiled}
-use Rattle.image_laws.specs.Laws.{HasStates}
-use Rattle.image_laws.proofs.Interface.{laid_out, images_are_fresh, worlds_stand}
-use Rattle.image_reports.specs.ImageLaw.{runtime_marks}
-use Rattle.image_reports.specs.Resumed.{BelongsTo, origin_of, pending_transition, IsToldOnward, ToldAtRest, ToldPending, IsResumedRun, ImagesResume}
 use Rattle.image_reports.proofs.CompiledTold.{models_are_of_sources}
 use Rattle.image_reports.proofs.Told.{source}
 use Rattle.image_reports.proofs.Begins.{bears, run_of_words}

@@ -1,30 +1,12 @@
 -- The headline.
-use Rattle.std.proofs.Common.{◌<◌, ◌^◌, ℕ, sym, refl, subst, Option, List, All}
-use Rattle.cost_bound.specs.declared.allowance.Allow.{Allow}
-use Rattle.image_map.specs.MapValue.{MapValue}
-use Rattle.image_text.specs.ImageValue.{ImageValue}
-use Rattle.fram_board.specs.Board.{BoardValue, fresh}
-use Rattle.fram_board.specs.Run.{BoardCharge, RunOutcome}
-use Rattle.board_run.specs.History.{start_with, start_of}
-use Rattle.board_run.specs.Report.{report_of}
-use Rattle.source_values.specs.Runs.{CheckedProgram}
-use Rattle.source_values.specs.Running.{IsRunnable}
-use Rattle.source_meaning.specs.Acceptance.{IsAcceptedText}
-use Rattle.source_meaning.proofs.Interface.{accepted_texts_run}
-use Rattle.run_charges.specs.Laws.{IsRunOfWords}
-use Rattle.model_runs.specs.Runs.{all_amounts}
-use Rattle.compiled_runs.specs.Program.{compiled_program}
-use Rattle.source_runs.specs.Tells.{IsToldBySource}
+use Rattle.image_reports.proofs.Names.{◌<◌, ◌^◌, ℕ, sym, refl, subst, Option, List, All, Allow, MapValue, ImageValue, BoardValue, fresh, BoardCharge}
+use Rattle.image_reports.proofs.Names.{RunOutcome, start_with, start_of, report_of, CheckedProgram, IsRunnable, IsAcceptedText, accepted_texts_run}
+use Rattle.image_reports.proofs.Names.{IsRunOfWords, all_amounts, compiled_program, IsToldBySource, map_of, IsCompiled, fresh_world, laid_out, images_are_fresh}
+use Rattle.image_reports.proofs.Names.{maps_find_states, sources_are_ready, ImagesAreMapped}
 use Rattle.image_reports.specs.Sources.{IsSourcesMap}
-use Rattle.image_reports.proofs.CompiledTold.{compiled_runs_are_told}
 use Rattle.source_maps.proofs.Interface.{names_are_names, maps_are_of_sources}
-use Rattle.source_maps.specs.Maps.{map_of}
 use Rattle.source_maps.specs.Laws.{IsSourceMap}
-use Rattle.image_laws.specs.Compiled.{IsCompiled}
-use Rattle.image_laws.specs.Laws.{fresh_world}
-use Rattle.image_laws.proofs.Interface.{laid_out, images_are_fresh, maps_find_states}
-use Rattle.compiled_laws.proofs.Interface.{sources_are_ready}
-use Rattle.image_reports.specs.Laws.{ImagesAreMapped}
+use Rattle.image_reports.proofs.CompiledTold.{compiled_runs_are_told}
 use Rattle.image_reports.proofs.Begins.{begins_with_source}
 
 module _ (text : List ℕ) (p : CheckedProgram) (allow : Allow) (image : ImageValue) (ok : IsAcceptedText text p allow) (c : IsCompiled text p allow image) where

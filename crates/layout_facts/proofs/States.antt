@@ -1,30 +1,14 @@
 -- The state that a world has.
-use Rattle.std.proofs.Common.{◌≡◌, ℕ, zero, suc, ◌+◌, ◌*◌, ◌<◌, ◌&&◌, Bool, true, List, [], ◌∷◌, length, map, refl, sym, ap, ap₂, ◌∙◌, eq-eqb, lt-ltb, arith}
-use Rattle.std.proofs.Common.{Some, subst}
-use Rattle.std.proofs.lemmas.Option.{slice_get-map, get_or_from_slice_get}
-use Rattle.std.specs.Option.{option_map}
-use Rattle.std.specs.Prelude.{slice_get, slice_index, slice_index_or}
-use Rattle.task_ast.specs.declared.SharedDeclaration.{SharedDeclaration}
-use Rattle.cost_bound.specs.Allowance.{CheckedProgram, is_written}
-use Rattle.cost_bound.specs.declared.allowance.Allow.{Allow}
-use Rattle.war_analysis.specs.PlanValue.{TaskPlanValue}
-use Rattle.source_values.specs.Runs.{State, initial_words}
+use Rattle.layout_facts.proofs.Names.{◌≡◌, ℕ, zero, suc, ◌+◌, ◌*◌, ◌<◌, ◌&&◌, Bool, true, List, [], ◌∷◌, length, map, refl, sym, ap, ap₂, ◌∙◌, eq-eqb, lt-ltb}
+use Rattle.layout_facts.proofs.Names.{arith, Some, subst, slice_get-map, get_or_from_slice_get, option_map, slice_get, slice_index, slice_index_or}
+use Rattle.layout_facts.proofs.Names.{SharedDeclaration, CheckedProgram, is_written, Allow, TaskPlanValue, State, initial_words, VariablePlace, Scalar, Array}
+use Rattle.layout_facts.proofs.Names.{MemoryMap, home_region, IsPlaceOf, IsSharedWord, place_length, program_places, are_words, are_rows, shared_word, row_in}
+use Rattle.layout_facts.proofs.Names.{state_view, state_in, state_left, HasLayout, WorldsHaveStates}
 use Rattle.machine_effects.specs.World.{World}
-use Rattle.memory_map.specs.declared.place.VariablePlace.{VariablePlace}
-use Rattle.memory_map.specs.declared.place.VariablePlace.TheVariants.{Scalar, Array}
-use Rattle.memory_map.specs.MemoryMap.{MemoryMap}
-use Rattle.memory_map.specs.Places.{home_region}
-use Rattle.privatise.specs.Layouts.{IsPlaceOf}
-use Rattle.stands_for.specs.Layout.{IsSharedWord}
 use Rattle.stands_for.specs.StandsFor.{HoldsWords, words_at, RestsAt, IsAtRest, IsPendingCommit}
 use Rattle.stands_for.proofs.Interface.{commit_rests, words_length}
-use Rattle.lower.specs.Agreement.{place_length}
-use Rattle.compiled_model.specs.Places.{program_places}
-use Rattle.compiled_model.specs.View.{are_words, are_rows, shared_word, row_in, state_view, state_in, state_left}
 use Rattle.compiled_model.proofs.Interface.{is_redo}
 use Rattle.crash_rules.specs.Model.{Model}
-use Rattle.layout_facts.specs.Facts.{HasLayout}
-use Rattle.layout_facts.specs.Laws.{WorldsHaveStates}
 use Rattle.layout_facts.proofs.Chains.{places_are_apart, tasks_have_room}
 use Rattle.layout_facts.proofs.Homes.{shared_words_are_of_variables}
 use Rattle.layout_facts.proofs.Views.{initial_length, view_has_their_words}

@@ -1,3 +1,4 @@
+mod Names
 mod Sends
 mod Keeps
 mod Walks

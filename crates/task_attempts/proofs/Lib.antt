@@ -1,3 +1,4 @@
+mod Names
 mod Held
 mod Given
 mod Rows

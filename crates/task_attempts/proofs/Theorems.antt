@@ -1,37 +1,16 @@
 -- The laws of compiled tasks.
-use Rattle.std.proofs.Common.{ℕ, List, sym, subst, arith}
-use Rattle.layout_facts.specs.machine_effects.World.{World, world_after, fram_after, EachStore}
-use Rattle.machine_effects.specs.Inputs.{Inputs, InputsAreWords}
-use Rattle.runtime_effects.specs.Places.{CopyPair}
+use Rattle.task_attempts.proofs.Names.{ℕ, List, sym, subst, arith, World, world_after, fram_after, EachStore, Inputs, InputsAreWords, CopyPair, behaviour}
+use Rattle.task_attempts.proofs.Names.{started, MemoryMap, CheckedProgram, AttemptContract, redo_model, model_by, started_under, whole_task, task_program}
+use Rattle.task_attempts.proofs.Names.{effects_of, AttemptsStore, each_store-append, State, task_entries, privates_in, world_fram, each_weaker, keeps_the_laws}
+use Rattle.task_attempts.proofs.Names.{numbered_starts, blocks_agree, program_places, state_view, Model, ModelLaws, program_parts, TasksKeepTheirContract}
+use Rattle.task_attempts.proofs.Names.{CompiledSourcesKeepTheLaws, IsBelowCode, AttemptsStoreBelowCode, TasksLeaveForTheCommit, word_place, CurrentTask}
 use Rattle.runtime_effects.specs.Stages.{start_effects}
-use Rattle.array_versions.specs.Behaviour.{behaviour, started}
 use Rattle.memory_map.specs.declared.runtime.Logging.{Logging}
-use Rattle.memory_map.specs.MemoryMap.{MemoryMap}
-use Rattle.source_values.specs.Runs.{CheckedProgram}
-use Rattle.stands_for.specs.Program.{StartContract, TasksContract}
-use Rattle.crash_rules.specs.Model.{AttemptContract}
-use Rattle.compiled_model.specs.Parts.{redo_model, model_by, started_under, whole_task, task_program, effects_of}
-use Rattle.compiled_model.specs.Needs.{AttemptsStore}
-use Rattle.task_attempts.proofs.Given.{IsGiven}
-use Rattle.layout_facts.proofs.machine_effects.Interface.{each_store-append}
-use Rattle.layout_facts.specs.source_values.Runs.{State}
-use Rattle.layout_facts.specs.boot_runtime.Entries.{task_entries}
-use Rattle.layout_facts.specs.boot_runtime.Listing.{privates_in}
-use Rattle.layout_facts.proofs.crash_rules.Interface.{world_fram}
-use Rattle.layout_facts.proofs.stands_for.Interface.{each_weaker, keeps_the_laws, numbered_starts}
-use Rattle.layout_facts.proofs.lower.Interface.{blocks_agree}
-use Rattle.layout_facts.specs.stands_for.Program.{IsStartStore}
-use Rattle.layout_facts.specs.compiled_model.Places.{program_places}
-use Rattle.layout_facts.specs.compiled_model.View.{state_view}
-use Rattle.layout_facts.specs.crash_rules.Model.{Model, ModelLaws}
-use Rattle.layout_facts.specs.compiled_model.Parts.{program_parts}
+use Rattle.stands_for.specs.Program.{StartContract, TasksContract, IsStartStore}
 use Rattle.compiled_model.proofs.Interface.{is_redo, under_map, under_redo}
-use Rattle.task_attempts.specs.Laws.{TasksKeepTheirContract, CompiledSourcesKeepTheLaws, IsBelowCode, AttemptsStoreBelowCode, TasksLeaveForTheCommit}
-use Rattle.task_attempts.proofs.Given.{given}
+use Rattle.task_attempts.proofs.Given.{IsGiven, given}
 use Rattle.task_attempts.proofs.Started.{attempt_at}
 use Rattle.task_attempts.proofs.Contracts.{program_keeps, program_stores, program_leaves}
-use Rattle.layout_facts.specs.memory_map.MemoryMap.{word_place}
-use Rattle.layout_facts.specs.memory_map.declared.words.RuntimeWord.TheVariants.{CurrentTask}
 
 -- ---- under redo
 

@@ -1,18 +1,18 @@
 -- What the word programs of a source's tasks owe the crash theorem.
 use Rattle.std.specs.Prelude.{◌≡◌, ℕ, ◌<◌, ◌≤◌, List}
-use Rattle.layout_facts.specs.machine_effects.World.{World}
-use Rattle.layout_facts.specs.machine_effects.Inputs.{Inputs, InputsAreWords}
-use Rattle.layout_facts.specs.cost_bound.declared.allowance.Allow.{Allow}
-use Rattle.layout_facts.specs.source_values.Runs.{CheckedProgram, State}
-use Rattle.layout_facts.specs.source_values.Running.{IsRunnable}
-use Rattle.layout_facts.specs.war_analysis.PlanValue.{TaskPlanValue}
-use Rattle.layout_facts.specs.memory_map.address_space.Limits.{fram_first}
-use Rattle.layout_facts.specs.memory_map.declared.words.RuntimeWord.TheVariants.{ListLength, EmitCount}
-use Rattle.layout_facts.specs.memory_map.MemoryMap.{MemoryMap, word_place}
-use Rattle.layout_facts.specs.array_versions.Behaviour.{behaviour, started}
-use Rattle.layout_facts.specs.crash_rules.Model.{ModelLaws, AttemptContract}
-use Rattle.layout_facts.specs.compiled_model.Parts.{compiled_model, IsStarted, task_program, effects_of}
-use Rattle.layout_facts.specs.compiled_model.Needs.{TasksLeave, AttemptsStore}
+use Rattle.machine_effects.specs.World.{World}
+use Rattle.machine_effects.specs.Inputs.{Inputs, InputsAreWords}
+use Rattle.cost_bound.specs.declared.allowance.Allow.{Allow}
+use Rattle.source_values.specs.Runs.{CheckedProgram, State}
+use Rattle.source_values.specs.Running.{IsRunnable}
+use Rattle.war_analysis.specs.PlanValue.{TaskPlanValue}
+use Rattle.address_space.specs.Limits.{fram_first}
+use Rattle.memory_map.specs.declared.words.RuntimeWord.TheVariants.{ListLength, EmitCount}
+use Rattle.memory_map.specs.MemoryMap.{MemoryMap, word_place}
+use Rattle.array_versions.specs.Behaviour.{behaviour, started}
+use Rattle.crash_rules.specs.Model.{ModelLaws, AttemptContract}
+use Rattle.compiled_model.specs.Parts.{compiled_model, IsStarted, task_program, effects_of}
+use Rattle.compiled_model.specs.Needs.{TasksLeave, AttemptsStore}
 use Rattle.whole_programs.specs.Laws.{IsLaidOutText}
 
 -- what holds of each accepted text with a plan and a layout, whose runs go on
