@@ -10,4 +10,3 @@ mod Rows
 mod States
 mod Migrated
 mod Suited
-pub use Rattle.image_reports.proofs.source_runs as source_runs

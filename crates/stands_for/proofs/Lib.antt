@@ -10,4 +10,3 @@ mod Starts
 mod Attempts
 mod Theorems
 pub mod Interface
-pub use Rattle.crash_rules.proofs as crash_rules
