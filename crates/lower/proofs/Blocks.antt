@@ -11,43 +11,41 @@ use Rattle.task_ast.specs.declared.PlacedOperator.{PlacedOperator}
 use Rattle.task_ast.specs.declared.names.Variable.{Variable}
 use Rattle.task_ast.specs.declared.names.Variable.TheVariants.{Shared, Local}
 use Rattle.cost_bound.specs.Allowance.{CheckedTask}
-use Rattle.source_values.specs.Values.{Attempt, Evaluated, evaluated, made_of, truth_word, word_at, with_word, converted, value_of, holds}
+use Rattle.source_values.specs.Values.{Attempt, Evaluated, word_at, with_word, converted, value_of, holds}
 use Rattle.source_values.specs.Statements as source
-use Rattle.source_values.specs.Statements.{Outcome, goes_on, to_task, if_value, with_value, run_statement, run_choice, run_block, statement_emits, choice_emits}
-use Rattle.source_values.specs.Statements.{block_emits}
+use Rattle.source_values.specs.Statements.{Outcome, goes_on, to_task, if_value, with_value, run_statement, run_choice, run_block, statement_emits}
+use Rattle.source_values.specs.Statements.{choice_emits, block_emits}
 use Rattle.cost_bound.specs.Counts.{statement_count, choice_count, block_count, is_shared, is_store_to, stores_of}
-use Rattle.source_values.proofs.Interface.{IsBehind, made_behind, more_turns}
+use Rattle.source_values.proofs.Interface.{more_turns}
 use Rattle.task_ast.specs.Types.{IsOneWord, type_of, joined_type}
 use Rattle.task_ast.specs.declared.WordType.{WordType}
 use Rattle.task_ast.specs.declared.WordType.TheVariants.{Unsigned, Int, Long}
 use Rattle.task_ast.proofs.Interface as one_word
 use Rattle.path_runs.proofs.Interface.{runs_go_on_along_paths}
 use Rattle.array_versions.specs.declared.operations.PlainOperation.{PlainOperation}
-use Rattle.array_versions.specs.Operations.{plain_word}
+use Rattle.array_versions.specs.Operations.{plain_word, stacked}
 use Rattle.array_versions.specs.Program.{Program, keep, emit_word, versioned_write, versioned_update, choose, repeat, nothing, step, joined}
 use Rattle.array_versions.specs.Behaviour as words
 use Rattle.array_versions.specs.Behaviour.{WordState, Behaviour, behind_effects, then_on, local_updated, is_place, at_place, stored, with_local, word_emitted}
-use Rattle.array_versions.specs.Behaviour.{with_readings, pushed, way_by_top, tested, behaviour}
+use Rattle.array_versions.specs.Behaviour.{pushed, way_by_top, tested, behaviour, with_stack}
 use Rattle.array_versions.proofs.Interface.{joined_go_on, joined_assoc, decided_by_truth}
-use Rattle.lower.specs.Lowered.{update_step, write_long, setting, long_setting, updating, of_words, sides_set, scalar_assignment, lowering, lowered_long, one}
+use Rattle.lower.specs.Lowered.{update_step, write_long, setting, long_setting, updating, of_words, sides_set, scalar_assignment, lowered_long, one}
 use Rattle.lower.specs.Lowered.{write_step, written_array, list_place, store_step, update_element_step, loop_local, assignment, index_and_value}
-use Rattle.lower.specs.Lowered.{element_setting, element_updating, element_sides_set, element_assignment, lowered_transition, lowered_expression, lowered_test}
-use Rattle.lower.specs.Lowered.{lowered_statement, lowered_choice, lowered_block, lowered_task, lowered_tasks}
+use Rattle.lower.specs.Lowered.{element_setting, element_updating, element_sides_set, element_assignment, lowered_transition, lowered_expression}
+use Rattle.lower.specs.Lowered.{lowered_test, lowered_statement, lowered_choice, lowered_block, lowered_task, lowered_tasks}
 use Rattle.lower.specs.Spots.{listed_of}
 use Rattle.checked_trees.specs.WellFormed.{IsLocal, WellFormedExpression, WellFormedStatement, WellFormedChoice, WellFormedBlock}
 use Rattle.checked_trees.proofs.Interface.{local_word, assignment_writes, store_writes, loop_writes, taken_writes, passed_writes, first_writes, others_write}
 use Rattle.path_sums.specs.Sums.{statement_sum, choice_sum, block_sum}
 use Rattle.path_sums.specs.Access.{summary}
 use Rattle.lower.proofs.Declared.{IsTarget, IsLongTarget, IsTargetOf, local_target, target_of, array_target}
-use Rattle.lower.specs.Agreement.{HoldVariables, HoldEmits, IsWrittenArray, StandsFor, Scene}
-use Rattle.lower.specs.Agreement.{at_variable, at_emit_count, in_buffer, valued, long_valued, in_state, converted_to, truth_of, AgreesAt}
-use Rattle.lower.specs.Agreement.{AgreesWithValue, AgreesWithLong, BlocksAgree}
+use Rattle.lower.specs.Agreement.{HoldVariables, IsWrittenArray, StandsFor, Scene, at_variable, at_emit_count, in_buffer, converted_to, truth_of, AgreesAt}
+use Rattle.lower.specs.Agreement.{BlocksAgree}
 use Rattle.lower.proofs.Addresses.{fram_place, placed, spot_place, first_address}
 use Rattle.lower.proofs.Updates.{is_update, update_goes_on, is_element_update, element_update_goes_on, is_of_words, joined_words}
-use Rattle.lower.proofs.Assigned.{both_behind, word_value, word_as_value, if_same, if_converted, both_assigned, assigned_as, same_conversion, words_commute}
-use Rattle.lower.proofs.Values.{small_modulo, holds_bit, truth_pushed}
-use Rattle.lower.proofs.Longs.{test_agrees}
-use Rattle.lower.proofs.EachExpression.{high_is, lowering_agrees, expressions_agree, longs_agree}
+use Rattle.lower.proofs.Assigned.{word_value, word_as_value, if_same, if_converted, both_assigned, assigned_as, same_conversion, words_commute}
+use Rattle.lower.proofs.Values.{small_modulo, holds_bit, truth_pushed, Keeping, Keeps, Leaves, single}
+use Rattle.lower.proofs.EachExpression.{high_is, expression_leaves, long_leaves, test_leaves}
 use Rattle.lower.proofs.Emitted.{EmitsAtMost, statement_emitted, block_emitted}
 use Rattle.lower.proofs.Stored.{same_variables, same_list, same_emits, spot_list, spot_emits, scalar_set, local_holds, after_emit, emit_spots, first_held}
 use Rattle.lower.proofs.Stored.{emit_list, emitted_emits, few_entries}
@@ -56,10 +54,11 @@ use Rattle.lower.proofs.Transitions.{transition_behaves}
 use Rattle.lower.proofs.Ends.{Does, does_then, does_alone, does_at}
 use Rattle.lower.proofs.Elements.{Start, DoesFrom, few_listed, list_fits, few_emitted, store_does, element_update_does}
 use Rattle.memory_map.specs.MemoryMap.{MemoryMap, TaskPlace, word_place}
-use Rattle.memory_map.specs.declared.words.RuntimeWord.TheVariants.{ListLength, EmitCount}
+use Rattle.memory_map.specs.declared.words.RuntimeWord.TheVariants.{ListLength, EmitCount, Version}
 use Rattle.memory_map.specs.declared.place.VariablePlace.{VariablePlace}
 use Rattle.memory_map.proofs.Interface.{word_even, first_word, privates_few}
 use Rattle.memory_map.specs.Spots.{address_of, scalar_address, IsScalarWord, scalar}
+use Rattle.machine_effects.specs.Inputs.{Inputs}
 
 module _ (z : Scene) where
   -- ---- steps that take a value, where statements begin
@@ -245,44 +244,72 @@ module _ (z : Scene) where
 
   -- ---- behind a value
 
-  -- the variables and the emitted words are as they were, and the readings left are those of the attempt behind the value
-  abbrev behind_value : {n : ℕ} {count : ℕ → ℕ} (here : Start z n count) (u : Attempt) → IsBehind here.m u → Start z n count
-  behind_value {n} here u is = record {
-    m = u;
-    listed = here.listed;
-    w = with_readings u.left here.w;
-    most = here.most;
-    stands = record {
-      variables = subst (λ v. HoldVariables z.p v here.w.fram here.w.locals) (sym is.variables) here.stands.variables;
-      emitted = subst (λ es. HoldEmits z.p es here.w.fram) (sym is.emitted) here.stands.emitted;
-      list = here.stands.list;
-      readings = refl;
+  -- what stands while an expression is evaluated: the state stands for the attempt behind what is evaluated, FRAM and the emitted words are as
+  -- they were
+  record IsStill {n : ℕ} {count : ℕ → ℕ} (here : Start z n count) (m : Attempt) (w : WordState) : Type 0 where
+    stands : StandsFor z.p m here.listed w
+    fram : w.fram ≡ here.w.fram
+    emitted : m.emitted ≡ here.m.emitted
+
+  -- the state with the stack that there was
+  abbrev beside_stack : {n : ℕ} {count : ℕ → ℕ} → Start z n count → (ℕ → ℕ) → (ℕ → Option ℕ) → Inputs → WordState
+  beside_stack here f l i = record { stack = here.w.stack; locals = l; fram = f; inputs = i }
+
+  abbrev keeping : {n : ℕ} {count : ℕ → ℕ} → Start z n count → Keeping
+  keeping here = record {
+    shared = z.shared;
+    p = z.p;
+    room = z.room;
+    apart = z.apart;
+    even = z.even;
+    declared = z.declared;
+    Holds = λ m f l i. IsStill here m (beside_stack here f l i);
+    variables = λ m f l i h. h.stands.variables;
+    readings = λ m f l i h. h.stands.readings;
+    taken = λ m f l i rs h. record {
+      stands = record { variables = h.stands.variables; emitted = h.stands.emitted; list = h.stands.list; readings = refl };
+      fram = h.fram;
+      emitted = h.emitted;
     };
-    number = here.number;
-    emits = subst (λ es. length {A = ℕ} es + n ≤ z.room.emits) (sym is.emitted) here.emits;
+  }
+
+  at_first : {n : ℕ} {count : ℕ → ℕ} (here : Start z n count) → Keeps (keeping here) here.m here.w
+  at_first here = record { stands = here.stands; fram = refl; emitted = refl }
+
+  -- a state behind a value, the value taken from the stack
+  record Behind {n : ℕ} {count : ℕ → ℕ} (here : Start z n count) : Type 0 where
+    m : Attempt
+    w : WordState
+    still : IsStill here m (with_stack here.w.stack w)
+
+  abbrev behind_value : {n : ℕ} {count : ℕ → ℕ} (here : Start z n count) → Behind here → Start z n count
+  behind_value {n} here there = record {
+    m = there.m;
+    listed = here.listed;
+    w = with_stack here.w.stack there.w;
+    most = here.most;
+    stands = there.still.stands;
+    number = ap (λ f. f (word_place z.p.map Version)) there.still.fram ∙ here.number;
+    emits = subst (λ es. length {A = ℕ} es + n ≤ z.room.emits) (sym there.still.emitted) here.emits;
     lists = here.lists;
     within = here.within;
   }
 
-  -- a program that leaves what is made of the value of an expression, and what goes on from there
-  made_does : (f : ℕ → ℕ) (e : CheckedExpression) {n : ℕ} {count : ℕ → ℕ} (here : Start z n count) (there : Evaluated → WordState) (b : Behaviour)
-      (next : WordState → Behaviour) (more : ℕ → Attempt → Outcome) → AgreesAt there b (made_of f (value_of e here.m))
-      → ((v : ℕ) (u : Attempt) → IsBehind here.m u → DoesFrom here (next (there (evaluated v u))) (more v u))
-      → DoesFrom here (then_on b next) (if_value (made_of f (value_of e here.m)) more)
-  made_does f e here there b next more agrees k =
-      does_at z here.most here.w.stack here.w there b (made_of f (value_of e here.m)) next more agrees
-      (λ x is. k x.value x.behind (made_behind f e here.m x is))
-
-  value_agrees : (e : CheckedExpression) {n : ℕ} {count : ℕ → ℕ} (here : Start z n count) → WellFormedExpression z.shared e
-      → AgreesWithValue here.w (behaviour (lowered_expression z.p e) here.w) (word_value e here.m)
-  value_agrees e here fits =
-      let P : List ℕ → Type 0 = λ l. AgreesWithValue here.w (behaviour (lowered_expression z.p e) here.w) (word_value e (record here.m { left = l })) in
-      subst P here.stands.readings (expressions_agree z.shared z.p z.room e here.m here.w z.apart z.even z.declared fits here.stands.variables)
+  -- a program that leaves words of a value on top of these, and what goes on from there
+  value_does : {n : ℕ} {count : ℕ → ℕ} (here : Start z n count) (words : ℕ → List ℕ) (below : List ℕ) (b : Behaviour) (o : Option Evaluated)
+      (next : WordState → Behaviour) (more : ℕ → Attempt → Outcome) → AgreesAt (Leaves (keeping here) words below) b o
+      → ((v : ℕ) (there : Behind here) → DoesFrom (behind_value here there) (next (with_stack (words v ++ below) there.w)) (more v there.m))
+      → DoesFrom here (then_on b next) (if_value o more)
+  value_does here words below b o next more agrees k =
+      does_at z here.most here.w.stack here.w (Leaves (keeping here) words below) b o next more agrees
+      (λ x s there. (there.kept.fram,
+      subst (λ l. Does z s.fram here.most here.w.stack (next (with_stack l s)) (more x.value x.behind)) (sym there.stack)
+      (k x.value (record { m = x.behind; w = s; still = there.kept }))))
 
   -- what a program does with a word on the stack, behind a value
   abbrev DoesWith : {n : ℕ} {count : ℕ → ℕ} → Start z n count → Program → (ℕ → Attempt → Outcome) → Type 0
   DoesWith here last more =
-      (v : ℕ) (u : Attempt) → IsBehind here.m u → DoesFrom here (behaviour last (pushed v (with_readings u.left here.w))) (more v u)
+      (v : ℕ) (there : Behind here) → DoesFrom (behind_value here there) (behaviour last (with_stack (v ∷ here.w.stack) there.w)) (more v there.m)
 
   -- the value of an expression as one word, and a program that takes it
   value_taken : (e : CheckedExpression) {n : ℕ} {count : ℕ → ℕ} (here : Start z n count) (last : Program) (more : ℕ → Attempt → Outcome)
@@ -291,7 +318,8 @@ module _ (z : Scene) where
   value_taken e here last more fits k =
       let q = lowered_expression z.p e in
       subst (λ b. DoesFrom here b (if_value (word_value e here.m) more)) (sym (joined_go_on q last here.w))
-      (made_does (converted (type_of e) Unsigned) e here (valued here.w) (behaviour q here.w) (behaviour last) more (value_agrees e here fits) k)
+      (value_does here single here.w.stack (behaviour q here.w) (word_value e here.m) (behaviour last) more
+      (expression_leaves (keeping here) e here.m here.w (at_first here) fits) k)
 
   -- ---- assignments
 
@@ -304,7 +332,7 @@ module _ (z : Scene) where
       → Sets x e here (setting z.p x e)
   setting_does x e here fits target =
       value_taken e here (one (write_step z.p x)) (λ v s. goes_on (source.assigned s x 0 v)) fits
-      (λ v u is. write_does x (behind_value here u is) v target)
+      (λ v there. write_does x (behind_value here there) v target)
 
   -- in place, where both sides are of one word
   sides_do : (x : Variable) (op : PlacedOperator) (a b : CheckedExpression) (o : Option PlainOperation) {n : ℕ} {count : ℕ → ℕ} (here : Start z n count)
@@ -322,7 +350,7 @@ module _ (z : Scene) where
       ∙ update_goes_on x op a b o here.m (is_update x op.operator a o word.is) types.0 types.1
       ∙ sym (ap (λ r. if_value r next) (word_as_value b here.m types.1)) in
       subst (DoesFrom here (behaviour (sides_set z.p x op a b (Some o)) here.w)) (sym same)
-      (value_taken b here (one (update_step z.p o x)) next fits.1 (λ v u is. update_does o x (behind_value here u is) v target))
+      (value_taken b here (one (update_step z.p o x)) next fits.1 (λ v there. update_does o x (behind_value here there) v target))
 
   -- by the kind of the expression: the first clause makes it a proof by cases
   assignment_does : (x : Variable) (e : CheckedExpression) {n : ℕ} {count : ℕ → ℕ} (here : Start z n count)
@@ -337,14 +365,13 @@ module _ (z : Scene) where
       → DoesFrom here (behaviour (long_setting z.p x e) here.w)
       (if_value (converted_to (type_of e) Long (value_of e here.m)) (λ v s. goes_on (both_assigned s x v)))
   long_setting_does x e here fits target =
-      let value : List ℕ → Option Evaluated = λ l. converted_to (type_of e) Long (value_of e (record here.m { left = l })) in
+      let o = converted_to (type_of e) Long (value_of e here.m) in
       let given : ℕ → Attempt → Outcome = λ v s. goes_on (both_assigned s x v) in
       let q = lowered_long z.p e in
-      let agrees = subst (λ l. AgreesWithLong here.w (behaviour q here.w) (value l)) here.stands.readings
-      (longs_agree z.shared z.p z.room e here.m here.w z.apart z.even z.declared fits here.stands.variables) in
-      subst (λ b. DoesFrom here b (if_value (value here.m.left) given)) (sym (joined_go_on q (write_long z.p x) here.w))
-      (made_does (converted (type_of e) Long) e here (long_valued here.w) (behaviour q here.w) (behaviour (write_long z.p x)) given agrees
-      (λ v u is. write_long_does x (behind_value here u is) v target))
+      subst (λ b. DoesFrom here b (if_value o given)) (sym (joined_go_on q (write_long z.p x) here.w))
+      (value_does here stacked here.w.stack (behaviour q here.w) o (behaviour (write_long z.p x)) given
+      (long_leaves (keeping here) e here.m here.w (at_first here) fits)
+      (λ v there. write_long_does x (behind_value here there) v target))
 
   -- a variable of one word takes the value as one word
   word_assigned_does : (of : WordType) (x : Variable) (e : CheckedExpression) {n : ℕ} {count : ℕ → ℕ} (here : Start z n count) → IsOneWord of
@@ -376,25 +403,22 @@ module _ (z : Scene) where
   -- an index and a value, and what a program does with both
   index_and_value_do : (index e : CheckedExpression) (last : Program) (given : ℕ → ℕ → Attempt → Outcome) {n : ℕ} {count : ℕ → ℕ} (here : Start z n count)
       → WellFormedExpression z.shared index → WellFormedExpression z.shared e
-      → ((i v : ℕ) (u : Attempt) → IsBehind here.m u
-      → DoesFrom here (behaviour last (pushed v (pushed i (with_readings u.left here.w)))) (given i v u))
+      → ((i v : ℕ) (there : Behind here)
+      → DoesFrom (behind_value here there) (behaviour last (with_stack (v ∷ (i ∷ here.w.stack)) there.w)) (given i v there.m))
       → DoesFrom here (behaviour (joined (index_and_value z.p index e) last) here.w)
       (if_value (word_value index here.m) (λ i s. if_value (word_value e s) (given i)))
   index_and_value_do index e last given here of_index of_e k =
       let first = lowered_expression z.p index in
       let second = lowered_expression z.p e in
       let more : ℕ → Attempt → Outcome = λ i s. if_value (word_value e s) (given i) in
-      let P : Program → Type 0 = λ q. DoesFrom here (behaviour q here.w) (if_value (word_value index here.m) more) in
-      subst P (sym (joined_assoc first second last))
+      subst (λ q. DoesFrom here (behaviour q here.w) (if_value (word_value index here.m) more)) (sym (joined_assoc first second last))
       (value_taken index here (joined second last) more of_index
-      (λ i s is.
-      let behind = behind_value here s is in
-      let u : WordState = pushed i behind.w in
-      let Q : Behaviour → Type 0 = λ b. DoesFrom here b (more i s) in
-      subst Q (sym (joined_go_on second last u))
-      (does_at z here.most here.w.stack u (valued u) (behaviour second u) (word_value e s) (behaviour last) (given i)
-      (expressions_agree z.shared z.p z.room e s u z.apart z.even z.declared of_e behind.stands.variables)
-      (λ x given. k i x.value x.behind (both_behind is (made_behind (converted (type_of e) Unsigned) e s x given))))))
+      (λ i there.
+      let u : WordState = with_stack (i ∷ here.w.stack) there.w in
+      subst (λ b. DoesFrom (behind_value here there) b (more i there.m)) (sym (joined_go_on second last u))
+      (subst (λ f. Does z f here.most here.w.stack (then_on (behaviour second u) (behaviour last)) (more i there.m)) (sym there.still.fram)
+      (value_does here single u.stack (behaviour second u) (word_value e there.m) (behaviour last) (given i)
+      (expression_leaves (keeping here) e there.m u there.still of_e) (k i)))))
 
   -- an assignment to an element does what the source's does: the index and the value are taken as one word
   abbrev stored_word : Variable → CheckedExpression → ℕ → Attempt → Outcome
@@ -407,7 +431,7 @@ module _ (z : Scene) where
       → WellFormedExpression z.shared index → WellFormedExpression z.shared e → AssignsElement x index e here (element_setting z.p x index e)
   element_setting_does x index e here array of_index of_e =
       index_and_value_do index e (one (store_step z.p x)) (λ i v s. goes_on (source.assigned s x i v)) here of_index of_e
-      (λ i v u is. store_step_does x i v (behind_value here u is) array)
+      (λ i v there. store_step_does x i v (behind_value here there) array)
 
   -- what is given of an index and of a value, as of expressions of one word
   as_values : (index e : CheckedExpression) (m : Attempt) (given : ℕ → ℕ → Attempt → Outcome) → IsOneWord (type_of index) → IsOneWord (type_of e)
@@ -439,7 +463,7 @@ module _ (z : Scene) where
       ∙ sym (as_values index b m next index_word types.1) in
       subst (DoesFrom here (behaviour (element_sides_set z.p x index op a b (Some o)) here.w)) (sym same)
       (index_and_value_do index b (one (update_element_step z.p o x)) next here of_index of_e.1
-      (λ i v u is. update_step_does o x i v (behind_value here u is) array))
+      (λ i v there. update_step_does o x i v (behind_value here there) array))
 
   -- by the kind of the expression: the first clause makes it a proof by cases
   element_does : (x : Variable) (index e : CheckedExpression) (here : Start z 0 (one_store x)) → IsWrittenArray z.p x
@@ -586,7 +610,7 @@ module _ (z : Scene) where
 
   -- one way of a choice does what the source runs, from any attempt behind the condition on
   abbrev WayDoes : {n : ℕ} {count : ℕ → ℕ} → Start z n count → Program → (Attempt → Outcome) → Type 0
-  WayDoes here q run = (u : Attempt) → IsBehind here.m u → DoesFrom here (behaviour q (with_readings u.left here.w)) (run u)
+  WayDoes here q run = (there : Behind here) → DoesFrom (behind_value here there) (behaviour q (with_stack here.w.stack there.w)) (run there.m)
 
   -- a choice, where both ways do
   choice_of_ways : (e : CheckedExpression) {n : ℕ} {count : ℕ → ℕ} (here : Start z n count) (taken otherwise : Program) (f g : Attempt → Outcome)
@@ -595,21 +619,16 @@ module _ (z : Scene) where
       (with_value e here.m (λ v s. if holds v then f s else g s))
   choice_of_ways e here taken otherwise f g fits a b =
       let w = here.w in
-      let m = here.m in
       let c = lowered_test z.p e in
-      let o = value_of e m in
+      let o = value_of e here.m in
       let run : ℕ → Attempt → Outcome = λ v s. if holds v then f s else g s in
       let ways = way_by_top (behaviour taken) (behaviour otherwise) in
-      let decided = decided_by_truth c (behaviour taken) (behaviour otherwise) w in
-      let agrees = subst (λ l. AgreesWithValue w (truth_pushed c w) (truth_of (value_of e (record m { left = l })))) here.stands.readings
-      (test_agrees (type_of e) w (lowering z.p e) (value_of e (in_state w m))
-      (lowering_agrees z.shared z.p z.room e m w z.apart z.even z.declared fits here.stands.variables)) in
       does_alone z w.fram here.most w.stack (tested c (behaviour taken) (behaviour otherwise) w) (if_value o run)
-      (subst (λ r. DoesFrom here r (if_value o run)) (sym decided)
+      (subst (λ r. DoesFrom here r (if_value o run)) (sym (decided_by_truth c (behaviour taken) (behaviour otherwise) w))
       (subst (DoesFrom here (then_on (truth_pushed c w) ways)) (by_truth o f g)
-      (made_does truth_word e here (valued w) (truth_pushed c w) ways run agrees (λ v u is.
-      let s : WordState = with_readings u.left w in
-      either_does (holds v) here (behaviour taken s) (behaviour otherwise s) (f u) (g u) (a u is) (b u is)))))
+      (value_does here single w.stack (truth_pushed c w) (truth_of o) ways run (test_leaves (keeping here) e here.m w (at_first here) fits)
+      (λ v there. let s = with_stack w.stack there.w in
+      either_does (holds v) (behind_value here there) (behaviour taken s) (behaviour otherwise s) (f there.m) (g there.m) (a there) (b there)))))
 
   -- for statements that emit and list no more
   abbrev with_fewer : {n : ℕ} {count : ℕ → ℕ} (here : Start z n count) (k : ℕ) (fewer : ℕ → ℕ) → k ≤ n → ((v : ℕ) → fewer v ≤ count v)
@@ -663,7 +682,7 @@ module _ (z : Scene) where
         let last = one (emit_word (word_place z.p.map EmitCount) z.p.map.emits.address) in
         let given : ℕ → Attempt → Outcome = λ v s. goes_on (record s { emitted = s.emitted ++ v ∷ [] }) in
         subst (DoesFrom here (behaviour (joined (lowered_expression z.p e) last) here.w)) (if_converted (type_of e) Unsigned (value_of e here.m) given)
-        (value_taken e here last given fits.0 (λ v u is. emit_does (behind_value here u is) v))
+        (value_taken e here last given fits.0 (λ v there. emit_does (behind_value here there) v))
     statement_does (t.transition task) here fits writes = transition_does task.task here
 
     choice_does : (c : CheckedChoice) (here : Start z (choice_emits c) (λ v. choice_count (is_store_to v) c)) → WellFormedChoice z.shared c
@@ -673,11 +692,11 @@ module _ (z : Scene) where
     choice_does (t.otherwise block) here fits writes = block_does block here fits writes
     choice_does (t.test e block more) here fits writes =
         choice_of_ways e here (lowered_block z.p block) (lowered_choice z.p more) (run_block block) (run_choice more) fits.0
-        (λ u is. block_does block
-        (with_fewer (behind_value here u is) (block_emits block) (λ v. block_count (is_store_to v) block) (omega arith) (λ v. omega arith)) fits.1
+        (λ there. block_does block
+        (with_fewer (behind_value here there) (block_emits block) (λ v. block_count (is_store_to v) block) (omega arith) (λ v. omega arith)) fits.1
         (λ v k. writes v (taken_writes v e block more k)))
-        (λ u is. choice_does more
-        (with_fewer (behind_value here u is) (choice_emits more) (λ v. choice_count (is_store_to v) more) (omega arith) (λ v. omega arith)) fits.2
+        (λ there. choice_does more
+        (with_fewer (behind_value here there) (choice_emits more) (λ v. choice_count (is_store_to v) more) (omega arith) (λ v. omega arith)) fits.2
         (λ v k. writes v (passed_writes v e block more k)))
 
     block_does : (b : CheckedBlock) (here : Start z (block_emits b) (λ v. block_count (is_store_to v) b)) → WellFormedBlock z.shared b
