@@ -24,35 +24,34 @@ use Rattle.task_ast.proofs.Interface as one_word
 use Rattle.path_runs.proofs.Interface.{runs_go_on_along_paths}
 use Rattle.array_versions.specs.declared.operations.PlainOperation.{PlainOperation}
 use Rattle.array_versions.specs.Operations.{plain_word, stacked}
-use Rattle.array_versions.specs.Program.{Program, keep, emit_word, versioned_write, versioned_update, choose, repeat, nothing, step, joined}
+use Rattle.array_versions.specs.Program.{Program, keep, emit_word, versioned_write, versioned_update, choose, repeat, nothing, joined}
 use Rattle.array_versions.specs.Behaviour as words
-use Rattle.array_versions.specs.Behaviour.{WordState, Behaviour, behind_effects, then_on, local_updated, is_place, at_place, stored, with_local, word_emitted}
-use Rattle.array_versions.specs.Behaviour.{pushed, way_by_top, tested, behaviour, with_stack}
+use Rattle.array_versions.specs.Behaviour.{WordState, Behaviour, then_on, local_updated, is_place, at_place, stored, with_local, word_emitted, pushed}
+use Rattle.array_versions.specs.Behaviour.{way_by_top, tested, behaviour, with_stack, step_behaviour}
 use Rattle.array_versions.proofs.Interface.{joined_go_on, joined_assoc, decided_by_truth}
 use Rattle.lower.specs.Lowered.{update_step, write_long, setting, long_setting, updating, of_words, sides_set, scalar_assignment, lowered_long, one}
 use Rattle.lower.specs.Lowered.{write_step, written_array, list_place, store_step, update_element_step, loop_local, assignment, index_and_value}
 use Rattle.lower.specs.Lowered.{element_setting, element_updating, element_sides_set, element_assignment, lowered_transition, lowered_expression}
-use Rattle.lower.specs.Lowered.{lowered_test, lowered_statement, lowered_choice, lowered_block, lowered_task, lowered_tasks}
+use Rattle.lower.specs.Lowered.{lowered_test, lowered_statement, lowered_choice, lowered_block, lowered_task, lowered_tasks, high_address}
 use Rattle.lower.specs.Spots.{listed_of}
 use Rattle.checked_trees.specs.WellFormed.{IsLocal, WellFormedExpression, WellFormedStatement, WellFormedChoice, WellFormedBlock}
 use Rattle.checked_trees.proofs.Interface.{local_word, assignment_writes, store_writes, loop_writes, taken_writes, passed_writes, first_writes, others_write}
 use Rattle.path_sums.specs.Sums.{statement_sum, choice_sum, block_sum}
 use Rattle.path_sums.specs.Access.{summary}
 use Rattle.lower.proofs.Declared.{IsTarget, IsLongTarget, IsTargetOf, local_target, target_of, array_target}
-use Rattle.lower.specs.Agreement.{HoldVariables, IsWrittenArray, StandsFor, Scene, at_variable, at_emit_count, in_buffer, converted_to, truth_of, AgreesAt}
-use Rattle.lower.specs.Agreement.{BlocksAgree}
+use Rattle.lower.specs.Agreement.{IsWrittenArray, StandsFor, Scene, at_variable, at_emit_count, in_buffer, converted_to, truth_of, AgreesAt, BlocksAgree}
 use Rattle.lower.proofs.Addresses.{fram_place, placed, spot_place, first_address}
 use Rattle.lower.proofs.Updates.{is_update, update_goes_on, is_element_update, element_update_goes_on, is_of_words, joined_words}
 use Rattle.lower.proofs.Assigned.{word_value, word_as_value, if_same, if_converted, both_assigned, assigned_as, same_conversion, words_commute}
 use Rattle.lower.proofs.Values.{small_modulo, holds_bit, truth_pushed, Keeping, Keeps, Leaves, single}
 use Rattle.lower.proofs.EachExpression.{high_is, expression_leaves, long_leaves, test_leaves}
 use Rattle.lower.proofs.Emitted.{EmitsAtMost, statement_emitted, block_emitted}
-use Rattle.lower.proofs.Stored.{same_variables, same_list, same_emits, spot_list, spot_emits, scalar_set, local_holds, after_emit, emit_spots, first_held}
-use Rattle.lower.proofs.Stored.{emit_list, emitted_emits, few_entries}
+use Rattle.lower.proofs.Stored.{same_variables, same_list, spot_list, scalar_set, local_holds, after_emit, emit_spots, first_held, emit_list, emitted_emits}
+use Rattle.lower.proofs.Stored.{few_entries}
 use Rattle.lower.proofs.Neighbours.{runs_are_few}
 use Rattle.lower.proofs.Transitions.{transition_behaves}
-use Rattle.lower.proofs.Ends.{Does, does_then, does_alone, does_at}
-use Rattle.lower.proofs.Elements.{Start, DoesFrom, few_listed, list_fits, few_emitted, store_does, element_update_does}
+use Rattle.lower.proofs.Ends.{Does, does_then, does_alone, does_at, ends_behind}
+use Rattle.lower.proofs.Elements.{Start, DoesFrom, few_listed, list_fits, store_does, element_update_does, spot_stands}
 use Rattle.memory_map.specs.MemoryMap.{MemoryMap, TaskPlace, word_place}
 use Rattle.memory_map.specs.declared.words.RuntimeWord.TheVariants.{ListLength, EmitCount, Version}
 use Rattle.memory_map.specs.declared.place.VariablePlace.{VariablePlace}
@@ -63,32 +62,53 @@ use Rattle.machine_effects.specs.Inputs.{Inputs}
 module _ (z : Scene) where
   -- ---- steps that take a value, where statements begin
 
-  -- a word of a shared scalar is set
+  -- nothing is done
+  nothing_does : {n : ℕ} {count : ℕ → ℕ} (here : Start z n count) → DoesFrom here (words.goes_on [] here.w) (goes_on here.m)
+  nothing_does here = record { stores = tt; stack_kept = refl; listed = here.listed; stands = here.stands; few = few_listed here }
+
+  -- where a word of a shared scalar is set
+  word_stands : (i j : ℕ) {n : ℕ} {count : ℕ → ℕ} (here : Start z n count) (v : ℕ) → IsScalarWord z.p i j
+      → StandsFor z.p (source.assigned here.m (Shared i) j v) here.listed (stored (scalar_address z.p i j) v here.w)
+  word_stands i j here v is = spot_stands here (scalar i j) v (with_word here.m.variables (Shared i) j v) is (λ x e. cc)
+      (scalar_set z.p z.room i j v here.m.variables here.w.fram here.w.locals z.apart is here.stands.variables)
+
+  word_number : (i j : ℕ) {n : ℕ} {count : ℕ → ℕ} (here : Start z n count) (v : ℕ) → IsScalarWord z.p i j
+      → put here.w.fram (scalar_address z.p i j) v (word_place z.p.map Version) ≡ z.ver
+  word_number i j here v is = (spot_list z.p z.room (scalar i j) v here.w.fram z.apart is (λ x e. cc)).version ∙ here.number
+
+  abbrev word_set : (i j : ℕ) {n : ℕ} {count : ℕ → ℕ} (here : Start z n count) (v : ℕ) → IsScalarWord z.p i j → Start z n count
+  word_set i j here v is = record {
+    m = source.assigned here.m (Shared i) j v;
+    listed = here.listed;
+    w = stored (scalar_address z.p i j) v here.w;
+    most = here.most;
+    stands = word_stands i j here v is;
+    number = word_number i j here v is;
+    emits = here.emits;
+    lists = here.lists;
+    within = here.within;
+  }
+
+  -- a word of a shared scalar is set, and what is done behind that with the stack below
+  word_kept_then : (i j a : ℕ) {n : ℕ} {count : ℕ → ℕ} (here : Start z n count) (v : ℕ) (below : List ℕ) (next : WordState → Behaviour) (o : Outcome)
+      → a ≡ scalar_address z.p i j → (is : IsScalarWord z.p i j) → z.written i ≡ true
+      → DoesFrom (word_set i j here v is) (next (with_stack below (stored (scalar_address z.p i j) v here.w))) o
+      → DoesFrom here (then_on (step_behaviour (keep a) (with_stack (v ∷ below) here.w)) next) o
+  word_kept_then i j a here v below next o e is ok h =
+      let at = scalar_address z.p i j in
+      let u : WordState = with_stack below (stored at v here.w) in
+      let b = next u in
+      subst (λ c. DoesFrom here (then_on (step_behaviour (keep c) (with_stack (v ∷ below) here.w)) next) o) (sym e)
+      (subst (λ r. DoesFrom here (then_on r next) o)
+      (sym (placed at (words.goes_on (Store at v ∷ []) u) (spot_place z.p z.room (scalar i j) z.apart z.even is)))
+      (ends_behind z here.w.fram u.fram here.most here.w.stack (Store at v ∷ []) b.effects b.end o refl (at_variable i j is ok refl, tt) h))
+
   word_kept_does : (i j a : ℕ) {n : ℕ} {count : ℕ → ℕ} (here : Start z n count) (v : ℕ)
       → a ≡ scalar_address z.p i j → IsScalarWord z.p i j → z.written i ≡ true
       → DoesFrom here (behaviour (one (keep a)) (pushed v here.w)) (goes_on (source.assigned here.m (Shared i) j v))
   word_kept_does i j a here v e is ok =
-      let p = z.p in
-      let f = here.w.fram in
-      let at = scalar_address p i j in
-      let o : Outcome = goes_on (source.assigned here.m (Shared i) j v) in
-      let Kept : ℕ → Type 0 = λ b. Does z f here.most here.w.stack (behaviour (one (keep b)) (pushed v here.w)) o in
-      let P : Behaviour → Type 0 = λ b. Does z f here.most here.w.stack (then_on b (behaviour nothing)) o in
-      let fits = list_fits here in
-      subst Kept (sym e)
-      (subst P (sym (placed at (words.goes_on (Store at v ∷ []) (stored at v here.w)) (spot_place p z.room (scalar i j) z.apart z.even is))) (record {
-        stores = (at_variable i j is ok refl, tt);
-        stack_kept = refl;
-        listed = here.listed;
-        stands = record {
-          variables = scalar_set p z.room i j v here.m.variables f here.w.locals z.apart is here.stands.variables;
-          emitted = same_emits p z.room here.m.emitted f _ (few_emitted here)
-              (spot_emits p z.room (scalar i j) v f z.apart is) here.stands.emitted;
-          list = same_list p z.room here.listed f _ (omega (arith, fits)) (spot_list p z.room (scalar i j) v f z.apart is (λ x e. cc)) here.stands.list;
-          readings = here.stands.readings;
-        };
-        few = few_listed here;
-      }))
+      let after = word_set i j here v is in
+      word_kept_then i j a here v here.w.stack (behaviour nothing) (goes_on after.m) e is ok (nothing_does after)
 
   write_does : (x : Variable) {n : ℕ} {count : ℕ → ℕ} (here : Start z n count) (v : ℕ) → IsTarget z.p z.written x
       → DoesFrom here (behaviour (one (write_step z.p x)) (pushed v here.w)) (goes_on (source.assigned here.m x 0 v))
@@ -136,42 +156,16 @@ module _ (z : Scene) where
       → DoesFrom here (behaviour (write_long z.p x) (pushed (v / 65536) (pushed (v % 65536) here.w))) (goes_on (both_assigned here.m x v))
   write_long_does (Local i) here v k = absurd k
   write_long_does (Shared i) here v k =
-      let p = z.p in
-      let f = here.w.fram in
-      let first : IsScalarWord p i 0 = let is = k.0 in omega (arith, is) in
-      let a = scalar_address p i 0 in
-      let b = scalar_address p i 1 in
+      let first : IsScalarWord z.p i 0 = let is = k.0 in omega (arith, is) in
+      let a = address_of z.p i in
       let low = v % 65536 in
       let high = v / 65536 in
-      let once = put f b high in
-      let u : WordState = pushed low here.w in
-      let t : WordState = record here.w { fram = once } in
-      let o : Outcome = goes_on (both_assigned here.m (Shared i) v) in
-      let Kept : ℕ → ℕ → Type 0 = λ c d. Does z f here.most here.w.stack (behaviour (step (keep c) (one (keep d))) (pushed high u)) o in
-      let P : Behaviour → Type 0 = λ c. Does z f here.most here.w.stack (then_on c (behaviour (one (keep a)))) o in
-      let Q : Behaviour → Type 0 = λ c. Does z f here.most here.w.stack (behind_effects (Store b high ∷ []) (then_on c (behaviour nothing))) o in
-      let kept_high = placed b (words.goes_on (Store b high ∷ []) (stored b high u)) (spot_place p z.room (scalar i 1) z.apart z.even k.0) in
-      let kept_low = placed a (words.goes_on (Store a low ∷ []) (stored a low t)) (spot_place p z.room (scalar i 0) z.apart z.even first) in
-      let fits = list_fits here in
-      let few = few_emitted here in
-      let room : length here.listed ≤ z.room.list = omega (arith, fits) in
-      let variables = scalar_set p z.room i 1 high here.m.variables f here.w.locals z.apart k.0 here.stands.variables in
-      let emitted = same_emits p z.room here.m.emitted f once few (spot_emits p z.room (scalar i 1) high f z.apart k.0) here.stands.emitted in
-      let list = same_list p z.room here.listed f once room (spot_list p z.room (scalar i 1) high f z.apart k.0 (λ x e. cc)) here.stands.list in
-      subst (λ c. Kept c (address_of p i)) (sym (high_is p z.room i z.apart k.0)) (subst (Kept b) (first_address p i)
-      (subst P (sym kept_high) (subst Q (sym kept_low) (record {
-        stores = (at_variable i 1 k.0 k.1 refl, (at_variable i 0 first k.1 refl, tt));
-        stack_kept = refl;
-        listed = here.listed;
-        stands = record {
-          variables = subst (λ x. HoldVariables p x (put once a low) here.w.locals) (words_commute here.m.variables i high low)
-              (scalar_set p z.room i 0 low (with_word here.m.variables (Shared i) 1 high) once here.w.locals z.apart first variables);
-          emitted = same_emits p z.room here.m.emitted once _ few (spot_emits p z.room (scalar i 0) low once z.apart first) emitted;
-          list = same_list p z.room here.listed once _ room (spot_list p z.room (scalar i 0) low once z.apart first (λ x e. cc)) list;
-          readings = here.stands.readings;
-        };
-        few = few_listed here;
-      }))))
+      let behind = word_set i 1 here high k.0 in
+      let last = goes_on (source.assigned behind.m (Shared i) 0 low) in
+      subst (λ x. DoesFrom here (behaviour (write_long z.p (Shared i)) (pushed high (pushed low here.w))) (goes_on (record here.m { variables = x })))
+      (words_commute here.m.variables i high low)
+      (word_kept_then i 1 (high_address a) here high (low ∷ here.w.stack) (behaviour (one (keep a))) last (high_is z.p z.room i z.apart k.0) k.0 k.1
+      (word_kept_does i 0 a behind low (sym (first_address z.p i)) first k.1))
 
   -- so many stores to the elements of one variable
   abbrev one_store : Variable → ℕ → ℕ
@@ -652,10 +646,6 @@ module _ (z : Scene) where
   -- what some path writes, the task writes
   abbrev Writes : (ℕ → Bool) → Type 0
   Writes writes = (v : ℕ) → writes v ≡ true → z.written v ≡ true
-
-  -- nothing is done
-  nothing_does : {n : ℕ} {count : ℕ → ℕ} (here : Start z n count) → DoesFrom here (words.goes_on [] here.w) (goes_on here.m)
-  nothing_does here = record { stores = tt; stack_kept = refl; listed = here.listed; stands = here.stands; few = few_listed here }
 
   mutual
     statement_does : (s : CheckedStatement) (here : Start z (statement_emits s) (λ v. statement_count (is_store_to v) s)) → WellFormedStatement z.shared s
