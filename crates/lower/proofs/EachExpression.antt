@@ -1,5 +1,6 @@
 -- The programs of expressions leave their values.
-use Rattle.std.proofs.Common.{◌≡◌, ℕ, List, Option, Some, None, Bool, true, false, nat_le, nat_lt, if◌then◌else◌, refl, sym, ap, ◌∙◌, subst, arith}
+use Rattle.std.proofs.Common.{◌≡◌, ℕ, List, Option, Some, None, Bool, true, false, nat_le, nat_lt, if◌then◌else◌, refl, sym, ap, ◌∙◌, subst, arith, [], ◌∷◌}
+use Rattle.std.proofs.Common.{◌++◌}
 use Rattle.task_ast.specs.Tree as t
 use Rattle.task_ast.specs.Paths.{CheckedExpression}
 use Rattle.task_ast.specs.declared.SharedDeclaration.{SharedDeclaration}
@@ -18,9 +19,9 @@ use Rattle.task_ast.proofs.Interface as one_word
 use Rattle.task_check.specs.Occurrences.{is_refused}
 use Rattle.source_values.specs.Values.{Attempt, Evaluated, gives, made_of, word_at, by_width, two_words, converted, type_of, joined_type, value_of}
 use Rattle.source_values.specs.Values.{unary_result, binary_value, binary_result, long_binary_value, shift_value, shift_result}
-use Rattle.array_versions.specs.Program.{number, shift, sense, load, long, step, joined}
+use Rattle.array_versions.specs.Program.{number, shift, sense, load, long, step, joined, truth}
 use Rattle.array_versions.specs.declared.operations.LongOperation.TheVariants as with_longs
-use Rattle.array_versions.specs.Behaviour.{WordState, with_readings, pushed, behaviour, Behaviour, with_stack}
+use Rattle.array_versions.specs.Behaviour.{WordState, with_readings, pushed, behaviour, Behaviour, with_stack, goes_on}
 use Rattle.memory_map.specs.Spots.{Places, address_of, scalar_address, IsScalarWord, scalar}
 use Rattle.lower.specs.Operations.{binary_meaning, shift_operation, operand_type, long_meaning}
 use Rattle.lower.specs.Lowered.{one, high_address, read_step, read_long, element_step, Lowering, word_program, value_test, long_words, long_program}
@@ -39,7 +40,6 @@ use Rattle.lower.proofs.Updates.{joined_words}
 use Rattle.lower.proofs.Longs.{AgreesAs, LongAgrees, as_one_word, of_one_word, by_long, pair_same, words_agree, word_agrees, long_agrees, test_agrees}
 use Rattle.lower.proofs.Longs.{negated, complemented, long_shifted, long_meaning_type, long_meaning_value, long_same, long_binary_agrees, LeavesLong}
 use Rattle.machine_effects.specs.Inputs.{Inputs}
-use Rattle.array_versions.specs.Behaviour.{goes_on}
 use Rattle.array_versions.specs.Operations.{stacked}
 
 -- ---- names
@@ -337,15 +337,20 @@ module _ (shared : List SharedDeclaration) (p : Places) (room : Room) (m : Attem
 
 pub expressions_agree : ExpressionsAgree
 expressions_agree shared p room e m w apart even declared fits h =
-    one_state shared p room m w apart even declared h single _ _
-    (expression_leaves (all_kept shared p room m w apart even declared h) e (in_state w m) w (at_first shared p room m w apart even declared h) fits)
+    let s = in_state w m in
+    one_state shared p room m w apart even declared h single (behaviour (lowered_expression p e) w) (converted_to (type_of e) Unsigned (value_of e s))
+    (expression_leaves (all_kept shared p room m w apart even declared h) e s w (at_first shared p room m w apart even declared h) fits)
 
 pub longs_agree : LongsAgree
 longs_agree shared p room e m w apart even declared fits h =
-    one_state shared p room m w apart even declared h stacked _ _
-    (long_leaves (all_kept shared p room m w apart even declared h) e (in_state w m) w (at_first shared p room m w apart even declared h) fits)
+    let s = in_state w m in
+    one_state shared p room m w apart even declared h stacked (behaviour (lowered_long p e) w) (converted_to (type_of e) Long (value_of e s))
+    (long_leaves (all_kept shared p room m w apart even declared h) e s w (at_first shared p room m w apart even declared h) fits)
 
 pub tests_agree : TestsAgree
 tests_agree shared p room e m w apart even declared fits h =
-    one_state shared p room m w apart even declared h single _ _ (agrees_alone _ _ _
-    (test_leaves (all_kept shared p room m w apart even declared h) e (in_state w m) w (at_first shared p room m w apart even declared h) fits))
+    let s = in_state w m in
+    let k = all_kept shared p room m w apart even declared h in
+    one_state shared p room m w apart even declared h single (behaviour (one (truth (lowered_test p e))) w) (truth_of (value_of e s))
+    (agrees_alone (Leaves k single w.stack) (truth_pushed (lowered_test p e) w) (truth_of (value_of e s))
+    (test_leaves k e s w (at_first shared p room m w apart even declared h) fits))

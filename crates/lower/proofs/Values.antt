@@ -18,14 +18,14 @@ use Rattle.task_ast.specs.declared.ShortCircuitOperator.TheVariants.{And as Both
 use Rattle.task_ast.specs.declared.names.Variable.{Variable}
 use Rattle.task_ast.specs.declared.names.Variable.TheVariants.{Shared, Local}
 use Rattle.source_values.specs.Values.{◌>>?◌, Variables, Attempt, Evaluated, word_at, holds, unary_value, binary_value, shift_value, shifted_value}
-use Rattle.source_values.specs.Values.{is_settled, evaluated, gives, made_of, reading_of, truth_word}
+use Rattle.source_values.specs.Values.{is_settled, evaluated, gives, made_of, reading_of, truth_word, next_reading}
 use Rattle.array_versions.specs.declared.operations.UnaryOperation.TheVariants.{Negate, Complement}
 use Rattle.array_versions.specs.declared.operations.BinaryOperation.{BinaryOperation}
 use Rattle.array_versions.specs.declared.operations.BinaryOperation.TheVariants.{Plain}
 use Rattle.array_versions.specs.declared.operations.PlainOperation.TheVariants.{And}
 use Rattle.array_versions.specs.declared.operations.Comparison.TheVariants.{CommonBit}
 use Rattle.array_versions.specs.Operations.{unary_word, binary_word, shift_word, shifted_word, compare_words}
-use Rattle.array_versions.specs.Program.{Test, Program, load, local, unary, binary, compares, fails, nothing, joined, Step, sense}
+use Rattle.array_versions.specs.Program.{Test, Program, load, local, unary, binary, compares, fails, nothing, joined, Step, sense, behind}
 use Rattle.array_versions.specs.Behaviour.{WordState, End, GoesOn, Jumps, Short, Strays, Broken, Behaviour, goes_on, behind_effects, on_end, then_on}
 use Rattle.array_versions.specs.Behaviour.{is_place, at_place, pushed, number_pushed, local_pushed, reading_pushed, way_by_top, way_by_two, tested, behaviour}
 use Rattle.array_versions.specs.Behaviour.{step_behaviour, with_stack}
