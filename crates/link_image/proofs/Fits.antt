@@ -1,19 +1,10 @@
 -- The code has its room.
-use Rattle.std.proofs.Common.{◌≡◌, ◌≤◌, ℕ, suc, List, [], ◌∷◌, length, refl, arith, Some}
-use Rattle.std.specs.Prelude.{slice_get}
-use Rattle.task_ast.specs.declared.SharedDeclaration.{SharedDeclaration}
-use Rattle.linked_code.specs.cost_bound.declared.allowance.Allow.{Allow}
-use Rattle.linked_code.specs.cost_bound.Allowance.{CheckedTask, CheckedProgram, IsAllowed, scalars_of}
-use Rattle.war_analysis.specs.PlanValue.{TaskPlanValue}
-use Rattle.war_analysis.specs.Plans.{IsPlan}
-use Rattle.memory_map.specs.MemoryMap.{MemoryMap, TaskPlace}
-use Rattle.privatise.specs.Layouts.{IsLayout}
+use Rattle.link_image.proofs.Names.{◌≡◌, ◌≤◌, ℕ, suc, List, [], ◌∷◌, length, refl, arith, Some, slice_get, SharedDeclaration, Allow, CheckedProgram}
+use Rattle.link_image.proofs.Names.{TaskPlanValue, IsPlan, MemoryMap, TaskPlace, IsLayout, lowered_tasks, lowered, BlocksKeepToWords, CodeFits, ProgramsKeep}
+use Rattle.link_image.proofs.Names.{PrivatesAreCounted, LayoutsHaveRoom}
+use Rattle.cost_bound.specs.Allowance.{CheckedTask, IsAllowed, scalars_of}
 use Rattle.memory_map.specs.Spots.{places_of, private_words}
 use Rattle.lower.specs.Seen.{map_seen}
-use Rattle.lower.specs.Lowered.{lowered_tasks, lowered}
-use Rattle.lower.specs.Sizes.{BlocksKeepToWords}
-use Rattle.linked_code.specs.Linked.{CodeFits}
-use Rattle.linked_code.specs.Rooms.{ProgramsKeep, PrivatesAreCounted, LayoutsHaveRoom}
 
 keep_all : BlocksKeepToWords → (l : MemoryMap) (shared : List SharedDeclaration) (tasks : List CheckedTask) (ts : List TaskPlace) → length ts ≡ length tasks
     → ((k : ℕ) (task : CheckedTask) (t : TaskPlace) → slice_get tasks k ≡ Some task → slice_get ts k ≡ Some t

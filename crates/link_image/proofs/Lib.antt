@@ -1,3 +1,4 @@
+mod Names
 mod Fits
 mod Written
 mod Placing

@@ -1,30 +1,18 @@
 -- Words that are put into an image.
-use Rattle.std.proofs.Common.{◌≡◌, ◌≢◌, ◌∙◌, ◌+◌, ◌-◌, ◌*◌, ◌/◌, ◌%◌, ◌<◌, ◌≤◌, ◌==◌, ◌&&◌, ℕ, zero, suc, Bool, true, false, cond, if◌then◌else◌, List, [], ◌∷◌}
-use Rattle.std.proofs.Common.{map, drop, length, replicate, refl, sym, ap, subst, arith, eqb-true, slice_index, slice_set, get_or}
-use Rattle.std.proofs.Common.{get_or-set_same, get_or-set_other}
-use Rattle.std.proofs.lemmas.Bool.Decides.{nat_tests}
-use Rattle.std.proofs.lemmas.List.{at_drop_more}
-use Rattle.linked_code.proofs.machine_effects.Interface.{zeros_at}
-use Rattle.task_ast.specs.declared.Extent.{Extent}
-use Rattle.task_ast.specs.declared.SharedDeclaration.{SharedDeclaration}
-use Rattle.image_text.specs.ImageValue.{place_of, zeros}
-use Rattle.linked_code.specs.fram_board.Bus.{is_fram}
-use Rattle.linked_code.specs.machine_effects.Machine.{IsFram, fram_of}
+use Rattle.link_image.proofs.Names.{◌≡◌, ◌≢◌, ◌∙◌, ◌+◌, ◌-◌, ◌*◌, ◌/◌, ◌%◌, ◌<◌, ◌≤◌, ◌==◌, ◌&&◌, ℕ, zero, suc, Bool, true, false, cond, if◌then◌else◌, List}
+use Rattle.link_image.proofs.Names.{[], ◌∷◌, map, drop, length, replicate, refl, sym, ap, subst, arith, eqb-true, slice_index, slice_set, get_or}
+use Rattle.link_image.proofs.Names.{get_or-set_same, get_or-set_other, at_drop_more, SharedDeclaration, place_of, zeros, IsFram, fram_of, initial_words}
+use Rattle.link_image.proofs.Names.{fram_first, reset_vector, OneWord, TwoWords, Scalar, Array, MemoryMap, end_of, home_region, AreInOrder, IsLaidOut}
+use Rattle.link_image.proofs.Names.{in_order_end, parts_in_fram, is_within, word_of_row, shared_word, AreWords, All-nil, All-cons}
 use Rattle.task_ast.specs.declared.Extent.TheVariants as extent
-use Rattle.whole_programs.specs.source_values.Runs.{initial_words}
-use Rattle.memory_map.specs.address_space.Limits.{fram_first, reset_vector}
+use Rattle.std.proofs.lemmas.Bool.Decides.{nat_tests}
+use Rattle.machine_effects.proofs.Interface.{zeros_at}
+use Rattle.task_ast.specs.declared.Extent.{Extent}
+use Rattle.fram_board.specs.Bus.{is_fram}
 use Rattle.memory_map.specs.declared.place.Region.{Region}
-use Rattle.memory_map.specs.declared.place.ScalarWidth.TheVariants.{OneWord, TwoWords}
 use Rattle.memory_map.specs.declared.place.VariablePlace.{VariablePlace}
-use Rattle.memory_map.specs.declared.place.VariablePlace.TheVariants.{Scalar, Array}
-use Rattle.memory_map.specs.MemoryMap.{MemoryMap}
-use Rattle.memory_map.specs.Places.{end_of, home_region, AreInOrder, IsLaidOut}
-use Rattle.memory_map.proofs.Interface.{in_order_end, parts_in_fram}
-use Rattle.image_laws.specs.compiled_model.View.{is_within, word_of_row, shared_word}
 use Rattle.source_maps.specs.Placing.{IsOfKind, ArePlacesOf}
 use Rattle.link_image.specs.Initial.{initial_put}
-use Rattle.image_laws.specs.Words.{AreWords}
-use Rattle.std.proofs.lemmas.List.Elements.{All-nil, All-cons}
 use Rattle.image_laws.proofs.Interface.{fram_at, within, none_before}
 
 -- a word that is set
@@ -219,7 +207,8 @@ wider from low end high (v ∷ vs) l h o =
 pub wider_order : (l : MemoryMap) → IsLaidOut l → AreInOrder fram_first (map home_region l.variables) reset_vector
 wider_order l h =
     let homes = (parts_in_fram l h).homes in
-    wider l.homes.address fram_first (end_of l.homes) reset_vector l.variables homes.from homes.end h.homes
+    let end = homes.end in
+    wider l.homes.address fram_first (end_of l.homes) reset_vector l.variables homes.from (omega (arith, end)) h.homes
 
 -- ---- words
 

@@ -1,19 +1,11 @@
 -- A source with its plan and its layout is ready to be linked.
-use Rattle.std.proofs.Common.{ℕ, List, arith}
-use Rattle.linked_code.specs.cost_bound.declared.allowance.Allow.{Allow}
-use Rattle.whole_programs.specs.source_values.Runs.{CheckedProgram}
-use Rattle.whole_programs.specs.source_values.Running.{IsRunnable}
+use Rattle.link_image.proofs.Names.{ℕ, List, arith, Allow, CheckedProgram, TaskPlanValue, IsPlan, MemoryMap, IsLayout, BlocksKeepToWords, LayoutsHaveRoom}
+use Rattle.link_image.proofs.Names.{IsReadyToLink}
+use Rattle.source_values.specs.Running.{IsRunnable}
 use Rattle.source_meaning.specs.Acceptance.{IsAcceptedText}
-use Rattle.war_analysis.specs.PlanValue.{TaskPlanValue}
-use Rattle.war_analysis.specs.Plans.{IsPlan}
-use Rattle.memory_map.specs.MemoryMap.{MemoryMap}
-use Rattle.privatise.specs.Layouts.{IsLayout}
-use Rattle.lower.specs.Sizes.{BlocksKeepToWords}
-use Rattle.linked_code.specs.Rooms.{LayoutsHaveRoom}
 use Rattle.whole_programs.specs.Laws.{IsLaidOutText, PrivatesAreFew, ProgramsAreWhole}
 use Rattle.source_maps.specs.Names.{NamesAreNames}
 use Rattle.source_maps.specs.Laws.{MapsAreOfSources}
-use Rattle.link_image.specs.Needs.{IsReadyToLink}
 use Rattle.link_image.proofs.Fits.{code_fits}
 
 pub ready : LayoutsHaveRoom → BlocksKeepToWords → PrivatesAreFew → ProgramsAreWhole → NamesAreNames → MapsAreOfSources

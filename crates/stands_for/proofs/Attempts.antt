@@ -1,14 +1,8 @@
 -- A start in front of a task that keeps its contract is an attempt that keeps its own.
-use Rattle.std.proofs.Common.{ℕ, List, sym, subst}
-use Rattle.runtime_effects.specs.machine_effects.World.{World, world_after, fram_after}
-use Rattle.runtime_effects.specs.Places.{CopyPair}
-use Rattle.crash_rules.specs.Model.{behind_effects, Inputs, InputsAreWords, AttemptContract}
-use Rattle.crash_rules.proofs.Interface.{world_fram, in_front}
-use Rattle.stands_for.specs.Layout.{ProgramPlaces, StateView}
-use Rattle.stands_for.specs.StandsFor.{UndecidedAt}
-use Rattle.stands_for.specs.Program.{ProgramParts, attempt_effects, program_model, StartContract, TasksContract}
+use Rattle.stands_for.proofs.Names.{ℕ, List, sym, subst, World, world_after, fram_after, CopyPair, behind_effects, Inputs, InputsAreWords, AttemptContract}
+use Rattle.stands_for.proofs.Names.{world_fram, in_front, ProgramPlaces, StateView, UndecidedAt, ProgramParts, attempt_effects, program_model, StartContract}
+use Rattle.stands_for.proofs.Names.{TasksContract, AreApart}
 use Rattle.stands_for.proofs.Starts.{start_off_gate}
-use Rattle.runtime_effects.specs.memory_map.Laws.{AreApart}
 
 -- an attempt keeps its contract
 pub attempts : {St : Type 0} (l : ProgramPlaces) (v : StateView St) (privates : ℕ → List CopyPair) (p : ProgramParts St) → AreApart l.map

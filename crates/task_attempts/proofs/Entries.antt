@@ -1,21 +1,10 @@
 -- What FRAM holds behind a transition's stores.
-use Rattle.std.proofs.Common.{◌≡◌, ℕ, suc, ◌+◌, ◌*◌, ◌%◌, ◌<◌, ◌≤◌, List, [], ◌∷◌, ◌++◌, length, refl, sym, ap, ◌∙◌, subst, ⊎_elim, arith}
-use Rattle.std.proofs.Common.{append_assoc, append-nil}
-use Rattle.std.proofs.lemmas.Bool.{cases_lt}
-use Rattle.std.specs.List.{AllByRecursion, flat_map}
-use Rattle.layout_facts.specs.fram_board.Effects.{Effect, Store}
-use Rattle.layout_facts.specs.machine_effects.World.{put, fram_after}
-use Rattle.layout_facts.proofs.machine_effects.Interface.{fram_after-append, put_same, put_other, put_at}
-use Rattle.layout_facts.specs.lower.Spots.{Room, AreApart}
-use Rattle.layout_facts.specs.lower.Agreement.{TakesAndStores, entry_effects, transition_effects}
-use Rattle.layout_facts.proofs.lower.Interface.{takes_append, after_entry, entered_pairs, pairs_of_runs, runs_pairs, runs_have_words}
-use Rattle.layout_facts.specs.memory_map.MemoryMap.{word_place}
-use Rattle.layout_facts.specs.memory_map.declared.words.RuntimeWord.TheVariants.{NextTask, Gate, ListLength, SentBase}
-use Rattle.layout_facts.specs.runtime_effects.Places.{run_pairs, scalar_pairs, entries_from}
-use Rattle.layout_facts.proofs.runtime_effects.Interface.{entries_alike}
-use Rattle.layout_facts.specs.lower.declared.runs.Run.{Run}
-use Rattle.layout_facts.specs.lower.Runs.{runs_of}
-use Rattle.layout_facts.specs.memory_map.Spots.{Places}
+use Rattle.task_attempts.proofs.Names.{◌≡◌, ℕ, suc, ◌+◌, ◌*◌, ◌%◌, ◌<◌, ◌≤◌, List, [], ◌∷◌, ◌++◌, length, refl, sym, ap, ◌∙◌, subst, ⊎_elim, arith}
+use Rattle.task_attempts.proofs.Names.{append_assoc, append-nil, cases_lt, AllByRecursion, flat_map, Effect, Store, put, fram_after, fram_after-append}
+use Rattle.task_attempts.proofs.Names.{put_same, put_other, put_at, Room, AreApart, TakesAndStores, entry_effects, transition_effects, takes_append}
+use Rattle.task_attempts.proofs.Names.{after_entry, entered_pairs, pairs_of_runs, runs_pairs, runs_have_words, word_place, NextTask, Gate, ListLength, SentBase}
+use Rattle.task_attempts.proofs.Names.{run_pairs, scalar_pairs, entries_from, entries_alike, runs_of, Places}
+use Rattle.lower.specs.declared.runs.Run.{Run}
 
 module _ (count list : ℕ) where
   -- words before the entries and behind them stay

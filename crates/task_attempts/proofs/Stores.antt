@@ -1,25 +1,12 @@
 -- Where a task's program stores: at words that an undecided world doesn't speak of, before the code.
-use Rattle.std.proofs.Common.{◌≡◌, ℕ, ◌+◌, ◌*◌, ◌<◌, ◌≤◌, ◌∙◌, Some, false, not, sym, ap, subst, ⊎_elim, arith}
-use Rattle.std.proofs.lemmas.Bool.{cases_Bool, and_from}
-use Rattle.std.specs.Prelude.{true, slice_get}
-use Rattle.layout_facts.specs.cost_bound.Counts.{emits_of}
-use Rattle.layout_facts.specs.cost_bound.Allowance.{list_of}
-use Rattle.layout_facts.specs.source_values.Runs.{task_body}
-use Rattle.layout_facts.specs.memory_map.declared.words.RuntimeWord.TheVariants.{CurrentTask, Gate, ListLength, EmitCount, Base, Version}
-use Rattle.layout_facts.specs.memory_map.declared.place.VariablePlace.TheVariants.{Scalar}
-use Rattle.layout_facts.specs.memory_map.MemoryMap.{word_place}
-use Rattle.layout_facts.specs.stands_for.Layout.{IsSharedWord, IsCopyWord}
-use Rattle.layout_facts.proofs.memory_map.Interface.{scalar_home, IsPlaceOfScalar, scalar_place, words_scalar}
-use Rattle.layout_facts.specs.lower.Seen.{some_path_writes, map_seen}
-use Rattle.layout_facts.proofs.Interface.{scalar_of_seen, scalar_is}
-use Rattle.layout_facts.specs.memory_map.Spots.{scalar_address, words_at, IsScalarWord}
-use Rattle.layout_facts.specs.memory_map.declared.place.PrivateScalar.{PrivateScalar}
-use Rattle.layout_facts.specs.memory_map.Places.{end_of, scalar_words}
-use Rattle.layout_facts.specs.lower.Agreement.{IsTaskStore, at_variable, at_copy, at_version, in_list, at_list_length, at_emit_count, in_buffer}
-use Rattle.layout_facts.specs.compiled_model.Places.{is_private_in, stays_in_place}
+use Rattle.task_attempts.proofs.Names.{◌≡◌, ℕ, ◌+◌, ◌*◌, ◌<◌, ◌≤◌, ◌∙◌, Some, false, not, sym, ap, subst, ⊎_elim, arith, cases_Bool, and_from, true, slice_get}
+use Rattle.task_attempts.proofs.Names.{emits_of, list_of, task_body, CurrentTask, Gate, ListLength, EmitCount, Base, Version, Scalar, word_place, IsSharedWord}
+use Rattle.task_attempts.proofs.Names.{IsCopyWord, scalar_home, IsPlaceOfScalar, scalar_place, words_scalar, some_path_writes, map_seen, scalar_of_seen}
+use Rattle.task_attempts.proofs.Names.{scalar_is, scalar_address, words_at, IsScalarWord, PrivateScalar, end_of, scalar_words, IsTaskStore, at_variable}
+use Rattle.task_attempts.proofs.Names.{at_copy, at_version, in_list, at_list_length, at_emit_count, in_buffer, is_private_in, stays_in_place}
+use Rattle.task_attempts.proofs.Entries as transition
 use Rattle.task_attempts.proofs.Given.{IsVersionWord}
 use Rattle.task_attempts.proofs.Quiet.{IsQuiet}
-use Rattle.task_attempts.proofs.Entries as transition
 use Rattle.task_attempts.proofs.Entries.{IsTransitionStore, at_next_task, at_sent_base, in_entries}
 use Rattle.task_attempts.proofs.Tasks.{body_is, private_copy}
 use Rattle.task_attempts.proofs.Started.{Started, scene}

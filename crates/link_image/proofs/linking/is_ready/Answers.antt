@@ -1,6 +1,6 @@
+use Rattle.link_image.proofs.linking.is_ready.Goals as goal
 use Rattle.task_ast.specs.View.{program_of}
 use Rattle.link_image.proofs.Ready.{ready}
-use Rattle.link_image.proofs.linking.is_ready.Goals as goal
 
 pub returns : goal.returns
 returns c =
