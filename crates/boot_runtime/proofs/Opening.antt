@@ -10,7 +10,7 @@ use Rattle.runtime_code.specs.msp_step.Effect.{word_sum, distance}
 use Rattle.runtime_code.specs.fram_board.Effects.{Effect, Store}
 use Rattle.runtime_code.specs.machine_effects.World.{put, fram_after}
 use Rattle.runtime_code.specs.machine_effects.Going.{Goes}
-use Rattle.runtime_code.specs.machine_effects.Machine.{Code, IsFram}
+use Rattle.runtime_code.specs.machine_effects.Machine.{Code, IsPlace}
 use Rattle.runtime_code.proofs.machine_effects.Interface.{fram_after-append, put_other}
 use Rattle.runtime_code.specs.code_forms.Forms.{Core, Form, Compare, Update, Jump, Constant}
 use Rattle.runtime_code.specs.code_forms.Code.{Stands, IsTidy, forms_run}
@@ -84,7 +84,7 @@ module _ (code : Code) (tidy : IsTidy code) (m : MemoryMap) (places : AreInFram 
     pub low : m.versions.address ≤ p
     pub high : p + 2 * n ≤ m.versions.address + 2 * m.versions.words
 
-  in_fram : (p n : ℕ) → InVersions p (suc n) → IsFram p
+  in_fram : (p n : ℕ) → InVersions p (suc n) → IsPlace p
   in_fram p n i =
       let even = i.even in let low = i.low in let high = i.high in let from = places.versions.low in let end = places.versions.high in
       record { even = even; low = omega (arith, from, low); high = omega (arith, high, end) }
@@ -110,7 +110,7 @@ module _ (code : Code) (tidy : IsTidy code) (m : MemoryMap) (places : AreInFram 
     }
 
     -- a version word becomes 0
-    one_cleared : (u : Core) → u.pc ≡ p + 2 + 2 + 4 → IsFram (u.work 5)
+    one_cleared : (u : Core) → u.pc ≡ p + 2 + 2 + 4 → IsPlace (u.work 5)
         → Comes code (Store (u.work 5) 0 ∷ []) 2 5 u (λ v. v ≡ end_of u (forms_run clear_turn u).status)
     one_cleared u e word =
         let t = end_of u (forms_run clear_turn u).status in

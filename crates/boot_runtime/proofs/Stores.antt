@@ -4,7 +4,7 @@ use Rattle.std.specs.List.{All}
 use Rattle.std.proofs.lemmas.List.Elements.{All-head, All-tail, All-weaker}
 use Rattle.runtime_code.specs.fram_board.Effects.{Store}
 use Rattle.runtime_code.specs.machine_effects.World.{put, fram_after, EachStore}
-use Rattle.runtime_code.specs.machine_effects.Machine.{IsFram}
+use Rattle.runtime_code.specs.machine_effects.Machine.{IsPlace}
 use Rattle.runtime_code.proofs.machine_effects.Interface.{each_store-append}
 use Rattle.memory_map.specs.declared.words.RuntimeWord.TheVariants.{CurrentTask, ListLength, EmitCount, Version}
 use Rattle.memory_map.specs.MemoryMap.{MemoryMap, word_place}
@@ -52,12 +52,12 @@ start_stores P m privates f versions version length count copies =
     (opening_stores P m f versions version length count)
     (copies_stored P (privates (f (word_place m CurrentTask))) g copies)
 
-in_fram : (p n i : ℕ) → IsRegion p (2 * n) → i < n → IsFram (p + 2 * i)
+in_fram : (p n i : ℕ) → IsRegion p (2 * n) → i < n → IsPlace (p + 2 * i)
 in_fram p n i r l = let even = r.even in let low = r.low in let high = r.high in
     record { even = omega (arith, even); low = omega (arith, low); high = omega (arith, high, l) }
 
 pub start_stores_in_fram : StartStoresInFram
 start_stores_in_fram m privates f places words =
-    start_stores (λ a w. IsFram a) m privates f (λ i l. in_fram m.versions.address m.versions.words i places.versions l) (λ w. places.words Version)
+    start_stores (λ a w. IsPlace a) m privates f (λ i l. in_fram m.versions.address m.versions.words i places.versions l) (λ w. places.words Version)
     (places.words ListLength) (places.words EmitCount)
-    (All-weaker ArePairWords (λ x. (w : ℕ) → IsFram x.copy) (λ x h w. h.copy) (privates (f (word_place m CurrentTask))) words)
+    (All-weaker ArePairWords (λ x. (w : ℕ) → IsPlace x.copy) (λ x h w. h.copy) (privates (f (word_place m CurrentTask))) words)

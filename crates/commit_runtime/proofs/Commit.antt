@@ -7,7 +7,7 @@ use Rattle.runtime_code.specs.msp_step.Effect.{word_sum, distance}
 use Rattle.runtime_code.specs.fram_board.Effects.{Effect, Store, Outside, Offered}
 use Rattle.runtime_code.specs.machine_effects.World.{fram_after}
 use Rattle.runtime_code.specs.machine_effects.Inputs.{Inputs}
-use Rattle.runtime_code.specs.machine_effects.Machine.{Code, IsFram}
+use Rattle.runtime_code.specs.machine_effects.Machine.{Code, IsPlace}
 use Rattle.runtime_code.proofs.machine_effects.Interface.{fram_after-append}
 use Rattle.runtime_code.specs.code_forms.Forms.{Core, Form, Branch, instruction_of}
 use Rattle.runtime_code.specs.code_forms.Code.{Stands, IsTidy, forms_run}
@@ -30,7 +30,7 @@ use Rattle.memory_map.specs.declared.words.RuntimeWord.TheVariants.{CurrentTask,
 use Rattle.memory_map.specs.MemoryMap.{MemoryMap, word_place}
 
 -- a word of a region
-in_region : (p bytes a : ℕ) → IsRegion p bytes → p ≤ a → a + 2 ≤ p + bytes → a % 2 ≡ 0 → IsFram a
+in_region : (p bytes a : ℕ) → IsRegion p bytes → p ≤ a → a + 2 ≤ p + bytes → a % 2 ≡ 0 → IsPlace a
 in_region p bytes a r l u e = let low = r.low in let high = r.high in record { even = e; low = omega (arith, low, l); high = omega (arith, high, u) }
 
 module _ (code : Code) (tidy : IsTidy code) (m : MemoryMap) (places : AreInFram m) where
@@ -103,21 +103,21 @@ module _ (code : Code) (tidy : IsTidy code) (m : MemoryMap) (places : AreInFram 
         (nothing code t _ (record { pc = refl; fram = h.at.fram; inputs = h.at.inputs }))
 
     -- an entry is read, and its words go home
-    turn : (q : ℕ) (f : ℕ → ℕ) (u : Core) → u.pc ≡ p + 2 + 2 + 4 → u.work 5 ≡ q → u.fram ≡ f → IsFram q → IsFram (q + 2) → IsFram (q + 4)
-        → q + 6 < 0x10000 → f (q + 4) < 0x10000 → All (IsCopied m) (run_pairs (f (q + 4)) (f q) (f (q + 2)))
+    turn : (q : ℕ) (f : ℕ → ℕ) (u : Core) → u.pc ≡ p + 2 + 2 + 4 → u.work 5 ≡ q → u.fram ≡ f → IsPlace q → IsPlace (q + 2) → IsPlace (q + 4)
+        → f (q + 4) < 0x10000 → All (IsCopied m) (run_pairs (f (q + 4)) (f q) (f (q + 2)))
         → let es = copied_home (run_pairs (f (q + 4)) (f q) (f (q + 2))) f in
         Comes code es (6 + f (q + 4) * 4) (11 + f (q + 4) * 9) u (BehindWords (p + 26) (u.work 4) (q + 6) (fram_after es f) u.inputs)
-    turn q f u e at fr w1 w2 w3 top l ok =
+    turn q f u e at fr w1 w2 w3 l ok =
         let k = f (q + 4) in
         let u1 = end_of u (forms_run entry_begin u).status in
         let u2 : Core = record u1 { pc = p + 22 } in
-        let w1' : IsFram (u.work 5) = subst IsFram (sym at) w1 in
-        let w2' : IsFram (u.work 5 + 2) = subst (λ x. IsFram (x + 2)) (sym at) w2 in
+        let w1' : IsPlace (u.work 5) = subst IsPlace (sym at) w1 in
+        let w2' : IsPlace (u.work 5 + 2) = subst (λ x. IsPlace (x + 2)) (sym at) w2 in
         let third : q + 4 ≡ u.work 5 + 2 + 2 = omega (arith, at) in
-        let w3' : IsFram (u.work 5 + 2 + 2) = subst IsFram third w3 in
+        let w3' : IsPlace (u.work 5 + 2 + 2) = subst IsPlace third w3 in
         let a : Comes code [] 3 6 u (λ v. v ≡ u1) =
         straight code tidy entry_begin 3 u u1 [] 6 (λ v. v ≡ u1) (tt, (tt, (tt, tt))) (subst (λ x. Stands code x entry_begin) (sym e) reads_there)
-        (((w1', omega (arith, at, top)), tt), (((w2', omega (arith, at, top)), tt), (((w3', omega (arith, at, top)), tt), tt))) refl refl refl in
+        ((w1', tt), ((w2', tt), ((w3', tt), tt))) refl refl refl in
         let b = jumps_to code tidy (p + 14) (p + 22) 3 u1 words_there.0 (omega (arith, e)) to_count in
         let home : u2.work 6 ≡ f q = λ i. fr i (at i) in
         let copy : u2.work 7 ≡ f (q + 2) = λ i. fr i (at i + 2) in
@@ -154,13 +154,13 @@ module _ (code : Code) (tidy : IsTidy code) (m : MemoryMap) (places : AreInFram 
         let inputs = u.inputs in
         let long = run_length k (f q) (f (q + 2)) in
         let both = length-append run rest in
-        let even = i.even in let low = i.low in let top = i.high in let end = places.list.high in
+        let even = i.even in let low = i.low in let top = i.high in
         let here = all_front (IsCopied m) run rest ok in
         let later = all_back (IsCopied m) run rest ok in
-        let w : (x : ℕ) → q ≤ x → x + 2 ≤ q + 6 → x % 2 ≡ 0 → IsFram x = λ x from to odd.
+        let w : (x : ℕ) → q ≤ x → x + 2 ≤ q + 6 → x % 2 ≡ 0 → IsPlace x = λ x from to odd.
         in_region m.list.address (6 * m.entries) x places.list (omega (arith, low, from)) (omega (arith, top, to)) odd in
         let a = turn q f u e d fr (w q (omega arith) (omega arith) even) (w (q + 2) (omega arith) (omega arith) (omega (arith, even)))
-        (w (q + 4) (omega arith) (omega arith) (omega (arith, even))) (omega (arith, top, end)) (omega (arith, few, long, both)) here in
+        (w (q + 4) (omega arith) (omega arith) (omega (arith, even))) (omega (arith, few, long, both)) here in
         let stays : entries_from n (q + 6) g ≡ rest = entries_alike n (q + 6) f g (λ x from to.
         region_stays run f m.list.address (6 * m.entries) x
         (All-weaker (IsCopied m) (λ y. IsOutOf m.list.address (6 * m.entries) y.home) (λ y h. h.leaves.list) run here) (omega (arith, low, from))
@@ -264,31 +264,31 @@ module _ (code : Code) (tidy : IsTidy code) (m : MemoryMap) (places : AreInFram 
     }
 
     -- a word is sent
-    one_sent : (u : Core) → u.pc ≡ p + 2 + 2 + 4 → IsFram (u.work 5) → u.work 5 + 2 < 0x10000
+    one_sent : (u : Core) → u.pc ≡ p + 2 + 2 + 4 → IsPlace (u.work 5)
         → Comes code (Outside (Offered (u.work 7) (u.fram (u.work 5))) ∷ []) 3 10 u (λ v. v ≡ end_of u (forms_run send_turn u).status)
-    one_sent u e word room =
+    one_sent u e word =
         let t = end_of u (forms_run send_turn u).status in
         straight code tidy send_turn 3 u t (Outside (Offered (u.work 7) (u.fram (u.work 5))) ∷ []) 10 (λ v. v ≡ t) (tt, (tt, (tt, tt)))
         (stands_at code (p + 2 + 2 + 4) send_turn u
         (turn_stands code tidy sends_loop) e)
-        ((tt, tt), (((word, room), tt), ((tt, tt), tt))) refl refl refl
+        ((tt, tt), ((word, tt), ((tt, tt), tt))) refl refl refl
 
     -- from a turn on, the words that are left
     sending : (n : ℕ) (u : Core) → u.pc ≡ p + 2 + 2 + 4 → u.work 4 ≡ suc n → suc n < 0x10000 → InEmits (u.work 5) (suc n)
         → Comes code (sends (suc n) (u.work 7) (u.work 5) u.fram) (5 + n * 5) (13 + n * 13) u
         (BehindSends sent ((u.work 7 + suc n) % 0x10000) u.fram u.inputs)
     sending zero u e c l i =
-        let low = i.low in let top = i.high in let end = places.emits.high in
+        let low = i.low in let top = i.high in
         let w = in_region m.emits.address (2 * m.emits.words) (u.work 5) places.emits low (omega (arith, top)) i.even in
         let u1 = end_of u (forms_run send_turn u).status in
         let t : Core = record (one_less u1) { pc = sent } in
         let es : List Effect = Outside (Offered (u.work 7) (u.fram (u.work 5))) ∷ [] in
-        then_on code 3 2 10 3 u u1 _ es [] (one_sent u e w (omega (arith, top, end)))
+        then_on code 3 2 10 3 u u1 _ es [] (one_sent u e w)
         (then_on code 2 0 3 0 u1 t _ [] []
         (leaves code tidy sends_loop u1 (omega (arith, e)) c)
         (nothing code t _ (record { at = record { pc = refl; fram = refl; inputs = refl }; next_number = omega arith })))
     sending (suc n) u e c l i =
-        let even = i.even in let low = i.low in let top = i.high in let end = places.emits.high in
+        let even = i.even in let low = i.low in let top = i.high in
         let w = in_region m.emits.address (2 * m.emits.words) (u.work 5) places.emits low (omega (arith, top)) even in
         let u1 = end_of u (forms_run send_turn u).status in
         let t : Core = record (one_less u1) { pc = p + 2 + 2 + 4 } in
@@ -303,7 +303,7 @@ module _ (code : Code) (tidy : IsTidy code) (m : MemoryMap) (places : AreInFram 
         (sending n t refl (omega (arith, c, l)) (omega (arith, l))
         (record { even = omega (arith, even); low = omega (arith, low); high = omega (arith, top) }))) in
         recounted code _ (3 + (2 + (5 + n * 5))) (5 + suc n * 5) (10 + (3 + (13 + n * 13))) (13 + suc n * 13) u _ (omega arith) (omega arith)
-        (then_on code 3 (2 + (5 + n * 5)) 10 (3 + (13 + n * 13)) u u1 _ es _ (one_sent u e w (omega (arith, top, end)))
+        (then_on code 3 (2 + (5 + n * 5)) 10 (3 + (13 + n * 13)) u u1 _ es _ (one_sent u e w)
         (then_on code 2 (5 + n * 5) 3 (13 + n * 13) u1 t _ [] _
         (goes_back code tidy sends_loop n u1 (omega (arith, e)) c (omega (arith, c, l))) r))
 

@@ -3,7 +3,7 @@ use Rattle.std.proofs.Common.{ℕ, List, [], ◌∷◌, ◌++◌}
 use Rattle.std.specs.List.{All}
 use Rattle.std.proofs.lemmas.List.Elements.{All-head, All-tail, All-weaker}
 use Rattle.runtime_code.specs.machine_effects.World.{put, EachStore}
-use Rattle.runtime_code.specs.machine_effects.Machine.{IsFram}
+use Rattle.runtime_code.specs.machine_effects.Machine.{IsPlace}
 use Rattle.runtime_code.proofs.machine_effects.Interface.{each_store-append}
 use Rattle.runtime_code.specs.runtime_effects.Places.{CopyPair, listed}
 use Rattle.runtime_code.specs.runtime_effects.Stages.{copied_home, emits_sent, commit_closed, commit_effects}
@@ -30,5 +30,5 @@ commit_stores P m f homes task base gate =
 
 pub commit_stores_in_fram : CommitStoresInFram
 commit_stores_in_fram m f places can =
-    commit_stores (λ a w. IsFram a) m f (All-weaker (IsCopied m) (λ x. (w : ℕ) → IsFram x.home) (λ x h w. h.home) (listed m f) can.copies)
+    commit_stores (λ a w. IsPlace a) m f (All-weaker (IsCopied m) (λ x. (w : ℕ) → IsPlace x.home) (λ x h w. h.home) (listed m f) can.copies)
     (λ w. places.words CurrentTask) (λ w. places.words Base) (places.words Gate)

@@ -12,7 +12,7 @@ use Rattle.runtime_code.specs.fram_board.Effects.{Effect, Store}
 use Rattle.runtime_code.specs.machine_effects.World.{put, fram_after}
 use Rattle.runtime_code.specs.machine_effects.Inputs.{Inputs}
 use Rattle.runtime_code.specs.machine_effects.Going.{Goes}
-use Rattle.runtime_code.specs.machine_effects.Machine.{Code, IsFram}
+use Rattle.runtime_code.specs.machine_effects.Machine.{Code, IsPlace}
 use Rattle.runtime_code.specs.code_forms.Forms.{Core, Form, Move, Calculate, Jump, R6, R7, R8, Constant, PointedNext, ToPointed, instruction_of}
 use Rattle.runtime_code.specs.code_forms.Code.{Stands, IsTidy, forms_run}
 use Rattle.runtime_code.proofs.code_forms.Interface.{form_at, forms_at, end_of}
@@ -110,12 +110,11 @@ module _ (code : Code) (tidy : IsTidy code) (m : MemoryMap) (p : ℕ) (high : p 
       let es : List Effect = Store home (f copy) ∷ [] in
       let same_effects : done ≡ es = λ i. Store (d i) (fr i (s i)) ∷ [] in
       let same_fram : u2.fram ≡ g = λ i. put (fr i) (d i) (fr i (s i)) in
-      let fw : IsFram (u.work 7) = subst IsFram (sym s) is.copy in
-      let fh : IsFram (u.work 6) = subst IsFram (sym d) is.home in
-      let before_last = is.before_last in
+      let fw : IsPlace (u.work 7) = subst IsPlace (sym s) is.copy in
+      let fh : IsPlace (u.work 6) = subst IsPlace (sym d) is.home in
       let a = counts true u e (some_left (u.work 8) n c) in
       let b : Comes code done 2 6 u1 (λ v. v ≡ u2) =
-      straight code tidy moving 2 u1 u2 done 6 (λ v. v ≡ u2) (tt, (tt, tt)) at2 (((fw, omega (arith, s, before_last)), fh), ((tt, tt), tt)) refl refl refl in
+      straight code tidy moving 2 u1 u2 done 6 (λ v. v ≡ u2) (tt, (tt, tt)) at2 ((fw, fh), ((tt, tt), tt)) refl refl refl in
       let next_home = (u.work 6 + 2 + 0) % 0x10000 in
       let next_is : next_home ≡ (home + 2 + 0) % 0x10000 = ap (λ x. (x + 2 + 0) % 0x10000) d in
       let words = All-tail (IsCopied m) first rest ok in

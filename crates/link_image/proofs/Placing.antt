@@ -205,7 +205,8 @@ wider from low end high (v ∷ vs) l h o =
 pub wider_order : (l : MemoryMap) → IsLaidOut l → AreInOrder fram_first (map home_region l.variables) reset_vector
 wider_order l h =
     let homes = (parts_in_fram l h).homes in
-    wider l.homes.address fram_first (end_of l.homes) reset_vector l.variables homes.from homes.end h.homes
+    let end = homes.end in
+    wider l.homes.address fram_first (end_of l.homes) reset_vector l.variables homes.from (omega (arith, end)) h.homes
 
 -- ---- words
 

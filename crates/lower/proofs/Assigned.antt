@@ -8,7 +8,6 @@ use Rattle.task_ast.specs.declared.names.Variable.TheVariants.{Shared}
 use Rattle.task_ast.specs.Types.{IsOneWord, type_of, by_width}
 use Rattle.source_values.specs.Values.{Variables, Attempt, Evaluated, with_word, converted, value_of}
 use Rattle.source_values.specs.Statements.{Outcome, if_value, assigned}
-use Rattle.source_values.proofs.Interface.{IsBehind}
 use Rattle.lower.specs.Agreement.{converted_to}
 
 -- the value of an expression as one word
@@ -27,10 +26,6 @@ pub word_as_value : (e : CheckedExpression) (m : Attempt) → IsOneWord (type_of
 word_as_value e m k = same_word (type_of e) k (value_of e m)
 
 -- ---- what goes on with a value
-
--- an attempt behind one that is behind another
-pub both_behind : {m s u : Attempt} → IsBehind m s → IsBehind s u → IsBehind m u
-both_behind is then = record { variables = then.variables ∙ is.variables; emitted = then.emitted ∙ is.emitted }
 
 -- alike with each value
 pub if_same : (o : Option Evaluated) (f g : ℕ → Attempt → Outcome) → ((v : ℕ) (s : Attempt) → f v s ≡ g v s) → if_value o f ≡ if_value o g

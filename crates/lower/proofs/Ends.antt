@@ -182,23 +182,23 @@ does_alone z start most stack b o h = go b.effects b.end h
     go es Strays h = absurd h
     go es Broken h = tt
 
--- the state that a value makes, and what is done with it: it may know that the value is the one of this program
-pub does_at : (z : Scene) (most : ℕ → ℕ) (stack : List ℕ) (w : WordState) (there : Evaluated → WordState) (b : Behaviour) (o : Option Evaluated)
-    (next : WordState → Behaviour) (more : ℕ → Attempt → Outcome)
-    → AgreesAt there b o → ((x : Evaluated) → o ≡ Some x → Does z w.fram most stack (next (there x)) (more x.value x.behind))
+-- a value, and what is done from each state that it leaves: FRAM is as it was
+pub does_at : (z : Scene) (most : ℕ → ℕ) (stack : List ℕ) (w : WordState) (there : Evaluated → WordState → Type 0) (b : Behaviour) (o : Option Evaluated)
+    (next : WordState → Behaviour) (more : ℕ → Attempt → Outcome) → AgreesAt there b o
+    → ((x : Evaluated) (s : WordState) → there x s → (s.fram ≡ w.fram) × Does z s.fram most stack (next s) (more x.value x.behind))
     → Does z w.fram most stack (then_on b next) (if_value o more)
-does_at z most stack w there b o next more h k = go b.effects b.end o refl h.0 h.1
+does_at z most stack w there b o next more h k = go b.effects b.end o h.0 h.1
   where
-    go : (es : List Effect) (e : End) (q : Option Evaluated) → o ≡ q → OnlyTakes es → EndsAt there e q
-        → Does z w.fram most stack (behind_effects es (on_end e next)) (if_value q more)
-    go es (GoesOn s) (Some x) is h e =
-        let P : WordState → Type 0 = λ s. Does z w.fram most stack (behind_effects es (next s)) (more x.value x.behind) in
-        let b = next (there x) in
-        subst P (sym e) (ends_behind z w.fram w.fram most stack es b.effects b.end (more x.value x.behind) (sym (takes_keep es w.fram h))
-        (only_takes (IsTaskStore z.p z.written z.room z.ver) es h) (k x is))
-    go es (GoesOn s) None is h e = absurd e
-    go es (Jumps to s) q is h e = absurd e
-    go es Short (Some x) is h e = absurd e
-    go es Short None is h e = ends_alone z w.fram most stack es Short short (only_takes (IsTaskStore z.p z.written z.room z.ver) es h)
-    go es Strays q is h e = absurd e
-    go es Broken q is h e = tt
+    go : (es : List Effect) (e : End) (o : Option Evaluated) → OnlyTakes es → EndsAt there e o
+        → Does z w.fram most stack (behind_effects es (on_end e next)) (if_value o more)
+    go es (GoesOn s) (Some x) h e =
+        let n = k x s e in
+        let b = next s in
+        ends_behind z w.fram s.fram most stack es b.effects b.end (more x.value x.behind) (n.0 ∙ sym (takes_keep es w.fram h))
+        (only_takes (IsTaskStore z.p z.written z.room z.ver) es h) n.1
+    go es (GoesOn s) None h e = absurd e
+    go es (Jumps to s) o h e = absurd e
+    go es Short (Some x) h e = absurd e
+    go es Short None h e = ends_alone z w.fram most stack es Short short (only_takes (IsTaskStore z.p z.written z.room z.ver) es h)
+    go es Strays o h e = absurd e
+    go es Broken o h e = tt

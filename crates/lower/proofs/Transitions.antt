@@ -1,5 +1,6 @@
 -- The program of a transition.
 use Rattle.std.proofs.Common.{◌≡◌, ℕ, ◌+◌, ◌*◌, ◌%◌, ◌≤◌, List, [], ◌∷◌, ◌++◌, length, true, refl, sym, ap, ◌∙◌, arith, eq-eqb, append_assoc, if◌then◌else◌}
+use Rattle.address_space.specs.Limits.{program_end}
 use Rattle.fram_board.specs.Effects.{Effect, Store}
 use Rattle.machine_effects.specs.World.{put, fram_after}
 use Rattle.machine_effects.proofs.Interface.{put_at, put_other}
@@ -27,7 +28,7 @@ after_entry count list i home copy words f =
 pub record HaveRoom (count list i n : ℕ) : Type 0 where
   pub low : 0x4400 ≤ count
   pub above : count + 2 ≤ list
-  pub high : 6 * (i + n) + list ≤ 0x10000
+  pub high : 6 * (i + n) + list ≤ program_end
   pub even_count : count % 2 ≡ 0
   pub even_list : list % 2 ≡ 0
 

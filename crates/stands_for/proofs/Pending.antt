@@ -53,7 +53,6 @@ module _ (l : ProgramPlaces) (apart : AreApart l.map) (x : World) (p : IsPending
             record {
               home = record { even = even_home; low = omega (arith, apart, home); high = omega (arith, apart, home) };
               copy = record { even = even_copy; low = omega (arith, apart, copy); high = omega (arith, apart, copy) };
-              before_last = omega (arith, apart, copy);
               leaves = record {
                 next_task = λ e. omega (arith, apart, home, e);
                 emit_count = λ e. omega (arith, apart, home, e);

@@ -25,7 +25,7 @@ emit_steps-loop-step-preserved t c =
           (ap (λ p. code ++ instructions (steps_code bs os p)) (sym e) ∙ known.owed);
       after = ap (λ ws. waiting_after ws more) behind ∙ ap (λ p. waiting_after os p) (sym e) ∙ known.after;
       room = omega (arith, ap words_of e, known.room);
-      locals = (subst (LocalsBelow 1008) e known.locals).1;
+      locals = (subst (LocalsBelow 1016) e known.locals).1;
       in_words = λ h. known.in_words (subst OfWords (sym e) (c.in_ok-emit_step.ensures.of_words, h));
     }
 
@@ -167,7 +167,7 @@ emit_test-emit_test-requires-in-Both t c =
           c.words_if.ensures,
           words_at_most (not c.args.when) c.args.over,
         ),
-        subst (λ x. TestLocalsBelow 1008 (test_of x)) (sym c.deref-in-Both-3.ensures) (subst (TestLocalsBelow 1008) is c.requires.locals).0,
+        subst (λ x. TestLocalsBelow 1016 (test_of x)) (sym c.deref-in-Both-3.ensures) (subst (TestLocalsBelow 1016) is c.requires.locals).0,
       ),
     )
 
@@ -232,7 +232,7 @@ emit_test-emit_test-requires-in-Either-2 t c =
           c.words_if-in-Either.ensures,
           words_at_most c.args.when c.args.over,
         ),
-        subst (λ x. TestLocalsBelow 1008 (test_of x)) (sym c.deref-in-Either-3.ensures) (subst (TestLocalsBelow 1008) is c.requires.locals).0,
+        subst (λ x. TestLocalsBelow 1016 (test_of x)) (sym c.deref-in-Either-3.ensures) (subst (TestLocalsBelow 1016) is c.requires.locals).0,
       ),
     )
 
@@ -372,7 +372,7 @@ emit_step-emit_test-requires t c =
           c.requires.room,
           c.code_words-in-Choose.ensures,
         ),
-        (subst (StepLocalsBelow 1008) is c.requires.locals).0,
+        (subst (StepLocalsBelow 1016) is c.requires.locals).0,
       ),
     )
 
