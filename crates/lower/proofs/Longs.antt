@@ -29,7 +29,7 @@ use Rattle.lower.specs.Lowered.{one, Lowering, as_test, as_long, word_program, v
 use Rattle.lower.specs.Lowered.{long_binary_lowering}
 use Rattle.task_check.specs.Occurrences.{is_refused}
 use Rattle.lower.specs.Agreement.{AgreesAt, converted_to, truth_of}
-use Rattle.lower.proofs.Values.{pair_value, pair_is_truth, truth_pushed, LoweringAgrees, by_word, by_test, not_word, not_agrees, Keeping, Leaves, LeavesWord}
+use Rattle.lower.proofs.Values.{made_twice, pair_value, pair_made, pair_is_truth, twice, truth_pushed, LoweringAgrees, by_word, by_test, not_word, not_agrees, Keeping, Leaves, LeavesWord}
 use Rattle.lower.proofs.Values.{SidesAgree, pair_leaves, single, step_leaves, then_program}
 
 -- ---- numbers
