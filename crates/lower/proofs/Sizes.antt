@@ -1,58 +1,31 @@
 -- The words of a task's code, and the cycles of its expressions, are within the allowance of a source.
-use Rattle.std.proofs.Common.{◌≡◌, ℕ, ◌+◌, ◌*◌, ◌<◌, ◌≤◌, ◌==◌, Bool, true, false, List, [], ◌∷◌, length, Option, Some, None, slice_get, refl, sym, ap, arith}
-use Rattle.std.proofs.Common.{nat_le, if◌then◌else◌}
-use Rattle.std.proofs.lemmas.Bool.Decides.{nat_tests}
-use Rattle.task_ast.specs.Tree as t
-use Rattle.task_ast.specs.Paths.{CheckedExpression, CheckedStatement, CheckedChoice, CheckedBlock}
-use Rattle.task_ast.specs.declared.WordType.{WordType}
-use Rattle.task_ast.specs.declared.WordType.TheVariants.{Unsigned, Int, Long}
-use Rattle.task_ast.specs.Types.{is_long, binary_type, unary_type, literal_type}
-use Rattle.task_ast.specs.declared.UnaryOperator.{UnaryOperator}
-use Rattle.task_ast.specs.declared.UnaryOperator.TheVariants as unary_operator
-use Rattle.task_ast.specs.declared.BinaryOperator.{BinaryOperator}
-use Rattle.task_ast.specs.declared.PlacedOperator.{PlacedOperator}
-use Rattle.task_ast.specs.declared.BinaryOperator.TheVariants as operator
-use Rattle.task_ast.specs.declared.ShiftOperator.{ShiftOperator}
-use Rattle.task_ast.specs.declared.ShiftOperator.TheVariants as shift_operator
-use Rattle.task_ast.specs.declared.ShortCircuitOperator.{ShortCircuitOperator}
-use Rattle.task_ast.specs.declared.ShortCircuitOperator.TheVariants.{And as BothHold, Or as OneHolds}
-use Rattle.task_ast.specs.declared.names.Variable.{Variable}
-use Rattle.task_ast.specs.declared.names.Variable.TheVariants.{Shared, Local}
-use Rattle.task_ast.proofs.Interface.{width_least}
+use Rattle.lower.proofs.Names.{◌≡◌, ℕ, ◌+◌, ◌*◌, ◌<◌, ◌≤◌, ◌==◌, Bool, true, false, List, [], ◌∷◌, length, Option, Some, None, refl, sym, ap, arith, nat_le}
+use Rattle.lower.proofs.Names.{if◌then◌else◌, nat_tests, CheckedExpression, CheckedStatement, CheckedChoice, CheckedBlock, WordType, Unsigned, Int, Long}
+use Rattle.lower.proofs.Names.{is_long, binary_type, unary_type, literal_type, UnaryOperator, BinaryOperator, PlacedOperator, ShiftOperator}
+use Rattle.lower.proofs.Names.{ShortCircuitOperator, BothHold, OneHolds, Variable, Shared, Local, width_least, cycles_column, words_column, operator_price}
+use Rattle.lower.proofs.Names.{expression_price, statement_price, conditions_price, blocks_price, block_price, Negate, Complement, Plain, PlainOperation}
+use Rattle.lower.proofs.Names.{Subtract, And, Xor, Or, Step, Test, Program, number, truth, unary, binary, shift, long, emit_word, store_number, move_word}
+use Rattle.lower.proofs.Names.{jump, step, joined, binary_cycles, step_cycles, test_cycles, cycles_of, entry_words, step_words, test_words, words_of}
+use Rattle.lower.proofs.Names.{joined_cycles, steps_keep_to_words, word_place, Gate, ListLength, EmitCount, Base, SentBase, VariablePlace, Scalar, Array}
+use Rattle.lower.proofs.Names.{PrivateScalar, scalar_words, Places, private_words, some_words, Run, run_at, is_followed_by, longer, runs_from, runs_of}
+use Rattle.lower.proofs.Names.{BinaryMeaning, Calculates, CommonBits, Holds, Fails, LongQuestion, LongMeaning, binary_meaning, shift_operation, operand_type}
+use Rattle.lower.proofs.Names.{long_meaning, long_shift, BlocksKeepToWords, one, read_step, write_step, read_long, write_long, element_read, element_step}
+use Rattle.lower.proofs.Names.{store_step, Lowering, as_word, as_test, as_bits, as_long, word_program, value_test, widening, long_words, long_program}
+use Rattle.lower.proofs.Names.{name_lowering, unary_lowering, long_zero, operand_lowering, answer, long_binary_lowering, sides_lowering, shift_lowering}
+use Rattle.lower.proofs.Names.{update_step, setting, long_setting, updating, of_words, sides_set, scalar_assignment, widened_type, lowered_long}
+use Rattle.lower.proofs.Names.{index_and_value, element_setting, update_element_step, element_updating, element_sides_set, binary_lowering, sides_test}
+use Rattle.lower.proofs.Names.{lowering, assignment, element_assignment, emission, entries, lowered_transition, lowered_expression, lowered_test}
+use Rattle.lower.proofs.Names.{lowered_statement, lowered_choice, lowered_block}
+use Rattle.std.proofs.Common.{slice_get}
 use Rattle.source_values.specs.Values.{by_width, joined_type, type_of}
-use Rattle.cost_bound.specs.Table.{cycles_column, words_column, operator_price, expression_price, statement_price, conditions_price, blocks_price, block_price}
-use Rattle.array_versions.specs.declared.operations.UnaryOperation.TheVariants.{Negate, Complement}
-use Rattle.array_versions.specs.declared.operations.BinaryOperation.TheVariants.{Plain}
-use Rattle.array_versions.specs.declared.operations.PlainOperation.{PlainOperation}
-use Rattle.array_versions.specs.declared.operations.PlainOperation.TheVariants.{Subtract, And, Xor, Or}
+use Rattle.array_versions.proofs.Interface.{joined_words}
+use Rattle.task_ast.specs.Tree as t
+use Rattle.task_ast.specs.declared.UnaryOperator.TheVariants as unary_operator
+use Rattle.task_ast.specs.declared.BinaryOperator.TheVariants as operator
+use Rattle.task_ast.specs.declared.ShiftOperator.TheVariants as shift_operator
 use Rattle.array_versions.specs.declared.operations.LongOperation.TheVariants as with_longs
-use Rattle.array_versions.specs.Program.{Step, Test, Program, number, truth, unary, binary, shift, long, emit_word, store_number, move_word, jump, step, joined}
-use Rattle.array_versions.specs.Cost.{binary_cycles, step_cycles, test_cycles, cycles_of, entry_words, step_words, test_words, words_of}
-use Rattle.array_versions.proofs.Interface.{joined_cycles, joined_words, steps_keep_to_words}
-use Rattle.memory_map.specs.MemoryMap.{word_place}
-use Rattle.memory_map.specs.declared.words.RuntimeWord.TheVariants.{Gate, ListLength, EmitCount, Base, SentBase}
-use Rattle.memory_map.specs.declared.place.VariablePlace.{VariablePlace}
-use Rattle.memory_map.specs.declared.place.VariablePlace.TheVariants.{Scalar, Array}
-use Rattle.memory_map.specs.declared.place.PrivateScalar.{PrivateScalar}
-use Rattle.memory_map.specs.Places.{scalar_words}
-use Rattle.memory_map.specs.Spots.{Places, private_words}
-use Rattle.memory_map.proofs.Interface.{some_words}
-use Rattle.lower.specs.declared.runs.Run.{Run}
-use Rattle.lower.specs.Runs.{run_at, is_followed_by, longer, runs_from, runs_of}
-use Rattle.lower.specs.declared.operations.BinaryMeaning.{BinaryMeaning}
-use Rattle.lower.specs.declared.operations.BinaryMeaning.TheVariants.{Calculates, CommonBits, Holds, Fails}
-use Rattle.lower.specs.declared.operations.LongQuestion.{LongQuestion}
 use Rattle.lower.specs.declared.operations.LongQuestion.TheVariants as question
-use Rattle.lower.specs.declared.operations.LongMeaning.{LongMeaning}
 use Rattle.lower.specs.declared.operations.LongMeaning.TheVariants as meaning
-use Rattle.lower.specs.Operations.{binary_meaning, shift_operation, operand_type, long_meaning, long_shift}
-use Rattle.lower.specs.Sizes.{BlocksKeepToWords}
-use Rattle.lower.specs.Lowered.{one, read_step, write_step, read_long, write_long, element_read, element_step, store_step, Lowering, as_word, as_test, as_bits}
-use Rattle.lower.specs.Lowered.{as_long, word_program, value_test, widening, long_words, long_program, name_lowering, unary_lowering, long_zero}
-use Rattle.lower.specs.Lowered.{operand_lowering, answer, long_binary_lowering, sides_lowering, shift_lowering, update_step, setting}
-use Rattle.lower.specs.Lowered.{long_setting, updating, of_words, sides_set, scalar_assignment, widened_type, lowered_long, index_and_value, element_setting}
-use Rattle.lower.specs.Lowered.{update_element_step, element_updating, element_sides_set, binary_lowering, sides_test, lowering, assignment, element_assignment}
-use Rattle.lower.specs.Lowered.{emission, entries, lowered_transition, lowered_expression, lowered_test, lowered_statement, lowered_choice, lowered_block}
 
 -- ---- single steps
 
