@@ -17,9 +17,8 @@ word_value e m = converted_to (type_of e) Unsigned (value_of e m)
 -- as an expression of one word has it
 same_word : (of : WordType) → IsOneWord of → (o : Option Evaluated) → converted_to of Unsigned o ≡ o
 same_word Long k o = absurd k
-same_word Int k None = refl
+same_word of k None = refl
 same_word Int k (Some x) = refl
-same_word Unsigned k None = refl
 same_word Unsigned k (Some x) = refl
 
 pub word_as_value : (e : CheckedExpression) (m : Attempt) → IsOneWord (type_of e) → word_value e m ≡ value_of e m
@@ -51,10 +50,8 @@ assigned_as of s x from w = by_width of (assigned s x 0 (converted from of w)) (
 -- each type of one word takes the same word
 pub same_conversion : (from to : WordType) (w : ℕ) → IsOneWord to → converted from Unsigned w ≡ converted from to w
 same_conversion from Long w k = absurd k
-same_conversion Long Int w k = refl
-same_conversion Long Unsigned w k = refl
-same_conversion Int Int w k = refl
-same_conversion Int Unsigned w k = refl
+same_conversion Long to w k = refl
+same_conversion Int to w k = refl
 same_conversion Unsigned to w k = refl
 
 -- what changes a row twice

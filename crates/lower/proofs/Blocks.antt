@@ -4,7 +4,6 @@ use Rattle.std.proofs.Common.{sym, ap, ◌∙◌, subst, arith, if◌then◌else
 use Rattle.std.specs.Prelude.{slice_get, get_or}
 use Rattle.std.proofs.lemmas.Bool.{cases_lt}
 use Rattle.fram_board.specs.Effects.{Store}
-use Rattle.machine_effects.specs.World.{put}
 use Rattle.task_ast.specs.Tree as t
 use Rattle.task_ast.specs.Paths.{CheckedExpression, CheckedStatement, CheckedChoice, CheckedBlock}
 use Rattle.task_ast.specs.declared.PlacedOperator.{PlacedOperator}
@@ -72,10 +71,6 @@ module _ (z : Scene) where
   word_stands i j here v is = spot_stands here (scalar i j) v (with_word here.m.variables (Shared i) j v) is (λ x e. cc)
       (scalar_set z.p z.room i j v here.m.variables here.w.fram here.w.locals z.apart is here.stands.variables)
 
-  word_number : (i j : ℕ) {n : ℕ} {count : ℕ → ℕ} (here : Start z n count) (v : ℕ) → IsScalarWord z.p i j
-      → put here.w.fram (scalar_address z.p i j) v (word_place z.p.map Version) ≡ z.ver
-  word_number i j here v is = (spot_list z.p z.room (scalar i j) v here.w.fram z.apart is (λ x e. cc)).version ∙ here.number
-
   abbrev word_set : (i j : ℕ) {n : ℕ} {count : ℕ → ℕ} (here : Start z n count) (v : ℕ) → IsScalarWord z.p i j → Start z n count
   word_set i j here v is = record {
     m = source.assigned here.m (Shared i) j v;
@@ -83,7 +78,7 @@ module _ (z : Scene) where
     w = stored (scalar_address z.p i j) v here.w;
     most = here.most;
     stands = word_stands i j here v is;
-    number = word_number i j here v is;
+    number = (spot_list z.p z.room (scalar i j) v here.w.fram z.apart is (λ x e. cc)).version ∙ here.number;
     emits = here.emits;
     lists = here.lists;
     within = here.within;

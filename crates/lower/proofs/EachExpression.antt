@@ -1,5 +1,6 @@
 -- The programs of expressions leave their values.
-use Rattle.std.proofs.Common.{◌≡◌, ℕ, List, Option, Some, None, Bool, true, false, nat_le, nat_lt, if◌then◌else◌, refl, sym, ap, ◌∙◌, subst, arith}
+use Rattle.std.proofs.Common.{◌≡◌, ℕ, List, Option, Some, None, Bool, true, false, nat_le, nat_lt, if◌then◌else◌, refl, sym, ap, ◌∙◌, subst, arith, [], ◌∷◌}
+use Rattle.std.proofs.Common.{◌++◌}
 use Rattle.task_ast.specs.Tree as t
 use Rattle.task_ast.specs.Paths.{CheckedExpression}
 use Rattle.task_ast.specs.declared.SharedDeclaration.{SharedDeclaration}
@@ -18,9 +19,9 @@ use Rattle.task_ast.proofs.Interface as one_word
 use Rattle.task_check.specs.Occurrences.{is_refused}
 use Rattle.source_values.specs.Values.{Attempt, Evaluated, gives, made_of, word_at, by_width, two_words, converted, type_of, joined_type, value_of}
 use Rattle.source_values.specs.Values.{unary_result, binary_value, binary_result, long_binary_value, shift_value, shift_result}
-use Rattle.array_versions.specs.Program.{number, shift, sense, load, long, step, joined}
+use Rattle.array_versions.specs.Program.{number, shift, sense, load, long, step, joined, truth}
 use Rattle.array_versions.specs.declared.operations.LongOperation.TheVariants as with_longs
-use Rattle.array_versions.specs.Behaviour.{WordState, with_readings, pushed, behaviour, Behaviour, with_stack}
+use Rattle.array_versions.specs.Behaviour.{WordState, with_readings, pushed, behaviour, Behaviour, with_stack, goes_on}
 use Rattle.memory_map.specs.Spots.{Places, address_of, scalar_address, IsScalarWord, scalar}
 use Rattle.lower.specs.Operations.{binary_meaning, shift_operation, operand_type, long_meaning}
 use Rattle.lower.specs.Lowered.{one, high_address, read_step, read_long, element_step, Lowering, word_program, value_test, long_words, long_program}
@@ -39,7 +40,6 @@ use Rattle.lower.proofs.Updates.{joined_words}
 use Rattle.lower.proofs.Longs.{AgreesAs, LongAgrees, as_one_word, of_one_word, by_long, pair_same, words_agree, word_agrees, long_agrees, test_agrees}
 use Rattle.lower.proofs.Longs.{negated, complemented, long_shifted, long_meaning_type, long_meaning_value, long_same, long_binary_agrees, LeavesLong}
 use Rattle.machine_effects.specs.Inputs.{Inputs}
-use Rattle.array_versions.specs.Behaviour.{goes_on}
 use Rattle.array_versions.specs.Operations.{stacked}
 
 -- ---- names
@@ -114,8 +114,7 @@ module _ (k : Keeping) where
       → (let low = word_at m.variables x 0 in
       AgreesAs k of w (name_lowering k.p of x) (gives (by_width of low (two_words low (word_at m.variables x 1))) m))
   name_agrees Long x m w kept is = by_long k w (read_long k.p x) _ (read_long_agrees x m w kept is)
-  name_agrees Int x m w kept is = by_word k w (one (read_step k.p x)) _ (read_agrees k x m w kept is)
-  name_agrees Unsigned x m w kept is = by_word k w (one (read_step k.p x)) _ (read_agrees k x m w kept is)
+  name_agrees of x m w kept is = by_word k w (one (read_step k.p x)) _ (read_agrees k x m w kept is)
 
   -- ---- operators
 
@@ -131,8 +130,7 @@ module _ (k : Keeping) where
       → AgreesAs k of (pushed 0 (pushed 0 w)) l o
       → AgreesAs k (unary_type op of) w (operand_lowering of op l) (made_of (unary_result op of) o)
   operand_agrees op Long w l o h g = long_operand_agrees op w l o h g
-  operand_agrees op Int w l o h g = as_one_word k (unary_type op Int) (one_word.unary_word op Int tt) w _ _ (unary_agrees k op w l o h)
-  operand_agrees op Unsigned w l o h g = as_one_word k (unary_type op Unsigned) (one_word.unary_word op Unsigned tt) w _ _ (unary_agrees k op w l o h)
+  operand_agrees op of w l o h g = as_one_word k (unary_type op of) (one_word.unary_word op of tt) w _ _ (unary_agrees k op w l o h)
 
   -- Two operands of these types, and by which types they become long: their programs, the value of the first, and what the second gives of
   -- the attempt behind it. The second stands behind the first as one word, and both as longs
@@ -201,17 +199,14 @@ module _ (k : Keeping) where
   operands_agree : (is : WordType) (op : BinaryOperator) (h : Operands) → joined_type h.left_type h.right_type ≡ is → is_refused op is ≡ false
       → AgreesAs k (result_type op h) h.w (sides_lowering is op h.left_wide h.right_wide h.l h.r) (applied op h)
   operands_agree Long op h e accepted = longs_agree_by op h e accepted
-  operands_agree Int op h e accepted = words_agree_by Int op h tt e
-  operands_agree Unsigned op h e accepted = words_agree_by Unsigned op h tt e
+  operands_agree is op h e accepted = words_agree_by is op h tt e
 
   -- a word is shifted as a value of its type
   shift_agrees : (of : WordType) (op : ShiftOperator) (n : ℕ) (w : WordState) (l : Lowering) (o : Option Evaluated) → AgreesAs k of w l o
       → AgreesAs k of w (shift_lowering of op l n) (made_of (λ v. shift_result op of v n) o)
   shift_agrees Long op n w l o h = by_long k w _ _ (long_shifted k op n w (long_words l) o (words_agree k w l o h))
-  shift_agrees Int op n w l o h = worked_agrees k (shift (shift_operation op Int) n) (λ v. shift_value op Int v n) w l o h
-      (λ x s. ap (λ v. goes_on [] (with_stack (v ∷ w.stack) s)) (shift_same op Int x n))
-  shift_agrees Unsigned op n w l o h = worked_agrees k (shift (shift_operation op Unsigned) n) (λ v. shift_value op Unsigned v n) w l o h
-      (λ x s. ap (λ v. goes_on [] (with_stack (v ∷ w.stack) s)) (shift_same op Unsigned x n))
+  shift_agrees of op n w l o h = worked_agrees k (shift (shift_operation op of) n) (λ v. shift_value op of v n) w l o h
+      (λ x s. ap (λ v. goes_on [] (with_stack (v ∷ w.stack) s)) (shift_same op of x n))
 
   -- its value as a long, by the type by which it becomes one
   widened_agrees : (e : CheckedExpression) (m : Attempt) (w : WordState) → Keeps k m w → AgreesAs k (type_of e) w (lowering k.p e) (value_of e m)
@@ -337,15 +332,20 @@ module _ (shared : List SharedDeclaration) (p : Places) (room : Room) (m : Attem
 
 pub expressions_agree : ExpressionsAgree
 expressions_agree shared p room e m w apart even declared fits h =
-    one_state shared p room m w apart even declared h single _ _
-    (expression_leaves (all_kept shared p room m w apart even declared h) e (in_state w m) w (at_first shared p room m w apart even declared h) fits)
+    let s = in_state w m in
+    one_state shared p room m w apart even declared h single (behaviour (lowered_expression p e) w) (converted_to (type_of e) Unsigned (value_of e s))
+    (expression_leaves (all_kept shared p room m w apart even declared h) e s w (at_first shared p room m w apart even declared h) fits)
 
 pub longs_agree : LongsAgree
 longs_agree shared p room e m w apart even declared fits h =
-    one_state shared p room m w apart even declared h stacked _ _
-    (long_leaves (all_kept shared p room m w apart even declared h) e (in_state w m) w (at_first shared p room m w apart even declared h) fits)
+    let s = in_state w m in
+    one_state shared p room m w apart even declared h stacked (behaviour (lowered_long p e) w) (converted_to (type_of e) Long (value_of e s))
+    (long_leaves (all_kept shared p room m w apart even declared h) e s w (at_first shared p room m w apart even declared h) fits)
 
 pub tests_agree : TestsAgree
 tests_agree shared p room e m w apart even declared fits h =
-    one_state shared p room m w apart even declared h single _ _ (agrees_alone _ _ _
-    (test_leaves (all_kept shared p room m w apart even declared h) e (in_state w m) w (at_first shared p room m w apart even declared h) fits))
+    let s = in_state w m in
+    let k = all_kept shared p room m w apart even declared h in
+    one_state shared p room m w apart even declared h single (behaviour (one (truth (lowered_test p e))) w) (truth_of (value_of e s))
+    (agrees_alone (Leaves k single w.stack) (truth_pushed (lowered_test p e) w) (truth_of (value_of e s))
+    (test_leaves k e s w (at_first shared p room m w apart even declared h) fits))

@@ -1,6 +1,6 @@
 -- The programs of longs leave both words of their values, the high one on top.
 use Rattle.std.proofs.Common.{◌≡◌, ℕ, ◌+◌, ◌-◌, ◌*◌, ◌/◌, ◌%◌, ◌==◌, Option, Some, None, Bool, true, false, not, nat_lt, refl, sym, ap, ◌∙◌, subst, arith}
-use Rattle.std.proofs.Common.{eq-eqb, ne_eqb, ⊎_elim, bit_or, bit_xor, List}
+use Rattle.std.proofs.Common.{eq-eqb, ne_eqb, ⊎_elim, bit_or, bit_xor, List, [], ◌∷◌, ◌++◌}
 use Rattle.std.proofs.lemmas.Bool.{cases_eq}
 use Rattle.std.proofs.lemmas.Nat.{le_or_l, le_or_r}
 use Rattle.std.specs.Int.Bits.{xor_self, xor_assoc, xor_zero_r}
@@ -12,14 +12,14 @@ use Rattle.task_ast.specs.declared.BinaryOperator.TheVariants as operator
 use Rattle.task_ast.specs.declared.ShiftOperator.{ShiftOperator}
 use Rattle.task_ast.specs.declared.ShiftOperator.TheVariants as shift_operator
 use Rattle.task_ast.specs.Types.{IsOneWord}
-use Rattle.source_values.specs.Values.{Attempt, Evaluated, gives, made_of, holds, converted, long_difference, long_binary_value, long_shift_value}
+use Rattle.source_values.specs.Values.{Attempt, Evaluated, gives, made_of, holds, converted, long_difference, long_binary_value, long_shift_value, truth_word}
 use Rattle.array_versions.specs.declared.operations.PlainOperation.{PlainOperation}
 use Rattle.array_versions.specs.declared.operations.PlainOperation.TheVariants as plain
 use Rattle.array_versions.specs.declared.operations.BinaryOperation.TheVariants.{Plain}
 use Rattle.array_versions.specs.declared.operations.LongOperation.TheVariants as with_longs
 use Rattle.array_versions.specs.Operations.{plain_long, all_bits, stacked}
 use Rattle.array_versions.specs.Program.{Test, Program, binary, long, holds as holds_test, fails, joined, behind}
-use Rattle.array_versions.specs.Behaviour.{WordState, Behaviour, pushed, behaviour, step_behaviour, with_stack}
+use Rattle.array_versions.specs.Behaviour.{WordState, Behaviour, pushed, behaviour, step_behaviour, with_stack, goes_on}
 use Rattle.lower.specs.declared.operations.LongQuestion.{LongQuestion}
 use Rattle.lower.specs.declared.operations.LongQuestion.TheVariants as question
 use Rattle.lower.specs.declared.operations.LongMeaning.{LongMeaning}
@@ -29,9 +29,8 @@ use Rattle.lower.specs.Lowered.{one, Lowering, as_test, as_long, word_program, v
 use Rattle.lower.specs.Lowered.{long_binary_lowering}
 use Rattle.task_check.specs.Occurrences.{is_refused}
 use Rattle.lower.specs.Agreement.{AgreesAt, converted_to, truth_of}
-use Rattle.lower.proofs.Values.{pair_value, pair_truth, pair_is_truth, truth_pushed, LoweringAgrees, by_word, by_test, not_word, not_agrees, Keeping, Leaves}
-use Rattle.lower.proofs.Values.{LeavesWord, SidesAgree, pair_leaves, single, step_leaves, then_program}
-use Rattle.array_versions.specs.Behaviour.{goes_on}
+use Rattle.lower.proofs.Values.{pair_value, pair_is_truth, truth_pushed, LoweringAgrees, by_word, by_test, not_word, not_agrees, Keeping, Leaves, LeavesWord}
+use Rattle.lower.proofs.Values.{SidesAgree, pair_leaves, single, step_leaves, then_program}
 
 -- ---- numbers
 
@@ -66,8 +65,7 @@ xor_holds a b = ap not (tests_alike (bit_xor a b) 0 a b same (λ e. ap (λ n. bi
 -- ---- what is made of pairs of longs
 
 any_bit_is_truth : (o : Option Evaluated) → truth_of (made_of both_words o) ≡ truth_of o
-any_bit_is_truth None = refl
-any_bit_is_truth (Some x) = ap (λ b. gives (bit b) x.behind) (words_hold x.value)
+any_bit_is_truth o = made_twice truth_word both_words truth_word o (λ x. ap bit (words_hold x))
 
 -- a value as one of its own type
 same_value : (o : Option Evaluated) → o ≡ made_of (λ n. n) o
@@ -88,26 +86,11 @@ answers question.Differ x y = not (x == y)
 -- values of pairs that are alike
 pub pair_same : (f g : ℕ → ℕ → ℕ) (o : Option Evaluated) (second : Attempt → Option Evaluated) → ((x y : ℕ) → f x y ≡ g x y)
     → pair_value f o second ≡ pair_value g o second
-pair_same f g None second e = refl
-pair_same f g (Some x) second e = by (second x.behind)
-  where
-    by : (o : Option Evaluated) → made_of (f x.value) o ≡ made_of (g x.value) o
-    by None = refl
-    by (Some y) = ap (λ n. gives n y.behind) (e x.value y.value)
+pair_same f g o second e = same_value (pair_value f o second) ∙ pair_made (λ n. n) f g o second e
 
 all_bits_hold : (b : Bool) → holds (all_bits b) ≡ b
 all_bits_hold true = refl
 all_bits_hold false = refl
-
--- the bits of both words of what is made of two longs
-bits_of_pair : (f : ℕ → ℕ → ℕ) (o : Option Evaluated) (second : Attempt → Option Evaluated)
-    → made_of both_words (pair_value f o second) ≡ pair_value (λ x y. both_words (f x y)) o second
-bits_of_pair f None second = refl
-bits_of_pair f (Some x) second = by (second x.behind)
-  where
-    by : (o : Option Evaluated) → made_of both_words (made_of (f x.value) o) ≡ made_of (λ y. both_words (f x.value y)) o
-    by None = refl
-    by (Some y) = refl
 
 -- what an operator gives of two longs
 abbrev pub long_meaning_value : LongMeaning → ℕ → ℕ → ℕ
@@ -120,10 +103,6 @@ abbrev pub long_meaning_type : LongMeaning → WordType
 long_meaning_type (meaning.Calculates op) = Long
 long_meaning_type (meaning.Holds q) = Int
 long_meaning_type (meaning.Fails q) = Int
-
-twice : (b : Bool) → not (not b) ≡ b
-twice true = refl
-twice false = refl
 
 -- of each operator alike: the first clause makes it a proof by cases
 pub long_same : (op : BinaryOperator) (x y : ℕ) → is_refused op Long ≡ false → long_meaning_value (long_meaning op) x y ≡ long_binary_value op x y
@@ -142,15 +121,6 @@ not_of_bit : (b : Bool) → bit (bit b == 0) ≡ bit (not b)
 not_of_bit true = refl
 not_of_bit false = refl
 
-not_of_pair : (b : ℕ → ℕ → Bool) (o : Option Evaluated) (second : Attempt → Option Evaluated)
-    → made_of not_word (pair_value (λ x y. bit (b x y)) o second) ≡ pair_value (λ x y. bit (not (b x y))) o second
-not_of_pair b None second = refl
-not_of_pair b (Some x) second = by (second x.behind)
-  where
-    by : (o : Option Evaluated) → made_of not_word (made_of (λ y. bit (b x.value y)) o) ≡ made_of (λ y. bit (not (b x.value y))) o
-    by None = refl
-    by (Some y) = ap (λ n. gives n y.behind) (not_of_bit (b x.value y.value))
-
 -- ---- what an expression leaves, by its type
 
 -- a program leaves a value as a long on top of these
@@ -166,8 +136,7 @@ pub record LongAgrees (k : Keeping) (w : WordState) (l : Lowering) (o : Option E
 -- of a long its two words, and of others a word and a test
 abbrev pub AgreesAs : Keeping → WordType → WordState → Lowering → Option Evaluated → Type 0
 AgreesAs k Long w l o = LongAgrees k w l o
-AgreesAs k Int w l o = LoweringAgrees k w l o
-AgreesAs k Unsigned w l o = LoweringAgrees k w l o
+AgreesAs k _ w l o = LoweringAgrees k w l o
 
 module _ (k : Keeping) where
   pub by_long : (w : WordState) (q : Program) (o : Option Evaluated) → LeavesLong k w.stack (behaviour q w) o → LongAgrees k w (as_long q) o
@@ -175,13 +144,11 @@ module _ (k : Keeping) where
 
   pub as_one_word : (of : WordType) → IsOneWord of → (w : WordState) (l : Lowering) (o : Option Evaluated) → LoweringAgrees k w l o → AgreesAs k of w l o
   as_one_word Long is w l o h = absurd is
-  as_one_word Int is w l o h = h
-  as_one_word Unsigned is w l o h = h
+  as_one_word of is w l o h = h
 
   pub of_one_word : (of : WordType) → IsOneWord of → (w : WordState) (l : Lowering) (o : Option Evaluated) → AgreesAs k of w l o → LoweringAgrees k w l o
   of_one_word Long is w l o h = absurd is
-  of_one_word Int is w l o h = h
-  of_one_word Unsigned is w l o h = h
+  of_one_word of is w l o h = h
 
   -- ---- steps behind longs
 
@@ -216,8 +183,7 @@ module _ (k : Keeping) where
       → LeavesWord k w.stack (behaviour (word_program l) w) (converted_to of Unsigned o)
   word_agrees Long w l o h =
       subst (λ l. LeavesWord k w.stack (behaviour (word_program l) w) (converted_to Long Unsigned o)) (sym h.is_long) (low_word w h.words o h.leaves)
-  word_agrees Int w l o h = subst (LeavesWord k w.stack (behaviour (word_program l) w)) (same_value o) h.word
-  word_agrees Unsigned w l o h = subst (LeavesWord k w.stack (behaviour (word_program l) w)) (same_value o) h.word
+  word_agrees of w l o h = subst (LeavesWord k w.stack (behaviour (word_program l) w)) (same_value o) h.word
 
   -- the two words of a long
   pub words_agree : (w : WordState) (l : Lowering) (o : Option Evaluated) → LongAgrees k w l o → LeavesLong k w.stack (behaviour (long_words l) w) o
@@ -227,16 +193,14 @@ module _ (k : Keeping) where
   pub long_agrees : (of : WordType) (w : WordState) (l : Lowering) (o : Option Evaluated) → AgreesAs k of w l o
       → LeavesLong k w.stack (behaviour (long_program of l) w) (converted_to of Long o)
   long_agrees Long w l o h = subst (LeavesLong k w.stack (behaviour (long_words l) w)) (same_value o) (words_agree w l o h)
-  long_agrees Int w l o h = widened_agrees Int tt w (word_program l) o h.word
-  long_agrees Unsigned w l o h = widened_agrees Unsigned tt w (word_program l) o h.word
+  long_agrees of w l o h = widened_agrees of tt w (word_program l) o h.word
 
   -- its test
   pub test_agrees : (of : WordType) (w : WordState) (l : Lowering) (o : Option Evaluated) → AgreesAs k of w l o
       → LeavesWord k w.stack (truth_pushed (value_test l) w) (truth_of o)
   test_agrees Long w l o h =
       subst (λ l. LeavesWord k w.stack (truth_pushed (value_test l) w) (truth_of o)) (sym h.is_long) (any_bit_holds w h.words o h.leaves)
-  test_agrees Int w l o h = h.test
-  test_agrees Unsigned w l o h = h.test
+  test_agrees of w l o h = h.test
 
   -- ---- operators in front, and shifts
 
@@ -278,7 +242,7 @@ module _ (k : Keeping) where
       → LeavesWord k w.stack (truth_pushed (holds_test q) w) (pair_value (λ x y. bit (b x y)) o second)
   holds_of_pair w q o second f b e h =
       subst (LeavesWord k w.stack (truth_pushed (holds_test q) w))
-      (sym (pair_truth f o second) ∙ pair_same (λ x y. bit (holds (f x y))) (λ x y. bit (b x y)) o second (λ x y. ap bit (e x y)))
+      (pair_made truth_word f (λ x y. bit (b x y)) o second (λ x y. ap bit (e x y)))
       (by_word k w q (pair_value f o second) h).test
 
   question_agrees : (q : LongQuestion) (w : WordState) (a b : Program) (o : Option Evaluated) (second : Attempt → Option Evaluated)
@@ -298,7 +262,7 @@ module _ (k : Keeping) where
       let q = behind (joined a b) (long (with_longs.Calculate plain.Xor)) in
       let bits = behind q (binary (Plain plain.Or)) in
       holds_of_pair w bits o second (λ x y. both_words (bit_xor x y)) (λ x y. not (x == y)) (λ x y. words_hold (bit_xor x y) ∙ xor_holds x y)
-      (subst (LeavesWord k w.stack (behaviour bits w)) (bits_of_pair bit_xor o second)
+      (subst (LeavesWord k w.stack (behaviour bits w)) (pair_made both_words bit_xor (λ x y. both_words (bit_xor x y)) o second (λ x y. refl))
       (any_bit w q (pair_value bit_xor o second) (calculated plain.Xor w a b o second h)))
 
   -- what fails where this holds
@@ -307,7 +271,8 @@ module _ (k : Keeping) where
       → LoweringAgrees k w (as_test (fails c)) (pair_value (λ x y. bit (not (b x y))) o second)
   turned_pair w c o second b h =
       let pair = pair_value (λ x y. bit (b x y)) o second in
-      subst (LoweringAgrees k w (as_test (fails c))) (not_of_pair b o second)
+      subst (LoweringAgrees k w (as_test (fails c)))
+      (pair_made not_word (λ x y. bit (b x y)) (λ x y. bit (not (b x y))) o second (λ x y. not_of_bit (b x y)))
       (not_agrees k w c pair (subst (LeavesWord k w.stack (truth_pushed c w)) (sym (pair_bit_is_truth b o second)) h))
 
   pub long_binary_agrees : (m : LongMeaning) (w : WordState) (a b : Program) (o : Option Evaluated) (second : Attempt → Option Evaluated)

@@ -6,7 +6,7 @@ use Rattle.fram_board.specs.Effects.{Effect, Store, Take, Outside}
 use Rattle.std.proofs.lemmas.Bool.{cases_lt}
 use Rattle.std.proofs.lemmas.List.{get_or_past}
 use Rattle.task_ast.specs.declared.WordType.{WordType}
-use Rattle.task_ast.specs.declared.WordType.TheVariants.{Unsigned, Int, Long}
+use Rattle.task_ast.specs.declared.WordType.TheVariants.{Int}
 use Rattle.task_ast.specs.declared.UnaryOperator.{UnaryOperator}
 use Rattle.task_ast.specs.declared.UnaryOperator.TheVariants as unary_operator
 use Rattle.task_ast.specs.declared.BinaryOperator.{BinaryOperator}
@@ -18,17 +18,17 @@ use Rattle.task_ast.specs.declared.ShortCircuitOperator.TheVariants.{And as Both
 use Rattle.task_ast.specs.declared.names.Variable.{Variable}
 use Rattle.task_ast.specs.declared.names.Variable.TheVariants.{Shared, Local}
 use Rattle.source_values.specs.Values.{◌>>?◌, Variables, Attempt, Evaluated, word_at, holds, unary_value, binary_value, shift_value, shifted_value}
-use Rattle.source_values.specs.Values.{is_settled, evaluated, gives, made_of, reading_of, truth_word}
+use Rattle.source_values.specs.Values.{is_settled, gives, made_of, reading_of, truth_word, next_reading}
 use Rattle.array_versions.specs.declared.operations.UnaryOperation.TheVariants.{Negate, Complement}
 use Rattle.array_versions.specs.declared.operations.BinaryOperation.{BinaryOperation}
 use Rattle.array_versions.specs.declared.operations.BinaryOperation.TheVariants.{Plain}
 use Rattle.array_versions.specs.declared.operations.PlainOperation.TheVariants.{And}
 use Rattle.array_versions.specs.declared.operations.Comparison.TheVariants.{CommonBit}
 use Rattle.array_versions.specs.Operations.{unary_word, binary_word, shift_word, shifted_word, compare_words}
-use Rattle.array_versions.specs.Program.{Test, Program, load, local, unary, binary, compares, fails, nothing, joined, Step, sense}
-use Rattle.array_versions.specs.Behaviour.{WordState, End, GoesOn, Jumps, Short, Strays, Broken, Behaviour, goes_on, behind_effects, on_end, then_on}
-use Rattle.array_versions.specs.Behaviour.{is_place, at_place, pushed, number_pushed, local_pushed, reading_pushed, way_by_top, way_by_two, tested, behaviour}
-use Rattle.array_versions.specs.Behaviour.{step_behaviour, with_stack}
+use Rattle.array_versions.specs.Program.{Test, Program, load, local, unary, binary, compares, fails, nothing, joined, Step, sense, behind}
+use Rattle.array_versions.specs.Behaviour.{WordState, End, GoesOn, Short, Broken, Behaviour, goes_on, behind_effects, on_end, then_on, is_place, at_place}
+use Rattle.array_versions.specs.Behaviour.{pushed, number_pushed, local_pushed, reading_pushed, way_by_top, way_by_two, tested, behaviour, step_behaviour}
+use Rattle.array_versions.specs.Behaviour.{with_stack}
 use Rattle.array_versions.proofs.Interface.{joined_go_on, then_on_assoc, decided_by_truth}
 use Rattle.memory_map.specs.MemoryMap.{word_place}
 use Rattle.memory_map.specs.declared.words.RuntimeWord.TheVariants.{Version}
@@ -75,12 +75,9 @@ agrees_then there last b o next more h k = go b.effects b.end o h.0 h.1
     go : (es : List Effect) (e : End) (o : Option Evaluated) → OnlyTakes es → EndsAt there e o
         → AgreesAt last (behind_effects es (on_end e next)) (o >>? more)
     go es (GoesOn s) (Some x) h e = let n = k x s e in (takes_append (λ a w. ⊥) es (next s).effects h n.0, n.1)
-    go es (GoesOn s) None h e = absurd e
-    go es (Jumps to s) o h e = absurd e
-    go es Short (Some x) h e = absurd e
     go es Short None h e = (takes_append (λ a w. ⊥) es [] h tt, tt)
-    go es Strays o h e = absurd e
     go es Broken o h e = (takes_append (λ a w. ⊥) es [] h tt, tt)
+    go es end o h e = absurd e
 
 -- nothing behind
 pub agrees_alone : (there : Evaluated → WordState → Type 0) (b : Behaviour) (o : Option Evaluated) → AgreesAt there b o
@@ -89,10 +86,7 @@ agrees_alone there b o h = go b.effects b.end h.0 h.1
   where
     go : (es : List Effect) (e : End) → OnlyTakes es → EndsAt there e o → AgreesAt there (behind_effects es (on_end e (behaviour nothing))) o
     go es (GoesOn s) h e = (takes_append (λ a w. ⊥) es [] h tt, e)
-    go es (Jumps to s) h e = absurd e
-    go es Short h e = (takes_append (λ a w. ⊥) es [] h tt, e)
-    go es Strays h e = absurd e
-    go es Broken h e = (takes_append (λ a w. ⊥) es [] h tt, e)
+    go es end h e = (takes_append (λ a w. ⊥) es [] h tt, e)
 
 -- what the states are that values leave
 pub agrees_as : (there last : Evaluated → WordState → Type 0) (b : Behaviour) (o : Option Evaluated) → ((x : Evaluated) (s : WordState) → there x s → last x s)
@@ -101,12 +95,8 @@ agrees_as there last b o k h = (h.0, by b.end o h.1)
   where
     by : (e : End) (o : Option Evaluated) → EndsAt there e o → EndsAt last e o
     by (GoesOn s) (Some x) e = k x s e
-    by (GoesOn s) None e = e
-    by (Jumps to s) o e = e
-    by Short (Some x) e = e
     by Short None e = e
-    by Strays o e = e
-    by Broken o e = e
+    by end o e = e
 
 -- ---- operators
 
@@ -120,24 +110,19 @@ meaning_word (Fails c) u v = bit (not (compare_words c u v))
 -- an order looks at signs, and all others are alike
 pub binary_same : (op : BinaryOperator) (of : WordType) (u v : ℕ) → meaning_word (binary_meaning op of) u v ≡ binary_value op of u v
 binary_same operator.Less Int u v = refl
-binary_same operator.Less Unsigned u v = refl
-binary_same operator.Less Long u v = refl
+binary_same operator.Less of u v = refl
 binary_same operator.LessEqual Int u v = refl
-binary_same operator.LessEqual Unsigned u v = refl
-binary_same operator.LessEqual Long u v = refl
+binary_same operator.LessEqual of u v = refl
 binary_same operator.Greater Int u v = refl
-binary_same operator.Greater Unsigned u v = refl
-binary_same operator.Greater Long u v = refl
+binary_same operator.Greater of u v = refl
 binary_same operator.GreaterEqual Int u v = refl
-binary_same operator.GreaterEqual Unsigned u v = refl
-binary_same operator.GreaterEqual Long u v = refl
+binary_same operator.GreaterEqual of u v = refl
 binary_same _ of u v = refl
 
 shifted_same : (op : ShiftOperator) (of : WordType) (v k : ℕ) → shifted_word (shift_operation op of) v k ≡ shifted_value op of v k
 shifted_same shift_operator.Left of v k = refl
 shifted_same shift_operator.Right Int v k = refl
-shifted_same shift_operator.Right Unsigned v k = refl
-shifted_same shift_operator.Right Long v k = refl
+shifted_same shift_operator.Right of v k = refl
 
 pub shift_same : (op : ShiftOperator) (of : WordType) (v k : ℕ) → shift_word (shift_operation op of) v k ≡ shift_value op of v k
 shift_same op of v k = ap (λ x. if nat_le k 15 then x else 0) (shifted_same op of v k)
@@ -152,37 +137,34 @@ holds_bit false = refl
 bit_is_truth : (b : Bool) (behind : Attempt) → truth_of (gives (bit b) behind) ≡ gives (bit b) behind
 bit_is_truth b behind = ap (λ c. gives (bit c) behind) (holds_bit b)
 
+-- what is made of what is made of a value
+pub made_twice : (g f h : ℕ → ℕ) (o : Option Evaluated) → ((x : ℕ) → g (f x) ≡ h x) → made_of g (made_of f o) ≡ made_of h o
+made_twice g f h None e = refl
+made_twice g f h (Some x) e = ap (λ n. gives n x.behind) (e x.value)
+
 -- what is 1 or 0 is its own truth
 truth_twice : (o : Option Evaluated) → truth_of (truth_of o) ≡ truth_of o
-truth_twice None = refl
-truth_twice (Some x) = bit_is_truth (holds x.value) x.behind
+truth_twice o = made_twice truth_word truth_word truth_word o (λ x. ap bit (holds_bit (holds x)))
 
 -- the word that the values of two sides make, the second from the attempt that the first leaves
 abbrev pub pair_value : (ℕ → ℕ → ℕ) → Option Evaluated → (Attempt → Option Evaluated) → Option Evaluated
 pair_value f o second = o >>? λ x. made_of (f x.value) (second x.behind)
 
--- the truth of such a word
-pub pair_truth : (f : ℕ → ℕ → ℕ) (o : Option Evaluated) (second : Attempt → Option Evaluated)
-    → pair_value (λ x y. truth_word (f x y)) o second ≡ truth_of (pair_value f o second)
-pair_truth f None second = refl
-pair_truth f (Some x) second = by (second x.behind)
-  where
-    by : (o : Option Evaluated) → made_of (λ y. truth_word (f x.value y)) o ≡ truth_of (made_of (f x.value) o)
-    by None = refl
-    by (Some y) = refl
+-- what is made of such a word
+pub pair_made : (g : ℕ → ℕ) (f h : ℕ → ℕ → ℕ) (o : Option Evaluated) (second : Attempt → Option Evaluated) → ((x y : ℕ) → g (f x y) ≡ h x y)
+    → made_of g (pair_value f o second) ≡ pair_value h o second
+pair_made g f h None second e = refl
+pair_made g f h (Some x) second e = made_twice g (f x.value) (h x.value) (second x.behind) (e x.value)
 
 -- where it is 1 or 0, it is its own truth
 pub pair_is_truth : (f : ℕ → ℕ → ℕ) (b : ℕ → ℕ → Bool) (o : Option Evaluated) (second : Attempt → Option Evaluated)
     → ((x y : ℕ) → bit (b x y) ≡ f x y) → truth_of (pair_value f o second) ≡ pair_value f o second
-pair_is_truth f b None second e = refl
-pair_is_truth f b (Some x) second e = by (second x.behind)
-  where
-    one_or_zero : (u v : ℕ) → truth_word (f u v) ≡ f u v
-    one_or_zero u v = ap truth_word (sym (e u v)) ∙ ap bit (holds_bit (b u v)) ∙ e u v
+pair_is_truth f b o second e =
+    pair_made truth_word f f o second (λ x y. ap truth_word (sym (e x y)) ∙ ap bit (holds_bit (b x y)) ∙ e x y)
 
-    by : (o : Option Evaluated) → truth_of (made_of (f x.value) o) ≡ made_of (f x.value) o
-    by None = refl
-    by (Some y) = ap (λ r. gives r y.behind) (one_or_zero x.value y.value)
+pub twice : (b : Bool) → not (not b) ≡ b
+twice true = refl
+twice false = refl
 
 -- `!` of a value, and of a truth
 abbrev pub not_word : ℕ → ℕ
@@ -193,16 +175,10 @@ not_truth w = bit (not (holds w))
 
 -- that of a value by that of its truth
 not_of_truth : (o : Option Evaluated) → made_of not_truth (truth_of o) ≡ made_of not_word o
-not_of_truth None = refl
-not_of_truth (Some x) = by (x.value == 0)
-  where
-    by : (b : Bool) → gives (not_truth (bit (not b))) x.behind ≡ gives (bit b) x.behind
-    by true = refl
-    by false = refl
+not_of_truth o = made_twice not_truth truth_word not_word o (λ x. ap (λ b. bit (not b)) (holds_bit (holds x)) ∙ ap bit (twice (x == 0)))
 
 not_is_truth : (o : Option Evaluated) → truth_of (made_of not_word o) ≡ made_of not_word o
-not_is_truth None = refl
-not_is_truth (Some x) = bit_is_truth (x.value == 0) x.behind
+not_is_truth o = made_twice truth_word not_word not_word o (λ x. ap bit (holds_bit (x == 0)))
 
 -- `&&` or `||` of a value by that of its truth, the right side being this of the attempt behind the left one
 abbrev pub side_value : ShortCircuitOperator → (Attempt → Option Evaluated) → Evaluated → Option Evaluated
@@ -211,16 +187,8 @@ side_value op right x = if is_settled op x.value then gives (truth_word x.value)
 pub sides_of_truth : (o : Option Evaluated) (op : ShortCircuitOperator) (right : Attempt → Option Evaluated)
     → (truth_of o >>? side_value op right) ≡ (o >>? side_value op right)
 sides_of_truth None op right = refl
-sides_of_truth (Some x) BothHold right = by (holds x.value)
-  where
-    by : (b : Bool) → side_value BothHold right (evaluated (bit b) x.behind) ≡ (if not b then gives (bit b) x.behind else truth_of (right x.behind))
-    by true = refl
-    by false = refl
-sides_of_truth (Some x) OneHolds right = by (holds x.value)
-  where
-    by : (b : Bool) → side_value OneHolds right (evaluated (bit b) x.behind) ≡ (if b then gives (bit b) x.behind else truth_of (right x.behind))
-    by true = refl
-    by false = refl
+sides_of_truth (Some x) BothHold right = ap (λ b. if not b then gives (bit b) x.behind else truth_of (right x.behind)) (holds_bit (holds x.value))
+sides_of_truth (Some x) OneHolds right = ap (λ b. if b then gives (bit b) x.behind else truth_of (right x.behind)) (holds_bit (holds x.value))
 
 pub sides_are_truth : (op : ShortCircuitOperator) (o : Option Evaluated) (right : Attempt → Option Evaluated)
     → (let r = o >>? side_value op right in truth_of r ≡ r)
@@ -515,7 +483,7 @@ module _ (k : Keeping) where
       by_word w (behind (joined a b) (binary op)) (pair_value f o second) (operated op w a b o second f h e)
   binary_agrees CommonBits w a b o second f h e = record {
     word = operated (Plain And) w a b o second f h e;
-    test = subst (LeavesWord k w.stack (truth_pushed (compares CommonBit (joined a b)) w)) (pair_truth f o second)
+    test = subst (LeavesWord k w.stack (truth_pushed (compares CommonBit (joined a b)) w)) (sym (pair_made truth_word f (λ x y. truth_word (f x y)) o second (λ x y. refl)))
         (sides_then single (Leaves k single w.stack) w a b (way_by_two CommonBit (number_pushed 1) (number_pushed 0)) o second (λ x y. truth_word (f x y)) h
         (λ x y m s kept. bit_agrees (holds (bit_and x y)) (truth_word (f x y)) m (with_stack w.stack s) kept (ap truth_word (e x y))));
   }
