@@ -19,12 +19,10 @@ use Rattle.machine_effects.specs.msp_isa.declared.registers.IndexRegister.TheVar
 use Rattle.machine_effects.specs.msp_isa.declared.registers.SourceRegister.TheVariants as source_register
 use Rattle.machine_effects.specs.msp_isa.Encoding.{source_row, destination_row, index_number}
 use Rattle.machine_effects.specs.msp_cycles.Cycles.{cycles_of}
-use Rattle.machine_effects.specs.msp_step.declared.effect.Modification.{Modification}
-use Rattle.machine_effects.specs.msp_step.declared.effect.Modification.TheVariants as change
 use Rattle.machine_effects.specs.msp_step.declared.operand.Location.TheVariants as location
 use Rattle.machine_effects.specs.msp_step.Registers.{Registers, with_register}
 use Rattle.machine_effects.specs.msp_step.Access.{Access, Completed, then_do, read_at}
-use Rattle.machine_effects.specs.msp_step.Effect.{written_back, store, read_modify_write, shifted, rotated, exchanged, sign_extended, modification_of}
+use Rattle.machine_effects.specs.msp_step.Effect.{written_back, store, read_modify_write, shifted, rotated, exchanged, sign_extended}
 use Rattle.machine_effects.specs.msp_step.Effect.{push_effect, pushed, reads_destination, writes_destination, with_flags, Operated, finish, word_sum, source}
 use Rattle.machine_effects.specs.msp_step.Effect.{after_source, two_operand_effect, destination_location, Written, distance, is_met, operated}
 use Rattle.machine_effects.specs.msp_step.Step.{effect}
@@ -38,6 +36,8 @@ use Rattle.code_forms.specs.Forms.{Fram, Ram, Pointed, PointedNext, Indexed, Pop
 use Rattle.code_forms.specs.Forms.{Target, ToRegister, ToFram, ToRam, ToIndexed, ToPointed, ToOutnum, ToOutdata, target_operand, target_bytes, target_written}
 use Rattle.code_forms.specs.Forms.{TargetNeeds, Move, Calculate, Compare, Update, Push, Modify, SetStack, Sense, Jump, Skip, Branch, BranchIndexed}
 use Rattle.code_forms.specs.Forms.{SkipBy, instruction_of, flags_after, calculated, sensed, form_step, FormNeeds, IsNotMov, HasPushRoom, IsCodeAddress}
+use Rattle.code_forms.specs.Forms.{Modification, modified}
+use Rattle.code_forms.specs.declared.kinds.Modification.TheVariants as change
 use Rattle.code_forms.specs.Laws.{FormsDoAsInstructions}
 use Rattle.code_forms.proofs.Registers.{set_pc, set_sp, set_work, get_work, high, number, set_flags, flags_back, is_on, no_port}
 
@@ -88,7 +88,7 @@ module _ (u : Core) (p : ℕ) where
   from_source (Number n) h = refl
   from_source (Constant k) h = refl
   from_source (Fram a) h = rw (read_fram (inside u) a h) refl
-  from_source (Ram a) h = rw (read_ram (inside u) a h) refl
+  from_source (Ram a) h = rw (read_ram (inside u) a h.0) refl
   from_source (Pointed b) h = rw (got b, read_fram (inside u) (u.work (work_number b)) h) refl
   from_source (PointedNext b) h =
       let e : word_sum (u.work (work_number b)) 2 ≡ u.work (work_number b) + 2 = let hi = h.high in omega arith in
@@ -338,7 +338,7 @@ pushed_at : (v pc c : ℕ) (t : Core) → HasPushRoom t.sp
     → machine_outcome pc c (pushed machine_bus Word v (regs_in t t.pc) (inside t)) ≡ Goes [] c
     (board_of (record t { sp = t.sp - 2; ram = put t.ram (t.sp - 2) v }))
 pushed_at v pc c t h =
-    let even = h.even in let low = h.low in let high = h.high in
+    let even = h.even in let room = h.room.fits in let high = h.high in
     let k : IsRam (t.sp - 2) = record { even = omega arith; low = omega arith; high = omega arith } in
     let word = is_word_ram (t.sp - 2) k in let ram = is_ram_ram (t.sp - 2) k in let g = even_ram (t.sp - 2) k in
     let l : word_sum t.sp 0xFFFE ≡ t.sp - 2 = omega arith in
@@ -470,7 +470,7 @@ modified_half f b u c =
 
 modified_effect : (m : Modification) (b : WorkRegister) (u : Core) → IsCodeAddress u.pc
     → effect machine_bus (instruction_of (Modify m b)) (regs_in u u.pc) (inside u) ≡
-    (let o = modification_of m Word (u.work (work_number b)) u.flags in Completed
+    (let o = modified m (u.work (work_number b)) u.flags in Completed
     (register_file (u.pc + 2) u.sp (flags_after o.flags u.flags) (put u.work (work_number b) o.value), None) (inside u))
 unfolding effect
 modified_effect change.Rra b u c = modified_half shifted b u c

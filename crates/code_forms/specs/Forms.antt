@@ -1,7 +1,7 @@
 -- The forms of instructions that the compiler and its runtime write, on a machine whose registers are told apart: what each is
 -- as an instruction, how long it is, what it needs and what it does (SLAU049 and SLAU144, CPU chapter).
 use Rattle.std.specs.Prelude.{ℕ, ◌+◌, ◌-◌, ◌%◌, ◌≡◌, ◌<◌, ◌≤◌, true, false, ◌==◌, if◌then◌else◌, List, [], ◌∷◌, Option, Some, None}
-use Rattle.machine_effects.specs.address_space.Limits.{ram_first, fram_end, stack_top}
+use Rattle.machine_effects.specs.address_space.Limits.{fram_end, stack_top, HasStackRoom}
 use Rattle.machine_effects.specs.alp_words.declared.Flags.{Flags}
 use Rattle.machine_effects.specs.alp_words.declared.Width.TheVariants.{Word}
 use Rattle.machine_effects.specs.msp_isa.declared.registers.IndexRegister.{IndexRegister}
@@ -9,7 +9,6 @@ use Rattle.machine_effects.specs.msp_isa.declared.registers.IndexRegister.TheVar
 use Rattle.machine_effects.specs.msp_isa.declared.registers.SourceRegister.TheVariants as source_register
 use Rattle.machine_effects.specs.msp_isa.declared.registers.IndirectRegister.TheVariants as pointer
 use Rattle.machine_effects.specs.msp_isa.declared.registers.Reg.TheVariants as reg
-use Rattle.machine_effects.specs.msp_isa.declared.operands.Konst.{Konst}
 use Rattle.machine_effects.specs.msp_isa.declared.operands.Operand.TheVariants as mode
 use Rattle.machine_effects.specs.msp_isa.declared.operands.Src.{Src}
 use Rattle.machine_effects.specs.msp_isa.declared.operands.Src.TheVariants as src
@@ -19,40 +18,34 @@ use Rattle.machine_effects.specs.msp_isa.declared.instructions.TwoOp.{TwoOp}
 use Rattle.machine_effects.specs.msp_isa.declared.instructions.TwoOp.TheVariants.{Mov, Add, Cmp}
 use Rattle.machine_effects.specs.msp_isa.declared.instructions.OneOp.{OneOp}
 use Rattle.machine_effects.specs.msp_isa.declared.instructions.OneOp.TheVariants as one
-use Rattle.machine_effects.specs.msp_isa.declared.instructions.Condition.{Condition}
 use Rattle.machine_effects.specs.msp_isa.declared.instructions.Instr.{Instr}
 use Rattle.machine_effects.specs.msp_isa.declared.instructions.Instr.TheVariants as instr
 use Rattle.machine_effects.specs.msp_isa.Constant.{constant_value}
 use Rattle.machine_effects.specs.msp_cycles.Cycles.{cycles_of}
-use Rattle.machine_effects.specs.msp_step.declared.effect.Modification.{Modification}
-use Rattle.machine_effects.specs.msp_step.declared.effect.Modification.TheVariants as change
 use Rattle.machine_effects.specs.msp_step.declared.machine.Stop.{Stop}
 use Rattle.machine_effects.specs.msp_step.declared.machine.Stop.TheVariants as stop
 use Rattle.machine_effects.specs.msp_step.Registers.{Registers}
-use Rattle.machine_effects.specs.msp_step.Effect.{status_with, operated, Operated, modification_of, writes_destination, word_sum, distance, is_met}
+use Rattle.machine_effects.specs.msp_step.Effect.{status_with, operated, Operated, rotated, shifted, exchanged, sign_extended, writes_destination}
+use Rattle.machine_effects.specs.msp_step.Effect.{word_sum, distance, is_met}
 use Rattle.machine_effects.specs.fram_board.Bus.{sensor_port, number_port, data_port}
 use Rattle.machine_effects.specs.fram_board.Effects.{Store, Take, Outside, Offered}
 use Rattle.machine_effects.specs.World.{put}
 use Rattle.machine_effects.specs.Inputs.{Inputs}
 use Rattle.machine_effects.specs.Going.{StepOutcome, Goes, Stops, Stretch}
 use Rattle.machine_effects.specs.Machine.{MachineBoard, MachineOutcome, IsPlace, IsRam}
+pub use Rattle.code_forms.specs.declared.kinds.WorkRegister.{WorkRegister}
+pub use Rattle.code_forms.specs.declared.kinds.WorkRegister.TheVariants.{R4, R5, R6, R7, R8, R9, R10, R11, R12, R13, R14, R15}
+pub use Rattle.code_forms.specs.declared.kinds.Source.{Source}
+pub use Rattle.code_forms.specs.declared.kinds.Source.TheVariants.{Register, Number, Constant, Fram, Ram, Pointed, PointedNext, Indexed, Popped}
+pub use Rattle.code_forms.specs.declared.kinds.Target.{Target}
+pub use Rattle.code_forms.specs.declared.kinds.Target.TheVariants.{ToRegister, ToFram, ToRam, ToIndexed, ToPointed, ToOutnum, ToOutdata}
+pub use Rattle.code_forms.specs.declared.kinds.Modification.{Modification}
+use Rattle.code_forms.specs.declared.kinds.Modification.TheVariants as change
+pub use Rattle.code_forms.specs.declared.kinds.Form.{Form}
+pub use Rattle.code_forms.specs.declared.kinds.Form.TheVariants.{Move, Calculate, Compare, Update, Push, Modify, SetStack, Sense, Jump, Skip, Branch}
+pub use Rattle.code_forms.specs.declared.kinds.Form.TheVariants.{BranchIndexed, SkipBy}
 
--- the registers for work
-pub data WorkRegister : Type 0 where
-  R4 : WorkRegister
-  R5 : WorkRegister
-  R6 : WorkRegister
-  R7 : WorkRegister
-  R8 : WorkRegister
-  R9 : WorkRegister
-  R10 : WorkRegister
-  R11 : WorkRegister
-  R12 : WorkRegister
-  R13 : WorkRegister
-  R14 : WorkRegister
-  R15 : WorkRegister
-
--- their numbers
+-- the numbers of the registers for work
 abbrev pub work_number : WorkRegister → ℕ
 work_number R4 = 4
 work_number R5 = 5
@@ -131,19 +124,7 @@ abbrev pub outcome_of_core : CoreOutcome → MachineOutcome
 outcome_of_core (Goes es c u) = Goes es c (board_of u)
 outcome_of_core (Stops es price e) = Stops es price e
 
--- source operands
-pub data Source : Type 0 where
-  Register : (b : WorkRegister) → Source
-  Number : (n : ℕ) → Source  -- an immediate
-  Constant : (k : Konst) → Source
-  Fram : (a : ℕ) → Source
-  Ram : (a : ℕ) → Source
-  Pointed : (b : WorkRegister) → Source  -- the word of FRAM at the register's address
-  PointedNext : (b : WorkRegister) → Source  -- the same, and the register goes up by 2
-  Indexed : (b : WorkRegister) → (x : ℕ) → Source  -- the word of FRAM at the register's address plus x
-  Popped : Source  -- the word of RAM at SP, which goes up by 2
-
--- the operand
+-- a source as an operand
 abbrev pub source_operand : Source → Src
 source_operand (Register b) = src.Operand (mode.Reg (source_register.Index (index_of b)))
 source_operand (Number n) = src.Immediate n
@@ -197,23 +178,19 @@ SourceNeeds (Register b) u = Unit {0}
 SourceNeeds (Number n) u = Unit {0}
 SourceNeeds (Constant k) u = Unit {0}
 SourceNeeds (Fram a) u = IsPlace a
-SourceNeeds (Ram a) u = IsRam a
+SourceNeeds (Ram a) u = IsRam a × (u.sp ≤ a)
 SourceNeeds (Pointed b) u = IsPlace (u.work (work_number b))
 SourceNeeds (PointedNext b) u = IsPlace (u.work (work_number b))
 SourceNeeds (Indexed b x) u = IsPlace (u.work (work_number b) + x)
 SourceNeeds Popped u = IsRam u.sp
 
--- destinations of MOV
-pub data Target : Type 0 where
-  ToRegister : (b : WorkRegister) → Target
-  ToFram : (a : ℕ) → Target
-  ToRam : (a : ℕ) → Target
-  ToIndexed : (b : WorkRegister) → (x : ℕ) → Target  -- the word of FRAM at the register's address plus x
-  ToPointed : (b : WorkRegister) → Target  -- the word of FRAM at the register's address
-  ToOutnum : Target
-  ToOutdata : Target
+-- the address in RAM at which it reads, if it does
+abbrev pub source_ram : Source → Core → Option ℕ
+source_ram (Ram a) u = Some a
+source_ram Popped u = Some u.sp
+source_ram _ u = None
 
--- the operand
+-- a target of MOV as an operand
 abbrev pub target_operand : Target → Dst
 target_operand (ToRegister b) = dst.Reg (reg.Index (index_of b))
 target_operand (ToFram a) = dst.Absolute a
@@ -257,22 +234,6 @@ modification_operand change.Rra b = one.Rra Word (mode.Reg (source_register.Inde
 modification_operand change.Swpb b = one.Swpb (mode.Reg (source_register.Index (index_of b)))
 modification_operand change.Sxt b = one.Sxt (mode.Reg (source_register.Index (index_of b)))
 
--- the forms
-pub data Form : Type 0 where
-  Move : (x : Source) → (y : Target) → Form
-  Calculate : (op : TwoOp) → (x : Source) → (b : WorkRegister) → Form  -- an operation other than MOV, on a register
-  Compare : (x : Source) → (a : ℕ) → Form  -- CMP with a word of FRAM
-  Update : (op : TwoOp) → (x : Source) → (a : ℕ) → Form  -- an operation on a word of FRAM, which it writes
-  Push : (x : Source) → Form
-  Modify : (change : Modification) → (b : WorkRegister) → Form
-  SetStack : (n : ℕ) → Form  -- SP becomes n
-  Sense : (b : WorkRegister) → Form  -- a reading is taken into a register
-  Jump : (c : Condition) → (offset : ℕ) → Form
-  Skip : (n : ℕ) → Form  -- n is added to PC, which stands behind the instruction here
-  Branch : (a : ℕ) → Form  -- PC becomes a
-  BranchIndexed : (b : WorkRegister) → (x : ℕ) → Form  -- PC becomes the word of FRAM at the register's address plus x
-  SkipBy : (b : WorkRegister) → Form  -- the register's word is added to PC, which stands behind the instruction here
-
 -- a form as an instruction
 abbrev pub instruction_of : Form → Instr
 instruction_of (Move x y) = instr.Two Mov Word (source_operand x) (target_operand y)
@@ -310,6 +271,13 @@ abbrev pub flags_after : Option Flags → Flags → Flags
 flags_after None f = f
 flags_after (Some g) f = g
 
+-- what RRC, RRA, SWPB or SXT gives of a word
+abbrev pub modified : Modification → ℕ → Flags → Operated
+modified change.Rrc = rotated Word
+modified change.Rra = shifted Word
+modified change.Swpb = exchanged Word
+modified change.Sxt = sign_extended Word
+
 -- the machine after an operation on a register
 abbrev pub calculated : TwoOp → WorkRegister → Operated → Core → Core
 calculated op b o u = record u { flags = flags_after o.flags u.flags; work = if writes_destination op then put u.work (work_number b) o.value else u.work }
@@ -341,7 +309,7 @@ form_step (Push x) u =
     let t = source_read x u in
     Goes [] (cycles_of (instruction_of (Push x))) (record t { pc = u.pc + (2 + source_bytes x); sp = t.sp - 2; ram = put t.ram (t.sp - 2) (source_value x u) })
 form_step (Modify m b) u =
-    let o = modification_of m Word (u.work (work_number b)) u.flags in
+    let o = modified m (u.work (work_number b)) u.flags in
     Goes [] 1 (record u { pc = u.pc + 2; flags = flags_after o.flags u.flags; work = put u.work (work_number b) o.value })
 form_step (SetStack n) u = Goes [] 2 (record u { pc = u.pc + 4; sp = n })
 form_step (Sense b) u = sensed u.inputs.readings b u
@@ -358,7 +326,7 @@ form_step (SkipBy b) u =
 -- room in RAM below SP for a word
 pub record HasPushRoom (sp : ℕ) : Type 0 where
   pub even : sp % 2 ≡ 0
-  pub low : ram_first + 2 ≤ sp
+  pub room : HasStackRoom sp 1
   pub high : sp ≤ stack_top
 
 -- an operation that reads its destination
@@ -381,6 +349,15 @@ FormNeeds (Skip n) u = n % 2 ≡ 0
 FormNeeds (Branch a) u = a % 2 ≡ 0
 FormNeeds (BranchIndexed b x) u = IsPlace (u.work (work_number b) + x) × (u.fram (u.work (work_number b) + x) % 2 ≡ 0)
 FormNeeds (SkipBy b) u = u.work (work_number b) % 2 ≡ 0
+
+-- the address in RAM at which a form reads, if it does
+abbrev pub ram_read : Form → Core → Option ℕ
+ram_read (Move x y) u = source_ram x u
+ram_read (Calculate op x b) u = source_ram x u
+ram_read (Compare x a) u = source_ram x u
+ram_read (Update op x a) u = source_ram x u
+ram_read (Push x) u = source_ram x u
+ram_read _ u = None
 
 -- an even address with room behind it for an instruction of three words
 pub record IsCodeAddress (pc : ℕ) : Type 0 where

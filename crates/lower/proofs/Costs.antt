@@ -40,10 +40,8 @@ Leaves Broken = Unit {0}
 
 leaves_pay : (p : Places) (e : End) (n most : ℕ) → Leaves e → n ≤ most + 26 * length p.privates → Within p most e n
 leaves_pay p (GoesOn s) n most l h = absurd l
-leaves_pay p (Jumps to s) n most l h = h
 leaves_pay p Short n most l h = absurd l
-leaves_pay p Strays n most l h = h
-leaves_pay p Broken n most l h = h
+leaves_pay p e n most l h = h
 
 -- where an address isn't that of a word, what stands behind is not come to
 placed_leaves : (c : Bool) (b : Behaviour) (next : WordState → Behaviour) → Leaves (then_on b next).end → Leaves (then_on (if c then b else strays) next).end
@@ -109,10 +107,7 @@ both : (p : Places) (e : End) (f : WordState → Behaviour) (cost : WordState �
     → ((s : WordState) → Within p more (f s).end (cost s))
     → Within p (most + more) (on_end e f).end (n + spent_on e cost)
 both p (GoesOn s) f cost n most more a h = let b = h s in omega (arith, a, b)
-both p (Jumps to s) f cost n most more a h = omega (arith, a)
-both p Short f cost n most more a h = omega (arith, a)
-both p Strays f cost n most more a h = omega (arith, a)
-both p Broken f cost n most more a h = omega (arith, a)
+both p e f cost n most more a h = omega (arith, a)
 
 joined_spends : (p : Places) (a b : Program) (most more : ℕ) (s : WordState) → Within p most (behaviour a s).end (spent a s)
     → ((s : WordState) → Within p more (behaviour b s).end (spent b s))
@@ -132,10 +127,7 @@ alone p first most s h = by (step_behaviour first s).end h
   where
     by : (e : End) → Within p most e (step_spent first s) → Within p most (on_end e (behaviour nothing)).end (step_spent first s + spent_on e (spent nothing))
     by (GoesOn v) h = omega (arith, h)
-    by (Jumps to v) h = omega (arith, h)
-    by Short h = omega (arith, h)
-    by Strays h = omega (arith, h)
-    by Broken h = omega (arith, h)
+    by e h = omega (arith, h)
 
 -- ---- turns
 

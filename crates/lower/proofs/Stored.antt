@@ -80,35 +80,26 @@ set_holds p v i w m f g locals inside h words elements = record {
 
 -- ---- words that stay
 
-own_same_at : (p : Places) (f g : ℕ → ℕ) (x : Element) (elements length : ℕ) (copies : Option ArrayCopies) → IsArrayAt p x.array elements length copies
-    → x.index < length
-    → g (word_place p.map Version) ≡ f (word_place p.map Version) → g (element_address p x) ≡ f (element_address p x)
-    → (IsCopied p x → g (copy_address p x) ≡ f (copy_address p x)) → (IsCopied p x → g (version_address p x) ≡ f (version_address p x))
-    → own_word p g (Some (Array elements length copies)) x.index ≡ own_word p f (Some (Array elements length copies)) x.index
-own_same_at p f g x elements length None at below ver e c n =
-    sym (ap g (element_is p x elements length None at)) ∙ e ∙ ap f (element_is p x elements length None at)
-own_same_at p f g x elements length (Some k) at below ver e c n =
-    let is : IsCopied p x = record { elements = elements; length = length; copies = k; is_array = at; below = below } in
-    let at_element = element_is p x elements length (Some k) at in
-    let at_copy = copy_is p x elements length k at in
-    let at_version = version_is p x elements length k at in
-    let same_element = sym (ap g at_element) ∙ e ∙ ap f at_element in
-    let same_copy = sym (ap g at_copy) ∙ c is ∙ ap f at_copy in
-    let same_version = sym (ap g at_version) ∙ n is ∙ ap f at_version in
-    let i = x.index in
-    ap (λ z. if z == g (2 * i + k.versions) then g (2 * i + k.copies) else g (2 * i + elements)) ver
-    ∙ ap (λ z. if f (word_place p.map Version) == z then g (2 * i + k.copies) else g (2 * i + elements)) same_version
-    ∙ ap (λ z. if f (word_place p.map Version) == f (2 * i + k.versions) then z else g (2 * i + elements)) same_copy
-    ∙ ap (λ z. if f (word_place p.map Version) == f (2 * i + k.versions) then f (2 * i + k.copies) else z) same_element
-
 -- an element whose words stay is the same one
 pub own_same : (p : Places) (f g : ℕ → ℕ) (x : Element) → IsElement p x → g (word_place p.map Version) ≡ f (word_place p.map Version)
     → g (element_address p x) ≡ f (element_address p x)
     → (IsCopied p x → g (copy_address p x) ≡ f (copy_address p x)) → (IsCopied p x → g (version_address p x) ≡ f (version_address p x))
     → own_word p g (slice_get p.map.variables x.array) x.index ≡ own_word p f (slice_get p.map.variables x.array) x.index
 own_same p f g x is ver e c n =
-    ap (λ o. own_word p g o x.index) is.is_array.place ∙ own_same_at p f g x is.elements is.length is.copies is.is_array is.below ver e c n
-    ∙ sym (ap (λ o. own_word p f o x.index) is.is_array.place)
+    ap (λ o. own_word p g o x.index) is.is_array.place ∙ by is.copies is.is_array ∙ sym (ap (λ o. own_word p f o x.index) is.is_array.place)
+  where
+    by : (copies : Option ArrayCopies) → IsArrayAt p x.array is.elements is.length copies
+        → own_word p g (Some (Array is.elements is.length copies)) x.index ≡ own_word p f (Some (Array is.elements is.length copies)) x.index
+    by None at = let here = element_is p x is.elements is.length None at in sym (ap g here) ∙ e ∙ ap f here
+    by (Some k) at =
+        let copied : IsCopied p x = record { elements = is.elements; length = is.length; copies = k; is_array = at; below = is.below } in
+        let at_element = element_is p x is.elements is.length (Some k) at in
+        let at_copy = copy_is p x is.elements is.length k at in
+        let at_version = version_is p x is.elements is.length k at in
+        let same_element = sym (ap g at_element) ∙ e ∙ ap f at_element in
+        let same_copy = sym (ap g at_copy) ∙ c copied ∙ ap f at_copy in
+        let same_version = sym (ap g at_version) ∙ n copied ∙ ap f at_version in
+        λ j. if ver j == same_version j then same_copy j else same_element j
 
 -- VER and the words that the task works on stay
 pub record SpotsStay (p : Places) (f g : ℕ → ℕ) : Type 0 where

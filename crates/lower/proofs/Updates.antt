@@ -31,18 +31,15 @@ pub record IsOfWords (of : WordType) (o : Option PlainOperation) (p : PlainOpera
 
 pub is_of_words : (of : WordType) (o : Option PlainOperation) (p : PlainOperation) → of_words of o ≡ Some p → IsOfWords of o p
 is_of_words Long o p h = absurd (cc)
-is_of_words Int o p h = record { word = tt; is = h }
-is_of_words Unsigned o p h = record { word = tt; is = h }
+is_of_words of o p h = record { word = tt; is = h }
 
 -- operands whose joined type has one word have one word
 pub joined_words : (s of : WordType) → IsOneWord (joined_type s of) → IsOneWord s × IsOneWord of
 joined_words Long of k = absurd k
 joined_words Int Long k = absurd k
-joined_words Int Int k = (tt, tt)
-joined_words Int Unsigned k = (tt, tt)
 joined_words Unsigned Long k = absurd k
-joined_words Unsigned Int k = (tt, tt)
-joined_words Unsigned Unsigned k = (tt, tt)
+joined_words Int of k = (tt, tt)
+joined_words Unsigned of k = (tt, tt)
 
 -- the left side is the variable alone, and the operator has an operation that is one instruction
 pub record IsUpdate (x : Variable) (op : BinaryOperator) (a : CheckedExpression) (o : PlainOperation) : Type 0 where

@@ -19,7 +19,7 @@ use Rattle.array_versions.specs.Behaviour.{versioned_stored, own_place, own_kept
 use Rattle.lower.specs.Spots.{Room, AreApart, AreDifferent, AreListed, listed_of}
 use Rattle.lower.specs.Agreement.{own_word, HoldVariables, element_pair, HoldList}
 use Rattle.lower.proofs.Addresses.{placed, has_element, copy_is, version_is, no_scalar, word_scalar, same_element, same_or_not}
-use Rattle.lower.proofs.Stored.{word_same, word_other, set_holds, own_same, ListStays, EmitsStay, few_entries, spot_list}
+use Rattle.lower.proofs.Stored.{word_same, word_other, set_holds, own_same, EmitsStay, few_entries}
 use Rattle.runtime_effects.specs.Places.{entries_from}
 use Rattle.runtime_effects.proofs.Interface.{entries_alike}
 use Rattle.lower.proofs.Lists.{HaveWords, HasNext, IsElse}
@@ -169,10 +169,6 @@ again_stored p room x v f apart is marked =
       spots = λ s of ne d. put_other f a v (spot_address p s) (λ e. ne (apart.distinct s (copy x) of is e));
     }
 
-pub again_list : (p : Places) (room : Room) (x : Element) (v : ℕ) (f : ℕ → ℕ) → AreApart p room → IsCopied p x
-    → ListStays p room f (put f (copy_address p x) v)
-again_list p room x v f apart is = spot_list p room (copy x) v f apart is (λ y e. cc)
-
 -- ---- the first store
 
 -- FRAM behind the copy and the version word
@@ -282,11 +278,11 @@ elements_have_next p room xs apart copied =
     let copied_to = apart.below (copy x) is in
     record { home = omega (arith, home); copy = omega (arith, copied_to) }) xs copied)
 
-pub first_list : (p : Places) (room : Room) (xs : List Element) (x : Element) (v : ℕ) (f g : ℕ → ℕ) → AreApart p room → IsCopied p x → length xs < room.list
+pub first_list : (p : Places) (xs : List Element) (x : Element) (v : ℕ) (f g : ℕ → ℕ) → IsCopied p x
     → (f (word_place p.map Version) ≡ f (version_address p x) → ⊥) → HoldList p xs f → IsStored p x v f g
     → entries_from (g (word_place p.map ListLength)) p.map.list.address g ≡ map (element_pair p) xs ++ element_pair p x ∷ []
     → HaveWords p.map.list.address (g (word_place p.map ListLength)) g → HoldList p (xs ++ x ∷ []) g
-first_list p room xs x v f g apart is few unmarked h now pairs have = record {
+first_list p xs x v f g is unmarked h now pairs have = record {
   are_listed = push_listed p xs x h.are_listed is fresh;
   pairs = pairs ∙ sym (map-append (element_pair p) xs (x ∷ []));
   runs = have;

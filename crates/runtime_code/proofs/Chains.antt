@@ -35,7 +35,7 @@ from_there {code} {es} {n} {c} {Q = Q} u h a =
 
 -- a stretch to a state that is known, where something holds of that
 pub ends : {code : Code} {es : List Effect} {n c : ℕ} {u t : Core} {Q : Core → Type 0} → Comes code es n c u (λ v. v ≡ t) → Q t → Comes code es n c u Q
-ends {Q = Q} a q = record { end = a.end; leads = a.leads; holds = subst Q (sym a.holds) q }
+ends {Q = Q} a q = record { end = a.end; leads = a.leads; forms = a.forms; holds = subst Q (sym a.holds) q }
 
 -- and another from there
 pub then_on : {code : Code} {es fs : List Effect} {n k c d : ℕ} {u t : Core} {Q : Core → Type 0} → Comes code es n c u (λ v. v ≡ t)
@@ -45,7 +45,7 @@ then_on {code} {fs = fs} {k = k} {d = d} {Q = Q} a b = comes_on a (λ v e. subst
 -- the same stretch, where more holds behind it
 pub so_ends : {code : Code} {es : List Effect} {n c : ℕ} {u : Core} {P Q : Core → Type 0} → Comes code es n c u P → ((v : Core) → P v → Q v)
     → Comes code es n c u Q
-so_ends a f = record { end = a.end; leads = a.leads; holds = f a.end a.holds }
+so_ends a f = record { end = a.end; leads = a.leads; forms = a.forms; holds = f a.end a.holds }
 
 -- its steps and cycles added up
 pub recounted : {code : Code} {es : List Effect} {n k c d : ℕ} {u : Core} {P : Core → Type 0} → n ≡ k → c ≡ d → Comes code es n c u P → Comes code es k d u P

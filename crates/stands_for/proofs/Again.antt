@@ -1,24 +1,15 @@
 -- Behind each effect of a pending commit the commit is pending, and leaves what it left before.
-use Rattle.std.proofs.Common.{◌≡◌, ℕ, suc, ◌+◌, ◌*◌, ◌%◌, ◌<◌, ◌≤◌, List, ◌++◌, refl, sym, ap, ap₂, ◌∙◌, subst, ⊎_elim, inl, inr, ◌⊎◌, arith, length}
+use Rattle.stands_for.proofs.Names.{◌≡◌, ℕ, suc, ◌+◌, ◌*◌, ◌%◌, ◌<◌, ◌≤◌, List, ◌++◌, refl, sym, ap, ap₂, ◌∙◌, subst, ⊎_elim, inl, inr, ◌⊎◌, arith, length}
+use Rattle.stands_for.proofs.Names.{cases_eq, Store, Outside, Offered, World, put, accepted_after, world_after_one, world_after, put_same, put_other, CopyPair}
+use Rattle.stands_for.proofs.Names.{entry_bytes, entries_from, listed, entries_alike, emits_sent, commit_effects, HoldsThroughout, ProgramPlaces, StateView}
+use Rattle.stands_for.proofs.Names.{IsSharedWord, IsAmong, HaveRoom, HoldsWords, words_at, RestsAt, IsPendingCommit, CommittingTo, MemoryMap, word_place}
+use Rattle.stands_for.proofs.Names.{CurrentTask, NextTask, Gate, ListLength, EmitCount, Base, SentBase, Version, AreApart}
 use Rattle.std.proofs.Math.Path.{fun_ext}
-use Rattle.std.proofs.lemmas.Bool.{cases_eq}
-use Rattle.runtime_effects.specs.fram_board.Effects.{Store, Outside, Offered}
-use Rattle.runtime_effects.specs.machine_effects.World.{World, put, accepted_after, world_after_one, world_after}
-use Rattle.runtime_effects.proofs.machine_effects.Interface.{put_same, put_other}
-use Rattle.runtime_effects.specs.Places.{CopyPair, entry_bytes, entries_from, listed}
-use Rattle.runtime_effects.proofs.Interface.{entries_alike}
-use Rattle.runtime_effects.specs.Stages.{emits_sent, commit_effects}
-use Rattle.crash_rules.specs.Model.{HoldsThroughout}
-use Rattle.stands_for.specs.Layout.{ProgramPlaces, StateView, IsSharedWord, IsAmong, HaveRoom}
-use Rattle.stands_for.specs.StandsFor.{HoldsWords, words_at, RestsAt, IsPendingCommit, CommittingTo}
 use Rattle.stands_for.proofs.Sends.{next_base, IsEmit}
 use Rattle.stands_for.proofs.Keeps.{put_either, put_words}
 use Rattle.stands_for.proofs.Walks.{commit_before, through}
 use Rattle.stands_for.proofs.Behind.{IsHome, copies_behind, copies_related, closed, behind_commit, IsSent, one_sent, emits_received, words_alike}
 use Rattle.stands_for.proofs.Pending.{few, copies_apart, still_to_send}
-use Rattle.runtime_effects.specs.memory_map.MemoryMap.{MemoryMap, word_place}
-use Rattle.runtime_effects.specs.memory_map.declared.words.RuntimeWord.TheVariants.{CurrentTask, NextTask, Gate, ListLength, EmitCount, Base, SentBase, Version}
-use Rattle.runtime_effects.specs.memory_map.Laws.{AreApart}
 
 -- two functions that are the same but at an address, with a word put there
 put_alike : (f g : ℕ → ℕ) (a w b : ℕ) → ((b ≡ a → ⊥) → f b ≡ g b) → put f a w b ≡ put g a w b

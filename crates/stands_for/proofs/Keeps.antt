@@ -1,19 +1,10 @@
 -- Each effect of a commit keeps a decided world decided.
-use Rattle.std.proofs.Common.{◌≡◌, ℕ, suc, ◌+◌, ◌*◌, ◌%◌, ◌<◌, ◌≤◌, List, [], ◌∷◌, ◌++◌, refl, sym, ap, ap₂, ◌∙◌, subst, ⊎_elim, inl, inr, ◌⊎◌, arith, ne_eqb}
-use Rattle.std.proofs.Common.{eq-eqb, cond, length, take, length-append, length-take-le, append_assoc, take-suc}
-use Rattle.std.proofs.lemmas.Bool.{cases_eq}
-use Rattle.std.specs.List.{slice_index}
-use Rattle.runtime_effects.specs.fram_board.Effects.{Store, Outside, Offered}
-use Rattle.runtime_effects.specs.machine_effects.World.{World, put, world_after_one}
-use Rattle.runtime_effects.proofs.machine_effects.Interface.{put_same, put_other}
-use Rattle.runtime_effects.specs.Places.{CopyPair, entry_bytes, entries_from}
-use Rattle.runtime_effects.proofs.Interface.{entries_alike}
-use Rattle.stands_for.specs.Layout.{ProgramPlaces, StateView, IsSharedWord, IsAmong, HaveRoom}
-use Rattle.stands_for.specs.StandsFor.{HoldsWords, AcceptedFrom, SendsAndCloses, CopiesHome}
+use Rattle.stands_for.proofs.Names.{◌≡◌, ℕ, suc, ◌+◌, ◌*◌, ◌%◌, ◌<◌, ◌≤◌, List, [], ◌∷◌, ◌++◌, refl, sym, ap, ap₂, ◌∙◌, subst, ⊎_elim, inl, inr, ◌⊎◌, arith}
+use Rattle.stands_for.proofs.Names.{ne_eqb, eq-eqb, cond, length, take, length-append, length-take-le, append_assoc, take-suc, cases_eq, slice_index, Store}
+use Rattle.stands_for.proofs.Names.{Outside, Offered, World, put, world_after_one, put_same, put_other, CopyPair, entry_bytes, entries_from, entries_alike}
+use Rattle.stands_for.proofs.Names.{ProgramPlaces, StateView, IsSharedWord, IsAmong, HaveRoom, HoldsWords, AcceptedFrom, SendsAndCloses, CopiesHome, word_place}
+use Rattle.stands_for.proofs.Names.{CurrentTask, NextTask, Gate, ListLength, EmitCount, Base, SentBase, Version, AreApart}
 use Rattle.stands_for.proofs.Sends.{next_base}
-use Rattle.runtime_effects.specs.memory_map.MemoryMap.{word_place}
-use Rattle.runtime_effects.specs.memory_map.declared.words.RuntimeWord.TheVariants.{CurrentTask, NextTask, Gate, ListLength, EmitCount, Base, SentBase, Version}
-use Rattle.runtime_effects.specs.memory_map.Laws.{AreApart}
 
 -- what was put, or what was there
 pub put_either : (f : ℕ → ℕ) (a w x : ℕ) → ((x ≡ a) × (put f a w x ≡ w)) ⊎ ((x ≡ a → ⊥) × (put f a w x ≡ f x))

@@ -40,7 +40,13 @@ dearer_stall z = blocks.dearer_starves z.code z.tidy
 -- what it comes to, said otherwise
 pub so_runs : {code : Code} {es : List Effect} {most : ℕ} {u : Core} {P Q : Core → Type 0} → Runs code es most u P → ((t : Core) → P t → Q t)
     → Runs code es most u Q
-so_runs a f = record { steps = a.steps; cycles = a.cycles; end = a.end; within = a.within; leads = a.leads; holds = f a.end a.holds }
+so_runs a f =
+    record {
+      steps = a.steps;
+      cycles = a.cycles;
+      within = a.within;
+      comes = record { end = a.end; leads = a.leads; forms = a.forms; holds = f a.end a.holds };
+    }
 
 pub nothing_run : (z : Setting) {u : Core} {P : Core → Type 0} → P u → Runs z.code [] 0 u P
 nothing_run z {u} {P} = blocks.nothing z.code z.tidy u P

@@ -1,5 +1,4 @@
-use Rattle.std.proofs.Common.{◌≡◌, ◌++◌, drop}
-use Rattle.linked_code.specs.code_forms.Placed.{words_of}
+use Rattle.link_image.proofs.Names.{◌≡◌, ◌++◌, drop, words_of}
 use Rattle.link_image.proofs.code.push_code.Given as goal
 
 abbrev pub invariant-loop-instruction : goal.invariant-loop-instruction
