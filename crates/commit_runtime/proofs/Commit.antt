@@ -18,7 +18,7 @@ use Rattle.runtime_code.proofs.runtime_effects.Interface.{run_length, entries_al
 use Rattle.runtime_code.specs.Comes.{Comes, IsAt}
 use Rattle.runtime_code.specs.Counted.{over, if_any}
 use Rattle.runtime_code.proofs.Interface.{behind, core_at, from_there, then_on, so_ends, recounted, nothing, comes_on, form_comes, straight, jumps}
-use Rattle.runtime_code.proofs.Interface.{if_any_grows, Loop, Turning, Turn, Makes, loop_ends, in_front, turn_there, loops}
+use Rattle.runtime_code.proofs.Interface.{if_any_grows, Loop, Turning, Point, Turn, Makes, loop_ends, in_front, turn_there, loops}
 use Rattle.runtime_code.proofs.Interface.{IsLeft, all_left, left_from, first_left, BehindSends, sends_are_made}
 use Rattle.commit_runtime.specs.Listing.{copies_begin, entry_begin, word_moved, word_loop, copy_loop, closing, commit_forms, commit_steps, commit_cycles}
 use Rattle.commit_runtime.specs.Laws.{CommitIsMade}
@@ -28,16 +28,11 @@ use Rattle.commit_runtime.proofs.Copies.{next_task_stays}
 use Rattle.memory_map.specs.declared.words.RuntimeWord.TheVariants.{CurrentTask, NextTask, Gate, ListLength, EmitCount, Base, SentBase}
 use Rattle.memory_map.specs.MemoryMap.{MemoryMap, word_place}
 
--- the entry that is next, and FRAM
-record Next : Type 0 where
-  place : ℕ
-  memory : ℕ → ℕ
-
 -- the words that so many entries from there on name, and the stores that bring them home
-abbrev named : ℕ → Next → List CopyPair
+abbrev named : ℕ → Point → List CopyPair
 named n x = entries_from n x.place x.memory
 
-abbrev homes : ℕ → Next → List Effect
+abbrev homes : ℕ → Point → List Effect
 homes n x = copied_home (named n x) x.memory
 
 module _ (code : Code) (tidy : IsTidy code) (m : MemoryMap) (places : AreInFram m) where
@@ -45,12 +40,12 @@ module _ (code : Code) (tidy : IsTidy code) (m : MemoryMap) (places : AreInFram 
     abbrev copies_loop : Loop code
     copies_loop = record { at = p; address = m.list.address; turn = entry_begin ++ word_loop; stands = stands; passed = omega arith; again = omega arith }
 
-    record AreNext (n : ℕ) (x : Next) (w : ℕ → ℕ) : Type 0 where
+    record AreNext (n : ℕ) (x : Point) (w : ℕ → ℕ) : Type 0 where
       entries : IsLeft m.list.address (6 * m.entries) x.place (6 * n)
       few : length (named n x) < 0x10000
       copied : All (IsCopied m) (named n x)
 
-    abbrev turning : Turning Next
+    abbrev turning : Turning Point
     turning = record {
       next = λ x. x.place;
       memory = λ x. x.memory;
@@ -64,7 +59,7 @@ module _ (code : Code) (tidy : IsTidy code) (m : MemoryMap) (places : AreInFram 
     }
 
     -- an entry is read, and its words go home
-    entry_home : (n : ℕ) (x : Next) (u : Core) → AreNext (suc n) x u.work → Turn code copies_loop turning n x (in_front copies_loop turning (suc n) x u)
+    entry_home : (n : ℕ) (x : Point) (u : Core) → AreNext (suc n) x u.work → Turn code copies_loop turning n x (in_front copies_loop turning (suc n) x u)
     entry_home n x u r =
         let q = x.place in let f = x.memory in
         let s = in_front copies_loop turning (suc n) x u in
@@ -72,7 +67,7 @@ module _ (code : Code) (tidy : IsTidy code) (m : MemoryMap) (places : AreInFram 
         let run = run_pairs k (f q) (f (q + 2)) in
         let rest = entries_from n (q + 6) f in
         let es = copied_home run f in
-        let to : Next = record { place = q + 6; memory = fram_after es f } in
+        let to : Point = record { place = q + 6; memory = fram_after es f } in
         let here = all_front (IsCopied m) run rest r.copied in
         let low = r.entries.low in let top = r.entries.high in let few = r.few in
         let same : named n to ≡ rest = entries_alike n (q + 6) f to.memory
@@ -121,7 +116,7 @@ module _ (code : Code) (tidy : IsTidy code) (m : MemoryMap) (places : AreInFram 
         }
 
     -- behind the last one
-    all_home : (x : Next) (u : Core) → IsAt (loop_ends copies_loop) x.memory l u → AreNext 0 x u.work → Makes code turning 0 x u
+    all_home : (x : Point) (u : Core) → IsAt (loop_ends copies_loop) x.memory l u → AreNext 0 x u.work → Makes code turning 0 x u
     all_home x u at r = nothing code u _ at
 
   -- the listed words go home

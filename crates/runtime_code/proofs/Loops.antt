@@ -69,6 +69,11 @@ pub record Turning (X : Type 0) : Type 1 where
   pub cycles : ℕ → X → ℕ
   pub Done : ℕ → X → Core → Type 0
 
+-- a point of a loop that stores: the place that is next, and FRAM
+pub record Point : Type 0 where
+  pub place : ℕ
+  pub memory : ℕ → ℕ
+
 -- what is left is made
 abbrev pub Makes : Code → {X : Type 0} → Turning X → ℕ → X → Core → Type 0
 Makes code t n x u = Comes code (t.made n x) (t.steps n x) (t.cycles n x) u (t.Done n x)
