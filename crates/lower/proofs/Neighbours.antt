@@ -1,14 +1,7 @@
 -- Private scalars as runs: no more runs than scalars, the same words.
-use Rattle.std.proofs.Common.{◌≡◌, suc, ◌+◌, ◌*◌, ◌<◌, ◌≤◌, Bool, true, false, List, [], ◌∷◌, ◌++◌, length, refl, ap, ◌∙◌, arith, if◌then◌else◌, append_assoc}
-use Rattle.std.proofs.lemmas.Bool.Decides.{nat_tests}
-use Rattle.std.specs.List.{AllByRecursion, flat_map}
-use Rattle.memory_map.specs.declared.place.PrivateScalar.{PrivateScalar}
-use Rattle.memory_map.specs.Places.{scalar_words}
-use Rattle.memory_map.proofs.Interface.{some_words, few_words}
-use Rattle.runtime_effects.specs.Places.{CopyPair, run_pairs, scalar_pairs}
-use Rattle.runtime_effects.proofs.Interface.{run_behind}
-use Rattle.lower.specs.declared.runs.Run.{Run}
-use Rattle.lower.specs.Runs.{run_at, is_followed_by, longer, runs_from, runs_of}
+use Rattle.lower.proofs.Names.{◌≡◌, suc, ◌+◌, ◌*◌, ◌<◌, ◌≤◌, Bool, true, false, List, [], ◌∷◌, ◌++◌, length, refl, ap, ◌∙◌, arith, if◌then◌else◌}
+use Rattle.lower.proofs.Names.{append_assoc, nat_tests, AllByRecursion, flat_map, PrivateScalar, scalar_words, some_words, few_words, CopyPair, run_pairs}
+use Rattle.lower.proofs.Names.{scalar_pairs, run_behind, Run, run_at, is_followed_by, longer, runs_from, runs_of}
 
 -- what a test of two comparisons says
 followed : (r : Run) (s : PrivateScalar) → is_followed_by r s ≡ true → (r.home + 2 * r.words ≡ s.home) × (r.copy + 2 * r.words ≡ s.copy)

@@ -431,7 +431,8 @@ pub code_does_as_program : CodeDoesAsProgram
 code_does_as_program code at p u tidy h whole o entry =
     let locals = locals_of p in
     let few = program_least whole.locals p whole.low_locals in
-    let z : Setting = record { code = code; tidy = tidy; locals = locals; room = whole.room; roomy = omega (arith, whole.fits, few) } in
+    let room = whole.fits.fits in
+    let z : Setting = record { code = code; tidy = tidy; locals = locals; room = whole.room; roomy = record { fits = omega (arith, room, few) } } in
     let s = started u.fram u.inputs in
     let b = behaviour p s in
     let front = stack_set locals in
