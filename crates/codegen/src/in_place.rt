@@ -52,6 +52,7 @@ fn attempt_number(list: ListPlace) -> Form
 }
 
 // The first update of an element in an attempt.
+#[tactic(auto, using(std::proofs::Common::append_assoc))]
 fn emit_first_update(update: ElementUpdate, code: &mut Vec<Form>) -> Result<(), AllocError>
     ensures { OnOk result (code.new.items ≡ code.old.items ++ first_update update.operation (rest_source update.right) update.place update.list) }
 {
@@ -77,6 +78,7 @@ fn emit_by_version(
 }
 
 // An update at the index in R4, which is below the length.
+#[tactic(auto, using(std::proofs::Common::append_assoc))]
 fn emit_inside(
     alloc: Global,
     update: ElementUpdate,
@@ -114,6 +116,7 @@ fn emit_checked(
 }
 
 // At any index in R4, which may be surely below the length.
+#[tactic(auto, using(std::proofs::Common::append_assoc))]
 fn emit_indexed_update(
     alloc: Global,
     sure: bool,
@@ -130,6 +133,7 @@ fn emit_indexed_update(
 }
 
 // At a number that is known and below the length.
+#[tactic(auto, using(std::proofs::Common::append_assoc))]
 fn emit_known(
     alloc: Global,
     update: ElementUpdate,
@@ -163,6 +167,7 @@ fn number_below(length: u16, waiting: &[Waiting]) -> Option<u16>
 }
 
 // Brings the right side, which is taken, to where it is read; all words that wait are pushed.
+#[tactic(auto, using(std::proofs::Common::append_assoc))]
 fn emit_rest(
     right: Option<Waiting>,
     waiting: &mut Vec<Waiting>,
@@ -176,6 +181,7 @@ fn emit_rest(
 }
 
 // The same, and takes the index, which is the top, to R4.
+#[tactic(auto, using(std::proofs::Common::append_assoc))]
 fn emit_rest_and_index(
     right: Option<Waiting>,
     waiting: &mut Vec<Waiting>,

@@ -9,6 +9,8 @@ use Rattle.array_versions.specs.Program.{Program, nothing}
 use Rattle.array_versions.specs.Behaviour.{Behaviour, End, GoesOn, Jumps, Short as Starves, Strays, Broken, behaviour, started}
 use Rattle.memory_map.specs.declared.runtime.Logging.{Logging}
 use Rattle.memory_map.specs.declared.runtime.Logging.TheVariants.{Redo}
+use Rattle.memory_map.specs.declared.runtime.Role.{Role}
+use Rattle.memory_map.specs.declared.runtime.Role.TheVariants.{Alone}
 use Rattle.memory_map.specs.declared.words.RuntimeWord.TheVariants.{Gate}
 use Rattle.memory_map.specs.MemoryMap.{MemoryMap, word_place}
 use Rattle.runtime_effects.specs.Stages.{start_effects}
@@ -61,9 +63,10 @@ program_parts p l = record {
 abbrev pub redo_model : CheckedProgram → MemoryMap → Model State
 redo_model p l = program_model (program_places p l) (state_view p l) (program_parts p l)
 
--- the same under each runtime
-abbrev pub model_under : Logging → CheckedProgram → MemoryMap → Model State
-model_under Redo = redo_model
+-- The same under each runtime. How attempts start, what recoveries do and what FRAM stands for are by how it logs; to whom commits send, and what
+-- they wait for, by the board's role: one that is alone sends to the receiver at its ports, and waits for nothing
+abbrev pub model_under : Logging → Role → CheckedProgram → MemoryMap → Model State
+model_under Redo Alone = redo_model
 
 -- the stores of an attempt's start, from FRAM
 abbrev pub start_under : Logging → MemoryMap → (ℕ → ℕ) → List Effect
@@ -75,10 +78,10 @@ started_under Redo p l s = StartedAt (program_places p l) (state_view p l) s (pr
 
 -- ---- the source with its layout and its runtime
 
--- The source with its layout, as the crash theorem takes it. How attempts start, what commits and recoveries do and what FRAM stands for
--- are its runtime's; tasks, costs and marks are the same under each
-abbrev pub model_by : Logging → CheckedProgram → MemoryMap → Model State
-model_by logging p l = let chosen = model_under logging p l in record {
+-- The source with its layout, as the crash theorem takes it. What its runtime does and what FRAM stands for is chosen; tasks, costs and marks are
+-- the same under each
+abbrev pub model_by : Logging → Role → CheckedProgram → MemoryMap → Model State
+model_by logging role p l = let chosen = model_under logging role p l in record {
   task = whole_task p;
   task_number = λ s. s.task;
   emitted = λ s. s.emitted;
@@ -98,7 +101,7 @@ model_by logging p l = let chosen = model_under logging p l in record {
 
 -- under the runtime that the memory map names: its model, its starts, and what a world is behind one
 abbrev pub compiled_model : CheckedProgram → MemoryMap → Model State
-compiled_model p l = model_by l.runtime.logging p l
+compiled_model p l = model_by l.runtime.logging l.runtime.role p l
 
 abbrev pub start_of : MemoryMap → (ℕ → ℕ) → List Effect
 start_of l = start_under l.runtime.logging l

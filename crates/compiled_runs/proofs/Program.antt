@@ -38,6 +38,7 @@ use Rattle.stands_for.proofs.Interface.{numbered_starts, pending_can_commit}
 use Rattle.compiled_model.specs.Places.{program_places}
 use Rattle.compiled_model.specs.View.{state_view}
 use Rattle.memory_map.specs.declared.runtime.Logging.{Logging}
+use Rattle.memory_map.specs.declared.runtime.Role.{Role}
 use Rattle.compiled_model.specs.Parts.{has_jumped, task_program, redo_model, started_under}
 use Rattle.compiled_model.proofs.Interface.{is_redo, under_map}
 use Rattle.compiled_model.specs.Needs.{whole_cycles, LeavesFor}
@@ -240,7 +241,7 @@ module _ (source : Source) where
 
     leaves : LeavesFor l.commit.address b.end
     leaves =
-        let P : Logging → Type 0 = λ logging. started_under logging p l s (world_after es x) in
+        let P : Logging → Role → Type 0 = λ logging role. started_under logging p l s (world_after es x) in
         let a = r.leave.leave s (world_after es x) u.inputs words (under_map l P is_started) in
         subst (λ t. LeavesFor l.commit.address (behaviour (task_program p l t) (started g u.inputs)).end) (sym is_current)
         (subst (λ h. LeavesFor l.commit.address (behaviour (task_program p l s.task) (started h u.inputs)).end) started_fram a)

@@ -2,12 +2,13 @@
 use Rattle.compiled_states.proofs.Names.{◌≡◌, ◌⊎◌, inl, inr, ℕ, zero, suc, ◌+◌, ◌*◌, ◌%◌, ◌<◌, ◌≤◌, ◌||◌, Bool, true, false, List, [], ◌∷◌, length, Some, None}
 use Rattle.compiled_states.proofs.Names.{map, refl, sym, ap, arith, slice_get, false≢true, cases_lt, or_cases, or_from, or_left, or_right, Extent}
 use Rattle.compiled_states.proofs.Names.{SharedDeclaration, Allow, CheckedProgram, TaskPlanValue, VariablePlace, Scalar, Array, MemoryMap, end_of, scalar_words}
-use Rattle.compiled_states.proofs.Names.{home_region, AreInOrder, AreApart, apart_of, in_order_end, IsSharedWord, program_places, HasLayout}
-use Rattle.compiled_states.proofs.Names.{shared_words_are_of_variables, IsFram, length_of, map_words, map_list, map_buffer, value_type_of, variable_of}
-use Rattle.compiled_states.proofs.Names.{variables_of, map_of, IsOfKind, ArePlacesOf, MapValue, word_count, holds, is_held, place_words, list_words}
-use Rattle.compiled_states.proofs.Names.{variable_words, runtime_words, buffers, is_shared, is_named}
+use Rattle.compiled_states.proofs.Names.{home_region, AreInOrder, AreApart, apart_of, in_order_end, IsSharedWord, program_places, shared_words_are_of_variables}
+use Rattle.compiled_states.proofs.Names.{IsFram, length_of, map_words, map_list, map_buffer, value_type_of, variable_of, variables_of, map_of, IsOfKind}
+use Rattle.compiled_states.proofs.Names.{ArePlacesOf, MapValue, word_count, holds, is_held, place_words, list_words, variable_words, runtime_words, buffers}
+use Rattle.compiled_states.proofs.Names.{is_shared, is_named}
 use Rattle.task_ast.specs.declared.WordType.TheVariants as word
 use Rattle.task_ast.specs.declared.Extent.TheVariants as extent
+use Rattle.layout_facts.specs.Facts.{HasLayout}
 use Rattle.task_ast.specs.declared.WordType.{WordType}
 use Rattle.compiled_states.proofs.Full.{IsFull, layout_is_full}
 use Rattle.compiled_states.proofs.Held.{within, bounds_of, none_held, all_held}

@@ -43,7 +43,6 @@ pub use Rattle.cost_bound.specs.declared.allowance.Allow.{Allow}
 pub use Rattle.war_analysis.specs.PlanValue.{TaskPlanValue}
 pub use Rattle.privatise.specs.Layouts.{IsLayout, IsTaskLayout}
 pub use Rattle.source_values.specs.Runs.{first_state, initial_words}
-pub use Rattle.source_meaning.specs.Acceptance.{IsAcceptedText}
 pub use Rattle.source_runs.specs.Naming.{length_of}
 pub use Rattle.source_maps.specs.Maps.{map_buffer, map_list, map_of, map_words, shared_name, task_value_of, tasks_of, value_type_of, variable_of, variables_of}
 pub use Rattle.source_maps.specs.Placing.{ArePlacesOf, IsOfKind}
@@ -59,7 +58,6 @@ pub use Rattle.fram_state.specs.declared.entry.Entry.{Entry}
 pub use Rattle.compiled_model.specs.Places.{program_places}
 pub use Rattle.compiled_model.specs.View.{row_in, state_in, state_view}
 pub use Rattle.layout_facts.proofs.Interface.{among_back, among_either, among_front, shared_words_are_of_variables}
-pub use Rattle.layout_facts.specs.Facts.{HasLayout}
 pub use Rattle.image_laws.proofs.Interface.{half, images_are_fresh, laid_out, worlds_stand}
 pub use Rattle.image_laws.specs.Compiled.{IsCompiled, IsImageOf}
 pub use Rattle.image_laws.specs.Laws.{IsFreshImage, fresh_world}

@@ -2,11 +2,12 @@
 use Rattle.compiled_states.proofs.Names.{◌≡◌, ◌⊎◌, inl, inr, ℕ, ◌%◌, ◌<◌, ◌≤◌, false, List, [], ◌++◌, length, Option, Some, refl, sym, ap, ◌∙◌, subst, arith}
 use Rattle.compiled_states.proofs.Names.{All, append-nil, replicate, length-map, length-replicate, cases_lt, State, is_named, MemoryMap, MapValue, ImageValue}
 use Rattle.compiled_states.proofs.Names.{BoardValue, BoardCharge, Moment, RunOutcome, Run, saved, World, IsFram, fram_of, last_board, Counts, moments_count}
-use Rattle.compiled_states.proofs.Names.{front_moments, Allow, CheckedProgram, IsAcceptedText, map_of, IsCompiled, IsImageOf, IsFreshImage, laid_out}
-use Rattle.compiled_states.proofs.Names.{images_are_fresh, BelongsTo, known_from, IsToldOnward, IsResumedRun, made, images_belong, run_of_words, images_resume}
-use Rattle.compiled_states.proofs.Names.{world_of, MayHaveAccepted, HasFramWords, HasCodeWords, board_of, LeavesItsStates, StatesAreWorlds, WorldsAreStates}
+use Rattle.compiled_states.proofs.Names.{front_moments, Allow, CheckedProgram, map_of, IsCompiled, IsImageOf, IsFreshImage, laid_out, images_are_fresh}
+use Rattle.compiled_states.proofs.Names.{BelongsTo, known_from, IsToldOnward, IsResumedRun, made, images_belong, run_of_words, images_resume, world_of}
+use Rattle.compiled_states.proofs.Names.{MayHaveAccepted, HasFramWords, HasCodeWords, board_of, LeavesItsStates, StatesAreWorlds, WorldsAreStates}
 use Rattle.compiled_states.proofs.Names.{FreshStatesBelong, StatesGoOn, StatesAreTold, StatesStay}
 use Rattle.fram_state.specs.Sound as state
+use Rattle.source_meaning.specs.Acceptance.{IsAcceptedText}
 use Rattle.fram_state.specs.OtherImage.{SameBut}
 use Rattle.fram_state.specs.Belongs.{Belongs}
 use Rattle.whole_programs.proofs.Interface.{privates_are_few}

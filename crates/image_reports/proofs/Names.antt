@@ -19,7 +19,7 @@ pub use Rattle.machine_effects.proofs.Interface.{fram_after-append, fresh_is_who
 pub use Rattle.machine_effects.specs.Going.{At, Goes, Halted, StepOutcome, Stops, continued, going}
 pub use Rattle.machine_effects.specs.Machine.{Code, IsFram, MachineBoard, exec, fram_of, standing}
 pub use Rattle.machine_effects.specs.Runs.{last_board}
-pub use Rattle.machine_effects.specs.World.{EachStore, IsPrefix, World, fram_after, put, world_after}
+pub use Rattle.machine_effects.specs.World.{EachStore, World, fram_after, put, world_after}
 pub use Rattle.code_forms.specs.Placed.{AreInstructions, Holds, placed, words_of}
 pub use Rattle.runtime_effects.specs.Stages.{cleared, clearing_if, commit_effects, copied_in, counting_effects, is_at_end, opening_effects, start_effects}
 pub use Rattle.crash_rules.proofs.Interface.{changed, never_lost, pending_sends, runs_may_begin, sent_once, stops_short, stores_only, world_fram}

@@ -22,6 +22,7 @@ use Rattle.run_charges.proofs.Interface.{follows_keeps, are_behind, front_moment
 use Rattle.run_charges.proofs.Interface.{Counts, moments_count}
 use Rattle.model_runs.specs.EventLaws.{StartsWith}
 use Rattle.memory_map.specs.declared.runtime.Logging.{Logging}
+use Rattle.memory_map.specs.declared.runtime.Role.{Role}
 use Rattle.compiled_model.specs.Parts.{start_of}
 use Rattle.image_reports.proofs.Begins.{Beginning, first_world, first_board, begins, bears}
 use Rattle.image_reports.proofs.Capacities.{attempts_fit}
@@ -226,7 +227,7 @@ module _ (onward : Onward) where
               (record { world = x; start = outside_of b; begins = subst P is (begins at_first); charges = at.charges; leads = at.charged }) none;
           versions = λ made.
               let P : (ℕ → ℕ) → Type 0 = λ f. VersionsBelow l f in
-              let Raised : Logging → Type 0 = λ logging. VersionsBelow l (fram_after (start_under logging l h.start.fram) h.start.fram) in
+              let Raised : Logging → Role → Type 0 = λ logging role. VersionsBelow l (fram_after (start_under logging l h.start.fram) h.start.fram) in
               let f : (outside_of t).fram ≡ fram_after (start_of l h.start.fram) h.start.fram =
               same ∙ ap (λ w. w.fram) lawful.world ∙ world_fram h.effects h.start ∙ ap (λ es. fram_after es h.start.fram) made in
               let kept = began ms rest e in

@@ -1,5 +1,4 @@
 mod Names
-mod Fits
 mod Written
 mod Placing
 mod Ready

@@ -145,32 +145,30 @@ from_number (d ∷ ds) (v ∷ vs) low end (suc i) h =
 pub record IsNext (d : SharedDeclaration) (v : VariablePlace) (ds : List SharedDeclaration) (vs : List VariablePlace) (low end : ℕ) : Type 0 where
   pub here : FromHere (d ∷ ds) (v ∷ vs) low end
 
-pub next_of : (ds : List SharedDeclaration) (vs : List VariablePlace) (low end i : ℕ) (d : SharedDeclaration) (v : VariablePlace) → ArePlacesOf ds vs
-    → AreInOrder low (map home_region vs) end
-    → i < length ds → i < length vs → d ≡ get_or ds i d → v ≡ get_or vs i v → IsNext d v (drop (i + 1) ds) (drop (i + 1) vs) low end
-next_of ds vs low end i d v places order l m a b =
-    let all : FromHere ds vs low end = record { places = places; from = low; above = omega arith; order = order } in
-    let there = from_number ds vs low end i all in
-    let one = subst (λ xs. FromHere xs (drop i vs) low end) (at_drop_more (λ xs. xs) ds i d l ∙ ap (λ x. x ∷ drop (i + 1) ds) (sym a)) there in
-    record { here = subst (λ xs. FromHere (d ∷ drop (i + 1) ds) xs low end) (at_drop_more (λ xs. xs) vs i v m ∙ ap (λ x. x ∷ drop (i + 1) vs) (sym b)) one }
-
 pub same_length : (ds : List SharedDeclaration) (vs : List VariablePlace) → ArePlacesOf ds vs → length ds ≡ length vs
 same_length [] [] h = refl
 same_length [] (v ∷ vs) h = absurd h
 same_length (d ∷ ds) [] h = absurd h
 same_length (d ∷ ds) (v ∷ vs) h = let r = same_length ds vs h.1 in omega (arith, r)
 
-pub next_put : (ds : List SharedDeclaration) (vs : List VariablePlace) (low end i : ℕ) (d : SharedDeclaration) (v : VariablePlace) → ArePlacesOf ds vs
-    → AreInOrder low (map home_region vs) end
-    → i < length ds → i < length vs → d ≡ get_or ds i d → v ≡ get_or vs i v → (a old new : ℕ) → a % 2 ≡ 0
-    → old ≡ shared_word (drop (i + 1) vs) (rows_of (drop (i + 1) ds)) a
-    → new ≡ initial_put d.extent v a old → new ≡ shared_word (drop i vs) (rows_of (drop i ds)) a
-next_put ds vs low end i d v places order l m e f a old new even same put =
-    let n = (next_of ds vs low end i d v places order l m e f).here in
-    put ∙ variable_put d.extent v (drop (i + 1) vs) (rows_of (drop (i + 1) ds)) n.from end a old n.places.0 n.order even same
-    ∙ sym (at_drop_more (λ xs. shared_word (drop i vs) (rows_of xs) a) ds i d l ∙ ap (λ x. shared_word (drop i vs) (rows_of (x ∷ drop (i + 1) ds)) a) (sym e)
-    ∙ at_drop_more (λ xs. shared_word xs (rows_of (d ∷ drop (i + 1) ds)) a) vs i v m
-    ∙ ap (λ x. shared_word (x ∷ drop (i + 1) vs) (rows_of (d ∷ drop (i + 1) ds)) a) (sym f))
+-- the variable of a number, with its declaration
+module _ (ds : List SharedDeclaration) (vs : List VariablePlace) (low end i : ℕ) (d : SharedDeclaration) (v : VariablePlace) (places : ArePlacesOf ds vs)
+    (order : AreInOrder low (map home_region vs) end) (l : i < length ds) (m : i < length vs) (e : d ≡ get_or ds i d) (f : v ≡ get_or vs i v) where
+  pub next_of : IsNext d v (drop (i + 1) ds) (drop (i + 1) vs) low end
+  next_of =
+      let all : FromHere ds vs low end = record { places = places; from = low; above = omega arith; order = order } in
+      let there = from_number ds vs low end i all in
+      let one = subst (λ xs. FromHere xs (drop i vs) low end) (at_drop_more (λ xs. xs) ds i d l ∙ ap (λ x. x ∷ drop (i + 1) ds) (sym e)) there in
+      record { here = subst (λ xs. FromHere (d ∷ drop (i + 1) ds) xs low end) (at_drop_more (λ xs. xs) vs i v m ∙ ap (λ x. x ∷ drop (i + 1) vs) (sym f)) one }
+
+  pub next_put : (a old new : ℕ) → a % 2 ≡ 0 → old ≡ shared_word (drop (i + 1) vs) (rows_of (drop (i + 1) ds)) a → new ≡ initial_put d.extent v a old
+      → new ≡ shared_word (drop i vs) (rows_of (drop i ds)) a
+  next_put a old new even same put =
+      let n = next_of.here in
+      put ∙ variable_put d.extent v (drop (i + 1) vs) (rows_of (drop (i + 1) ds)) n.from end a old n.places.0 n.order even same
+      ∙ sym (at_drop_more (λ xs. shared_word (drop i vs) (rows_of xs) a) ds i d l ∙ ap (λ x. shared_word (drop i vs) (rows_of (x ∷ drop (i + 1) ds)) a) (sym e)
+      ∙ at_drop_more (λ xs. shared_word xs (rows_of (d ∷ drop (i + 1) ds)) a) vs i v m
+      ∙ ap (λ x. shared_word (x ∷ drop (i + 1) vs) (rows_of (d ∷ drop (i + 1) ds)) a) (sym f))
 
 -- one more word behind others
 pub word_put : (at k w a old new : ℕ) (ws : List ℕ) → at % 2 ≡ 0 → a % 2 ≡ 0 → w ≡ slice_index ws k → k < length ws

@@ -16,7 +16,8 @@ unfolding read
 read_more n es ls rest l e = rw e refl
 
 -- a fault is handed on
-pub fails_bind : (e : ScheduleFault) (r : Result (List Entry) ScheduleFault) (f : List Entry → Result (List Entry) ScheduleFault) → Fails e r → Fails e (r >>= f)
+pub fails_bind : (e : ScheduleFault) (r : Result (List Entry) ScheduleFault) (f : List Entry → Result (List Entry) ScheduleFault) → Fails e r
+    → Fails e (r >>= f)
 fails_bind (BadLine n) r f h = ap (λ x. x >>= f) h
 fails_bind (TooMany n) r f h = ap (λ x. x >>= f) h
 fails_bind Memory r f h = tt

@@ -1,15 +1,10 @@
 -- What one side sent over a radio that loses, repeats and reorders.
-use Rattle.std.specs.Prelude.{◌≡◌, ℕ, ◌+◌, ◌-◌, ◌<◌, ◌≤◌, ◌==◌, nat_lt, Bool, true, false, if◌then◌else◌, List, [], ◌∷◌, ◌++◌, length, Option, None, slice_get}
+use Rattle.std.specs.Prelude.{ℕ, ◌+◌, ◌-◌, ◌==◌, nat_lt, Bool, true, false, if◌then◌else◌, List, [], ◌∷◌, ◌++◌, length, Option, None, slice_get}
 
 -- all that was sent, in the order of sending, and whether the newest wasn't brought to the other side yet
 pub record SentValue (T : Type 0) : Type 0 where
   pub items : List T
   pub newest_waits : Bool
-
--- at most 1,000,000, and something waits only where something was sent
-pub record IsSent {T : Type 0} (s : SentValue T) : Type 0 where
-  pub few : length s.items ≤ 1000000
-  pub waits : s.newest_waits ≡ true → 0 < length s.items
 
 -- nothing
 abbrev pub nothing_sent : {T : Type 0} → SentValue T
@@ -21,7 +16,7 @@ with_sent s x = if nat_lt (length s.items) 1000000 then record { items = s.items
 
 -- the one of place k is brought, counted from 0: where it is the newest, that waits no more
 abbrev pub with_brought : {T : Type 0} → SentValue T → ℕ → SentValue T
-with_brought s k = if k + 1 == length s.items then record s { newest_waits = false } else s
+with_brought s k = record { items = s.items; newest_waits = if k + 1 == length s.items then false else s.newest_waits }
 
 -- the newest, where it waits
 abbrev pub newest : {T : Type 0} → SentValue T → Option T

@@ -6,7 +6,7 @@ use crate::sent::Sent;
 use std::alloc::{AllocError, Global};
 
 /// A word on its way from A to B, with its number.
-#[derive(Clone, Copy, Debug, PartialEq, Eq)]
+#[derive(Clone, Copy)]
 pub struct Packet {
     pub number: u16,
     pub word: u16,

@@ -1,7 +1,7 @@
 //! What a schedule has done, one thing after the other.
 
 /// One thing that a schedule has done.
-#[derive(Clone, Copy, Debug, PartialEq, Eq)]
+#[derive(Clone, Copy)]
 pub enum Entry {
     /// So many steps of board A.
     StepsOfA(u32),

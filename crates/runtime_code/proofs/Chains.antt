@@ -1,22 +1,22 @@
 -- Stretches of code one after another.
-use Rattle.std.proofs.Common.{◌≡◌, ℕ, ◌+◌, ◌-◌, ◌%◌, ◌==◌, List, [], ◌∷◌, ◌++◌, length, Some, Bool, not, true, if◌then◌else◌, refl, sym, ap, ◌∙◌, subst, arith}
+use Rattle.std.proofs.Common.{◌≡◌, ℕ, ◌+◌, List, [], ◌∷◌, ◌++◌, length, Some, Bool, not, true, if◌then◌else◌, refl, sym, ap, ◌∙◌, subst, arith}
 use Rattle.code_forms.specs.alp_words.declared.Width.TheVariants.{Word}
 use Rattle.code_forms.specs.alp_words.Words.{difference_of}
 use Rattle.code_forms.specs.msp_isa.declared.operands.Konst.{Konst}
 use Rattle.code_forms.specs.msp_isa.Constant.{constant_value}
 use Rattle.code_forms.specs.msp_isa.declared.instructions.Condition.{Condition}
-use Rattle.code_forms.specs.msp_isa.declared.instructions.Condition.TheVariants.{NotEqual, Always}
+use Rattle.code_forms.specs.msp_isa.declared.instructions.Condition.TheVariants.{NotEqual}
 use Rattle.runtime_effects.specs.msp_step.Effect.{word_sum, distance, is_met}
 use Rattle.runtime_effects.specs.fram_board.Effects.{Effect}
 use Rattle.runtime_effects.specs.machine_effects.Inputs.{Inputs}
 use Rattle.runtime_effects.specs.machine_effects.World.{fram_after}
 use Rattle.runtime_effects.specs.machine_effects.Going.{Goes, At, stretch}
-use Rattle.runtime_effects.specs.machine_effects.Machine.{Code, IsFram}
+use Rattle.runtime_effects.specs.machine_effects.Machine.{Code, IsPlace}
 use Rattle.runtime_effects.proofs.machine_effects.Interface.{fram_after-append}
 use Rattle.code_forms.specs.Forms.{Core, Form, Compare, Jump, Constant, instruction_of}
 use Rattle.code_forms.specs.Code.{Stands, AreStraight, forms_run, FormsNeed, IsTidy}
 use Rattle.code_forms.proofs.Interface.{end_of, comes_on, straight_comes, form_comes}
-use Rattle.runtime_code.specs.Comes.{Comes, IsAt, Enters}
+use Rattle.runtime_code.specs.Comes.{Comes, IsAt}
 
 -- the state behind straight code
 abbrev pub behind : List Form → Core → Core
@@ -82,7 +82,7 @@ module _ (code : Code) (tidy : IsTidy code) where
       refl
 
   -- a word of FRAM is compared with a constant, and where it is another it goes on elsewhere
-  pub compares : (k : Konst) (a o p to : ℕ) (b : Bool) (f : ℕ → ℕ) (l : Inputs) (u : Core) → IsFram a
+  pub compares : (k : Konst) (a o p to : ℕ) (b : Bool) (f : ℕ → ℕ) (l : Inputs) (u : Core) → IsPlace a
       → Stands code p (Compare (Constant k) a ∷ Jump NotEqual o ∷ []) → word_sum (p + 4 + 2) (distance o) ≡ to
       → (difference_of Word (f a) (constant_value k) true).1.z ≡ b → IsAt p f l u
       → Comes code [] 2 6 u (IsAt (if not b then to else p + 6) f l)

@@ -4,7 +4,7 @@
 pub use Rattle.code_forms.proofs.Interface.{no_steps as nothing, comes_on, form_comes}
 pub use Rattle.runtime_code.proofs.Chains.{behind, core_at, from_there, ends, then_on, so_ends, recounted, on_fram, moved_to, straight, jumps, compares}
 -- Loops that count down.
-pub use Rattle.runtime_code.proofs.Loops.{if_any_most, if_any_grows, last_flag, Loop, Turning, Turn, IsBehind, Makes, count_at, loop_ends, in_front}
+pub use Rattle.runtime_code.proofs.Loops.{if_any_most, if_any_grows, last_flag, Loop, Turning, Point, Turn, IsBehind, Makes, count_at, loop_ends, in_front}
 pub use Rattle.runtime_code.proofs.Loops.{turn_there, loops}
 -- What is left of a region as a loop goes over it.
 pub use Rattle.runtime_code.proofs.Regions.{IsLeft, all_left, left_from, first_left}

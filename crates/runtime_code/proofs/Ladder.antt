@@ -1,5 +1,5 @@
 -- The ladder and the stubs, whatever is done in them.
-use Rattle.std.proofs.Common.{◌≡◌, ℕ, zero, suc, ◌+◌, ◌*◌, ◌%◌, ◌<◌, List, [], ◌∷◌, ◌++◌, length, get_or, Some, refl, sym, ap, ◌∙◌, subst, arith, false}
+use Rattle.std.proofs.Common.{◌≡◌, ℕ, zero, suc, ◌+◌, ◌*◌, ◌%◌, ◌<◌, List, [], ◌∷◌, length, get_or, Some, refl, sym, ap, ◌∙◌, subst, arith, false}
 use Rattle.std.proofs.Common.{append-nil}
 use Rattle.std.specs.List.{All}
 use Rattle.std.proofs.lemmas.List.Elements.{All-head, All-tail, All-get_or}
@@ -7,7 +7,7 @@ use Rattle.code_forms.specs.alp_words.declared.Width.TheVariants.{Word}
 use Rattle.code_forms.specs.alp_words.Words.{sum_of}
 use Rattle.runtime_effects.specs.fram_board.Effects.{Effect}
 use Rattle.runtime_effects.specs.machine_effects.Inputs.{Inputs}
-use Rattle.runtime_effects.specs.machine_effects.Machine.{Code, IsFram}
+use Rattle.runtime_effects.specs.machine_effects.Machine.{Code, IsPlace}
 use Rattle.runtime_effects.specs.memory_map.declared.words.RuntimeWord.TheVariants.{CurrentTask}
 use Rattle.runtime_effects.specs.memory_map.MemoryMap.{MemoryMap, word_place}
 use Rattle.runtime_effects.specs.address_space.Limits.{stack_top}
@@ -87,7 +87,7 @@ pub record HasLadder (code : Code) (m : MemoryMap) (p q : ℕ) (ss : List Rung) 
   pub room : p + 14 + 4 * length ss < 0x10000
   pub even : q % 2 ≡ 0
   pub each : All IsRung ss
-  pub current : IsFram (word_place m CurrentTask)
+  pub current : IsPlace (word_place m CurrentTask)
 
 module _ (code : Code) (tidy : IsTidy code) where
   -- to where the rung of the task that CUR names leads

@@ -1,9 +1,8 @@
 -- Loops that count down.
-use Rattle.std.proofs.Common.{◌≡◌, ℕ, zero, suc, ◌+◌, ◌%◌, ◌<◌, ◌≤◌, ◌==◌, [], ◌∷◌, ◌++◌, List, Some, refl, sym, ap, ◌∙◌, subst, arith, Bool, true, false}
+use Rattle.std.proofs.Common.{◌≡◌, ℕ, zero, suc, ◌+◌, ◌%◌, ◌<◌, ◌≤◌, ◌==◌, [], ◌∷◌, ◌++◌, List, refl, sym, ap, ◌∙◌, subst, arith, Bool, true, false}
 use Rattle.std.proofs.Common.{if◌then◌else◌, not}
 use Rattle.std.proofs.lemmas.Bool.Decides.{nat_tests}
 use mathlib.Core.Path.{fun_ext}
-use Rattle.code_forms.specs.alp_words.declared.Flags.{Flags}
 use Rattle.code_forms.specs.msp_isa.declared.instructions.TwoOp.TheVariants.{Sub, Cmp}
 use Rattle.code_forms.specs.msp_isa.declared.operands.Konst.TheVariants.{Zero, One}
 use Rattle.code_forms.specs.msp_isa.declared.instructions.Condition.TheVariants.{Equal, NotEqual}
@@ -19,7 +18,7 @@ use Rattle.code_forms.specs.Code.{Stands, IsTidy, forms_bytes}
 use Rattle.code_forms.proofs.Interface.{stands_front, stands_back, form_comes, comes_on}
 use Rattle.runtime_code.specs.Comes.{Comes, IsAt}
 use Rattle.runtime_code.specs.Counted.{counted, loop_end, over_loop, back_to_turn, if_any}
-use Rattle.runtime_code.proofs.Chains.{behind, ends, then_on, so_ends, recounted, straight, jumps}
+use Rattle.runtime_code.proofs.Chains.{behind, then_on, so_ends, recounted, straight, jumps}
 
 -- what is spent once is spent at most once, and again where there is more
 pub if_any_most : (n once : ℕ) → if_any n once ≤ once
@@ -69,6 +68,11 @@ pub record Turning (X : Type 0) : Type 1 where
   pub steps : ℕ → X → ℕ
   pub cycles : ℕ → X → ℕ
   pub Done : ℕ → X → Core → Type 0
+
+-- a point of a loop that stores: the place that is next, and FRAM
+pub record Point : Type 0 where
+  pub place : ℕ
+  pub memory : ℕ → ℕ
 
 -- what is left is made
 abbrev pub Makes : Code → {X : Type 0} → Turning X → ℕ → X → Core → Type 0

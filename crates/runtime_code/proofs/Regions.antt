@@ -1,6 +1,6 @@
 -- What is left of a region of FRAM, as code goes over it.
-use Rattle.std.proofs.Common.{◌≡◌, ℕ, ◌+◌, ◌%◌, ◌≤◌, refl, arith}
-use Rattle.runtime_effects.specs.machine_effects.Machine.{IsFram}
+use Rattle.std.proofs.Common.{◌≡◌, ℕ, ◌+◌, ◌%◌, ◌≤◌, arith}
+use Rattle.runtime_effects.specs.machine_effects.Machine.{IsPlace}
 use Rattle.runtime_effects.specs.Needs.{IsRegion}
 
 -- so many bytes from q on are of the region
@@ -18,7 +18,7 @@ left_from k less h e l =
     record { even = omega (arith, even, e); low = omega (arith, low); high = omega (arith, high, l) }
 
 -- the first of them is a word of FRAM
-pub first_left : {from bytes q rest : ℕ} → IsRegion from bytes → IsLeft from bytes q rest → 2 ≤ rest → IsFram q
+pub first_left : {from bytes q rest : ℕ} → IsRegion from bytes → IsLeft from bytes q rest → 2 ≤ rest → IsPlace q
 first_left r h l =
     let first = r.low in let last = r.high in let low = h.low in let high = h.high in
     record { even = h.even; low = omega (arith, first, low); high = omega (arith, last, high, l) }

@@ -55,7 +55,6 @@ module _ (code : Code) (tidy : IsTidy code) (m : MemoryMap) (places : AreInFram 
     sent : (n : ℕ) (x : Next) (u : Core) → IsNext (suc n) x u.work → Turn code sends_loop turning n x (in_front sends_loop turning (suc n) x u)
     sent n x u r =
         let s = in_front sends_loop turning (suc n) x u in
-        let last = places.emits.high in let top = r.words.high in
         let To : ℕ → Core → Type 0 = λ k. IsBehind turning (count_at sends_loop) n (record { place = x.place + 2; number = (k + 1) % 0x10000 }) in
         record {
           to = record { place = x.place + 2; number = (x.number + 1) % 0x10000 };
@@ -64,7 +63,7 @@ module _ (code : Code) (tidy : IsTidy code) (m : MemoryMap) (places : AreInFram 
           cycles = 10;
           comes = subst (λ k. Comes code (Outside (Offered k (f x.place)) ∷ []) 3 10 s (To k)) r.number
               (ends (straight code tidy send_turn s (tt, (tt, (tt, tt))) (turn_there code tidy sends_loop)
-              ((tt, tt), (((first_left places.emits r.words (omega arith), omega (arith, top, last)), tt), ((tt, tt), tt))) refl)
+              ((tt, tt), ((first_left places.emits r.words (omega arith), tt), ((tt, tt), tt))) refl)
               (record {
                 at = record { pc = omega arith; fram = refl; inputs = refl };
                 left = refl;

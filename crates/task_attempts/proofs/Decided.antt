@@ -18,7 +18,7 @@ use Rattle.memory_map.specs.Spots.{element}
 use Rattle.task_attempts.proofs.Rows.{rows_are, rows_count, declared_length}
 use Rattle.task_attempts.proofs.Quiet.{IsQuiet, IsQuietAt, quiet_behind, stores_as, stays_within}
 use Rattle.task_attempts.proofs.Entries.{IsTransitionStore, transition_stores, closing, closed, closed_sent, closed_next, closed_count, closed_pairs}
-use Rattle.task_attempts.proofs.Entries.{closed_entries, IsLeft, closed_left}
+use Rattle.task_attempts.proofs.Entries.{closed_entries, IsLeft, closed_left, Closing}
 use Rattle.task_attempts.proofs.Listed.{among_map, map_among}
 use Rattle.task_attempts.proofs.Tasks.{body_is, private_copy, private_not_in_place}
 use Rattle.task_attempts.proofs.Started.{Started, scene}
@@ -81,6 +81,9 @@ module _ (run : Started) where
     abbrev transition : List Effect
     transition = transition_effects here task count base
 
+    abbrev leaving : Closing
+    leaving = record { places = here; room = space; apart = facts.apart; task = task; base = base; fram = left.there.fram }
+
     -- the effects but the last
     abbrev pub before : List Effect
     before = left.body ++ transition
@@ -124,26 +127,24 @@ module _ (run : Started) where
     u = quiet_behind sites view s ver before x quiet_before quiet_start
 
     abbrev g : ℕ → ℕ
-    g = closed here space facts.apart task count base left.there.fram refl
+    g = closed leaving
 
     z_is : z.fram ≡ g
     z_is =
         ap (λ w. w.fram) (sym (world_after-append before (Store (word_place l Gate) 1 ∷ []) x))
         ∙ world_fram (before ++ Store (word_place l Gate) 1 ∷ []) x
         ∙ ap (λ e. fram_after e x.fram) (append_assoc left.body transition (Store (word_place l Gate) 1 ∷ []))
-        ∙ fram_after-append left.body (closing here space facts.apart task count base left.there.fram refl) x.fram
-        ∙ ap (fram_after (closing here space facts.apart task count base left.there.fram refl)) (sym left.arrived)
+        ∙ fram_after-append left.body (closing leaving) x.fram
+        ∙ ap (fram_after (closing leaving)) (sym left.arrived)
 
     z_before : (a : ℕ) → (a ≡ word_place l Gate → ⊥) → z.fram a ≡ y.fram a
     z_before a ne = put_other y.fram (word_place l Gate) 1 a ne
 
     abbrev Stays : ℕ → Type 0
-    Stays a = IsLeft here space facts.apart task count base left.there.fram refl a
+    Stays a = IsLeft leaving a
 
     z_there : (a : ℕ) → Stays a → z.fram a ≡ left.there.fram a
-    z_there a h =
-        ap (λ f. f a) z_is
-        ∙ closed_left here space facts.apart task count base left.there.fram refl a h
+    z_there a h = ap (λ f. f a) z_is ∙ closed_left leaving a h
 
     high_stays : (a : ℕ) → l.emits.address ≤ a → Stays a
     high_stays a h =
@@ -210,9 +211,7 @@ module _ (run : Started) where
     -- ---- the commit list
 
     z_count : z.fram (word_place l ListLength) ≡ count + length (runs_of i.layout.privates)
-    z_count =
-        ap (λ f. f (word_place l ListLength)) z_is
-        ∙ closed_count here space facts.apart task count base left.there.fram refl
+    z_count = ap (λ f. f (word_place l ListLength)) z_is ∙ closed_count leaving
 
     -- a pair of the list is an element with its copy, or a word of a private scalar with its copy
     data IsPair (q : CopyPair) : Type 0 where
@@ -224,7 +223,7 @@ module _ (run : Started) where
     z_pairs : listed sites.map z.fram ≡ map (element_pair here) left.listed ++ flat_map scalar_pairs i.layout.privates
     z_pairs =
         ap (λ f. entries_from (f (word_place l ListLength)) l.list.address f) z_is
-        ∙ closed_pairs here space facts.apart task count base left.there.fram refl
+        ∙ closed_pairs leaving
         ∙ ap (λ ps. ps ++ flat_map scalar_pairs i.layout.privates) left.stands.list.pairs
 
     abbrev Listed : CopyPair → Type 0
@@ -270,8 +269,7 @@ module _ (run : Started) where
 
     -- each entry has a word
     entries_have_words : EntriesHaveWords sites z.fram
-    entries_have_words = subst (EntriesHaveWords sites) (sym z_is)
-        (closed_entries here space facts.apart task count base left.there.fram refl left.stands.list.runs)
+    entries_have_words = subst (EntriesHaveWords sites) (sym z_is) (closed_entries leaving left.stands.list.runs)
 
     -- ---- the next state
 
@@ -422,14 +420,10 @@ module _ (run : Started) where
     base_is = let apart = given.apart in z_before (word_place l Base) (λ e. omega (arith, apart, e)) ∙ u.undecided.is_open.base
 
     sent_is : z.fram (word_place l SentBase) ≡ base
-    sent_is =
-        ap (λ f. f (word_place l SentBase)) z_is
-        ∙ closed_sent here space facts.apart task count base left.there.fram refl
+    sent_is = ap (λ f. f (word_place l SentBase)) z_is ∙ closed_sent leaving
 
     next_is : z.fram (word_place l NextTask) ≡ task % 65536
-    next_is =
-        ap (λ f. f (word_place l NextTask)) z_is
-        ∙ closed_next here space facts.apart task count base left.there.fram refl
+    next_is = ap (λ f. f (word_place l NextTask)) z_is ∙ closed_next leaving
 
     emit_count_is : z.fram (word_place l EmitCount) ≡ length m.emitted
     emit_count_is =

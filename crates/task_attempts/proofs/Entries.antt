@@ -100,7 +100,22 @@ module _ (p : Places) (room : Room) where
         (at_sent_base refl, tt),
   )
 
-module _ (p : Places) (room : Room) (apart : AreApart p room) (task n base : ℕ) (f : ℕ → ℕ) (counted : f (word_place p.map ListLength) ≡ n) where
+-- a transition behind a task's statements: the places with their room, the task that it names, BASE, and FRAM as the statements leave it
+pub record Closing : Type 0 where
+  pub places : Places
+  pub room : Room
+  pub apart : AreApart places room
+  pub task : ℕ
+  pub base : ℕ
+  pub fram : ℕ → ℕ
+
+module _ (transition : Closing) where
+  open transition use {places as p, apart, task, base, fram as f}
+
+  -- the entries in front of its own
+  abbrev n : ℕ
+  n = f (word_place p.map ListLength)
+
   -- a transition's effects, with the gate
   abbrev pub closing : List Effect
   closing = transition_effects p task n base ++ Store (word_place p.map Gate) 1 ∷ []
@@ -126,9 +141,6 @@ module _ (p : Places) (room : Room) (apart : AreApart p room) (task n base : ℕ
       ap (λ g. g a) closed_is ∙ put_other (put with_entries (word_place p.map SentBase) base) (word_place p.map Gate) 1 a ng
       ∙ put_other with_entries (word_place p.map SentBase) base a ns
 
-  pub closed_gate : closed (word_place p.map Gate) ≡ 1
-  closed_gate = ap (λ g. g (word_place p.map Gate)) closed_is ∙ put_same (put with_entries (word_place p.map SentBase) base) (word_place p.map Gate) 1
-
   pub closed_sent : closed (word_place p.map SentBase) ≡ base
   closed_sent =
       ap (λ g. g (word_place p.map SentBase)) closed_is
@@ -148,7 +160,7 @@ module _ (p : Places) (room : Room) (apart : AreApart p room) (task n base : ℕ
   closed_count =
       at_close (word_place p.map ListLength) (λ e. omega (arith, e, apart)) (λ e. omega (arith, e, apart))
       ∙ count_there (word_place p.map ListLength) p.map.list.address (runs_of p.privates) n told
-      (put_other f (word_place p.map NextTask) (task % 65536) (word_place p.map ListLength) (λ e. omega (arith, e, apart)) ∙ counted)
+      (put_other f (word_place p.map NextTask) (task % 65536) (word_place p.map ListLength) (λ e. omega (arith, e, apart)))
 
   -- what the list names: what it named, and the private scalars
   pub closed_pairs : entries_from (closed (word_place p.map ListLength)) p.map.list.address closed

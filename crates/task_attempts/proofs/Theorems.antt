@@ -6,6 +6,7 @@ use Rattle.task_attempts.proofs.Names.{numbered_starts, blocks_agree, program_pl
 use Rattle.task_attempts.proofs.Names.{CompiledSourcesKeepTheLaws, IsBelowCode, AttemptsStoreBelowCode, TasksLeaveForTheCommit, word_place, CurrentTask}
 use Rattle.runtime_effects.specs.Stages.{start_effects}
 use Rattle.memory_map.specs.declared.runtime.Logging.{Logging}
+use Rattle.memory_map.specs.declared.runtime.Role.{Role}
 use Rattle.stands_for.specs.Program.{StartContract, TasksContract, IsStartStore}
 use Rattle.compiled_model.proofs.Interface.{is_redo, under_map, under_redo}
 use Rattle.task_attempts.proofs.Given.{IsGiven, given}
@@ -44,8 +45,9 @@ module _ (p : CheckedProgram) (l : MemoryMap) (g : IsGiven p l) where
 
 pub tasks_contract : TasksKeepTheirContract
 tasks_contract text p allow plans l laid runnable =
-    let P : Logging → Type 0 = λ logging. (s : State) (x : World) (inputs : Inputs) → InputsAreWords inputs → started_under logging p l s x
-    → AttemptContract (model_by logging p l) s inputs x (whole_task p s inputs) (effects_of (behaviour (task_program p l s.task) (started x.fram inputs))) in
+    let P : Logging → Role → Type 0 = λ logging role. (s : State) (x : World) (inputs : Inputs) → InputsAreWords inputs → started_under logging p l s x
+    → AttemptContract (model_by logging role p l) s inputs x (whole_task p s inputs)
+    (effects_of (behaviour (task_program p l s.task) (started x.fram inputs))) in
     under_map l P (keeps p l (given text p allow plans l laid runnable))
 
 pub compiled_laws : CompiledSourcesKeepTheLaws
@@ -63,6 +65,6 @@ stores_below_code text p allow plans l laid runnable =
 pub tasks_leave : TasksLeaveForTheCommit
 tasks_leave text p allow plans l laid runnable = record {
   leave = λ s x inputs small st.
-      let P : Logging → Type 0 = λ logging. started_under logging p l s x in
+      let P : Logging → Role → Type 0 = λ logging role. started_under logging p l s x in
       program_leaves (attempt_at p l (given text p allow plans l laid runnable) s x inputs (under_redo l P st)) blocks_agree small;
 }

@@ -22,6 +22,9 @@ stack_below ram a w sp (v ∷ vs) l h = (put_other ram a w sp (λ e. omega arith
 pub place_is : (a : ℕ) → is_place a ≡ true → IsFram a
 place_is a h = record { even = grind (arith, nat_tests); low = grind (arith, nat_tests); high = grind (arith, nat_tests) }
 
+pub address_small : {a : ℕ} → IsFram a → a < 0x10000
+address_small f = let high = f.high in omega (arith, high)
+
 pub assigned_same : (f : ℕ → Option ℕ) (n v : ℕ) → assigned f n v n ≡ Some v
 assigned_same f n v = ap (λ b. if b then Some v else f n) (eq-eqb n n refl)
 

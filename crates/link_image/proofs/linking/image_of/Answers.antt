@@ -1,8 +1,9 @@
 use Rattle.link_image.proofs.Names.{◌≡◌, ◌∙◌, ◌-◌, ◌/◌, ◌==◌, ℕ, List, if◌then◌else◌, ap, sym, subst, length, map, arith, slice_index, reset_vector}
-use Rattle.link_image.proofs.Names.{SharedDeclaration, program_of, words_of, initial_words, MemoryMap, word_place, apart_of, lowered, linked, is_within}
-use Rattle.link_image.proofs.Names.{shared_word, code_words, AreWords}
+use Rattle.link_image.proofs.Names.{SharedDeclaration, program_of, words_of, initial_words, MemoryMap, word_place, apart_of, linked, is_within, shared_word}
+use Rattle.link_image.proofs.Names.{code_words, AreWords}
 use Rattle.task_ast.specs.View as tree
 use Rattle.link_image.proofs.linking.image_of.Goals as goal
+use Rattle.lower.specs.Lowered.{lowered}
 use Rattle.memory_map.specs.declared.words.RuntimeWord.TheVariants.{CurrentTask}
 use Rattle.link_image.proofs.Placing.{zeros_are_words}
 
