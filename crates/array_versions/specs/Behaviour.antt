@@ -29,7 +29,8 @@ abbrev pub started : (ℕ → ℕ) → Inputs → WordState
 started fram inputs = record { stack = []; locals = λ n. None; fram = fram; inputs = inputs }
 
 -- how steps end: behind the last one; by a jump; where a reading is wanted and none is left; where an address isn't that of a
--- word of FRAM in front of a program's end; or where a word is taken from an empty stack, a local is read before it is assigned, or a jump goes to an odd address
+-- word of FRAM in front of a program's end; or where a word is taken from an empty stack, a local is read before it is assigned,
+-- or a jump goes to an odd address
 pub data End : Type 0 where
   GoesOn : (state : WordState) → End
   Jumps : (to : ℕ) → (state : WordState) → End

@@ -37,7 +37,7 @@ use Rattle.code_forms.specs.Forms.{Target, ToRegister, ToFram, ToRam, ToIndexed,
 use Rattle.code_forms.specs.Forms.{TargetNeeds, Move, Calculate, Compare, Update, Push, Modify, SetStack, Sense, Jump, Skip, Branch, BranchIndexed}
 use Rattle.code_forms.specs.Forms.{SkipBy, instruction_of, flags_after, calculated, sensed, form_step, FormNeeds, IsNotMov, HasPushRoom, IsCodeAddress}
 use Rattle.code_forms.specs.Forms.{Modification, modified}
-use Rattle.code_forms.specs.declared.kinds.Modification.TheVariants as change
+use Rattle.instruction_forms.specs.declared.kinds.Modification.TheVariants as change
 use Rattle.code_forms.specs.Laws.{FormsDoAsInstructions}
 use Rattle.code_forms.proofs.Registers.{set_pc, set_sp, set_work, get_work, high, number, set_flags, flags_back, is_on, no_port}
 

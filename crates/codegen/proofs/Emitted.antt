@@ -94,28 +94,20 @@ pub times_one : (k : ℕ) (m : Form) → times_code k (m ∷ []) ≡ repeated k 
 times_one zero m = refl
 times_one (suc k) m = ap (λ l. m ∷ l) (times_one k m)
 
--- the last part, where there was memory for it
-pub part_behind : {T E : Type 0} (r : Result T E) (code first new a b all : List Form) → first ≡ code ++ a → a ++ b ≡ all
-    → OnOk r (new ≡ first ++ b) → OnOk r (new ≡ code ++ all)
-part_behind r code first new a b all f is h =
-    on_ok_weaker r (λ (n : new ≡ first ++ b). n ∙ ap (λ l. l ++ b) f ∙ append_assoc code a b ∙ ap (λ m. code ++ m) is) h
+-- a part behind another one, where there was memory for it
+pub behind : {T E : Type 0} (r : Result T E) {code first new a b : List Form} → first ≡ code ++ a → OnOk r (new ≡ first ++ b)
+    → OnOk r (new ≡ code ++ (a ++ b))
+behind r {code} {first} {new} {a} {b} f h = on_ok_weaker r (λ (n : new ≡ first ++ b). n ∙ ap (λ l. l ++ b) f ∙ append_assoc code a b) h
 
--- a part that was made by itself, behind one that was made in its place
-pub own_behind : {T E : Type 0} (r : Result T E) (code first own new rest a b all : List Form) → first ≡ code ++ a → own ≡ b → a ++ b ≡ all
-    → new ≡ (if is_ok r then first ++ own else rest) → OnOk r (new ≡ code ++ all)
-own_behind (Ok v) code first own new rest a b all f o is h =
-    h ∙ ap (λ l. first ++ l) o ∙ ap (λ l. l ++ b) f ∙ append_assoc code a b ∙ ap (λ m. code ++ m) is
-own_behind (Err v) code first own new rest a b all f o is h = tt
+-- what is appended where there is memory for it
+pub on_ok_items : {T E : Type 0} (r : Result T E) {new x y : List Form} → new ≡ (if is_ok r then x else y) → OnOk r (new ≡ x)
+on_ok_items (Ok v) e = e
+on_ok_items (Err v) e = tt
 
 -- so many words where a flag is set are no more than these
 pub words_at_most : (b : Bool) (n : ℕ) → (if b then n else 0) ≤ n
 words_at_most true n = omega arith
 words_at_most false n = omega arith
-
--- code behind other code, made of what is known by another name
-pub made_next : {A : Type 0} (made : A → List Form) (x y : A) (a old mid new : List Form) → new ≡ mid ++ made x → x ≡ y → mid ≡ old ++ a
-    → new ≡ old ++ (a ++ made y)
-made_next made x y a old mid new e p q = e ∙ ap (λ v. mid ++ made v) p ∙ ap (λ l. l ++ made y) q ∙ append_assoc old a (made y)
 
 -- the words of a test's code, at most
 pub test_size : (bs : List Bound) (t : Test) (when : Bool) (d : ℕ) (own : List Form) → own ≡ test_code bs t when d → size own ≤ test_words t

@@ -156,6 +156,7 @@ fn emit_zero_test(when: bool, over: u16, code: &mut Vec<Form>) -> Result<(), All
 }
 
 /// Appends the code that goes over so many words by whether the top isn't 0.
+#[tactic(auto, using(std::proofs::Common::append_assoc))]
 pub fn emit_holds(
     when: bool,
     over: u16,
@@ -205,6 +206,7 @@ fn emit_compare_sides(
 }
 
 /// Appends the code that goes over so many words by how the two words on top compare.
+#[tactic(auto, using(std::proofs::Common::append_assoc))]
 pub fn emit_compares(
     comparison: Comparison,
     when: bool,

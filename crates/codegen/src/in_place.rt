@@ -15,12 +15,12 @@ use crate::waiting::{
 };
 use array_versions::{ArrayPlace, ListPlace, PlainOperation};
 use std::alloc::{AllocError, Global};
-use word_code::{Bound, Waiting};
 use word_code::forms::Form::{Calculate, Move, Update};
 use word_code::forms::Source::{Fram, Indexed, Number, Register};
 use word_code::forms::Target::{ToIndexed, ToRegister};
 use word_code::forms::WorkRegister::{R4, R6, R7};
 use word_code::forms::{Condition, Form, TwoOp, jump};
+use word_code::{Bound, Waiting};
 
 // What an element of an array becomes.
 #[derive(Clone, Copy)]
@@ -39,7 +39,11 @@ fn emit_made(update: ElementUpdate, from: u16, code: &mut Vec<Form>) -> Result<(
 {
     code.extend_from_slice(&[
         Move(Indexed(R4, from), ToRegister(R7)),
-        Calculate(plain_instruction(update.operation), rest_source(update.right), R7),
+        Calculate(
+            plain_instruction(update.operation),
+            rest_source(update.right),
+            R7,
+        ),
         Move(Register(R7), ToIndexed(R4, update.place.copies)),
     ])
 }
@@ -52,6 +56,7 @@ fn attempt_number(list: ListPlace) -> Form
 }
 
 // The first update of an element in an attempt.
+#[tactic(auto, using(std::proofs::Common::append_assoc))]
 fn emit_first_update(update: ElementUpdate, code: &mut Vec<Form>) -> Result<(), AllocError>
     ensures { OnOk result (code.new.items ≡ code.old.items ++ first_update update.operation (rest_source update.right) update.place update.list) }
 {
@@ -61,11 +66,7 @@ fn emit_first_update(update: ElementUpdate, code: &mut Vec<Form>) -> Result<(), 
 }
 
 // Behind a comparison of the version word with VER's: one way where they are equal, else the other.
-fn emit_by_version(
-    again: &[Form],
-    first: &[Form],
-    code: &mut Vec<Form>,
-) -> Result<(), AllocError>
+fn emit_by_version(again: &[Form], first: &[Form], code: &mut Vec<Form>) -> Result<(), AllocError>
     requires again { size again.now + 1 < 0x400 }
     requires first { size first.now < 0x400 }
     ensures { OnOk result (code.new.items ≡ code.old.items ++ by_version again.now first.now) }
@@ -77,11 +78,8 @@ fn emit_by_version(
 }
 
 // An update at the index in R4, which is below the length.
-fn emit_inside(
-    alloc: Global,
-    update: ElementUpdate,
-    code: &mut Vec<Form>,
-) -> Result<(), AllocError>
+#[tactic(auto, using(std::proofs::Common::append_assoc))]
+fn emit_inside(alloc: Global, update: ElementUpdate, code: &mut Vec<Form>) -> Result<(), AllocError>
     ensures { OnOk result (code.new.items ≡ code.old.items ++ inside_update update.operation (rest_source update.right) update.place update.list) }
 {
     let mut again = Vec::new(alloc);
@@ -114,6 +112,7 @@ fn emit_checked(
 }
 
 // At any index in R4, which may be surely below the length.
+#[tactic(auto, using(std::proofs::Common::append_assoc))]
 fn emit_indexed_update(
     alloc: Global,
     sure: bool,
@@ -130,6 +129,7 @@ fn emit_indexed_update(
 }
 
 // At a number that is known and below the length.
+#[tactic(auto, using(std::proofs::Common::append_assoc))]
 fn emit_known(
     alloc: Global,
     update: ElementUpdate,
@@ -141,7 +141,11 @@ fn emit_known(
     let offset = index.wrapping_add(index);
     let copy = update.place.copies.wrapping_add(offset);
     let version = update.place.versions.wrapping_add(offset);
-    let again = [Update(plain_instruction(update.operation), rest_source(update.right), copy)];
+    let again = [Update(
+        plain_instruction(update.operation),
+        rest_source(update.right),
+        copy,
+    )];
     let mut first = Vec::new(alloc);
     first.extend_from_slice(&[Move(Number(offset), ToRegister(R4))])?;
     emit_first_update(update, &mut first)?;
@@ -163,6 +167,7 @@ fn number_below(length: u16, waiting: &[Waiting]) -> Option<u16>
 }
 
 // Brings the right side, which is taken, to where it is read; all words that wait are pushed.
+#[tactic(auto, using(std::proofs::Common::append_assoc))]
 fn emit_rest(
     right: Option<Waiting>,
     waiting: &mut Vec<Waiting>,
@@ -176,6 +181,7 @@ fn emit_rest(
 }
 
 // The same, and takes the index, which is the top, to R4.
+#[tactic(auto, using(std::proofs::Common::append_assoc))]
 fn emit_rest_and_index(
     right: Option<Waiting>,
     waiting: &mut Vec<Waiting>,

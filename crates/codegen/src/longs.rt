@@ -95,6 +95,7 @@ fn emit_pair(
 }
 
 // Takes the long on top to R6 and R4.
+#[tactic(auto, using(std::proofs::Common::append_assoc))]
 fn emit_pair_to_registers(
     waiting: &mut Vec<Waiting>,
     code: &mut Vec<Form>,
@@ -139,6 +140,7 @@ fn emit_right(
 }
 
 // Takes two longs: the right one, which is on top, to where it is read, and the left one to R6 and R4.
+#[tactic(auto, using(std::proofs::Common::append_assoc))]
 fn emit_long_sides(
     waiting: &mut Vec<Waiting>,
     code: &mut Vec<Form>,
@@ -159,6 +161,7 @@ fn emit_long_sides(
 }
 
 // The same, what waits being pushed where the low word of the left one would be lost.
+#[tactic(auto, using(std::proofs::Common::append_assoc))]
 fn emit_longs(waiting: &mut Vec<Waiting>, code: &mut Vec<Form>) -> Result<RightLong, AllocError>
     ensures high { IfOk result (λ right. let os = waiting.old.items in
         right.high ≡ high_source (parting (longs_lost os) os)) }
@@ -197,6 +200,7 @@ fn high_instruction(operation: PlainOperation) -> TwoOp
 }
 
 // An operation on two longs.
+#[tactic(auto, using(std::proofs::Common::append_assoc))]
 fn emit_calculation(
     operation: PlainOperation,
     waiting: &mut Vec<Waiting>,
@@ -214,6 +218,7 @@ fn emit_calculation(
 }
 
 // Whether the left one of two longs is below the right one: their difference borrows.
+#[tactic(auto, using(std::proofs::Common::append_assoc))]
 fn emit_below(waiting: &mut Vec<Waiting>, code: &mut Vec<Form>) -> Result<(), AllocError>
     ensures code { OnOk result (code.new.items ≡ code.old.items ++ long_code long_op.Below waiting.old.items) }
     ensures waiting { OnOk result (waiting.new.items ≡ long_behind long_op.Below waiting.old.items) }
@@ -228,6 +233,7 @@ fn emit_below(waiting: &mut Vec<Waiting>, code: &mut Vec<Form>) -> Result<(), Al
 }
 
 // Whether it is above it: their difference less 1 doesn't borrow.
+#[tactic(auto, using(std::proofs::Common::append_assoc))]
 fn emit_above(waiting: &mut Vec<Waiting>, code: &mut Vec<Form>) -> Result<(), AllocError>
     ensures code { OnOk result (code.new.items ≡ code.old.items ++ long_code long_op.Above waiting.old.items) }
     ensures waiting { OnOk result (waiting.new.items ≡ long_behind long_op.Above waiting.old.items) }
@@ -250,7 +256,11 @@ fn emit_long_doubles(count: u16, code: &mut Vec<Form>) -> Result<(), AllocError>
     ensures { OnOk result (code.new.items ≡ code.old.items ++ times_code count long_double) }
 {
     let low = Calculate(TwoOp::Add, Register(R4), R4);
-    emit_times(count, &[low, Calculate(TwoOp::Addc, Register(R6), R6)], code)
+    emit_times(
+        count,
+        &[low, Calculate(TwoOp::Addc, Register(R6), R6)],
+        code,
+    )
 }
 
 // Halved so many times, its top bit being 0.
@@ -313,6 +323,7 @@ fn emit_right_by(count: u16, code: &mut Vec<Form>) -> Result<(), AllocError>
 }
 
 // Takes the long on top to R6 and R4, what waits being pushed where its low word would be lost.
+#[tactic(auto, using(std::proofs::Common::append_assoc))]
 fn emit_parted_pair(waiting: &mut Vec<Waiting>, code: &mut Vec<Form>) -> Result<(), AllocError>
     ensures code { OnOk result (let os = waiting.old.items in code.new.items
         ≡ code.old.items ++ (parted (pair_lost os) os ++ pair_to_registers (parting (pair_lost os) os))) }
@@ -360,6 +371,7 @@ fn emit_high(waiting: &mut Vec<Waiting>, code: &mut Vec<Form>) -> Result<(), All
 }
 
 // A shift of the long on top to the left by fewer than 16 bits.
+#[tactic(auto, using(std::proofs::Common::append_assoc))]
 fn emit_short_left(
     count: u16,
     waiting: &mut Vec<Waiting>,
@@ -374,6 +386,7 @@ fn emit_short_left(
 }
 
 // To the left by more: the low word is 0.
+#[tactic(auto, using(std::proofs::Common::append_assoc))]
 fn emit_far_left(
     count: u16,
     waiting: &mut Vec<Waiting>,
@@ -392,6 +405,7 @@ fn emit_far_left(
 }
 
 // A shift of the long on top to the right by fewer than 16 bits.
+#[tactic(auto, using(std::proofs::Common::append_assoc))]
 fn emit_short_right(
     count: u16,
     waiting: &mut Vec<Waiting>,
@@ -406,6 +420,7 @@ fn emit_short_right(
 }
 
 // To the right by more: the high word is 0.
+#[tactic(auto, using(std::proofs::Common::append_assoc))]
 fn emit_far_right(
     count: u16,
     waiting: &mut Vec<Waiting>,
@@ -455,6 +470,7 @@ fn emit_long_right(
 }
 
 // Each bit of the long on top turned.
+#[tactic(auto, using(std::proofs::Common::append_assoc))]
 fn emit_complement(waiting: &mut Vec<Waiting>, code: &mut Vec<Form>) -> Result<(), AllocError>
     ensures code { OnOk result (code.new.items ≡ code.old.items ++ long_code long_op.Complement waiting.old.items) }
     ensures waiting { OnOk result (waiting.new.items ≡ long_behind long_op.Complement waiting.old.items) }
@@ -470,6 +486,7 @@ fn emit_complement(waiting: &mut Vec<Waiting>, code: &mut Vec<Form>) -> Result<(
 // ---- one word and two
 
 // The int on top as a long.
+#[tactic(auto, using(std::proofs::Common::append_assoc))]
 fn emit_widen(waiting: &mut Vec<Waiting>, code: &mut Vec<Form>) -> Result<(), AllocError>
     ensures code { OnOk result (code.new.items ≡ code.old.items ++ long_code long_op.Widen waiting.old.items) }
     ensures waiting { OnOk result (waiting.new.items ≡ long_behind long_op.Widen waiting.old.items) }

@@ -37,6 +37,7 @@ fn emit_unary_middle(operation: UnaryOperation, code: &mut Vec<Form>) -> Result<
 }
 
 /// Appends the code of an operation on the top of the stack.
+#[tactic(auto, using(std::proofs::Common::append_assoc))]
 pub fn emit_unary(
     operation: UnaryOperation,
     waiting: &mut Vec<Waiting>,
@@ -98,6 +99,7 @@ fn emit_divide(code: &mut Vec<Form>) -> Result<(), AllocError>
 }
 
 // An operation on two words that the machine has an instruction for.
+#[tactic(auto, using(std::proofs::Common::append_assoc))]
 fn emit_plain(
     operation: PlainOperation,
     waiting: &mut Vec<Waiting>,
@@ -112,6 +114,7 @@ fn emit_plain(
 }
 
 // A product.
+#[tactic(auto, using(std::proofs::Common::append_assoc))]
 fn emit_product(waiting: &mut Vec<Waiting>, code: &mut Vec<Form>) -> Result<(), AllocError>
     ensures code { OnOk result (code.new.items ≡ code.old.items ++ two_code waiting.old.items binary_op.Multiply) }
     ensures waiting { OnOk result (waiting.new.items ≡ words.R6 ∷ kept (below_top (below_top waiting.old.items))) }
@@ -122,6 +125,7 @@ fn emit_product(waiting: &mut Vec<Waiting>, code: &mut Vec<Form>) -> Result<(), 
 }
 
 // A division, whose quotient is in R4 and whose rest is in R6.
+#[tactic(auto, using(std::proofs::Common::append_assoc))]
 fn emit_division(
     quantity: Waiting,
     waiting: &mut Vec<Waiting>,

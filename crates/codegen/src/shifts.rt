@@ -2,7 +2,7 @@
 
 ghost use Rattle.std.specs.Prelude.{◌≡◌, [], ◌∷◌, ◌++◌, OnOk};
 ghost use Rattle.word_code.specs.code_forms.Forms as form;
-ghost use Rattle.word_code.specs.code_forms.declared.kinds.Modification.TheVariants as change;
+ghost use Rattle.word_code.specs.code_forms.instruction_forms.declared.kinds.Modification.TheVariants as change;
 ghost use Rattle.word_code.specs.array_versions.declared.operations.ShiftOperation.TheVariants as shift_op;
 ghost use Rattle.word_code.specs.Code.{repeated, times_code, double, halve, right_code, shift_by, last_bit, shift_middle, step_code, waiting_behind};
 ghost use Rattle.word_code.specs.array_versions.Program as value;
@@ -143,6 +143,7 @@ pub fn emit_shift_middle(
 }
 
 /// Appends the code of a shift of the top of the stack.
+#[tactic(auto, using(std::proofs::Common::append_assoc))]
 pub fn emit_shift(
     operation: ShiftOperation,
     count: u16,

@@ -16,12 +16,12 @@ use crate::waiting::{
 };
 use array_versions::PlainOperation;
 use std::alloc::AllocError;
-use word_code::{Bound, Waiting};
 use word_code::forms::Form::{Branch, Calculate, Move, Push, Sense, Update};
 use word_code::forms::Source::{Constant, Fram, Indexed, Number, Ram, Register};
 use word_code::forms::Target::{ToFram, ToIndexed, ToRam, ToRegister};
 use word_code::forms::WorkRegister::{R4, R5, R6};
 use word_code::forms::{Form, Konst, Source, TwoOp};
+use word_code::{Bound, Waiting};
 
 // The element at the index in R4, which is below the length.
 fn emit_fetch(base: u16, code: &mut Vec<Form>) -> Result<(), AllocError>
@@ -34,6 +34,7 @@ fn emit_fetch(base: u16, code: &mut Vec<Form>) -> Result<(), AllocError>
 }
 
 // An element, by whether the index in R4 is surely below the length.
+#[tactic(auto, using(std::proofs::Common::append_assoc))]
 fn emit_indexed(
     inside: bool,
     base: u16,
@@ -101,6 +102,7 @@ fn emit_counted(count: u16, buffer: u16, code: &mut Vec<Form>) -> Result<(), All
 }
 
 /// Appends the code of a word that is emitted.
+#[tactic(auto, using(std::proofs::Common::append_assoc))]
 pub fn emit_emit(
     count: u16,
     buffer: u16,
@@ -152,6 +154,7 @@ fn emit_listed(
 }
 
 /// Appends the code of an entry of the commit list.
+#[tactic(auto, using(std::proofs::Common::append_assoc))]
 pub fn emit_entry(
     count: u16,
     list: u16,
@@ -207,6 +210,7 @@ fn emit_one(form: Form, code: &mut Vec<Form>) -> Result<(), AllocError>
 }
 
 /// Appends the code of a local that is pushed: it waits where it stands in a register.
+#[tactic(auto, using(std::proofs::Common::append_assoc))]
 pub fn emit_local(
     n: u16,
     waiting: &mut Vec<Waiting>,
@@ -224,6 +228,7 @@ pub fn emit_local(
 }
 
 /// Appends the code of a word that is kept.
+#[tactic(auto, using(std::proofs::Common::append_assoc))]
 pub fn emit_keep(
     address: u16,
     waiting: &mut Vec<Waiting>,
@@ -238,6 +243,7 @@ pub fn emit_keep(
 }
 
 /// Appends the code of an operation on a word of FRAM.
+#[tactic(auto, using(std::proofs::Common::append_assoc))]
 pub fn emit_update(
     operation: PlainOperation,
     address: u16,
@@ -253,6 +259,7 @@ pub fn emit_update(
 }
 
 /// Appends the code of a local that is assigned.
+#[tactic(auto, using(std::proofs::Common::append_assoc))]
 pub fn emit_set_local(
     n: u16,
     waiting: &mut Vec<Waiting>,
@@ -304,6 +311,7 @@ fn emit_updated(
 }
 
 /// Appends the code of an operation on a local.
+#[tactic(auto, using(std::proofs::Common::append_assoc))]
 pub fn emit_update_local(
     operation: PlainOperation,
     n: u16,
@@ -319,6 +327,7 @@ pub fn emit_update_local(
 }
 
 /// Appends the code that takes the next reading.
+#[tactic(auto, using(std::proofs::Common::append_assoc))]
 pub fn emit_sense(waiting: &mut Vec<Waiting>, code: &mut Vec<Form>) -> Result<(), AllocError>
     ensures code { OnOk result (code.new.items ≡ code.old.items ++ step_code [] waiting.old.items value.sense) }
     ensures waiting { OnOk result (waiting.new.items ≡ waiting_behind waiting.old.items value.sense) }
@@ -329,6 +338,7 @@ pub fn emit_sense(waiting: &mut Vec<Waiting>, code: &mut Vec<Form>) -> Result<()
 }
 
 /// Appends the code that stores a number.
+#[tactic(auto, using(std::proofs::Common::append_assoc))]
 pub fn emit_store(
     address: u16,
     word: u16,
@@ -343,6 +353,7 @@ pub fn emit_store(
 }
 
 /// Appends the code that copies a word of FRAM.
+#[tactic(auto, using(std::proofs::Common::append_assoc))]
 pub fn emit_move_word(
     from: u16,
     to: u16,
@@ -357,6 +368,7 @@ pub fn emit_move_word(
 }
 
 /// Appends the code of a jump.
+#[tactic(auto, using(std::proofs::Common::append_assoc))]
 pub fn emit_jump(
     to: u16,
     waiting: &mut Vec<Waiting>,

@@ -12,12 +12,12 @@ use crate::bounds::{emit_check, emit_zero, is_inside};
 use crate::waiting::{emit_all, emit_top_to_four, emit_two_to_registers, top, under_top, wait};
 use array_versions::{ArrayPlace, ListPlace};
 use std::alloc::AllocError;
-use word_code::{Bound, Waiting};
 use word_code::forms::Form::{Calculate, Move, Update};
 use word_code::forms::Source::{Constant, Fram, Indexed, Number, Register};
 use word_code::forms::Target::{ToIndexed, ToRegister};
 use word_code::forms::WorkRegister::{R4, R5, R6, R7};
 use word_code::forms::{Condition, Form, Konst, TwoOp, jump};
+use word_code::{Bound, Waiting};
 
 // A versioned read at the index in R4, which is below the length; from the copy it goes over so many words.
 fn emit_own(
@@ -41,6 +41,7 @@ fn emit_own(
 }
 
 // A versioned read, by whether the index in R4 is surely below the length.
+#[tactic(auto, using(std::proofs::Common::append_assoc))]
 fn emit_read(
     inside: bool,
     place: ArrayPlace,
@@ -59,6 +60,7 @@ fn emit_read(
 }
 
 /// Appends the code of a versioned read.
+#[tactic(auto, using(std::proofs::Common::append_assoc))]
 pub fn emit_versioned_read(
     bounds: &[Bound],
     place: ArrayPlace,
@@ -163,6 +165,7 @@ fn emit_word(list: ListPlace, code: &mut Vec<Form>) -> Result<(), AllocError>
 }
 
 /// Appends what follows the first store to a copy.
+#[tactic(auto, using(std::proofs::Common::append_assoc))]
 pub fn emit_first(
     place: ArrayPlace,
     list: ListPlace,
@@ -192,6 +195,7 @@ fn emit_copy(place: ArrayPlace, list: ListPlace, code: &mut Vec<Form>) -> Result
 }
 
 // A versioned write of the word in R5 at the index in R4, which is below the length.
+#[tactic(auto, using(std::proofs::Common::append_assoc))]
 fn emit_stored(place: ArrayPlace, list: ListPlace, code: &mut Vec<Form>) -> Result<(), AllocError>
     ensures { OnOk result (code.new.items ≡ code.old.items ++ stored_code place list) }
 {
@@ -200,6 +204,7 @@ fn emit_stored(place: ArrayPlace, list: ListPlace, code: &mut Vec<Form>) -> Resu
 }
 
 // A versioned write, by whether the index in R4 is surely below the length.
+#[tactic(auto, using(std::proofs::Common::append_assoc))]
 fn emit_write(
     inside: bool,
     place: ArrayPlace,
@@ -217,6 +222,7 @@ fn emit_write(
 }
 
 /// Appends the code of a versioned write.
+#[tactic(auto, using(std::proofs::Common::append_assoc))]
 pub fn emit_versioned_write(
     bounds: &[Bound],
     place: ArrayPlace,

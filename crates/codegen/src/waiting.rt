@@ -183,6 +183,7 @@ fn emit_right(right: Option<Waiting>, code: &mut Vec<Form>) -> Result<Source, Al
 }
 
 /// Takes the right side of an operation, which is the top, as a source, and the left one to R4.
+#[tactic(auto, using(std::proofs::Common::append_assoc))]
 pub fn emit_sides(waiting: &mut Vec<Waiting>, code: &mut Vec<Form>) -> Result<Source, AllocError>
     ensures source { IfOk result (λ source. source ≡ right_source (top_of waiting.old.items)) }
     ensures code { OnOk result (code.new.items ≡ code.old.items ++ sides waiting.old.items) }
@@ -210,7 +211,11 @@ pub fn rests(right: Option<Waiting>) -> bool
 pub fn rest_source(right: Option<Waiting>) -> Source
     ensures { result ≡ rest_source right }
 {
-    if rests(right) { source_from(right) } else { Register(R5) }
+    if rests(right) {
+        source_from(right)
+    } else {
+        Register(R5)
+    }
 }
 
 /// Appends what brings it there.
@@ -300,6 +305,7 @@ pub fn emit_below(waiting: &mut Vec<Waiting>, code: &mut Vec<Form>) -> Result<So
 }
 
 /// Takes the top to R4.
+#[tactic(auto, using(std::proofs::Common::append_assoc))]
 pub fn emit_top_to_four(waiting: &mut Vec<Waiting>, code: &mut Vec<Form>) -> Result<(), AllocError>
     ensures code { OnOk result (code.new.items ≡ code.old.items ++ top_to_four waiting.old.items) }
     ensures waiting { OnOk result (waiting.new.items ≡ kept (below_top waiting.old.items)) }
@@ -310,6 +316,7 @@ pub fn emit_top_to_four(waiting: &mut Vec<Waiting>, code: &mut Vec<Form>) -> Res
 }
 
 /// Takes the top to R5.
+#[tactic(auto, using(std::proofs::Common::append_assoc))]
 pub fn emit_top_to_five(waiting: &mut Vec<Waiting>, code: &mut Vec<Form>) -> Result<(), AllocError>
     ensures code { OnOk result (code.new.items ≡ code.old.items ++ top_to_five waiting.old.items) }
     ensures waiting { OnOk result (waiting.new.items ≡ kept (below_top waiting.old.items)) }
@@ -320,6 +327,7 @@ pub fn emit_top_to_five(waiting: &mut Vec<Waiting>, code: &mut Vec<Form>) -> Res
 }
 
 /// Takes the right side, which is the top, to R5 and the left one to R4.
+#[tactic(auto, using(std::proofs::Common::append_assoc))]
 pub fn emit_two_to_registers(
     waiting: &mut Vec<Waiting>,
     code: &mut Vec<Form>,

@@ -117,14 +117,14 @@ module _ (l : MemoryMap) (programs : List Program) (fits : CodeFits l programs) 
   others = commit_part l ∷ task_parts l.tasks programs
 
   -- a part written behind others
-  abbrev written : ℕ → ℕ → List ℕ → List Instr → List ℕ
-  written start at words code = words ++ (words_in (repeated ((at - (start + 2 * length words)) / 2) filler) ++ words_of code)
+  abbrev written : ℕ → ℕ → List ℕ → List Form → List ℕ
+  written start at words code = words ++ (words_in (repeated ((at - (start + 2 * length words)) / 2) filler) ++ words_in code)
 
-  pub after_boot : (start : ℕ) (old new : List ℕ) (code : List Instr) → start ≡ l.boot.address → old ≡ [] → code ≡ instructions (boot_part l).forms
+  pub after_boot : (start : ℕ) (old new : List ℕ) (code : List Form) → start ≡ l.boot.address → old ≡ [] → code ≡ (boot_part l).forms
       → new ≡ written start start old code
       → WrittenTo start new (part_end (boot_part l)) others
   after_boot start old new code s o k is =
-      let same : new ≡ written l.boot.address l.boot.address [] (instructions (boot_part l).forms) =
+      let same : new ≡ written l.boot.address l.boot.address [] (boot_part l).forms =
       is ∙ ap (λ x. written x x old code) s ∙ ap (λ x. written l.boot.address l.boot.address x code) o ∙ ap (written l.boot.address l.boot.address []) k in
       let begin : l.boot.address + 2 * length {A = ℕ} [] ≡ l.boot.address = omega arith in
       let r = part_words l.boot.address [] new (words_of (linked l programs)) (boot_part l) others (even_of l fits.rules).boot (even_of l fits.rules).boot
@@ -135,12 +135,11 @@ module _ (l : MemoryMap) (programs : List Program) (fits : CodeFits l programs) 
   pub commit_behind : (start : ℕ) (words : List ℕ) → WrittenTo start words (part_end (boot_part l)) others → start + 2 * length words ≤ l.commit.address
   commit_behind start words h = let there = h.there in let from = (in_order l programs fits).1.0.from in omega (arith, there, from)
 
-  pub after_commit : (start at : ℕ) (old new : List ℕ) (code : List Instr) → start ≡ l.boot.address → at ≡ l.commit.address
-      → code ≡ instructions (commit_part l).forms
-      → WrittenTo start old (part_end (boot_part l)) others → new ≡ written start at old code
+  pub after_commit : (start at : ℕ) (old new : List ℕ) (code : List Form) → start ≡ l.boot.address → at ≡ l.commit.address
+      → code ≡ (commit_part l).forms → WrittenTo start old (part_end (boot_part l)) others → new ≡ written start at old code
       → WrittenTo start new (part_end (commit_part l)) (task_parts l.tasks programs)
   after_commit start at old new code s a k before is =
-      let same : new ≡ written start l.commit.address old (instructions (commit_part l).forms) =
+      let same : new ≡ written start l.commit.address old (commit_part l).forms =
       is ∙ ap (λ x. written start x old code) a ∙ ap (written start l.commit.address old) k in
       let even : start % 2 ≡ 0 = ap (λ x. x % 2) s ∙ (even_of l fits.rules).boot in
       let r = part_words start old new (words_of (linked l programs)) (commit_part l) (task_parts l.tasks programs) even (even_of l fits.rules).commit

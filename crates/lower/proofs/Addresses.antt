@@ -1,15 +1,11 @@
 -- Where the words that a task works on stand.
-use Rattle.std.proofs.Common.{◌≡◌, ℕ, ◌+◌, ◌*◌, ◌%◌, ◌<◌, ◌≤◌, nat_le, nat_lt, ◌&&◌, Option, Some, true, ap, ◌∙◌, subst, arith, eq-eqb, le-leb, lt-ltb, inl, inr, ◌⊎◌}
-use Rattle.std.proofs.Common.{⊎_elim, if◌then◌else◌}
-use Rattle.std.proofs.lemmas.Bool.{cases_eq}
+use Rattle.lower.proofs.Names.{◌≡◌, ℕ, ◌+◌, ◌*◌, ◌%◌, ◌<◌, ◌≤◌, nat_le, nat_lt, ◌&&◌, Option, Some, true, ap, ◌∙◌, subst, arith, le-leb, lt-ltb, inl, inr}
+use Rattle.lower.proofs.Names.{◌⊎◌, ⊎_elim, if◌then◌else◌, cases_eq, fram_first, program_end, Behaviour, strays, is_place, at_place, ArrayCopies}
+use Rattle.lower.proofs.Names.{words_scalar, Places, address_of, scalar_address, IsScalarPlace, IsScalarAt, IsScalarWord, IsArrayAt, Element, IsElement}
+use Rattle.lower.proofs.Names.{IsCopied, Spot, IsSpot, element_in, copy_in, version_in, element_address, copy_address, version_address, spot_address, Room}
+use Rattle.lower.proofs.Names.{AreApart, AreEven, AreDifferent}
+use Rattle.std.proofs.Common.{eq-eqb}
 use Rattle.std.specs.Prelude.{slice_get}
-use Rattle.address_space.specs.Limits.{fram_first, program_end}
-use Rattle.array_versions.specs.Behaviour.{Behaviour, strays, is_place, at_place}
-use Rattle.memory_map.specs.declared.place.ArrayCopies.{ArrayCopies}
-use Rattle.memory_map.proofs.Interface.{words_scalar}
-use Rattle.memory_map.specs.Spots.{Places, address_of, scalar_address, IsScalarPlace, IsScalarAt, IsScalarWord, IsArrayAt, Element, IsElement, IsCopied, Spot}
-use Rattle.memory_map.specs.Spots.{IsSpot, element_in, copy_in, version_in, element_address, copy_address, version_address, spot_address}
-use Rattle.lower.specs.Spots.{Room, AreApart, AreEven, AreDifferent}
 
 -- ---- places
 

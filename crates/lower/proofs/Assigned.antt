@@ -1,14 +1,11 @@
 -- What statements do with a value: they take it as one word, or a long takes both of its words.
-use Rattle.std.proofs.Common.{◌≡◌, ℕ, zero, suc, ◌/◌, ◌%◌, List, [], ◌∷◌, Option, Some, None, refl, sym, ap, ◌∙◌, slice_set, get_or}
-use Rattle.task_ast.specs.Paths.{CheckedExpression}
-use Rattle.task_ast.specs.declared.WordType.{WordType}
-use Rattle.task_ast.specs.declared.WordType.TheVariants.{Unsigned, Int, Long}
-use Rattle.task_ast.specs.declared.names.Variable.{Variable}
-use Rattle.task_ast.specs.declared.names.Variable.TheVariants.{Shared}
-use Rattle.task_ast.specs.Types.{IsOneWord, type_of, by_width}
-use Rattle.source_values.specs.Values.{Variables, Attempt, Evaluated, with_word, converted, value_of}
-use Rattle.source_values.specs.Statements.{Outcome, if_value, assigned}
-use Rattle.lower.specs.Agreement.{converted_to}
+use Rattle.lower.proofs.Names.{◌≡◌, ℕ, zero, suc, ◌/◌, ◌%◌, List, [], ◌∷◌, Option, Some, None, refl, sym, ap, ◌∙◌, slice_set, CheckedExpression, WordType}
+use Rattle.lower.proofs.Names.{Unsigned, Int, Long, Variable, Shared, IsOneWord, Variables, Evaluated, with_word, converted, value_of, Outcome, if_value}
+use Rattle.lower.proofs.Names.{converted_to}
+use Rattle.std.proofs.Common.{get_or}
+use Rattle.task_ast.specs.Types.{type_of, by_width}
+use Rattle.source_values.specs.Values.{Attempt}
+use Rattle.source_values.specs.Statements.{assigned}
 
 -- the value of an expression as one word
 abbrev pub word_value : CheckedExpression → Attempt → Option Evaluated

@@ -1,46 +1,29 @@
 -- The program of statements does what they do.
-use Rattle.std.proofs.Common.{◌≡◌, ℕ, zero, suc, ◌+◌, ◌-◌, ◌*◌, ◌/◌, ◌%◌, ◌<◌, ◌≤◌, List, [], ◌∷◌, ◌++◌, length, Option, Some, None, Bool, true, false, refl}
-use Rattle.std.proofs.Common.{sym, ap, ◌∙◌, subst, arith, if◌then◌else◌, le_refl, ⊎_elim}
+use Rattle.lower.proofs.Names.{◌≡◌, ℕ, zero, suc, ◌+◌, ◌-◌, ◌*◌, ◌/◌, ◌%◌, ◌<◌, ◌≤◌, List, [], ◌∷◌, ◌++◌, length, Option, Some, None, Bool, true, false, refl}
+use Rattle.lower.proofs.Names.{sym, ap, ◌∙◌, subst, arith, if◌then◌else◌, le_refl, ⊎_elim, cases_lt, Store, put, CheckedExpression, CheckedStatement}
+use Rattle.lower.proofs.Names.{CheckedChoice, CheckedBlock, PlacedOperator, Variable, Shared, Local, CheckedTask, Evaluated, word_at, with_word, converted}
+use Rattle.lower.proofs.Names.{value_of, holds, Outcome, to_task, if_value, with_value, run_statement, run_choice, run_block, statement_emits, choice_emits}
+use Rattle.lower.proofs.Names.{block_emits, statement_count, choice_count, block_count, is_shared, is_store_to, more_turns, IsOneWord, WordType}
+use Rattle.lower.proofs.Names.{Unsigned, Int, Long, runs_go_on_along_paths, PlainOperation, plain_word, stacked, Program, keep, emit_word, versioned_write}
+use Rattle.lower.proofs.Names.{versioned_update, choose, repeat, nothing, joined, WordState, Behaviour, then_on, local_updated, is_place, at_place, stored}
+use Rattle.lower.proofs.Names.{with_local, word_emitted, pushed, way_by_top, tested, behaviour, with_stack, step_behaviour, joined_go_on, joined_assoc}
+use Rattle.lower.proofs.Names.{decided_by_truth, update_step, write_long, setting, long_setting, updating, of_words, sides_set, scalar_assignment}
+use Rattle.lower.proofs.Names.{lowered_long, one, write_step, written_array, list_place, store_step, update_element_step, loop_local, assignment}
+use Rattle.lower.proofs.Names.{index_and_value, element_setting, element_updating, element_sides_set, element_assignment, lowered_transition}
+use Rattle.lower.proofs.Names.{lowered_expression, lowered_test, lowered_statement, lowered_choice, lowered_block, lowered_task, lowered_tasks, high_address}
+use Rattle.lower.proofs.Names.{listed_of, IsLocal, WellFormedExpression, WellFormedStatement, WellFormedChoice, WellFormedBlock, local_word}
+use Rattle.lower.proofs.Names.{assignment_writes, store_writes, loop_writes, taken_writes, passed_writes, first_writes, others_write, statement_sum}
+use Rattle.lower.proofs.Names.{choice_sum, block_sum, summary, IsWrittenArray, StandsFor, Scene, at_variable, at_emit_count, in_buffer, converted_to}
+use Rattle.lower.proofs.Names.{truth_of, AgreesAt, BlocksAgree, MemoryMap, TaskPlace, word_place, ListLength, EmitCount, Version, VariablePlace, word_even}
+use Rattle.lower.proofs.Names.{first_word, privates_few, address_of, scalar_address, IsScalarWord, scalar, Inputs}
 use Rattle.std.specs.Prelude.{slice_get, get_or}
-use Rattle.std.proofs.lemmas.Bool.{cases_lt}
-use Rattle.fram_board.specs.Effects.{Store}
-use Rattle.task_ast.specs.Tree as t
-use Rattle.task_ast.specs.Paths.{CheckedExpression, CheckedStatement, CheckedChoice, CheckedBlock}
-use Rattle.task_ast.specs.declared.PlacedOperator.{PlacedOperator}
-use Rattle.task_ast.specs.declared.names.Variable.{Variable}
-use Rattle.task_ast.specs.declared.names.Variable.TheVariants.{Shared, Local}
-use Rattle.cost_bound.specs.Allowance.{CheckedTask}
-use Rattle.source_values.specs.Values.{Attempt, Evaluated, word_at, with_word, converted, value_of, holds}
-use Rattle.source_values.specs.Statements as source
-use Rattle.source_values.specs.Statements.{Outcome, goes_on, to_task, if_value, with_value, run_statement, run_choice, run_block, statement_emits}
-use Rattle.source_values.specs.Statements.{choice_emits, block_emits}
-use Rattle.cost_bound.specs.Counts.{statement_count, choice_count, block_count, is_shared, is_store_to, stores_of}
-use Rattle.source_values.proofs.Interface.{more_turns}
-use Rattle.task_ast.specs.Types.{IsOneWord, type_of, joined_type}
-use Rattle.task_ast.specs.declared.WordType.{WordType}
-use Rattle.task_ast.specs.declared.WordType.TheVariants.{Unsigned, Int, Long}
-use Rattle.task_ast.proofs.Interface as one_word
-use Rattle.path_runs.proofs.Interface.{runs_go_on_along_paths}
-use Rattle.array_versions.specs.declared.operations.PlainOperation.{PlainOperation}
-use Rattle.array_versions.specs.Operations.{plain_word, stacked}
-use Rattle.array_versions.specs.Program.{Program, keep, emit_word, versioned_write, versioned_update, choose, repeat, nothing, joined}
-use Rattle.array_versions.specs.Behaviour as words
-use Rattle.array_versions.specs.Behaviour.{WordState, Behaviour, then_on, local_updated, is_place, at_place, stored, with_local, word_emitted, pushed}
-use Rattle.array_versions.specs.Behaviour.{way_by_top, tested, behaviour, with_stack, step_behaviour}
-use Rattle.array_versions.proofs.Interface.{joined_go_on, joined_assoc, decided_by_truth}
-use Rattle.lower.specs.Lowered.{update_step, write_long, setting, long_setting, updating, of_words, sides_set, scalar_assignment, lowered_long, one}
-use Rattle.lower.specs.Lowered.{write_step, written_array, list_place, store_step, update_element_step, loop_local, assignment, index_and_value}
-use Rattle.lower.specs.Lowered.{element_setting, element_updating, element_sides_set, element_assignment, lowered_transition, lowered_expression}
-use Rattle.lower.specs.Lowered.{lowered_test, lowered_statement, lowered_choice, lowered_block, lowered_task, lowered_tasks, high_address}
-use Rattle.lower.specs.Spots.{listed_of}
-use Rattle.checked_trees.specs.WellFormed.{IsLocal, WellFormedExpression, WellFormedStatement, WellFormedChoice, WellFormedBlock}
-use Rattle.checked_trees.proofs.Interface.{local_word, assignment_writes, store_writes, loop_writes, taken_writes, passed_writes, first_writes, others_write}
-use Rattle.path_sums.specs.Sums.{statement_sum, choice_sum, block_sum}
-use Rattle.path_sums.specs.Access.{summary}
+use Rattle.source_values.specs.Values.{Attempt}
+use Rattle.source_values.specs.Statements.{goes_on}
+use Rattle.task_ast.specs.Types.{type_of, joined_type}
 use Rattle.lower.proofs.Declared.{IsTarget, IsLongTarget, IsTargetOf, local_target, target_of, array_target}
-use Rattle.lower.specs.Agreement.{IsWrittenArray, StandsFor, Scene, at_variable, at_emit_count, in_buffer, converted_to, truth_of, AgreesAt, BlocksAgree}
 use Rattle.lower.proofs.Addresses.{fram_place, placed, spot_place, first_address}
 use Rattle.lower.proofs.Updates.{is_update, update_goes_on, is_element_update, element_update_goes_on, is_of_words, joined_words}
+use Rattle.cost_bound.specs.Counts.{stores_of}
 use Rattle.lower.proofs.Assigned.{word_value, word_as_value, if_same, if_converted, both_assigned, assigned_as, same_conversion, words_commute}
 use Rattle.lower.proofs.Values.{small_modulo, holds_bit, truth_pushed, Keeping, Keeps, Leaves, single}
 use Rattle.lower.proofs.EachExpression.{high_is, expression_leaves, long_leaves, test_leaves}
@@ -51,12 +34,10 @@ use Rattle.lower.proofs.Neighbours.{runs_are_few}
 use Rattle.lower.proofs.Transitions.{transition_behaves}
 use Rattle.lower.proofs.Ends.{Does, does_then, does_alone, does_at, ends_behind}
 use Rattle.lower.proofs.Elements.{Start, DoesFrom, few_listed, list_fits, store_does, element_update_does, spot_stands}
-use Rattle.memory_map.specs.MemoryMap.{MemoryMap, TaskPlace, word_place}
-use Rattle.memory_map.specs.declared.words.RuntimeWord.TheVariants.{ListLength, EmitCount, Version}
-use Rattle.memory_map.specs.declared.place.VariablePlace.{VariablePlace}
-use Rattle.memory_map.proofs.Interface.{word_even, first_word, privates_few}
-use Rattle.memory_map.specs.Spots.{address_of, scalar_address, IsScalarWord, scalar}
-use Rattle.machine_effects.specs.Inputs.{Inputs}
+use Rattle.task_ast.specs.Tree as t
+use Rattle.source_values.specs.Statements as source
+use Rattle.task_ast.proofs.Interface as one_word
+use Rattle.array_versions.specs.Behaviour as words
 
 module _ (z : Scene) where
   -- ---- steps that take a value, where statements begin
@@ -71,6 +52,10 @@ module _ (z : Scene) where
   word_stands i j here v is = spot_stands here (scalar i j) v (with_word here.m.variables (Shared i) j v) is (λ x e. cc)
       (scalar_set z.p z.room i j v here.m.variables here.w.fram here.w.locals z.apart is here.stands.variables)
 
+  word_number : (i j : ℕ) {n : ℕ} {count : ℕ → ℕ} (here : Start z n count) (v : ℕ) → IsScalarWord z.p i j
+      → put here.w.fram (scalar_address z.p i j) v (word_place z.p.map Version) ≡ z.ver
+  word_number i j here v is = (spot_list z.p z.room (scalar i j) v here.w.fram z.apart is (λ x e. cc)).version ∙ here.number
+
   abbrev word_set : (i j : ℕ) {n : ℕ} {count : ℕ → ℕ} (here : Start z n count) (v : ℕ) → IsScalarWord z.p i j → Start z n count
   word_set i j here v is = record {
     m = source.assigned here.m (Shared i) j v;
@@ -78,7 +63,7 @@ module _ (z : Scene) where
     w = stored (scalar_address z.p i j) v here.w;
     most = here.most;
     stands = word_stands i j here v is;
-    number = (spot_list z.p z.room (scalar i j) v here.w.fram z.apart is (λ x e. cc)).version ∙ here.number;
+    number = word_number i j here v is;
     emits = here.emits;
     lists = here.lists;
     within = here.within;
@@ -105,20 +90,20 @@ module _ (z : Scene) where
       let after = word_set i j here v is in
       word_kept_then i j a here v here.w.stack (behaviour nothing) (goes_on after.m) e is ok (nothing_does after)
 
+  -- a local is set, and what is known else stays
+  local_stands : {n : ℕ} {count : ℕ → ℕ} (i k : ℕ) → i < 256 → (here : Start z n count)
+      → StandsFor z.p (source.assigned here.m (Local i) 0 k) here.listed (with_local (i % 65536) k here.w)
+  local_stands i k low here = record {
+    variables = local_holds z.p i k here.m.variables here.w.fram here.w.locals low here.stands.variables;
+    emitted = here.stands.emitted;
+    list = here.stands.list;
+    readings = here.stands.readings;
+  }
+
   write_does : (x : Variable) {n : ℕ} {count : ℕ → ℕ} (here : Start z n count) (v : ℕ) → IsTarget z.p z.written x
       → DoesFrom here (behaviour (one (write_step z.p x)) (pushed v here.w)) (goes_on (source.assigned here.m x 0 v))
-  write_does (Local i) here v k = record {
-    stores = tt;
-    stack_kept = refl;
-    listed = here.listed;
-    stands = record {
-      variables = local_holds z.p i v here.m.variables here.w.fram here.w.locals k here.stands.variables;
-      emitted = here.stands.emitted;
-      list = here.stands.list;
-      readings = here.stands.readings;
-    };
-    few = few_listed here;
-  }
+  write_does (Local i) here v k =
+      record { stores = tt; stack_kept = refl; listed = here.listed; stands = local_stands i v k here; few = few_listed here }
   write_does (Shared i) here v k =
       word_kept_does i 0 (address_of z.p i) here v (sym (first_address z.p i)) (first_word z.p i k.0) k.1
 
@@ -291,9 +276,11 @@ module _ (z : Scene) where
       → DoesFrom here (then_on b next) (if_value o more)
   value_does here words below b o next more agrees k =
       does_at z here.most here.w.stack here.w (Leaves (keeping here) words below) b o next more agrees
-      (λ x s there. (there.kept.fram,
-      subst (λ l. Does z s.fram here.most here.w.stack (next (with_stack l s)) (more x.value x.behind)) (sym there.stack)
-      (k x.value (record { m = x.behind; w = s; still = there.kept }))))
+      (λ x s there. (
+        there.kept.fram,
+        subst (λ l. Does z s.fram here.most here.w.stack (next (with_stack l s)) (more x.value x.behind)) (sym there.stack)
+            (k x.value (record { m = x.behind; w = s; still = there.kept })),
+      ))
 
   -- what a program does with a word on the stack, behind a value
   abbrev DoesWith : {n : ℕ} {count : ℕ → ℕ} → Start z n count → Program → (ℕ → Attempt → Outcome) → Type 0
@@ -501,16 +488,6 @@ module _ (z : Scene) where
 
   -- ---- loops
 
-  -- a local is set, and what is known else stays
-  with_loop_local : {n : ℕ} {count : ℕ → ℕ} (i k : ℕ) → i < 256 → (here : Start z n count)
-      → StandsFor z.p (source.assigned here.m (Local i) 0 k) here.listed (with_local (i % 65536) k here.w)
-  with_loop_local i k low here = record {
-    variables = local_holds z.p i k here.m.variables here.w.fram here.w.locals low here.stands.variables;
-    emitted = here.stands.emitted;
-    list = here.stands.list;
-    readings = here.stands.readings;
-  }
-
   -- a turn of a loop: what its program does, and that it emits so much at most
   record Turn (q : Program) (run : Attempt → Outcome) (e : ℕ) (c : ℕ → ℕ) : Type 0 where
     does : (here : Start z e c) → DoesFrom here (behaviour q here.w) (run here.m)
@@ -524,7 +501,7 @@ module _ (z : Scene) where
   no_turns : (i : ℕ) (q : Program) (run : Attempt → Outcome) (k : ℕ) (stack : List ℕ) {n : ℕ} {count : ℕ → ℕ} (here : Start z n count) → i < 256
       → here.w.stack ≡ stack → TurnsDo i q run 0 k stack here
   no_turns i q run k stack here low same =
-      record { stores = tt; stack_kept = same; listed = here.listed; stands = with_loop_local i k low here; few = few_listed here }
+      record { stores = tt; stack_kept = same; listed = here.listed; stands = local_stands i k low here; few = few_listed here }
 
   turns_do : (i : ℕ) (q : Program) (run : Attempt → Outcome) (e : ℕ) (c : ℕ → ℕ) → i < 256 → Turn q run e c → (j k : ℕ) (stack : List ℕ)
       (here : Start z (j * e) (λ v. j * c v)) → here.w.stack ≡ stack → TurnsDo i q run j k stack here
@@ -541,7 +518,7 @@ module _ (z : Scene) where
         listed = here.listed;
         w = with_local (i % 65536) k here.w;
         most = once;
-        stands = with_loop_local i k low here;
+        stands = local_stands i k low here;
         number = here.number;
         emits = omega (arith, fits);
         lists = λ v. omega arith;

@@ -1,28 +1,19 @@
 -- What tasks spend along the way that they take, against the allowance of a source: the entries of the private scalars are paid for once, at
 -- the transition.
-use Rattle.std.proofs.Common.{◌≡◌, ℕ, zero, suc, ◌+◌, ◌-◌, ◌*◌, ◌%◌, ◌==◌, ◌≤◌, max, Bool, true, false, if◌then◌else◌, List, [], ◌∷◌, length, Some}
-use Rattle.std.proofs.Common.{None, refl, sym, subst, arith}
-use Rattle.task_ast.specs.Tree as t
-use Rattle.task_ast.specs.Paths.{CheckedStatement, CheckedChoice, CheckedBlock}
-use Rattle.cost_bound.specs.Table.{cycles_column, statement_price, conditions_price, blocks_price, block_price}
-use Rattle.memory_map.specs.MemoryMap.{word_place}
-use Rattle.memory_map.specs.declared.words.RuntimeWord.TheVariants.{NextTask, Gate, ListLength, Base, SentBase}
-use Rattle.lower.specs.declared.runs.Run.{Run}
-use Rattle.lower.specs.Runs.{runs_of}
+use Rattle.lower.proofs.Names.{◌≡◌, ℕ, zero, suc, ◌+◌, ◌-◌, ◌*◌, ◌%◌, ◌==◌, ◌≤◌, max, Bool, true, false, if◌then◌else◌, List, [], ◌∷◌, length, Some, None}
+use Rattle.lower.proofs.Names.{refl, sym, subst, arith, CheckedStatement, CheckedChoice, CheckedBlock, cycles_column, statement_price, conditions_price}
+use Rattle.lower.proofs.Names.{blocks_price, block_price, word_place, NextTask, Gate, ListLength, Base, SentBase, Run, runs_of, is_true, compare_words, Step}
+use Rattle.lower.proofs.Names.{Test, Program, choose, repeat, store_number, move_word, jump, nothing, step, joined, WordState, End, GoesOn, Jumps, Short}
+use Rattle.lower.proofs.Names.{Strays, Broken, Behaviour, behaves, broken, on_end, then_on, is_place, strays, with_stack, with_top, way_by_top, way_by_two}
+use Rattle.lower.proofs.Names.{with_local, turns, step_behaviour, tested, behaviour, test_cycles, cycles_of, spent_on, top_spent, spent_by_top, spent_by_two}
+use Rattle.lower.proofs.Names.{turns_spent, step_spent, test_spent, spent, joined_go_on, joined_cycles, joined_spend, ways_keep_to_cycles, Places, emission}
+use Rattle.lower.proofs.Names.{scalar_assignment, one, assignment, element_assignment, entries, lowered_transition, loop_local, lowered_test}
+use Rattle.lower.proofs.Names.{lowered_statement, lowered_choice, lowered_block, entry_cycles, BlocksKeepToCycles}
 use Rattle.lower.proofs.Neighbours.{runs_are_few}
-use Rattle.array_versions.specs.Operations.{is_true, compare_words}
-use Rattle.array_versions.specs.Program as word
-use Rattle.array_versions.specs.Program.{Step, Test, Program, choose, repeat, store_number, move_word, jump, nothing, step, joined}
-use Rattle.array_versions.specs.Behaviour.{WordState, End, GoesOn, Jumps, Short, Strays, Broken, Behaviour, behaves, broken, on_end, then_on, is_place, goes_on}
-use Rattle.array_versions.specs.Behaviour.{strays, with_stack, with_top, way_by_top, way_by_two, with_local, turns, step_behaviour, tested, behaviour}
-use Rattle.array_versions.specs.Cost.{test_cycles, cycles_of, spent_on, top_spent, spent_by_top, spent_by_two, turns_spent, step_spent, test_spent}
-use Rattle.array_versions.specs.Cost.{spent}
-use Rattle.array_versions.proofs.Interface.{joined_go_on, joined_cycles, joined_spend, ways_keep_to_cycles}
-use Rattle.memory_map.specs.Spots.{Places}
-use Rattle.lower.specs.Lowered.{emission, scalar_assignment, one, assignment, element_assignment, entries, lowered_transition, loop_local, lowered_test}
-use Rattle.lower.specs.Lowered.{lowered_statement, lowered_choice, lowered_block}
-use Rattle.lower.specs.Sizes.{entry_cycles, BlocksKeepToCycles}
+use Rattle.array_versions.specs.Behaviour.{goes_on}
 use Rattle.lower.proofs.Sizes.{assignment_keeps, scalar_keeps, element_keeps, emission_keeps, test_cycles_kept}
+use Rattle.task_ast.specs.Tree as t
+use Rattle.array_versions.specs.Program as word
 
 -- an end within an allowance and, where it leaves, the entries
 abbrev Within : Places → ℕ → End → ℕ → Type 0

@@ -1,15 +1,7 @@
 -- The names of a well-formed tree stand for variables that have their places.
-use Rattle.std.proofs.Common.{◌≡◌, ◌<◌, ℕ, Bool, true, List, refl}
+use Rattle.lower.proofs.Names.{◌≡◌, ◌<◌, ℕ, Bool, true, List, refl, SharedDeclaration, WordType, Long, Variable, Shared, Local, is_shared}
+use Rattle.lower.proofs.Names.{Places, IsScalarAt, IsScalarWord, IsOfType, IsLocal, IsWordName, IsArrayName, IsArray, IsWrittenArray, AsDeclared, HasCopies}
 use Rattle.std.proofs.lemmas.Bool.{eq-eqb}
-use Rattle.task_ast.specs.declared.SharedDeclaration.{SharedDeclaration}
-use Rattle.task_ast.specs.declared.WordType.{WordType}
-use Rattle.task_ast.specs.declared.WordType.TheVariants.{Unsigned, Int, Long}
-use Rattle.task_ast.specs.declared.names.Variable.{Variable}
-use Rattle.task_ast.specs.declared.names.Variable.TheVariants.{Shared, Local}
-use Rattle.cost_bound.specs.Counts.{is_shared}
-use Rattle.memory_map.specs.Spots.{Places, IsScalarAt, IsScalarWord}
-use Rattle.checked_trees.specs.WellFormed.{IsOfType, IsLocal, IsWordName, IsArrayName}
-use Rattle.lower.specs.Agreement.{IsArray, IsWrittenArray, AsDeclared, HasCopies}
 
 -- ---- variables that are read
 

@@ -1,36 +1,17 @@
 -- The programs of expressions leave their values.
-use Rattle.std.proofs.Common.{◌≡◌, ℕ, List, Option, Some, None, Bool, true, false, nat_le, nat_lt, if◌then◌else◌, refl, sym, ap, ◌∙◌, subst, arith, [], ◌∷◌}
-use Rattle.std.proofs.Common.{◌++◌}
-use Rattle.task_ast.specs.Tree as t
-use Rattle.task_ast.specs.Paths.{CheckedExpression}
-use Rattle.task_ast.specs.declared.SharedDeclaration.{SharedDeclaration}
-use Rattle.task_ast.specs.declared.WordType.{WordType}
-use Rattle.task_ast.specs.declared.WordType.TheVariants.{Unsigned, Int, Long}
-use Rattle.task_ast.specs.declared.UnaryOperator.{UnaryOperator}
-use Rattle.task_ast.specs.declared.UnaryOperator.TheVariants as unary_operator
-use Rattle.task_ast.specs.declared.BinaryOperator.{BinaryOperator}
-use Rattle.task_ast.specs.declared.BinaryOperator.TheVariants as operator
-use Rattle.task_ast.specs.declared.ShiftOperator.{ShiftOperator}
-use Rattle.task_ast.specs.declared.names.Variable.{Variable}
-use Rattle.task_ast.specs.declared.names.Variable.TheVariants.{Shared, Local}
-use Rattle.std.proofs.lemmas.Bool.Decides.{nat_tests}
-use Rattle.task_ast.specs.Types.{IsOneWord, binary_type, unary_type, literal_type}
-use Rattle.task_ast.proofs.Interface as one_word
-use Rattle.task_check.specs.Occurrences.{is_refused}
-use Rattle.source_values.specs.Values.{Attempt, Evaluated, gives, made_of, word_at, by_width, two_words, converted, type_of, joined_type, value_of}
-use Rattle.source_values.specs.Values.{unary_result, binary_value, binary_result, long_binary_value, shift_value, shift_result}
-use Rattle.array_versions.specs.Program.{number, shift, sense, load, long, step, joined, truth}
-use Rattle.array_versions.specs.declared.operations.LongOperation.TheVariants as with_longs
-use Rattle.array_versions.specs.Behaviour.{WordState, with_readings, pushed, behaviour, Behaviour, with_stack, goes_on}
-use Rattle.memory_map.specs.Spots.{Places, address_of, scalar_address, IsScalarWord, scalar}
-use Rattle.lower.specs.Operations.{binary_meaning, shift_operation, operand_type, long_meaning}
-use Rattle.lower.specs.Lowered.{one, high_address, read_step, read_long, element_step, Lowering, word_program, value_test, long_words, long_program}
-use Rattle.lower.specs.Lowered.{name_lowering, operand_lowering, binary_lowering, sides_lowering, shift_lowering, sides_test, widened_type, lowering}
-use Rattle.lower.specs.Lowered.{lowered_long, lowered_test, lowered_expression}
-use Rattle.lower.specs.Spots.{Room, AreApart, AreEven}
-use Rattle.checked_trees.specs.WellFormed.{WellFormedExpression}
-use Rattle.checked_trees.proofs.Interface.{array_word}
-use Rattle.lower.specs.Agreement.{AsDeclared, HoldVariables, in_state, converted_to, truth_of, ExpressionsAgree, LongsAgree, TestsAgree, AgreesAt}
+use Rattle.lower.proofs.Names.{◌≡◌, ℕ, List, Option, Some, None, Bool, true, false, nat_le, nat_lt, if◌then◌else◌, refl, sym, ap, ◌∙◌, subst, arith, [], ◌∷◌}
+use Rattle.lower.proofs.Names.{◌++◌, CheckedExpression, SharedDeclaration, WordType, Unsigned, Int, Long, UnaryOperator, BinaryOperator, ShiftOperator}
+use Rattle.lower.proofs.Names.{Variable, Shared, Local, nat_tests, IsOneWord, binary_type, unary_type, literal_type, is_refused, Evaluated, gives, made_of}
+use Rattle.lower.proofs.Names.{word_at, two_words, converted, value_of, unary_result, binary_value, binary_result, long_binary_value, shift_value}
+use Rattle.lower.proofs.Names.{shift_result, number, shift, sense, load, long, step, joined, truth, WordState, with_readings, pushed, behaviour, Behaviour}
+use Rattle.lower.proofs.Names.{with_stack, Places, address_of, scalar_address, IsScalarWord, scalar, binary_meaning, shift_operation, operand_type}
+use Rattle.lower.proofs.Names.{long_meaning, one, high_address, read_step, read_long, element_step, Lowering, word_program, value_test, long_words}
+use Rattle.lower.proofs.Names.{long_program, name_lowering, operand_lowering, binary_lowering, sides_lowering, shift_lowering, sides_test, widened_type}
+use Rattle.lower.proofs.Names.{lowering, lowered_long, lowered_test, lowered_expression, Room, AreApart, AreEven, WellFormedExpression, array_word}
+use Rattle.lower.proofs.Names.{AsDeclared, HoldVariables, in_state, converted_to, truth_of, ExpressionsAgree, LongsAgree, TestsAgree, AgreesAt, Inputs}
+use Rattle.lower.proofs.Names.{stacked}
+use Rattle.source_values.specs.Values.{Attempt, by_width, type_of, joined_type}
+use Rattle.array_versions.specs.Behaviour.{goes_on}
 use Rattle.lower.proofs.Addresses.{first_address}
 use Rattle.lower.proofs.Declared.{IsLong, IsKnownAs, known_as, array_known}
 use Rattle.lower.proofs.Values.{read_agrees, word_read_agrees, element_agrees, sense_agrees, binary_same, shift_same, sides_of_truth, sides_are_truth}
@@ -39,8 +20,11 @@ use Rattle.lower.proofs.Values.{Keeping, Keeps, Leaves, LeavesWord, agrees_alone
 use Rattle.lower.proofs.Updates.{joined_words}
 use Rattle.lower.proofs.Longs.{AgreesAs, LongAgrees, as_one_word, of_one_word, by_long, pair_same, words_agree, word_agrees, long_agrees, test_agrees}
 use Rattle.lower.proofs.Longs.{negated, complemented, long_shifted, long_meaning_type, long_meaning_value, long_same, long_binary_agrees, LeavesLong}
-use Rattle.machine_effects.specs.Inputs.{Inputs}
-use Rattle.array_versions.specs.Operations.{stacked}
+use Rattle.task_ast.specs.Tree as t
+use Rattle.task_ast.specs.declared.UnaryOperator.TheVariants as unary_operator
+use Rattle.task_ast.specs.declared.BinaryOperator.TheVariants as operator
+use Rattle.task_ast.proofs.Interface as one_word
+use Rattle.array_versions.specs.declared.operations.LongOperation.TheVariants as with_longs
 
 -- ---- names
 

@@ -1,36 +1,16 @@
 -- A store to an element, as the step of a task.
-use Rattle.std.proofs.Common.{◌≡◌, ℕ, ◌+◌, ◌*◌, ◌==◌, ◌<◌, ◌≤◌, List, [], ◌∷◌, ◌++◌, length, map, get_or, Option, Some, Contains, Bool, true, false, refl}
-use Rattle.std.proofs.Common.{sym, ap, ◌∙◌, subst, arith, ⊎_elim, length-append, append-nil, if◌then◌else◌}
-use Rattle.std.proofs.lemmas.Bool.{cases_eq, cases_lt}
-use Rattle.std.proofs.lemmas.List.{length-map}
-use Rattle.std.proofs.lemmas.List.Elements.{All-same}
-use Rattle.fram_board.specs.Effects.{Effect, Store}
-use Rattle.machine_effects.specs.World.{put}
-use Rattle.machine_effects.proofs.Interface.{put_other}
-use Rattle.task_ast.specs.declared.names.Variable.TheVariants.{Shared}
-use Rattle.source_values.specs.Values.{word_at, with_word, Variables}
-use Rattle.source_values.specs.Statements.{Attempt, Outcome, goes_on}
-use Rattle.array_versions.specs.declared.operations.PlainOperation.{PlainOperation}
-use Rattle.array_versions.specs.Operations.{plain_word}
-use Rattle.array_versions.specs.Behaviour.{WordState, Behaviour, goes_on as going_on, then_on, is_place, word_listed, versioned_stored, behaviour, own_place}
-use Rattle.array_versions.specs.Behaviour.{versioned_updated, stored}
-use Rattle.array_versions.specs.Program.{nothing}
-use Rattle.array_versions.specs.declared.program.ArrayPlace.{ArrayPlace}
-use Rattle.memory_map.specs.MemoryMap.{word_place}
-use Rattle.memory_map.specs.declared.words.RuntimeWord.TheVariants.{Version}
-use Rattle.memory_map.specs.declared.place.ArrayCopies.{ArrayCopies}
-use Rattle.memory_map.specs.declared.place.VariablePlace.{VariablePlace}
-use Rattle.memory_map.specs.declared.place.VariablePlace.TheVariants.{Array}
-use Rattle.memory_map.proofs.Interface.{word_even}
-use Rattle.memory_map.specs.Spots.{private_words, IsArrayAt, Element, IsCopied, element, copy, version, element_address, copy_address, version_address}
-use Rattle.memory_map.specs.Spots.{IsSpot, Spot, spot_address}
-use Rattle.lower.specs.Lowered.{array_place, list_place}
-use Rattle.lower.specs.Spots.{listed_of}
-use Rattle.lower.specs.Agreement.{own_word, element_pair, at_copy, at_version, HoldVariables, StandsFor, Scene, bounds, WentOn}
+use Rattle.lower.proofs.Names.{◌≡◌, ℕ, ◌+◌, ◌*◌, ◌==◌, ◌<◌, ◌≤◌, List, [], ◌∷◌, ◌++◌, length, map, Option, Some, Contains, Bool, true, false, refl, sym, ap}
+use Rattle.lower.proofs.Names.{◌∙◌, subst, arith, ⊎_elim, length-append, append-nil, if◌then◌else◌, cases_eq, cases_lt, length-map, All-same, Effect, Store}
+use Rattle.lower.proofs.Names.{put, put_other, Shared, word_at, with_word, Variables, Outcome, PlainOperation, plain_word, WordState, Behaviour, going_on}
+use Rattle.lower.proofs.Names.{then_on, is_place, word_listed, versioned_stored, behaviour, own_place, versioned_updated, stored, nothing, ArrayPlace}
+use Rattle.lower.proofs.Names.{word_place, Version, ArrayCopies, VariablePlace, Array, word_even, private_words, IsArrayAt, Element, IsCopied, element, copy}
+use Rattle.lower.proofs.Names.{version, element_address, copy_address, version_address, IsSpot, Spot, spot_address, array_place, list_place, listed_of}
+use Rattle.lower.proofs.Names.{own_word, element_pair, at_copy, at_version, HoldVariables, StandsFor, Scene, bounds, WentOn, CopyPair}
+use Rattle.std.proofs.Common.{get_or}
+use Rattle.source_values.specs.Statements.{Attempt, goes_on}
 use Rattle.lower.proofs.Addresses.{fram_place, spot_place, element_is, copy_is, version_is, has_element}
 use Rattle.lower.proofs.Stored.{word_past, set_holds, same_list, same_emits, spot_emits, spot_list}
 use Rattle.lower.proofs.Lists.{HasNext, lists_word}
-use Rattle.runtime_effects.specs.Places.{CopyPair}
 use Rattle.lower.proofs.Versioned.{stores_again, stores_first, stores_nothing, update_stores, updates_nothing, element_set, again_stored, after_mark}
 use Rattle.lower.proofs.Versioned.{mark_keeps_pairs, mark_keeps_words, elements_have_next, first_stored_at, first_emits, first_list, pushed_of, push_listed}
 use Rattle.lower.proofs.Ends.{Does}
@@ -145,12 +125,7 @@ module _ (z : Scene) (n i v elements len : ℕ) (c : ArrayCopies) (at : IsArrayA
         stores = tt;
         stack_kept = refl;
         listed = listed;
-        stands = record {
-          variables = past_set l;
-          emitted = h.stands.emitted;
-          list = h.stands.list;
-          readings = h.stands.readings;
-        };
+        stands = record { variables = past_set l; emitted = h.stands.emitted; list = h.stands.list; readings = h.stands.readings };
         few = few_listed h;
       })
 

@@ -1,21 +1,12 @@
 -- Programs and statements one behind another: the ends of both agree where each step's do.
-use Rattle.std.proofs.Common.{◌≡◌, ℕ, ◌<◌, ◌≤◌, List, [], ◌∷◌, ◌++◌, length, Option, Some, None, Bool, refl, sym, ap, ◌∙◌, subst, arith, append_assoc}
-use Rattle.std.proofs.Common.{append-nil}
-use Rattle.memory_map.specs.MemoryMap.{word_place}
-use Rattle.memory_map.specs.declared.words.RuntimeWord.TheVariants.{ListLength, EmitCount, Version}
-use Rattle.fram_board.specs.Effects.{Effect, Store, Take, Outside}
-use Rattle.machine_effects.specs.World.{put, fram_after}
-use Rattle.machine_effects.proofs.Interface.{fram_after-append, put_other}
-use Rattle.source_values.specs.Values.{Attempt, Evaluated}
-use Rattle.source_values.specs.Statements.{Outcome, goes_on, to_task, short, and_then, if_value}
-use Rattle.array_versions.specs.Program.{Program, nothing}
-use Rattle.array_versions.specs.Behaviour.{WordState, End, GoesOn, Jumps, Short, Strays, Broken, Behaviour, behind_effects, on_end, then_on, behaviour}
-use Rattle.array_versions.specs.Laws.{EndsByEffects}
-use Rattle.array_versions.proofs.Interface.{behaves_by_effects}
-use Rattle.memory_map.specs.Spots.{Places, Element, scalar, copy, version}
-use Rattle.lower.specs.Spots.{Room, AreApart, listed_of}
-use Rattle.lower.specs.Agreement.{TakesAndStores, OnlyTakes, IsTaskStore, at_variable, at_copy, at_version, in_list, at_list_length, at_emit_count, in_buffer}
-use Rattle.lower.specs.Agreement.{StandsFor, EndsAt, AgreesAt, Scene, bounds, Left, EndsAs, Agrees}
+use Rattle.lower.proofs.Names.{◌≡◌, ℕ, ◌<◌, ◌≤◌, List, [], ◌∷◌, ◌++◌, length, Option, Some, None, Bool, refl, sym, ap, ◌∙◌, subst, arith, append_assoc}
+use Rattle.lower.proofs.Names.{append-nil, word_place, ListLength, EmitCount, Version, Effect, Store, Take, Outside, put, fram_after, fram_after-append}
+use Rattle.lower.proofs.Names.{put_other, Evaluated, Outcome, to_task, short, and_then, if_value, Program, nothing, WordState, End, GoesOn, Jumps, Short}
+use Rattle.lower.proofs.Names.{Broken, Behaviour, behind_effects, on_end, then_on, behaviour, EndsByEffects, behaves_by_effects, Places, Element}
+use Rattle.lower.proofs.Names.{scalar, copy, version, Room, AreApart, listed_of, TakesAndStores, OnlyTakes, IsTaskStore, at_variable, at_copy, at_version}
+use Rattle.lower.proofs.Names.{in_list, at_list_length, at_emit_count, in_buffer, StandsFor, EndsAt, AgreesAt, Scene, bounds, Left, EndsAs, Agrees}
+use Rattle.source_values.specs.Values.{Attempt}
+use Rattle.source_values.specs.Statements.{goes_on}
 use Rattle.lower.proofs.Values.{takes_append, only_takes}
 use Rattle.lower.proofs.Emitted.{EmitsAtMost}
 

@@ -1,36 +1,22 @@
 -- The programs of longs leave both words of their values, the high one on top.
-use Rattle.std.proofs.Common.{◌≡◌, ℕ, ◌+◌, ◌-◌, ◌*◌, ◌/◌, ◌%◌, ◌==◌, Option, Some, None, Bool, true, false, not, nat_lt, refl, sym, ap, ◌∙◌, subst, arith}
-use Rattle.std.proofs.Common.{eq-eqb, ne_eqb, ⊎_elim, bit_or, bit_xor, List, [], ◌∷◌, ◌++◌}
-use Rattle.std.proofs.lemmas.Bool.{cases_eq}
-use Rattle.std.proofs.lemmas.Nat.{le_or_l, le_or_r}
-use Rattle.std.specs.Int.Bits.{xor_self, xor_assoc, xor_zero_r}
-use Rattle.alp_words.specs.Words.{bit}
-use Rattle.task_ast.specs.declared.WordType.{WordType}
-use Rattle.task_ast.specs.declared.WordType.TheVariants.{Unsigned, Int, Long}
-use Rattle.task_ast.specs.declared.BinaryOperator.{BinaryOperator}
+use Rattle.lower.proofs.Names.{◌≡◌, ℕ, ◌+◌, ◌-◌, ◌*◌, ◌/◌, ◌%◌, ◌==◌, Option, Some, None, Bool, true, false, not, nat_lt, refl, sym, ap, ◌∙◌, subst, arith}
+use Rattle.lower.proofs.Names.{ne_eqb, ⊎_elim, bit_or, bit_xor, List, [], ◌∷◌, ◌++◌, cases_eq, le_or_l, le_or_r, xor_self, xor_assoc, xor_zero_r, bit}
+use Rattle.lower.proofs.Names.{WordType, Unsigned, Int, Long, BinaryOperator, ShiftOperator, IsOneWord, Evaluated, gives, made_of, holds, converted}
+use Rattle.lower.proofs.Names.{long_difference, long_binary_value, long_shift_value, truth_word, PlainOperation, Plain, plain_long, all_bits, stacked, Test}
+use Rattle.lower.proofs.Names.{Program, binary, long, holds_test, fails, joined, behind, WordState, Behaviour, pushed, behaviour, step_behaviour, with_stack}
+use Rattle.lower.proofs.Names.{LongQuestion, LongMeaning, long_meaning, long_shift, one, Lowering, as_test, as_long, word_program, value_test, widening}
+use Rattle.lower.proofs.Names.{long_words, long_program, long_zero, answer, long_binary_lowering, is_refused, AgreesAt, converted_to, truth_of}
+use Rattle.std.proofs.Common.{eq-eqb}
+use Rattle.source_values.specs.Values.{Attempt}
+use Rattle.array_versions.specs.Behaviour.{goes_on}
+use Rattle.lower.proofs.Values.{made_twice, pair_value, pair_made, pair_is_truth, twice, truth_pushed, LoweringAgrees, by_word, by_test, not_word, not_agrees}
+use Rattle.lower.proofs.Values.{Keeping, Leaves, LeavesWord, SidesAgree, pair_leaves, single, step_leaves, then_program}
 use Rattle.task_ast.specs.declared.BinaryOperator.TheVariants as operator
-use Rattle.task_ast.specs.declared.ShiftOperator.{ShiftOperator}
 use Rattle.task_ast.specs.declared.ShiftOperator.TheVariants as shift_operator
-use Rattle.task_ast.specs.Types.{IsOneWord}
-use Rattle.source_values.specs.Values.{Attempt, Evaluated, gives, made_of, holds, converted, long_difference, long_binary_value, long_shift_value, truth_word}
-use Rattle.array_versions.specs.declared.operations.PlainOperation.{PlainOperation}
 use Rattle.array_versions.specs.declared.operations.PlainOperation.TheVariants as plain
-use Rattle.array_versions.specs.declared.operations.BinaryOperation.TheVariants.{Plain}
 use Rattle.array_versions.specs.declared.operations.LongOperation.TheVariants as with_longs
-use Rattle.array_versions.specs.Operations.{plain_long, all_bits, stacked}
-use Rattle.array_versions.specs.Program.{Test, Program, binary, long, holds as holds_test, fails, joined, behind}
-use Rattle.array_versions.specs.Behaviour.{WordState, Behaviour, pushed, behaviour, step_behaviour, with_stack, goes_on}
-use Rattle.lower.specs.declared.operations.LongQuestion.{LongQuestion}
 use Rattle.lower.specs.declared.operations.LongQuestion.TheVariants as question
-use Rattle.lower.specs.declared.operations.LongMeaning.{LongMeaning}
 use Rattle.lower.specs.declared.operations.LongMeaning.TheVariants as meaning
-use Rattle.lower.specs.Operations.{long_meaning, long_shift}
-use Rattle.lower.specs.Lowered.{one, Lowering, as_test, as_long, word_program, value_test, widening, long_words, long_program, long_zero, answer}
-use Rattle.lower.specs.Lowered.{long_binary_lowering}
-use Rattle.task_check.specs.Occurrences.{is_refused}
-use Rattle.lower.specs.Agreement.{AgreesAt, converted_to, truth_of}
-use Rattle.lower.proofs.Values.{pair_value, pair_is_truth, truth_pushed, LoweringAgrees, by_word, by_test, not_word, not_agrees, Keeping, Leaves, LeavesWord}
-use Rattle.lower.proofs.Values.{SidesAgree, pair_leaves, single, step_leaves, then_program}
 
 -- ---- numbers
 

@@ -1,19 +1,10 @@
 -- A memory map as a task sees it keeps the rules of memory maps, and what stands there stands in the whole map at the same address.
-use Rattle.std.proofs.Common.{◌≡◌, ℕ, zero, suc, ◌+◌, Bool, true, false, List, [], ◌∷◌, ◌++◌, length, map, Option, Some, None, refl, sym, ap, ◌∙◌, subst}
-use Rattle.std.proofs.Common.{arith, slice_get, inl, inr, ◌⊎◌, ⊎_elim}
-use Rattle.std.specs.Prelude.{All, option_map}
-use Rattle.std.specs.List.{flat_map}
-use Rattle.std.proofs.lemmas.List.Elements.{All-weaker}
-use Rattle.memory_map.specs.declared.place.Region.{Region}
-use Rattle.memory_map.specs.declared.place.ArrayCopies.{ArrayCopies}
-use Rattle.memory_map.specs.declared.place.ScalarWidth.{ScalarWidth}
-use Rattle.memory_map.specs.declared.place.VariablePlace.{VariablePlace}
-use Rattle.memory_map.specs.declared.place.VariablePlace.TheVariants.{Scalar, Array}
-use Rattle.memory_map.specs.declared.place.PrivateScalar.{PrivateScalar}
-use Rattle.memory_map.specs.MemoryMap.{MemoryMap, TaskPlace}
-use Rattle.memory_map.specs.Places.{end_of, scalar_words, AreInOrder, home_region, copy_regions, version_regions, HasItsPlace, IsLaidOut}
-use Rattle.memory_map.proofs.Interface.{in_order_append}
-use Rattle.lower.specs.Seen.{place_seen, places_seen}
+use Rattle.lower.proofs.Names.{◌≡◌, ℕ, zero, suc, ◌+◌, Bool, true, false, List, [], ◌∷◌, ◌++◌, length, map, Option, Some, None, refl, sym, ap, ◌∙◌, subst}
+use Rattle.lower.proofs.Names.{arith, inl, inr, ◌⊎◌, ⊎_elim, option_map, flat_map, All-weaker, Region, ArrayCopies, ScalarWidth, VariablePlace, Scalar, Array}
+use Rattle.lower.proofs.Names.{PrivateScalar, MemoryMap, TaskPlace, end_of, AreInOrder, home_region, copy_regions, version_regions, HasItsPlace}
+use Rattle.lower.proofs.Names.{IsLaidOut, in_order_append, place_seen, places_seen}
+use Rattle.std.proofs.Common.{slice_get}
+use Rattle.std.specs.Prelude.{All}
 
 -- the place of a variable of a number
 pub place_at : (written : ℕ → Bool) (k : ℕ) (xs : List VariablePlace) (v : ℕ)
@@ -33,7 +24,8 @@ places_count written k (x ∷ xs) = ap suc (places_count written (k + 1) xs)
 -- without the first regions
 without_first : (from : ℕ) (rs more : List Region) (end : ℕ) → AreInOrder from (rs ++ more) end → AreInOrder from more end
 without_first from [] more end h = h
-without_first from (r ∷ rs) more end h = let b = h.0 in in_order_append from [] (end_of r) more end (omega (arith, b)) (without_first (end_of r) rs more end h.1)
+without_first from (r ∷ rs) more end h =
+    let b = h.0 in in_order_append from [] (end_of r) more end (omega (arith, b)) (without_first (end_of r) rs more end h.1)
 
 -- with others behind the first ones
 others_behind : (from : ℕ) (rs more others : List Region) (end : ℕ) → AreInOrder from (rs ++ more) end

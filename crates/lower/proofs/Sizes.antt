@@ -1,58 +1,32 @@
 -- The words of a task's code, and the cycles of its expressions, are within the allowance of a source.
-use Rattle.std.proofs.Common.{◌≡◌, ℕ, ◌+◌, ◌*◌, ◌<◌, ◌≤◌, ◌==◌, Bool, true, false, List, [], ◌∷◌, length, Option, Some, None, slice_get, refl, sym, ap, arith}
-use Rattle.std.proofs.Common.{nat_le, if◌then◌else◌}
-use Rattle.std.proofs.lemmas.Bool.Decides.{nat_tests}
-use Rattle.task_ast.specs.Tree as t
-use Rattle.task_ast.specs.Paths.{CheckedExpression, CheckedStatement, CheckedChoice, CheckedBlock}
-use Rattle.task_ast.specs.declared.WordType.{WordType}
-use Rattle.task_ast.specs.declared.WordType.TheVariants.{Unsigned, Int, Long}
-use Rattle.task_ast.specs.Types.{is_long, binary_type, unary_type, literal_type}
-use Rattle.task_ast.specs.declared.UnaryOperator.{UnaryOperator}
-use Rattle.task_ast.specs.declared.UnaryOperator.TheVariants as unary_operator
-use Rattle.task_ast.specs.declared.BinaryOperator.{BinaryOperator}
-use Rattle.task_ast.specs.declared.PlacedOperator.{PlacedOperator}
-use Rattle.task_ast.specs.declared.BinaryOperator.TheVariants as operator
-use Rattle.task_ast.specs.declared.ShiftOperator.{ShiftOperator}
-use Rattle.task_ast.specs.declared.ShiftOperator.TheVariants as shift_operator
-use Rattle.task_ast.specs.declared.ShortCircuitOperator.{ShortCircuitOperator}
-use Rattle.task_ast.specs.declared.ShortCircuitOperator.TheVariants.{And as BothHold, Or as OneHolds}
-use Rattle.task_ast.specs.declared.names.Variable.{Variable}
-use Rattle.task_ast.specs.declared.names.Variable.TheVariants.{Shared, Local}
-use Rattle.task_ast.proofs.Interface.{width_least}
+use Rattle.lower.proofs.Names.{◌≡◌, ℕ, ◌+◌, ◌*◌, ◌<◌, ◌≤◌, ◌==◌, Bool, true, false, List, [], ◌∷◌, length, Option, Some, None, refl, sym, ap, arith, nat_le}
+use Rattle.lower.proofs.Names.{if◌then◌else◌, nat_tests, CheckedExpression, CheckedStatement, CheckedChoice, CheckedBlock, WordType, Unsigned, Int, Long}
+use Rattle.lower.proofs.Names.{is_long, binary_type, unary_type, literal_type, UnaryOperator, BinaryOperator, PlacedOperator, ShiftOperator}
+use Rattle.lower.proofs.Names.{ShortCircuitOperator, BothHold, OneHolds, Variable, Shared, Local, width_least, cycles_column, words_column, operator_price}
+use Rattle.lower.proofs.Names.{expression_price, statement_price, conditions_price, blocks_price, block_price, Negate, Complement, Plain, PlainOperation}
+use Rattle.lower.proofs.Names.{Subtract, And, Xor, Or, Step, Test, Program, number, truth, unary, binary, shift, long, emit_word, store_number, move_word}
+use Rattle.lower.proofs.Names.{jump, step, joined, binary_cycles, step_cycles, test_cycles, cycles_of, entry_words, step_words, test_words, words_of}
+use Rattle.lower.proofs.Names.{joined_cycles, steps_keep_to_words, word_place, Gate, ListLength, EmitCount, Base, SentBase, VariablePlace, Scalar, Array}
+use Rattle.lower.proofs.Names.{PrivateScalar, Places, private_words, some_words, run_at, runs_of}
+use Rattle.lower.proofs.Names.{BinaryMeaning, Calculates, CommonBits, Holds, Fails, LongQuestion, LongMeaning, binary_meaning, shift_operation, operand_type}
+use Rattle.lower.proofs.Names.{long_meaning, long_shift, BlocksKeepToWords, one, read_step, write_step, read_long, write_long, element_read, element_step}
+use Rattle.lower.proofs.Names.{store_step, Lowering, as_word, as_test, as_bits, as_long, word_program, value_test, widening, long_words, long_program}
+use Rattle.lower.proofs.Names.{name_lowering, unary_lowering, long_zero, operand_lowering, answer, long_binary_lowering, sides_lowering, shift_lowering}
+use Rattle.lower.proofs.Names.{update_step, setting, long_setting, updating, of_words, sides_set, scalar_assignment, widened_type, lowered_long}
+use Rattle.lower.proofs.Names.{index_and_value, element_setting, update_element_step, element_updating, element_sides_set, binary_lowering, sides_test}
+use Rattle.lower.proofs.Names.{lowering, assignment, element_assignment, emission, entries, lowered_transition, lowered_expression, lowered_test}
+use Rattle.lower.proofs.Names.{lowered_statement, lowered_choice, lowered_block}
+use Rattle.std.proofs.Common.{slice_get}
 use Rattle.source_values.specs.Values.{by_width, joined_type, type_of}
-use Rattle.cost_bound.specs.Table.{cycles_column, words_column, operator_price, expression_price, statement_price, conditions_price, blocks_price, block_price}
-use Rattle.array_versions.specs.declared.operations.UnaryOperation.TheVariants.{Negate, Complement}
-use Rattle.array_versions.specs.declared.operations.BinaryOperation.TheVariants.{Plain}
-use Rattle.array_versions.specs.declared.operations.PlainOperation.{PlainOperation}
-use Rattle.array_versions.specs.declared.operations.PlainOperation.TheVariants.{Subtract, And, Xor, Or}
+use Rattle.array_versions.proofs.Interface.{joined_words}
+use Rattle.task_ast.specs.Tree as t
+use Rattle.lower.proofs.Neighbours.{of_runs}
+use Rattle.task_ast.specs.declared.UnaryOperator.TheVariants as unary_operator
+use Rattle.task_ast.specs.declared.BinaryOperator.TheVariants as operator
+use Rattle.task_ast.specs.declared.ShiftOperator.TheVariants as shift_operator
 use Rattle.array_versions.specs.declared.operations.LongOperation.TheVariants as with_longs
-use Rattle.array_versions.specs.Program.{Step, Test, Program, number, truth, unary, binary, shift, long, emit_word, store_number, move_word, jump, step, joined}
-use Rattle.array_versions.specs.Cost.{binary_cycles, step_cycles, test_cycles, cycles_of, entry_words, step_words, test_words, words_of}
-use Rattle.array_versions.proofs.Interface.{joined_cycles, joined_words, steps_keep_to_words}
-use Rattle.memory_map.specs.MemoryMap.{word_place}
-use Rattle.memory_map.specs.declared.words.RuntimeWord.TheVariants.{Gate, ListLength, EmitCount, Base, SentBase}
-use Rattle.memory_map.specs.declared.place.VariablePlace.{VariablePlace}
-use Rattle.memory_map.specs.declared.place.VariablePlace.TheVariants.{Scalar, Array}
-use Rattle.memory_map.specs.declared.place.PrivateScalar.{PrivateScalar}
-use Rattle.memory_map.specs.Places.{scalar_words}
-use Rattle.memory_map.specs.Spots.{Places, private_words}
-use Rattle.memory_map.proofs.Interface.{some_words}
-use Rattle.lower.specs.declared.runs.Run.{Run}
-use Rattle.lower.specs.Runs.{run_at, is_followed_by, longer, runs_from, runs_of}
-use Rattle.lower.specs.declared.operations.BinaryMeaning.{BinaryMeaning}
-use Rattle.lower.specs.declared.operations.BinaryMeaning.TheVariants.{Calculates, CommonBits, Holds, Fails}
-use Rattle.lower.specs.declared.operations.LongQuestion.{LongQuestion}
 use Rattle.lower.specs.declared.operations.LongQuestion.TheVariants as question
-use Rattle.lower.specs.declared.operations.LongMeaning.{LongMeaning}
 use Rattle.lower.specs.declared.operations.LongMeaning.TheVariants as meaning
-use Rattle.lower.specs.Operations.{binary_meaning, shift_operation, operand_type, long_meaning, long_shift}
-use Rattle.lower.specs.Sizes.{BlocksKeepToWords}
-use Rattle.lower.specs.Lowered.{one, read_step, write_step, read_long, write_long, element_read, element_step, store_step, Lowering, as_word, as_test, as_bits}
-use Rattle.lower.specs.Lowered.{as_long, word_program, value_test, widening, long_words, long_program, name_lowering, unary_lowering, long_zero}
-use Rattle.lower.specs.Lowered.{operand_lowering, answer, long_binary_lowering, sides_lowering, shift_lowering, update_step, setting}
-use Rattle.lower.specs.Lowered.{long_setting, updating, of_words, sides_set, scalar_assignment, widened_type, lowered_long, index_and_value, element_setting}
-use Rattle.lower.specs.Lowered.{update_element_step, element_updating, element_sides_set, binary_lowering, sides_test, lowering, assignment, element_assignment}
-use Rattle.lower.specs.Lowered.{emission, entries, lowered_transition, lowered_expression, lowered_test, lowered_statement, lowered_choice, lowered_block}
 
 -- ---- single steps
 
@@ -383,26 +357,15 @@ one_entry words some = by (words == 1) refl
     by true e = omega (arith, some)
     by false e = let more : 2 ≤ words = grind (arith, nat_tests) in omega (arith, more)
 
--- the entries of a run and of those behind it
-abbrev FromRun : ℕ → ℕ → Run → List PrivateScalar → Type 0
-FromRun count list r privates = words_of (entries count list (runs_from r privates)) ≤ 16 * (r.words + private_words privates)
-
-either_entry : (count list : ℕ) (b : Bool) (r : Run) (s : PrivateScalar) (more : List PrivateScalar) → 0 < r.words
-    → FromRun count list (longer r s) more → FromRun count list (run_at s) more
-    → words_of (entries count list (if b then runs_from (longer r s) more else r ∷ runs_from (run_at s) more))
-    ≤ 16 * (r.words + (scalar_words s.width + private_words more))
-either_entry count list true r s more some joined apart = omega (arith, joined)
-either_entry count list false r s more some joined apart = let one = one_entry r.words some in omega (arith, one, apart)
-
-entries_from_run : (count list : ℕ) (r : Run) (privates : List PrivateScalar) → 0 < r.words → FromRun count list r privates
-entries_from_run count list r [] some = let one = one_entry r.words some in omega (arith, one)
-entries_from_run count list r (s ∷ more) some =
-    either_entry count list (is_followed_by r s) r s more some (entries_from_run count list (longer r s) more (omega (arith, some)))
-    (entries_from_run count list (run_at s) more (some_words s.width))
-
 entries_words : (count list : ℕ) (privates : List PrivateScalar) → words_of (entries count list (runs_of privates)) ≤ 16 * private_words privates
 entries_words count list [] = omega arith
-entries_words count list (s ∷ more) = let rest = entries_from_run count list (run_at s) more (some_words s.width) in omega (arith, rest)
+entries_words count list (s ∷ more) =
+    let rest = of_runs (λ r privates rs. 0 < r.words → words_of (entries count list rs) ≤ 16 * (r.words + private_words privates))
+    (λ r some. let one = one_entry r.words some in omega (arith, one))
+    (λ r s more rs e h some. let joined = h (omega (arith, some)) in omega (arith, joined))
+    (λ r s more rs h some. let one = one_entry r.words some in let apart = h (some_words s.width) in omega (arith, one, apart))
+    (run_at s) more (some_words s.width) in
+    omega (arith, rest)
 
 transition_words : (p : Places) (s task : ℕ) → private_words p.privates ≤ s → words_of (lowered_transition p task) ≤ 40 + 16 * s
 transition_words p s task few =

@@ -1,28 +1,15 @@
 -- What stores do to a state that stands for an attempt.
-use Rattle.std.proofs.Common.{◌≡◌, ℕ, ◌+◌, ◌*◌, ◌%◌, ◌==◌, ◌<◌, ◌≤◌, List, [], ◌∷◌, ◌++◌, length, get_or, slice_set, slice_get, Option, Some, None, Contains}
-use Rattle.std.proofs.Common.{All, refl, sym, ap, ◌∙◌, subst, arith, eq-eqb, ne_eqb, ⊎_elim, length-append, if◌then◌else◌}
-use Rattle.std.proofs.lemmas.Bool.{cases_eq}
-use Rattle.std.proofs.lemmas.List.{get_or-set_same, get_or-set_other, length-set, get_or_append_left, get_or_past, length-map}
-use Rattle.runtime_effects.specs.Places.{CopyPair, entries_from}
-use Rattle.runtime_effects.proofs.Interface.{entries_alike, entries_are_few}
-use Rattle.std.proofs.Math.Seq.{get_or-append_seam}
-use Rattle.machine_effects.specs.World.{put}
-use Rattle.machine_effects.proofs.Interface.{put_at, put_other}
-use Rattle.task_ast.specs.declared.names.Variable.TheVariants.{Shared, Local}
-use Rattle.source_values.specs.Values.{Variables, word_at, with_word}
+use Rattle.lower.proofs.Names.{◌≡◌, ℕ, ◌+◌, ◌*◌, ◌%◌, ◌==◌, ◌<◌, ◌≤◌, List, [], ◌∷◌, ◌++◌, length, slice_set, Option, Some, None, Contains, refl, sym, ap}
+use Rattle.lower.proofs.Names.{◌∙◌, subst, arith, ne_eqb, ⊎_elim, length-append, if◌then◌else◌, cases_eq, get_or-set_same, get_or-set_other, length-set}
+use Rattle.lower.proofs.Names.{get_or_append_left, get_or_past, length-map, CopyPair, entries_from, entries_alike, entries_are_few, get_or-append_seam, put}
+use Rattle.lower.proofs.Names.{put_at, put_other, Shared, Local, Variables, word_at, with_word, Room, AreApart, own_word, HoldVariables, HoldEmits}
+use Rattle.lower.proofs.Names.{element_pair, HoldList, word_place, ListLength, EmitCount, Version, ArrayCopies, VariablePlace, Scalar, Array, first_word}
+use Rattle.lower.proofs.Names.{Places, address_of, scalar_address, IsScalarAt, words_at, IsScalarWord, IsArrayAt, Element, IsElement, IsCopied, Spot, scalar}
+use Rattle.lower.proofs.Names.{element, copy, version, IsSpot, element_address, copy_address, version_address, spot_address}
+use Rattle.std.proofs.Common.{get_or, slice_get, All, eq-eqb}
 use Rattle.array_versions.specs.Behaviour.{assigned}
-use Rattle.lower.specs.Spots.{Room, AreApart}
-use Rattle.lower.specs.Agreement.{own_word, HoldVariables, HoldEmits, element_pair, HoldList}
 use Rattle.lower.proofs.Addresses.{element_is, copy_is, version_is, no_scalar, word_scalar, first_address}
 use Rattle.lower.proofs.Values.{small_modulo}
-use Rattle.memory_map.specs.MemoryMap.{word_place}
-use Rattle.memory_map.specs.declared.words.RuntimeWord.TheVariants.{ListLength, EmitCount, Version}
-use Rattle.memory_map.specs.declared.place.ArrayCopies.{ArrayCopies}
-use Rattle.memory_map.specs.declared.place.VariablePlace.{VariablePlace}
-use Rattle.memory_map.specs.declared.place.VariablePlace.TheVariants.{Scalar, Array}
-use Rattle.memory_map.proofs.Interface.{first_word}
-use Rattle.memory_map.specs.Spots.{Places, address_of, scalar_address, IsScalarAt, words_at, IsScalarWord, IsArrayAt, Element, IsElement, IsCopied, Spot}
-use Rattle.memory_map.specs.Spots.{scalar, element, copy, version, IsSpot, element_address, copy_address, version_address, spot_address}
 
 -- ---- another word of a shared variable
 

@@ -1,53 +1,26 @@
 -- The programs of expressions of words leave their values.
-use Rattle.std.proofs.Common.{◌≡◌, ℕ, ◌+◌, ◌*◌, ◌%◌, ◌==◌, ◌<◌, ◌≤◌, List, [], ◌∷◌, ◌++◌, Option, Some, None, Bool, true, false, not, nat_le, nat_lt, refl}
-use Rattle.std.proofs.Common.{sym, ap, ◌∙◌, subst, arith, le-ltb, lt-ltb, get_or, ⊎_elim, if◌then◌else◌, bit_and}
-use Rattle.alp_words.specs.Words.{bit}
-use Rattle.fram_board.specs.Effects.{Effect, Store, Take, Outside}
-use Rattle.std.proofs.lemmas.Bool.{cases_lt}
-use Rattle.std.proofs.lemmas.List.{get_or_past}
-use Rattle.task_ast.specs.declared.WordType.{WordType}
-use Rattle.task_ast.specs.declared.WordType.TheVariants.{Int}
-use Rattle.task_ast.specs.declared.UnaryOperator.{UnaryOperator}
-use Rattle.task_ast.specs.declared.UnaryOperator.TheVariants as unary_operator
-use Rattle.task_ast.specs.declared.BinaryOperator.{BinaryOperator}
-use Rattle.task_ast.specs.declared.BinaryOperator.TheVariants as operator
-use Rattle.task_ast.specs.declared.ShiftOperator.{ShiftOperator}
-use Rattle.task_ast.specs.declared.ShiftOperator.TheVariants as shift_operator
-use Rattle.task_ast.specs.declared.ShortCircuitOperator.{ShortCircuitOperator}
-use Rattle.task_ast.specs.declared.ShortCircuitOperator.TheVariants.{And as BothHold, Or as OneHolds}
-use Rattle.task_ast.specs.declared.names.Variable.{Variable}
-use Rattle.task_ast.specs.declared.names.Variable.TheVariants.{Shared, Local}
-use Rattle.source_values.specs.Values.{◌>>?◌, Variables, Attempt, Evaluated, word_at, holds, unary_value, binary_value, shift_value, shifted_value}
-use Rattle.source_values.specs.Values.{is_settled, gives, made_of, reading_of, truth_word, next_reading}
-use Rattle.array_versions.specs.declared.operations.UnaryOperation.TheVariants.{Negate, Complement}
-use Rattle.array_versions.specs.declared.operations.BinaryOperation.{BinaryOperation}
-use Rattle.array_versions.specs.declared.operations.BinaryOperation.TheVariants.{Plain}
-use Rattle.array_versions.specs.declared.operations.PlainOperation.TheVariants.{And}
-use Rattle.array_versions.specs.declared.operations.Comparison.TheVariants.{CommonBit}
-use Rattle.array_versions.specs.Operations.{unary_word, binary_word, shift_word, shifted_word, compare_words}
-use Rattle.array_versions.specs.Program.{Test, Program, load, local, unary, binary, compares, fails, nothing, joined, Step, sense, behind}
-use Rattle.array_versions.specs.Behaviour.{WordState, End, GoesOn, Short, Broken, Behaviour, goes_on, behind_effects, on_end, then_on, is_place, at_place}
-use Rattle.array_versions.specs.Behaviour.{pushed, number_pushed, local_pushed, reading_pushed, way_by_top, way_by_two, tested, behaviour, step_behaviour}
-use Rattle.array_versions.specs.Behaviour.{with_stack}
-use Rattle.array_versions.proofs.Interface.{joined_go_on, then_on_assoc, decided_by_truth}
-use Rattle.memory_map.specs.MemoryMap.{word_place}
-use Rattle.memory_map.specs.declared.words.RuntimeWord.TheVariants.{Version}
-use Rattle.memory_map.specs.declared.place.ArrayCopies.{ArrayCopies}
-use Rattle.memory_map.specs.declared.place.VariablePlace.TheVariants.{Array}
-use Rattle.memory_map.proofs.Interface.{word_even, first_word}
-use Rattle.memory_map.specs.Spots.{Places, address_of, scalar_address, IsScalarWord, IsArrayAt, Element, IsElement, IsCopied, scalar, element, copy, version}
-use Rattle.memory_map.specs.Spots.{IsSpot, Spot, spot_address}
-use Rattle.lower.specs.declared.operations.BinaryMeaning.{BinaryMeaning}
-use Rattle.lower.specs.declared.operations.BinaryMeaning.TheVariants.{Calculates, CommonBits, Holds, Fails}
-use Rattle.lower.specs.Operations.{binary_meaning, shift_operation}
-use Rattle.lower.specs.Lowered.{one, read_step, element_read, element_step, Lowering, as_word, as_test, word_program, value_test, unary_lowering}
-use Rattle.lower.specs.Lowered.{binary_lowering, sides_test}
-use Rattle.lower.specs.Spots.{Room, AreApart, AreEven}
-use Rattle.lower.specs.Agreement.{IsArray, own_word, HoldVariables, TakesAndStores, OnlyTakes, EndsAt, AgreesAt, truth_of, AsDeclared}
+use Rattle.lower.proofs.Names.{◌≡◌, ℕ, ◌+◌, ◌*◌, ◌%◌, ◌==◌, ◌<◌, ◌≤◌, List, [], ◌∷◌, ◌++◌, Option, Some, None, Bool, true, false, not, nat_le, nat_lt, refl}
+use Rattle.lower.proofs.Names.{sym, ap, ◌∙◌, subst, arith, le-ltb, lt-ltb, ⊎_elim, if◌then◌else◌, bit_and, bit, Effect, Store, Take, Outside, cases_lt}
+use Rattle.lower.proofs.Names.{get_or_past, WordType, Int, UnaryOperator, BinaryOperator, ShiftOperator, ShortCircuitOperator, BothHold, OneHolds, Variable}
+use Rattle.lower.proofs.Names.{Shared, Local, ◌>>?◌, Variables, Evaluated, word_at, holds, unary_value, binary_value, shift_value, shifted_value, is_settled}
+use Rattle.lower.proofs.Names.{gives, made_of, reading_of, truth_word, next_reading, Negate, Complement, BinaryOperation, Plain, And, CommonBit, unary_word}
+use Rattle.lower.proofs.Names.{binary_word, shift_word, shifted_word, compare_words, Test, Program, load, local, unary, binary, compares, fails, nothing}
+use Rattle.lower.proofs.Names.{joined, Step, sense, behind, WordState, End, GoesOn, Short, Broken, Behaviour, behind_effects, on_end, then_on, is_place}
+use Rattle.lower.proofs.Names.{at_place, pushed, number_pushed, local_pushed, reading_pushed, way_by_top, way_by_two, tested, behaviour, step_behaviour}
+use Rattle.lower.proofs.Names.{with_stack, joined_go_on, then_on_assoc, decided_by_truth, word_place, Version, ArrayCopies, Array, word_even, first_word}
+use Rattle.lower.proofs.Names.{Places, address_of, scalar_address, IsScalarWord, IsArrayAt, Element, IsElement, IsCopied, scalar, element, copy, version}
+use Rattle.lower.proofs.Names.{IsSpot, Spot, spot_address, BinaryMeaning, Calculates, CommonBits, Holds, Fails, binary_meaning, shift_operation, one}
+use Rattle.lower.proofs.Names.{read_step, element_read, element_step, Lowering, as_word, as_test, word_program, value_test, unary_lowering, binary_lowering}
+use Rattle.lower.proofs.Names.{sides_test, Room, AreApart, AreEven, IsArray, own_word, HoldVariables, TakesAndStores, OnlyTakes, EndsAt, AgreesAt, truth_of}
+use Rattle.lower.proofs.Names.{AsDeclared, Inputs, SharedDeclaration}
+use Rattle.std.proofs.Common.{get_or}
+use Rattle.source_values.specs.Values.{Attempt}
+use Rattle.array_versions.specs.Behaviour.{goes_on}
 use Rattle.lower.proofs.Declared.{IsKnown}
 use Rattle.lower.proofs.Addresses.{fram_place, placed, spot_place, first_address, element_is, copy_is, version_is, has_element}
-use Rattle.machine_effects.specs.Inputs.{Inputs}
-use Rattle.task_ast.specs.declared.SharedDeclaration.{SharedDeclaration}
+use Rattle.task_ast.specs.declared.UnaryOperator.TheVariants as unary_operator
+use Rattle.task_ast.specs.declared.BinaryOperator.TheVariants as operator
+use Rattle.task_ast.specs.declared.ShiftOperator.TheVariants as shift_operator
 
 -- ---- effects
 
@@ -243,7 +216,8 @@ pub record LoweringAgrees (k : Keeping) (w : WordState) (l : Lowering) (o : Opti
   pub test : LeavesWord k w.stack (truth_pushed (value_test l) w) (truth_of o)
 
 -- the programs of two sides leave such words, the second from the attempt behind the first
-pub record SidesAgree (k : Keeping) (words : ℕ → List ℕ) (w : WordState) (a b : Program) (o : Option Evaluated) (second : Attempt → Option Evaluated) : Type 0 where
+pub record SidesAgree (k : Keeping) (words : ℕ → List ℕ) (w : WordState) (a b : Program) (o : Option Evaluated)
+    (second : Attempt → Option Evaluated) : Type 0 where
   pub left_side : AgreesAt (Leaves k words w.stack) (behaviour a w) o
   pub right_side : (x : Evaluated) (s : WordState) → Keeps k x.behind s → (let below = words x.value ++ w.stack in
       AgreesAt (Leaves k words below) (behaviour b (with_stack below s)) (second x.behind))
@@ -364,7 +338,8 @@ module _ (k : Keeping) where
             index_read i length word (at_place ver (at_place n read))
             (λ l.
             let is : IsCopied k.p x = record { elements = elements; length = length; copies = c; is_array = at; below = l } in
-            let at_version = placed ver (at_place n read) (fram_place ver (word_even k.p.map Version k.even.row) (omega (arith, apart)) (omega (arith, apart))) in
+            let at_version = placed ver (at_place n read)
+            (fram_place ver (word_even k.p.map Version k.even.row) (omega (arith, apart)) (omega (arith, apart))) in
             let at_mark = placed n read (here (version x) n is (version_is k.p x elements length c at)) in
             subst (λ b. Reads b word) (sym (at_version ∙ at_mark))
             (either_read (w.fram ver == w.fram n) o e (w.fram o) (w.fram e) word (here (copy x) o is (copy_is k.p x elements length c at))
@@ -483,7 +458,8 @@ module _ (k : Keeping) where
       by_word w (behind (joined a b) (binary op)) (pair_value f o second) (operated op w a b o second f h e)
   binary_agrees CommonBits w a b o second f h e = record {
     word = operated (Plain And) w a b o second f h e;
-    test = subst (LeavesWord k w.stack (truth_pushed (compares CommonBit (joined a b)) w)) (sym (pair_made truth_word f (λ x y. truth_word (f x y)) o second (λ x y. refl)))
+    test = subst (LeavesWord k w.stack (truth_pushed (compares CommonBit (joined a b)) w))
+        (sym (pair_made truth_word f (λ x y. truth_word (f x y)) o second (λ x y. refl)))
         (sides_then single (Leaves k single w.stack) w a b (way_by_two CommonBit (number_pushed 1) (number_pushed 0)) o second (λ x y. truth_word (f x y)) h
         (λ x y m s kept. bit_agrees (holds (bit_and x y)) (truth_word (f x y)) m (with_stack w.stack s) kept (ap truth_word (e x y))));
   }

@@ -21,8 +21,8 @@ pub use Rattle.runtime_effects.specs.Stages.{is_at_end, opening_effects, sends, 
 pub use Rattle.crash_rules.proofs.Interface.{holds-append, in_front, world_fram}
 pub use Rattle.crash_rules.specs.Model.{AttemptContract, CommitKeeps, HoldsThroughout, Inputs, InputsAreWords, IsBetween, IsElsewhere, behind_effects}
 -- this crate
-pub use Rattle.stands_for.specs.Layout.{ArePrivate, HaveRoom, IsAmong, IsSharedWord, ProgramPlaces, StateView}
+pub use Rattle.stands_for.specs.Layout.{ArePrivate, HaveRoom, IsAmong, IsCopyWord, IsSharedWord, ProgramPlaces, StateView}
 pub use Rattle.stands_for.specs.Program.{CommitStores, IsCommitStore, IsStartStore, KeepsTheLaws, NumberedStarts, PendingCanCommit, ProgramParts, StartContract}
 pub use Rattle.stands_for.specs.Program.{TasksContract, attempt_effects, program_model}
-pub use Rattle.stands_for.specs.StandsFor.{AcceptedFrom, CommittingTo, CopiesHome, DecidedFrom, HoldsWords, IsAtRest, IsPendingCommit, RestsAt, SendsAndCloses}
-pub use Rattle.stands_for.specs.StandsFor.{StartedAt, UndecidedAt, VersionsWithin, words_at}
+pub use Rattle.stands_for.specs.StandsFor.{AcceptedFrom, CommittingTo, CopiesHome, DecidedFrom, EntriesHaveWords, HoldsWords, IsAtRest, IsPendingCommit}
+pub use Rattle.stands_for.specs.StandsFor.{RestsAt, SendsAndCloses, StartedAt, UndecidedAt, VersionsWithin, words_at}

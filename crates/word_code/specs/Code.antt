@@ -12,7 +12,7 @@ use Rattle.array_versions.specs.msp_step.msp_isa.declared.operands.Operand.TheVa
 use Rattle.array_versions.specs.msp_step.msp_isa.declared.operands.Konst.TheVariants as konst
 use Rattle.array_versions.specs.msp_step.msp_isa.declared.instructions.Condition.{Condition}
 use Rattle.array_versions.specs.msp_step.msp_isa.declared.instructions.Condition.TheVariants as condition
-use Rattle.code_forms.specs.declared.kinds.Modification.TheVariants as change
+use Rattle.code_forms.specs.instruction_forms.declared.kinds.Modification.TheVariants as change
 use Rattle.array_versions.specs.msp_step.msp_isa.alp_words.Words.{word_sum}
 use Rattle.code_forms.specs.Forms as forms
 use Rattle.code_forms.specs.Forms.{WorkRegister, R4, R5, R6, R7, R8, R9, R10, R11, R12, R13, R14, R15, Register, Number, Constant, Fram, Ram, Indexed, Popped}

@@ -13,7 +13,7 @@ push_part-requires-2 c =
     let boot = after_boot l ps c.requires.fits c.boot-start.result.address c.new-words.result.items c.push_part.new.words.items c.as_slice.result.now start
     c.new-words.ensures.items
     (c.as_slice.ensures.value ∙ c.in_ok-boot.ensures
-    ∙ ap (λ a. instructions (boot_forms l l.commit.address (task_entries l) a)) start) c.in_ok-push_part.ensures in
+    ∙ ap (λ a. boot_forms l l.commit.address (task_entries l) a) start) c.in_ok-push_part.ensures in
     let at : c.commit.result.address ≡ l.commit.address = ap (λ r. r.address) c.commit.ensures in
     let behind = commit_behind l ps c.requires.fits c.boot-start.result.address c.push_part.new.words.items boot in
     record { behind = omega (arith, at, behind) }
@@ -31,7 +31,7 @@ push_tasks-requires-clause-order c =
     let boot = after_boot l ps c.requires.fits c.boot-start.result.address c.new-words.result.items c.push_part.new.words.items c.as_slice.result.now start
     c.new-words.ensures.items
     (c.as_slice.ensures.value ∙ c.in_ok-boot.ensures
-    ∙ ap (λ a. instructions (boot_forms l l.commit.address (task_entries l) a)) start) c.in_ok-push_part.ensures in
+    ∙ ap (λ a. boot_forms l l.commit.address (task_entries l) a) start) c.in_ok-push_part.ensures in
     let commit = after_commit l ps c.requires.fits c.boot-start.result.address c.commit.result.address c.push_part.new.words.items
     c.push_part-2.new.words.items c.as_slice-2.result.now
     start (ap (λ r. r.address) c.commit.ensures) (c.as_slice-2.ensures.value ∙ c.in_ok-commit.ensures) boot c.in_ok-push_part-2.ensures in
@@ -53,7 +53,7 @@ returns c =
     let boot = after_boot l ps c.requires.fits c.boot-start.result.address c.new-words.result.items c.push_part.new.words.items c.as_slice.result.now start
     c.new-words.ensures.items
     (c.as_slice.ensures.value ∙ c.in_ok-boot.ensures
-    ∙ ap (λ a. instructions (boot_forms l l.commit.address (task_entries l) a)) start) c.in_ok-push_part.ensures in
+    ∙ ap (λ a. boot_forms l l.commit.address (task_entries l) a) start) c.in_ok-push_part.ensures in
     let commit = after_commit l ps c.requires.fits c.boot-start.result.address c.commit.result.address c.push_part.new.words.items
     c.push_part-2.new.words.items c.as_slice-2.result.now
     start (ap (λ r. r.address) c.commit.ensures) (c.as_slice-2.ensures.value ∙ c.in_ok-commit.ensures) boot c.in_ok-push_part-2.ensures in
