@@ -49,7 +49,7 @@ module _ (at : Beginning) where
   first_board = started fram number readings
 
   -- the code stands in FRAM
-  stands_there : Holds (fram_of fram) l.boot.address (words_of (source_code p l))
+  pub stands_there : Holds (fram_of fram) l.boot.address (words_of (source_code p l))
   stands_there = holds_as (fram_of fram) (fram_of image.words) (words_of (source_code p l)) l.boot.address (code_is_placed p l new.fits).even code.code new.code
 
   abbrev pub begins : Begins (compiled_model p l) readings origin first_world (outside_of first_board)
@@ -75,7 +75,7 @@ module _ (at : Beginning) where
 
 module _ (text : List ℕ) (p : CheckedProgram) (allow : Allow) (image : ImageValue) (c : IsCompiled text p allow image) (readings : List ℕ)
     (words : All (λ w. w < 0x10000) readings) (ready : IsReadyToRun p c.layout) (new : IsFreshImage text p allow c.layout image) where
-  undecided : (compiled_model p c.layout).Undecided (first_state p) (fresh_world image)
+  pub undecided : (compiled_model p c.layout).Undecided (first_state p) (fresh_world image)
   undecided =
       let s = first_state p in
       let x = fresh_world image in ready.model.settled_undecided s x (ready.model.rests_settled s x new.rests)

@@ -23,7 +23,7 @@ use Rattle.run_charges.proofs.Interface.{Counts, moments_count}
 use Rattle.model_runs.specs.EventLaws.{StartsWith}
 use Rattle.memory_map.specs.declared.runtime.Logging.{Logging}
 use Rattle.memory_map.specs.declared.runtime.Role.{Role}
-use Rattle.compiled_model.specs.Parts.{start_of}
+use Rattle.compiled_model.specs.Parts.{start_of as start_due}
 use Rattle.image_reports.proofs.Begins.{Beginning, first_world, first_board, begins, bears}
 use Rattle.image_reports.proofs.Capacities.{attempts_fit}
 use Rattle.image_reports.proofs.Told.{made}
@@ -71,7 +71,7 @@ pub record Onward : Type 0 where
   pub run : IsRunOfWords charges (started start.fram start.number start.readings) outcome
 
 module _ (onward : Onward) where
-  open onward use {start as at_first, accepted as ok, belongs, charges as cs, outcome as r, run}
+  open onward use {start as beginning, accepted as ok, belongs, charges as cs, outcome as r, run}
   open (onward.start) use {text, program as p, allow, image, compiled as c, ready, new, fram, number, before, counted, origin, readings}
 
   abbrev l : MemoryMap
@@ -84,13 +84,13 @@ module _ (onward : Onward) where
   program = compiled_program p l
 
   abbrev x : World
-  x = first_world at_first
+  x = first_world beginning
 
   abbrev b : BoardValue
-  b = first_board at_first
+  b = first_board beginning
 
   abbrev bearing : BearsModel model program readings origin x b
-  bearing = bears at_first
+  bearing = bears beginning
 
   pub starts_with : StartsWith b x
   starts_with = record { fram = refl; accepted = omega (arith, counted); taken = refl }
@@ -224,11 +224,11 @@ module _ (onward : Onward) where
           sent = λ to is none.
               let P : Origin State → Type 0 = λ o. Begins model readings o x (outside_of b) in
               pending_sends model program ready.model bearing.program readings to (outside_of t) h
-              (record { world = x; start = outside_of b; begins = subst P is (begins at_first); charges = at.charges; leads = at.charged }) none;
+              (record { world = x; start = outside_of b; begins = subst P is (begins beginning); charges = at.charges; leads = at.charged }) none;
           versions = λ made.
               let P : (ℕ → ℕ) → Type 0 = λ f. VersionsBelow l f in
               let Raised : Logging → Role → Type 0 = λ logging role. VersionsBelow l (fram_after (start_under logging l h.start.fram) h.start.fram) in
-              let f : (outside_of t).fram ≡ fram_after (start_of l h.start.fram) h.start.fram =
+              let f : (outside_of t).fram ≡ fram_after (start_due l h.start.fram) h.start.fram =
               same ∙ ap (λ w. w.fram) lawful.world ∙ world_fram h.effects h.start ∙ ap (λ es. fram_after es h.start.fram) made in
               let kept = began ms rest e in
               subst P (sym f) (under_map l Raised (versions_below (program_places p l) ready.code.apart (privates_in (task_entries l)) ready.code.privates

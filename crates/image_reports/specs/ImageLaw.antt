@@ -28,7 +28,7 @@ use Rattle.crash_rules.specs.Laws.{Resting, StandsFor, FollowsScript, AcceptedWo
 use Rattle.run_charges.specs.View.{outside_of}
 use Rattle.run_charges.specs.Charges.{ArePowerStates, AreInstructionMoments, observed}
 use Rattle.memory_map.specs.Laws.{AreApart}
-use Rattle.compiled_model.specs.Parts.{compiled_model, start_of}
+use Rattle.compiled_model.specs.Parts.{compiled_model, start_of as start_due}
 use Rattle.compiled_bounds.specs.Laws.{KeepsCapacities}
 use Rattle.model_runs.specs.Runs.{IsShort, all_amounts}
 use Rattle.image_laws.specs.Words.{code_words}
@@ -91,7 +91,7 @@ pub record HoldsAt (p : CheckedProgram) (l : MemoryMap) (image : ImageValue) (re
   pub capacities : KeepsCapacities l (outside_of b).fram
   -- as a task's first own instruction runs, whose start is made and which has done nothing yet, each version word is below VER. (With
   -- exactly the start's effects the code comes to the task's own: `start_is_made` of `boot_runtime`.)
-  pub versions : h.effects ≡ start_of l h.start.fram → VersionsBelow l (outside_of b).fram
+  pub versions : h.effects ≡ start_due l h.start.fram → VersionsBelow l (outside_of b).fram
   -- no store fell on the code
   pub code : KeepsCode p l image (outside_of b).fram
   -- every word that is fetched is the fresh image's

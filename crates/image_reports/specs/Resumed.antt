@@ -31,7 +31,7 @@ use Rattle.run_charges.specs.Charges.{ArePowerStates, observed}
 use Rattle.stands_for.specs.StandsFor.{IsSound}
 use Rattle.compiled_model.specs.Places.{program_places}
 use Rattle.compiled_model.specs.View.{state_in, state_left}
-use Rattle.compiled_model.specs.Parts.{compiled_model, start_of}
+use Rattle.compiled_model.specs.Parts.{compiled_model, start_of as start_due}
 use Rattle.compiled_bounds.specs.Laws.{KeepsCapacities}
 use Rattle.model_runs.specs.Events.{words_between}
 use Rattle.model_runs.specs.Runs.{IsShort, all_amounts}
@@ -89,7 +89,7 @@ pub record HoldsFrom (p : CheckedProgram) (l : MemoryMap) (image : ImageValue) (
       × ((s : State) → (compiled_model p l).Undecided s h.world → ⊥)
   pub accepted : AcceptedWords (compiled_model p l) readings origin h stands.state h.decided
   pub sent : (to : State) → origin ≡ Pending to → h.completed ≡ [] → IsBetween x.accepted to.emitted h.world.accepted
-  pub versions : h.effects ≡ start_of l h.start.fram → VersionsBelow l (outside_of b).fram
+  pub versions : h.effects ≡ start_due l h.start.fram → VersionsBelow l (outside_of b).fram
   pub belongs : BelongsTo p l image h.world
   -- no store fell on the code, nor on a word behind it
   pub kept : (a : ℕ) → l.boot.address ≤ a → (outside_of b).fram a ≡ x.fram a
