@@ -7,7 +7,7 @@ use Rattle.word_code.proofs.Memory.{HoldsWords, place_is}
 use Rattle.word_code.proofs.Registers.{Holds, Flagged, IsZero, equal_flag}
 use Rattle.word_code.proofs.Stretches.{Setting, runs_on, dearer}
 use Rattle.word_code.proofs.Follows.{StandsFor, Follows, then_end, guarded, more_cycles}
-use Rattle.word_code.proofs.Routes.{on, jump, place as place_of, Work, routes, starts}
+use Rattle.word_code.proofs.Routes.{on, jump, free, place as place_of, Work, route, store_route, starts}
 
 pub plus_small : (n base : ℕ) → 2 * n + base < 0x10000 → (2 * n + base + 0) % 0x10000 ≡ 2 * n + base
 plus_small n base h = omega arith
@@ -70,8 +70,8 @@ module _ (z : Setting) (place : ArrayPlace) (list : ListPlace) (p : ℕ) (h : St
   mark_part i w t wl fm fc eh ch is four six =
       let m = 2 * i + place.versions in
       let y = stored m (w.fram list.ver) w in
-      routes z p code h 0 (on 6 ∷ []) (Store m (w.fram list.ver) ∷ []) y.fram 13 _ is (four, refl, six, refl)
-      (_, ((tt, fm), ((tt, tt), ((tt, tt), ((tt, tt), ((fc, tt), ((tt, tt), tt)))))), (refl, tt)) refl refl refl refl
+      store_route z p code h 0 is (four, refl, six, refl) (on 6 ∷ []) (Store m (w.fram list.ver) ∷ []) y.fram 13 _
+      (_, ((tt, fm), ((tt, tt), ((tt, tt), ((tt, tt), ((fc, tt), free 1))))), (refl, tt)) refl refl refl refl
       (λ s. record {
         all = record { is = s; held = (plus_small i place.copies ch, refl, refl, plus_small i place.elements eh) };
         flag = equal_flag (y.fram list.cln) 0 (put_words w.fram m (w.fram list.ver) wl (wl list.ver) list.cln) (omega arith);
@@ -92,8 +92,9 @@ module _ (z : Setting) (place : ArrayPlace) (list : ListPlace) (p : ℕ) (h : St
       let F : ℕ → ℕ = put (put (put w.fram a home) (n + word_sum list.list 2) copy) (n + word_sum list.list 4) 1 in
       let fr : F ≡ u.fram = λ k. put (put (put w.fram a home) (second k) copy) (third k) 1 in
       let up : (F list.cln + 1 + 0) % 0x10000 ≡ v = ap (λ q. (q list.cln + 1 + 0) % 0x10000) fr ∙ plus_none (u.fram list.cln) 1 in
-      routes z p code h 27 (on 4 ∷ []) (Store a home ∷ Store (a + 2) copy ∷ Store (a + 4) 1 ∷ Store list.cln v ∷ []) (put u.fram list.cln v) 16 _
-      j.is j.held (_, ((tt, f1), ((tt, subst IsFram (sym second) f2), ((tt, subst IsFram (sym third) f4), ((tt, refl, tt, fc), tt)))), (refl, tt)) refl refl
+      let es = Store a home ∷ Store (a + 2) copy ∷ Store (a + 4) 1 ∷ Store list.cln v ∷ [] in
+      store_route z p code h 27 j.is j.held (on 4 ∷ []) es (put u.fram list.cln v) 16 _
+      (_, ((tt, f1), ((tt, subst IsFram (sym second) f2), ((tt, subst IsFram (sym third) f4), ((tt, refl, tt, fc), tt)))), (refl, tt)) refl refl
       (λ k. Store a home ∷ Store (second k) copy ∷ Store (third k) 1 ∷ Store list.cln (up k) ∷ []) (λ k. put (fr k) list.cln (up k)) (λ s. s)
 
   -- the entry's code, behind code that brings it its place
@@ -117,37 +118,10 @@ module _ (z : Setting) (place : ArrayPlace) (list : ListPlace) (p : ℕ) (h : St
       let five : last ≡ 6 * n = ap sixfold (one_less n (omega (arith, high))) ∙ six_times n (omega (arith, high)) in
       let words : last + word_sum list.list 4 ≡ a + 4 = ap (λ q. q + word_sum list.list 4) five ∙ at_offset (6 * n) list.list 4 f4.high in
       let begin : last + list.list ≡ a = ap (λ q. q + list.list) five in
-      routes z p code h 6 (jump false ∷ on 9 ∷ []) [] w.fram 15 _ k.all.is k.all.held (
-        refl,
-        k.flag,
-        refl,
-        (
-          _,
-          (
-            (tt, tt),
-            (
-              (tt, tt),
-              (
-                (tt, tt),
-                (
-                  (tt, tt),
-                  (
-                    (tt, tt),
-                    (
-                      (subst IsFram (sym words) f4, tt),
-                      (
-                        (tt, tt),
-                        ((tt, subst IsFram (sym begin) f1), ((tt, tt), tt)),
-                      ),
-                    ),
-                  ),
-                ),
-              ),
-            ),
-          ),
-          (refl, tt),
-        ),
-      ) refl refl refl refl
+      let f = subst IsFram (sym words) f4 in
+      let g = subst IsFram (sym begin) f1 in
+      route z p code h 6 k.all.is k.all.held (jump false ∷ on 5 ∷ on 4 ∷ []) 15 _
+      (refl, k.flag, refl, (_, free 5, (refl, (_, ((f, tt), ((tt, tt), ((tt, g), free 1))), (refl, tt))))) refl refl
       (λ s. record {
         all = record { is = s; held = (refl, five, refl, refl) };
         flag = ap₂ (λ x y. run_flag (w.fram x) (w.fram y) home) words begin ∙ run_flag_is (w.fram (a + 4)) (w.fram a) home small;
@@ -160,9 +134,10 @@ module _ (z : Setting) (place : ArrayPlace) (list : ListPlace) (p : ℕ) (h : St
       let a = q + list.list in
       let words : q + word_sum list.list 4 ≡ a + 4 = at_offset q list.list 4 f4.high in
       let begin : q + word_sum list.list 2 ≡ a + 2 = at_offset q list.list 2 f2.high in
-      routes z p code h 16 (jump false ∷ on 4 ∷ []) [] w.fram 10 _ k.all.is k.all.held
-      (refl, ap not k.flag, refl, (_, ((subst IsFram (sym words) f4, tt), ((tt, tt), ((tt, subst IsFram (sym begin) f2), ((tt, tt), tt)))), (refl, tt)))
-      refl refl refl refl
+      let f = subst IsFram (sym words) f4 in
+      let g = subst IsFram (sym begin) f2 in
+      route z p code h 16 k.all.is k.all.held (jump false ∷ on 4 ∷ []) 10 _
+      (refl, ap not k.flag, refl, (_, ((f, tt), ((tt, tt), ((tt, g), free 1))), (refl, tt))) refl refl
       (λ s. record {
         all = record { is = s; held = (refl, refl, refl, refl) };
         flag = ap₂ (λ x y. run_flag (w.fram x) (w.fram y) copy) words begin ∙ run_flag_is (w.fram (a + 4)) (w.fram (a + 2)) copy small;
@@ -177,7 +152,7 @@ module _ (z : Setting) (place : ArrayPlace) (list : ListPlace) (p : ℕ) (h : St
       let there : q + word_sum list.list 4 ≡ c = at_offset q list.list 4 f4.high in
       let up : (w.fram (q + word_sum list.list 4) + 1 + 0) % 0x10000 ≡ v = ap (λ x. (w.fram x + 1 + 0) % 0x10000) there ∙ plus_none (w.fram c) 1 in
       let f = subst IsFram (sym there) f4 in
-      routes z p code h 21 (jump false ∷ on 3 ∷ jump true ∷ []) (Store c v ∷ []) (put w.fram c v) 12 _ k.all.is k.all.held
+      store_route z p code h 21 k.all.is k.all.held (jump false ∷ on 3 ∷ jump true ∷ []) (Store c v ∷ []) (put w.fram c v) 12 _
       (refl, ap not k.flag, refl, (_, ((f, tt), ((tt, tt), ((tt, f), tt))), (refl, (refl, refl, refl, tt)))) refl refl
       (λ k. Store (there k) (up k) ∷ []) (λ k. put w.fram (there k) (up k)) (λ s. s)
 
@@ -187,7 +162,7 @@ module _ (z : Setting) (place : ArrayPlace) (list : ListPlace) (p : ℕ) (h : St
   more n w home copy t e j =
       entry_follows 2 w home copy t (λ g.
       let high = (place_is (6 * w.fram list.cln + list.list) g).high in
-      routes z p code h 26 (on 1 ∷ []) [] w.fram 2 _ j.is j.held (_, ((tt, tt), tt), (refl, tt)) refl refl refl refl
+      route z p code h 26 j.is j.held (on 1 ∷ []) 2 _ (_, free 1, (refl, tt)) refl refl
       (λ s. record { is = s; held = (refl, omega (arith, e, high), refl, refl) }))
 
   -- by whether the last copies end right before the copy
@@ -197,8 +172,9 @@ module _ (z : Setting) (place : ArrayPlace) (list : ListPlace) (p : ℕ) (h : St
   by_copy false n w home copy t e f4 k =
       let next : Behaviour = entry_stored list.cln list.list home copy 1 w in
       then_end z (p + 92) 18 next.effects next.end
-      (routes z p code h 21 (jump true ∷ []) [] w.fram 2 (Found 26 (6 * n) home copy w) k.all.is k.all.held (refl, ap not k.flag, refl, tt)
-      refl refl refl refl (λ s. record { is = s; held = (refl, refl, refl, refl) })) (λ u j. more n w home copy u e j)
+      (route z p code h 21 k.all.is k.all.held (jump true ∷ []) 2 (Found 26 (6 * n) home copy w)
+      (refl, ap not k.flag, refl, tt) refl refl
+      (λ s. record { is = s; held = (refl, refl, refl, refl) })) (λ u j. more n w home copy u e j)
 
   -- by whether the last homes end right before the home
   by_home : (b : Bool) (n : ℕ) (w : WordState) (home copy : ℕ) (t : Core) → copy < 0x10000 → w.fram list.cln ≡ suc n
@@ -213,8 +189,9 @@ module _ (z : Setting) (place : ArrayPlace) (list : ListPlace) (p : ℕ) (h : St
   by_home false n w home copy t small e f2 f4 k =
       let next : Behaviour = entry_stored list.cln list.list home copy 1 w in
       more_cycles z (p + 92) 20 30 t next.effects next.end (omega arith) (then_end z (p + 92) 18 next.effects next.end
-      (routes z p code h 16 (jump true ∷ []) [] w.fram 2 (Found 26 (6 * n) home copy w) k.all.is k.all.held (refl, ap not k.flag, refl, tt)
-      refl refl refl refl (λ s. record { is = s; held = (refl, refl, refl, refl) })) (λ u j. more n w home copy u e j))
+      (route z p code h 16 k.all.is k.all.held (jump true ∷ []) 2 (Found 26 (6 * n) home copy w)
+      (refl, ap not k.flag, refl, tt) refl refl
+      (λ s. record { is = s; held = (refl, refl, refl, refl) })) (λ u j. more n w home copy u e j))
 
   -- by how many entries there are
   lists : (n : ℕ) (w : WordState) (home copy : ℕ) (t : Core) → home < 0x10000 → copy < 0x10000 → w.fram list.cln ≡ n
@@ -222,7 +199,7 @@ module _ (z : Setting) (place : ArrayPlace) (list : ListPlace) (p : ℕ) (h : St
   lists zero w home copy t hs cs e k =
       let next : Behaviour = entry_stored list.cln list.list home copy 1 w in
       more_cycles z (p + 92) 18 45 t next.effects next.end (omega arith) (entry_follows 2 w home copy t (λ g.
-      routes z p code h 6 (jump true ∷ []) [] w.fram 2 _ k.all.is k.all.held (refl, k.flag, refl, tt) refl refl refl refl
+      route z p code h 6 k.all.is k.all.held (jump true ∷ []) 2 _ (refl, k.flag, refl, tt) refl refl
       (λ s. record { is = s; held = (refl, omega (arith, e), refl, refl) })))
   lists (suc n) w home copy t hs cs e k =
       let a = 6 * n + list.list in

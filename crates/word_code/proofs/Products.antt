@@ -6,7 +6,7 @@ use Rattle.array_versions.specs.msp_step.msp_isa.declared.operands.Konst.TheVari
 use Rattle.word_code.proofs.Registers.{Holds, Has, Flagged, IsZero, line}
 use Rattle.word_code.proofs.Stretches.{Setting, runs_on, dearer}
 use Rattle.word_code.proofs.Middles.{BinaryMiddle}
-use Rattle.word_code.proofs.Routes.{on, jump, Work, routes, starts}
+use Rattle.word_code.proofs.Routes.{on, jump, free, Work, route, starts}
 
 -- a turn leaves acc + a * b as it was
 even_turn : (a b acc : ℕ) → b % 2 ≡ 0 → (acc + (a + a) % 0x10000 * (b / 2)) % 0x10000 ≡ (acc + a * b) % 0x10000
@@ -78,12 +78,12 @@ module _ (z : Setting) where
     turn : (even : Bool) (a b acc : ℕ) (w : WordState) (t : Core) → (bit_and b 1 == 0) ≡ even → Factors a b acc w t
         → Runs z.code [] 7 t (Flagged z (λ f. Work ((a + a) % 0x10000) (b / 2) (sum even a acc) (f 7) f) (IsZero (b / 2 == 0)) (p + 12) w)
     turn true a b acc w t e i =
-        dearer z (omega arith) (routes z p multiply_turn h 0 (on 1 ∷ jump true ∷ on 3 ∷ []) [] w.fram 6 _ i.is i.held
-        (_, ((tt, tt), tt), (refl, (refl, e, refl, (_, ((tt, tt), ((tt, tt), (tt, tt))), (refl, tt))))) refl refl refl refl
+        dearer z (omega arith) (route z p multiply_turn h 0 i.is i.held (on 1 ∷ jump true ∷ on 3 ∷ []) 6 _
+        (_, free 1, (refl, (refl, e, refl, (_, ((tt, tt), ((tt, tt), (tt, tt))), (refl, tt))))) refl refl
         (λ s. record { all = record { is = s; held = (twice a, no_bits b, refl, refl) }; flag = ap (λ v. v == 0) (no_bits b) }))
     turn false a b acc w t e i =
-        routes z p multiply_turn h 0 (on 1 ∷ jump false ∷ on 4 ∷ []) [] w.fram 7 _ i.is i.held
-        (_, ((tt, tt), tt), (refl, (refl, e, refl, (_, ((tt, tt), ((tt, tt), ((tt, tt), (tt, tt)))), (refl, tt))))) refl refl refl refl
+        route z p multiply_turn h 0 i.is i.held (on 1 ∷ jump false ∷ on 4 ∷ []) 7 _
+        (_, free 1, (refl, (refl, e, refl, (_, ((tt, tt), ((tt, tt), ((tt, tt), (tt, tt)))), (refl, tt))))) refl refl
         (λ s. record { all = record { is = s; held = (twice a, no_bits b, refl, refl) }; flag = ap (λ v. v == 0) (no_bits b) })
 
     abbrev Result : ℕ → ℕ → ℕ → WordState → Core → Type 0
@@ -95,11 +95,11 @@ module _ (z : Setting) where
         → ((b ≡ 0 → ⊥) → (u : Core) → Factors a b next w u → Runs z.code [] (n * 9) u (Result a b next w)) → Runs z.code [] (2 + n * 9) t (Result a b next w)
     leave n a b next w t true e small j again =
         let nothing : next ≡ (next + a * b) % 0x10000 = sym (ap (λ q. (next + a * q) % 0x10000) (eqb-true b 0 e) ∙ no_more a next small) in
-        dearer z (omega arith) (routes z p multiply_turn h 6 (jump false ∷ []) [] w.fram 2 _ j.all.is j.all.held
-        (refl, ap not (j.flag ∙ e), refl, tt) refl refl refl refl (λ s. record { is = s; held = nothing }))
+        dearer z (omega arith) (route z p multiply_turn h 6 j.all.is j.all.held (jump false ∷ []) 2 _ (refl, ap not (j.flag ∙ e), refl, tt) refl refl (λ s. record { is = s; held = nothing }))
     leave n a b next w t false e small j again =
-        runs_on z (routes z p multiply_turn h 6 (jump true ∷ []) [] w.fram 2 (Factors a b next w) j.all.is j.all.held
-        (refl, ap not (j.flag ∙ e), refl, tt) refl refl refl refl (λ s. record { is = s; held = (refl, refl, refl, refl) }))
+        runs_on z (route z p multiply_turn h 6 j.all.is j.all.held (jump true ∷ []) 2 (Factors a b next w)
+        (refl, ap not (j.flag ∙ e), refl, tt) refl refl
+        (λ s. record { is = s; held = (refl, refl, refl, refl) }))
         (λ u i. again (not_zero b e) u i)
 
     loop : (n a b acc : ℕ) (w : WordState) (t : Core) → b < 2 ^ suc n → acc < 0x10000 → Factors a b acc w t → Runs z.code [] (suc n * 9) t (Result a b acc w)

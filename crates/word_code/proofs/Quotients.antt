@@ -8,7 +8,7 @@ use Rattle.array_versions.specs.msp_step.msp_isa.declared.operands.Konst.TheVari
 use Rattle.word_code.proofs.Registers.{Holds, HasTwo, Flagged, IsZero, line, no_borrow}
 use Rattle.word_code.proofs.Stretches.{so_runs, Setting, runs_on, dearer}
 use Rattle.word_code.proofs.Middles.{BinaryMiddle}
-use Rattle.word_code.proofs.Routes.{on, jump, Work, routes, starts as begins}
+use Rattle.word_code.proofs.Routes.{on, jump, free, Work, route, starts as begins}
 
 -- what is left of a by d: with P = 2 ^ turns left and p * P = 10000, x = X * p + q, X of the bits still to come and q those of the quotient
 pub record Dividing (a d x r p P : ℕ) : Type 0 where
@@ -199,10 +199,6 @@ out_x b x = if b then shifted x + 1 else shifted x
 abbrev out_r : Bool → ℕ → ℕ → ℕ → ℕ
 out_r b x d r = if b then longer x r - d else longer x r
 
-x_small : (b : Bool) (x : ℕ) → x < 0x10000 → out_x b x < 0x10000
-x_small true x h = omega arith
-x_small false x h = omega arith
-
 -- what the instructions leave where it does
 one_more : (x : ℕ) → (shifted x + 1 + 0) % 0x10000 ≡ shifted x + 1
 one_more x = omega arith
@@ -221,127 +217,82 @@ same_word n l = omega arith
 compared : (n d : ℕ) (b : Bool) → n < 0x10000 → d < 0x10000 → nat_le d n ≡ b → nat_le 0x10000 (n % 0x10000 + (0xFFFF - d) + 1) ≡ b
 compared n d b l k e = no_borrow (n % 0x10000) d (omega arith) k ∙ ap (nat_le d) (same_word n l) ∙ e
 
--- R4 holds what is left of the dividend with the bits of the quotient, R5 the divisor, R6 the rest and R7 the turns that are left
 module _ (z : Setting) where
-  module _ (p : ℕ) (h : Stands z.code p divide_turn) where
-    -- the bit of the quotient, by whether there is a carry, and whether the divisor goes in
-    turn_by : (c k : Bool) (x d r j : ℕ) (w : WordState) (t : Core) → nat_le 0x10000 (longer x r) ≡ c → over x r d ≡ k → d < 0x10000 → r < 0x10000
-        → j < 16 → (k ≡ true → longer x r - d < 0x10000) → Holds z (Work x d r (suc j)) (p + 0) w t
-        → Runs z.code [] 10 t (Flagged z (Work (out_x k x) d (out_r k x d r) j) (IsZero (j == 0)) (p + 16) w)
-    turn_by true true x d r j w t e f ld lr lj s i =
+  -- a word divided by another
+  module _ (p : ℕ) (h : Stands z.code p divide_turn) (a d : ℕ) (la : a < 0x10000) (ld : d < 0x10000) (w : WordState) where
+    -- R4 holds what is left of the dividend with the bits of the quotient, R5 the divisor, R6 the rest and R7 the turns that are left
+    abbrev InHand : ℕ → ℕ → ℕ → ℕ → Core → Type 0
+    InHand k x r n = Holds z (Work x d r n) (p + k) w
+
+    -- behind a turn, in front of the jump back, by whether the divisor went in
+    abbrev Turned : Bool → ℕ → ℕ → ℕ → Core → Type 0
+    Turned b x r j = Flagged z (Work (out_x b x) d (out_r b x d r) j) (IsZero (j == 0)) (p + 16) w
+
+    -- a turn, by whether there is a carry, and whether the divisor goes in
+    turn_by : (c k : Bool) (x r j : ℕ) (t : Core) → nat_le 0x10000 (longer x r) ≡ c → over x r d ≡ k → r < 0x10000 → j < 16
+        → (k ≡ true → longer x r - d < 0x10000) → InHand 0 x r (suc j) t → Runs z.code [] 10 t (Turned k x r j)
+    turn_by true true x r j t e f lr lj fits i =
         let count = counted j lj in
-        dearer z (omega arith) (routes z p divide_turn h 0 (on 2 ∷ jump true ∷ on 3 ∷ []) [] w.fram 7 _ i.is i.held
-        (_, ((tt, tt), ((tt, tt), tt)), (refl, (refl, e, refl, (_, ((tt, tt), ((tt, tt), ((tt, tt), tt))), (refl, tt))))) refl refl refl refl
-        (λ s'. record {
-          all = record { is = s'; held = (one_more x, refl, rest_is x d r lr ld f (s refl), count) };
-          flag = ap (λ v. v == 0) count;
-        }))
-    turn_by true false x d r j w t e f ld lr lj s i = elim (impossible x d r e f ld) [ ]
-    turn_by false true x d r j w t e f ld lr lj s i =
+        let rest = rest_is x d r lr ld f (fits refl) in
+        dearer z (omega arith) (route z p divide_turn h 0 i.is i.held (on 2 ∷ jump true ∷ on 3 ∷ []) 7 _
+        (_, free 2, (refl, (refl, e, refl, (_, free 3, (refl, tt))))) refl refl
+        (λ s. record { all = record { is = s; held = (one_more x, refl, rest, count) }; flag = ap (λ v. v == 0) count }))
+    turn_by true false x r j t e f lr lj fits i = elim (impossible x d r e f ld) [ ]
+    turn_by false true x r j t e f lr lj fits i =
         let count = counted j lj in
-        routes z p divide_turn h 0 (on 2 ∷ jump false ∷ on 1 ∷ jump false ∷ on 3 ∷ []) [] w.fram 10 _ i.is i.held (
-          _,
-          ((tt, tt), ((tt, tt), tt)),
-          (
-            refl,
-            (
-              refl,
-              e,
-              refl,
-              (
-                _,
-                ((tt, tt), tt),
-                (
-                  refl,
-                  (
-                    refl,
-                    ap not (compared (longer x r) d true (under x r e) ld f),
-                    refl,
-                    (_, ((tt, tt), ((tt, tt), ((tt, tt), tt))), (refl, tt)),
-                  ),
-                ),
-              ),
-            ),
-          ),
-        ) refl refl refl refl
-        (λ s'. record {
-          all = record { is = s'; held = (one_more x, refl, rest_is x d r lr ld f (s refl), count) };
-          flag = ap (λ v. v == 0) count;
-        })
-    turn_by false false x d r j w t e f ld lr lj s i =
+        let rest = rest_is x d r lr ld f (fits refl) in
+        let goes = ap not (compared (longer x r) d true (under x r e) ld f) in
+        route z p divide_turn h 0 i.is i.held (on 2 ∷ jump false ∷ on 1 ∷ jump false ∷ on 3 ∷ []) 10 _
+        (_, free 2, (refl, (refl, e, refl, (_, free 1, (refl, (refl, goes, refl, (_, free 3, (refl, tt)))))))) refl refl
+        (λ s. record { all = record { is = s; held = (one_more x, refl, rest, count) }; flag = ap (λ v. v == 0) count })
+    turn_by false false x r j t e f lr lj fits i =
         let count = counted j lj in
-        dearer z (omega arith) (routes z p divide_turn h 0 (on 2 ∷ jump false ∷ on 1 ∷ jump true ∷ on 1 ∷ []) [] w.fram 8 _ i.is i.held (
-          _,
-          ((tt, tt), ((tt, tt), tt)),
-          (
-            refl,
-            (
-              refl,
-              e,
-              refl,
-              (
-                _,
-                ((tt, tt), tt),
-                (
-                  refl,
-                  (
-                    refl,
-                    ap not (compared (longer x r) d false (under x r e) ld f),
-                    refl,
-                    (_, ((tt, tt), tt), (refl, tt)),
-                  ),
-                ),
-              ),
-            ),
-          ),
-        ) refl refl refl refl
-        (λ s'. record {
-          all = record { is = s'; held = (refl, refl, same_word (longer x r) (under x r e), count) };
-          flag = ap (λ v. v == 0) count;
-        }))
+        let goes = ap not (compared (longer x r) d false (under x r e) ld f) in
+        dearer z (omega arith) (route z p divide_turn h 0 i.is i.held (on 2 ∷ jump false ∷ on 1 ∷ jump true ∷ on 1 ∷ []) 8 _
+        (_, free 2, (refl, (refl, e, refl, (_, free 1, (refl, (refl, goes, refl, (_, free 1, (refl, tt)))))))) refl refl
+        (λ s. record { all = record { is = s; held = (refl, refl, same_word (longer x r) (under x r e), count) }; flag = ap (λ v. v == 0) count }))
 
     -- a turn, with what it keeps
-    turn : (j a x d r q P : ℕ) (w : WordState) (t : Core) → 0 < P → j < 16 → a < 0x10000 → d < 0x10000 → Dividing a d x r q (2 * P)
-        → Holds z (Work x d r (suc j)) (p + 0) w t
-        → (let b = over x r d in Runs z.code [] 10 t (Flagged z (Work (out_x b x) d (out_r b x d r) j) (IsZero (j == 0)) (p + 16) w))
-    turn j a x d r q P w t po lj la ld g i =
+    turn : (j x r q P : ℕ) (t : Core) → 0 < P → j < 16 → Dividing a d x r q (2 * P) → InHand 0 x r (suc j) t
+        → Runs z.code [] 10 t (Turned (over x r d) x r j)
+    turn j x r q P t po lj g i =
         let lr = rest_small a d x r q (2 * P) (omega arith) g in
-        turn_by (nat_le 0x10000 (longer x r)) (over x r d) x d r j w t refl refl ld (omega (arith, lr)) lj
+        turn_by (nat_le 0x10000 (longer x r)) (over x r d) x r j t refl refl (omega (arith, lr)) lj
         (λ k. let n = step_by true a d x r q P k g in let l = rest_small a d (shifted x + 1) (longer x r - d) (2 * q) P po n in omega arith) i
 
     -- so many turns
-    loop : (j a x d r q : ℕ) (w : WordState) (t : Core) → j < 16 → a < 0x10000 → d < 0x10000 → Dividing a d x r q (2 * 2 ^ j)
-        → Holds z (Work x d r (suc j)) (p + 0) w t → Runs z.code [] (suc j * 12) t (Holds z (Work (quotient a d) d (remainder a d) 0) (p + 18) w)
-    loop zero a x d r q w t lj la ld g i =
+    loop : (j x r q : ℕ) (t : Core) → j < 16 → Dividing a d x r q (2 * 2 ^ j) → InHand 0 x r (suc j) t
+        → Runs z.code [] (suc j * 12) t (InHand 18 (quotient a d) (remainder a d) 0)
+    loop zero x r q t lj g i =
         let b = over x r d in
         let n = step_by b a d x r q 1 refl g in
         let wh = n.whole in
         let e : 2 * q ≡ 0x10000 = omega arith in
         let done = ends a d (out_x b x) (out_r b x d r) (subst (λ m. Dividing a d (out_x b x) (out_r b x d r) m 1) e n) in
-        runs_on z (turn zero a x d r q 1 w t (omega arith) lj la ld g i) (λ u k.
-        routes z p divide_turn h 8 (jump false ∷ []) [] w.fram 2 _ k.all.is k.all.held (refl, ap not k.flag, refl, tt) refl refl refl refl
+        runs_on z (turn zero x r q 1 t (omega arith) lj g i) (λ u k.
+        route z p divide_turn h 8 k.all.is k.all.held (jump false ∷ []) 2 _ (refl, ap not k.flag, refl, tt) refl refl
         (λ s. record { is = s; held = (done.0, refl, done.1, refl) }))
-    loop (suc j) a x d r q w t lj la ld g i =
+    loop (suc j) x r q t lj g i =
         let b = over x r d in
         let n = step_by b a d x r q (2 ^ suc j) refl g in
         let next : Dividing a d (out_x b x) (out_r b x d r) (2 * q) (2 * 2 ^ j) =
         subst (λ m. Dividing a d (out_x b x) (out_r b x d r) (2 * q) m) (power j) n in
         let l : 12 + suc j * 12 ≤ suc (suc j) * 12 = omega arith in
-        dearer z l (runs_on z (runs_on z (turn (suc j) a x d r q (2 ^ suc j) w t (positive (suc j)) lj la ld g i) (λ u k.
-        routes z p divide_turn h 8 (jump true ∷ []) [] w.fram 2 (Holds z (Work (out_x b x) d (out_r b x d r) (suc j)) (p + 0) w) k.all.is
-        k.all.held (refl, ap not k.flag ∙ suc_not j, refl, tt) refl refl refl refl (λ s. record { is = s; held = (refl, refl, refl, refl) })))
-        (λ u k. loop j a (out_x b x) d (out_r b x d r) (2 * q) w u (omega arith) la ld next k))
+        dearer z l (runs_on z (runs_on z (turn (suc j) x r q (2 ^ suc j) t (positive (suc j)) lj g i) (λ u k.
+        route z p divide_turn h 8 k.all.is k.all.held (jump true ∷ []) 2 (InHand 0 (out_x b x) (out_r b x d r) (suc j))
+        (refl, ap not k.flag ∙ suc_not j, refl, tt) refl refl (λ s. record { is = s; held = (refl, refl, refl, refl) })))
+        (λ u k. loop j (out_x b x) (out_r b x d r) (2 * q) u (omega arith) next k))
 
   all_turns : (pc x y : ℕ) (w : WordState) (t : Core) → x < 0x10000 → y < 0x10000 → Stands z.code pc divide_middle → HasTwo z pc w x y t
       → Runs z.code [] 195 t (Holds z (Work (quotient x y) y (remainder x y) 0) (pc + 24) w)
   all_turns pc x y w t a b h i =
       let heads : List Form = Move (Constant konst.Zero) (ToRegister R6) ∷ Move (Number 16) (ToRegister R7) ∷ [] in
       let end : pc + 6 + 18 ≡ pc + 24 = omega arith in
+      let turns = forms_behind z.code pc 2 divide_middle h in
       subst (λ n. Runs z.code [] 195 t (Holds z (Work (quotient x y) y (remainder x y) 0) n w)) end
       (runs_on z (line z heads 3 (pc + 6) (Holds z (Work x y 0 16) (pc + 6) w) i.is (tt, (tt, tt)) (h.0, (h.1.0, tt)) ((tt, tt), ((tt, tt), tt)) refl refl
       (omega (arith, i.is.at)) (λ s. record { is = s; held = (i.held.four, i.held.five, refl, refl) }))
-      (λ u k. loop (pc + 6) (forms_behind z.code pc 2 divide_middle h) 15 x x y 0 1 w u (omega arith) a b (starts x y a)
-      (record { is = begins z k.is; held = k.held })))
+      (λ u k. loop (pc + 6) turns x y a b w 15 x 0 1 u (omega arith) (starts x y a) (record { is = begins z k.is; held = k.held })))
 
   pub divide_part : BinaryMiddle z (binary_middle Divide) R4 195 (binary_word Divide)
   divide_part pc x y w t a b h i =

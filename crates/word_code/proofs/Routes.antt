@@ -1,6 +1,6 @@
 -- Routes through code: some forms, then a jump that is taken or isn't, and so on. The machine begins with the words of R4 to R7 by name and with the FRAM
 -- of the state that it stands for, so what it does and what it holds at the end are computations. Here alone it is reckoned where a jump comes to.
-use Rattle.word_code.proofs.Names.{◌≡◌, ℕ, suc, ◌+◌, ◌-◌, ◌%◌, ◌<◌, ◌==◌, List, [], ◌∷◌, drop, refl, sym, ap, ap₂, ◌∙◌, subst, arith, Bool, true, false}
+use Rattle.word_code.proofs.Names.{◌≡◌, ℕ, zero, suc, ◌+◌, ◌-◌, ◌%◌, ◌<◌, ◌==◌, List, [], ◌∷◌, drop, refl, sym, ap, ap₂, ◌∙◌, subst, arith, Bool, true, false}
 use Rattle.word_code.proofs.Names.{if◌then◌else◌, eqb-true, Effect, stretch, after_effects, At, Halted, put, Condition, sum16, distance, is_met, Core, Form, Jump}
 use Rattle.word_code.proofs.Names.{form_bytes, Stands, forms_bytes, forms_run, AreStraight, FormsNeed, Runs, stands_at, first_forms, forms_at, forms_behind, forms_bytes-append, end_of}
 use Rattle.word_code.proofs.Names.{WordState}
@@ -87,6 +87,15 @@ module _ (all : List Form) where
       (ms ≡ Jump (condition_of ms) (offset_of ms) ∷ drop 1 ms) × (is_met (condition_of ms) u.flags ≡ b) × (place (next b j) ≡ far b j)
       × RouteNeeds p ls (next b j) (record u { pc = p + place (next b j) })
 
+-- what so many forms need that need nothing
+abbrev pub Free : ℕ → Type 0
+Free zero = Unit {0}
+Free (suc n) = (Unit {0} × Unit {0}) × Free n
+
+pub free : (n : ℕ) → Free n
+free zero = tt
+free (suc n) = ((tt, tt), free n)
+
 -- a jump comes to the form that it goes to
 lands : (b : Bool) (p k d to : ℕ) → to ≡ (if b then (k + 2 + d) % 0x10000 else k + 2) → p + to < 0x10000
     → (if b then sum16 (p + k + 2) d else p + k + 2) ≡ p + to
@@ -109,15 +118,15 @@ module _ (z : Setting) (p : ℕ) (all : List Form) (h : Stands z.code p all) whe
       runs_on z front (λ x same. subst (λ y. Runs z.code (go t).effects (go t).cycles y (Comes to v)) (sym same) (on_then t more e))
   on_by (Halted price x) n j to go More at st needs made more on_then e = absurd (cc)
 
-  route : (ls : List Leg) (j : ℕ) (u v : Core) → u.pc ≡ p + place all j → RouteNeeds all p ls j u
+  leads : (ls : List Leg) (j : ℕ) (u v : Core) → u.pc ≡ p + place all j → RouteNeeds all p ls j u
       → (let r = routed all p ls j u in r.status ≡ At v → Runs z.code r.effects r.cycles u (Comes (ending all ls j) v))
-  route [] j u v at needs e = let same : u ≡ v = cc in nothing_run z (same, ap (λ x. x.pc) (sym same) ∙ at)
-  route (on n ∷ ls) j u v at needs e =
+  leads [] j u v at needs e = let same : u ≡ v = cc in nothing_run z (same, ap (λ x. x.pc) (sym same) ∙ at)
+  leads (on n ∷ ls) j u v at needs e =
       let ms = take n (drop j all) in
       let there = ap forms_bytes (take-add j n all) ∙ forms_bytes-append (take j all) ms in
       on_by (forms_run ms u).status n j (ending all (on n ∷ ls) j) (routed all p ls (j + n)) (λ t. (t.pc ≡ end_at u.pc ms) × RouteNeeds all p ls (j + n) t)
-      at needs.0 needs.1 refl needs.2 (λ t more s. route ls (j + n) t v (more.0 ∙ omega (arith, end_is u.pc ms, at, there)) more.1 s) e
-  route (jump b ∷ ls) j u v at needs e =
+      at needs.0 needs.1 refl needs.2 (λ t more s. leads ls (j + n) t v (more.0 ∙ omega (arith, end_is u.pc ms, at, there)) more.1 s) e
+  leads (jump b ∷ ls) j u v at needs e =
       let c = condition_of (drop j all) in
       let d = offset_of (drop j all) in
       let i = next all b j in
@@ -130,7 +139,7 @@ module _ (z : Setting) (p : ℕ) (all : List Form) (h : Stands z.code p all) whe
       let goes : (if is_met c u.flags then sum16 (u.pc + 2) (distance d) else u.pc + 2) ≡ p + place all i =
       ap₂ (λ x q. if x then sum16 (q + 2) (distance d) else q + 2) needs.1 at ∙ lands b p (place all j) (distance d) (place all i) needs.2 end in
       runs_on z (hop z (Jump c d) 2 u _ [] 2 (λ x. x ≡ t) (ap z.code at ∙ here.0) tt refl (omega arith) (ap (λ q. record u { pc = q }) goes))
-      (λ x same. subst (λ y. Runs z.code r.effects r.cycles y to) (sym same) (route ls i t v refl needs.3 e))
+      (λ x same. subst (λ y. Runs z.code r.effects r.cycles y to) (sym same) (leads ls i t v refl needs.3 e))
 
 -- ---- the words of R4 to R7 by name
 
@@ -166,20 +175,31 @@ module _ (z : Setting) where
       let work = sym (registers_are t.work k) in λ i. record t { pc = s.at i; work = work i; fram = s.fram i; inputs = s.inputs i }
 
   -- a route from where the machine stands for a state, behind the first j forms, with these words in R4 to R7
-  pub routes : {a b c d : ℕ} {w : WordState} {t : Core} (p : ℕ) (all : List Form) (h : Stands z.code p all) (j : ℕ) (ls : List Leg)
-      (es : List Effect) (f : ℕ → ℕ) (most : ℕ) (Q : Core → Type 0) → StandsFor z (p + place all j) w t → Work a b c d t.work
-      → (let u = named (p + place all j) a b c d w t in let r = routed all p ls j u in let v = end_of u r.status in RouteNeeds all p ls j u
-      → r ≡ stretch r.effects most (At v) → kept_by (record v { fram = w.fram }) ≡ kept_by u → r.effects ≡ es → v.fram ≡ f
-      → (StandsFor z (p + place all (ending all ls j)) (record w { fram = f }) v → Q v) → Runs z.code es most t Q)
-  routes {a} {b} {c} {d} {w} {t} p all h j ls es f most Q s words needs made kept effects fram q =
-      let u = named (p + place all j) a b c d w t in
-      let r = routed all p ls j u in
-      let v = end_of u r.status in
-      let memory = subst (λ x. Memory z x.sp x.ram x.locals w.stack w.locals) (sym kept) s.memory in
-      let comes = route z p all h ls j u v refl needs (ap (λ x. x.status) made) in
-      let cycles : r.cycles ≡ most = ap (λ x. x.cycles) made in
-      let inputs : v.inputs ≡ w.inputs = ap (λ x. x.inputs) kept in
-      subst (λ x. Runs z.code es most x Q) (sym (is_named s words))
-      (subst (λ l. Runs z.code l most u Q) effects
-      (dearer z (omega (arith, cycles))
-      (so_runs comes (λ x k. subst Q (sym k.0) (q (record { at = k.1; memory = memory; fram = fram; inputs = inputs }))))))
+  module _ (p : ℕ) (all : List Form) (h : Stands z.code p all) (j : ℕ) {a b c d : ℕ} {w : WordState} {t : Core} (s : StandsFor z (p + place all j) w t)
+      (words : Work a b c d t.work) where
+    abbrev begun : Core
+    begun = named (p + place all j) a b c d w t
+
+    -- through code that writes R4 to R7 and words of FRAM
+    pub store_route : (ls : List Leg) (es : List Effect) (f : ℕ → ℕ) (c : ℕ) (Q : Core → Type 0) → RouteNeeds all p ls j begun
+        → (let r = routed all p ls j begun in let v = end_of begun r.status in r ≡ stretch r.effects c (At v)
+        → kept_by (record v { fram = w.fram }) ≡ kept_by begun → r.effects ≡ es → v.fram ≡ f
+        → (StandsFor z (p + place all (ending all ls j)) (record w { fram = f }) v → Q v) → Runs z.code es c t Q)
+    store_route ls es f c Q needs made kept effects fram q =
+        let r = routed all p ls j begun in
+        let v = end_of begun r.status in
+        let memory = subst (λ x. Memory z x.sp x.ram x.locals w.stack w.locals) (sym kept) s.memory in
+        let inputs : v.inputs ≡ w.inputs = ap (λ x. x.inputs) kept in
+        let cycles : r.cycles ≡ c = ap (λ x. x.cycles) made in
+        subst (λ x. Runs z.code es c x Q) (sym (is_named s words)) (subst (λ l. Runs z.code l c begun Q) effects (dearer z (omega (arith, cycles))
+        (so_runs (leads z p all h ls j begun v refl needs (ap (λ x. x.status) made)) (λ x k.
+        subst Q (sym k.0) (q (record { at = k.1; memory = memory; fram = fram; inputs = inputs }))))))
+
+    -- through code that writes R4 to R7 alone
+    pub route : (ls : List Leg) (c : ℕ) (Q : Core → Type 0) → RouteNeeds all p ls j begun
+        → (let r = routed all p ls j begun in let v = end_of begun r.status in r ≡ stretch [] c (At v) → kept_by v ≡ kept_by begun
+        → (StandsFor z (p + place all (ending all ls j)) w v → Q v) → Runs z.code [] c t Q)
+    route ls c Q needs made kept q =
+        let none : [] ≡ (routed all p ls j begun).effects = sym (ap (λ x. x.effects) made) in
+        store_route ls [] w.fram c Q needs (made ∙ (λ i. stretch (none i) c (At (end_of begun (routed all p ls j begun).status)))) (λ i. record (kept i) { fram = w.fram })
+        (sym none) (ap (λ x. x.fram) kept) q

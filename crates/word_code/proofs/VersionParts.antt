@@ -12,7 +12,7 @@ use Rattle.word_code.proofs.Follows.{Follows, more_cycles, then_end, ends_at, gu
 use Rattle.word_code.proofs.Jumps.{stands_low}
 use Rattle.word_code.proofs.Access.{check_part, within, beyond, within_stands, zero_stands, checked_end, checked_past, checked_within, over_zero}
 use Rattle.word_code.proofs.ListParts.{first_follows}
-use Rattle.word_code.proofs.Routes.{on, jump, routes, starts}
+use Rattle.word_code.proofs.Routes.{on, jump, route, store_route, starts}
 
 twice : (n base : ℕ) → 2 * n + base < 0x10000 → (n + n + 0) % 0x10000 ≡ 2 * n
 twice n base h = omega arith
@@ -45,15 +45,13 @@ module _ (z : Setting) where
         → Has z R4 p w i t → Runs z.code [] 14 t (Has z R4 to w (w.fram (2 * i + place.copies)))
     copy_read to i w t wl fv fm e fc d k =
         let v = w.fram (2 * i + place.copies) in
+        let f = doubled_fits i place.copies fc in
+        let g = doubled_fits i place.versions fm in
         let same = marked w.fram list.ver place.versions i wl fm.high e in
         runs_on z
-        (routes z p (own_code over place list) h 0 (on 3 ∷ jump false ∷ on 1 ∷ []) [] w.fram 12 (Has z R4 (p + 16) w v) (starts z k.is)
-        (k.held, refl, refl, refl) (
-          _,
-          ((tt, tt), ((fv, tt), ((tt, doubled_fits i place.versions fm), tt))),
-          (refl, (refl, ap not same, refl, (_, ((doubled_fits i place.copies fc, tt), tt), (refl, tt)))),
-        )
-        refl refl refl refl (λ s. record { is = s; held = ap (λ q. w.fram (q + place.copies)) (twice i place.copies fc.high) }))
+        (route z p (own_code over place list) h 0 (starts z k.is) (k.held, refl, refl, refl) (on 3 ∷ jump false ∷ on 1 ∷ []) 12 (Has z R4 (p + 16) w v)
+        (_, ((tt, tt), ((fv, tt), ((tt, g), tt))), (refl, (refl, ap not same, refl, (_, ((f, tt), tt), (refl, tt))))) refl refl
+        (λ s. record { is = s; held = ap (λ q. w.fram (q + place.copies)) (twice i place.copies fc.high) }))
         (λ u j. jump_with z condition.Always over (p + 16) to true (forms_behind z.code p 5 (own_code over place list) h).0 refl d j)
 
     -- where it isn't, the element
@@ -61,13 +59,12 @@ module _ (z : Setting) where
         → (w.fram list.ver == w.fram (2 * i + place.versions)) ≡ false → IsFram (2 * i + place.elements) → Has z R4 p w i t
         → Runs z.code [] 12 t (Has z R4 (p + 22) w (w.fram (2 * i + place.elements)))
     home_read i w t wl fv fm e fe k =
+        let f = doubled_fits i place.elements fe in
+        let g = doubled_fits i place.versions fm in
         let same = marked w.fram list.ver place.versions i wl fm.high e in
-        routes z p (own_code over place list) h 0 (on 3 ∷ jump true ∷ on 1 ∷ []) [] w.fram 12 _ (starts z k.is) (k.held, refl, refl, refl) (
-          _,
-          ((tt, tt), ((fv, tt), ((tt, doubled_fits i place.versions fm), tt))),
-          (refl, (refl, ap not same, refl, (_, ((doubled_fits i place.elements fe, tt), tt), (refl, tt)))),
-        )
-        refl refl refl refl (λ s. record { is = s; held = ap (λ q. w.fram (q + place.elements)) (twice i place.elements fe.high) })
+        route z p (own_code over place list) h 0 (starts z k.is) (k.held, refl, refl, refl) (on 3 ∷ jump true ∷ on 1 ∷ []) 12 _
+        (_, ((tt, tt), ((fv, tt), ((tt, g), tt))), (refl, (refl, ap not same, refl, (_, ((f, tt), tt), (refl, tt))))) refl refl
+        (λ s. record { is = s; held = ap (λ q. w.fram (q + place.elements)) (twice i place.elements fe.high) })
 
   -- a read, where its code stands, by whether the index is surely below the length
   pub past_read : (b : Bool) (place : ArrayPlace) (list : ListPlace) (pc : ℕ) → place.length < 0x10000 → Stands z.code pc (read_code b place list)
@@ -148,22 +145,22 @@ module _ (z : Setting) where
       own_stored_part : (b : Bool) → (y.fram list.ver == y.fram (2 * i + place.versions)) ≡ b
           → Follows z (p + 108) 71 t (if b then goes_on (Store c v ∷ []) y else behind_effects (Store c v ∷ []) (first_stored place list i y))
       own_stored_part true e =
-          dearer z (omega arith) (routes z p code h 0 (on 4 ∷ jump true ∷ []) (Store c v ∷ []) y.fram 13 _ (starts z j.is)
-          (j.held.four, j.held.five, refl, refl) (
-            _,
-            ((tt, tt), ((tt, doubled_fits i place.copies fc), ((fv, tt), ((tt, doubled_fits i place.versions fm), tt)))),
-            (refl, (refl, marked_behind e, refl, tt)),
-          ) refl refl (ap (λ q. Store (q + place.copies) v ∷ []) twice_is) there (λ s. s))
+          let f = doubled_fits i place.copies fc in
+          let g = doubled_fits i place.versions fm in
+          dearer z (omega arith)
+          (store_route z p code h 0 (starts z j.is) (j.held.four, j.held.five, refl, refl) (on 4 ∷ jump true ∷ []) (Store c v ∷ []) y.fram 13 _
+          (_, ((tt, tt), ((tt, f), ((fv, tt), ((tt, g), tt)))), (refl, (refl, marked_behind e, refl, tt))) refl refl
+          (ap (λ q. Store (q + place.copies) v ∷ []) twice_is) there (λ s. s))
       own_stored_part false e =
           let next = first_stored place list i y in
+          let f = doubled_fits i place.copies fc in
+          let g = doubled_fits i place.versions fm in
           let end : p + 16 + 92 ≡ p + 108 = omega arith in
           ends_at z (p + 16 + 92) (p + 108) 71 t (behind_effects (Store c v ∷ []) next) end (then_end z (p + 16 + 92) 58 next.effects next.end
-          (routes z p code h 0 (on 4 ∷ jump false ∷ []) (Store c v ∷ []) y.fram 13 (Holds z (HasNumber (2 * i) (y.fram list.ver)) (p + 16) y) (starts z j.is)
-          (j.held.four, j.held.five, refl, refl) (
-            _,
-            ((tt, tt), ((tt, doubled_fits i place.copies fc), ((fv, tt), ((tt, doubled_fits i place.versions fm), tt)))),
-            (refl, (refl, marked_behind e, refl, tt)),
-          ) refl refl (ap (λ q. Store (q + place.copies) v ∷ []) twice_is) there
+          (store_route z p code h 0 (starts z j.is) (j.held.four, j.held.five, refl, refl) (on 4 ∷ jump false ∷ []) (Store c v ∷ []) y.fram 13
+          (Holds z (HasNumber (2 * i) (y.fram list.ver)) (p + 16) y)
+          (_, ((tt, tt), ((tt, f), ((fv, tt), ((tt, g), tt)))), (refl, (refl, marked_behind e, refl, tt))) refl refl
+          (ap (λ q. Store (q + place.copies) v ∷ []) twice_is) there
           (λ s. record { is = s; held = record { four = twice_is; six = ap (λ (f : ℕ → ℕ). f list.ver) there } }))
           (λ u k. first_follows z place list (p + 16) (forms_behind z.code p 5 code h) i y u y_words fc fm k.is k.held.four k.held.six))
 
