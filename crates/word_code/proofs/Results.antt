@@ -268,16 +268,18 @@ module _ (z : Setting) where
     own_by true q lt f g =
         let c = 2 * i + place.copies in
         reach_guarded z (is_place c) (owed after_read) (Describes z after_read read_end) (23 + owed os) u (goes_on [] (with_stack (w.fram c ∷ rest) w)) (λ p.
-        read_gives (w.fram c) (λ xs t s k. own_copy z sure place list read_mid small s i (with_stack xs w) t wl lt r f g q (place_is c p) k))
+        read_gives (w.fram c) (λ xs t s k. own_copy z sure place list read_mid i (with_stack xs w) t (record { small = small; stands = s; index = r; held = k }) lt
+        (record { words = wl; number = f; version = g }) q (place_is c p)))
     own_by false q lt f g =
         let a = 2 * i + place.elements in
         reach_guarded z (is_place a) (owed after_read) (Describes z after_read read_end) (23 + owed os) u (goes_on [] (with_stack (w.fram a ∷ rest) w)) (λ p.
-        read_gives (w.fram a) (λ xs t s k. own_home z sure place list read_mid small s i (with_stack xs w) t wl lt r f g q (place_is a p) k))
+        read_gives (w.fram a) (λ xs t s k. own_home z sure place list read_mid i (with_stack xs w) t (record { small = small; stands = s; index = r; held = k }) lt
+        (record { words = wl; number = f; version = g }) q (place_is a p)))
 
     -- by whether the index is below the length
     read_by : (b : Bool) → nat_lt i place.length ≡ b → (let x : Behaviour = if b then own_element place list i (with_stack rest w) else goes_on []
         (with_stack (0 ∷ rest) w) in Does after_read read_end (23 + owed os) u x)
-    read_by false lt = read_gives 0 (λ xs t s k. past_read z sure place list read_mid small s i (with_stack xs w) t is lt r k)
+    read_by false lt = read_gives 0 (λ xs t s k. past_read z sure place list read_mid i (with_stack xs w) t (record { small = small; stands = s; index = r; held = k }) is lt)
     read_by true lt =
         let m = 2 * i + place.versions in
         reach_guarded z (is_place list.ver) (owed after_read) (Describes z after_read read_end) (23 + owed os) u _ (λ f.
@@ -542,7 +544,8 @@ module _ (z : Setting) where
       let l = clear_cycles (below_top under) + (load_cycles (top_of os) + load_cycles (top_of under)) in
       alone_behind front (write_code sure place list) 75 (79 + owed os) pc u (versioned_stored place list i v left)
       (omega (arith, owed_kept (below_top under), load_owed os, load_owed under)) h (λ q. gathered (two_to_registers os) ks pc q
-      (λ q. two_to_registers_part z os pc w i v rest u e q d)) (λ t q k. write_part z sure place list (pc + forms_bytes front) small q i v left t is wl r s k)
+      (λ q. two_to_registers_part z os pc w i v rest u e q d)) (λ t q k.
+      write_part z sure place list (pc + forms_bytes front) i v left t is q (record { small = small; index = r; word = s; words = wl; held = k }))
 
   pub write_reaches : (bs : List Bound) (place : ArrayPlace) (list : ListPlace) (os : List Waiting) (pc : ℕ) (w : WordState) (vs : List ℕ) (u : Core)
       → place.length < 0x10000 → HoldsWords w.fram → Bounded bs w.locals → w.stack ≡ vs → AreWords vs

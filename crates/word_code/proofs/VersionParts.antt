@@ -33,82 +33,105 @@ pub record HasNumber (k n : ℕ) (f : ℕ → ℕ) : Type 0 where
   pub four : f 4 ≡ k
   pub six : f 6 ≡ n
 
+-- what a version word is looked at with
+pub record Versioned (place : ArrayPlace) (list : ListPlace) (i : ℕ) (w : WordState) : Type 0 where
+  pub words : HoldsWords w.fram
+  pub number : IsFram list.ver
+  pub version : IsFram (2 * i + place.versions)
+
 module _ (z : Setting) where
+  -- an element is read at an index in R4
+  pub record Reading (b : Bool) (place : ArrayPlace) (list : ListPlace) (pc i : ℕ) (w : WordState) (t : Core) : Type 0 where
+    pub small : place.length < 0x10000
+    pub stands : Stands z.code pc (read_code b place list)
+    pub index : i < 0x10000
+    pub held : Has z R4 pc w i t
+
+  -- a word in R5 is written at an index in R4
+  pub record Writing (place : ArrayPlace) (pc i v : ℕ) (w : WordState) (t : Core) : Type 0 where
+    pub small : place.length < 0x10000
+    pub index : i < 0x10000
+    pub word : v < 0x10000
+    pub words : HoldsWords w.fram
+    pub held : HasTwo z pc w i v t
+
   -- a read at an index below the length, where its code stands
   module _ (over : ℕ) (place : ArrayPlace) (list : ListPlace) (p : ℕ) (h : Stands z.code p (own_code over place list)) where
     pub at18 : z.code (p + 18) ≡ Some (instruction_of (Move (Indexed R4 place.elements) (ToRegister R4)))
     at18 = (forms_behind z.code p 6 (own_code over place list) h).0
 
     -- where the version word is the attempt's number, the copy is read, and the jump goes on
-    copy_read : (to i : ℕ) (w : WordState) (t : Core) → HoldsWords w.fram → IsFram list.ver → IsFram (2 * i + place.versions)
-        → (w.fram list.ver == w.fram (2 * i + place.versions)) ≡ true → IsFram (2 * i + place.copies) → sum16 (p + 16 + 2) (distance over) ≡ to
-        → Has z R4 p w i t → Runs z.code [] 14 t (Has z R4 to w (w.fram (2 * i + place.copies)))
-    copy_read to i w t wl fv fm e fc d k =
+    copy_read : (to i : ℕ) (w : WordState) (t : Core) → Versioned place list i w → (w.fram list.ver == w.fram (2 * i + place.versions)) ≡ true
+        → IsFram (2 * i + place.copies) → sum16 (p + 16 + 2) (distance over) ≡ to → Has z R4 p w i t
+        → Runs z.code [] 14 t (Has z R4 to w (w.fram (2 * i + place.copies)))
+    copy_read to i w t m e fc d k =
         let v = w.fram (2 * i + place.copies) in
         let f = doubled_fits i place.copies fc in
-        let g = doubled_fits i place.versions fm in
-        let same = marked w.fram list.ver place.versions i wl fm.high e in
+        let g = doubled_fits i place.versions m.version in
+        let same = marked w.fram list.ver place.versions i m.words m.version.high e in
         runs_on z
         (route z p (own_code over place list) h 0 (starts z k.is) (k.held, refl, refl, refl) (on 3 ∷ jump false ∷ on 1 ∷ []) 12 (Has z R4 (p + 16) w v)
-        (_, ((tt, tt), ((fv, tt), ((tt, g), tt))), (refl, (refl, ap not same, refl, (_, ((f, tt), tt), (refl, tt))))) refl refl
+        (_, ((tt, tt), ((m.number, tt), ((tt, g), tt))), (refl, (refl, ap not same, refl, (_, ((f, tt), tt), (refl, tt))))) refl refl
         (λ s. record { is = s; held = ap (λ q. w.fram (q + place.copies)) (twice i place.copies fc.high) }))
         (λ u j. jump_with z condition.Always over (p + 16) to true (forms_behind z.code p 5 (own_code over place list) h).0 refl d j)
 
     -- where it isn't, the element
-    home_read : (i : ℕ) (w : WordState) (t : Core) → HoldsWords w.fram → IsFram list.ver → IsFram (2 * i + place.versions)
-        → (w.fram list.ver == w.fram (2 * i + place.versions)) ≡ false → IsFram (2 * i + place.elements) → Has z R4 p w i t
-        → Runs z.code [] 12 t (Has z R4 (p + 22) w (w.fram (2 * i + place.elements)))
-    home_read i w t wl fv fm e fe k =
+    home_read : (i : ℕ) (w : WordState) (t : Core) → Versioned place list i w → (w.fram list.ver == w.fram (2 * i + place.versions)) ≡ false
+        → IsFram (2 * i + place.elements) → Has z R4 p w i t → Runs z.code [] 12 t (Has z R4 (p + 22) w (w.fram (2 * i + place.elements)))
+    home_read i w t m e fe k =
         let f = doubled_fits i place.elements fe in
-        let g = doubled_fits i place.versions fm in
-        let same = marked w.fram list.ver place.versions i wl fm.high e in
+        let g = doubled_fits i place.versions m.version in
+        let same = marked w.fram list.ver place.versions i m.words m.version.high e in
         route z p (own_code over place list) h 0 (starts z k.is) (k.held, refl, refl, refl) (on 3 ∷ jump true ∷ on 1 ∷ []) 12 _
-        (_, ((tt, tt), ((fv, tt), ((tt, g), tt))), (refl, (refl, ap not same, refl, (_, ((f, tt), tt), (refl, tt))))) refl refl
+        (_, ((tt, tt), ((m.number, tt), ((tt, g), tt))), (refl, (refl, ap not same, refl, (_, ((f, tt), tt), (refl, tt))))) refl refl
         (λ s. record { is = s; held = ap (λ q. w.fram (q + place.elements)) (twice i place.elements fe.high) })
 
   -- a read, where its code stands, by whether the index is surely below the length
-  pub past_read : (b : Bool) (place : ArrayPlace) (list : ListPlace) (pc : ℕ) → place.length < 0x10000 → Stands z.code pc (read_code b place list)
-      → (i : ℕ) (w : WordState) (t : Core) → (b ≡ true → nat_lt i place.length ≡ true) → nat_lt i place.length ≡ false → i < 0x10000 → Has z R4 pc w i t
-      → Runs z.code [] 18 t (Has z R4 (pc + forms_bytes (read_code b place list)) w 0)
-  past_read true place list pc l h i w t sure below r k = absurd (both_ways (nat_lt i place.length) below (sure refl))
-  past_read false place list pc l h i w t sure below r k =
+  pub past_read : (b : Bool) (place : ArrayPlace) (list : ListPlace) (pc i : ℕ) (w : WordState) (t : Core) → Reading b place list pc i w t
+      → (b ≡ true → nat_lt i place.length ≡ true) → nat_lt i place.length ≡ false → Runs z.code [] 18 t (Has z R4 (pc + forms_bytes (read_code b place list)) w 0)
+  past_read true place list pc i w t r sure below = absurd (both_ways (nat_lt i place.length) below (sure refl))
+  past_read false place list pc i w t r sure below =
       let ms = own_code 4 place list in
       let n = place.length in
       dearer z (omega arith)
-      (subst (λ p. Runs z.code [] 5 t (Has z R4 p w 0)) (checked_end z n 12 pc ms l h) (checked_past z n 12 pc ms l h i w t refl (omega arith) below r k))
+      (subst (λ p. Runs z.code [] 5 t (Has z R4 p w 0)) (checked_end z n 12 pc ms r.small r.stands)
+      (checked_past z n 12 pc ms r.small r.stands i w t refl (omega arith) below r.index r.held))
 
-  pub own_copy : (b : Bool) (place : ArrayPlace) (list : ListPlace) (pc : ℕ) → place.length < 0x10000 → Stands z.code pc (read_code b place list)
-      → (i : ℕ) (w : WordState) (t : Core) → HoldsWords w.fram → nat_lt i place.length ≡ true → i < 0x10000 → IsFram list.ver
-      → IsFram (2 * i + place.versions) → (w.fram list.ver == w.fram (2 * i + place.versions)) ≡ true → IsFram (2 * i + place.copies) → Has z R4 pc w i t
-      → Runs z.code [] 18 t (Has z R4 (pc + forms_bytes (read_code b place list)) w (w.fram (2 * i + place.copies)))
-  own_copy true place list pc l h i w t wl lt r f g e c k =
-      let high = (z.tidy (pc + 18) _ (at18 2 place list pc h)).high in
+  pub own_copy : (b : Bool) (place : ArrayPlace) (list : ListPlace) (pc i : ℕ) (w : WordState) (t : Core) → Reading b place list pc i w t
+      → nat_lt i place.length ≡ true → Versioned place list i w → (w.fram list.ver == w.fram (2 * i + place.versions)) ≡ true
+      → IsFram (2 * i + place.copies) → Runs z.code [] 18 t (Has z R4 (pc + forms_bytes (read_code b place list)) w (w.fram (2 * i + place.copies)))
+  own_copy true place list pc i w t r lt m e c =
+      let high = (z.tidy (pc + 18) _ (at18 2 place list pc r.stands)).high in
       let to : sum16 (pc + 16 + 2) (distance 2) ≡ pc + 22 = omega arith in
-      dearer z (omega arith) (copy_read 2 place list pc h (pc + 22) i w t wl f g e c to k)
-  own_copy false place list pc l h i w t wl lt r f g e c k =
+      dearer z (omega arith) (copy_read 2 place list pc r.stands (pc + 22) i w t m e c to r.held)
+  own_copy false place list pc i w t r lt m e c =
       let ms = own_code 4 place list in
       let n = place.length in
+      let h = r.stands in
+      let l = r.small in
       let at = within z n 12 pc ms l h in
       let end = beyond z n 12 pc ms l h + 4 in
       let v = w.fram (2 * i + place.copies) in
       let high = (z.tidy (beyond z n 12 pc ms l h + 2) _ (zero_stands z n 12 pc ms l h).1.0).high in
       let to : sum16 (at + 16 + 2) (distance 4) ≡ end = omega arith in
       subst (λ p. Runs z.code [] 18 t (Has z R4 p w v)) (checked_end z n 12 pc ms l h)
-      (runs_on z (checked_within z n 12 pc ms l h i w t lt r k) (λ u j. copy_read 4 place list at (within_stands z n 12 pc ms l h) end i w u wl f g e c to j))
+      (runs_on z (checked_within z n 12 pc ms l h i w t lt r.index r.held)
+      (λ u j. copy_read 4 place list at (within_stands z n 12 pc ms l h) end i w u m e c to j))
 
-  pub own_home : (b : Bool) (place : ArrayPlace) (list : ListPlace) (pc : ℕ) → place.length < 0x10000 → Stands z.code pc (read_code b place list)
-      → (i : ℕ) (w : WordState) (t : Core) → HoldsWords w.fram → nat_lt i place.length ≡ true → i < 0x10000 → IsFram list.ver
-      → IsFram (2 * i + place.versions) → (w.fram list.ver == w.fram (2 * i + place.versions)) ≡ false → IsFram (2 * i + place.elements)
-      → Has z R4 pc w i t → Runs z.code [] 18 t (Has z R4 (pc + forms_bytes (read_code b place list)) w (w.fram (2 * i + place.elements)))
-  own_home true place list pc l h i w t wl lt r f g e c k = dearer z (omega arith) (home_read 2 place list pc h i w t wl f g e c k)
-  own_home false place list pc l h i w t wl lt r f g e c k =
+  pub own_home : (b : Bool) (place : ArrayPlace) (list : ListPlace) (pc i : ℕ) (w : WordState) (t : Core) → Reading b place list pc i w t
+      → nat_lt i place.length ≡ true → Versioned place list i w → (w.fram list.ver == w.fram (2 * i + place.versions)) ≡ false
+      → IsFram (2 * i + place.elements) → Runs z.code [] 18 t (Has z R4 (pc + forms_bytes (read_code b place list)) w (w.fram (2 * i + place.elements)))
+  own_home true place list pc i w t r lt m e c = dearer z (omega arith) (home_read 2 place list pc r.stands i w t m e c r.held)
+  own_home false place list pc i w t r lt m e c =
       let ms = own_code 4 place list in
       let n = place.length in
+      let h = r.stands in
+      let l = r.small in
       let at = within z n 12 pc ms l h in
       let v = w.fram (2 * i + place.elements) in
       subst (λ p. Runs z.code [] 18 t (Has z R4 p w v)) (checked_end z n 12 pc ms l h)
-      (runs_on z (checked_within z n 12 pc ms l h i w t lt r k) (λ u j. runs_on z (home_read 4 place list at (within_stands z n 12 pc ms l h) i w u wl f g e c
-      j) (λ q m. over_zero z n 12 pc ms l h v w q m)))
+      (runs_on z (checked_within z n 12 pc ms l h i w t lt r.index r.held)
+      (λ u j. runs_on z (home_read 4 place list at (within_stands z n 12 pc ms l h) i w u m e c j) (λ q k. over_zero z n 12 pc ms l h v w q k)))
 
   -- a write at an index below the length, where its code stands
   module _ (place : ArrayPlace) (list : ListPlace) (p : ℕ) (h : Stands z.code p (stored_code place list)) where
@@ -175,33 +198,35 @@ module _ (z : Setting) where
         own_stored_part i v w t wl s (place_is c g1) (place_is list.ver g2) (place_is m g3) k (y.fram list.ver == y.fram m) refl)))
 
   -- behind the check, by whether the index is below the length
-  write_by : (b : Bool) (place : ArrayPlace) (list : ListPlace) (pc : ℕ) → place.length < 0x10000 → Stands z.code pc (write_code false place list)
-      → (i v : ℕ) (w : WordState) (t : Core) → HoldsWords w.fram → nat_lt i place.length ≡ b → i < 0x10000 → v < 0x10000 → HasTwo z pc w i v t
+  write_by : (b : Bool) (place : ArrayPlace) (list : ListPlace) (pc i v : ℕ) (w : WordState) (t : Core) → nat_lt i place.length ≡ b
+      → Stands z.code pc (write_code false place list) → Writing place pc i v w t
       → Follows z (pc + forms_bytes (write_code false place list)) 75 t (if b then own_stored place list i v w else goes_on [] w)
-  write_by false place list pc l h i v w t wl lt r s k =
+  write_by false place list pc i v w t lt h k =
       let check = check_code place.length 54 in
       let at = pc + forms_bytes check in
       let front = stands_front z.code pc check (stored_code place list) h in
       let back = stands_back z.code pc check (stored_code place list) h in
       let low = stored_low place list at back in
       let to : sum16 at (distance 54) ≡ pc + forms_bytes (write_code false place list) = omega (arith, forms_bytes-append check (stored_code place list)) in
-      dearer z (omega arith) (so_runs (check_part z false place.length 54 pc _ i w t lt l r front to k.held.four k.is) (λ u j. j.is))
-  write_by true place list pc l h i v w t wl lt r s k =
+      dearer z (omega arith)
+      (so_runs (check_part z false place.length 54 pc _ i w t lt k.small k.index front to k.held.held.four k.held.is) (λ u j. j.is))
+  write_by true place list pc i v w t lt h k =
       let check = check_code place.length 54 in
       let at = pc + forms_bytes check in
       let front = stands_front z.code pc check (stored_code place list) h in
       let back = stands_back z.code pc check (stored_code place list) h in
       let b = own_stored place list i v w in
       let end : at + 108 ≡ pc + forms_bytes (write_code false place list) = omega (arith, forms_bytes-append check (stored_code place list)) in
-      ends_at z (at + 108) _ 75 t b end (then_end z (at + 108) 71 b.effects b.end (check_part z true place.length 54 pc at i w t lt l r front refl k.held.four
-      k.is) (λ u j. stored_part place list at back i v w u wl s (record { is = j.is; held = subst (HasSides i v) (sym j.held) k.held })))
+      ends_at z (at + 108) _ 75 t b end (then_end z (at + 108) 71 b.effects b.end
+      (check_part z true place.length 54 pc at i w t lt k.small k.index front refl k.held.held.four k.held.is)
+      (λ u j. stored_part place list at back i v w u k.words k.word (record { is = j.is; held = subst (HasSides i v) (sym j.held) k.held.held })))
 
-  -- a word in R5 is written at an index in R4, by whether that is surely below the length
-  pub write_part : (b : Bool) (place : ArrayPlace) (list : ListPlace) (pc : ℕ) → place.length < 0x10000 → Stands z.code pc (write_code b place list)
-      → (i v : ℕ) (w : WordState) (t : Core) → (b ≡ true → nat_lt i place.length ≡ true) → HoldsWords w.fram → i < 0x10000 → v < 0x10000
-      → HasTwo z pc w i v t → Follows z (pc + forms_bytes (write_code b place list)) 75 t (versioned_stored place list i v w)
-  write_part true place list pc l h i v w t sure wl r s k =
+  -- by whether the index is surely below the length
+  pub write_part : (b : Bool) (place : ArrayPlace) (list : ListPlace) (pc i v : ℕ) (w : WordState) (t : Core) → (b ≡ true → nat_lt i place.length ≡ true)
+      → Stands z.code pc (write_code b place list) → Writing place pc i v w t
+      → Follows z (pc + forms_bytes (write_code b place list)) 75 t (versioned_stored place list i v w)
+  write_part true place list pc i v w t sure h k =
       let b = own_stored place list i v w in
       subst (λ c. Follows z (pc + 108) 75 t (if c then b else goes_on [] w)) (sym (sure refl))
-      (more_cycles z (pc + 108) 71 75 t b.effects b.end (omega arith) (stored_part place list pc h i v w t wl s k))
-  write_part false place list pc l h i v w t sure wl r s k = write_by (nat_lt i place.length) place list pc l h i v w t wl refl r s k
+      (more_cycles z (pc + 108) 71 75 t b.effects b.end (omega arith) (stored_part place list pc h i v w t k.words k.word k.held))
+  write_part false place list pc i v w t sure h k = write_by (nat_lt i place.length) place list pc i v w t refl h k
