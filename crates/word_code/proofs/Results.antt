@@ -193,10 +193,10 @@ module _ (z : Setting) where
       let after = waiting.R4 ∷ kept (below_top os) in
       let end = pc + forms_bytes (front ++ ms) in
       let none : nat_lt i size ≡ false → Does after end (15 + owed os) u (goes_on [] (with_stack (0 ∷ rest) w)) = λ no. value_part R4 front ms 10 15 0
-      (omega arith) e d h (λ s. top_to_four_part z os pc w i rest u e s d) (λ xs t s' k. past_end z b base size mid s s' i (with_stack xs w) t sure no r k) in
+      (omega arith) e d h (λ s. top_to_four_part z os pc w i rest u e s d) (λ xs t s' k. past_end z b base size mid i (with_stack xs w) t (record { small = s; index = r; held = k }) s' sure no) in
       let there : nat_lt i size ≡ true → IsFram a → Does after end (15 + owed os) u (goes_on [] (with_stack (w.fram a ∷ rest) w)) =
       λ yes f. value_part R4 front ms 10 15 (w.fram a) (omega arith) e d h (λ s. top_to_four_part z os pc w i rest u e s d)
-      (λ xs t s' k. before_end z b base size mid s s' i (with_stack xs w) t yes r f k) in
+      (λ xs t s' k. before_end z b base size mid i (with_stack xs w) t (record { small = s; index = r; held = k }) s' yes f) in
       by_length (nat_lt i size) base size after end (15 + owed os) w i rest u refl none there
 
   -- an element at a number that waits

@@ -209,7 +209,7 @@ module _ (z : Setting) where
       let low = stored_low place list at back in
       let to : sum16 at (distance 54) ≡ pc + forms_bytes (write_code false place list) = omega (arith, forms_bytes-append check (stored_code place list)) in
       dearer z (omega arith)
-      (so_runs (check_part z false place.length 54 pc _ i w t lt k.small k.index front to k.held.held.four k.held.is) (λ u j. j.is))
+      (so_runs (check_part z place.length 54 pc k.small front false _ i w t lt k.index to k.held.held.four k.held.is) (λ u j. j.is))
   write_by true place list pc i v w t lt h k =
       let check = check_code place.length 54 in
       let at = pc + forms_bytes check in
@@ -218,7 +218,7 @@ module _ (z : Setting) where
       let b = own_stored place list i v w in
       let end : at + 108 ≡ pc + forms_bytes (write_code false place list) = omega (arith, forms_bytes-append check (stored_code place list)) in
       ends_at z (at + 108) _ 75 t b end (then_end z (at + 108) 71 b.effects b.end
-      (check_part z true place.length 54 pc at i w t lt k.small k.index front refl k.held.held.four k.held.is)
+      (check_part z place.length 54 pc k.small front true at i w t lt k.index refl k.held.held.four k.held.is)
       (λ u j. stored_part place list at back i v w u k.words k.word (record { is = j.is; held = subst (HasSides i v) (sym j.held) k.held.held })))
 
   -- by whether the index is surely below the length
