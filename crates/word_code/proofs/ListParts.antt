@@ -3,7 +3,7 @@ use Rattle.word_code.proofs.Names.{◌≡◌, ℕ, suc, zero, ◌+◌, ◌-◌, 
 use Rattle.word_code.proofs.Names.{Bool, true, false, if◌then◌else◌, ne_eqb, word_sum, Effect, Store, put, IsFram, Core, Form, Stands, Runs}
 use Rattle.word_code.proofs.Names.{ArrayPlace, ListPlace, WordState, Behaviour, strays, behind_effects, is_place, stored, raised, entry_stored, ends_before}
 use Rattle.word_code.proofs.Names.{listed_behind, first_stored, put_words, first_code}
-use Rattle.word_code.proofs.Memory.{HoldsWords, place_is}
+use Rattle.word_code.proofs.Memory.{HoldsWords, place_is, address_small}
 use Rattle.word_code.proofs.Registers.{Holds, Flagged, IsZero, equal_flag}
 use Rattle.word_code.proofs.Stretches.{Setting, runs_on, dearer}
 use Rattle.word_code.proofs.Follows.{StandsFor, Follows, then_end, guarded, more_cycles}
@@ -87,8 +87,8 @@ module _ (z : Setting) (place : ArrayPlace) (list : ListPlace) (p : ℕ) (h : St
       let a = n + list.list in
       let u = stored (a + 4) 1 (stored (a + 2) copy (stored a home w)) in
       let v = (u.fram list.cln + 1) % 0x10000 in
-      let second : n + word_sum list.list 2 ≡ a + 2 = at_offset n list.list 2 f2.high in
-      let third : n + word_sum list.list 4 ≡ a + 4 = at_offset n list.list 4 f4.high in
+      let second : n + word_sum list.list 2 ≡ a + 2 = at_offset n list.list 2 (address_small f2) in
+      let third : n + word_sum list.list 4 ≡ a + 4 = at_offset n list.list 4 (address_small f4) in
       let F : ℕ → ℕ = put (put (put w.fram a home) (n + word_sum list.list 2) copy) (n + word_sum list.list 4) 1 in
       let fr : F ≡ u.fram = λ k. put (put (put w.fram a home) (second k) copy) (third k) 1 in
       let up : (F list.cln + 1 + 0) % 0x10000 ≡ v = ap (λ q. (q list.cln + 1 + 0) % 0x10000) fr ∙ plus_none (u.fram list.cln) 1 in
@@ -113,10 +113,10 @@ module _ (z : Setting) (place : ArrayPlace) (list : ListPlace) (p : ℕ) (h : St
       → Runs z.code [] 15 t (Tested 16 (6 * n) home copy ((2 * w.fram (a + 4) + w.fram a) % 0x10000 == home) w))
   home_part n w home copy t small f1 f4 k =
       let a = 6 * n + list.list in
-      let high = f1.high in
+      let high = address_small f1 in
       let last : ℕ = sixfold ((suc n + 65534 + 1) % 0x10000) in
       let five : last ≡ 6 * n = ap sixfold (one_less n (omega (arith, high))) ∙ six_times n (omega (arith, high)) in
-      let words : last + word_sum list.list 4 ≡ a + 4 = ap (λ q. q + word_sum list.list 4) five ∙ at_offset (6 * n) list.list 4 f4.high in
+      let words : last + word_sum list.list 4 ≡ a + 4 = ap (λ q. q + word_sum list.list 4) five ∙ at_offset (6 * n) list.list 4 (address_small f4) in
       let begin : last + list.list ≡ a = ap (λ q. q + list.list) five in
       let f = subst IsFram (sym words) f4 in
       let g = subst IsFram (sym begin) f1 in
@@ -132,8 +132,8 @@ module _ (z : Setting) (place : ArrayPlace) (list : ListPlace) (p : ℕ) (h : St
       → Tested 16 q home copy true w t → Runs z.code [] 10 t (Tested 21 q home copy ((2 * w.fram (a + 4) + w.fram (a + 2)) % 0x10000 == copy) w))
   copy_part q w home copy t small f2 f4 k =
       let a = q + list.list in
-      let words : q + word_sum list.list 4 ≡ a + 4 = at_offset q list.list 4 f4.high in
-      let begin : q + word_sum list.list 2 ≡ a + 2 = at_offset q list.list 2 f2.high in
+      let words : q + word_sum list.list 4 ≡ a + 4 = at_offset q list.list 4 (address_small f4) in
+      let begin : q + word_sum list.list 2 ≡ a + 2 = at_offset q list.list 2 (address_small f2) in
       let f = subst IsFram (sym words) f4 in
       let g = subst IsFram (sym begin) f2 in
       route z p code h 16 k.all.is k.all.held (jump false ∷ on 4 ∷ []) 10 _
@@ -149,7 +149,7 @@ module _ (z : Setting) (place : ArrayPlace) (list : ListPlace) (p : ℕ) (h : St
   longer_part q w home copy t f4 k =
       let c = q + list.list + 4 in
       let v = (w.fram c + 1) % 0x10000 in
-      let there : q + word_sum list.list 4 ≡ c = at_offset q list.list 4 f4.high in
+      let there : q + word_sum list.list 4 ≡ c = at_offset q list.list 4 (address_small f4) in
       let up : (w.fram (q + word_sum list.list 4) + 1 + 0) % 0x10000 ≡ v = ap (λ x. (w.fram x + 1 + 0) % 0x10000) there ∙ plus_none (w.fram c) 1 in
       let f = subst IsFram (sym there) f4 in
       store_route z p code h 21 k.all.is k.all.held (jump false ∷ on 3 ∷ jump true ∷ []) (Store c v ∷ []) (put w.fram c v) 12 _
@@ -161,7 +161,7 @@ module _ (z : Setting) (place : ArrayPlace) (list : ListPlace) (p : ℕ) (h : St
       → Follows z (p + 92) 18 t (entry_stored list.cln list.list home copy 1 w)
   more n w home copy t e j =
       entry_follows 2 w home copy t (λ g.
-      let high = (place_is (6 * w.fram list.cln + list.list) g).high in
+      let high = address_small (place_is (6 * w.fram list.cln + list.list) g) in
       route z p code h 26 j.is j.held (on 1 ∷ []) 2 _ (_, free 1, (refl, tt)) refl refl
       (λ s. record { is = s; held = (refl, omega (arith, e, high), refl, refl) }))
 
@@ -221,7 +221,7 @@ module _ (z : Setting) (place : ArrayPlace) (list : ListPlace) (p : ℕ) (h : St
       let next : Behaviour = listed_behind (y.fram list.cln) list e c y in
       guarded z (is_place e) (p + 92) 58 t _ (λ g1.
       guarded_behind z (is_place list.cln) (p + 92) 58 t (Store m (w.fram list.ver) ∷ []) next (λ g2.
-      let eh = (place_is e g1).high in
+      let eh = address_small (place_is e g1) in
       then_end z (p + 92) 45 next.effects next.end
-      (mark_part i w t wl fm (place_is list.cln g2) eh fc.high (starts z is) four six)
-      (λ u j. lists (y.fram list.cln) y e c u eh fc.high refl j)))
+      (mark_part i w t wl fm (place_is list.cln g2) eh (address_small fc) (starts z is) four six)
+      (λ u j. lists (y.fram list.cln) y e c u eh (address_small fc) refl j)))

@@ -5,7 +5,7 @@ use Rattle.word_code.proofs.Names.{instruction_of, Stands, forms_bytes, Runs, st
 use Rattle.word_code.proofs.Names.{ListPlace, WordState, goes_on, behind_effects, is_place, stored, first_stored, own_stored, versioned_stored, put_words}
 use Rattle.word_code.proofs.Names.{check_code, own_code, read_code, stored_code, write_code}
 use Rattle.array_versions.specs.msp_step.msp_isa.declared.instructions.Condition.TheVariants as condition
-use Rattle.word_code.proofs.Memory.{HoldsWords, place_is}
+use Rattle.word_code.proofs.Memory.{HoldsWords, place_is, address_small}
 use Rattle.word_code.proofs.Registers.{HasSides, Holds, Has, HasTwo, jump_with, equal_flag}
 use Rattle.word_code.proofs.Stretches.{Setting, runs_on, dearer, so_runs}
 use Rattle.word_code.proofs.Follows.{Follows, more_cycles, then_end, ends_at, guarded}
@@ -19,7 +19,7 @@ twice n base h = omega arith
 
 -- a word of an element at twice an index, as the code has that
 doubled_fits : (i base : ℕ) → IsFram (2 * i + base) → IsFram ((i + i + 0) % 0x10000 + base)
-doubled_fits i base f = subst (λ k. IsFram (k + base)) (sym (twice i base f.high)) f
+doubled_fits i base f = subst (λ k. IsFram (k + base)) (sym (twice i base (address_small f))) f
 
 -- whether the version word is the attempt's number, as the code has it
 marked : (f : ℕ → ℕ) (ver versions i : ℕ) {b : Bool} → HoldsWords f → 2 * i + versions < 0x10000 → (f ver == f (2 * i + versions)) ≡ b
@@ -68,11 +68,11 @@ module _ (z : Setting) where
         let v = w.fram (2 * i + place.copies) in
         let f = doubled_fits i place.copies fc in
         let g = doubled_fits i place.versions m.version in
-        let same = marked w.fram list.ver place.versions i m.words m.version.high e in
+        let same = marked w.fram list.ver place.versions i m.words (address_small m.version) e in
         runs_on z
         (route z p (own_code over place list) h 0 (starts z k.is) (k.held, refl, refl, refl) (on 3 ∷ jump false ∷ on 1 ∷ []) 12 (Has z R4 (p + 16) w v)
         (_, ((tt, tt), ((m.number, tt), ((tt, g), tt))), (refl, (refl, ap not same, refl, (_, ((f, tt), tt), (refl, tt))))) refl refl
-        (λ s. record { is = s; held = ap (λ q. w.fram (q + place.copies)) (twice i place.copies fc.high) }))
+        (λ s. record { is = s; held = ap (λ q. w.fram (q + place.copies)) (twice i place.copies (address_small fc)) }))
         (λ u j. jump_with z condition.Always over (p + 16) to true (forms_behind z.code p 5 (own_code over place list) h).0 refl d j)
 
     -- where it isn't, the element
@@ -81,10 +81,10 @@ module _ (z : Setting) where
     home_read i w t m e fe k =
         let f = doubled_fits i place.elements fe in
         let g = doubled_fits i place.versions m.version in
-        let same = marked w.fram list.ver place.versions i m.words m.version.high e in
+        let same = marked w.fram list.ver place.versions i m.words (address_small m.version) e in
         route z p (own_code over place list) h 0 (starts z k.is) (k.held, refl, refl, refl) (on 3 ∷ jump true ∷ on 1 ∷ []) 12 _
         (_, ((tt, tt), ((m.number, tt), ((tt, g), tt))), (refl, (refl, ap not same, refl, (_, ((f, tt), tt), (refl, tt))))) refl refl
-        (λ s. record { is = s; held = ap (λ q. w.fram (q + place.elements)) (twice i place.elements fe.high) })
+        (λ s. record { is = s; held = ap (λ q. w.fram (q + place.elements)) (twice i place.elements (address_small fe)) })
 
   -- a read, where its code stands, by whether the index is surely below the length
   pub past_read : (b : Bool) (place : ArrayPlace) (list : ListPlace) (pc i : ℕ) (w : WordState) (t : Core) → Reading b place list pc i w t
@@ -154,7 +154,7 @@ module _ (z : Setting) where
       y_words = put_words w.fram c v wl lv
 
       twice_is : (i + i + 0) % 0x10000 ≡ 2 * i
-      twice_is = twice i place.copies fc.high
+      twice_is = twice i place.copies (address_small fc)
 
       there : put w.fram ((i + i + 0) % 0x10000 + place.copies) v ≡ y.fram
       there = ap (λ q. put w.fram (q + place.copies) v) twice_is
@@ -163,7 +163,7 @@ module _ (z : Setting) where
           ((f list.ver + (0xFFFF - f ((i + i + 0) % 0x10000 + place.versions)) + 1) % 0x10000 == 0) ≡ b)
       marked_behind e =
           ap (λ (f : ℕ → ℕ). (f list.ver + (0xFFFF - f ((i + i + 0) % 0x10000 + place.versions)) + 1) % 0x10000 == 0) there
-          ∙ marked y.fram list.ver place.versions i y_words fm.high e
+          ∙ marked y.fram list.ver place.versions i y_words (address_small fm) e
 
       own_stored_part : (b : Bool) → (y.fram list.ver == y.fram (2 * i + place.versions)) ≡ b
           → Follows z (p + 108) 71 t (if b then goes_on (Store c v ∷ []) y else behind_effects (Store c v ∷ []) (first_stored place list i y))
