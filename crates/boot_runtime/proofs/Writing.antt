@@ -1,10 +1,7 @@
 -- Code that is written part by part.
 use Rattle.std.proofs.Common.{◌≡◌, ℕ, zero, suc, ◌+◌, ◌*◌, ◌<◌, refl, length, map, drop, get_or, List, [], ◌∷◌, ◌++◌, sym, ap, ◌∙◌, append_assoc, arith}
 use Rattle.std.proofs.lemmas.List.{at_drop_more}
-use Rattle.runtime_code.specs.msp_isa.declared.instructions.Instr.{Instr}
-use Rattle.runtime_code.specs.code_forms.Forms.{Branch, instruction_of}
-use Rattle.runtime_code.specs.code_forms.Placed.{instructions}
-use Rattle.runtime_code.proofs.code_forms.Interface.{instructions-append}
+use Rattle.runtime_code.specs.code_forms.Forms.{Form, Branch}
 use Rattle.runtime_code.specs.Counted.{if_any}
 use Rattle.runtime_code.specs.LayoutPlaces.{pairs_of}
 use Rattle.runtime_code.specs.runtime_effects.Places.{CopyPair}
@@ -18,45 +15,28 @@ use Rattle.memory_map.specs.MemoryMap.{TaskPlace, MemoryMap}
 use Rattle.memory_map.proofs.Interface.{privates_few}
 
 -- a stub, by its parts
-pub stub_written : (is js ks : List Instr) (xs : List CopyPair) (code : ℕ) → 0 < length xs → js ≡ is ++ instructions (copies_in xs)
-    → ks ≡ js ++ (instruction_of (Branch code) ∷ []) → ks ≡ is ++ instructions (stub_to code xs)
+pub stub_written : (is js ks : List Form) (xs : List CopyPair) (code : ℕ) → 0 < length xs → js ≡ is ++ copies_in xs → ks ≡ js ++ (Branch code ∷ [])
+    → ks ≡ is ++ stub_to code xs
 stub_written is js ks [] code some copied branched = absurd (omega (arith, some))
 stub_written is js ks (x ∷ xs) code some copied branched =
-    let c = instructions (copies_in (x ∷ xs)) in
-    let b : List Instr = instruction_of (Branch code) ∷ [] in
-    branched
-    ∙ ap (λ l. l ++ b) copied
-    ∙ append_assoc is c b
-    ∙ ap (λ l. is ++ l) (sym (instructions-append (copies_in (x ∷ xs)) (Branch code ∷ [])))
+    branched ∙ ap (λ l. l ++ (Branch code ∷ [])) copied ∙ append_assoc is (copies_in (x ∷ xs)) (Branch code ∷ [])
 
 -- what stands before the ladder, the ladder, and the stubs
-pub boot_written : (m : MemoryMap) (commit at q : ℕ) (tasks us : List TaskEntry) (u v w : List Instr) → us ≡ tasks → q ≡ stubs_address us at
-    → u ≡ instructions (fixed_forms m commit) → v ≡ u ++ instructions (ladder_to q us) → w ≡ v ++ instructions (stubs us)
-    → w ≡ instructions (boot_forms m commit tasks at)
-boot_written m commit at q tasks us u v w e there fixed ladder rest =
-    let p = instructions (fixed_forms m commit) in
-    let l = ladder_to (stubs_address tasks at) tasks in
-    rest
-    ∙ ap (λ x. x ++ instructions (stubs us)) ladder
-    ∙ ap (λ x. (x ++ instructions (ladder_to q us)) ++ instructions (stubs us)) fixed
-    ∙ ap (λ x. (p ++ instructions (ladder_to x us)) ++ instructions (stubs us)) there
-    ∙ ap (λ x. (p ++ instructions (ladder_to (stubs_address x at) x)) ++ instructions (stubs x)) e
-    ∙ append_assoc p (instructions l) (instructions (stubs tasks))
-    ∙ ap (λ x. p ++ x) (sym (instructions-append l (stubs tasks)))
-    ∙ sym (instructions-append (fixed_forms m commit) (l ++ stubs tasks))
+pub boot_written : (m : MemoryMap) (commit at q : ℕ) (tasks us : List TaskEntry) (v w : List Form) → us ≡ tasks → q ≡ stubs_address us at
+    → v ≡ fixed_forms m commit ++ ladder_to q us → w ≡ v ++ stubs us → w ≡ boot_forms m commit tasks at
+boot_written m commit at q tasks us v w e there ladder rest =
+    let f = fixed_forms m commit in
+    rest ∙ ap (λ x. x ++ stubs us) (ladder ∙ ap (λ n. f ++ ladder_to n us) there) ∙ ap (λ x. (f ++ ladder_to (stubs_address x at) x) ++ stubs x) e
+    ∙ append_assoc f (ladder_to (stubs_address tasks at) tasks) (stubs tasks)
 
 -- the stub of the next task
-pub next_written : (is js all : List Instr) (xs : List TaskPlace) (x : TaskPlace) (i : ℕ) → x ≡ get_or xs i x → i < length xs
-    → js ≡ is ++ instructions (stub (entry_of x)) → is ++ instructions (stubs (map entry_of (drop i xs))) ≡ all
-    → js ++ instructions (stubs (map entry_of (drop (i + 1) xs))) ≡ all
+pub next_written : (is js all : List Form) (xs : List TaskPlace) (x : TaskPlace) (i : ℕ) → x ≡ get_or xs i x → i < length xs
+    → js ≡ is ++ stub (entry_of x) → is ++ stubs (map entry_of (drop i xs)) ≡ all → js ++ stubs (map entry_of (drop (i + 1) xs)) ≡ all
 next_written is js all xs x i it l written rest =
-    let f : List TaskPlace → List Instr = λ ys. is ++ instructions (stubs (map entry_of ys)) in
+    let f : List TaskPlace → List Form = λ ys. is ++ stubs (map entry_of ys) in
     let more : f (drop i xs) ≡ f (x ∷ drop (i + 1) xs) = at_drop_more f xs i x l ∙ ap (λ y. f (y ∷ drop (i + 1) xs)) (sym it) in
     let s = stubs (map entry_of (drop (i + 1) xs)) in
-    ap (λ l. l ++ instructions s) written
-    ∙ append_assoc is (instructions (stub (entry_of x))) (instructions s)
-    ∙ ap (λ l. is ++ l) (sym (instructions-append (stub (entry_of x)) s))
-    ∙ sym more ∙ rest
+    ap (λ l. l ++ s) written ∙ append_assoc is (stub (entry_of x)) s ∙ sym more ∙ rest
 
 -- ---- stubs
 

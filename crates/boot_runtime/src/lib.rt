@@ -6,7 +6,6 @@ mod laws;
 mod stubs;
 
 ghost use Rattle.std.specs.Prelude.{◌≡◌, ◌+◌, ◌<◌, ◌++◌, ℕ, IfOk, OnOk};
-ghost use Rattle.runtime_code.specs.code_forms.Placed.{instructions};
 ghost use Rattle.boot_runtime.specs.Entries.{task_entries};
 ghost use Rattle.boot_runtime.specs.Listing.{head, end_tested, clearing_begins, clear_turn, clear_loop, version_cleared, counts_set};
 ghost use Rattle.boot_runtime.specs.Listing.{dispatch, fixed_forms, boot_forms, boot_bytes};
@@ -16,62 +15,63 @@ pub use laws::{
     tasks_are_entered, version_is_raised,
 };
 use memory_map::{Layout, RuntimeWord, STACK_TOP};
-use runtime_code::forms::{
-    Condition, Dst, IndexRegister, Instr, Konst, R4, Src, TO_PC, TO_R4, TO_R5, TO_SP, absolute,
-    add, branch, cmp, constant, jump, mov,
-};
 use runtime_code::{loop_begin, loop_end};
 use std::alloc::{AllocError, Global};
 use stubs::{push_ladder, push_stubs};
+use runtime_code::forms::Form::{Branch, Calculate, Compare, Move, SetStack, SkipBy, Update};
+use runtime_code::forms::Source::{Constant, Fram, Number, Register};
+use runtime_code::forms::Target::{ToFram, ToPointed, ToRegister};
+use runtime_code::forms::WorkRegister::{R4, R5};
+use runtime_code::forms::{Condition, Form, Konst, TwoOp, jump};
 
 /// The bytes of the code before the ladder.
 const LADDER: u16 = 68;
 
 // Where GATE is 1 a branch to the commit, else over it.
-fn head(layout: &Layout) -> [Instr; 3]
-    ensures { result ≡ instructions (head layout.now layout.now.commit.address) }
+fn head(layout: &Layout) -> [Form; 3]
+    ensures { result ≡ head layout.now layout.now.commit.address }
 {
-    let gate = Dst::Absolute(layout.word_place(RuntimeWord::Gate));
+    let gate = layout.word_place(RuntimeWord::Gate);
     [
-        cmp(constant(Konst::One), gate),
+        Compare(Constant(Konst::One), gate),
         jump(Condition::NotEqual, 2),
-        branch(layout.commit().address),
+        Branch(layout.commit().address),
     ]
 }
 
 // Where VER isn't at its end, over the clearing.
-fn end_tested(layout: &Layout) -> [Instr; 2]
-    ensures { result ≡ instructions (end_tested layout.now) }
+fn end_tested(layout: &Layout) -> [Form; 2]
+    ensures { result ≡ end_tested layout.now }
 {
-    let version = Dst::Absolute(layout.word_place(RuntimeWord::Version));
+    let version = layout.word_place(RuntimeWord::Version);
     [
-        cmp(constant(Konst::MinusOne), version),
+        Compare(Constant(Konst::MinusOne), version),
         jump(Condition::NotEqual, 13),
     ]
 }
 
 // R4 := the number of version words.
-fn clearing_begins(layout: &Layout) -> [Instr; 1]
-    ensures { result ≡ instructions (clearing_begins layout.now) }
+fn clearing_begins(layout: &Layout) -> [Form; 1]
+    ensures { result ≡ clearing_begins layout.now }
 {
     layout.rules();
-    let count = Src::Immediate(layout.versions().words as u16);
-    [mov(count, TO_R4)]
+    let count = Number(layout.versions().words as u16);
+    [Move(count, ToRegister(R4))]
 }
 
 // A version word becomes 0.
-fn clear_turn() -> [Instr; 2]
-    ensures { result ≡ instructions clear_turn }
+fn clear_turn() -> [Form; 2]
+    ensures { result ≡ clear_turn }
 {
     [
-        mov(constant(Konst::Zero), Dst::Indexed(IndexRegister::R5, 0)),
-        add(constant(Konst::Two), TO_R5),
+        Move(Constant(Konst::Zero), ToPointed(R5)),
+        Calculate(TwoOp::Add, Constant(Konst::Two), R5),
     ]
 }
 
 // Each version word becomes 0.
-fn push_clear_loop(code: &mut Vec<Instr>, layout: &Layout) -> Result<(), AllocError>
-    ensures { OnOk result (code.new.items ≡ code.old.items ++ instructions (clear_loop layout.now)) }
+fn push_clear_loop(code: &mut Vec<Form>, layout: &Layout) -> Result<(), AllocError>
+    ensures { OnOk result (code.new.items ≡ code.old.items ++ clear_loop layout.now) }
 {
     code.extend_from_slice(&loop_begin(layout.versions().address, 7))?;
     code.extend_from_slice(&clear_turn())?;
@@ -79,44 +79,44 @@ fn push_clear_loop(code: &mut Vec<Instr>, layout: &Layout) -> Result<(), AllocEr
 }
 
 // VER := 0.
-fn version_cleared(layout: &Layout) -> [Instr; 1]
-    ensures { result ≡ instructions (version_cleared layout.now) }
+fn version_cleared(layout: &Layout) -> [Form; 1]
+    ensures { result ≡ version_cleared layout.now }
 {
-    let version = Dst::Absolute(layout.word_place(RuntimeWord::Version));
-    [mov(constant(Konst::Zero), version)]
+    let version = layout.word_place(RuntimeWord::Version);
+    [Move(Constant(Konst::Zero), ToFram(version))]
 }
 
 // VER := VER + 1, CLN := 0, EN := 0.
-fn counts_set(layout: &Layout) -> [Instr; 3]
-    ensures { result ≡ instructions (counts_set layout.now) }
+fn counts_set(layout: &Layout) -> [Form; 3]
+    ensures { result ≡ counts_set layout.now }
 {
-    let version = Dst::Absolute(layout.word_place(RuntimeWord::Version));
-    let list_length = Dst::Absolute(layout.word_place(RuntimeWord::ListLength));
-    let emit_count = Dst::Absolute(layout.word_place(RuntimeWord::EmitCount));
+    let version = layout.word_place(RuntimeWord::Version);
+    let list_length = layout.word_place(RuntimeWord::ListLength);
+    let emit_count = layout.word_place(RuntimeWord::EmitCount);
     [
-        add(constant(Konst::One), version),
-        mov(constant(Konst::Zero), list_length),
-        mov(constant(Konst::Zero), emit_count),
+        Update(TwoOp::Add, Constant(Konst::One), version),
+        Move(Constant(Konst::Zero), ToFram(list_length)),
+        Move(Constant(Konst::Zero), ToFram(emit_count)),
     ]
 }
 
 // SP := its top; to the branch of the task that CUR names, in a ladder of branches of four bytes that stands right behind.
-fn dispatch(layout: &Layout) -> [Instr; 5]
-    ensures { result ≡ instructions (dispatch layout.now) }
+fn dispatch(layout: &Layout) -> [Form; 5]
+    ensures { result ≡ dispatch layout.now }
 {
-    let current_task = absolute(layout.word_place(RuntimeWord::CurrentTask));
+    let current_task = Fram(layout.word_place(RuntimeWord::CurrentTask));
     [
-        mov(Src::Immediate(STACK_TOP), TO_SP),
-        mov(current_task, TO_R4),
-        add(R4, TO_R4),
-        add(R4, TO_R4),
-        add(R4, TO_PC),
+        SetStack(STACK_TOP),
+        Move(current_task, ToRegister(R4)),
+        Calculate(TwoOp::Add, Register(R4), R4),
+        Calculate(TwoOp::Add, Register(R4), R4),
+        SkipBy(R4),
     ]
 }
 
 // What stands before the ladder: the look at GATE, the opening of an attempt, and the way to the ladder.
-fn fixed_code(alloc: Global, layout: &Layout) -> Result<Vec<Instr>, AllocError>
-    ensures { IfOk result (λ code. code.items ≡ instructions (fixed_forms layout.now layout.now.commit.address)) }
+fn fixed_code(alloc: Global, layout: &Layout) -> Result<Vec<Form>, AllocError>
+    ensures { IfOk result (λ code. code.items ≡ fixed_forms layout.now layout.now.commit.address) }
 {
     let mut code = Vec::new(alloc);
     code.extend_from_slice(&head(layout))?;
@@ -135,9 +135,9 @@ fn fixed_code(alloc: Global, layout: &Layout) -> Result<Vec<Instr>, AllocError>
 /// attempt starts. Where VER is 65535, every version word := 0, then VER := 0. Then VER := VER + 1, CLN := 0, EN := 0; and SP is set, and by
 /// CUR the private scalars of the task are copied, and a branch leads to its code. They take 34 words, and for each task 2, and where it has
 /// private scalars 2 more and 3 for each of their words.
-pub fn boot_code(alloc: Global, layout: &Layout, at: u16) -> Result<Vec<Instr>, AllocError>
+pub fn boot_code(alloc: Global, layout: &Layout, at: u16) -> Result<Vec<Form>, AllocError>
     requires { at + boot_bytes (task_entries layout.now) < 65536 }
-    ensures { IfOk result (λ code. code.items ≡ instructions (boot_forms layout.now layout.now.commit.address (task_entries layout.now) at)) }
+    ensures { IfOk result (λ code. code.items ≡ boot_forms layout.now layout.now.commit.address (task_entries layout.now) at) }
 {
     layout.rules();
     let tasks = layout.tasks();

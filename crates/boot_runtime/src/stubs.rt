@@ -1,8 +1,7 @@
 //! The ladder of branches to the tasks' stubs, and the stubs.
 
-ghost use Rattle.std.specs.Prelude.{◌≡◌, ◌+◌, ◌*◌, ◌<◌, ◌++◌, ℕ, OnOk, All, length, map};
+ghost use Rattle.std.specs.Prelude.{◌≡◌, ◌+◌, ◌*◌, ◌<◌, ◌++◌, ℕ, OnOk, All, map};
 ghost use Rattle.std.specs.List.{flat_map};
-ghost use Rattle.runtime_code.specs.code_forms.Placed.{instructions};
 ghost use Rattle.memory_map.specs.Spots.{private_words};
 ghost use Rattle.runtime_code.specs.runtime_effects.Places.{run_pairs, scalar_pairs};
 ghost use Rattle.runtime_code.specs.LayoutPlaces.{pairs_of};
@@ -10,8 +9,11 @@ ghost use Rattle.boot_runtime.specs.Entries.{entry_of, EndsInMemory};
 ghost use Rattle.boot_runtime.specs.Listing.{copies_in, stub, stub_bytes, stubs, stubs_bytes, rung_to, ladder_to};
 
 use memory_map::{PrivateScalar, ScalarWidth, TaskLayout};
-use runtime_code::forms::{Dst, Instr, absolute, branch, mov};
 use std::alloc::AllocError;
+use runtime_code::forms::Form::{Branch, Move};
+use runtime_code::forms::Source::Fram;
+use runtime_code::forms::Target::ToFram;
+use runtime_code::forms::Form;
 
 /// The bytes of a word's copy, and of a branch.
 const COPY: u16 = 6;
@@ -54,30 +56,30 @@ fn stub_size(task: &TaskLayout) -> u16
 }
 
 /// Adds each task's branch. The first stub stands at an address, and each other one behind the one before.
-pub fn push_ladder(code: &mut Vec<Instr>, tasks: &[TaskLayout], at: u16) -> Result<(), AllocError>
+pub fn push_ladder(code: &mut Vec<Form>, tasks: &[TaskLayout], at: u16) -> Result<(), AllocError>
     requires { at + stubs_bytes (map entry_of tasks.now) < 65536 }
-    ensures { OnOk result (code.new.items ≡ code.old.items ++ instructions (ladder_to at (map entry_of tasks.now))) }
+    ensures { OnOk result (code.new.items ≡ code.old.items ++ ladder_to at (map entry_of tasks.now)) }
 {
     let mut stub = at;
     for task in tasks {
-        code.push(branch(rung(task, stub)))?;
+        code.push(Branch(rung(task, stub)))?;
         stub += stub_size(task);
     }
     Ok(())
 }
 
 // Adds the copy of a word.
-fn push_copy(code: &mut Vec<Instr>, home: u16, copy: u16) -> Result<(), AllocError>
-    ensures { OnOk result (code.new.items ≡ code.old.items ++ instructions (copies_in (run_pairs 1 home copy))) }
+fn push_copy(code: &mut Vec<Form>, home: u16, copy: u16) -> Result<(), AllocError>
+    ensures { OnOk result (code.new.items ≡ code.old.items ++ copies_in (run_pairs 1 home copy)) }
 {
-    code.push(mov(absolute(home), Dst::Absolute(copy)))?;
+    code.push(Move(Fram(home), ToFram(copy)))?;
     Ok(())
 }
 
 // Adds the copies of a private scalar's words.
-fn push_scalar(code: &mut Vec<Instr>, scalar: &PrivateScalar) -> Result<(), AllocError>
+fn push_scalar(code: &mut Vec<Form>, scalar: &PrivateScalar) -> Result<(), AllocError>
     requires { EndsInMemory scalar.now }
-    ensures { OnOk result (code.new.items ≡ code.old.items ++ instructions (copies_in (scalar_pairs scalar.now))) }
+    ensures { OnOk result (code.new.items ≡ code.old.items ++ copies_in (scalar_pairs scalar.now)) }
 {
     push_copy(code, scalar.home, scalar.copy)?;
     match scalar.width {
@@ -87,9 +89,9 @@ fn push_scalar(code: &mut Vec<Instr>, scalar: &PrivateScalar) -> Result<(), Allo
 }
 
 // Adds the copies of a task's private scalars.
-fn push_copies(code: &mut Vec<Instr>, privates: &[PrivateScalar]) -> Result<(), AllocError>
+fn push_copies(code: &mut Vec<Form>, privates: &[PrivateScalar]) -> Result<(), AllocError>
     requires { All EndsInMemory privates.now }
-    ensures { OnOk result (code.new.items ≡ code.old.items ++ instructions (copies_in (flat_map scalar_pairs privates.now))) }
+    ensures { OnOk result (code.new.items ≡ code.old.items ++ copies_in (flat_map scalar_pairs privates.now)) }
 {
     for scalar in privates {
         push_scalar(code, scalar)?;
@@ -98,23 +100,23 @@ fn push_copies(code: &mut Vec<Instr>, privates: &[PrivateScalar]) -> Result<(), 
 }
 
 // Adds a task's stub: its private scalars are copied, and a branch leads to its code; or nothing, where it has none.
-fn push_stub(code: &mut Vec<Instr>, task: &TaskLayout) -> Result<(), AllocError>
+fn push_stub(code: &mut Vec<Form>, task: &TaskLayout) -> Result<(), AllocError>
     requires { All EndsInMemory task.now.privates }
-    ensures { OnOk result (code.new.items ≡ code.old.items ++ instructions (stub (entry_of task.now))) }
+    ensures { OnOk result (code.new.items ≡ code.old.items ++ stub (entry_of task.now)) }
 {
     let privates = task.privates();
     if privates.is_empty() {
         return Ok(());
     }
     push_copies(code, privates)?;
-    code.push(branch(task.code().address))?;
+    code.push(Branch(task.code().address))?;
     Ok(())
 }
 
 /// Adds each task's stub.
-pub fn push_stubs(code: &mut Vec<Instr>, tasks: &[TaskLayout]) -> Result<(), AllocError>
+pub fn push_stubs(code: &mut Vec<Form>, tasks: &[TaskLayout]) -> Result<(), AllocError>
     requires { All (λ t. All EndsInMemory t.privates) tasks.now }
-    ensures { OnOk result (code.new.items ≡ code.old.items ++ instructions (stubs (map entry_of tasks.now))) }
+    ensures { OnOk result (code.new.items ≡ code.old.items ++ stubs (map entry_of tasks.now)) }
 {
     for task in tasks {
         push_stub(code, task)?;

@@ -4,7 +4,7 @@ use Rattle.std.proofs.Common.{true, false, if◌then◌else◌, cond, ◌⊎◌,
 use Rattle.std.proofs.lemmas.Bool.Decides.{nat_tests}
 use Rattle.machine_effects.specs.msp_isa.declared.instructions.Instr.{Instr}
 use Rattle.machine_effects.specs.msp_isa.Encoding.{encoding, IsInstruction, source_row, destination_row}
-use Rattle.machine_effects.specs.msp_step.declared.effect.Modification.TheVariants as change
+use Rattle.instruction_forms.specs.declared.kinds.Modification.TheVariants as change
 use Rattle.machine_effects.specs.msp_step.declared.machine.Stop.{Stop}
 use Rattle.machine_effects.specs.msp_step.declared.machine.Stop.TheVariants as stop
 use Rattle.machine_effects.specs.msp_step.Effect.{word_sum}

@@ -1,58 +1,38 @@
 -- The forms of instructions that the compiler and its runtime write, on a machine whose registers are told apart: what each is
 -- as an instruction, how long it is, what it needs and what it does (SLAU049 and SLAU144, CPU chapter).
 use Rattle.std.specs.Prelude.{ℕ, ◌+◌, ◌-◌, ◌%◌, ◌≡◌, ◌<◌, ◌≤◌, true, false, ◌==◌, if◌then◌else◌, List, [], ◌∷◌, Option, Some, None}
-use Rattle.machine_effects.specs.address_space.Limits.{ram_first, fram_end, stack_top}
+use Rattle.machine_effects.specs.address_space.Limits.{fram_end, stack_top, HasStackRoom}
 use Rattle.machine_effects.specs.alp_words.declared.Flags.{Flags}
 use Rattle.machine_effects.specs.alp_words.declared.Width.TheVariants.{Word}
-use Rattle.machine_effects.specs.msp_isa.declared.registers.IndexRegister.{IndexRegister}
-use Rattle.machine_effects.specs.msp_isa.declared.registers.IndexRegister.TheVariants as index
-use Rattle.machine_effects.specs.msp_isa.declared.registers.SourceRegister.TheVariants as source_register
-use Rattle.machine_effects.specs.msp_isa.declared.registers.IndirectRegister.TheVariants as pointer
-use Rattle.machine_effects.specs.msp_isa.declared.registers.Reg.TheVariants as reg
-use Rattle.machine_effects.specs.msp_isa.declared.operands.Konst.{Konst}
-use Rattle.machine_effects.specs.msp_isa.declared.operands.Operand.TheVariants as mode
-use Rattle.machine_effects.specs.msp_isa.declared.operands.Src.{Src}
-use Rattle.machine_effects.specs.msp_isa.declared.operands.Src.TheVariants as src
-use Rattle.machine_effects.specs.msp_isa.declared.operands.Dst.{Dst}
-use Rattle.machine_effects.specs.msp_isa.declared.operands.Dst.TheVariants as dst
 use Rattle.machine_effects.specs.msp_isa.declared.instructions.TwoOp.{TwoOp}
 use Rattle.machine_effects.specs.msp_isa.declared.instructions.TwoOp.TheVariants.{Mov, Add, Cmp}
-use Rattle.machine_effects.specs.msp_isa.declared.instructions.OneOp.{OneOp}
-use Rattle.machine_effects.specs.msp_isa.declared.instructions.OneOp.TheVariants as one
-use Rattle.machine_effects.specs.msp_isa.declared.instructions.Condition.{Condition}
-use Rattle.machine_effects.specs.msp_isa.declared.instructions.Instr.{Instr}
-use Rattle.machine_effects.specs.msp_isa.declared.instructions.Instr.TheVariants as instr
 use Rattle.machine_effects.specs.msp_isa.Constant.{constant_value}
 use Rattle.machine_effects.specs.msp_cycles.Cycles.{cycles_of}
-use Rattle.machine_effects.specs.msp_step.declared.effect.Modification.{Modification}
-use Rattle.machine_effects.specs.msp_step.declared.effect.Modification.TheVariants as change
 use Rattle.machine_effects.specs.msp_step.declared.machine.Stop.{Stop}
 use Rattle.machine_effects.specs.msp_step.declared.machine.Stop.TheVariants as stop
 use Rattle.machine_effects.specs.msp_step.Registers.{Registers}
-use Rattle.machine_effects.specs.msp_step.Effect.{status_with, operated, Operated, modification_of, writes_destination, word_sum, distance, is_met}
-use Rattle.machine_effects.specs.fram_board.Bus.{sensor_port, number_port, data_port}
+use Rattle.machine_effects.specs.msp_step.Effect.{status_with, operated, Operated, rotated, shifted, exchanged, sign_extended, writes_destination}
+use Rattle.machine_effects.specs.msp_step.Effect.{word_sum, distance, is_met}
 use Rattle.machine_effects.specs.fram_board.Effects.{Store, Take, Outside, Offered}
 use Rattle.machine_effects.specs.World.{put}
 use Rattle.machine_effects.specs.Inputs.{Inputs}
 use Rattle.machine_effects.specs.Going.{StepOutcome, Goes, Stops, Stretch}
-use Rattle.machine_effects.specs.Machine.{MachineBoard, MachineOutcome, IsFram, IsRam}
+use Rattle.machine_effects.specs.Machine.{MachineBoard, MachineOutcome, IsPlace, IsRam}
+pub use Rattle.instruction_forms.specs.Encoding.{index_of, source_operand, source_bytes, target_operand, target_bytes, modification_operand}
+pub use Rattle.instruction_forms.specs.Encoding.{instruction_of, form_bytes}
+pub use Rattle.instruction_forms.specs.declared.kinds.WorkRegister.{WorkRegister}
+pub use Rattle.instruction_forms.specs.declared.kinds.WorkRegister.TheVariants.{R4, R5, R6, R7, R8, R9, R10, R11, R12, R13, R14, R15}
+pub use Rattle.instruction_forms.specs.declared.kinds.Source.{Source}
+pub use Rattle.instruction_forms.specs.declared.kinds.Source.TheVariants.{Register, Number, Constant, Fram, Ram, Pointed, PointedNext, Indexed, Popped}
+pub use Rattle.instruction_forms.specs.declared.kinds.Target.{Target}
+pub use Rattle.instruction_forms.specs.declared.kinds.Target.TheVariants.{ToRegister, ToFram, ToRam, ToIndexed, ToPointed, ToOutnum, ToOutdata}
+pub use Rattle.instruction_forms.specs.declared.kinds.Modification.{Modification}
+use Rattle.instruction_forms.specs.declared.kinds.Modification.TheVariants as change
+pub use Rattle.instruction_forms.specs.declared.kinds.Form.{Form}
+pub use Rattle.instruction_forms.specs.declared.kinds.Form.TheVariants.{Move, Calculate, Compare, Update, Push, Modify, SetStack, Sense, Jump, Skip, Branch}
+pub use Rattle.instruction_forms.specs.declared.kinds.Form.TheVariants.{BranchIndexed, SkipBy}
 
--- the registers for work
-pub data WorkRegister : Type 0 where
-  R4 : WorkRegister
-  R5 : WorkRegister
-  R6 : WorkRegister
-  R7 : WorkRegister
-  R8 : WorkRegister
-  R9 : WorkRegister
-  R10 : WorkRegister
-  R11 : WorkRegister
-  R12 : WorkRegister
-  R13 : WorkRegister
-  R14 : WorkRegister
-  R15 : WorkRegister
-
--- their numbers
+-- the numbers of the registers for work
 abbrev pub work_number : WorkRegister → ℕ
 work_number R4 = 4
 work_number R5 = 5
@@ -66,21 +46,6 @@ work_number R12 = 12
 work_number R13 = 13
 work_number R14 = 14
 work_number R15 = 15
-
--- the same among the registers that an addressing mode can name
-abbrev pub index_of : WorkRegister → IndexRegister
-index_of R4 = index.R4
-index_of R5 = index.R5
-index_of R6 = index.R6
-index_of R7 = index.R7
-index_of R8 = index.R8
-index_of R9 = index.R9
-index_of R10 = index.R10
-index_of R11 = index.R11
-index_of R12 = index.R12
-index_of R13 = index.R13
-index_of R14 = index.R14
-index_of R15 = index.R15
 
 -- a machine with its registers told apart; the control bits of SR are 0
 pub record Core : Type 0 where
@@ -131,43 +96,7 @@ abbrev pub outcome_of_core : CoreOutcome → MachineOutcome
 outcome_of_core (Goes es c u) = Goes es c (board_of u)
 outcome_of_core (Stops es price e) = Stops es price e
 
--- source operands
-pub data Source : Type 0 where
-  Register : (b : WorkRegister) → Source
-  Number : (n : ℕ) → Source  -- an immediate
-  Constant : (k : Konst) → Source
-  Fram : (a : ℕ) → Source
-  Ram : (a : ℕ) → Source
-  Pointed : (b : WorkRegister) → Source  -- the word of FRAM at the register's address
-  PointedNext : (b : WorkRegister) → Source  -- the same, and the register goes up by 2
-  Indexed : (b : WorkRegister) → (x : ℕ) → Source  -- the word of FRAM at the register's address plus x
-  Popped : Source  -- the word of RAM at SP, which goes up by 2
-
--- the operand
-abbrev pub source_operand : Source → Src
-source_operand (Register b) = src.Operand (mode.Reg (source_register.Index (index_of b)))
-source_operand (Number n) = src.Immediate n
-source_operand (Constant k) = src.Constant k
-source_operand (Fram a) = src.Operand (mode.Absolute a)
-source_operand (Ram a) = src.Operand (mode.Absolute a)
-source_operand (Pointed b) = src.Operand (mode.Indirect (pointer.Index (index_of b)))
-source_operand (PointedNext b) = src.Operand (mode.Increment (index_of b))
-source_operand (Indexed b x) = src.Operand (mode.Indexed (index_of b) x)
-source_operand Popped = src.Operand (mode.Increment index.Sp)
-
--- the bytes of its extension word
-abbrev pub source_bytes : Source → ℕ
-source_bytes (Register b) = 0
-source_bytes (Number n) = 2
-source_bytes (Constant k) = 0
-source_bytes (Fram a) = 2
-source_bytes (Ram a) = 2
-source_bytes (Pointed b) = 0
-source_bytes (PointedNext b) = 0
-source_bytes (Indexed b x) = 2
-source_bytes Popped = 0
-
--- its value
+-- the value of a source
 abbrev pub source_value : Source → Core → ℕ
 source_value (Register b) u = u.work (work_number b)
 source_value (Number n) u = n
@@ -196,39 +125,20 @@ abbrev pub SourceNeeds : Source → Core → Type 0
 SourceNeeds (Register b) u = Unit {0}
 SourceNeeds (Number n) u = Unit {0}
 SourceNeeds (Constant k) u = Unit {0}
-SourceNeeds (Fram a) u = IsFram a
-SourceNeeds (Ram a) u = IsRam a
-SourceNeeds (Pointed b) u = IsFram (u.work (work_number b))
-SourceNeeds (PointedNext b) u = IsFram (u.work (work_number b)) × (u.work (work_number b) + 2 < fram_end)
-SourceNeeds (Indexed b x) u = IsFram (u.work (work_number b) + x)
+SourceNeeds (Fram a) u = IsPlace a
+SourceNeeds (Ram a) u = IsRam a × (u.sp ≤ a)
+SourceNeeds (Pointed b) u = IsPlace (u.work (work_number b))
+SourceNeeds (PointedNext b) u = IsPlace (u.work (work_number b))
+SourceNeeds (Indexed b x) u = IsPlace (u.work (work_number b) + x)
 SourceNeeds Popped u = IsRam u.sp
 
--- destinations of MOV
-pub data Target : Type 0 where
-  ToRegister : (b : WorkRegister) → Target
-  ToFram : (a : ℕ) → Target
-  ToRam : (a : ℕ) → Target
-  ToIndexed : (b : WorkRegister) → (x : ℕ) → Target  -- the word of FRAM at the register's address plus x
-  ToPointed : (b : WorkRegister) → Target  -- the word of FRAM at the register's address
-  ToOutnum : Target
-  ToOutdata : Target
+-- the address in RAM at which it reads, if it does
+abbrev pub source_ram : Source → Core → Option ℕ
+source_ram (Ram a) u = Some a
+source_ram Popped u = Some u.sp
+source_ram _ u = None
 
--- the operand
-abbrev pub target_operand : Target → Dst
-target_operand (ToRegister b) = dst.Reg (reg.Index (index_of b))
-target_operand (ToFram a) = dst.Absolute a
-target_operand (ToRam a) = dst.Absolute a
-target_operand (ToIndexed b x) = dst.Indexed (index_of b) x
-target_operand (ToPointed b) = dst.Indexed (index_of b) 0
-target_operand ToOutnum = dst.Absolute number_port
-target_operand ToOutdata = dst.Absolute data_port
-
--- the bytes of its extension word
-abbrev pub target_bytes : Target → ℕ
-target_bytes (ToRegister b) = 0
-target_bytes _ = 2
-
--- a word written there, in so many cycles
+-- a word written to a target, in so many cycles
 abbrev pub target_written : Target → ℕ → ℕ → Core → CoreOutcome
 target_written (ToRegister b) c v u = Goes [] c (record u { work = put u.work (work_number b) v })
 target_written (ToFram a) c v u = Goes (Store a v ∷ []) c (record u { fram = put u.fram a v })
@@ -243,72 +153,24 @@ target_written ToOutdata c v u = Goes (Outside (Offered u.outnum v) ∷ []) c u
 -- what it needs
 abbrev pub TargetNeeds : Target → Core → Type 0
 TargetNeeds (ToRegister b) u = Unit {0}
-TargetNeeds (ToFram a) u = IsFram a
+TargetNeeds (ToFram a) u = IsPlace a
 TargetNeeds (ToRam a) u = IsRam a
-TargetNeeds (ToIndexed b x) u = IsFram (u.work (work_number b) + x)
-TargetNeeds (ToPointed b) u = IsFram (u.work (work_number b))
+TargetNeeds (ToIndexed b x) u = IsPlace (u.work (work_number b) + x)
+TargetNeeds (ToPointed b) u = IsPlace (u.work (work_number b))
 TargetNeeds ToOutnum u = Unit {0}
 TargetNeeds ToOutdata u = Unit {0}
-
--- RRC, RRA, SWPB or SXT of a register
-abbrev pub modification_operand : Modification → WorkRegister → OneOp
-modification_operand change.Rrc b = one.Rrc Word (mode.Reg (source_register.Index (index_of b)))
-modification_operand change.Rra b = one.Rra Word (mode.Reg (source_register.Index (index_of b)))
-modification_operand change.Swpb b = one.Swpb (mode.Reg (source_register.Index (index_of b)))
-modification_operand change.Sxt b = one.Sxt (mode.Reg (source_register.Index (index_of b)))
-
--- the forms
-pub data Form : Type 0 where
-  Move : (x : Source) → (y : Target) → Form
-  Calculate : (op : TwoOp) → (x : Source) → (b : WorkRegister) → Form  -- an operation other than MOV, on a register
-  Compare : (x : Source) → (a : ℕ) → Form  -- CMP with a word of FRAM
-  Update : (op : TwoOp) → (x : Source) → (a : ℕ) → Form  -- an operation on a word of FRAM, which it writes
-  Push : (x : Source) → Form
-  Modify : (change : Modification) → (b : WorkRegister) → Form
-  SetStack : (n : ℕ) → Form  -- SP becomes n
-  Sense : (b : WorkRegister) → Form  -- a reading is taken into a register
-  Jump : (c : Condition) → (offset : ℕ) → Form
-  Skip : (n : ℕ) → Form  -- n is added to PC, which stands behind the instruction here
-  Branch : (a : ℕ) → Form  -- PC becomes a
-  BranchIndexed : (b : WorkRegister) → (x : ℕ) → Form  -- PC becomes the word of FRAM at the register's address plus x
-  SkipBy : (b : WorkRegister) → Form  -- the register's word is added to PC, which stands behind the instruction here
-
--- a form as an instruction
-abbrev pub instruction_of : Form → Instr
-instruction_of (Move x y) = instr.Two Mov Word (source_operand x) (target_operand y)
-instruction_of (Calculate op x b) = instr.Two op Word (source_operand x) (dst.Reg (reg.Index (index_of b)))
-instruction_of (Compare x a) = instr.Two Cmp Word (source_operand x) (dst.Absolute a)
-instruction_of (Update op x a) = instr.Two op Word (source_operand x) (dst.Absolute a)
-instruction_of (Push x) = instr.One (one.Push Word (source_operand x))
-instruction_of (Modify m b) = instr.One (modification_operand m b)
-instruction_of (SetStack n) = instr.Two Mov Word (src.Immediate n) (dst.Reg (reg.Index index.Sp))
-instruction_of (Sense b) = instr.Two Mov Word (src.Operand (mode.Absolute sensor_port)) (dst.Reg (reg.Index (index_of b)))
-instruction_of (Jump c offset) = instr.Jump c offset
-instruction_of (Skip n) = instr.Two Add Word (src.Immediate n) (dst.Reg reg.Pc)
-instruction_of (Branch a) = instr.Two Mov Word (src.Immediate a) (dst.Reg reg.Pc)
-instruction_of (BranchIndexed b x) = instr.Two Mov Word (src.Operand (mode.Indexed (index_of b) x)) (dst.Reg reg.Pc)
-instruction_of (SkipBy b) = instr.Two Add Word (src.Operand (mode.Reg (source_register.Index (index_of b)))) (dst.Reg reg.Pc)
-
--- its length in bytes
-abbrev pub form_bytes : Form → ℕ
-form_bytes (Move x y) = 2 + source_bytes x + target_bytes y
-form_bytes (Calculate op x b) = 2 + source_bytes x
-form_bytes (Compare x a) = 2 + source_bytes x + 2
-form_bytes (Update op x a) = 2 + source_bytes x + 2
-form_bytes (Push x) = 2 + source_bytes x
-form_bytes (Modify m b) = 2
-form_bytes (SetStack n) = 4
-form_bytes (Sense b) = 4
-form_bytes (Jump c offset) = 2
-form_bytes (Skip n) = 4
-form_bytes (Branch a) = 4
-form_bytes (BranchIndexed b x) = 4
-form_bytes (SkipBy b) = 2
 
 -- flags after an operation, which may leave them
 abbrev pub flags_after : Option Flags → Flags → Flags
 flags_after None f = f
 flags_after (Some g) f = g
+
+-- what RRC, RRA, SWPB or SXT gives of a word
+abbrev pub modified : Modification → ℕ → Flags → Operated
+modified change.Rrc = rotated Word
+modified change.Rra = shifted Word
+modified change.Swpb = exchanged Word
+modified change.Sxt = sign_extended Word
 
 -- the machine after an operation on a register
 abbrev pub calculated : TwoOp → WorkRegister → Operated → Core → Core
@@ -341,7 +203,7 @@ form_step (Push x) u =
     let t = source_read x u in
     Goes [] (cycles_of (instruction_of (Push x))) (record t { pc = u.pc + (2 + source_bytes x); sp = t.sp - 2; ram = put t.ram (t.sp - 2) (source_value x u) })
 form_step (Modify m b) u =
-    let o = modification_of m Word (u.work (work_number b)) u.flags in
+    let o = modified m (u.work (work_number b)) u.flags in
     Goes [] 1 (record u { pc = u.pc + 2; flags = flags_after o.flags u.flags; work = put u.work (work_number b) o.value })
 form_step (SetStack n) u = Goes [] 2 (record u { pc = u.pc + 4; sp = n })
 form_step (Sense b) u = sensed u.inputs.readings b u
@@ -358,7 +220,7 @@ form_step (SkipBy b) u =
 -- room in RAM below SP for a word
 pub record HasPushRoom (sp : ℕ) : Type 0 where
   pub even : sp % 2 ≡ 0
-  pub low : ram_first + 2 ≤ sp
+  pub room : HasStackRoom sp 1
   pub high : sp ≤ stack_top
 
 -- an operation that reads its destination
@@ -370,8 +232,8 @@ IsNotMov _ = Unit {0}
 abbrev pub FormNeeds : Form → Core → Type 0
 FormNeeds (Move x y) u = SourceNeeds x u × TargetNeeds y (source_read x u)
 FormNeeds (Calculate op x b) u = IsNotMov op × SourceNeeds x u
-FormNeeds (Compare x a) u = SourceNeeds x u × IsFram a
-FormNeeds (Update op x a) u = IsNotMov op × (writes_destination op ≡ true) × SourceNeeds x u × IsFram a
+FormNeeds (Compare x a) u = SourceNeeds x u × IsPlace a
+FormNeeds (Update op x a) u = IsNotMov op × (writes_destination op ≡ true) × SourceNeeds x u × IsPlace a
 FormNeeds (Push x) u = SourceNeeds x u × HasPushRoom (source_read x u).sp
 FormNeeds (Modify m b) u = Unit {0}
 FormNeeds (SetStack n) u = n % 2 ≡ 0
@@ -379,8 +241,17 @@ FormNeeds (Sense b) u = Unit {0}
 FormNeeds (Jump c offset) u = Unit {0}
 FormNeeds (Skip n) u = n % 2 ≡ 0
 FormNeeds (Branch a) u = a % 2 ≡ 0
-FormNeeds (BranchIndexed b x) u = IsFram (u.work (work_number b) + x) × (u.fram (u.work (work_number b) + x) % 2 ≡ 0)
+FormNeeds (BranchIndexed b x) u = IsPlace (u.work (work_number b) + x) × (u.fram (u.work (work_number b) + x) % 2 ≡ 0)
 FormNeeds (SkipBy b) u = u.work (work_number b) % 2 ≡ 0
+
+-- the address in RAM at which a form reads, if it does
+abbrev pub ram_read : Form → Core → Option ℕ
+ram_read (Move x y) u = source_ram x u
+ram_read (Calculate op x b) u = source_ram x u
+ram_read (Compare x a) u = source_ram x u
+ram_read (Update op x a) u = source_ram x u
+ram_read (Push x) u = source_ram x u
+ram_read _ u = None
 
 -- an even address with room behind it for an instruction of three words
 pub record IsCodeAddress (pc : ℕ) : Type 0 where

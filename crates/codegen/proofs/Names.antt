@@ -1,22 +1,15 @@
 -- The names that the proofs here share, from the rooms below.
 -- std
-pub use Rattle.std.proofs.Common.{◌≡◌, ℕ, ◌+◌, ◌<◌, ◌==◌, not, List, [], ◌∷◌, ◌++◌, refl, sym, ap, ◌∙◌, subst, arith, Bool, true, false, ◌≤◌, if◌then◌else◌}
+pub use Rattle.std.proofs.Common.{◌≡◌, ℕ, zero, ◌+◌, ◌*◌, ◌<◌, ◌==◌, not, List, [], ◌∷◌, ◌++◌, refl, sym, ap, ◌∙◌, subst, arith, Bool, true, false, ◌≤◌, if◌then◌else◌}
 pub use Rattle.std.proofs.Common.{Some, ap₂, suc, ◌-◌, length, drop, get_or, append_assoc, drop-cons, add-one, rules, Result, Ok, Err, is_ok, append-nil}
 pub use Rattle.std.proofs.Common.{Option, lt-ltb, le-ltb, max}
 pub use Rattle.std.proofs.lemmas.Result.{on_ok_weaker}
 pub use Rattle.std.specs.List.{remove, slice_index_or}
--- words and instructions
-pub use Rattle.word_code.specs.msp_isa.alp_words.Words.{word_sum}
-pub use Rattle.word_code.specs.msp_isa.alp_words.declared.Width.TheVariants.{Word}
-pub use Rattle.word_code.specs.msp_isa.declared.instructions.Instr.{Instr}
-pub use Rattle.word_code.specs.msp_isa.declared.instructions.Instr.TheVariants.{Two, One}
-pub use Rattle.word_code.specs.msp_isa.declared.instructions.TwoOp.{TwoOp}
 -- forms of instructions
-pub use Rattle.word_code.proofs.code_forms.Interface.{forms_bytes-append, instructions-append}
+pub use Rattle.word_code.specs.msp_isa.declared.instructions.Condition.{Condition}
+pub use Rattle.word_code.proofs.code_forms.Interface.{forms_bytes-append}
 pub use Rattle.word_code.specs.code_forms.Code.{forms_bytes}
-pub use Rattle.word_code.specs.code_forms.Forms.{R4, R5, Number, Constant, ToRegister, Form, Move, Calculate, Update, instruction_of, Push, Fram, Ram, ToFram}
-pub use Rattle.word_code.specs.code_forms.Forms.{Jump, Branch, R6, R7, Indexed, source_operand, index_of, Sense}
-pub use Rattle.word_code.specs.code_forms.Placed.{instructions, words_of as instruction_words}
+pub use Rattle.word_code.specs.code_forms.Forms.{Source, Form, Push, Jump, Calculate, Number, R4}
 -- word programs
 pub use Rattle.word_code.specs.array_versions.Cost.{step_words, test_words, words_of}
 pub use Rattle.word_code.specs.array_versions.Form.{StepLocalsBelow, TestLocalsBelow, LocalsBelow, locals_of, OfWords}
@@ -29,7 +22,7 @@ pub use Rattle.word_code.specs.array_versions.declared.operations.ShiftOperation
 pub use Rattle.word_code.specs.array_versions.declared.program.ArrayPlace.{ArrayPlace}
 pub use Rattle.word_code.specs.array_versions.declared.program.ListPlace.{ListPlace}
 -- this room's own definitions
-pub use Rattle.word_code.specs.Code.{number_source, check_code, zero_code, fetch_code, element_code, emit_code, entry_code, compare_form, holding, failing}
+pub use Rattle.word_code.specs.Code.{times_code, number_source, check_code, zero_code, fetch_code, element_code, emit_code, entry_code, compare_form, holding, failing}
 pub use Rattle.word_code.specs.Code.{decision, waiting_source, flushed, top_of, below_top, repeated, size, waiting_behind, step_code, steps_code}
 pub use Rattle.word_code.specs.Code.{local_address, local_target, source_from, cleared, kept, four_from, top_number, element_at, stays, sides, right_source}
 pub use Rattle.word_code.specs.Code.{five_from, top_to_four, top_to_five, two_to_registers, unary_middle, binary_middle, plain_instruction, double, halve}

@@ -1,13 +1,16 @@
 //! Indices of arrays: whether one is surely below a length, since a loop around the code ends before, and the check of any other.
 
 ghost use Rattle.std.specs.Prelude.{◌≡◌, ◌∷◌, ◌++◌, ◌<◌, OnOk, IfOk};
-ghost use Rattle.word_code.specs.code_forms.Placed.{instructions};
 ghost use Rattle.word_code.specs.Code.{check_code, zero_code, is_bounded, is_inside};
 
-use crate::forms::{TO_R4, constant, jump, number_source, two};
+use crate::forms::number_source;
 use std::alloc::{AllocError, Global};
-use word_code::forms::{Condition, Instr, Konst, TwoOp};
 use word_code::{Bound, Waiting};
+use word_code::forms::Form::{Calculate, Move};
+use word_code::forms::Source::Constant;
+use word_code::forms::Target::ToRegister;
+use word_code::forms::WorkRegister::R4;
+use word_code::forms::{Condition, Form, Konst, TwoOp, jump};
 
 /// The bounds in a loop's body: its own in front of those around it.
 pub fn bounds_within(alloc: Global, own: Bound, around: &[Bound]) -> Result<Vec<Bound>, AllocError>
@@ -40,22 +43,22 @@ pub fn is_inside(bounds: &[Bound], index: Option<Waiting>, length: u16) -> bool
 }
 
 /// Appends the check of the index in R4: where it isn't below a length, over so many words.
-pub fn emit_check(length: u16, over: u16, code: &mut Vec<Instr>) -> Result<(), AllocError>
+pub fn emit_check(length: u16, over: u16, code: &mut Vec<Form>) -> Result<(), AllocError>
     requires { over < 0x400 }
-    ensures { OnOk result (code.new.items ≡ code.old.items ++ instructions (check_code length over)) }
+    ensures { OnOk result (code.new.items ≡ code.old.items ++ check_code length over) }
 {
     code.extend_from_slice(&[
-        two(TwoOp::Cmp, number_source(length), TO_R4),
+        Calculate(TwoOp::Cmp, number_source(length), R4),
         jump(Condition::Carry, over),
     ])
 }
 
 /// Appends what the check goes to: R4 becomes 0; the code in front of it goes over that.
-pub fn emit_zero(code: &mut Vec<Instr>) -> Result<(), AllocError>
-    ensures { OnOk result (code.new.items ≡ code.old.items ++ instructions zero_code) }
+pub fn emit_zero(code: &mut Vec<Form>) -> Result<(), AllocError>
+    ensures { OnOk result (code.new.items ≡ code.old.items ++ zero_code) }
 {
     code.extend_from_slice(&[
         jump(Condition::Always, 1),
-        two(TwoOp::Mov, constant(Konst::Zero), TO_R4),
+        Move(Constant(Konst::Zero), ToRegister(R4)),
     ])
 }

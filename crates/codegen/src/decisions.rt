@@ -1,21 +1,21 @@
 //! Where code goes on.
 
-ghost use Rattle.std.specs.Prelude.{◌≡◌, ◌≤◌, ◌*◌, ◌∷◌, ◌++◌, OnOk, IfOk, length};
+ghost use Rattle.std.specs.Prelude.{◌≡◌, ◌≤◌, ◌*◌, ◌∷◌, ◌++◌, OnOk, IfOk};
 ghost use Rattle.word_code.specs.msp_isa.declared.instructions.TwoOp.TheVariants as two_op;
 ghost use Rattle.word_code.specs.msp_isa.declared.instructions.Condition.TheVariants as conditions;
 ghost use Rattle.word_code.specs.msp_isa.declared.operands.Konst.TheVariants as constants;
 ghost use Rattle.word_code.specs.code_forms.Forms as form;
-ghost use Rattle.word_code.specs.code_forms.Placed.{instructions, words_of as instruction_words};
 ghost use Rattle.word_code.specs.Code.{top_of, below_top, kept, compare_form, is_turned, compare_sides, compare_source, holding, failing, jump_over};
-ghost use Rattle.word_code.specs.Code.{pass_over, jump_back, decision, holds_code, compares_code};
+ghost use Rattle.word_code.specs.Code.{size, pass_over, jump_back, decision, holds_code, compares_code};
 
-use crate::forms::{R4, R5, TO_R4, TO_R5, constant, jump, skip, two};
 use crate::waiting::{emit_all, emit_sides, emit_top_to_four, emit_two_to_registers};
 use array_versions::Comparison;
-use msp_encode::encode;
 use std::alloc::AllocError;
 use word_code::Waiting;
-use word_code::forms::{Condition, Instr, Konst, Src, TwoOp};
+use word_code::forms::Form::{Calculate, Skip};
+use word_code::forms::Source::{Constant, Register};
+use word_code::forms::WorkRegister::{R4, R5};
+use word_code::forms::{Condition, Form, Konst, Source, TwoOp, form_words, jump};
 
 // Whether a comparison is of R5, the right side, with the left one.
 fn is_turned(comparison: Comparison) -> bool
@@ -29,15 +29,15 @@ fn is_turned(comparison: Comparison) -> bool
 }
 
 // The comparison of R4 with the right side, or of R5 with R4.
-fn compare(comparison: Comparison, right: Src) -> Instr
-    ensures { (x : form.Source) → right ≡ form.source_operand x → result ≡ form.instruction_of (compare_form comparison x) }
+fn compare(comparison: Comparison, right: Source) -> Form
+    ensures { result ≡ compare_form comparison right }
 {
     match comparison {
         Comparison::Equal | Comparison::Below | Comparison::SignedBelow => {
-            two(TwoOp::Cmp, right, TO_R4)
+            Calculate(TwoOp::Cmp, right, R4)
         }
-        Comparison::Above | Comparison::SignedAbove => two(TwoOp::Cmp, R4, TO_R5),
-        Comparison::CommonBit => two(TwoOp::Bit, right, TO_R4),
+        Comparison::Above | Comparison::SignedAbove => Calculate(TwoOp::Cmp, Register(R4), R5),
+        Comparison::CommonBit => Calculate(TwoOp::Bit, right, R4),
     }
 }
 
@@ -66,13 +66,13 @@ fn failing(comparison: Comparison) -> Condition
 }
 
 /// The words of code, of fewer than 0x8000.
-pub fn code_words(code: &[Instr]) -> u16
-    requires { length (instruction_words code.now) ≤ 0x7FFF }
-    ensures { result ≡ length (instruction_words code.now) }
+pub fn code_words(code: &[Form]) -> u16
+    requires { size code.now ≤ 0x7FFF }
+    ensures { result ≡ size code.now }
 {
     let mut words = 0;
-    for instruction in code {
-        words += encode(instruction).len() as u16;
+    for form in code {
+        words += form_words(form);
     }
     words
 }
@@ -82,22 +82,22 @@ fn emit_jump_over(
     met: Condition,
     opposite: Condition,
     over: u16,
-    code: &mut Vec<Instr>,
+    code: &mut Vec<Form>,
 ) -> Result<(), AllocError>
     requires { 2 * over ≤ 0xFFFE }
-    ensures { OnOk result (code.new.items ≡ code.old.items ++ instructions (jump_over met opposite over)) }
+    ensures { OnOk result (code.new.items ≡ code.old.items ++ jump_over met opposite over) }
 {
     if over <= 511 {
         code.extend_from_slice(&[jump(met, over)])
     } else {
-        code.extend_from_slice(&[jump(opposite, 2), skip(2 * over)])
+        code.extend_from_slice(&[jump(opposite, 2), Skip(2 * over)])
     }
 }
 
 /// Appends the code that goes over so many words.
-pub fn emit_pass_over(over: u16, code: &mut Vec<Instr>) -> Result<(), AllocError>
+pub fn emit_pass_over(over: u16, code: &mut Vec<Form>) -> Result<(), AllocError>
     requires { 2 * over ≤ 0xFFFE }
-    ensures { OnOk result (code.new.items ≡ code.old.items ++ instructions (pass_over over)) }
+    ensures { OnOk result (code.new.items ≡ code.old.items ++ pass_over over) }
 {
     if over == 0 {
         return Ok(());
@@ -105,7 +105,7 @@ pub fn emit_pass_over(over: u16, code: &mut Vec<Instr>) -> Result<(), AllocError
     if over <= 511 {
         code.extend_from_slice(&[jump(Condition::Always, over)])
     } else {
-        code.extend_from_slice(&[skip(2 * over)])
+        code.extend_from_slice(&[Skip(2 * over)])
     }
 }
 
@@ -115,15 +115,15 @@ pub fn emit_jump_back(
     met: Condition,
     opposite: Condition,
     over: u16,
-    code: &mut Vec<Instr>,
+    code: &mut Vec<Form>,
 ) -> Result<(), AllocError>
     requires { 2 * over ≤ 0xFFFA }
-    ensures { OnOk result (code.new.items ≡ code.old.items ++ instructions (jump_back met opposite over)) }
+    ensures { OnOk result (code.new.items ≡ code.old.items ++ jump_back met opposite over) }
 {
     if over <= 511 {
         code.extend_from_slice(&[jump(met, 1023 - over)])
     } else {
-        code.extend_from_slice(&[jump(opposite, 2), skip(0xfffa - 2 * over)])
+        code.extend_from_slice(&[jump(opposite, 2), Skip(0xfffa - 2 * over)])
     }
 }
 
@@ -133,10 +133,10 @@ fn emit_decision(
     over: u16,
     met: Condition,
     opposite: Condition,
-    code: &mut Vec<Instr>,
+    code: &mut Vec<Form>,
 ) -> Result<(), AllocError>
     requires { 2 * over ≤ 0xFFFE }
-    ensures { OnOk result (code.new.items ≡ code.old.items ++ instructions (decision when over met opposite)) }
+    ensures { OnOk result (code.new.items ≡ code.old.items ++ decision when over met opposite) }
 {
     if when {
         emit_jump_over(met, opposite, over, code)
@@ -146,24 +146,25 @@ fn emit_decision(
 }
 
 // The comparison of R4 with 0, and what goes over so many words by it.
-fn emit_zero_test(when: bool, over: u16, code: &mut Vec<Instr>) -> Result<(), AllocError>
+fn emit_zero_test(when: bool, over: u16, code: &mut Vec<Form>) -> Result<(), AllocError>
     requires { 2 * over ≤ 0xFFFE }
     ensures { OnOk result (code.new.items ≡ code.old.items
-        ++ instructions (form.Calculate two_op.Cmp (form.Constant constants.Zero) form.R4 ∷ decision when over conditions.NotEqual conditions.Equal)) }
+        ++ (form.Calculate two_op.Cmp (form.Constant constants.Zero) form.R4 ∷ decision when over conditions.NotEqual conditions.Equal)) }
 {
-    code.extend_from_slice(&[two(TwoOp::Cmp, constant(Konst::Zero), TO_R4)])?;
+    code.extend_from_slice(&[Calculate(TwoOp::Cmp, Constant(Konst::Zero), R4)])?;
     emit_decision(when, over, Condition::NotEqual, Condition::Equal, code)
 }
 
 /// Appends the code that goes over so many words by whether the top isn't 0.
+#[tactic(auto, using(std::proofs::Common::append_assoc))]
 pub fn emit_holds(
     when: bool,
     over: u16,
     waiting: &mut Vec<Waiting>,
-    code: &mut Vec<Instr>,
+    code: &mut Vec<Form>,
 ) -> Result<(), AllocError>
     requires { 2 * over ≤ 0xFFFE }
-    ensures { OnOk result (code.new.items ≡ code.old.items ++ instructions (holds_code waiting.old.items when over)) }
+    ensures { OnOk result (code.new.items ≡ code.old.items ++ holds_code waiting.old.items when over) }
 {
     emit_top_to_four(waiting, code)?;
     emit_all(waiting, code)?;
@@ -173,14 +174,14 @@ pub fn emit_holds(
 // A comparison with the right side, and what goes over so many words by it.
 fn emit_comparison(
     comparison: Comparison,
-    right: Src,
+    right: Source,
     when: bool,
     over: u16,
-    code: &mut Vec<Instr>,
+    code: &mut Vec<Form>,
 ) -> Result<(), AllocError>
     requires { 2 * over ≤ 0xFFFE }
-    ensures { (x : form.Source) → right ≡ form.source_operand x → OnOk result (code.new.items ≡ code.old.items
-        ++ instructions (compare_form comparison x ∷ decision when over (holding comparison) (failing comparison))) }
+    ensures { OnOk result (code.new.items ≡ code.old.items
+        ++ (compare_form comparison right ∷ decision when over (holding comparison) (failing comparison))) }
 {
     code.extend_from_slice(&[compare(comparison, right)])?;
     emit_decision(when, over, holding(comparison), failing(comparison), code)
@@ -190,30 +191,31 @@ fn emit_comparison(
 fn emit_compare_sides(
     comparison: Comparison,
     waiting: &mut Vec<Waiting>,
-    code: &mut Vec<Instr>,
-) -> Result<Src, AllocError>
-    ensures source { IfOk result (λ source. source ≡ form.source_operand (compare_source comparison (top_of waiting.old.items))) }
-    ensures code { OnOk result (code.new.items ≡ code.old.items ++ instructions (compare_sides comparison waiting.old.items)) }
+    code: &mut Vec<Form>,
+) -> Result<Source, AllocError>
+    ensures source { IfOk result (λ source. source ≡ compare_source comparison (top_of waiting.old.items)) }
+    ensures code { OnOk result (code.new.items ≡ code.old.items ++ compare_sides comparison waiting.old.items) }
     ensures waiting { OnOk result (waiting.new.items ≡ kept (below_top (below_top waiting.old.items))) }
 {
     if is_turned(comparison) {
         emit_two_to_registers(waiting, code)?;
-        Ok(R5)
+        Ok(Register(R5))
     } else {
         emit_sides(waiting, code)
     }
 }
 
 /// Appends the code that goes over so many words by how the two words on top compare.
+#[tactic(auto, using(std::proofs::Common::append_assoc))]
 pub fn emit_compares(
     comparison: Comparison,
     when: bool,
     over: u16,
     waiting: &mut Vec<Waiting>,
-    code: &mut Vec<Instr>,
+    code: &mut Vec<Form>,
 ) -> Result<(), AllocError>
     requires { 2 * over ≤ 0xFFFE }
-    ensures { OnOk result (code.new.items ≡ code.old.items ++ instructions (compares_code waiting.old.items comparison when over)) }
+    ensures { OnOk result (code.new.items ≡ code.old.items ++ compares_code waiting.old.items comparison when over) }
 {
     let right = emit_compare_sides(comparison, waiting, code)?;
     emit_all(waiting, code)?;

@@ -1,4 +1,4 @@
-//! Code for word programs: the instructions that do what a program does, on a stack in RAM, and locals in registers and RAM.
+//! Code for word programs: the that do what a program does, on a stack in RAM, and locals in registers and RAM.
 #![tactic(auto)]
 
 mod bounds;
@@ -19,4 +19,4 @@ pub use array_versions::{
     BinaryOperation, Comparison, LongOperation, PlainOperation, WordProgram, WordStep, WordTest,
 };
 pub use program::emit;
-pub use word_code::forms::Instr;
+pub use word_code::forms::{Form, instruction_of};

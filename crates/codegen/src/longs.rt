@@ -2,8 +2,6 @@
 
 ghost use Rattle.std.specs.Prelude.{◌≡◌, ◌++◌, [], ◌≤◌, false, OnOk, IfOk};
 ghost use Rattle.word_code.specs.code_forms.Forms as form;
-ghost use Rattle.word_code.specs.code_forms.Forms.{source_operand};
-ghost use Rattle.word_code.specs.code_forms.Placed.{instructions};
 ghost use Rattle.word_code.specs.array_versions.Form.{StepOfWords};
 ghost use Rattle.word_code.specs.array_versions.Program as value;
 ghost use Rattle.word_code.specs.array_versions.declared.operations.LongOperation.TheVariants as long_op;
@@ -14,9 +12,8 @@ ghost use Rattle.word_code.specs.Code.{times_code, long_double, long_halve, long
 ghost use Rattle.word_code.specs.Code.{high_code, high_behind, short_code, short_behind, left_code, left_behind, right_shift_code, right_behind};
 ghost use Rattle.word_code.specs.Code.{long_code, long_behind, step_code, waiting_behind};
 
-use crate::forms::{IN_R4, IN_R6, POPPED, R4, R6, R7, TO_R4, TO_R5, TO_R6, TO_R7, constant, two};
 use crate::operations::plain_instruction;
-use crate::shifts::emit_shift_middle;
+use crate::shifts::{emit_shift_middle, emit_times};
 use crate::waiting::{
     emit_all, emit_cleared, emit_to_four, emit_to_rest, emit_top_to_four, rest_source, rests,
     source_from, take, top, under_top, wait, waiting_source,
@@ -24,13 +21,17 @@ use crate::waiting::{
 use array_versions::{LongOperation, PlainOperation, ShiftOperation};
 use std::alloc::AllocError;
 use word_code::Waiting;
-use word_code::forms::{Instr, Konst, OneOp, Src, TwoOp, Width};
+use word_code::forms::Form::{Calculate, Modify, Move};
+use word_code::forms::Source::{Constant, Number, Popped, Register};
+use word_code::forms::Target::ToRegister;
+use word_code::forms::WorkRegister::{R4, R5, R6, R7};
+use word_code::forms::{Form, Konst, Modification, Source, TwoOp};
 
 // Where the words of the right one of two longs are read.
 #[derive(Clone, Copy)]
 struct RightLong {
-    low: Src,
-    high: Src,
+    low: Source,
+    high: Source,
 }
 
 // ---- words to registers
@@ -58,9 +59,9 @@ fn fourth(waiting: &[Waiting]) -> Option<Waiting>
 fn emit_parted(
     lost: bool,
     waiting: &mut Vec<Waiting>,
-    code: &mut Vec<Instr>,
+    code: &mut Vec<Form>,
 ) -> Result<(), AllocError>
-    ensures code { OnOk result (code.new.items ≡ code.old.items ++ instructions (parted lost waiting.old.items)) }
+    ensures code { OnOk result (code.new.items ≡ code.old.items ++ parted lost waiting.old.items) }
     ensures waiting { OnOk result (waiting.new.items ≡ parting lost waiting.old.items) }
 {
     if lost {
@@ -71,13 +72,13 @@ fn emit_parted(
 }
 
 // A word, which is taken, to R6.
-fn emit_to_six(word: Option<Waiting>, code: &mut Vec<Instr>) -> Result<(), AllocError>
-    ensures { OnOk result (code.new.items ≡ code.old.items ++ instructions (six_from word)) }
+fn emit_to_six(word: Option<Waiting>, code: &mut Vec<Form>) -> Result<(), AllocError>
+    ensures { OnOk result (code.new.items ≡ code.old.items ++ six_from word) }
 {
     match word {
-        None => code.extend_from_slice(&[two(TwoOp::Mov, POPPED, TO_R6)]),
+        None => code.extend_from_slice(&[Move(Popped, ToRegister(R6))]),
         Some(Waiting::R6) => Ok(()),
-        Some(word) => code.extend_from_slice(&[two(TwoOp::Mov, waiting_source(word), TO_R6)]),
+        Some(word) => code.extend_from_slice(&[Move(waiting_source(word), ToRegister(R6))]),
     }
 }
 
@@ -85,20 +86,21 @@ fn emit_to_six(word: Option<Waiting>, code: &mut Vec<Instr>) -> Result<(), Alloc
 fn emit_pair(
     high: Option<Waiting>,
     low: Option<Waiting>,
-    code: &mut Vec<Instr>,
+    code: &mut Vec<Form>,
 ) -> Result<(), AllocError>
-    ensures { OnOk result (code.new.items ≡ code.old.items ++ instructions (six_from high ++ four_from low)) }
+    ensures { OnOk result (code.new.items ≡ code.old.items ++ (six_from high ++ four_from low)) }
 {
     emit_to_six(high, code)?;
     emit_to_four(low, code)
 }
 
 // Takes the long on top to R6 and R4.
+#[tactic(auto, using(std::proofs::Common::append_assoc))]
 fn emit_pair_to_registers(
     waiting: &mut Vec<Waiting>,
-    code: &mut Vec<Instr>,
+    code: &mut Vec<Form>,
 ) -> Result<(), AllocError>
-    ensures code { OnOk result (code.new.items ≡ code.old.items ++ instructions (pair_to_registers waiting.old.items)) }
+    ensures code { OnOk result (code.new.items ≡ code.old.items ++ pair_to_registers waiting.old.items) }
     ensures waiting { OnOk result (waiting.new.items ≡ kept (below_two waiting.old.items)) }
 {
     let high = take(waiting);
@@ -108,27 +110,26 @@ fn emit_pair_to_registers(
 }
 
 // The high word of the right side, which is taken, to where it is read.
-fn emit_high_side(word: Option<Waiting>, code: &mut Vec<Instr>) -> Result<Src, AllocError>
-    ensures source { IfOk result (λ source. source ≡ source_operand (side_source form.R7 word)) }
-    ensures code { OnOk result (code.new.items ≡ code.old.items ++ instructions (side_from form.R7 word)) }
+fn emit_high_side(word: Option<Waiting>, code: &mut Vec<Form>) -> Result<Source, AllocError>
+    ensures source { IfOk result (λ source. source ≡ side_source form.R7 word) }
+    ensures code { OnOk result (code.new.items ≡ code.old.items ++ side_from form.R7 word) }
 {
     if rests(word) {
         return Ok(source_from(word));
     }
-    code.extend_from_slice(&[two(TwoOp::Mov, source_from(word), TO_R7)])?;
-    Ok(R7)
+    code.extend_from_slice(&[Move(source_from(word), ToRegister(R7))])?;
+    Ok(Register(R7))
 }
 
 // Both words of the right side, which are taken, to where they are read.
 fn emit_right(
     high: Option<Waiting>,
     low: Option<Waiting>,
-    code: &mut Vec<Instr>,
+    code: &mut Vec<Form>,
 ) -> Result<RightLong, AllocError>
-    ensures high { IfOk result (λ right. right.high ≡ source_operand (side_source form.R7 high)) }
-    ensures low { IfOk result (λ right. right.low ≡ source_operand (side_source form.R5 low)) }
-    ensures code { OnOk result (code.new.items
-        ≡ code.old.items ++ instructions (side_from form.R7 high ++ side_from form.R5 low)) }
+    ensures high { IfOk result (λ right. right.high ≡ side_source form.R7 high) }
+    ensures low { IfOk result (λ right. right.low ≡ side_source form.R5 low) }
+    ensures code { OnOk result (code.new.items ≡ code.old.items ++ (side_from form.R7 high ++ side_from form.R5 low)) }
 {
     let source = emit_high_side(high, code)?;
     emit_to_rest(low, code)?;
@@ -139,13 +140,14 @@ fn emit_right(
 }
 
 // Takes two longs: the right one, which is on top, to where it is read, and the left one to R6 and R4.
+#[tactic(auto, using(std::proofs::Common::append_assoc))]
 fn emit_long_sides(
     waiting: &mut Vec<Waiting>,
-    code: &mut Vec<Instr>,
+    code: &mut Vec<Form>,
 ) -> Result<RightLong, AllocError>
-    ensures high { IfOk result (λ right. right.high ≡ source_operand (high_source waiting.old.items)) }
-    ensures low { IfOk result (λ right. right.low ≡ source_operand (low_source waiting.old.items)) }
-    ensures code { OnOk result (code.new.items ≡ code.old.items ++ instructions (long_sides waiting.old.items)) }
+    ensures high { IfOk result (λ right. right.high ≡ high_source waiting.old.items) }
+    ensures low { IfOk result (λ right. right.low ≡ low_source waiting.old.items) }
+    ensures code { OnOk result (code.new.items ≡ code.old.items ++ long_sides waiting.old.items) }
     ensures waiting { OnOk result (waiting.new.items ≡ kept (below_two (below_two waiting.old.items))) }
 {
     let high = take(waiting);
@@ -159,13 +161,14 @@ fn emit_long_sides(
 }
 
 // The same, what waits being pushed where the low word of the left one would be lost.
-fn emit_longs(waiting: &mut Vec<Waiting>, code: &mut Vec<Instr>) -> Result<RightLong, AllocError>
+#[tactic(auto, using(std::proofs::Common::append_assoc))]
+fn emit_longs(waiting: &mut Vec<Waiting>, code: &mut Vec<Form>) -> Result<RightLong, AllocError>
     ensures high { IfOk result (λ right. let os = waiting.old.items in
-        right.high ≡ source_operand (high_source (parting (longs_lost os) os))) }
+        right.high ≡ high_source (parting (longs_lost os) os)) }
     ensures low { IfOk result (λ right. let os = waiting.old.items in
-        right.low ≡ source_operand (low_source (parting (longs_lost os) os))) }
+        right.low ≡ low_source (parting (longs_lost os) os)) }
     ensures code { OnOk result (let os = waiting.old.items in code.new.items
-        ≡ code.old.items ++ instructions (parted (longs_lost os) os ++ long_sides (parting (longs_lost os) os))) }
+        ≡ code.old.items ++ (parted (longs_lost os) os ++ long_sides (parting (longs_lost os) os))) }
     ensures waiting { OnOk result (waiting.new.items ≡ longs_under waiting.old.items) }
 {
     let lost = in_six(fourth(waiting));
@@ -197,49 +200,51 @@ fn high_instruction(operation: PlainOperation) -> TwoOp
 }
 
 // An operation on two longs.
+#[tactic(auto, using(std::proofs::Common::append_assoc))]
 fn emit_calculation(
     operation: PlainOperation,
     waiting: &mut Vec<Waiting>,
-    code: &mut Vec<Instr>,
+    code: &mut Vec<Form>,
 ) -> Result<(), AllocError>
-    ensures code { OnOk result (code.new.items
-        ≡ code.old.items ++ instructions (long_code (long_op.Calculate operation) waiting.old.items)) }
+    ensures code { OnOk result (code.new.items ≡ code.old.items ++ long_code (long_op.Calculate operation) waiting.old.items) }
     ensures waiting { OnOk result (waiting.new.items ≡ long_behind (long_op.Calculate operation) waiting.old.items) }
 {
     let right = emit_longs(waiting, code)?;
     code.extend_from_slice(&[
-        two(plain_instruction(operation), right.low, TO_R4),
-        two(high_instruction(operation), right.high, TO_R6),
+        Calculate(plain_instruction(operation), right.low, R4),
+        Calculate(high_instruction(operation), right.high, R6),
     ])?;
     wait_long(waiting)
 }
 
 // Whether the left one of two longs is below the right one: their difference borrows.
-fn emit_below(waiting: &mut Vec<Waiting>, code: &mut Vec<Instr>) -> Result<(), AllocError>
-    ensures code { OnOk result (code.new.items ≡ code.old.items ++ instructions (long_code long_op.Below waiting.old.items)) }
+#[tactic(auto, using(std::proofs::Common::append_assoc))]
+fn emit_below(waiting: &mut Vec<Waiting>, code: &mut Vec<Form>) -> Result<(), AllocError>
+    ensures code { OnOk result (code.new.items ≡ code.old.items ++ long_code long_op.Below waiting.old.items) }
     ensures waiting { OnOk result (waiting.new.items ≡ long_behind long_op.Below waiting.old.items) }
 {
     let right = emit_longs(waiting, code)?;
     code.extend_from_slice(&[
-        two(TwoOp::Sub, right.low, TO_R4),
-        two(TwoOp::Subc, right.high, TO_R6),
-        two(TwoOp::Subc, R6, TO_R6),
+        Calculate(TwoOp::Sub, right.low, R4),
+        Calculate(TwoOp::Subc, right.high, R6),
+        Calculate(TwoOp::Subc, Register(R6), R6),
     ])?;
     wait(Waiting::R6, waiting)
 }
 
 // Whether it is above it: their difference less 1 doesn't borrow.
-fn emit_above(waiting: &mut Vec<Waiting>, code: &mut Vec<Instr>) -> Result<(), AllocError>
-    ensures code { OnOk result (code.new.items ≡ code.old.items ++ instructions (long_code long_op.Above waiting.old.items)) }
+#[tactic(auto, using(std::proofs::Common::append_assoc))]
+fn emit_above(waiting: &mut Vec<Waiting>, code: &mut Vec<Form>) -> Result<(), AllocError>
+    ensures code { OnOk result (code.new.items ≡ code.old.items ++ long_code long_op.Above waiting.old.items) }
     ensures waiting { OnOk result (waiting.new.items ≡ long_behind long_op.Above waiting.old.items) }
 {
     let right = emit_longs(waiting, code)?;
     code.extend_from_slice(&[
-        two(TwoOp::Bit, constant(Konst::Zero), TO_R4),
-        two(TwoOp::Subc, right.low, TO_R4),
-        two(TwoOp::Subc, right.high, TO_R6),
-        two(TwoOp::Subc, R6, TO_R6),
-        two(TwoOp::Xor, constant(Konst::MinusOne), TO_R6),
+        Calculate(TwoOp::Bit, Constant(Konst::Zero), R4),
+        Calculate(TwoOp::Subc, right.low, R4),
+        Calculate(TwoOp::Subc, right.high, R6),
+        Calculate(TwoOp::Subc, Register(R6), R6),
+        Calculate(TwoOp::Xor, Constant(Konst::MinusOne), R6),
     ])?;
     wait(Waiting::R6, waiting)
 }
@@ -247,83 +252,77 @@ fn emit_above(waiting: &mut Vec<Waiting>, code: &mut Vec<Instr>) -> Result<(), A
 // ---- shifts
 
 // The long in R6 and R4 doubled so many times.
-fn emit_long_doubles(count: u16, code: &mut Vec<Instr>) -> Result<(), AllocError>
-    ensures { OnOk result (code.new.items ≡ code.old.items ++ instructions (times_code count long_double)) }
+fn emit_long_doubles(count: u16, code: &mut Vec<Form>) -> Result<(), AllocError>
+    ensures { OnOk result (code.new.items ≡ code.old.items ++ times_code count long_double) }
 {
-    for i in 0..count {
-        code.extend_from_slice(&[two(TwoOp::Add, R4, TO_R4), two(TwoOp::Addc, R6, TO_R6)])?;
-    }
-    Ok(())
+    let low = Calculate(TwoOp::Add, Register(R4), R4);
+    emit_times(count, &[low, Calculate(TwoOp::Addc, Register(R6), R6)], code)
 }
 
 // Halved so many times, its top bit being 0.
-fn emit_long_halves(count: u16, code: &mut Vec<Instr>) -> Result<(), AllocError>
-    ensures { OnOk result (code.new.items ≡ code.old.items ++ instructions (times_code count long_halve)) }
+fn emit_long_halves(count: u16, code: &mut Vec<Form>) -> Result<(), AllocError>
+    ensures { OnOk result (code.new.items ≡ code.old.items ++ times_code count long_halve) }
 {
-    for i in 0..count {
-        code.extend_from_slice(&[
-            Instr::One(OneOp::Rra(Width::Word, IN_R6)),
-            Instr::One(OneOp::Rrc(Width::Word, IN_R4)),
-        ])?;
-    }
-    Ok(())
+    let high = Modify(Modification::Rra, R6);
+    emit_times(count, &[high, Modify(Modification::Rrc, R4)], code)
 }
 
 // To the left by fewer than 16 bits.
-fn emit_left_by(count: u16, code: &mut Vec<Instr>) -> Result<(), AllocError>
-    ensures { OnOk result (code.new.items ≡ code.old.items ++ instructions (left_by count)) }
+fn emit_left_by(count: u16, code: &mut Vec<Form>) -> Result<(), AllocError>
+    ensures { OnOk result (code.new.items ≡ code.old.items ++ left_by count) }
 {
     if count < 8 {
         return emit_long_doubles(count, code);
     }
     code.extend_from_slice(&[
-        Instr::One(OneOp::Swpb(IN_R4)),
-        Instr::One(OneOp::Swpb(IN_R6)),
-        two(TwoOp::And, Src::Immediate(0xff00), TO_R6),
-        two(TwoOp::Add, R4, TO_R6),
-        two(TwoOp::And, Src::Immediate(0xff00), TO_R4),
-        two(TwoOp::Sub, R4, TO_R6),
+        Modify(Modification::Swpb, R4),
+        Modify(Modification::Swpb, R6),
+        Calculate(TwoOp::And, Number(0xff00), R6),
+        Calculate(TwoOp::Add, Register(R4), R6),
+        Calculate(TwoOp::And, Number(0xff00), R4),
+        Calculate(TwoOp::Sub, Register(R4), R6),
     ])?;
     emit_long_doubles(count - 8, code)
 }
 
 // To the right by fewer than 8 bits.
-fn emit_low_right(count: u16, code: &mut Vec<Instr>) -> Result<(), AllocError>
-    ensures { OnOk result (code.new.items ≡ code.old.items ++ instructions (long_right_code count)) }
+fn emit_low_right(count: u16, code: &mut Vec<Form>) -> Result<(), AllocError>
+    ensures { OnOk result (code.new.items ≡ code.old.items ++ long_right_code count) }
 {
     if count == 0 {
         return Ok(());
     }
     code.extend_from_slice(&[
-        two(TwoOp::Bit, constant(Konst::Zero), TO_R4),
-        Instr::One(OneOp::Rrc(Width::Word, IN_R6)),
-        Instr::One(OneOp::Rrc(Width::Word, IN_R4)),
+        Calculate(TwoOp::Bit, Constant(Konst::Zero), R4),
+        Modify(Modification::Rrc, R6),
+        Modify(Modification::Rrc, R4),
     ])?;
     emit_long_halves(count - 1, code)
 }
 
 // To the right by fewer than 16 bits.
-fn emit_right_by(count: u16, code: &mut Vec<Instr>) -> Result<(), AllocError>
-    ensures { OnOk result (code.new.items ≡ code.old.items ++ instructions (right_by count)) }
+fn emit_right_by(count: u16, code: &mut Vec<Form>) -> Result<(), AllocError>
+    ensures { OnOk result (code.new.items ≡ code.old.items ++ right_by count) }
 {
     if count < 8 {
         return emit_low_right(count, code);
     }
     code.extend_from_slice(&[
-        Instr::One(OneOp::Swpb(IN_R6)),
-        Instr::One(OneOp::Swpb(IN_R4)),
-        two(TwoOp::And, Src::Immediate(0xff), TO_R4),
-        two(TwoOp::Add, R6, TO_R4),
-        two(TwoOp::And, Src::Immediate(0xff), TO_R6),
-        two(TwoOp::Sub, R6, TO_R4),
+        Modify(Modification::Swpb, R6),
+        Modify(Modification::Swpb, R4),
+        Calculate(TwoOp::And, Number(0xff), R4),
+        Calculate(TwoOp::Add, Register(R6), R4),
+        Calculate(TwoOp::And, Number(0xff), R6),
+        Calculate(TwoOp::Sub, Register(R6), R4),
     ])?;
     emit_long_halves(count - 8, code)
 }
 
 // Takes the long on top to R6 and R4, what waits being pushed where its low word would be lost.
-fn emit_parted_pair(waiting: &mut Vec<Waiting>, code: &mut Vec<Instr>) -> Result<(), AllocError>
+#[tactic(auto, using(std::proofs::Common::append_assoc))]
+fn emit_parted_pair(waiting: &mut Vec<Waiting>, code: &mut Vec<Form>) -> Result<(), AllocError>
     ensures code { OnOk result (let os = waiting.old.items in code.new.items
-        ≡ code.old.items ++ instructions (parted (pair_lost os) os ++ pair_to_registers (parting (pair_lost os) os))) }
+        ≡ code.old.items ++ (parted (pair_lost os) os ++ pair_to_registers (parting (pair_lost os) os))) }
     ensures waiting { OnOk result (let os = waiting.old.items in waiting.new.items ≡ kept (below_two (parting (pair_lost os) os))) }
 {
     let lost = in_six(under_top(waiting));
@@ -332,23 +331,23 @@ fn emit_parted_pair(waiting: &mut Vec<Waiting>, code: &mut Vec<Instr>) -> Result
 }
 
 // The top isn't wanted.
-fn emit_dropped(top: Option<Waiting>, code: &mut Vec<Instr>) -> Result<(), AllocError>
-    ensures { OnOk result (code.new.items ≡ code.old.items ++ instructions (dropped top)) }
+fn emit_dropped(top: Option<Waiting>, code: &mut Vec<Form>) -> Result<(), AllocError>
+    ensures { OnOk result (code.new.items ≡ code.old.items ++ dropped top) }
 {
     match top {
-        None => code.extend_from_slice(&[two(TwoOp::Mov, POPPED, TO_R5)]),
+        None => code.extend_from_slice(&[Move(Popped, ToRegister(R5))]),
         Some(_) => Ok(()),
     }
 }
 
 // The top comes to wait where it doesn't.
-fn emit_lifted(top: Option<Waiting>, code: &mut Vec<Instr>) -> Result<Waiting, AllocError>
+fn emit_lifted(top: Option<Waiting>, code: &mut Vec<Form>) -> Result<Waiting, AllocError>
     ensures word { IfOk result (λ word. word ≡ made.lifted_word top) }
-    ensures code { OnOk result (code.new.items ≡ code.old.items ++ instructions (lifted top)) }
+    ensures code { OnOk result (code.new.items ≡ code.old.items ++ lifted top) }
 {
     match top {
         None => {
-            code.extend_from_slice(&[two(TwoOp::Mov, POPPED, TO_R4)])?;
+            code.extend_from_slice(&[Move(Popped, ToRegister(R4))])?;
             Ok(Waiting::R4)
         }
         Some(word) => Ok(word),
@@ -356,8 +355,8 @@ fn emit_lifted(top: Option<Waiting>, code: &mut Vec<Instr>) -> Result<Waiting, A
 }
 
 // Of the long on top the high word.
-fn emit_high(waiting: &mut Vec<Waiting>, code: &mut Vec<Instr>) -> Result<(), AllocError>
-    ensures code { OnOk result (code.new.items ≡ code.old.items ++ instructions (high_code waiting.old.items)) }
+fn emit_high(waiting: &mut Vec<Waiting>, code: &mut Vec<Form>) -> Result<(), AllocError>
+    ensures code { OnOk result (code.new.items ≡ code.old.items ++ high_code waiting.old.items) }
     ensures waiting { OnOk result (waiting.new.items ≡ high_behind waiting.old.items) }
 {
     let high = take(waiting);
@@ -368,12 +367,13 @@ fn emit_high(waiting: &mut Vec<Waiting>, code: &mut Vec<Instr>) -> Result<(), Al
 }
 
 // A shift of the long on top to the left by fewer than 16 bits.
+#[tactic(auto, using(std::proofs::Common::append_assoc))]
 fn emit_short_left(
     count: u16,
     waiting: &mut Vec<Waiting>,
-    code: &mut Vec<Instr>,
+    code: &mut Vec<Form>,
 ) -> Result<(), AllocError>
-    ensures code { OnOk result (code.new.items ≡ code.old.items ++ instructions (short_code waiting.old.items (left_by count))) }
+    ensures code { OnOk result (code.new.items ≡ code.old.items ++ short_code waiting.old.items (left_by count)) }
     ensures waiting { OnOk result (waiting.new.items ≡ short_behind waiting.old.items) }
 {
     emit_parted_pair(waiting, code)?;
@@ -382,13 +382,14 @@ fn emit_short_left(
 }
 
 // To the left by more: the low word is 0.
+#[tactic(auto, using(std::proofs::Common::append_assoc))]
 fn emit_far_left(
     count: u16,
     waiting: &mut Vec<Waiting>,
-    code: &mut Vec<Instr>,
+    code: &mut Vec<Form>,
 ) -> Result<(), AllocError>
     requires { 16 ≤ count }
-    ensures code { OnOk result (code.new.items ≡ code.old.items ++ instructions (left_code false waiting.old.items count)) }
+    ensures code { OnOk result (code.new.items ≡ code.old.items ++ left_code false waiting.old.items count) }
     ensures waiting { OnOk result (waiting.new.items ≡ left_behind false waiting.old.items) }
 {
     let high = take(waiting);
@@ -400,12 +401,13 @@ fn emit_far_left(
 }
 
 // A shift of the long on top to the right by fewer than 16 bits.
+#[tactic(auto, using(std::proofs::Common::append_assoc))]
 fn emit_short_right(
     count: u16,
     waiting: &mut Vec<Waiting>,
-    code: &mut Vec<Instr>,
+    code: &mut Vec<Form>,
 ) -> Result<(), AllocError>
-    ensures code { OnOk result (code.new.items ≡ code.old.items ++ instructions (short_code waiting.old.items (right_by count))) }
+    ensures code { OnOk result (code.new.items ≡ code.old.items ++ short_code waiting.old.items (right_by count)) }
     ensures waiting { OnOk result (waiting.new.items ≡ short_behind waiting.old.items) }
 {
     emit_parted_pair(waiting, code)?;
@@ -414,13 +416,14 @@ fn emit_short_right(
 }
 
 // To the right by more: the high word is 0.
+#[tactic(auto, using(std::proofs::Common::append_assoc))]
 fn emit_far_right(
     count: u16,
     waiting: &mut Vec<Waiting>,
-    code: &mut Vec<Instr>,
+    code: &mut Vec<Form>,
 ) -> Result<(), AllocError>
     requires { 16 ≤ count }
-    ensures code { OnOk result (code.new.items ≡ code.old.items ++ instructions (right_shift_code false waiting.old.items count)) }
+    ensures code { OnOk result (code.new.items ≡ code.old.items ++ right_shift_code false waiting.old.items count) }
     ensures waiting { OnOk result (waiting.new.items ≡ right_behind false waiting.old.items) }
 {
     emit_high(waiting, code)?;
@@ -434,10 +437,9 @@ fn emit_far_right(
 fn emit_long_left(
     count: u16,
     waiting: &mut Vec<Waiting>,
-    code: &mut Vec<Instr>,
+    code: &mut Vec<Form>,
 ) -> Result<(), AllocError>
-    ensures code { OnOk result (code.new.items
-        ≡ code.old.items ++ instructions (long_code (long_op.ShiftLeft count) waiting.old.items)) }
+    ensures code { OnOk result (code.new.items ≡ code.old.items ++ long_code (long_op.ShiftLeft count) waiting.old.items) }
     ensures waiting { OnOk result (waiting.new.items ≡ long_behind (long_op.ShiftLeft count) waiting.old.items) }
 {
     if count < 16 {
@@ -451,10 +453,9 @@ fn emit_long_left(
 fn emit_long_right(
     count: u16,
     waiting: &mut Vec<Waiting>,
-    code: &mut Vec<Instr>,
+    code: &mut Vec<Form>,
 ) -> Result<(), AllocError>
-    ensures code { OnOk result (code.new.items
-        ≡ code.old.items ++ instructions (long_code (long_op.ShiftRight count) waiting.old.items)) }
+    ensures code { OnOk result (code.new.items ≡ code.old.items ++ long_code (long_op.ShiftRight count) waiting.old.items) }
     ensures waiting { OnOk result (waiting.new.items ≡ long_behind (long_op.ShiftRight count) waiting.old.items) }
 {
     if count < 16 {
@@ -465,15 +466,15 @@ fn emit_long_right(
 }
 
 // Each bit of the long on top turned.
-fn emit_complement(waiting: &mut Vec<Waiting>, code: &mut Vec<Instr>) -> Result<(), AllocError>
-    ensures code { OnOk result (code.new.items
-        ≡ code.old.items ++ instructions (long_code long_op.Complement waiting.old.items)) }
+#[tactic(auto, using(std::proofs::Common::append_assoc))]
+fn emit_complement(waiting: &mut Vec<Waiting>, code: &mut Vec<Form>) -> Result<(), AllocError>
+    ensures code { OnOk result (code.new.items ≡ code.old.items ++ long_code long_op.Complement waiting.old.items) }
     ensures waiting { OnOk result (waiting.new.items ≡ long_behind long_op.Complement waiting.old.items) }
 {
     emit_parted_pair(waiting, code)?;
     code.extend_from_slice(&[
-        two(TwoOp::Xor, constant(Konst::MinusOne), TO_R4),
-        two(TwoOp::Xor, constant(Konst::MinusOne), TO_R6),
+        Calculate(TwoOp::Xor, Constant(Konst::MinusOne), R4),
+        Calculate(TwoOp::Xor, Constant(Konst::MinusOne), R6),
     ])?;
     wait_long(waiting)
 }
@@ -481,23 +482,24 @@ fn emit_complement(waiting: &mut Vec<Waiting>, code: &mut Vec<Instr>) -> Result<
 // ---- one word and two
 
 // The int on top as a long.
-fn emit_widen(waiting: &mut Vec<Waiting>, code: &mut Vec<Instr>) -> Result<(), AllocError>
-    ensures code { OnOk result (code.new.items ≡ code.old.items ++ instructions (long_code long_op.Widen waiting.old.items)) }
+#[tactic(auto, using(std::proofs::Common::append_assoc))]
+fn emit_widen(waiting: &mut Vec<Waiting>, code: &mut Vec<Form>) -> Result<(), AllocError>
+    ensures code { OnOk result (code.new.items ≡ code.old.items ++ long_code long_op.Widen waiting.old.items) }
     ensures waiting { OnOk result (waiting.new.items ≡ long_behind long_op.Widen waiting.old.items) }
 {
     emit_top_to_four(waiting, code)?;
     code.extend_from_slice(&[
-        two(TwoOp::Mov, R4, TO_R6),
-        two(TwoOp::Add, R6, TO_R6),
-        two(TwoOp::Subc, R6, TO_R6),
-        two(TwoOp::Xor, constant(Konst::MinusOne), TO_R6),
+        Move(Register(R4), ToRegister(R6)),
+        Calculate(TwoOp::Add, Register(R6), R6),
+        Calculate(TwoOp::Subc, Register(R6), R6),
+        Calculate(TwoOp::Xor, Constant(Konst::MinusOne), R6),
     ])?;
     wait_long(waiting)
 }
 
 // The low word of the long on top.
-fn emit_low(waiting: &mut Vec<Waiting>, code: &mut Vec<Instr>) -> Result<(), AllocError>
-    ensures code { OnOk result (code.new.items ≡ code.old.items ++ instructions (dropped (top_of waiting.old.items))) }
+fn emit_low(waiting: &mut Vec<Waiting>, code: &mut Vec<Form>) -> Result<(), AllocError>
+    ensures code { OnOk result (code.new.items ≡ code.old.items ++ dropped (top_of waiting.old.items)) }
     ensures waiting { OnOk result (waiting.new.items ≡ below_top waiting.old.items) }
 {
     let high = take(waiting);
@@ -508,10 +510,9 @@ fn emit_low(waiting: &mut Vec<Waiting>, code: &mut Vec<Instr>) -> Result<(), All
 pub fn emit_long(
     operation: LongOperation,
     waiting: &mut Vec<Waiting>,
-    code: &mut Vec<Instr>,
+    code: &mut Vec<Form>,
 ) -> Result<(), AllocError>
-    ensures code { OnOk result (code.new.items
-        ≡ code.old.items ++ instructions (step_code [] waiting.old.items (value.long operation))) }
+    ensures code { OnOk result (code.new.items ≡ code.old.items ++ step_code [] waiting.old.items (value.long operation)) }
     ensures waiting { OnOk result (waiting.new.items ≡ waiting_behind waiting.old.items (value.long operation)) }
     ensures of_words { OnOk result (StepOfWords (value.long operation)) }
 {

@@ -1,14 +1,12 @@
 //! The code of the operations.
 
 ghost use Rattle.std.specs.Prelude.{◌≡◌, [], ◌∷◌, ◌++◌, OnOk, Some};
-ghost use Rattle.word_code.specs.code_forms.Placed.{instructions};
 ghost use Rattle.word_code.specs.array_versions.declared.operations.BinaryOperation.TheVariants as binary_op;
 ghost use Rattle.word_code.specs.array_versions.Program as value;
 ghost use Rattle.word_code.specs.Code.{unary_middle, binary_middle, binary_result, divide_middle, plain_instruction, step_code, waiting_behind};
 ghost use Rattle.word_code.specs.Code.{below_top, kept, two_to_registers, two_code, power_code};
 ghost use Rattle.word_code.specs.declared.waiting.Waiting.TheVariants as words;
 
-use crate::forms::{IN_R5, R4, R5, R6, TO_R4, TO_R5, TO_R6, TO_R7, constant, jump, two};
 use crate::shifts::emit_shift;
 use crate::waiting::{
     emit_sides, emit_top_to_five, emit_two_to_registers, mask_top, take, top_power, wait,
@@ -16,32 +14,36 @@ use crate::waiting::{
 use array_versions::{BinaryOperation, PlainOperation, ShiftOperation, UnaryOperation};
 use std::alloc::AllocError;
 use word_code::Waiting;
-use word_code::forms::{Condition, Instr, Konst, OneOp, Src, TwoOp, Width};
+use word_code::forms::Form::{Calculate, Modify, Move};
+use word_code::forms::Source::{Constant, Number, Register};
+use word_code::forms::Target::ToRegister;
+use word_code::forms::WorkRegister::{R4, R5, R6, R7};
+use word_code::forms::{Condition, Form, Konst, Modification, TwoOp, jump};
 
 // An operation on R5, its result in R4.
-fn emit_unary_middle(operation: UnaryOperation, code: &mut Vec<Instr>) -> Result<(), AllocError>
-    ensures { OnOk result (code.new.items ≡ code.old.items ++ instructions (unary_middle operation)) }
+fn emit_unary_middle(operation: UnaryOperation, code: &mut Vec<Form>) -> Result<(), AllocError>
+    ensures { OnOk result (code.new.items ≡ code.old.items ++ unary_middle operation) }
 {
     match operation {
         UnaryOperation::Negate => code.extend_from_slice(&[
-            two(TwoOp::Mov, constant(Konst::Zero), TO_R4),
-            two(TwoOp::Sub, R5, TO_R4),
+            Move(Constant(Konst::Zero), ToRegister(R4)),
+            Calculate(TwoOp::Sub, Register(R5), R4),
         ]),
         UnaryOperation::Complement => code.extend_from_slice(&[
-            two(TwoOp::Mov, constant(Konst::MinusOne), TO_R4),
-            two(TwoOp::Sub, R5, TO_R4),
+            Move(Constant(Konst::MinusOne), ToRegister(R4)),
+            Calculate(TwoOp::Sub, Register(R5), R4),
         ]),
     }
 }
 
 /// Appends the code of an operation on the top of the stack.
+#[tactic(auto, using(std::proofs::Common::append_assoc))]
 pub fn emit_unary(
     operation: UnaryOperation,
     waiting: &mut Vec<Waiting>,
-    code: &mut Vec<Instr>,
+    code: &mut Vec<Form>,
 ) -> Result<(), AllocError>
-    ensures code { OnOk result (code.new.items
-        ≡ code.old.items ++ instructions (step_code [] waiting.old.items (value.unary operation))) }
+    ensures code { OnOk result (code.new.items ≡ code.old.items ++ step_code [] waiting.old.items (value.unary operation)) }
     ensures waiting { OnOk result (waiting.new.items ≡ waiting_behind waiting.old.items (value.unary operation)) }
 {
     emit_top_to_five(waiting, code)?;
@@ -62,57 +64,59 @@ pub fn plain_instruction(operation: PlainOperation) -> TwoOp
     }
 }
 
-fn emit_multiply(code: &mut Vec<Instr>) -> Result<(), AllocError>
-    ensures { OnOk result (code.new.items ≡ code.old.items ++ instructions (binary_middle binary_op.Multiply)) }
+fn emit_multiply(code: &mut Vec<Form>) -> Result<(), AllocError>
+    ensures { OnOk result (code.new.items ≡ code.old.items ++ binary_middle binary_op.Multiply) }
 {
     code.extend_from_slice(&[
-        two(TwoOp::Mov, constant(Konst::Zero), TO_R6),
-        two(TwoOp::Bit, constant(Konst::One), TO_R5),
+        Move(Constant(Konst::Zero), ToRegister(R6)),
+        Calculate(TwoOp::Bit, Constant(Konst::One), R5),
         jump(Condition::Equal, 1),
-        two(TwoOp::Add, R4, TO_R6),
-        two(TwoOp::Add, R4, TO_R4),
-        two(TwoOp::Bit, constant(Konst::Zero), TO_R5),
-        Instr::One(OneOp::Rrc(Width::Word, IN_R5)),
+        Calculate(TwoOp::Add, Register(R4), R6),
+        Calculate(TwoOp::Add, Register(R4), R4),
+        Calculate(TwoOp::Bit, Constant(Konst::Zero), R5),
+        Modify(Modification::Rrc, R5),
         jump(Condition::NotEqual, 1017),
     ])
 }
 
 // Division: the quotient is in R4 then, and the rest in R6.
-fn emit_divide(code: &mut Vec<Instr>) -> Result<(), AllocError>
-    ensures { OnOk result (code.new.items ≡ code.old.items ++ instructions divide_middle) }
+fn emit_divide(code: &mut Vec<Form>) -> Result<(), AllocError>
+    ensures { OnOk result (code.new.items ≡ code.old.items ++ divide_middle) }
 {
     code.extend_from_slice(&[
-        two(TwoOp::Mov, constant(Konst::Zero), TO_R6),
-        two(TwoOp::Mov, Src::Immediate(16), TO_R7),
-        two(TwoOp::Add, R4, TO_R4),
-        two(TwoOp::Addc, R6, TO_R6),
+        Move(Constant(Konst::Zero), ToRegister(R6)),
+        Move(Number(16), ToRegister(R7)),
+        Calculate(TwoOp::Add, Register(R4), R4),
+        Calculate(TwoOp::Addc, Register(R6), R6),
         jump(Condition::Carry, 2),
-        two(TwoOp::Cmp, R5, TO_R6),
+        Calculate(TwoOp::Cmp, Register(R5), R6),
         jump(Condition::NoCarry, 2),
-        two(TwoOp::Sub, R5, TO_R6),
-        two(TwoOp::Add, constant(Konst::One), TO_R4),
-        two(TwoOp::Sub, constant(Konst::One), TO_R7),
+        Calculate(TwoOp::Sub, Register(R5), R6),
+        Calculate(TwoOp::Add, Constant(Konst::One), R4),
+        Calculate(TwoOp::Sub, Constant(Konst::One), R7),
         jump(Condition::NotEqual, 1015),
     ])
 }
 
 // An operation on two words that the machine has an instruction for.
+#[tactic(auto, using(std::proofs::Common::append_assoc))]
 fn emit_plain(
     operation: PlainOperation,
     waiting: &mut Vec<Waiting>,
-    code: &mut Vec<Instr>,
+    code: &mut Vec<Form>,
 ) -> Result<(), AllocError>
-    ensures code { OnOk result (code.new.items ≡ code.old.items ++ instructions (two_code waiting.old.items (binary_op.Plain operation))) }
+    ensures code { OnOk result (code.new.items ≡ code.old.items ++ two_code waiting.old.items (binary_op.Plain operation)) }
     ensures waiting { OnOk result (waiting.new.items ≡ words.R4 ∷ kept (below_top (below_top waiting.old.items))) }
 {
     let source = emit_sides(waiting, code)?;
-    code.extend_from_slice(&[two(plain_instruction(operation), source, TO_R4)])?;
+    code.extend_from_slice(&[Calculate(plain_instruction(operation), source, R4)])?;
     wait(Waiting::R4, waiting)
 }
 
 // A product.
-fn emit_product(waiting: &mut Vec<Waiting>, code: &mut Vec<Instr>) -> Result<(), AllocError>
-    ensures code { OnOk result (code.new.items ≡ code.old.items ++ instructions (two_code waiting.old.items binary_op.Multiply)) }
+#[tactic(auto, using(std::proofs::Common::append_assoc))]
+fn emit_product(waiting: &mut Vec<Waiting>, code: &mut Vec<Form>) -> Result<(), AllocError>
+    ensures code { OnOk result (code.new.items ≡ code.old.items ++ two_code waiting.old.items binary_op.Multiply) }
     ensures waiting { OnOk result (waiting.new.items ≡ words.R6 ∷ kept (below_top (below_top waiting.old.items))) }
 {
     emit_two_to_registers(waiting, code)?;
@@ -121,12 +125,13 @@ fn emit_product(waiting: &mut Vec<Waiting>, code: &mut Vec<Instr>) -> Result<(),
 }
 
 // A division, whose quotient is in R4 and whose rest is in R6.
+#[tactic(auto, using(std::proofs::Common::append_assoc))]
 fn emit_division(
     quantity: Waiting,
     waiting: &mut Vec<Waiting>,
-    code: &mut Vec<Instr>,
+    code: &mut Vec<Form>,
 ) -> Result<(), AllocError>
-    ensures code { OnOk result (code.new.items ≡ code.old.items ++ instructions (two_to_registers waiting.old.items ++ divide_middle)) }
+    ensures code { OnOk result (code.new.items ≡ code.old.items ++ (two_to_registers waiting.old.items ++ divide_middle)) }
     ensures waiting { OnOk result (waiting.new.items ≡ quantity ∷ kept (below_top (below_top waiting.old.items))) }
 {
     emit_two_to_registers(waiting, code)?;
@@ -138,9 +143,9 @@ fn emit_division(
 fn emit_two(
     operation: BinaryOperation,
     waiting: &mut Vec<Waiting>,
-    code: &mut Vec<Instr>,
+    code: &mut Vec<Form>,
 ) -> Result<(), AllocError>
-    ensures code { OnOk result (code.new.items ≡ code.old.items ++ instructions (two_code waiting.old.items operation)) }
+    ensures code { OnOk result (code.new.items ≡ code.old.items ++ two_code waiting.old.items operation) }
     ensures waiting { OnOk result (waiting.new.items ≡ binary_result operation ∷ kept (below_top (below_top waiting.old.items))) }
 {
     match operation {
@@ -156,9 +161,9 @@ fn emit_by_power(
     operation: BinaryOperation,
     count: u16,
     waiting: &mut Vec<Waiting>,
-    code: &mut Vec<Instr>,
+    code: &mut Vec<Form>,
 ) -> Result<(), AllocError>
-    ensures code { OnOk result (code.new.items ≡ code.old.items ++ instructions (power_code (Some count) waiting.old.items operation)) }
+    ensures code { OnOk result (code.new.items ≡ code.old.items ++ power_code (Some count) waiting.old.items operation) }
     ensures waiting { OnOk result (waiting.new.items ≡ words.R4 ∷ kept (below_top (below_top waiting.old.items))) }
 {
     match operation {
@@ -182,10 +187,9 @@ fn emit_by_power(
 pub fn emit_binary(
     operation: BinaryOperation,
     waiting: &mut Vec<Waiting>,
-    code: &mut Vec<Instr>,
+    code: &mut Vec<Form>,
 ) -> Result<(), AllocError>
-    ensures code { OnOk result (code.new.items
-        ≡ code.old.items ++ instructions (step_code [] waiting.old.items (value.binary operation))) }
+    ensures code { OnOk result (code.new.items ≡ code.old.items ++ step_code [] waiting.old.items (value.binary operation)) }
     ensures waiting { OnOk result (waiting.new.items ≡ waiting_behind waiting.old.items (value.binary operation)) }
 {
     match top_power(waiting) {

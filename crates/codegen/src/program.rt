@@ -1,7 +1,6 @@
 //! The code of programs.
 
 ghost use Rattle.std.specs.Prelude.{◌≡◌, [], ◌++◌, ◌+◌, ◌<◌, ◌≤◌, if◌then◌else◌, OnOk, OnErr};
-ghost use Rattle.word_code.specs.code_forms.Placed.{instructions};
 ghost use Rattle.word_code.specs.array_versions.Program as value;
 ghost use Rattle.word_code.specs.array_versions.View.{program_of, steps_of, step_of, test_of};
 ghost use Rattle.word_code.specs.array_versions.Form.{IsWhole, LocalsBelow, StepLocalsBelow, TestLocalsBelow, OfWords, StepOfWords, TestOfWords};
@@ -10,7 +9,6 @@ ghost use Rattle.word_code.specs.Code.{block_code, code_of, step_code, steps_cod
 
 use crate::bounds::bounds_within;
 use crate::decisions::{code_words, emit_compares, emit_holds, emit_jump_back, emit_pass_over};
-use crate::forms::{constant, jump, push};
 use crate::in_place::emit_versioned_update;
 use crate::locals::{emit_stack_set, steps_locals};
 use crate::longs::emit_long;
@@ -25,17 +23,19 @@ use crate::versioned::{emit_versioned_read, emit_versioned_write};
 use crate::waiting::{emit_all, emit_flushed, wait};
 use array_versions::{WordProgram, WordStep, WordTest};
 use std::alloc::{AllocError, Global};
-use word_code::forms::{Condition, Instr, Konst};
 use word_code::{Bound, Waiting};
+use word_code::forms::Form::Push;
+use word_code::forms::Source::Constant;
+use word_code::forms::{Condition, Form, Konst, jump};
 
 // Behind a test: 1 where it holds, else 0.
-fn emit_truth_code(code: &mut Vec<Instr>) -> Result<(), AllocError>
-    ensures { OnOk result (code.new.items ≡ code.old.items ++ instructions truth_code) }
+fn emit_truth_code(code: &mut Vec<Form>) -> Result<(), AllocError>
+    ensures { OnOk result (code.new.items ≡ code.old.items ++ truth_code) }
 {
     code.extend_from_slice(&[
-        push(constant(Konst::One)),
+        Push(Constant(Konst::One)),
         jump(Condition::Always, 1),
-        push(constant(Konst::Zero)),
+        Push(Constant(Konst::Zero)),
     ])
 }
 
@@ -54,12 +54,11 @@ fn emit_test(
     test: &WordTest,
     when: bool,
     over: u16,
-    code: &mut Vec<Instr>,
+    code: &mut Vec<Form>,
 ) -> Result<(), AllocError>
     requires room { over + test_words (test_of test.now) ≤ 0x7FFF }
-    requires locals { TestLocalsBelow 1008 (test_of test.now) }
-    ensures code { OnOk result (code.new.items
-        ≡ code.old.items ++ instructions (test_code bounds.now (test_of test.now) when over)) }
+    requires locals { TestLocalsBelow 1016 (test_of test.now) }
+    ensures code { OnOk result (code.new.items ≡ code.old.items ++ test_code bounds.now (test_of test.now) when over) }
     ensures of_words { OnOk result (TestOfWords (test_of test.now)) }
 {
     match test {
@@ -98,12 +97,11 @@ fn emit_truth(
     bounds: &[Bound],
     test: &WordTest,
     waiting: &mut Vec<Waiting>,
-    code: &mut Vec<Instr>,
+    code: &mut Vec<Form>,
 ) -> Result<(), AllocError>
     requires room { step_words (value.truth (test_of test.now)) ≤ 0x7FFF }
-    requires locals { TestLocalsBelow 1008 (test_of test.now) }
-    ensures code { OnOk result (code.new.items
-        ≡ code.old.items ++ instructions (step_code bounds.now waiting.old.items (value.truth (test_of test.now)))) }
+    requires locals { TestLocalsBelow 1016 (test_of test.now) }
+    ensures code { OnOk result (code.new.items ≡ code.old.items ++ step_code bounds.now waiting.old.items (value.truth (test_of test.now))) }
     ensures waiting { OnOk result (waiting.new.items ≡ []) }
     ensures of_words { OnOk result (TestOfWords (test_of test.now)) }
 {
@@ -121,13 +119,13 @@ fn emit_loop(
     from: u16,
     body: &[WordStep],
     waiting: &mut Vec<Waiting>,
-    code: &mut Vec<Instr>,
+    code: &mut Vec<Form>,
 ) -> Result<(), AllocError>
     requires room { step_words (value.repeat own.local from own.below (steps_of body.now)) ≤ 0x7FFF }
-    requires low { own.local < 1008 }
-    requires locals { LocalsBelow 1008 (steps_of body.now) }
+    requires low { own.local < 1016 }
+    requires locals { LocalsBelow 1016 (steps_of body.now) }
     ensures code { OnOk result (code.new.items
-        ≡ code.old.items ++ instructions (step_code bounds.now waiting.old.items (value.repeat own.local from own.below (steps_of body.now)))) }
+        ≡ code.old.items ++ step_code bounds.now waiting.old.items (value.repeat own.local from own.below (steps_of body.now))) }
     ensures waiting { OnOk result (waiting.new.items ≡ []) }
     ensures of_words { OnOk result (OfWords (steps_of body.now)) }
 {
@@ -153,11 +151,11 @@ fn emit_step(
     bounds: &[Bound],
     step: &WordStep,
     waiting: &mut Vec<Waiting>,
-    code: &mut Vec<Instr>,
+    code: &mut Vec<Form>,
 ) -> Result<(), AllocError>
     requires room { step_words (step_of step.now) ≤ 0x7FFF }
-    requires locals { StepLocalsBelow 1008 (step_of step.now) }
-    ensures code { OnOk result (code.new.items ≡ code.old.items ++ instructions (step_code bounds.now waiting.old.items (step_of step.now))) }
+    requires locals { StepLocalsBelow 1016 (step_of step.now) }
+    ensures code { OnOk result (code.new.items ≡ code.old.items ++ step_code bounds.now waiting.old.items (step_of step.now)) }
     ensures waiting { OnOk result (waiting.new.items ≡ waiting_behind waiting.old.items (step_of step.now)) }
     ensures of_words { OnOk result (StepOfWords (step_of step.now)) }
 {
@@ -229,11 +227,11 @@ fn emit_steps(
     bounds: &[Bound],
     steps: &[WordStep],
     waiting: &mut Vec<Waiting>,
-    code: &mut Vec<Instr>,
+    code: &mut Vec<Form>,
 ) -> Result<(), AllocError>
     requires room { words_of (steps_of steps.now) ≤ 0x7FFF }
-    requires locals { LocalsBelow 1008 (steps_of steps.now) }
-    ensures code { OnOk result (code.new.items ≡ code.old.items ++ instructions (steps_code bounds.now waiting.old.items (steps_of steps.now))) }
+    requires locals { LocalsBelow 1016 (steps_of steps.now) }
+    ensures code { OnOk result (code.new.items ≡ code.old.items ++ steps_code bounds.now waiting.old.items (steps_of steps.now)) }
     ensures waiting { OnOk result (waiting.new.items ≡ waiting_after waiting.old.items (steps_of steps.now)) }
     ensures of_words { OnOk result (OfWords (steps_of steps.now)) }
 {
@@ -249,11 +247,11 @@ fn emit_block(
     alloc: Global,
     bounds: &[Bound],
     steps: &[WordStep],
-    code: &mut Vec<Instr>,
+    code: &mut Vec<Form>,
 ) -> Result<(), AllocError>
     requires room { words_of (steps_of steps.now) ≤ 0x7FFF }
-    requires locals { LocalsBelow 1008 (steps_of steps.now) }
-    ensures code { OnOk result (code.new.items ≡ code.old.items ++ instructions (block_code bounds.now (steps_of steps.now))) }
+    requires locals { LocalsBelow 1016 (steps_of steps.now) }
+    ensures code { OnOk result (code.new.items ≡ code.old.items ++ block_code bounds.now (steps_of steps.now)) }
     ensures of_words { OnOk result (OfWords (steps_of steps.now)) }
 {
     let mut waiting = Vec::new(alloc);
@@ -265,10 +263,10 @@ fn emit_block(
 /// where each of its ways ends in a jump, takes no word from an empty stack and reads no local before it is assigned, and where RAM
 /// from 1C20 to 23FF has room for its locals and its stack. Locals from the ninth on stand in RAM, down from 23FE; SP is 2400 where the
 /// code is entered, and is first set below them.
-pub fn emit(alloc: Global, program: &WordProgram, code: &mut Vec<Instr>) -> Result<(), AllocError>
+pub fn emit(alloc: Global, program: &WordProgram, code: &mut Vec<Form>) -> Result<(), AllocError>
     requires room { words_of (program_of program.now) ≤ 0x7FFF }
     requires whole { IsWhole (program_of program.now) }
-    ensures code { OnOk result (code.new.items ≡ code.old.items ++ instructions (code_of (program_of program.now))) }
+    ensures code { OnOk result (code.new.items ≡ code.old.items ++ code_of (program_of program.now)) }
     ensures of_words { OnOk result (OfWords (program_of program.now)) }
     ensures err { OnErr result (code.new.items ≡ code.old.items) }
 {

@@ -3,17 +3,12 @@
 ghost use Rattle.std.specs.Prelude.{◌≡◌, [], ◌∷◌, ◌++◌, ◌<◌, OnOk};
 ghost use Rattle.word_code.specs.code_forms.Forms as form;
 ghost use Rattle.word_code.specs.msp_isa.alp_words.declared.Width.TheVariants.{Word};
-ghost use Rattle.word_code.specs.msp_isa.declared.instructions.TwoOp.TheVariants as two_op;
-ghost use Rattle.word_code.specs.code_forms.Placed.{instructions};
 ghost use Rattle.word_code.specs.array_versions.Program as value;
 ghost use Rattle.word_code.specs.Code.{known_element, fetch_code, element_code, emit_code, words_source, entry_code, number_code, plain_instruction};
-ghost use Rattle.word_code.specs.Code.{ram_update, turn_end, step_code, waiting_behind};
+ghost use Rattle.word_code.specs.Code.{ram_update, update_code, turn_end, step_code, waiting_behind};
 
 use crate::bounds::{emit_check, emit_zero, is_inside};
-use crate::forms::{
-    R4, R5, R6, TO_R4, TO_R5, TO_R6, absolute, branch, constant, jump, local_address,
-    local_register, local_target, number_source, push, two,
-};
+use crate::forms::{local_address, local_register, local_target, number_source};
 use crate::operations::plain_instruction;
 use crate::waiting::{
     emit_all, emit_below, emit_cleared, emit_spared, emit_top_to_five, emit_top_to_four,
@@ -21,31 +16,32 @@ use crate::waiting::{
 };
 use array_versions::PlainOperation;
 use std::alloc::AllocError;
-use word_code::forms::{Condition, Dst, IndexRegister, Instr, Konst, Operand, Reg, Src, TwoOp};
 use word_code::{Bound, Waiting};
+use word_code::forms::Form::{Branch, Calculate, Move, Push, Sense, Update};
+use word_code::forms::Source::{Constant, Fram, Indexed, Number, Ram, Register};
+use word_code::forms::Target::{ToFram, ToIndexed, ToRam, ToRegister};
+use word_code::forms::WorkRegister::{R4, R5, R6};
+use word_code::forms::{Form, Konst, Source, TwoOp};
 
 // The element at the index in R4, which is below the length.
-fn emit_fetch(base: u16, code: &mut Vec<Instr>) -> Result<(), AllocError>
-    ensures { OnOk result (code.new.items ≡ code.old.items ++ instructions (fetch_code base)) }
+fn emit_fetch(base: u16, code: &mut Vec<Form>) -> Result<(), AllocError>
+    ensures { OnOk result (code.new.items ≡ code.old.items ++ fetch_code base) }
 {
     code.extend_from_slice(&[
-        two(TwoOp::Add, R4, TO_R4),
-        two(
-            TwoOp::Mov,
-            Src::Operand(Operand::Indexed(IndexRegister::R4, base)),
-            TO_R4,
-        ),
+        Calculate(TwoOp::Add, Register(R4), R4),
+        Move(Indexed(R4, base), ToRegister(R4)),
     ])
 }
 
 // An element, by whether the index in R4 is surely below the length.
+#[tactic(auto, using(std::proofs::Common::append_assoc))]
 fn emit_indexed(
     inside: bool,
     base: u16,
     length: u16,
-    code: &mut Vec<Instr>,
+    code: &mut Vec<Form>,
 ) -> Result<(), AllocError>
-    ensures { OnOk result (code.new.items ≡ code.old.items ++ instructions (element_code inside base length)) }
+    ensures { OnOk result (code.new.items ≡ code.old.items ++ element_code inside base length) }
 {
     if inside {
         return emit_fetch(base, code);
@@ -72,10 +68,9 @@ pub fn emit_element(
     base: u16,
     length: u16,
     waiting: &mut Vec<Waiting>,
-    code: &mut Vec<Instr>,
+    code: &mut Vec<Form>,
 ) -> Result<(), AllocError>
-    ensures code { OnOk result (code.new.items
-        ≡ code.old.items ++ instructions (step_code bounds.now waiting.old.items (value.element base length))) }
+    ensures code { OnOk result (code.new.items ≡ code.old.items ++ step_code bounds.now waiting.old.items (value.element base length)) }
     ensures waiting { OnOk result (waiting.new.items ≡ waiting_behind waiting.old.items (value.element base length)) }
 {
     let inside = is_inside(bounds, top(waiting), length);
@@ -93,28 +88,28 @@ pub fn emit_element(
 }
 
 // The word in R5 behind those that are counted, then the count.
-fn emit_counted(count: u16, buffer: u16, code: &mut Vec<Instr>) -> Result<(), AllocError>
-    ensures { OnOk result (code.new.items ≡ code.old.items ++ instructions (emit_code count buffer)) }
+fn emit_counted(count: u16, buffer: u16, code: &mut Vec<Form>) -> Result<(), AllocError>
+    ensures { OnOk result (code.new.items ≡ code.old.items ++ emit_code count buffer) }
 {
     code.extend_from_slice(&[
-        two(TwoOp::Mov, absolute(count), TO_R6),
-        two(TwoOp::Mov, R6, TO_R4),
-        two(TwoOp::Add, R6, TO_R4),
-        two(TwoOp::Mov, R5, Dst::Indexed(IndexRegister::R4, buffer)),
-        two(TwoOp::Add, constant(Konst::One), TO_R6),
-        two(TwoOp::Mov, R6, Dst::Absolute(count)),
+        Move(Fram(count), ToRegister(R6)),
+        Move(Register(R6), ToRegister(R4)),
+        Calculate(TwoOp::Add, Register(R6), R4),
+        Move(Register(R5), ToIndexed(R4, buffer)),
+        Calculate(TwoOp::Add, Constant(Konst::One), R6),
+        Move(Register(R6), ToFram(count)),
     ])
 }
 
 /// Appends the code of a word that is emitted.
+#[tactic(auto, using(std::proofs::Common::append_assoc))]
 pub fn emit_emit(
     count: u16,
     buffer: u16,
     waiting: &mut Vec<Waiting>,
-    code: &mut Vec<Instr>,
+    code: &mut Vec<Form>,
 ) -> Result<(), AllocError>
-    ensures code { OnOk result (code.new.items
-        ≡ code.old.items ++ instructions (step_code [] waiting.old.items (value.emit_word count buffer))) }
+    ensures code { OnOk result (code.new.items ≡ code.old.items ++ step_code [] waiting.old.items (value.emit_word count buffer)) }
     ensures waiting { OnOk result (waiting.new.items ≡ []) }
 {
     emit_top_to_five(waiting, code)?;
@@ -123,12 +118,12 @@ pub fn emit_emit(
 }
 
 // How many words a run has, as a source: 1 takes no word of its own.
-fn words_source(words: u16) -> Src
-    ensures { result ≡ form.source_operand (words_source words) }
+fn words_source(words: u16) -> Source
+    ensures { result ≡ words_source words }
 {
     match words {
-        1 => constant(Konst::One),
-        words => Src::Immediate(words),
+        1 => Constant(Konst::One),
+        words => Number(words),
     }
 }
 
@@ -139,38 +134,27 @@ fn emit_listed(
     home: u16,
     copy: u16,
     words: u16,
-    code: &mut Vec<Instr>,
+    code: &mut Vec<Form>,
 ) -> Result<(), AllocError>
-    ensures { OnOk result (code.new.items ≡ code.old.items ++ instructions (entry_code count list home copy words)) }
+    ensures { OnOk result (code.new.items ≡ code.old.items ++ entry_code count list home copy words) }
 {
     let second = list.wrapping_add(2);
     let third = list.wrapping_add(4);
     code.extend_from_slice(&[
-        two(TwoOp::Mov, absolute(count), TO_R6),
-        two(TwoOp::Mov, R6, TO_R4),
-        two(TwoOp::Add, R4, TO_R4),
-        two(TwoOp::Add, R6, TO_R4),
-        two(TwoOp::Add, R4, TO_R4),
-        two(
-            TwoOp::Mov,
-            Src::Immediate(home),
-            Dst::Indexed(IndexRegister::R4, list),
-        ),
-        two(
-            TwoOp::Mov,
-            Src::Immediate(copy),
-            Dst::Indexed(IndexRegister::R4, second),
-        ),
-        two(
-            TwoOp::Mov,
-            words_source(words),
-            Dst::Indexed(IndexRegister::R4, third),
-        ),
-        two(TwoOp::Add, constant(Konst::One), Dst::Absolute(count)),
+        Move(Fram(count), ToRegister(R6)),
+        Move(Register(R6), ToRegister(R4)),
+        Calculate(TwoOp::Add, Register(R4), R4),
+        Calculate(TwoOp::Add, Register(R6), R4),
+        Calculate(TwoOp::Add, Register(R4), R4),
+        Move(Number(home), ToIndexed(R4, list)),
+        Move(Number(copy), ToIndexed(R4, second)),
+        Move(words_source(words), ToIndexed(R4, third)),
+        Update(TwoOp::Add, Constant(Konst::One), count),
     ])
 }
 
 /// Appends the code of an entry of the commit list.
+#[tactic(auto, using(std::proofs::Common::append_assoc))]
 pub fn emit_entry(
     count: u16,
     list: u16,
@@ -178,10 +162,9 @@ pub fn emit_entry(
     copy: u16,
     words: u16,
     waiting: &mut Vec<Waiting>,
-    code: &mut Vec<Instr>,
+    code: &mut Vec<Form>,
 ) -> Result<(), AllocError>
-    ensures code { OnOk result (code.new.items
-        ≡ code.old.items ++ instructions (step_code [] waiting.old.items (value.list_entry count list home copy words))) }
+    ensures code { OnOk result (code.new.items ≡ code.old.items ++ step_code [] waiting.old.items (value.list_entry count list home copy words)) }
     ensures waiting { OnOk result (waiting.new.items ≡ []) }
 {
     emit_all(waiting, code)?;
@@ -189,203 +172,211 @@ pub fn emit_entry(
 }
 
 /// Appends the code that makes a local a number.
-pub fn emit_number(n: u16, number: u16, code: &mut Vec<Instr>) -> Result<(), AllocError>
-    requires { n < 1008 }
-    ensures { OnOk result (code.new.items ≡ code.old.items ++ instructions (number_code n number)) }
+pub fn emit_number(n: u16, number: u16, code: &mut Vec<Form>) -> Result<(), AllocError>
+    requires { n < 1016 }
+    ensures { OnOk result (code.new.items ≡ code.old.items ++ number_code n number) }
 {
-    code.extend_from_slice(&[two(TwoOp::Mov, number_source(number), local_target(n))])
+    code.extend_from_slice(&[Move(number_source(number), local_target(n))])
 }
 
 /// Appends the end of a turn: the local goes up by one, and is compared with the number.
-pub fn emit_turn_end(bound: Bound, code: &mut Vec<Instr>) -> Result<(), AllocError>
-    requires { bound.local < 1008 }
-    ensures { OnOk result (code.new.items ≡ code.old.items ++ instructions (turn_end bound.local bound.below)) }
+pub fn emit_turn_end(bound: Bound, code: &mut Vec<Form>) -> Result<(), AllocError>
+    requires { bound.local < 1016 }
+    ensures { OnOk result (code.new.items ≡ code.old.items ++ turn_end bound.local bound.below) }
 {
     let end = number_source(bound.below);
     if bound.local < 8 {
-        let local = Dst::Reg(Reg::Index(local_register(bound.local)));
+        let local = local_register(bound.local);
         code.extend_from_slice(&[
-            two(TwoOp::Add, constant(Konst::One), local),
-            two(TwoOp::Cmp, end, local),
+            Calculate(TwoOp::Add, Constant(Konst::One), local),
+            Calculate(TwoOp::Cmp, end, local),
         ])
     } else {
         let place = local_address(bound.local);
         code.extend_from_slice(&[
-            two(TwoOp::Mov, absolute(place), TO_R4),
-            two(TwoOp::Add, constant(Konst::One), TO_R4),
-            two(TwoOp::Mov, R4, Dst::Absolute(place)),
-            two(TwoOp::Cmp, end, TO_R4),
+            Move(Ram(place), ToRegister(R4)),
+            Calculate(TwoOp::Add, Constant(Konst::One), R4),
+            Move(Register(R4), ToRam(place)),
+            Calculate(TwoOp::Cmp, end, R4),
         ])
     }
 }
 
-// One instruction.
-fn emit_one(instruction: Instr, code: &mut Vec<Instr>) -> Result<(), AllocError>
-    ensures { OnOk result (code.new.items ≡ code.old.items ++ instruction ∷ []) }
+// One form.
+fn emit_one(form: Form, code: &mut Vec<Form>) -> Result<(), AllocError>
+    ensures { OnOk result (code.new.items ≡ code.old.items ++ form ∷ []) }
 {
-    code.extend_from_slice(&[instruction])
-}
-
-// A word from one place to another.
-fn emit_move(source: Src, to: Dst, code: &mut Vec<Instr>) -> Result<(), AllocError>
-    ensures { OnOk result (code.new.items ≡ code.old.items ++ Instr.Two two_op.Mov Word source to ∷ []) }
-{
-    emit_one(two(TwoOp::Mov, source, to), code)
+    code.extend_from_slice(&[form])
 }
 
 /// Appends the code of a local that is pushed: it waits where it stands in a register.
+#[tactic(auto, using(std::proofs::Common::append_assoc))]
 pub fn emit_local(
     n: u16,
     waiting: &mut Vec<Waiting>,
-    code: &mut Vec<Instr>,
+    code: &mut Vec<Form>,
 ) -> Result<(), AllocError>
-    requires { n < 1008 }
-    ensures code { OnOk result (code.new.items
-        ≡ code.old.items ++ instructions (step_code [] waiting.old.items (value.local n))) }
+    requires { n < 1016 }
+    ensures code { OnOk result (code.new.items ≡ code.old.items ++ step_code [] waiting.old.items (value.local n)) }
     ensures waiting { OnOk result (waiting.new.items ≡ waiting_behind waiting.old.items (value.local n)) }
 {
     if n < 8 {
         return wait(Waiting::Local(n), waiting);
     }
     emit_all(waiting, code)?;
-    emit_one(push(absolute(local_address(n))), code)
+    emit_one(Push(Ram(local_address(n))), code)
 }
 
 /// Appends the code of a word that is kept.
+#[tactic(auto, using(std::proofs::Common::append_assoc))]
 pub fn emit_keep(
     address: u16,
     waiting: &mut Vec<Waiting>,
-    code: &mut Vec<Instr>,
+    code: &mut Vec<Form>,
 ) -> Result<(), AllocError>
-    ensures code { OnOk result (code.new.items
-        ≡ code.old.items ++ instructions (step_code [] waiting.old.items (value.keep address))) }
+    ensures code { OnOk result (code.new.items ≡ code.old.items ++ step_code [] waiting.old.items (value.keep address)) }
     ensures waiting { OnOk result (waiting.new.items ≡ waiting_behind waiting.old.items (value.keep address)) }
 {
     let top = take(waiting);
     emit_spared(address, waiting, code)?;
-    emit_move(source_from(top), Dst::Absolute(address), code)
+    emit_one(Move(source_from(top), ToFram(address)), code)
 }
 
 /// Appends the code of an operation on a word of FRAM.
+#[tactic(auto, using(std::proofs::Common::append_assoc))]
 pub fn emit_update(
     operation: PlainOperation,
     address: u16,
     waiting: &mut Vec<Waiting>,
-    code: &mut Vec<Instr>,
+    code: &mut Vec<Form>,
 ) -> Result<(), AllocError>
-    ensures code { OnOk result (code.new.items
-        ≡ code.old.items ++ instructions (step_code [] waiting.old.items (value.update operation address))) }
+    ensures code { OnOk result (code.new.items ≡ code.old.items ++ step_code [] waiting.old.items (value.update operation address)) }
     ensures waiting { OnOk result (waiting.new.items ≡ []) }
 {
     let source = emit_below(waiting, code)?;
     let op = plain_instruction(operation);
-    emit_one(two(op, source, Dst::Absolute(address)), code)
+    emit_one(Update(op, source, address), code)
 }
 
 /// Appends the code of a local that is assigned.
+#[tactic(auto, using(std::proofs::Common::append_assoc))]
 pub fn emit_set_local(
     n: u16,
     waiting: &mut Vec<Waiting>,
-    code: &mut Vec<Instr>,
+    code: &mut Vec<Form>,
 ) -> Result<(), AllocError>
-    requires { n < 1008 }
-    ensures code { OnOk result (code.new.items
-        ≡ code.old.items ++ instructions (step_code [] waiting.old.items (value.set_local n))) }
+    requires { n < 1016 }
+    ensures code { OnOk result (code.new.items ≡ code.old.items ++ step_code [] waiting.old.items (value.set_local n)) }
     ensures waiting { OnOk result (waiting.new.items ≡ []) }
 {
     let source = emit_below(waiting, code)?;
-    emit_move(source, local_target(n), code)
+    emit_one(Move(source, local_target(n)), code)
 }
 
 // A local in RAM becomes what an operation gives of it and of a word.
-fn emit_ram_update(op: TwoOp, n: u16, source: Src, code: &mut Vec<Instr>) -> Result<(), AllocError>
-    requires { n < 1008 }
-    ensures { (operation : PlainOperation) (x : form.Source) → op ≡ plain_instruction operation → source ≡ form.source_operand x
-        → OnOk result (code.new.items ≡ code.old.items ++ instructions (ram_update operation n x)) }
+fn emit_ram_update(
+    operation: PlainOperation,
+    n: u16,
+    source: Source,
+    code: &mut Vec<Form>,
+) -> Result<(), AllocError>
+    requires { n < 1016 }
+    ensures { OnOk result (code.new.items ≡ code.old.items ++ ram_update operation n source) }
 {
     let place = local_address(n);
     code.extend_from_slice(&[
-        two(TwoOp::Mov, source, TO_R5),
-        two(TwoOp::Mov, absolute(place), TO_R4),
-        two(op, R5, TO_R4),
-        two(TwoOp::Mov, R4, Dst::Absolute(place)),
+        Move(source, ToRegister(R5)),
+        Move(Ram(place), ToRegister(R4)),
+        Calculate(plain_instruction(operation), Register(R5), R4),
+        Move(Register(R4), ToRam(place)),
     ])
 }
 
+// Any local becomes that.
+fn emit_updated(
+    operation: PlainOperation,
+    n: u16,
+    source: Source,
+    code: &mut Vec<Form>,
+) -> Result<(), AllocError>
+    requires { n < 1016 }
+    ensures { OnOk result (code.new.items ≡ code.old.items ++ update_code operation n source) }
+{
+    if n < 8 {
+        let operation = plain_instruction(operation);
+        code.extend_from_slice(&[Calculate(operation, source, local_register(n))])
+    } else {
+        emit_ram_update(operation, n, source, code)
+    }
+}
+
 /// Appends the code of an operation on a local.
+#[tactic(auto, using(std::proofs::Common::append_assoc))]
 pub fn emit_update_local(
     operation: PlainOperation,
     n: u16,
     waiting: &mut Vec<Waiting>,
-    code: &mut Vec<Instr>,
+    code: &mut Vec<Form>,
 ) -> Result<(), AllocError>
-    requires { n < 1008 }
-    ensures code { OnOk result (code.new.items
-        ≡ code.old.items ++ instructions (step_code [] waiting.old.items (value.update_local operation n))) }
+    requires { n < 1016 }
+    ensures code { OnOk result (code.new.items ≡ code.old.items ++ step_code [] waiting.old.items (value.update_local operation n)) }
     ensures waiting { OnOk result (waiting.new.items ≡ []) }
 {
     let source = emit_below(waiting, code)?;
-    let op = plain_instruction(operation);
-    if n < 8 {
-        emit_one(
-            two(op, source, Dst::Reg(Reg::Index(local_register(n)))),
-            code,
-        )
-    } else {
-        emit_ram_update(op, n, source, code)
-    }
+    emit_updated(operation, n, source, code)
 }
 
 /// Appends the code that takes the next reading.
-pub fn emit_sense(waiting: &mut Vec<Waiting>, code: &mut Vec<Instr>) -> Result<(), AllocError>
-    ensures code { OnOk result (code.new.items ≡ code.old.items ++ instructions (step_code [] waiting.old.items value.sense)) }
+#[tactic(auto, using(std::proofs::Common::append_assoc))]
+pub fn emit_sense(waiting: &mut Vec<Waiting>, code: &mut Vec<Form>) -> Result<(), AllocError>
+    ensures code { OnOk result (code.new.items ≡ code.old.items ++ step_code [] waiting.old.items value.sense) }
     ensures waiting { OnOk result (waiting.new.items ≡ waiting_behind waiting.old.items value.sense) }
 {
     emit_cleared(waiting, code)?;
-    emit_move(absolute(0x200), TO_R4, code)?;
+    emit_one(Sense(R4), code)?;
     wait(Waiting::R4, waiting)
 }
 
 /// Appends the code that stores a number.
+#[tactic(auto, using(std::proofs::Common::append_assoc))]
 pub fn emit_store(
     address: u16,
     word: u16,
     waiting: &mut Vec<Waiting>,
-    code: &mut Vec<Instr>,
+    code: &mut Vec<Form>,
 ) -> Result<(), AllocError>
-    ensures code { OnOk result (code.new.items
-        ≡ code.old.items ++ instructions (step_code [] waiting.old.items (value.store_number address word))) }
+    ensures code { OnOk result (code.new.items ≡ code.old.items ++ step_code [] waiting.old.items (value.store_number address word)) }
     ensures waiting { OnOk result (waiting.new.items ≡ []) }
 {
     emit_all(waiting, code)?;
-    emit_move(number_source(word), Dst::Absolute(address), code)
+    emit_one(Move(number_source(word), ToFram(address)), code)
 }
 
 /// Appends the code that copies a word of FRAM.
+#[tactic(auto, using(std::proofs::Common::append_assoc))]
 pub fn emit_move_word(
     from: u16,
     to: u16,
     waiting: &mut Vec<Waiting>,
-    code: &mut Vec<Instr>,
+    code: &mut Vec<Form>,
 ) -> Result<(), AllocError>
-    ensures code { OnOk result (code.new.items
-        ≡ code.old.items ++ instructions (step_code [] waiting.old.items (value.move_word from to))) }
+    ensures code { OnOk result (code.new.items ≡ code.old.items ++ step_code [] waiting.old.items (value.move_word from to)) }
     ensures waiting { OnOk result (waiting.new.items ≡ []) }
 {
     emit_all(waiting, code)?;
-    emit_move(absolute(from), Dst::Absolute(to), code)
+    emit_one(Move(Fram(from), ToFram(to)), code)
 }
 
 /// Appends the code of a jump.
+#[tactic(auto, using(std::proofs::Common::append_assoc))]
 pub fn emit_jump(
     to: u16,
     waiting: &mut Vec<Waiting>,
-    code: &mut Vec<Instr>,
+    code: &mut Vec<Form>,
 ) -> Result<(), AllocError>
-    ensures code { OnOk result (code.new.items
-        ≡ code.old.items ++ instructions (step_code [] waiting.old.items (value.jump to))) }
+    ensures code { OnOk result (code.new.items ≡ code.old.items ++ step_code [] waiting.old.items (value.jump to)) }
     ensures waiting { OnOk result (waiting.new.items ≡ []) }
 {
     emit_all(waiting, code)?;
-    emit_one(branch(to), code)
+    emit_one(Branch(to), code)
 }

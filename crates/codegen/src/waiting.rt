@@ -2,39 +2,39 @@
 
 ghost use Rattle.std.specs.Prelude.{◌≡◌, [], ◌∷◌, ◌++◌, if◌then◌else◌, OnOk, IfOk};
 ghost use Rattle.word_code.specs.declared.waiting.Waiting.TheVariants as words;
-ghost use Rattle.word_code.specs.code_forms.Forms.{source_operand};
-ghost use Rattle.word_code.specs.code_forms.Placed.{instructions};
 ghost use Rattle.word_code.specs.Code as made;
 ghost use Rattle.word_code.specs.Code.{flushed, top_of, below_top, is_held, any_held, cleared, kept, is_at, any_at, spared, sparing, four_from, five_from};
 ghost use Rattle.word_code.specs.Code.{top_to_four, top_to_five};
 ghost use Rattle.word_code.specs.Code.{two_to_registers, stays, right_source, sides, power, top_number, top_power, top_mask, rests, rest_source, to_rest};
 
-use crate::forms::{
-    POPPED, R4, R5, R6, TO_R4, TO_R5, absolute, local_register, number_source, push, two,
-};
+use crate::forms::{local_register, number_source};
 use std::alloc::AllocError;
 use word_code::Waiting;
-use word_code::forms::{Instr, Operand, SourceRegister, Src, TwoOp};
+use word_code::forms::Form::{Move, Push};
+use word_code::forms::Source::{Fram, Popped, Register};
+use word_code::forms::Target::ToRegister;
+use word_code::forms::WorkRegister::{R4, R5, R6};
+use word_code::forms::{Form, Source};
 
 /// A word that waits, as a source.
-pub fn waiting_source(word: Waiting) -> Src
-    ensures { result ≡ source_operand (made.waiting_source word) }
+pub fn waiting_source(word: Waiting) -> Source
+    ensures { result ≡ made.waiting_source word }
 {
     match word {
         Waiting::Number(number) => number_source(number),
-        Waiting::Fram(address) => absolute(address),
-        Waiting::Local(n) => Src::Operand(Operand::Reg(SourceRegister::Index(local_register(n)))),
-        Waiting::R4 => R4,
-        Waiting::R6 => R6,
+        Waiting::Fram(address) => Fram(address),
+        Waiting::Local(n) => Register(local_register(n)),
+        Waiting::R4 => Register(R4),
+        Waiting::R6 => Register(R6),
     }
 }
 
 /// The top as a source: where it doesn't wait it is popped.
-pub fn source_from(top: Option<Waiting>) -> Src
-    ensures { result ≡ source_operand (made.source_from top) }
+pub fn source_from(top: Option<Waiting>) -> Source
+    ensures { result ≡ made.source_from top }
 {
     match top {
-        None => POPPED,
+        None => Popped,
         Some(word) => waiting_source(word),
     }
 }
@@ -77,19 +77,19 @@ fn any_held(waiting: &[Waiting]) -> bool
 }
 
 /// Appends the code that pushes all words that wait, the lowest first.
-pub fn emit_flushed(waiting: &[Waiting], code: &mut Vec<Instr>) -> Result<(), AllocError>
-    ensures { OnOk result (code.new.items ≡ code.old.items ++ instructions (flushed waiting.now)) }
+pub fn emit_flushed(waiting: &[Waiting], code: &mut Vec<Form>) -> Result<(), AllocError>
+    ensures { OnOk result (code.new.items ≡ code.old.items ++ flushed waiting.now) }
 {
     for i in 0..waiting.len() {
         let word = waiting[waiting.len() - 1 - i];
-        code.extend_from_slice(&[push(waiting_source(word))])?;
+        code.extend_from_slice(&[Push(waiting_source(word))])?;
     }
     Ok(())
 }
 
 /// Appends that code, and behind it no word waits.
-pub fn emit_all(waiting: &mut Vec<Waiting>, code: &mut Vec<Instr>) -> Result<(), AllocError>
-    ensures code { OnOk result (code.new.items ≡ code.old.items ++ instructions (flushed waiting.old.items)) }
+pub fn emit_all(waiting: &mut Vec<Waiting>, code: &mut Vec<Form>) -> Result<(), AllocError>
+    ensures code { OnOk result (code.new.items ≡ code.old.items ++ flushed waiting.old.items) }
     ensures waiting { OnOk result (waiting.new.items ≡ []) }
 {
     emit_flushed(waiting, code)?;
@@ -98,8 +98,8 @@ pub fn emit_all(waiting: &mut Vec<Waiting>, code: &mut Vec<Instr>) -> Result<(),
 }
 
 /// The same where one of them waits in a register for work.
-pub fn emit_cleared(waiting: &mut Vec<Waiting>, code: &mut Vec<Instr>) -> Result<(), AllocError>
-    ensures code { OnOk result (code.new.items ≡ code.old.items ++ instructions (cleared waiting.old.items)) }
+pub fn emit_cleared(waiting: &mut Vec<Waiting>, code: &mut Vec<Form>) -> Result<(), AllocError>
+    ensures code { OnOk result (code.new.items ≡ code.old.items ++ cleared waiting.old.items) }
     ensures waiting { OnOk result (waiting.new.items ≡ kept waiting.old.items) }
 {
     if any_held(waiting) {
@@ -130,9 +130,9 @@ fn any_at(address: u16, waiting: &[Waiting]) -> bool
 pub fn emit_spared(
     address: u16,
     waiting: &mut Vec<Waiting>,
-    code: &mut Vec<Instr>,
+    code: &mut Vec<Form>,
 ) -> Result<(), AllocError>
-    ensures code { OnOk result (code.new.items ≡ code.old.items ++ instructions (spared address waiting.old.items)) }
+    ensures code { OnOk result (code.new.items ≡ code.old.items ++ spared address waiting.old.items) }
     ensures waiting { OnOk result (waiting.new.items ≡ sparing address waiting.old.items) }
 {
     if any_at(address, waiting) {
@@ -143,21 +143,21 @@ pub fn emit_spared(
 }
 
 /// Appends what brings the top, which is taken, to R4.
-pub fn emit_to_four(top: Option<Waiting>, code: &mut Vec<Instr>) -> Result<(), AllocError>
-    ensures { OnOk result (code.new.items ≡ code.old.items ++ instructions (four_from top)) }
+pub fn emit_to_four(top: Option<Waiting>, code: &mut Vec<Form>) -> Result<(), AllocError>
+    ensures { OnOk result (code.new.items ≡ code.old.items ++ four_from top) }
 {
     match top {
-        None => code.extend_from_slice(&[two(TwoOp::Mov, POPPED, TO_R4)]),
+        None => code.extend_from_slice(&[Move(Popped, ToRegister(R4))]),
         Some(Waiting::R4) => Ok(()),
-        Some(word) => code.extend_from_slice(&[two(TwoOp::Mov, waiting_source(word), TO_R4)]),
+        Some(word) => code.extend_from_slice(&[Move(waiting_source(word), ToRegister(R4))]),
     }
 }
 
 // The top, which is taken, to R5.
-fn emit_to_five(top: Option<Waiting>, code: &mut Vec<Instr>) -> Result<(), AllocError>
-    ensures { OnOk result (code.new.items ≡ code.old.items ++ instructions (five_from top)) }
+fn emit_to_five(top: Option<Waiting>, code: &mut Vec<Form>) -> Result<(), AllocError>
+    ensures { OnOk result (code.new.items ≡ code.old.items ++ five_from top) }
 {
-    code.extend_from_slice(&[two(TwoOp::Mov, source_from(top), TO_R5)])
+    code.extend_from_slice(&[Move(source_from(top), ToRegister(R5))])
 }
 
 // The right side of an operation stays where it waits, but for R4.
@@ -171,21 +171,22 @@ fn stays(right: Option<Waiting>) -> bool
 }
 
 // The right side of an operation, which is taken, to where an instruction reads it.
-fn emit_right(right: Option<Waiting>, code: &mut Vec<Instr>) -> Result<Src, AllocError>
-    ensures source { IfOk result (λ source. source ≡ source_operand (right_source right)) }
-    ensures code { OnOk result (code.new.items ≡ code.old.items ++ instructions (if stays right then [] else (five_from right))) }
+fn emit_right(right: Option<Waiting>, code: &mut Vec<Form>) -> Result<Source, AllocError>
+    ensures source { IfOk result (λ source. source ≡ right_source right) }
+    ensures code { OnOk result (code.new.items ≡ code.old.items ++ (if stays right then [] else (five_from right))) }
 {
     if stays(right) {
         return Ok(source_from(right));
     }
     emit_to_five(right, code)?;
-    Ok(R5)
+    Ok(Register(R5))
 }
 
 /// Takes the right side of an operation, which is the top, as a source, and the left one to R4.
-pub fn emit_sides(waiting: &mut Vec<Waiting>, code: &mut Vec<Instr>) -> Result<Src, AllocError>
-    ensures source { IfOk result (λ source. source ≡ source_operand (right_source (top_of waiting.old.items))) }
-    ensures code { OnOk result (code.new.items ≡ code.old.items ++ instructions (sides waiting.old.items)) }
+#[tactic(auto, using(std::proofs::Common::append_assoc))]
+pub fn emit_sides(waiting: &mut Vec<Waiting>, code: &mut Vec<Form>) -> Result<Source, AllocError>
+    ensures source { IfOk result (λ source. source ≡ right_source (top_of waiting.old.items)) }
+    ensures code { OnOk result (code.new.items ≡ code.old.items ++ sides waiting.old.items) }
     ensures waiting { OnOk result (waiting.new.items ≡ kept (below_top (below_top waiting.old.items))) }
 {
     let right = take(waiting);
@@ -207,15 +208,15 @@ pub fn rests(right: Option<Waiting>) -> bool
 }
 
 /// The right side of an update as a source.
-pub fn rest_source(right: Option<Waiting>) -> Src
-    ensures { result ≡ source_operand (rest_source right) }
+pub fn rest_source(right: Option<Waiting>) -> Source
+    ensures { result ≡ rest_source right }
 {
-    if rests(right) { source_from(right) } else { R5 }
+    if rests(right) { source_from(right) } else { Register(R5) }
 }
 
 /// Appends what brings it there.
-pub fn emit_to_rest(right: Option<Waiting>, code: &mut Vec<Instr>) -> Result<(), AllocError>
-    ensures { OnOk result (code.new.items ≡ code.old.items ++ instructions (to_rest right)) }
+pub fn emit_to_rest(right: Option<Waiting>, code: &mut Vec<Form>) -> Result<(), AllocError>
+    ensures { OnOk result (code.new.items ≡ code.old.items ++ to_rest right) }
 {
     if rests(right) {
         Ok(())
@@ -289,9 +290,9 @@ pub fn mask_top(waiting: &mut Vec<Waiting>) -> Result<(), AllocError>
 }
 
 /// Takes the top, as a source; the others that wait are pushed.
-pub fn emit_below(waiting: &mut Vec<Waiting>, code: &mut Vec<Instr>) -> Result<Src, AllocError>
-    ensures source { IfOk result (λ source. source ≡ source_operand (made.source_from (top_of waiting.old.items))) }
-    ensures code { OnOk result (code.new.items ≡ code.old.items ++ instructions (flushed (below_top waiting.old.items))) }
+pub fn emit_below(waiting: &mut Vec<Waiting>, code: &mut Vec<Form>) -> Result<Source, AllocError>
+    ensures source { IfOk result (λ source. source ≡ made.source_from (top_of waiting.old.items)) }
+    ensures code { OnOk result (code.new.items ≡ code.old.items ++ flushed (below_top waiting.old.items)) }
     ensures waiting { OnOk result (waiting.new.items ≡ []) }
 {
     let top = take(waiting);
@@ -300,8 +301,9 @@ pub fn emit_below(waiting: &mut Vec<Waiting>, code: &mut Vec<Instr>) -> Result<S
 }
 
 /// Takes the top to R4.
-pub fn emit_top_to_four(waiting: &mut Vec<Waiting>, code: &mut Vec<Instr>) -> Result<(), AllocError>
-    ensures code { OnOk result (code.new.items ≡ code.old.items ++ instructions (top_to_four waiting.old.items)) }
+#[tactic(auto, using(std::proofs::Common::append_assoc))]
+pub fn emit_top_to_four(waiting: &mut Vec<Waiting>, code: &mut Vec<Form>) -> Result<(), AllocError>
+    ensures code { OnOk result (code.new.items ≡ code.old.items ++ top_to_four waiting.old.items) }
     ensures waiting { OnOk result (waiting.new.items ≡ kept (below_top waiting.old.items)) }
 {
     let top = take(waiting);
@@ -310,8 +312,9 @@ pub fn emit_top_to_four(waiting: &mut Vec<Waiting>, code: &mut Vec<Instr>) -> Re
 }
 
 /// Takes the top to R5.
-pub fn emit_top_to_five(waiting: &mut Vec<Waiting>, code: &mut Vec<Instr>) -> Result<(), AllocError>
-    ensures code { OnOk result (code.new.items ≡ code.old.items ++ instructions (top_to_five waiting.old.items)) }
+#[tactic(auto, using(std::proofs::Common::append_assoc))]
+pub fn emit_top_to_five(waiting: &mut Vec<Waiting>, code: &mut Vec<Form>) -> Result<(), AllocError>
+    ensures code { OnOk result (code.new.items ≡ code.old.items ++ top_to_five waiting.old.items) }
     ensures waiting { OnOk result (waiting.new.items ≡ kept (below_top waiting.old.items)) }
 {
     let top = take(waiting);
@@ -320,11 +323,12 @@ pub fn emit_top_to_five(waiting: &mut Vec<Waiting>, code: &mut Vec<Instr>) -> Re
 }
 
 /// Takes the right side, which is the top, to R5 and the left one to R4.
+#[tactic(auto, using(std::proofs::Common::append_assoc))]
 pub fn emit_two_to_registers(
     waiting: &mut Vec<Waiting>,
-    code: &mut Vec<Instr>,
+    code: &mut Vec<Form>,
 ) -> Result<(), AllocError>
-    ensures code { OnOk result (code.new.items ≡ code.old.items ++ instructions (two_to_registers waiting.old.items)) }
+    ensures code { OnOk result (code.new.items ≡ code.old.items ++ two_to_registers waiting.old.items) }
     ensures waiting { OnOk result (waiting.new.items ≡ kept (below_top (below_top waiting.old.items))) }
 {
     let right = take(waiting);

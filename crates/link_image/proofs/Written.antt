@@ -1,27 +1,17 @@
 -- The words of the code, written part by part.
-use Rattle.std.proofs.Common.{◌≡◌, ◌∙◌, ℕ, zero, suc, ◌+◌, ◌-◌, ◌*◌, ◌/◌, ◌%◌, ◌<◌, ◌≤◌, List, [], ◌∷◌, ◌++◌, map, length, drop, refl, sym, ap, ap₂, subst}
-use Rattle.std.proofs.Common.{arith, append_assoc, length-append, get_or}
-use Rattle.std.specs.Prelude.{All}
-use Rattle.std.proofs.lemmas.List.{at_drop_more}
-use Rattle.codegen.specs.msp_isa.declared.instructions.Instr.{Instr}
-use Rattle.codegen.specs.msp_isa.Encoding.{encoding}
-use Rattle.linked_code.specs.code_forms.Forms.{Form}
-use Rattle.linked_code.specs.code_forms.Placed.{instructions, words_of}
-use Rattle.linked_code.proofs.code_forms.Interface.{instructions-append}
-use Rattle.linked_code.proofs.runtime_code.Interface.{code_bytes}
-use Rattle.codegen.specs.array_versions.Program.{Program}
-use Rattle.codegen.specs.array_versions.View.{program_of}
-use Rattle.std.proofs.lemmas.List.Elements.{All-nil, All-cons, All-head, All-tail}
-use Rattle.memory_map.specs.address_space.Limits.{reset_vector}
-use Rattle.codegen.specs.array_versions.declared.program.WordProgram.{WordProgram}
-use Rattle.codegen.specs.word_code.Code.{repeated}
-use Rattle.memory_map.specs.MemoryMap.{MemoryMap, TaskPlace}
-use Rattle.memory_map.specs.Places.{end_of, AreInOrder}
-use Rattle.memory_map.proofs.Interface.{apart_of, even_of, in_order_end}
-use Rattle.linked_code.specs.Parts.{filler, CodePart, part_end, chained, PartsInOrder}
-use Rattle.linked_code.specs.Linked.{boot_part, commit_part, task_part, task_parts, linked, ProgramsFit, CodeFits}
+use Rattle.link_image.proofs.Names.{◌≡◌, ◌∙◌, ℕ, zero, suc, ◌+◌, ◌-◌, ◌*◌, ◌/◌, ◌%◌, ◌<◌, ◌≤◌, List, [], ◌∷◌, ◌++◌, map, length, drop, refl, sym, ap, ap₂}
+use Rattle.link_image.proofs.Names.{subst, arith, append_assoc, length-append, get_or, All, at_drop_more, instructions, words_of, program_of, All-nil, All-cons}
+use Rattle.link_image.proofs.Names.{All-head, All-tail, reset_vector, repeated, MemoryMap, TaskPlace, end_of, AreInOrder, apart_of, even_of, in_order_end}
+use Rattle.link_image.proofs.Names.{filler, CodePart, part_end, chained, PartsInOrder, boot_part, commit_part, task_part, task_parts, linked, ProgramsFit}
+use Rattle.link_image.proofs.Names.{CodeFits, IsShort}
+use Rattle.msp_isa.specs.declared.instructions.Instr.{Instr}
+use Rattle.msp_isa.specs.Encoding.{encoding}
+use Rattle.code_forms.specs.Forms.{Form}
+use Rattle.code_forms.proofs.Interface.{instructions-append}
+use Rattle.runtime_code.proofs.Interface.{code_bytes}
+use Rattle.array_versions.specs.Program.{Program}
+use Rattle.array_versions.specs.declared.program.WordProgram.{WordProgram}
 use Rattle.linked_code.proofs.Interface.{in_order}
-use Rattle.link_image.specs.Needs.{IsShort}
 
 -- the words of forms
 abbrev pub words_in : List Form → List ℕ
@@ -127,14 +117,14 @@ module _ (l : MemoryMap) (programs : List Program) (fits : CodeFits l programs) 
   others = commit_part l ∷ task_parts l.tasks programs
 
   -- a part written behind others
-  abbrev written : ℕ → ℕ → List ℕ → List Instr → List ℕ
-  written start at words code = words ++ (words_in (repeated ((at - (start + 2 * length words)) / 2) filler) ++ words_of code)
+  abbrev written : ℕ → ℕ → List ℕ → List Form → List ℕ
+  written start at words code = words ++ (words_in (repeated ((at - (start + 2 * length words)) / 2) filler) ++ words_in code)
 
-  pub after_boot : (start : ℕ) (old new : List ℕ) (code : List Instr) → start ≡ l.boot.address → old ≡ [] → code ≡ instructions (boot_part l).forms
+  pub after_boot : (start : ℕ) (old new : List ℕ) (code : List Form) → start ≡ l.boot.address → old ≡ [] → code ≡ (boot_part l).forms
       → new ≡ written start start old code
       → WrittenTo start new (part_end (boot_part l)) others
   after_boot start old new code s o k is =
-      let same : new ≡ written l.boot.address l.boot.address [] (instructions (boot_part l).forms) =
+      let same : new ≡ written l.boot.address l.boot.address [] (boot_part l).forms =
       is ∙ ap (λ x. written x x old code) s ∙ ap (λ x. written l.boot.address l.boot.address x code) o ∙ ap (written l.boot.address l.boot.address []) k in
       let begin : l.boot.address + 2 * length {A = ℕ} [] ≡ l.boot.address = omega arith in
       let r = part_words l.boot.address [] new (words_of (linked l programs)) (boot_part l) others (even_of l fits.rules).boot (even_of l fits.rules).boot
@@ -145,12 +135,11 @@ module _ (l : MemoryMap) (programs : List Program) (fits : CodeFits l programs) 
   pub commit_behind : (start : ℕ) (words : List ℕ) → WrittenTo start words (part_end (boot_part l)) others → start + 2 * length words ≤ l.commit.address
   commit_behind start words h = let there = h.there in let from = (in_order l programs fits).1.0.from in omega (arith, there, from)
 
-  pub after_commit : (start at : ℕ) (old new : List ℕ) (code : List Instr) → start ≡ l.boot.address → at ≡ l.commit.address
-      → code ≡ instructions (commit_part l).forms
-      → WrittenTo start old (part_end (boot_part l)) others → new ≡ written start at old code
+  pub after_commit : (start at : ℕ) (old new : List ℕ) (code : List Form) → start ≡ l.boot.address → at ≡ l.commit.address
+      → code ≡ (commit_part l).forms → WrittenTo start old (part_end (boot_part l)) others → new ≡ written start at old code
       → WrittenTo start new (part_end (commit_part l)) (task_parts l.tasks programs)
   after_commit start at old new code s a k before is =
-      let same : new ≡ written start l.commit.address old (instructions (commit_part l).forms) =
+      let same : new ≡ written start l.commit.address old (commit_part l).forms =
       is ∙ ap (λ x. written start x old code) a ∙ ap (written start l.commit.address old) k in
       let even : start % 2 ≡ 0 = ap (λ x. x % 2) s ∙ (even_of l fits.rules).boot in
       let r = part_words start old new (words_of (linked l programs)) (commit_part l) (task_parts l.tasks programs) even (even_of l fits.rules).commit

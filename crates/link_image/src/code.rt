@@ -1,16 +1,16 @@
 //! The words of the code.
 ghost use Rattle.std.specs.Prelude.{◌≡◌, ◌+◌, ◌-◌, ◌*◌, ◌/◌, ◌%◌, ◌≤◌, ◌++◌, ◌∷◌, [], ℕ, All, IfOk, OnOk, length, map};
-ghost use Rattle.memory_map.specs.address_space.Limits.{reset_vector};
-ghost use Rattle.linked_code.specs.code_forms.Placed.{instructions, words_of};
-ghost use Rattle.codegen.specs.array_versions.View.{program_of};
-ghost use Rattle.codegen.specs.array_versions.Form.{IsWhole};
+ghost use Rattle.address_space.specs.Limits.{reset_vector};
+ghost use Rattle.code_forms.specs.Placed.{instructions, words_of};
+ghost use Rattle.array_versions.specs.View.{program_of};
+ghost use Rattle.array_versions.specs.Form.{IsWhole};
 ghost use Rattle.link_image.specs.Needs.{IsShort};
-ghost use Rattle.codegen.specs.word_code.Code.{repeated, code_of};
+ghost use Rattle.word_code.specs.Code.{repeated, code_of};
 ghost use Rattle.linked_code.specs.Parts.{filler, chained, PartsInOrder};
 ghost use Rattle.linked_code.specs.Linked.{linked, task_part, task_parts, CodeFits};
 
 use boot_runtime::boot_code;
-use codegen::{Instr, WordProgram, emit};
+use codegen::{Form, WordProgram, emit, instruction_of};
 use commit_runtime::commit_code;
 use memory_map::{Layout, TaskLayout};
 use msp_encode::encode;
@@ -19,12 +19,13 @@ use std::alloc::{AllocError, Global};
 /// A jump to itself.
 const FILLER: u16 = 0x3FFF;
 
-// Adds the words of instructions.
-fn push_code(words: &mut Vec<u16>, code: &[Instr]) -> Result<(), AllocError>
-    ensures { OnOk result (words.new.items ≡ words.old.items ++ words_of code.now) }
+// Adds the words of code.
+fn push_code(words: &mut Vec<u16>, code: &[Form]) -> Result<(), AllocError>
+    ensures { OnOk result (words.new.items ≡ words.old.items ++ words_of (instructions code.now)) }
 {
-    for instruction in code {
-        words.extend_from_slice(encode(instruction).as_slice())?;
+    for form in code {
+        let instruction = instruction_of(form);
+        words.extend_from_slice(encode(&instruction).as_slice())?;
     }
     Ok(())
 }
@@ -40,10 +41,10 @@ fn push_filler(words: &mut Vec<u16>, count: usize) -> Result<(), AllocError>
 }
 
 // Adds the words of code that stands at an address, behind those from the start on, with filler up to it.
-fn push_part(words: &mut Vec<u16>, start: u16, at: u16, code: &[Instr]) -> Result<(), AllocError>
+fn push_part(words: &mut Vec<u16>, start: u16, at: u16, code: &[Form]) -> Result<(), AllocError>
     requires behind { start + 2 * length words.old.items ≤ at }
     ensures { OnOk result (words.new.items ≡ words.old.items
-        ++ (words_of (instructions (repeated ((at - (start + 2 * length words.old.items)) / 2) filler)) ++ words_of code.now)) }
+        ++ (words_of (instructions (repeated ((at - (start + 2 * length words.old.items)) / 2) filler)) ++ words_of (instructions code.now))) }
 {
     let count = (at - start) as usize / 2 - words.len();
     push_filler(words, count)?;

@@ -1,22 +1,12 @@
 -- A word that is listed: the last run gets longer, or an entry of one word stands behind it.
-use Rattle.std.proofs.Common.{◌≡◌, ℕ, zero, suc, ◌+◌, ◌*◌, ◌%◌, ◌<◌, ◌≤◌, List, [], ◌∷◌, ◌++◌, length, length-append, append_assoc, All, refl, sym, ap, ◌∙◌}
-use Rattle.std.proofs.Common.{subst, arith, Bool, true, false, if◌then◌else◌, Contains, ⊎_elim}
-use Rattle.std.proofs.lemmas.Bool.{cases_eq}
-use Rattle.std.proofs.lemmas.Bool.Decides.{nat_tests}
-use Rattle.std.proofs.lemmas.List.Elements.{All-contains, Contains-append_right}
-use Rattle.fram_board.specs.Effects.{Effect, Store}
-use Rattle.machine_effects.specs.World.{put}
-use Rattle.machine_effects.proofs.Interface.{put_same, put_other}
-use Rattle.array_versions.specs.Behaviour.{WordState, Behaviour, goes_on, at_place, raised, entry_stored, ends_before, listed_behind, word_listed}
-use Rattle.memory_map.specs.MemoryMap.{word_place}
-use Rattle.memory_map.specs.declared.words.RuntimeWord.TheVariants.{ListLength}
-use Rattle.memory_map.proofs.Interface.{word_even}
-use Rattle.memory_map.specs.Spots.{Places}
-use Rattle.runtime_effects.specs.Places.{CopyPair, run_pairs, entries_from}
-use Rattle.runtime_effects.proofs.Interface.{run_length, run_longer, entries_alike, last_apart, entries_are_few}
-use Rattle.lower.specs.Lowered.{list_place}
-use Rattle.lower.specs.Spots.{Room, AreApart, AreEven}
-use Rattle.lower.specs.Agreement.{TakesAndStores, IsTaskStore, in_list, at_list_length}
+use Rattle.lower.proofs.Names.{◌≡◌, ℕ, zero, suc, ◌+◌, ◌*◌, ◌%◌, ◌<◌, ◌≤◌, List, [], ◌∷◌, ◌++◌, length, length-append, append_assoc, refl, sym, ap, ◌∙◌}
+use Rattle.lower.proofs.Names.{subst, arith, Bool, true, false, if◌then◌else◌, Contains, ⊎_elim, cases_eq, nat_tests, All-contains, Contains-append_right}
+use Rattle.lower.proofs.Names.{Effect, Store, put, put_same, put_other, WordState, Behaviour, at_place, raised, entry_stored, ends_before, listed_behind}
+use Rattle.lower.proofs.Names.{word_listed, word_place, ListLength, word_even, Places, CopyPair, run_pairs, entries_from, run_length, run_longer}
+use Rattle.lower.proofs.Names.{entries_alike, last_apart, entries_are_few, list_place, Room, AreApart, AreEven, TakesAndStores, IsTaskStore, in_list}
+use Rattle.lower.proofs.Names.{at_list_length}
+use Rattle.std.proofs.Common.{All}
+use Rattle.array_versions.specs.Behaviour.{goes_on}
 use Rattle.lower.proofs.Addresses.{placed}
 use Rattle.lower.proofs.Transitions.{after_entry, HaveRoom, count_place, home_place, copy_place, words_place, entry_behaves}
 

@@ -1,21 +1,11 @@
 -- The program of a transition.
-use Rattle.std.proofs.Common.{◌≡◌, ℕ, ◌+◌, ◌*◌, ◌%◌, ◌≤◌, List, [], ◌∷◌, ◌++◌, length, true, refl, sym, ap, ◌∙◌, arith, eq-eqb, append_assoc, if◌then◌else◌}
-use Rattle.fram_board.specs.Effects.{Effect, Store}
-use Rattle.machine_effects.specs.World.{put, fram_after}
-use Rattle.machine_effects.proofs.Interface.{put_at, put_other}
-use Rattle.array_versions.specs.Program.{Program, store_number, move_word, jump, nothing, step, joined}
-use Rattle.array_versions.specs.Behaviour.{WordState, Jumps, Behaviour, behaves, goes_on, broken, behind_effects, then_on, is_place, at_place, word_stored}
-use Rattle.array_versions.specs.Behaviour.{raised, entry_stored, jumped, step_behaviour, behaviour}
-use Rattle.array_versions.proofs.Interface.{joined_go_on}
-use Rattle.memory_map.specs.MemoryMap.{word_place}
-use Rattle.memory_map.specs.declared.words.RuntimeWord.TheVariants.{NextTask, Gate, ListLength, Base, SentBase}
-use Rattle.lower.specs.declared.runs.Run.{Run}
-use Rattle.lower.specs.Runs.{runs_of}
-use Rattle.memory_map.proofs.Interface.{word_even}
-use Rattle.memory_map.specs.Spots.{Places}
-use Rattle.lower.specs.Lowered.{one, entries, lowered_transition}
-use Rattle.lower.specs.Spots.{Room, AreApart, AreEven}
-use Rattle.lower.specs.Agreement.{entry_effects, transition_effects}
+use Rattle.lower.proofs.Names.{◌≡◌, ℕ, ◌+◌, ◌*◌, ◌%◌, ◌≤◌, List, [], ◌∷◌, ◌++◌, length, true, refl, sym, ap, ◌∙◌, arith, append_assoc, if◌then◌else◌}
+use Rattle.lower.proofs.Names.{program_end, Effect, Store, put, fram_after, put_at, put_other, Program, store_number, move_word, jump, nothing, step, joined}
+use Rattle.lower.proofs.Names.{WordState, Jumps, Behaviour, behaves, broken, behind_effects, then_on, is_place, at_place, word_stored, raised, entry_stored}
+use Rattle.lower.proofs.Names.{jumped, step_behaviour, behaviour, joined_go_on, word_place, NextTask, Gate, ListLength, Base, SentBase, Run, runs_of}
+use Rattle.lower.proofs.Names.{word_even, Places, one, entries, lowered_transition, Room, AreApart, AreEven, entry_effects, transition_effects}
+use Rattle.std.proofs.Common.{eq-eqb}
+use Rattle.array_versions.specs.Behaviour.{goes_on}
 use Rattle.lower.proofs.Addresses.{fram_place, placed}
 
 -- FRAM after an entry
@@ -27,7 +17,7 @@ after_entry count list i home copy words f =
 pub record HaveRoom (count list i n : ℕ) : Type 0 where
   pub low : 0x4400 ≤ count
   pub above : count + 2 ≤ list
-  pub high : 6 * (i + n) + list ≤ 0x10000
+  pub high : 6 * (i + n) + list ≤ program_end
   pub even_count : count % 2 ≡ 0
   pub even_list : list % 2 ≡ 0
 

@@ -5,7 +5,7 @@ use Rattle.word_code.proofs.Names.{Constant, R4, R6, Runs, Stands, forms_bytes, 
 use Rattle.std.specs.Prelude.{bit_xor}
 use Rattle.array_versions.specs.msp_step.msp_isa.declared.instructions.TwoOp.TheVariants as op
 use Rattle.array_versions.specs.msp_step.msp_isa.declared.operands.Konst.TheVariants as konst
-use Rattle.array_versions.specs.msp_step.declared.effect.Modification.TheVariants as change
+use Rattle.code_forms.specs.instruction_forms.declared.kinds.Modification.TheVariants as change
 use Rattle.array_versions.specs.Operations.{long_to_left, long_to_right}
 use Rattle.word_code.specs.Code.{times_code, long_double, long_halve, byte_to_left, byte_to_right, long_right_code, left_by, right_by, complement_code}
 use Rattle.word_code.proofs.Stretches.{Setting, two_parts, dearer, nothing_run}

@@ -6,7 +6,7 @@ use Rattle.word_code.proofs.Names.{forms_at, Multiply, binary_word, WordState, b
 use Rattle.array_versions.specs.msp_step.msp_isa.declared.instructions.Condition.TheVariants as condition
 use Rattle.array_versions.specs.msp_step.msp_isa.declared.instructions.TwoOp.TheVariants as op
 use Rattle.array_versions.specs.msp_step.msp_isa.declared.operands.Konst.TheVariants as konst
-use Rattle.array_versions.specs.msp_step.declared.effect.Modification.TheVariants as change
+use Rattle.code_forms.specs.instruction_forms.declared.kinds.Modification.TheVariants as change
 use Rattle.word_code.proofs.Registers.{Holds, Has, Flagged, IsZero, line, jump_with}
 use Rattle.word_code.proofs.Stretches.{Setting, runs_on, dearer}
 use Rattle.word_code.proofs.Middles.{BinaryMiddle}

@@ -9,7 +9,7 @@ use Rattle.std.proofs.lemmas.Grind.{and_high_numeral}
 use Rattle.array_versions.specs.alp_words.Words.{swapped as swap}
 use Rattle.array_versions.specs.msp_step.msp_isa.declared.instructions.TwoOp.TheVariants as op
 use Rattle.array_versions.specs.msp_step.msp_isa.declared.operands.Konst.TheVariants as konst
-use Rattle.array_versions.specs.msp_step.declared.effect.Modification.TheVariants as change
+use Rattle.code_forms.specs.instruction_forms.declared.kinds.Modification.TheVariants as change
 use Rattle.word_code.proofs.Registers.{Has, line}
 use Rattle.word_code.proofs.Products.{no_bits}
 use Rattle.word_code.proofs.Stretches.{Setting, runs_on, dearer, nothing_run}

@@ -1,8 +1,7 @@
 use Rattle.std.proofs.Common.{◌<◌, ◌++◌, ◌∷◌, [], ap, ◌∙◌, arith, length}
 use Rattle.std.specs.List.{flat_map}
 use Rattle.std.proofs.lemmas.Bool.Decides.{nat_tests}
-use Rattle.runtime_code.specs.code_forms.Forms.{Branch, instruction_of}
-use Rattle.runtime_code.specs.code_forms.Placed.{instructions}
+use Rattle.runtime_code.specs.code_forms.Forms.{Branch}
 use Rattle.runtime_code.specs.runtime_effects.Places.{scalar_pairs}
 use Rattle.runtime_code.specs.LayoutPlaces.{pairs_of}
 use Rattle.runtime_code.proofs.runtime_effects.Interface.{scalar_pairs_count}
@@ -19,6 +18,5 @@ returns c =
     let count = scalar_pairs_count privates in
     stub_written c.args.code.now.items c.push_copies.new.code.items c.push.new.self.items (pairs_of c.args.task.now) c.args.task.now.code.address
     (omega (arith, words, count))
-    (c.in_ok-push_copies.ensures ∙ ap (λ xs. c.args.code.now.items ++ instructions (copies_in (flat_map scalar_pairs xs))) c.privates-privates.ensures)
-    (c.in_ok-push.ensures.items ∙ ap (λ i. c.push_copies.new.code.items ++ i ∷ []) (c.branch-code.ensures
-    ∙ ap (λ r. instruction_of (Branch r.address)) c.code.ensures))
+    (c.in_ok-push_copies.ensures ∙ ap (λ xs. c.args.code.now.items ++ copies_in (flat_map scalar_pairs xs)) c.privates-privates.ensures)
+    (c.in_ok-push.ensures.items ∙ ap (λ r. c.push_copies.new.code.items ++ Branch r.address ∷ []) c.code.ensures)

@@ -1,5 +1,5 @@
-use Rattle.codegen.proofs.Names.{◌≡◌, ◌+◌, length, drop, instruction_words}
+use Rattle.codegen.proofs.Names.{◌≡◌, ◌+◌, ◌*◌, drop, forms_bytes}
 use Rattle.codegen.proofs.decisions.code_words.Given as goal
 
-abbrev pub invariant-loop-instruction : goal.invariant-loop-instruction
-invariant-loop-instruction l = l.words + length (instruction_words (drop l.instruction-index l.code)) ≡ length (instruction_words l.code)
+abbrev pub invariant-loop-form : goal.invariant-loop-form
+invariant-loop-form l = 2 * l.words + forms_bytes (drop l.form-index l.code) ≡ forms_bytes l.code

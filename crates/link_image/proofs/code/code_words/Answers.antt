@@ -1,15 +1,9 @@
-use Rattle.std.proofs.Common.{◌≡◌, ◌∙◌, ◌+◌, ◌*◌, ◌++◌, ap, sym, subst, length, map, arith}
-use Rattle.std.proofs.lemmas.List.{length-map}
-use Rattle.memory_map.specs.address_space.Limits.{reset_vector}
-use Rattle.memory_map.specs.Places.{end_of}
-use Rattle.linked_code.specs.code_forms.Placed.{instructions}
+use Rattle.link_image.proofs.Names.{◌≡◌, ◌∙◌, ◌+◌, ◌*◌, ◌++◌, ap, sym, subst, length, map, arith, length-map, reset_vector, end_of, instructions, program_of}
+use Rattle.link_image.proofs.Names.{chained, PartsInOrder, task_parts}
+use Rattle.link_image.proofs.code.code_words.Goals as goal
 use Rattle.boot_runtime.specs.Entries.{task_entries}
 use Rattle.boot_runtime.specs.Listing.{boot_forms}
-use Rattle.codegen.specs.array_versions.View.{program_of}
-use Rattle.linked_code.specs.Parts.{chained, PartsInOrder}
-use Rattle.linked_code.specs.Linked.{task_parts}
 use Rattle.link_image.proofs.Written.{words_in, after_boot, commit_behind, after_commit, tasks_behind, same_count, each_short}
-use Rattle.link_image.proofs.code.code_words.Goals as goal
 
 pub push_part-requires-2 : goal.push_part-requires-2
 push_part-requires-2 c =
@@ -19,7 +13,7 @@ push_part-requires-2 c =
     let boot = after_boot l ps c.requires.fits c.boot-start.result.address c.new-words.result.items c.push_part.new.words.items c.as_slice.result.now start
     c.new-words.ensures.items
     (c.as_slice.ensures.value ∙ c.in_ok-boot.ensures
-    ∙ ap (λ a. instructions (boot_forms l l.commit.address (task_entries l) a)) start) c.in_ok-push_part.ensures in
+    ∙ ap (λ a. boot_forms l l.commit.address (task_entries l) a) start) c.in_ok-push_part.ensures in
     let at : c.commit.result.address ≡ l.commit.address = ap (λ r. r.address) c.commit.ensures in
     let behind = commit_behind l ps c.requires.fits c.boot-start.result.address c.push_part.new.words.items boot in
     record { behind = omega (arith, at, behind) }
@@ -37,7 +31,7 @@ push_tasks-requires-clause-order c =
     let boot = after_boot l ps c.requires.fits c.boot-start.result.address c.new-words.result.items c.push_part.new.words.items c.as_slice.result.now start
     c.new-words.ensures.items
     (c.as_slice.ensures.value ∙ c.in_ok-boot.ensures
-    ∙ ap (λ a. instructions (boot_forms l l.commit.address (task_entries l) a)) start) c.in_ok-push_part.ensures in
+    ∙ ap (λ a. boot_forms l l.commit.address (task_entries l) a) start) c.in_ok-push_part.ensures in
     let commit = after_commit l ps c.requires.fits c.boot-start.result.address c.commit.result.address c.push_part.new.words.items
     c.push_part-2.new.words.items c.as_slice-2.result.now
     start (ap (λ r. r.address) c.commit.ensures) (c.as_slice-2.ensures.value ∙ c.in_ok-commit.ensures) boot c.in_ok-push_part-2.ensures in
@@ -59,7 +53,7 @@ returns c =
     let boot = after_boot l ps c.requires.fits c.boot-start.result.address c.new-words.result.items c.push_part.new.words.items c.as_slice.result.now start
     c.new-words.ensures.items
     (c.as_slice.ensures.value ∙ c.in_ok-boot.ensures
-    ∙ ap (λ a. instructions (boot_forms l l.commit.address (task_entries l) a)) start) c.in_ok-push_part.ensures in
+    ∙ ap (λ a. boot_forms l l.commit.address (task_entries l) a) start) c.in_ok-push_part.ensures in
     let commit = after_commit l ps c.requires.fits c.boot-start.result.address c.commit.result.address c.push_part.new.words.items
     c.push_part-2.new.words.items c.as_slice-2.result.now
     start (ap (λ r. r.address) c.commit.ensures) (c.as_slice-2.ensures.value ∙ c.in_ok-commit.ensures) boot c.in_ok-push_part-2.ensures in

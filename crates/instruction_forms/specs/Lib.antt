@@ -1,0 +1,2 @@
+pub mod Encoding
+pub use Rattle.msp_isa.specs as msp_isa
