@@ -67,26 +67,27 @@ fn one_entry_too_many(rt: HostRuntime) -> Result<(), Fail> {
 
 #[test]
 fn brings_what_was_sent(rt: HostRuntime) -> Result<(), Fail> {
-    let packets = &mut Air::new(rt.alloc())?.packets;
-    assert!(rt; packets.bring_newest().is_none());
-    packets.send(Packet { number: 0, word: 5 });
-    packets.send(Packet { number: 1, word: 7 });
+    let mut air = Air::new(rt.alloc())?;
+    assert!(rt; air.packets.bring_newest().is_none());
+    air.packets.send(Packet { number: 0, word: 5 });
+    air.packets.send(Packet { number: 1, word: 7 });
     for (k, word) in [(0, Some(5)), (1, Some(7)), (0, Some(5)), (2, None)] {
-        assert_eq!(rt; packets.bring(k).map(|packet| packet.word), word);
+        let brought = air.packets.bring(k);
+        assert_eq!(rt; brought.map(|packet| packet.word), word);
     }
-    assert!(rt; packets.bring_newest().is_none());
+    assert!(rt; air.packets.bring_newest().is_none());
     Ok(())
 }
 
 #[test]
 fn loses_what_is_past_a_million(rt: HostRuntime) -> Result<(), Fail> {
-    let acknowledgements = &mut Air::new(rt.alloc())?.acknowledgements;
+    let mut air = Air::new(rt.alloc())?;
     for _ in 0..1_000_000 {
-        acknowledgements.send(1);
+        air.acknowledgements.send(1);
     }
-    assert_eq!(rt; acknowledgements.bring_newest(), Some(1));
-    acknowledgements.send(2);
-    assert_eq!(rt; acknowledgements.bring_newest(), None);
-    assert_eq!(rt; acknowledgements.bring(1_000_000), None);
+    assert_eq!(rt; air.acknowledgements.bring_newest(), Some(1));
+    air.acknowledgements.send(2);
+    assert_eq!(rt; air.acknowledgements.bring_newest(), None);
+    assert_eq!(rt; air.acknowledgements.bring(1_000_000), None);
     Ok(())
 }
