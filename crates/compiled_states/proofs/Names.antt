@@ -18,7 +18,7 @@ pub use Rattle.memory_map.specs.declared.place.VariablePlace.TheVariants.{Array,
 pub use Rattle.memory_map.specs.declared.words.RuntimeWord.{RuntimeWord}
 pub use Rattle.memory_map.specs.declared.words.RuntimeWord.TheVariants.{Base, CurrentTask, EmitCount, Gate, ListLength, NextTask, SentBase, Version}
 -- traces and images
-pub use Rattle.image_map.specs.MapValue.{MapValue, TaskValue, word_count}
+pub use Rattle.image_map.specs.MapValue.{IsFramWord, MapValue, TaskValue, word_count}
 pub use Rattle.image_text.specs.ImageValue.{ImageValue, place_of}
 pub use Rattle.state_text.specs.declared.state.State.{State}
 -- the board
@@ -27,7 +27,7 @@ pub use Rattle.fram_board.specs.Bus.{BusState, board_bus, is_fram}
 pub use Rattle.fram_board.specs.Run.{BoardCharge, ChargeRun, Charges, Executed, Last, Measure, Moment, Next, NoInstruction, Over, Refused, Run, RunOutcome}
 pub use Rattle.fram_board.specs.Run.{Spent, Stopped, TooDear, price, run_outcome}
 pub use Rattle.fram_board.specs.Saved.{saved}
-pub use Rattle.machine_effects.specs.Machine.{IsFram, IsFramWord, fram_of}
+pub use Rattle.machine_effects.specs.Machine.{IsFram, fram_of}
 pub use Rattle.machine_effects.specs.Runs.{last_board}
 pub use Rattle.machine_effects.specs.World.{World}
 pub use Rattle.runtime_effects.specs.Places.{CopyPair, entries_from, listed, run_pairs}
