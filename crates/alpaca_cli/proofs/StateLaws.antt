@@ -8,7 +8,7 @@ use Rattle.plain_commands.specs.fram_board.Run.{RunOutcome, Run}
 use Rattle.plain_commands.specs.board_run.Charges.{charges_of}
 use Rattle.plain_commands.specs.board_run.History.{start_of}
 use Rattle.plain_commands.specs.board_run.Report.{report_of}
-use Rattle.compiled_states.specs.source_runs.Traces.{IsTraceOfWords}
+use Rattle.source_runs.specs.Traces.{IsTraceOfWords}
 use Rattle.compiled_states.specs.Worlds.{HasFramWords}
 use Rattle.compiled_states.specs.Laws.{FreshStatesBelong, MigratedStatesBelong, StatesAreTold, StatesStay}
 use Rattle.plain_commands.specs.command_answers.Promises.{Product}

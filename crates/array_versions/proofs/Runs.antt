@@ -29,8 +29,8 @@ pub data Run (W : Type 0) (spared : ℕ → Type 0) : WordState → List Effect 
   assigns : {s t : WordState} {es : List Effect} (n v : ℕ) → ((m : ℕ) → spared m → n ≢ m) → (W → v < 0x10000) → Run W spared (with_local n v s) es t
       → Run W spared s es t
   stores : {s t : WordState} {es : List Effect} (a v : ℕ) → (W → v < 0x10000) → Run W spared (stored a v s) es t → Run W spared s (Store a v ∷ es) t
-  takes : {s t : WordState} {es : List Effect} (r : ℕ) (left : Inputs) → TakesExactly (Take r ∷ []) s.inputs left → Run W spared (record s { inputs = left }) es t
-      → Run W spared s (Take r ∷ es) t
+  takes : {s t : WordState} {es : List Effect} (r : ℕ) (left : Inputs) → TakesExactly (Take r ∷ []) s.inputs left
+      → Run W spared (record s { inputs = left }) es t → Run W spared s (Take r ∷ es) t
 
 -- one chain behind another
 run_behind : {W : Type 0} {spared : ℕ → Type 0} {s t u : WordState} {es fs : List Effect} → Run W spared s es t → Run W spared t fs u

@@ -271,10 +271,18 @@ mutual
       (λ r u k n. two_well next u.stack _ (omega (arith, k.0, n.depth)) (λ x y vs e.
       popped_well (compare_words op x y) (r.depth - 2 + 0) vs next held failed r u k.2 n (omega (arith, n.depth))))
   test_well room (both t u) next held failed q s h m =
-      let second : Answer next = record { fit = EachTestWay room u held.fit failed.fit; go = tested u held.go failed.go; leads = test_well room u next held failed } in
+      let second : Answer next = record {
+        fit = EachTestWay room u held.fit failed.fit;
+        go = tested u held.go failed.go;
+        leads = test_well room u next held failed;
+      } in
       test_well room t next second failed q s h m
   test_well room (either t u) next held failed q s h m =
-      let second : Answer next = record { fit = EachTestWay room u held.fit failed.fit; go = tested u held.go failed.go; leads = test_well room u next held failed } in
+      let second : Answer next = record {
+        fit = EachTestWay room u held.fit failed.fit;
+        go = tested u held.go failed.go;
+        leads = test_well room u next held failed;
+      } in
       test_well room t next held second q s h m
   test_well room (fails t) next held failed q s h m = test_well room t next failed held q s h m
 

@@ -1,7 +1,7 @@
 -- What a word program does from a state on: its effects, and how it ends. Both depend on FRAM and the inputs at its start.
-use Rattle.std.specs.Prelude.{ℕ, zero, suc, ◌+◌, ◌-◌, ◌*◌, ◌%◌, ◌==◌, ◌&&◌, Bool, nat_eq, nat_lt, if◌then◌else◌, List, [], ◌∷◌, ◌++◌, Option, Some}
+use Rattle.std.specs.Prelude.{ℕ, zero, suc, ◌+◌, ◌-◌, ◌*◌, ◌%◌, ◌==◌, ◌&&◌, Bool, nat_eq, nat_le, nat_lt, if◌then◌else◌, List, [], ◌∷◌, ◌++◌, Option, Some}
 use Rattle.std.specs.Prelude.{None}
-use Rattle.machine_effects.specs.fram_board.Bus.{is_fram}
+use Rattle.machine_effects.specs.address_space.Limits.{fram_first, program_end}
 use Rattle.machine_effects.specs.fram_board.Effects.{Effect, Store, Take}
 use Rattle.machine_effects.specs.World.{put}
 use Rattle.machine_effects.specs.Inputs.{Inputs}
@@ -29,7 +29,8 @@ abbrev pub started : (ℕ → ℕ) → Inputs → WordState
 started fram inputs = record { stack = []; locals = λ n. None; fram = fram; inputs = inputs }
 
 -- how steps end: behind the last one; by a jump; where a reading is wanted and none is left; where an address isn't that of a
--- word of FRAM; or where a word is taken from an empty stack, a local is read before it is assigned, or a jump goes to an odd address
+-- word of FRAM in front of a program's end; or where a word is taken from an empty stack, a local is read before it is assigned,
+-- or a jump goes to an odd address
 pub data End : Type 0 where
   GoesOn : (state : WordState) → End
   Jumps : (to : ℕ) → (state : WordState) → End
@@ -50,7 +51,7 @@ behaves es e = record { effects = es; end = e }
 abbrev pub goes_on : List Effect → WordState → Behaviour
 goes_on es s = behaves es (GoesOn s)
 
--- an address isn't that of a word of FRAM
+-- an address isn't a place
 abbrev pub strays : Behaviour
 strays = behaves [] Strays
 
@@ -74,11 +75,11 @@ on_end Broken next = broken
 abbrev pub then_on : Behaviour → (WordState → Behaviour) → Behaviour
 then_on b next = behind_effects b.effects (on_end b.end next)
 
--- the even addresses of FRAM
+-- the even addresses of FRAM in front of where a program ends
 abbrev pub is_place : ℕ → Bool
-is_place a = (a % 2 == 0) && is_fram a
+is_place a = (a % 2 == 0) && (nat_le fram_first a && nat_lt a program_end)
 
--- this, where the address is that of a word of FRAM
+-- this, where the address is a place
 abbrev pub at_place : ℕ → Behaviour → Behaviour
 at_place a b = if is_place a then b else strays
 

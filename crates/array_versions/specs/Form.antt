@@ -1,6 +1,7 @@
 -- What a program must have so that code can be made of it: each way through it, with conditions free and loops with their turns,
 -- ends in a jump, takes no word from an empty stack, and reads no local before it is assigned; and there is room.
 use Rattle.std.specs.Prelude.{ℕ, zero, suc, ◌+◌, ◌-◌, ◌*◌, ◌%◌, ◌≡◌, ◌≢◌, ◌<◌, ◌≤◌, ◌||◌, Bool, true, false, nat_eq, max}
+use Rattle.machine_effects.specs.address_space.Limits.{stack_top, HasStackRoom}
 use Rattle.machine_effects.specs.alp_words.Words.{IsWord}
 use Rattle.array_versions.specs.declared.program.ArrayPlace.{ArrayPlace}
 use Rattle.array_versions.specs.declared.program.ListPlace.{ListPlace}
@@ -225,11 +226,15 @@ abbrev mutual
   OfWords nothing = Unit {0}
   OfWords (step first more) = StepOfWords first × OfWords more
 
--- a program that is whole: RAM has room for its locals and the stack below them, above the 32 bytes at its beginning; and each of its ways ends in a jump
+-- where the stack of a program begins whose locals are below this number: right below those that stand in RAM, the ninth in its last word
+abbrev pub stack_base : ℕ → ℕ
+stack_base locals = stack_top - 2 * (locals - 8)
+
+-- a program that is whole: RAM has room for its locals and the stack below them; and each of its ways ends in a jump
 pub record IsWhole (p : Program) : Type 0 where
   pub locals : ℕ  -- each local is below this number
   pub room : ℕ  -- no way has more words on the stack
-  pub fits : 0x1C20 + 2 * (locals + room) ≤ 0x2400
+  pub fits : HasStackRoom (stack_base locals) room
   pub low_locals : LocalsBelow locals p
   pub loops_count : LoopsCount p
   pub ways : EachWay room p (λ q. ⊥) start

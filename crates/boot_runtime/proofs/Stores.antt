@@ -1,16 +1,17 @@
 -- Where the start of an attempt stores.
-use Rattle.std.proofs.Common.{ℕ, zero, suc, ◌+◌, ◌*◌, ◌<◌, List, [], ◌∷◌, arith, subst, Bool, true, false}
+use Rattle.std.proofs.Common.{◌≡◌, ◌≢◌, ℕ, zero, suc, ◌+◌, ◌*◌, ◌<◌, inl, inr, List, [], ◌∷◌, arith, subst, Bool, true, false}
 use Rattle.std.specs.List.{All}
 use Rattle.std.proofs.lemmas.List.Elements.{All-head, All-tail, All-weaker}
 use Rattle.runtime_code.specs.fram_board.Effects.{Store}
 use Rattle.runtime_code.specs.machine_effects.World.{put, fram_after, EachStore}
-use Rattle.runtime_code.specs.machine_effects.Machine.{IsFram}
-use Rattle.runtime_code.proofs.machine_effects.Interface.{each_store-append}
+use Rattle.runtime_code.specs.machine_effects.Machine.{IsPlace}
+use Rattle.runtime_code.proofs.machine_effects.Interface.{each_store-append, fram_untouched}
 use Rattle.memory_map.specs.declared.words.RuntimeWord.TheVariants.{CurrentTask, ListLength, EmitCount, Version}
 use Rattle.memory_map.specs.MemoryMap.{MemoryMap, word_place}
 use Rattle.runtime_code.specs.runtime_effects.Places.{CopyPair}
 use Rattle.runtime_code.specs.runtime_effects.Stages.{is_at_end, clearing_if, cleared, counting_effects, copied_in, opening_effects, start_effects}
-use Rattle.runtime_code.specs.runtime_effects.Needs.{IsRegion, ArePairWords}
+use Rattle.runtime_code.specs.runtime_effects.Needs.{IsOutOf, KeepsTask, ArePairWords}
+use Rattle.runtime_code.proofs.Interface.{all_left, left_from, first_left}
 use Rattle.boot_runtime.specs.Laws.{StartStoresInFram}
 
 words_cleared : (P : ℕ → ℕ → Type 0) (n p : ℕ) → ((i : ℕ) → i < n → P (p + 2 * i) 0) → EachStore P (cleared n p)
@@ -52,12 +53,24 @@ start_stores P m privates f versions version length count copies =
     (opening_stores P m f versions version length count)
     (copies_stored P (privates (f (word_place m CurrentTask))) g copies)
 
-in_fram : (p n i : ℕ) → IsRegion p (2 * n) → i < n → IsFram (p + 2 * i)
-in_fram p n i r l = let even = r.even in let low = r.low in let high = r.high in
-    record { even = omega (arith, even); low = omega (arith, low); high = omega (arith, high, l) }
-
 pub start_stores_in_fram : StartStoresInFram
 start_stores_in_fram m privates f places words =
-    start_stores (λ a w. IsFram a) m privates f (λ i l. in_fram m.versions.address m.versions.words i places.versions l) (λ w. places.words Version)
-    (places.words ListLength) (places.words EmitCount)
-    (All-weaker ArePairWords (λ x. (w : ℕ) → IsFram x.copy) (λ x h w. h.copy) (privates (f (word_place m CurrentTask))) words)
+    let left : (i : ℕ) → i < m.versions.words → IsPlace (m.versions.address + 2 * i) = λ i l.
+    first_left places.versions (left_from (2 * i) 2 (all_left (2 * m.versions.words) places.versions (omega arith)) (omega arith) (omega (arith, l))) (omega arith) in
+    start_stores (λ a w. IsPlace a) m privates f left (λ w. places.words Version) (places.words ListLength) (places.words EmitCount)
+    (All-weaker ArePairWords (λ x. (w : ℕ) → IsPlace x.copy) (λ x h w. h.copy) (privates (f (word_place m CurrentTask))) words)
+
+-- an address outside others
+out_of : (p n a i : ℕ) → IsOutOf p (2 * n) a → i < n → p + 2 * i ≢ a
+out_of p n a i (inl l) below e = omega (arith, l, below, e)
+out_of p n a i (inr g) below e = omega (arith, g, below, e)
+
+-- the opening leaves CUR
+pub task_stays : (m : MemoryMap) (f : ℕ → ℕ) → KeepsTask m → fram_after (opening_effects m f) f (word_place m CurrentTask) ≡ f (word_place m CurrentTask)
+task_stays m f keeps =
+    let a = word_place m CurrentTask in
+    let version : word_place m Version ≢ a = λ e. omega (arith, e) in
+    let length : word_place m ListLength ≢ a = λ e. omega (arith, e) in
+    let count : word_place m EmitCount ≢ a = λ e. omega (arith, e) in
+    fram_untouched (opening_effects m f) a f
+    (opening_stores (λ b w. b ≢ a) m f (λ i l. out_of m.versions.address m.versions.words a i keeps.versions l) (λ w. version) length count)

@@ -1,16 +1,17 @@
 -- The length of the boot's code, and what a start costs at most.
-use Rattle.std.proofs.Common.{◌≡◌, ℕ, ◌+◌, ◌*◌, ◌≤◌, List, [], ◌∷◌, ◌++◌, length, refl, ◌∙◌, arith, true, false}
+use Rattle.std.proofs.Common.{◌≡◌, ℕ, ◌+◌, ◌*◌, ◌≤◌, List, [], ◌∷◌, ◌++◌, length, map, refl, ◌∙◌, arith, true, false}
+use Rattle.std.proofs.lemmas.List.{length-map}
 use Rattle.runtime_code.specs.code_forms.Forms.{Branch}
 use Rattle.runtime_code.specs.code_forms.Code.{forms_bytes}
 use Rattle.runtime_code.specs.code_forms.Placed.{instructions, AreInstructions}
 use Rattle.runtime_code.proofs.code_forms.Interface.{forms_bytes-append}
 use Rattle.runtime_code.specs.runtime_effects.Places.{CopyPair}
-use Rattle.runtime_code.proofs.Interface.{if_any_most, code_bytes, are_instructions-append}
+use Rattle.runtime_code.proofs.Interface.{if_any_most, code_bytes, are_instructions-append, ladder_bytes}
 use Rattle.boot_runtime.specs.Listing.{TaskEntry, head, opening, dispatch, copies_in, stub_to, stub, stub_bytes, ladder_to, stubs}
-use Rattle.boot_runtime.specs.Listing.{stubs_bytes, boot_forms}
+use Rattle.boot_runtime.specs.Listing.{rung_for, stubs_bytes, boot_forms}
 use Rattle.boot_runtime.specs.Listing.{ladder_offset, stubs_address}
 use Rattle.boot_runtime.specs.Laws.{StartsAreShort, ClearingIsDearest, BootIsShort, BootIsCode, BootFits, entry_room}
-use Rattle.boot_runtime.proofs.Entering.{stub_size, ladder_bytes}
+use Rattle.boot_runtime.proofs.Entering.{stub_size}
 use Rattle.memory_map.specs.MemoryMap.{MemoryMap}
 
 stubs_size : (ts : List TaskEntry) → forms_bytes (stubs ts) ≡ stubs_bytes ts
@@ -23,9 +24,10 @@ boot_is_short m commit tasks at =
     let l = ladder_to q tasks in
     let a : forms_bytes (boot_forms m commit tasks at) ≡ ladder_offset + forms_bytes (l ++ stubs tasks) = omega arith in
     let b = forms_bytes-append l (stubs tasks) in
-    let c = ladder_bytes q tasks in
+    let c = ladder_bytes q (map rung_for tasks) in
+    let count = length-map tasks rung_for in
     let d = stubs_size tasks in
-    code_bytes (boot_forms m commit tasks at) ∙ a ∙ omega (arith, b, c, d)
+    code_bytes (boot_forms m commit tasks at) ∙ a ∙ omega (arith, b, c, count, d)
 
 copies_are : (xs : List CopyPair) → AreInstructions (instructions (copies_in xs))
 copies_are [] = tt

@@ -2,7 +2,7 @@
 use Rattle.std.specs.Prelude.{◌≡◌, ◌≢◌, ℕ, ◌+◌, ◌*◌, ◌%◌, ◌<◌, Bool, true, false, List, [], length, All, ◌≤◌, ◌∷◌}
 use Rattle.runtime_code.specs.fram_board.Effects.{Store}
 use Rattle.runtime_code.specs.machine_effects.World.{put, fram_after, EachStore}
-use Rattle.runtime_code.specs.machine_effects.Machine.{Code, IsFram}
+use Rattle.runtime_code.specs.machine_effects.Machine.{Code, IsPlace}
 use Rattle.runtime_code.specs.code_forms.Forms.{Core}
 use Rattle.runtime_code.specs.code_forms.Code.{Stands, IsTidy}
 use Rattle.runtime_code.specs.code_forms.Placed.{instructions, words_of, AreInstructions}
@@ -84,10 +84,10 @@ BootIsShort = (m : MemoryMap) (commit : ℕ) (tasks : List TaskEntry) (at : ℕ)
 abbrev pub BootIsCode : Type 0
 BootIsCode = (m : MemoryMap) (commit : ℕ) (tasks : List TaskEntry) (at : ℕ) → AreInstructions (instructions (boot_forms m commit tasks at))
 
--- the start of an attempt stores at words of FRAM alone
+-- the start of an attempt stores at words of FRAM in front of where programs end alone
 abbrev pub StartStoresInFram : Type 0
 StartStoresInFram = (m : MemoryMap) (privates : ℕ → List CopyPair) (f : ℕ → ℕ) → AreInFram m → All ArePairWords (privates (f (word_place m CurrentTask)))
-    → EachStore (λ a w. IsFram a) (start_effects m privates f)
+    → EachStore (λ a w. IsPlace a) (start_effects m privates f)
 
 -- the words that the allowance has for the entries of tasks: 200 for each, and 16 for each word of a private scalar
 abbrev pub entry_room : List TaskEntry → ℕ

@@ -1,15 +1,16 @@
 -- The boot's code: its listing.
-use Rattle.std.specs.Prelude.{ℕ, ◌+◌, ◌-◌, ◌*◌, Bool, if◌then◌else◌, List, [], ◌∷◌, ◌++◌, length, get_or}
+use Rattle.std.specs.Prelude.{ℕ, ◌+◌, ◌*◌, Bool, if◌then◌else◌, List, [], ◌∷◌, ◌++◌, length, get_or, map}
 use Rattle.runtime_code.specs.msp_isa.declared.instructions.TwoOp.TheVariants.{Add}
 use Rattle.runtime_code.specs.msp_isa.declared.instructions.Condition.TheVariants.{NotEqual}
 use Rattle.runtime_code.specs.msp_isa.declared.operands.Konst.TheVariants.{Zero, One, Two, MinusOne}
-use Rattle.runtime_code.specs.code_forms.Forms.{Form, Move, Calculate, Compare, Update, SetStack, Jump, Branch, SkipBy, R4, R5}
-use Rattle.runtime_code.specs.code_forms.Forms.{Register, Number, Constant, Fram, ToRegister, ToFram, ToPointed}
-use Rattle.memory_map.specs.declared.words.RuntimeWord.TheVariants.{CurrentTask, Gate, ListLength, EmitCount, Version}
+use Rattle.runtime_code.specs.code_forms.Forms.{Form, Move, Calculate, Compare, Update, Jump, Branch, R4, R5}
+use Rattle.runtime_code.specs.code_forms.Forms.{Number, Constant, Fram, ToRegister, ToFram, ToPointed}
+use Rattle.memory_map.specs.declared.words.RuntimeWord.TheVariants.{Gate, ListLength, EmitCount, Version}
 use Rattle.memory_map.specs.MemoryMap.{MemoryMap, word_place}
 use Rattle.runtime_code.specs.runtime_effects.Places.{CopyPair}
-use Rattle.memory_map.specs.address_space.Limits.{stack_top}
-use Rattle.runtime_code.specs.Counted.{counted, if_any}
+use Rattle.runtime_code.specs.Counted.{over, counted, if_any}
+use Rattle.runtime_code.specs.Ladder.{Rung, stub_with, rung_with, ladder, all_stubs}
+pub use Rattle.runtime_code.specs.Ladder.{dispatch}
 
 -- a task as the boot comes to it: the words of its private scalars with their copies, and where its code stands
 pub record TaskEntry : Type 0 where
@@ -26,11 +27,7 @@ privates_in tasks k = (entry_at tasks k).privates
 
 -- where GATE is 1 a branch to the commit
 abbrev pub head : MemoryMap → ℕ → List Form
-head m commit = Compare (Constant One) (word_place m Gate) ∷ Jump NotEqual 2 ∷ Branch commit ∷ []
-
--- where VER isn't at its end, over the clearing
-abbrev pub end_tested : MemoryMap → List Form
-end_tested m = Compare (Constant MinusOne) (word_place m Version) ∷ Jump NotEqual 13 ∷ []
+head m commit = Compare (Constant One) (word_place m Gate) ∷ Jump NotEqual (over (Branch commit ∷ [])) ∷ Branch commit ∷ []
 
 -- R4 := the number of version words
 abbrev pub clearing_begins : MemoryMap → List Form
@@ -42,7 +39,7 @@ clear_turn = Move (Constant Zero) (ToPointed R5) ∷ Calculate Add (Constant Two
 
 -- for each of them
 abbrev pub clear_loop : MemoryMap → List Form
-clear_loop m = counted m.versions.address clear_turn 7 (0x400 - 5)
+clear_loop m = counted m.versions.address clear_turn
 
 -- VER := 0
 abbrev pub version_cleared : MemoryMap → List Form
@@ -51,6 +48,10 @@ version_cleared m = Move (Constant Zero) (ToFram (word_place m Version)) ∷ []
 -- the clearing: each version word becomes 0, and then VER
 abbrev pub clearing : MemoryMap → List Form
 clearing m = clearing_begins m ++ (clear_loop m ++ version_cleared m)
+
+-- where VER isn't at its end, over the clearing
+abbrev pub end_tested : MemoryMap → List Form
+end_tested m = Compare (Constant MinusOne) (word_place m Version) ∷ Jump NotEqual (over (clearing m)) ∷ []
 
 -- VER := VER + 1, CLN := 0, EN := 0
 abbrev pub counts_set : MemoryMap → List Form
@@ -62,15 +63,6 @@ counts_set m =
 abbrev pub opening : MemoryMap → List Form
 opening m = end_tested m ++ (clearing m ++ counts_set m)
 
--- SP := its top, R4 := how far the task that CUR names is from the beginning of a ladder of four bytes a task
-abbrev pub task_found : MemoryMap → List Form
-task_found m =
-    SetStack stack_top ∷ Move (Fram (word_place m CurrentTask)) (ToRegister R4) ∷ Calculate Add (Register R4) R4 ∷ Calculate Add (Register R4) R4 ∷ []
-
--- to its rung of the ladder, which stands right behind
-abbrev pub dispatch : MemoryMap → List Form
-dispatch m = task_found m ++ (SkipBy R4 ∷ [])
-
 -- the private scalars are copied
 abbrev pub copies_in : List CopyPair → List Form
 copies_in [] = []
@@ -78,8 +70,7 @@ copies_in (x ∷ xs) = Move (Fram x.home) (ToFram x.copy) ∷ copies_in xs
 
 -- private scalars are copied, then a branch to a task's code; where there is none, nothing
 abbrev pub stub_to : ℕ → List CopyPair → List Form
-stub_to code [] = []
-stub_to code (x ∷ xs) = copies_in (x ∷ xs) ++ (Branch code ∷ [])
+stub_to code xs = stub_with code (copies_in xs)
 
 -- a task's stub
 abbrev pub stub : TaskEntry → List Form
@@ -91,18 +82,19 @@ stub_bytes t = 6 * length t.privates + if_any (length t.privates) 4
 
 -- where a task's rung leads: to its stub, at an address, or right to its code where it has none
 abbrev pub rung_to : ℕ → ℕ → List CopyPair → ℕ
-rung_to stub code [] = code
-rung_to stub code (x ∷ xs) = stub
+rung_to stub code xs = rung_with stub code (copies_in xs)
+
+-- a task as the ladder has it
+abbrev pub rung_for : TaskEntry → Rung
+rung_for t = record { body = copies_in t.privates; bytes = stub_bytes t; code = t.code }
 
 -- the ladder: a branch for each task, whose stubs stand one behind another from an address on
 abbrev pub ladder_to : ℕ → List TaskEntry → List Form
-ladder_to p [] = []
-ladder_to p (t ∷ ts) = Branch (rung_to p t.code t.privates) ∷ ladder_to (p + stub_bytes t) ts
+ladder_to p ts = ladder p (map rung_for ts)
 
 -- the stubs
 abbrev pub stubs : List TaskEntry → List Form
-stubs [] = []
-stubs (t ∷ ts) = stub t ++ stubs ts
+stubs ts = all_stubs (map rung_for ts)
 
 -- the bytes before the ladder
 abbrev pub ladder_offset : ℕ

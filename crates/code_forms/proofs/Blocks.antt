@@ -1,6 +1,7 @@
 -- Straight stretches of code, and stretches one after another.
-use Rattle.std.proofs.Common.{◌≡◌, ℕ, ◌+◌, ◌≤◌, List, [], ◌∷◌, ◌++◌, length, Some, refl, sym, ap, ◌∙◌, subst, arith, suc-add, zero-add, zero, suc, take, drop}
+use Rattle.std.proofs.Common.{◌≡◌, ℕ, ◌+◌, ◌-◌, ◌<◌, ◌≤◌, Bool, true, false, nat_lt, ltb-true, List, [], ◌∷◌, ◌++◌, length, Some, refl, sym, ap, ◌∙◌, subst, arith, suc-add, zero-add, zero, suc, take, drop}
 use Rattle.std.proofs.Common.{slice_get}
+use Rattle.std.proofs.lemmas.Bool.Decides.{nat_tests}
 use Rattle.std.proofs.lemmas.Option.{same_Some}
 use Rattle.machine_effects.specs.msp_step.declared.machine.Stop.{Stop}
 use Rattle.machine_effects.specs.msp_step.declared.machine.Stop.TheVariants as stop
@@ -11,7 +12,8 @@ use Rattle.machine_effects.proofs.Interface.{stay, one_step, join, join_stall, s
 use Rattle.code_forms.specs.Forms.{WorkRegister, Core, CoreOutcome, CoreStretch, board_of, outcome_of_core, source_read, Target, ToRegister, ToFram, ToRam}
 use Rattle.code_forms.specs.Forms.{ToIndexed, ToPointed, ToOutnum, ToOutdata, target_written, Form, Move, Calculate, Compare, Update, Push, Modify, SetStack}
 use Rattle.code_forms.specs.Forms.{Sense, Jump, Skip, Branch, BranchIndexed, SkipBy, instruction_of, form_bytes, sensed, form_step, FormNeeds}
-use Rattle.code_forms.specs.Code.{Stands, forms_bytes, IsStraight, AreStraight, forms_run, OfNext, FormsNeed, IsTidy, Runs, Starves}
+use Rattle.code_forms.specs.Code.{Stands, forms_bytes, IsStraight, AreStraight, forms_run, OfNext, FormsNeed, IsTidy, IsAtForm, OfState, StepsAreForms}
+use Rattle.code_forms.specs.Code.{Comes, Runs, Starves}
 use Rattle.code_forms.specs.Laws.{StraightCodeLeads}
 use Rattle.code_forms.proofs.Forms.{form_does}
 
@@ -100,6 +102,39 @@ carry_after : (es fs : List Effect) (c d : ℕ) (st : Status Core Stop) (next : 
 carry_after es fs c d (At t) next = after_after es fs c d (next t)
 carry_after es fs c d (Halted price x) next = refl
 
+-- no step at all
+pub no_steps : (code : Code) (u : Core) (P : Core → Type 0) → P u → Comes code [] 0 0 u P
+no_steps code u P p = record { end = u; leads = stay (exec code) (board_of u); forms = λ n l. absurd (omega (arith, l)); holds = p }
+
+-- the forms of a stretch, and of what is behind it
+forms_on : (code : Code) (n m : ℕ) (es : List Effect) (c : ℕ) (u t : Core) → Leads (exec code) n es c (board_of u) (board_of t) → StepsAreForms code n u
+    → StepsAreForms code m t → StepsAreForms code (n + m) u
+forms_on code n m es c u t leads front back k l = by (nat_lt k n) refl
+  where
+    by : (b : Bool) → nat_lt k n ≡ b → OfState (going (exec code) k (board_of u)).status (IsAtForm code)
+    by true e = front k (ltb-true k n e)
+    by false e =
+        let from : n ≤ k = grind (arith, nat_tests) in
+        let at : n + (k - n) ≡ k = omega (arith, from) in
+        subst (λ j. OfState (going (exec code) j (board_of u)).status (IsAtForm code)) at
+        (subst (λ r. OfState r.status (IsAtForm code)) (sym (leads.by (k - n))) (back (k - n) (omega (arith, l, from))))
+
+-- a stretch of code, and another from where it ends
+pub comes_then : {code : Code} {es fs : List Effect} {n k c d : ℕ} {u : Core} {P Q : Core → Type 0} → (a : Comes code es n c u P)
+    → Comes code fs k d a.end Q → Comes code (es ++ fs) (n + k) (c + d) u Q
+comes_then {code} {es} {fs} {n} {k} {c} {d} {u} a b =
+    record {
+      end = b.end;
+      leads = join (exec code) n k es fs c d (board_of u) (board_of a.end) (board_of b.end) a.leads b.leads;
+      forms = forms_on code n k es c u a.end a.leads a.forms b.forms;
+      holds = b.holds;
+    }
+
+-- and another from each state to which it may come
+pub comes_on : {code : Code} {es fs : List Effect} {n k c d : ℕ} {u : Core} {P Q : Core → Type 0} → Comes code es n c u P
+    → ((t : Core) → P t → Comes code fs k d t Q) → Comes code (es ++ fs) (n + k) (c + d) u Q
+comes_on a f = comes_then a (f a.end a.holds)
+
 module _ (code : Code) (tidy : IsTidy code) where
   -- one form
   pub does : (m : Form) (u : Core) → code u.pc ≡ Some (instruction_of m) → FormNeeds m u → exec code (board_of u) ≡ outcome_of_core (form_step m u)
@@ -128,23 +163,47 @@ module _ (code : Code) (tidy : IsTidy code) where
       → forms_run ms u ≡ stretch es c (At t) → Leads (exec code) (length ms) es c (board_of u) (board_of t)
   block ms u t es c st h w e = record { by = λ k. block_all ms k u st h w ∙ ap (λ r. carry r (λ v. going (exec code) k (board_of v))) e }
 
+  -- what stands there is a form that has what it needs
+  at_form : (m : Form) (u : Core) → code u.pc ≡ Some (instruction_of m) → FormNeeds m u → StepsAreForms code 1 u
+  at_form m u h w zero l = record { form = m; core = u; is = refl; stands = h; needs = w }
+  at_form m u h w (suc n) l = absurd (omega (arith, l))
+
+  behind_form : (ms : List Form) (p n : ℕ) (o : CoreOutcome) → OfNext o (IsAt p) → OfNext o (FormsNeed ms)
+      → ((t : Core) → t.pc ≡ p → FormsNeed ms t → OfState (going (exec code) n (board_of t)).status (IsAtForm code))
+      → OfState (continued (outcome_of_core o) (going (exec code) n)).status (IsAtForm code)
+  behind_form ms p n (Goes fs d t) g w ih = ih t g w
+  behind_form ms p n (Stops es price x) g w ih = tt
+
+  -- so is each form of straight code
+  at_forms : (ms : List Form) (u : Core) → AreStraight ms → Stands code u.pc ms → FormsNeed ms u → StepsAreForms code (length ms) u
+  at_forms [] u st h w n l = absurd (omega (arith, l))
+  at_forms (m ∷ ms) u st h w zero l = at_form m u h.0 w.0 0 (omega arith)
+  at_forms (m ∷ ms) u st h w (suc n) l =
+      subst (λ o. OfState (continued o (going (exec code) n)).status (IsAtForm code)) (sym (does m u h.0 w.0))
+      (behind_form ms (u.pc + form_bytes m) n (form_step m u) (goes_to m u st.0) w.1
+      (λ t e k. at_forms ms t st.1 (subst (λ p. Stands code p ms) (sym e) h.1) k n (omega (arith, l))))
+
+  pub straight_comes : (ms : List Form) (u t : Core) (es : List Effect) (c : ℕ) (P : Core → Type 0) → AreStraight ms → Stands code u.pc ms
+      → FormsNeed ms u → forms_run ms u ≡ stretch es c (At t) → P t → Comes code es (length ms) c u P
+  straight_comes ms u t es c P st h w e p = record { end = t; leads = block ms u t es c st h w e; forms = at_forms ms u st h w; holds = p }
+
   pub straight : (ms : List Form) (most : ℕ) (u t : Core) (es : List Effect) (c : ℕ) (P : Core → Type 0) → AreStraight ms → Stands code u.pc ms
       → FormsNeed ms u → forms_run ms u ≡ stretch es c (At t) → c ≤ most → P t → Runs code es most u P
-  straight ms most u t es c P st h w e l p = record { steps = length ms; cycles = c; end = t; within = l; leads = block ms u t es c st h w e; holds = p }
+  straight ms most u t es c P st h w e l p = record { steps = length ms; cycles = c; within = l; comes = straight_comes ms u t es c P st h w e p }
 
   -- one form, a jump too
+  pub form_comes : (m : Form) (u t : Core) (es : List Effect) (c : ℕ) (P : Core → Type 0) → code u.pc ≡ Some (instruction_of m) → FormNeeds m u
+      → form_step m u ≡ Goes es c t → P t → Comes code es 1 c u P
+  form_comes m u t es c P h w e p = record {
+    end = t;
+    leads = one_step (exec code) (board_of u) (board_of t) es c (does m u h w ∙ ap outcome_of_core e);
+    forms = at_form m u h w;
+    holds = p;
+  }
+
   pub hop : (m : Form) (most : ℕ) (u t : Core) (es : List Effect) (c : ℕ) (P : Core → Type 0) → code u.pc ≡ Some (instruction_of m) → FormNeeds m u
       → form_step m u ≡ Goes es c t → c ≤ most → P t → Runs code es most u P
-  hop m most u t es c P h w e l p =
-      record {
-        steps = 1;
-        cycles = c;
-        end = t;
-        within = l;
-        leads = one_step (exec code) (board_of u) (board_of t) es c
-            (does m u h w ∙ ap outcome_of_core e);
-        holds = p;
-      }
+  hop m most u t es c P h w e l p = record { steps = 1; cycles = c; within = l; comes = form_comes m u t es c P h w e p }
 
   pub runs_on : (most more : ℕ) (u : Core) (P Q : Core → Type 0) (es fs : List Effect) → Runs code es most u P
       → ((t : Core) → P t → Runs code fs more t Q) → Runs code (es ++ fs) (most + more) u Q
@@ -153,19 +212,15 @@ module _ (code : Code) (tidy : IsTidy code) where
       record {
         steps = a.steps + b.steps;
         cycles = a.cycles + b.cycles;
-        end = b.end;
         within = omega (arith, a.within, b.within);
-        leads = join
-            (exec code) a.steps b.steps es fs a.cycles b.cycles (board_of u) (board_of a.end) (board_of b.end) a.leads b.leads;
-        holds = b.holds;
+        comes = comes_then a.comes b.comes;
       }
 
   pub dearer : (es : List Effect) (most more : ℕ) (u : Core) (P : Core → Type 0) → most ≤ more → Runs code es most u P → Runs code es more u P
-  dearer es most more u P l a =
-      record { steps = a.steps; cycles = a.cycles; end = a.end; within = omega (arith, a.within, l); leads = a.leads; holds = a.holds }
+  dearer es most more u P l a = record { steps = a.steps; cycles = a.cycles; within = omega (arith, a.within, l); comes = a.comes }
 
   pub nothing : (u : Core) (P : Core → Type 0) → P u → Runs code [] 0 u P
-  nothing u P p = record { steps = 0; cycles = 0; end = u; within = omega arith; leads = stay (exec code) (board_of u); holds = p }
+  nothing u P p = record { steps = 0; cycles = 0; within = omega arith; comes = no_steps code u P p }
 
   -- a stretch to a state that is known
   pub then_to : (most more : ℕ) (u t : Core) (Q : Core → Type 0) (es fs : List Effect) → Runs code es most u (λ v. v ≡ t) → Runs code fs more t Q
@@ -183,6 +238,7 @@ module _ (code : Code) (tidy : IsTidy code) where
         within = omega (arith, l);
         stalls = stall (exec code) (board_of u) es price stop.NoReading
             (does m u h w ∙ ap outcome_of_core e);
+        forms = at_form m u h w;
       }
 
   pub starves_on : (most more : ℕ) (u : Core) (P : Core → Type 0) (es fs : List Effect) → Runs code es most u P
@@ -197,10 +253,11 @@ module _ (code : Code) (tidy : IsTidy code) where
             (arith, a.within, b.within);
         stalls = join_stall (exec code) a.steps b.steps es fs a.cycles b.cycles (board_of u)
             (board_of a.end) b.price stop.NoReading a.leads b.stalls;
+        forms = λ n l. forms_on code a.steps (suc b.steps) es a.cycles u a.end a.leads a.forms b.forms n (omega (arith, l));
       }
 
   pub dearer_starves : (es : List Effect) (most more : ℕ) (u : Core) → most ≤ more → Starves code es most u → Starves code es more u
-  dearer_starves es most more u l a = record { steps = a.steps; cycles = a.cycles; price = a.price; within = omega (arith, a.within, l); stalls = a.stalls }
+  dearer_starves es most more u l a = record { steps = a.steps; cycles = a.cycles; price = a.price; within = omega (arith, a.within, l); stalls = a.stalls; forms = a.forms }
 
 pub straight_code_leads : StraightCodeLeads
 straight_code_leads code ms u t es c tidy st h w e = block code tidy ms u t es c st h w e

@@ -30,7 +30,7 @@ use Rattle.machine_effects.specs.fram_board.Bus.{is_word, is_ram}
 use Rattle.machine_effects.specs.fram_board.Effects.{Store}
 use Rattle.machine_effects.specs.World.{put}
 use Rattle.machine_effects.specs.Going.{Goes}
-use Rattle.machine_effects.specs.Machine.{MachineOutcome, MachineBus, machine_bus, machine_outcome, step_with, word_address, IsFram, IsRam}
+use Rattle.machine_effects.specs.Machine.{MachineOutcome, MachineBus, machine_bus, machine_outcome, step_with, word_address, IsPlace, IsRam}
 use Rattle.code_forms.specs.Forms.{WorkRegister, work_number, index_of, Core, register_file, board_of, outcome_of_core, Source, Register, Number, Constant}
 use Rattle.code_forms.specs.Forms.{Fram, Ram, Pointed, PointedNext, Indexed, Popped, source_operand, source_bytes, source_value, source_read, SourceNeeds}
 use Rattle.code_forms.specs.Forms.{Target, ToRegister, ToFram, ToRam, ToIndexed, ToPointed, ToOutnum, ToOutdata, target_operand, target_bytes, target_written}
@@ -48,14 +48,14 @@ abbrev regs_in : Core → ℕ → Registers
 regs_in u p = register_file p u.sp u.flags u.work
 
 -- a word of memory is read, and the bus stays
-is_word_fram : (a : ℕ) → IsFram a → is_word a ≡ true
+is_word_fram : (a : ℕ) → IsPlace a → is_word a ≡ true
 is_word_fram a h = grind (arith, nat_tests)
 
-no_ram_fram : (a : ℕ) → IsFram a → is_ram a ≡ false
+no_ram_fram : (a : ℕ) → IsPlace a → is_ram a ≡ false
 no_ram_fram a h = grind (arith, nat_tests)
 
 -- an even address is its word's
-even_fram : (a : ℕ) → IsFram a → word_address a ≡ a
+even_fram : (a : ℕ) → IsPlace a → word_address a ≡ a
 even_fram a h = let e = h.even in omega arith
 
 even_ram : (a : ℕ) → IsRam a → word_address a ≡ a
@@ -67,7 +67,7 @@ is_word_ram a h = grind (arith, nat_tests)
 is_ram_ram : (a : ℕ) → IsRam a → is_ram a ≡ true
 is_ram_ram a h = grind (arith, nat_tests)
 
-pub read_fram : (s : MachineBus) (a : ℕ) → IsFram a → read_at machine_bus a Word s ≡ Completed (s.fram a) s
+pub read_fram : (s : MachineBus) (a : ℕ) → IsPlace a → read_at machine_bus a Word s ≡ Completed (s.fram a) s
 read_fram s a h =
     let w = is_word_fram a h in let e = no_port a 0x200 w (omega arith) in let f = no_ram_fram a h in let g = even_fram a h in rw (w, e, f, g) refl
 
@@ -88,11 +88,11 @@ module _ (u : Core) (p : ℕ) where
   from_source (Number n) h = refl
   from_source (Constant k) h = refl
   from_source (Fram a) h = rw (read_fram (inside u) a h) refl
-  from_source (Ram a) h = rw (read_ram (inside u) a h) refl
+  from_source (Ram a) h = rw (read_ram (inside u) a h.0) refl
   from_source (Pointed b) h = rw (got b, read_fram (inside u) (u.work (work_number b)) h) refl
   from_source (PointedNext b) h =
-      let e : word_sum (u.work (work_number b)) 2 ≡ u.work (work_number b) + 2 = omega (arith, h.1) in
-      rw (up b (word_sum (regs_in u p (index_number (index_of b))) 2), got b, read_fram (inside u) (u.work (work_number b)) h.0, e) refl
+      let e : word_sum (u.work (work_number b)) 2 ≡ u.work (work_number b) + 2 = let hi = h.high in omega arith in
+      rw (up b (word_sum (regs_in u p (index_number (index_of b))) 2), got b, read_fram (inside u) (u.work (work_number b)) h, e) refl
   from_source (Indexed b x) h =
       let e : word_sum (u.work (work_number b)) x ≡ u.work (work_number b) + x = let hi = h.high in omega arith in
       rw (got b, e, read_fram (inside u) (u.work (work_number b) + x) h) refl
@@ -282,7 +282,7 @@ calculates op x b u c n h =
     ∙ ap (λ f. outcome_of_core (Goes [] (cycles_of (instruction_of (Calculate op x b)))
     (calculated op b (operated op Word (t.work (work_number b)) (source_value x u) f) t))) (read_flags x u)
 
-compared_half : (v a ext pc c : ℕ) (t : Core) → IsFram a
+compared_half : (v a ext pc c : ℕ) (t : Core) → IsPlace a
     → machine_outcome pc c (after_source machine_bus Cmp Word (destination_location (regs_in t t.pc) ext (dst.Absolute a)) v (regs_in t t.pc)
     (inside t)) ≡ outcome_of_core (Goes [] c (record t { flags = flags_after (operated Cmp Word (t.fram a) v t.flags).flags t.flags }))
 compared_half v a ext pc c t h = rw (read_fram (inside t) a h, set_flags t.pc t.sp t.flags (difference_of Word (t.fram a) v true).1 t.work) refl
@@ -290,7 +290,7 @@ compared_half v a ext pc c t h = rw (read_fram (inside t) a h, set_flags t.pc t.
 read_memory : (x : Source) (u : Core) → (source_read x u).fram ≡ u.fram
 read_memory x u = ap (λ l. l.fram) (read_same x u)
 
-compares : (x : Source) (a : ℕ) (u : Core) → IsCodeAddress u.pc → SourceNeeds x u → IsFram a
+compares : (x : Source) (a : ℕ) (u : Core) → IsCodeAddress u.pc → SourceNeeds x u → IsPlace a
     → step_with (Some (instruction_of (Compare x a))) (board_of u) ≡ outcome_of_core (form_step (Compare x a) u)
 compares x a u c h k =
     let t : Core = record (source_read x u) { pc = u.pc + (2 + source_bytes x + 2) } in
@@ -298,7 +298,7 @@ compares x a u c h k =
     ∙ compared_half (source_value x u) a (ext_of x u) u.pc (cycles_of (instruction_of (Compare x a))) t k
     ∙ ap (λ f. outcome_of_core (Goes [] (cycles_of (instruction_of (Compare x a))) (record t { flags = f }))) (rw (read_memory x u) refl)
 
-updated_half : (op : TwoOp) (v a ext pc c : ℕ) (t : Core) → reads_destination op ≡ true → writes_destination op ≡ true → IsFram a
+updated_half : (op : TwoOp) (v a ext pc c : ℕ) (t : Core) → reads_destination op ≡ true → writes_destination op ≡ true → IsPlace a
     → machine_outcome pc c (after_source machine_bus op Word (destination_location (regs_in t t.pc) ext (dst.Absolute a)) v (regs_in t t.pc) (inside t)) ≡
     outcome_of_core (let o = operated op Word (t.fram a) v t.flags in Goes (Store a o.value ∷ []) c
     (record t { flags = flags_after o.flags t.flags; fram = put t.fram a o.value }))
@@ -338,7 +338,7 @@ pushed_at : (v pc c : ℕ) (t : Core) → HasPushRoom t.sp
     → machine_outcome pc c (pushed machine_bus Word v (regs_in t t.pc) (inside t)) ≡ Goes [] c
     (board_of (record t { sp = t.sp - 2; ram = put t.ram (t.sp - 2) v }))
 pushed_at v pc c t h =
-    let even = h.even in let low = h.low in let high = h.high in
+    let even = h.even in let room = h.room.fits in let high = h.high in
     let k : IsRam (t.sp - 2) = record { even = omega arith; low = omega arith; high = omega arith } in
     let word = is_word_ram (t.sp - 2) k in let ram = is_ram_ram (t.sp - 2) k in let g = even_ram (t.sp - 2) k in
     let l : word_sum t.sp 0xFFFE ≡ t.sp - 2 = omega arith in

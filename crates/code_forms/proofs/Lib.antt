@@ -2,4 +2,5 @@ mod Registers
 mod Forms
 mod Blocks
 mod Placed
+mod FromSp
 pub mod Interface

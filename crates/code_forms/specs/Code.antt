@@ -1,10 +1,11 @@
 -- Code that stays, made of forms: where it stands, what straight code does and needs, and what code makes from where it is begun.
-use Rattle.std.specs.Prelude.{ℕ, ◌+◌, ◌≡◌, ◌≤◌, List, [], ◌∷◌, Some}
+use Rattle.std.specs.Prelude.{ℕ, suc, ◌+◌, ◌≡◌, ◌<◌, ◌≤◌, List, [], ◌∷◌, Some}
 use Rattle.machine_effects.specs.msp_isa.declared.instructions.Instr.{Instr}
+use Rattle.machine_effects.specs.msp_step.declared.machine.Stop.{Stop}
 use Rattle.machine_effects.specs.msp_step.declared.machine.Stop.TheVariants as stop
 use Rattle.machine_effects.specs.fram_board.Effects.{Effect}
-use Rattle.machine_effects.specs.Going.{Goes, Stops, At, stretch, continued, Leads, Stalls}
-use Rattle.machine_effects.specs.Machine.{Code, exec}
+use Rattle.machine_effects.specs.Going.{Goes, Stops, Status, At, Halted, stretch, continued, going, Leads, Stalls}
+use Rattle.machine_effects.specs.Machine.{Code, MachineBoard, exec}
 use Rattle.code_forms.specs.Forms.{Core, CoreOutcome, CoreStretch, board_of, Form, Move, Calculate, Compare, Update, Push, Modify, SetStack, Sense, Jump, Skip}
 use Rattle.code_forms.specs.Forms.{Branch, BranchIndexed, SkipBy, instruction_of, form_bytes, form_step, FormNeeds, IsCodeAddress}
 
@@ -58,14 +59,37 @@ FormsNeed (m ∷ ms) u = FormNeeds m u × OfNext (form_step m u) (FormsNeed ms)
 abbrev pub IsTidy : Code → Type 0
 IsTidy code = (p : ℕ) (i : Instr) → code p ≡ Some i → IsCodeAddress p
 
--- from u, the code makes these effects, in so many steps and at most so many cycles, and comes to a state with P
+-- a machine that stands at a form, which has what it needs
+pub record IsAtForm (code : Code) (s : MachineBoard) : Type 0 where
+  pub form : Form
+  pub core : Core
+  pub is : s ≡ board_of core
+  pub stands : code core.pc ≡ Some (instruction_of form)
+  pub needs : FormNeeds form core
+
+-- a fact of the machine at a status
+abbrev pub OfState : Status MachineBoard Stop → (MachineBoard → Type 0) → Type 0
+OfState (At s) P = P s
+OfState (Halted price x) P = Unit {0}
+
+-- in front of each of so many steps from u the machine stands at such a form
+abbrev pub StepsAreForms : Code → ℕ → Core → Type 0
+StepsAreForms code steps u = (n : ℕ) → n < steps → OfState (going (exec code) n (board_of u)).status (IsAtForm code)
+
+-- from u, the code makes exactly these effects in so many steps and cycles, and comes to a state with P
+pub record Comes (code : Code) (es : List Effect) (steps cycles : ℕ) (u : Core) (P : Core → Type 0) : Type 0 where
+  pub end : Core
+  pub leads : Leads (exec code) steps es cycles (board_of u) (board_of end)
+  pub forms : StepsAreForms code steps u
+  pub holds : P end
+
+-- the same in some number of steps, and at most so many cycles
 pub record Runs (code : Code) (es : List Effect) (most : ℕ) (u : Core) (P : Core → Type 0) : Type 0 where
   pub steps : ℕ
   pub cycles : ℕ
-  pub end : Core
   pub within : cycles ≤ most
-  pub leads : Leads (exec code) steps es cycles (board_of u) (board_of end)
-  pub holds : P end
+  pub comes : Comes code es steps cycles u P
+  pub open comes use *
 
 -- from u, the code makes these effects and comes to an instruction that wants a reading where none is left; what was spent and
 -- that instruction's price are within the bound
@@ -75,3 +99,4 @@ pub record Starves (code : Code) (es : List Effect) (most : ℕ) (u : Core) : Ty
   pub price : ℕ
   pub within : cycles + price ≤ most
   pub stalls : Stalls (exec code) steps es cycles (board_of u) price stop.NoReading
+  pub forms : StepsAreForms code (suc steps) u

@@ -1,7 +1,7 @@
 -- The forms of instructions that the compiler and its runtime write, on a machine whose registers are told apart: what each is
 -- as an instruction, how long it is, what it needs and what it does (SLAU049 and SLAU144, CPU chapter).
 use Rattle.std.specs.Prelude.{ℕ, ◌+◌, ◌-◌, ◌%◌, ◌≡◌, ◌<◌, ◌≤◌, true, false, ◌==◌, if◌then◌else◌, List, [], ◌∷◌, Option, Some, None}
-use Rattle.machine_effects.specs.address_space.Limits.{ram_first, fram_end, stack_top}
+use Rattle.machine_effects.specs.address_space.Limits.{fram_end, stack_top, HasStackRoom}
 use Rattle.machine_effects.specs.alp_words.declared.Flags.{Flags}
 use Rattle.machine_effects.specs.alp_words.declared.Width.TheVariants.{Word}
 use Rattle.machine_effects.specs.msp_isa.declared.instructions.TwoOp.{TwoOp}
@@ -17,7 +17,7 @@ use Rattle.machine_effects.specs.fram_board.Effects.{Store, Take, Outside, Offer
 use Rattle.machine_effects.specs.World.{put}
 use Rattle.machine_effects.specs.Inputs.{Inputs}
 use Rattle.machine_effects.specs.Going.{StepOutcome, Goes, Stops, Stretch}
-use Rattle.machine_effects.specs.Machine.{MachineBoard, MachineOutcome, IsFram, IsRam}
+use Rattle.machine_effects.specs.Machine.{MachineBoard, MachineOutcome, IsPlace, IsRam}
 pub use Rattle.instruction_forms.specs.Encoding.{index_of, source_operand, source_bytes, target_operand, target_bytes, modification_operand}
 pub use Rattle.instruction_forms.specs.Encoding.{instruction_of, form_bytes}
 pub use Rattle.instruction_forms.specs.declared.kinds.WorkRegister.{WorkRegister}
@@ -125,12 +125,18 @@ abbrev pub SourceNeeds : Source → Core → Type 0
 SourceNeeds (Register b) u = Unit {0}
 SourceNeeds (Number n) u = Unit {0}
 SourceNeeds (Constant k) u = Unit {0}
-SourceNeeds (Fram a) u = IsFram a
-SourceNeeds (Ram a) u = IsRam a
-SourceNeeds (Pointed b) u = IsFram (u.work (work_number b))
-SourceNeeds (PointedNext b) u = IsFram (u.work (work_number b)) × (u.work (work_number b) + 2 < fram_end)
-SourceNeeds (Indexed b x) u = IsFram (u.work (work_number b) + x)
+SourceNeeds (Fram a) u = IsPlace a
+SourceNeeds (Ram a) u = IsRam a × (u.sp ≤ a)
+SourceNeeds (Pointed b) u = IsPlace (u.work (work_number b))
+SourceNeeds (PointedNext b) u = IsPlace (u.work (work_number b))
+SourceNeeds (Indexed b x) u = IsPlace (u.work (work_number b) + x)
 SourceNeeds Popped u = IsRam u.sp
+
+-- the address in RAM at which it reads, if it does
+abbrev pub source_ram : Source → Core → Option ℕ
+source_ram (Ram a) u = Some a
+source_ram Popped u = Some u.sp
+source_ram _ u = None
 
 -- a word written to a target, in so many cycles
 abbrev pub target_written : Target → ℕ → ℕ → Core → CoreOutcome
@@ -147,10 +153,10 @@ target_written ToOutdata c v u = Goes (Outside (Offered u.outnum v) ∷ []) c u
 -- what it needs
 abbrev pub TargetNeeds : Target → Core → Type 0
 TargetNeeds (ToRegister b) u = Unit {0}
-TargetNeeds (ToFram a) u = IsFram a
+TargetNeeds (ToFram a) u = IsPlace a
 TargetNeeds (ToRam a) u = IsRam a
-TargetNeeds (ToIndexed b x) u = IsFram (u.work (work_number b) + x)
-TargetNeeds (ToPointed b) u = IsFram (u.work (work_number b))
+TargetNeeds (ToIndexed b x) u = IsPlace (u.work (work_number b) + x)
+TargetNeeds (ToPointed b) u = IsPlace (u.work (work_number b))
 TargetNeeds ToOutnum u = Unit {0}
 TargetNeeds ToOutdata u = Unit {0}
 
@@ -214,7 +220,7 @@ form_step (SkipBy b) u =
 -- room in RAM below SP for a word
 pub record HasPushRoom (sp : ℕ) : Type 0 where
   pub even : sp % 2 ≡ 0
-  pub low : ram_first + 2 ≤ sp
+  pub room : HasStackRoom sp 1
   pub high : sp ≤ stack_top
 
 -- an operation that reads its destination
@@ -226,8 +232,8 @@ IsNotMov _ = Unit {0}
 abbrev pub FormNeeds : Form → Core → Type 0
 FormNeeds (Move x y) u = SourceNeeds x u × TargetNeeds y (source_read x u)
 FormNeeds (Calculate op x b) u = IsNotMov op × SourceNeeds x u
-FormNeeds (Compare x a) u = SourceNeeds x u × IsFram a
-FormNeeds (Update op x a) u = IsNotMov op × (writes_destination op ≡ true) × SourceNeeds x u × IsFram a
+FormNeeds (Compare x a) u = SourceNeeds x u × IsPlace a
+FormNeeds (Update op x a) u = IsNotMov op × (writes_destination op ≡ true) × SourceNeeds x u × IsPlace a
 FormNeeds (Push x) u = SourceNeeds x u × HasPushRoom (source_read x u).sp
 FormNeeds (Modify m b) u = Unit {0}
 FormNeeds (SetStack n) u = n % 2 ≡ 0
@@ -235,8 +241,17 @@ FormNeeds (Sense b) u = Unit {0}
 FormNeeds (Jump c offset) u = Unit {0}
 FormNeeds (Skip n) u = n % 2 ≡ 0
 FormNeeds (Branch a) u = a % 2 ≡ 0
-FormNeeds (BranchIndexed b x) u = IsFram (u.work (work_number b) + x) × (u.fram (u.work (work_number b) + x) % 2 ≡ 0)
+FormNeeds (BranchIndexed b x) u = IsPlace (u.work (work_number b) + x) × (u.fram (u.work (work_number b) + x) % 2 ≡ 0)
 FormNeeds (SkipBy b) u = u.work (work_number b) % 2 ≡ 0
+
+-- the address in RAM at which a form reads, if it does
+abbrev pub ram_read : Form → Core → Option ℕ
+ram_read (Move x y) u = source_ram x u
+ram_read (Calculate op x b) u = source_ram x u
+ram_read (Compare x a) u = source_ram x u
+ram_read (Update op x a) u = source_ram x u
+ram_read (Push x) u = source_ram x u
+ram_read _ u = None
 
 -- an even address with room behind it for an instruction of three words
 pub record IsCodeAddress (pc : ℕ) : Type 0 where

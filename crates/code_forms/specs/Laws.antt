@@ -6,8 +6,8 @@ use Rattle.machine_effects.specs.fram_board.Board.{PowerState}
 use Rattle.machine_effects.specs.fram_board.Effects.{Effect}
 use Rattle.machine_effects.specs.Going.{At, stretch, Leads, going}
 use Rattle.machine_effects.specs.Machine.{Code, MachineBoard, MachineStretch, MachineRun, exec, step_with, machine_powered}
-use Rattle.code_forms.specs.Forms.{Core, board_of, core_of, outcome_of_core, Form, instruction_of, form_step, FormNeeds, IsCodeAddress}
-use Rattle.code_forms.specs.Code.{Stands, AreStraight, forms_run, FormsNeed, IsTidy}
+use Rattle.code_forms.specs.Forms.{Core, board_of, core_of, outcome_of_core, Form, instruction_of, form_step, FormNeeds, ram_read, IsCodeAddress}
+use Rattle.code_forms.specs.Code.{Stands, AreStraight, forms_run, FormsNeed, IsTidy, IsAtForm, OfState, StepsAreForms}
 use Rattle.code_forms.specs.Placed.{placed, words_of, instructions, Holds, AreInstructions, LeavesCode}
 
 -- a machine that was powered up has its registers told apart
@@ -24,6 +24,19 @@ abbrev pub StraightCodeLeads : Type 0
 StraightCodeLeads = (code : Code) (ms : List Form) (u t : Core) (es : List Effect) (c : ℕ)
     → IsTidy code → AreStraight ms → Stands code u.pc ms → FormsNeed ms u
     → forms_run ms u ≡ stretch es c (At t) → Leads (exec code) (length ms) es c (board_of u) (board_of t)
+
+-- a machine that stands at a form which reads no word of RAM below SP
+pub record ReadsFromSp (code : Code) (s : MachineBoard) : Type 0 where
+  pub at : IsAtForm code s
+  pub from : (a : ℕ) → ram_read at.form at.core ≡ Some a → at.core.sp ≤ a
+
+-- in front of each of so many steps from u it does
+abbrev pub StepsReadFromSp : Code → ℕ → Core → Type 0
+StepsReadFromSp code steps u = (n : ℕ) → n < steps → OfState (going (exec code) n (board_of u)).status (ReadsFromSp code)
+
+-- where it stands at forms that have what they need, it does
+abbrev pub FormsReadFromSp : Type 0
+FormsReadFromSp = (code : Code) (steps : ℕ) (u : Core) → StepsAreForms code steps u → StepsReadFromSp code steps u
 
 -- forms stand where they are placed
 abbrev pub FormsStandWherePlaced : Type 0

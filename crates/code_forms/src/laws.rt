@@ -1,6 +1,7 @@
 //! Laws of the forms. The functions do nothing: their contracts are the laws.
 
-ghost use Rattle.code_forms.specs.Laws.{PoweredHasACore, FormsDoAsInstructions, StraightCodeLeads, FormsStandWherePlaced, PlacedIsTidy, CodeInFramRuns};
+ghost use Rattle.code_forms.specs.Laws.{PoweredHasACore, FormsDoAsInstructions, StraightCodeLeads, FormsReadFromSp, FormsStandWherePlaced, PlacedIsTidy};
+ghost use Rattle.code_forms.specs.Laws.{CodeInFramRuns};
 
 /// A machine that was powered up has SR and R3 at 0, so that its registers can be told apart.
 pub fn powered_machine_has_a_core()
@@ -17,6 +18,12 @@ pub fn forms_do_as_instructions()
 #[tactic(auto, using(crate::proofs::Blocks::straight_code_leads))]
 pub fn straight_code_leads()
     ensures { StraightCodeLeads }
+{}
+
+/// A form that has what it needs reads no word of RAM below SP.
+#[tactic(auto, using(crate::proofs::FromSp::forms_read_from_sp))]
+pub fn forms_read_from_sp()
+    ensures { FormsReadFromSp }
 {}
 
 /// Forms stand where they are placed, at even addresses with room behind them.

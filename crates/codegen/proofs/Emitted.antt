@@ -118,5 +118,5 @@ pub one_more : (ms : List Form) (k : Condition) (d : ℕ) → size (ms ++ Jump k
 one_more ms k d = omega (arith, forms_bytes-append ms (Jump k d ∷ []))
 
 -- of a whole program no local is further up than RAM has room
-pub whole_locals : (p : Program) → IsWhole p → locals_of p ≤ 1008
-whole_locals p whole = omega (arith, program_least whole.locals p whole.low_locals, whole.fits)
+pub whole_locals : (p : Program) → IsWhole p → locals_of p ≤ 1016
+whole_locals p whole = omega (arith, program_least whole.locals p whole.low_locals, whole.fits.fits)

@@ -38,7 +38,7 @@ pub fn local_register(n: u16) -> WorkRegister
 
 /// Where any other local stands in RAM.
 pub fn local_address(n: u16) -> u16
-    requires { n < 1008 }
+    requires { n < 1016 }
     ensures { result ≡ place.local_address n }
 {
     0x240e - 2 * n
@@ -46,7 +46,7 @@ pub fn local_address(n: u16) -> u16
 
 /// A local as what MOV writes.
 pub fn local_target(n: u16) -> Target
-    requires { n < 1008 }
+    requires { n < 1016 }
     ensures { result ≡ place.local_target n }
 {
     if n < 8 {

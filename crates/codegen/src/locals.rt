@@ -20,7 +20,7 @@ fn greater(a: u16, b: u16) -> u16
 // One more than the greatest local that a test names; 0 where it names none.
 #[cycle(named)]
 fn test_locals(test: &WordTest) -> u16
-    requires { TestLocalsBelow 1008 (test_of test.now) }
+    requires { TestLocalsBelow 1016 (test_of test.now) }
     ensures { result ≡ test_locals (test_of test.now) }
 {
     match test {
@@ -35,7 +35,7 @@ fn test_locals(test: &WordTest) -> u16
 // The same of a step.
 #[cycle(named)]
 fn step_locals(step: &WordStep) -> u16
-    requires { StepLocalsBelow 1008 (step_of step.now) }
+    requires { StepLocalsBelow 1016 (step_of step.now) }
     ensures { result ≡ step_locals (step_of step.now) }
 {
     match step {
@@ -55,7 +55,7 @@ fn step_locals(step: &WordStep) -> u16
 /// One more than the greatest local that steps name; 0 where they name none.
 #[cycle(named)]
 pub fn steps_locals(steps: &[WordStep]) -> u16
-    requires { LocalsBelow 1008 (steps_of steps.now) }
+    requires { LocalsBelow 1016 (steps_of steps.now) }
     ensures { result ≡ locals_of (steps_of steps.now) }
 {
     let mut most = 0;
@@ -67,7 +67,7 @@ pub fn steps_locals(steps: &[WordStep]) -> u16
 
 /// Appends what sets the place of the stack of a program whose locals are below a number, where some of them stand in RAM.
 pub fn emit_stack_set(locals: u16, code: &mut Vec<Form>) -> Result<(), AllocError>
-    requires { locals ≤ 1008 }
+    requires { locals ≤ 1016 }
     ensures { OnOk result (code.new.items ≡ code.old.items ++ stack_set locals) }
 {
     if 8 < locals {

@@ -57,7 +57,7 @@ fn emit_test(
     code: &mut Vec<Form>,
 ) -> Result<(), AllocError>
     requires room { over + test_words (test_of test.now) ≤ 0x7FFF }
-    requires locals { TestLocalsBelow 1008 (test_of test.now) }
+    requires locals { TestLocalsBelow 1016 (test_of test.now) }
     ensures code { OnOk result (code.new.items ≡ code.old.items ++ test_code bounds.now (test_of test.now) when over) }
     ensures of_words { OnOk result (TestOfWords (test_of test.now)) }
 {
@@ -100,7 +100,7 @@ fn emit_truth(
     code: &mut Vec<Form>,
 ) -> Result<(), AllocError>
     requires room { step_words (value.truth (test_of test.now)) ≤ 0x7FFF }
-    requires locals { TestLocalsBelow 1008 (test_of test.now) }
+    requires locals { TestLocalsBelow 1016 (test_of test.now) }
     ensures code { OnOk result (code.new.items ≡ code.old.items ++ step_code bounds.now waiting.old.items (value.truth (test_of test.now))) }
     ensures waiting { OnOk result (waiting.new.items ≡ []) }
     ensures of_words { OnOk result (TestOfWords (test_of test.now)) }
@@ -122,8 +122,8 @@ fn emit_loop(
     code: &mut Vec<Form>,
 ) -> Result<(), AllocError>
     requires room { step_words (value.repeat own.local from own.below (steps_of body.now)) ≤ 0x7FFF }
-    requires low { own.local < 1008 }
-    requires locals { LocalsBelow 1008 (steps_of body.now) }
+    requires low { own.local < 1016 }
+    requires locals { LocalsBelow 1016 (steps_of body.now) }
     ensures code { OnOk result (code.new.items
         ≡ code.old.items ++ step_code bounds.now waiting.old.items (value.repeat own.local from own.below (steps_of body.now))) }
     ensures waiting { OnOk result (waiting.new.items ≡ []) }
@@ -154,7 +154,7 @@ fn emit_step(
     code: &mut Vec<Form>,
 ) -> Result<(), AllocError>
     requires room { step_words (step_of step.now) ≤ 0x7FFF }
-    requires locals { StepLocalsBelow 1008 (step_of step.now) }
+    requires locals { StepLocalsBelow 1016 (step_of step.now) }
     ensures code { OnOk result (code.new.items ≡ code.old.items ++ step_code bounds.now waiting.old.items (step_of step.now)) }
     ensures waiting { OnOk result (waiting.new.items ≡ waiting_behind waiting.old.items (step_of step.now)) }
     ensures of_words { OnOk result (StepOfWords (step_of step.now)) }
@@ -230,7 +230,7 @@ fn emit_steps(
     code: &mut Vec<Form>,
 ) -> Result<(), AllocError>
     requires room { words_of (steps_of steps.now) ≤ 0x7FFF }
-    requires locals { LocalsBelow 1008 (steps_of steps.now) }
+    requires locals { LocalsBelow 1016 (steps_of steps.now) }
     ensures code { OnOk result (code.new.items ≡ code.old.items ++ steps_code bounds.now waiting.old.items (steps_of steps.now)) }
     ensures waiting { OnOk result (waiting.new.items ≡ waiting_after waiting.old.items (steps_of steps.now)) }
     ensures of_words { OnOk result (OfWords (steps_of steps.now)) }
@@ -250,7 +250,7 @@ fn emit_block(
     code: &mut Vec<Form>,
 ) -> Result<(), AllocError>
     requires room { words_of (steps_of steps.now) ≤ 0x7FFF }
-    requires locals { LocalsBelow 1008 (steps_of steps.now) }
+    requires locals { LocalsBelow 1016 (steps_of steps.now) }
     ensures code { OnOk result (code.new.items ≡ code.old.items ++ block_code bounds.now (steps_of steps.now)) }
     ensures of_words { OnOk result (OfWords (steps_of steps.now)) }
 {

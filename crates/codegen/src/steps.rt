@@ -173,7 +173,7 @@ pub fn emit_entry(
 
 /// Appends the code that makes a local a number.
 pub fn emit_number(n: u16, number: u16, code: &mut Vec<Form>) -> Result<(), AllocError>
-    requires { n < 1008 }
+    requires { n < 1016 }
     ensures { OnOk result (code.new.items ≡ code.old.items ++ number_code n number) }
 {
     code.extend_from_slice(&[Move(number_source(number), local_target(n))])
@@ -181,7 +181,7 @@ pub fn emit_number(n: u16, number: u16, code: &mut Vec<Form>) -> Result<(), Allo
 
 /// Appends the end of a turn: the local goes up by one, and is compared with the number.
 pub fn emit_turn_end(bound: Bound, code: &mut Vec<Form>) -> Result<(), AllocError>
-    requires { bound.local < 1008 }
+    requires { bound.local < 1016 }
     ensures { OnOk result (code.new.items ≡ code.old.items ++ turn_end bound.local bound.below) }
 {
     let end = number_source(bound.below);
@@ -216,7 +216,7 @@ pub fn emit_local(
     waiting: &mut Vec<Waiting>,
     code: &mut Vec<Form>,
 ) -> Result<(), AllocError>
-    requires { n < 1008 }
+    requires { n < 1016 }
     ensures code { OnOk result (code.new.items ≡ code.old.items ++ step_code [] waiting.old.items (value.local n)) }
     ensures waiting { OnOk result (waiting.new.items ≡ waiting_behind waiting.old.items (value.local n)) }
 {
@@ -265,7 +265,7 @@ pub fn emit_set_local(
     waiting: &mut Vec<Waiting>,
     code: &mut Vec<Form>,
 ) -> Result<(), AllocError>
-    requires { n < 1008 }
+    requires { n < 1016 }
     ensures code { OnOk result (code.new.items ≡ code.old.items ++ step_code [] waiting.old.items (value.set_local n)) }
     ensures waiting { OnOk result (waiting.new.items ≡ []) }
 {
@@ -280,7 +280,7 @@ fn emit_ram_update(
     source: Source,
     code: &mut Vec<Form>,
 ) -> Result<(), AllocError>
-    requires { n < 1008 }
+    requires { n < 1016 }
     ensures { OnOk result (code.new.items ≡ code.old.items ++ ram_update operation n source) }
 {
     let place = local_address(n);
@@ -299,7 +299,7 @@ fn emit_updated(
     source: Source,
     code: &mut Vec<Form>,
 ) -> Result<(), AllocError>
-    requires { n < 1008 }
+    requires { n < 1016 }
     ensures { OnOk result (code.new.items ≡ code.old.items ++ update_code operation n source) }
 {
     if n < 8 {
@@ -318,7 +318,7 @@ pub fn emit_update_local(
     waiting: &mut Vec<Waiting>,
     code: &mut Vec<Form>,
 ) -> Result<(), AllocError>
-    requires { n < 1008 }
+    requires { n < 1016 }
     ensures code { OnOk result (code.new.items ≡ code.old.items ++ step_code [] waiting.old.items (value.update_local operation n)) }
     ensures waiting { OnOk result (waiting.new.items ≡ []) }
 {

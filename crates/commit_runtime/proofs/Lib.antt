@@ -2,5 +2,4 @@ mod Copies
 mod WordLoop
 mod Commit
 mod Words
-mod Stores
 pub mod Interface

@@ -1,7 +1,7 @@
 -- What the commit's code does.
 use Rattle.std.specs.Prelude.{◌≡◌, ℕ, ◌+◌, ◌*◌, ◌%◌, ◌<◌, length}
 use Rattle.runtime_code.specs.machine_effects.World.{fram_after, EachStore}
-use Rattle.runtime_code.specs.machine_effects.Machine.{Code, IsFram}
+use Rattle.runtime_code.specs.machine_effects.Machine.{Code, IsPlace}
 use Rattle.runtime_code.specs.code_forms.Forms.{Core}
 use Rattle.runtime_code.specs.code_forms.Code.{Stands, IsTidy}
 use Rattle.runtime_code.specs.code_forms.Placed.{instructions, words_of, AreInstructions}
@@ -32,6 +32,6 @@ CommitIsShort = (m : MemoryMap) (start : ℕ) → 2 * length (words_of (instruct
 abbrev pub CommitIsCode : Type 0
 CommitIsCode = (m : MemoryMap) (start : ℕ) → AreInstructions (instructions (commit_forms m start))
 
--- it stores at words of FRAM alone
+-- it stores at words of FRAM in front of where programs end alone
 abbrev pub CommitStoresInFram : Type 0
-CommitStoresInFram = (m : MemoryMap) (f : ℕ → ℕ) → AreInFram m → CanCommit m f → EachStore (λ a w. IsFram a) (commit_effects m f)
+CommitStoresInFram = (m : MemoryMap) (f : ℕ → ℕ) → AreInFram m → CanCommit m f → EachStore (λ a w. IsPlace a) (commit_effects m f)

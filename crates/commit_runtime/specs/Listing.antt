@@ -1,13 +1,14 @@
 -- The commit's code: its listing.
-use Rattle.std.specs.Prelude.{ℕ, ◌+◌, ◌-◌, ◌*◌, List, [], ◌∷◌, ◌++◌}
+use Rattle.std.specs.Prelude.{ℕ, ◌+◌, ◌*◌, List, [], ◌∷◌, ◌++◌}
 use Rattle.runtime_code.specs.msp_isa.declared.instructions.TwoOp.TheVariants.{Add, Sub}
 use Rattle.runtime_code.specs.msp_isa.declared.operands.Konst.TheVariants.{Zero, One, Two}
 use Rattle.runtime_code.specs.msp_isa.declared.instructions.Condition.TheVariants.{Carry, Always}
 use Rattle.runtime_code.specs.code_forms.Forms.{Form, Move, Calculate, Jump, Branch, R4, R5, R6, R7, R8}
-use Rattle.runtime_code.specs.code_forms.Forms.{Register, Constant, Fram, PointedNext, ToRegister, ToFram, ToPointed, ToOutnum, ToOutdata}
-use Rattle.memory_map.specs.declared.words.RuntimeWord.TheVariants.{CurrentTask, NextTask, Gate, ListLength, EmitCount, Base, SentBase}
+use Rattle.runtime_code.specs.code_forms.Forms.{Register, Constant, Fram, PointedNext, ToRegister, ToFram, ToPointed}
+use Rattle.memory_map.specs.declared.words.RuntimeWord.TheVariants.{CurrentTask, NextTask, Gate, ListLength, Base}
 use Rattle.memory_map.specs.MemoryMap.{MemoryMap, word_place}
-use Rattle.runtime_code.specs.Counted.{counted, if_any}
+use Rattle.runtime_code.specs.Counted.{over, back_over, counted, if_any}
+pub use Rattle.runtime_code.specs.Sending.{sends_begin, send_turn, send_loop, sending}
 
 -- R4 := CLN
 abbrev pub copies_begin : MemoryMap → List Form
@@ -17,26 +18,21 @@ copies_begin m = Move (Fram (word_place m ListLength)) (ToRegister R4) ∷ []
 abbrev pub entry_begin : List Form
 entry_begin = Move (PointedNext R5) (ToRegister R6) ∷ Move (PointedNext R5) (ToRegister R7) ∷ Move (PointedNext R5) (ToRegister R8) ∷ []
 
+-- a word goes home
+abbrev pub word_moved : List Form
+word_moved = Move (PointedNext R7) (ToPointed R6) ∷ Calculate Add (Constant Two) R6 ∷ []
+
+-- one word less in R8
+abbrev pub word_counted : List Form
+word_counted = Calculate Sub (Constant One) R8 ∷ []
+
 -- one word after another goes home, and R8 is counted down before each: it begins at the count, and leaves where nothing was left
 abbrev pub word_loop : List Form
-word_loop =
-    Jump Always 3 ∷ Move (PointedNext R7) (ToPointed R6) ∷ Calculate Add (Constant Two) R6 ∷ Calculate Sub (Constant One) R8 ∷ Jump Carry (0x400 - 5) ∷ []
+word_loop = Jump Always (over word_moved) ∷ (word_moved ++ (word_counted ++ (Jump Carry (back_over (word_moved ++ word_counted)) ∷ [])))
 
 -- for each entry of the commit list its words go home
 abbrev pub copy_loop : MemoryMap → List Form
-copy_loop m = counted m.list.address (entry_begin ++ word_loop) 13 (0x400 - 11)
-
--- R7 := SB, R4 := EN
-abbrev pub sends_begin : MemoryMap → List Form
-sends_begin m = Move (Fram (word_place m SentBase)) (ToRegister R7) ∷ Move (Fram (word_place m EmitCount)) (ToRegister R4) ∷ []
-
--- OUTNUM := the number in R7, OUTDATA := the word; the next number
-abbrev pub send_turn : List Form
-send_turn = Move (Register R7) ToOutnum ∷ Move (PointedNext R5) ToOutdata ∷ Calculate Add (Constant One) R7 ∷ []
-
--- for each emitted word; behind the last one R7 is SB + EN
-abbrev pub send_loop : MemoryMap → List Form
-send_loop m = counted m.emits.address send_turn 9 (0x400 - 7)
+copy_loop m = counted m.list.address (entry_begin ++ word_loop)
 
 -- CUR := NEXT, BASE := the number in R7, GATE := 0
 abbrev pub closing : MemoryMap → List Form

@@ -16,7 +16,7 @@ pub fn commit_is_short()
 {}
 
 /// All that a commit stores are words of FRAM.
-#[tactic(auto, using(crate::proofs::Stores::commit_stores_in_fram))]
+#[tactic(auto, using(crate::proofs::Copies::commit_stores_in_fram))]
 pub fn commit_stores_in_fram()
     ensures { CommitStoresInFram }
 {}

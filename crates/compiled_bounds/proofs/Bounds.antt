@@ -1,12 +1,12 @@
 -- The greatest of the costs of tasks, by number and by the list.
+use Rattle.cost_bound.specs.Allowance as allowance
 use Rattle.std.proofs.Common.{◌≡◌, ℕ, zero, suc, ◌<◌, ◌≤◌, max, Bool, true, false, cond, nat_lt, refl, ap, ◌∙◌, arith, List, [], ◌∷◌, length}
 use Rattle.std.proofs.lemmas.Bool.Decides.{nat_tests}
 use Rattle.std.specs.Prelude.{slice_get}
-use Rattle.compiled_model.specs.cost_bound.Counts.{CheckedBlock}
-use Rattle.compiled_model.specs.cost_bound.Allowance.{CheckedTask, CheckedProgram, task_bound, versions_of}
-use Rattle.compiled_model.specs.cost_bound.Allowance as allowance
-use Rattle.compiled_model.specs.source_values.Runs.{body_of}
-use Rattle.compiled_model.specs.crash_rules.Model.{greatest}
+use Rattle.cost_bound.specs.Counts.{CheckedBlock}
+use Rattle.cost_bound.specs.Allowance.{CheckedTask, task_bound, versions_of}
+use Rattle.source_values.specs.Runs.{body_of}
+use Rattle.crash_rules.specs.Model.{greatest}
 use Rattle.compiled_bounds.specs.Laws.{BoundIsTheSources}
 
 greater : (a b : ℕ) → cond (nat_lt a b) b a ≡ max a b

@@ -1,23 +1,24 @@
 -- The commit list and the emit buffer keep to their capacities, and version words to VER.
 use Rattle.std.proofs.Common.{ℕ, refl, sym, subst, arith, List}
-use Rattle.compiled_model.specs.machine_effects.World.{World, EachStore}
-use Rattle.compiled_model.specs.machine_effects.Inputs.{Inputs}
-use Rattle.compiled_model.specs.cost_bound.Allowance.{CheckedProgram}
-use Rattle.compiled_model.specs.source_values.Runs.{State}
-use Rattle.compiled_model.specs.memory_map.declared.words.RuntimeWord.TheVariants.{ListLength, EmitCount}
-use Rattle.compiled_model.specs.memory_map.MemoryMap.{MemoryMap, word_place}
-use Rattle.compiled_model.specs.crash_rules.Model.{Model}
-use Rattle.compiled_model.specs.crash_rules.History.{History}
-use Rattle.compiled_model.specs.crash_rules.Runs.{Program}
-use Rattle.compiled_model.specs.crash_rules.Laws.{Origin, Phase, UndecidedPhase, DecidedPhase, CommittingPhase, ScriptsStore}
-use Rattle.compiled_model.specs.memory_map.Laws.{AreApart}
-use Rattle.compiled_model.specs.stands_for.StandsFor.{CommittingTo, VersionsWithin}
-use Rattle.compiled_model.proofs.stands_for.Interface.{commit_stores_all}
+use Rattle.machine_effects.specs.World.{World, EachStore}
+use Rattle.machine_effects.specs.Inputs.{Inputs}
+use Rattle.cost_bound.specs.Allowance.{CheckedProgram}
+use Rattle.source_values.specs.Runs.{State}
+use Rattle.memory_map.specs.declared.words.RuntimeWord.TheVariants.{ListLength, EmitCount}
+use Rattle.memory_map.specs.MemoryMap.{MemoryMap, word_place}
+use Rattle.crash_rules.specs.Model.{Model}
+use Rattle.crash_rules.specs.History.{History}
+use Rattle.crash_rules.specs.Runs.{Program}
+use Rattle.crash_rules.specs.Laws.{Origin, Phase, UndecidedPhase, DecidedPhase, CommittingPhase, ScriptsStore}
+use Rattle.memory_map.specs.Laws.{AreApart}
+use Rattle.stands_for.specs.StandsFor.{CommittingTo, HoldsWords, VersionsWithin}
+use Rattle.stands_for.proofs.Interface.{commit_stores_all}
 use Rattle.compiled_model.specs.Places.{program_places}
 use Rattle.compiled_model.specs.View.{state_view}
-use Rattle.compiled_model.specs.Parts.{redo_model}
+use Rattle.compiled_model.specs.Parts.{redo_model, compiled_model}
+use Rattle.compiled_model.specs.Needs.{AttemptsStore}
 use Rattle.compiled_model.proofs.Interface.{is_redo}
-use Rattle.model_runs.specs.Runs.{BearsModel, history_behind}
+use Rattle.model_runs.specs.Runs.{history_behind}
 use Rattle.model_runs.proofs.Interface.{fronts_are_lawful, words_stay_within}
 use Rattle.compiled_bounds.specs.Laws.{CountsFit, CapacitiesAreKept}
 
@@ -32,32 +33,35 @@ module _ (p : CheckedProgram) (l : MemoryMap) (apart : AreApart l) where
       (λ w. record { list = λ e. absurd (omega (arith, apart, e)); emits = λ e. absurd (omega (arith, apart, e)) })
       (λ w. record { list = λ e. absurd (omega (arith, apart, e)); emits = λ e. absurd (omega (arith, apart, e)) })
 
-  -- what a run stands for keeps version words within VER
-  phase_versions : (readings : List ℕ) (origin : Origin State) (s : State) (h : History) → Phase (redo_model p l) readings origin s h
-      → VersionsWithin (program_places p l) h.world.fram
-  phase_versions readings origin s h (UndecidedPhase u settled w) = w.is_open.versions
-  phase_versions readings origin s h (DecidedPhase next u t w) = w.decided.sends.versions
-  phase_versions readings origin s h (CommittingPhase u k n w) = w.pending.versions
+-- FRAM whose words are words, with no version word above VER
+pub record KeepsVersions (p : CheckedProgram) (l : MemoryMap) (f : ℕ → ℕ) : Type 0 where
+  pub words : HoldsWords f
+  pub versions : VersionsWithin (program_places p l) f
+
+-- so is what a run stands for
+pub phase_keeps_versions : (p : CheckedProgram) (l : MemoryMap) (readings : List ℕ) (origin : Origin State) (s : State) (h : History)
+    → Phase (compiled_model p l) readings origin s h → KeepsVersions p l h.world.fram
+phase_keeps_versions p l readings origin s h phase =
+    let P : Model State → Type 0 = λ m. Phase m readings origin s h in under_redo (subst P (is_redo p l) phase)
+  where
+    under_redo : Phase (redo_model p l) readings origin s h → KeepsVersions p l h.world.fram
+    under_redo (UndecidedPhase u settled w) = record { words = w.is_open.words; versions = w.is_open.versions }
+    under_redo (DecidedPhase next u t w) = record { words = w.decided.sends.words; versions = w.decided.sends.versions }
+    under_redo (CommittingPhase u k n w) = record { words = w.pending.words; versions = w.pending.versions }
 
 -- the counts of a compiled source keep to the capacities of its layout at each board of a run
 pub capacities_are_kept : (c : Program) → CapacitiesAreKept c
-capacities_are_kept c p l apart fit readings origin x cs b r run under_map first ms rest e =
-    let model = redo_model p l in
-    let Bears : Model State → Type 0 = λ m. BearsModel m c readings origin x b in
-    let bears : BearsModel model c readings origin x b = subst Bears (is_redo p l) under_map in
-    let scripts : ScriptsStore model (CountsFit l) = record {
-      recoveries = λ s y u. tt;
-      attempts = λ s y inputs words u.
-          let Fits : Model State → Type 0 = λ m. EachStore (CountsFit l) (m.attempt y.fram inputs).effects in
-          subst Fits (is_redo p l) (fit s y inputs words u);
-      commits = commits_fit p l apart;
-    } in
+capacities_are_kept c p l apart fit readings origin x cs b r run bears first ms rest e =
+    let model = compiled_model p l in
+    let P : Model State → Type 0 = λ m. AttemptsStore m (CountsFit l) → ScriptsStore m (CountsFit l) in
+    let scripts : ScriptsStore model (CountsFit l) =
+    subst P (sym (is_redo p l)) (λ attempts. record { recoveries = λ s y u. tt; attempts = attempts; commits = commits_fit p l apart }) fit in
     let stays = words_stay_within model c (CountsFit l) readings origin x cs b r run bears scripts in
     let k = fronts_are_lawful model c readings origin x cs b r run bears ms rest e in
-    let h = history_behind model x ms in
-    let P : (ℕ → ℕ) → Type 0 = λ f. VersionsWithin (program_places p l) f in
+    let Within : (ℕ → ℕ) → Type 0 = λ f. VersionsWithin (program_places p l) f in
     record {
       list = stays (word_place l ListLength) l.entries (λ w s. s.list refl) first.list ms rest e;
       emits = stays (word_place l EmitCount) l.emits.words (λ w s. s.emits refl) first.emits ms rest e;
-      versions = subst P (sym k.1.fram) (phase_versions p l apart readings origin k.0.stands.state h k.0.stands.phase);
+      versions = subst Within (sym k.1.fram)
+          (phase_keeps_versions p l readings origin k.0.stands.state (history_behind model x ms) k.0.stands.phase).versions;
     }

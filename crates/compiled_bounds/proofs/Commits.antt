@@ -2,15 +2,14 @@
 -- for each word of the most that are emitted.
 use Rattle.std.proofs.Common.{◌≡◌, ℕ, zero, suc, ◌+◌, ◌-◌, ◌*◌, ◌<◌, ◌≤◌, ⊎_elim, arith, List, [], ◌∷◌, length, Some, None}
 use Rattle.std.proofs.lemmas.Bool.{cases_lt}
-use Rattle.compiled_model.specs.task_ast.Tree.{Statement, declare, assign, store, choose, loop, emit, transition, Choice, nothing, otherwise, test, Block}
-use Rattle.compiled_model.specs.task_ast.Tree.{end, step}
-use Rattle.compiled_model.specs.task_ast.declared.names.VariableName.{VariableName}
-use Rattle.compiled_model.specs.task_ast.declared.names.TaskName.{TaskName}
-use Rattle.compiled_model.specs.cost_bound.Table.{cycles_column, statement_price, blocks_price, block_price}
-use Rattle.compiled_model.specs.cost_bound.Counts.{CheckedBlock, is_emit, statement_count, choice_count, block_count, emits_of}
-use Rattle.compiled_model.specs.cost_bound.Allowance.{CheckedProgram, CheckedTask, bound_of, list_of, task_bound, versions_of, greatest}
-use Rattle.compiled_model.specs.commit_runtime.Listing.{commit_cycles}
-use Rattle.compiled_model.proofs.runtime_code.Interface.{if_any_most}
+use Rattle.task_ast.specs.Tree.{Statement, declare, assign, store, choose, loop, emit, transition, Choice, nothing, otherwise, test, Block, end, step}
+use Rattle.task_ast.specs.declared.names.VariableName.{VariableName}
+use Rattle.task_ast.specs.declared.names.TaskName.{TaskName}
+use Rattle.cost_bound.specs.Table.{cycles_column, statement_price, blocks_price, block_price}
+use Rattle.cost_bound.specs.Counts.{CheckedBlock, is_emit, statement_count, choice_count, block_count, emits_of}
+use Rattle.cost_bound.specs.Allowance.{CheckedProgram, CheckedTask, bound_of, list_of, task_bound, versions_of, greatest}
+use Rattle.commit_runtime.specs.Listing.{commit_cycles}
+use Rattle.runtime_code.proofs.Interface.{if_any_most}
 
 turns_pay : (n count price : ℕ) → 60 * count ≤ price → 60 * (n * count) ≤ n * (40 + price)
 turns_pay zero count price h = omega arith

@@ -3,37 +3,37 @@ use Rattle.std.proofs.Common.{◌≡◌, ℕ, ◌+◌, ◌*◌, ◌≤◌, sym, 
 use Rattle.std.proofs.lemmas.Option.{slice_get-map, get_or_from_slice_get}
 use Rattle.std.specs.Option.{option_map}
 use Rattle.std.specs.Prelude.{slice_get}
-use Rattle.compiled_model.specs.machine_effects.Inputs.{Inputs}
-use Rattle.compiled_model.specs.cost_bound.Table.{cycles_column, block_price}
-use Rattle.compiled_model.specs.cost_bound.Counts.{emits_of}
-use Rattle.compiled_model.specs.cost_bound.Allowance.{CheckedProgram, CheckedTask, IsAllowed, list_of, scalars_of, task_bound, versions_of}
-use Rattle.compiled_model.specs.cost_bound.declared.allowance.Allow.{Allow}
-use Rattle.compiled_model.proofs.war_analysis.Interface.{element}
-use Rattle.compiled_model.specs.source_values.Runs.{body_of, task_body}
-use Rattle.compiled_model.specs.war_analysis.PlanValue.{TaskPlanValue}
-use Rattle.compiled_model.specs.linked_code.Rooms.{PrivatesAreCounted}
-use Rattle.compiled_model.specs.array_versions.Program.{Program}
-use Rattle.compiled_model.specs.array_versions.Behaviour.{WordState, End, GoesOn, Jumps, Short, Strays, Broken, behaviour, started}
-use Rattle.compiled_model.specs.array_versions.Cost.{spent}
-use Rattle.compiled_model.specs.word_code.Code.{stack_cycles}
-use Rattle.compiled_model.specs.privatise.Layouts.{IsLayout}
-use Rattle.compiled_model.proofs.lower.Interface.{program_at, blocks_keep_to_cycles}
-use Rattle.compiled_model.proofs.runtime_effects.Interface.{scalar_pairs_count}
-use Rattle.compiled_model.proofs.memory_map.Interface.{privates_few}
-use Rattle.compiled_model.specs.boot_runtime.Entries.{entry_of, task_entries}
-use Rattle.compiled_model.specs.boot_runtime.Listing.{privates_in, entry_at, start_cycles}
-use Rattle.compiled_model.specs.lower.Seen.{map_seen}
-use Rattle.compiled_model.specs.lower.Lowered.{lowered_task}
-use Rattle.compiled_model.specs.lower.Sizes.{entry_cycles}
-use Rattle.compiled_model.specs.commit_runtime.Listing.{commit_cycles}
-use Rattle.compiled_model.proofs.runtime_code.Interface.{if_any_most}
+use Rattle.machine_effects.specs.Inputs.{Inputs}
+use Rattle.cost_bound.specs.Table.{cycles_column, block_price}
+use Rattle.cost_bound.specs.Counts.{emits_of}
+use Rattle.cost_bound.specs.Allowance.{CheckedProgram, CheckedTask, IsAllowed, list_of, scalars_of, task_bound, versions_of}
+use Rattle.cost_bound.specs.declared.allowance.Allow.{Allow}
+use Rattle.war_analysis.proofs.Interface.{element}
+use Rattle.source_values.specs.Runs.{body_of, task_body}
+use Rattle.war_analysis.specs.PlanValue.{TaskPlanValue}
+use Rattle.linked_code.specs.Rooms.{PrivatesAreCounted}
+use Rattle.array_versions.specs.Program.{Program}
+use Rattle.array_versions.specs.Behaviour.{WordState, End, GoesOn, Jumps, Short, Strays, Broken, behaviour, started}
+use Rattle.array_versions.specs.Cost.{spent}
+use Rattle.word_code.specs.Code.{stack_cycles}
+use Rattle.privatise.specs.Layouts.{IsLayout}
+use Rattle.lower.proofs.Interface.{program_at, blocks_keep_to_cycles}
+use Rattle.runtime_effects.proofs.Interface.{scalar_pairs_count}
+use Rattle.memory_map.proofs.Interface.{privates_few}
+use Rattle.boot_runtime.specs.Entries.{entry_of, task_entries}
+use Rattle.boot_runtime.specs.Listing.{privates_in, entry_at, start_cycles}
+use Rattle.lower.specs.Seen.{map_seen}
+use Rattle.lower.specs.Lowered.{lowered_task}
+use Rattle.lower.specs.Sizes.{entry_cycles}
+use Rattle.commit_runtime.specs.Listing.{commit_cycles}
+use Rattle.runtime_code.proofs.Interface.{if_any_most}
 use Rattle.compiled_model.specs.Parts.{task_program}
 use Rattle.compiled_model.specs.Needs.{whole_cycles}
 use Rattle.compiled_bounds.specs.Laws.{TasksKeepToTheBound}
+use Rattle.memory_map.specs.MemoryMap.{MemoryMap, TaskPlace}
+use Rattle.memory_map.specs.Spots.{places_of, private_words}
 use Rattle.compiled_bounds.proofs.Bounds.{bound_is_the_sources}
 use Rattle.compiled_bounds.proofs.Commits.{commit_within_bound}
-use Rattle.compiled_model.specs.memory_map.MemoryMap.{MemoryMap, TaskPlace}
-use Rattle.compiled_model.specs.memory_map.Spots.{places_of, private_words}
 
 -- what the entries cost at most
 entries_cost : (l : MemoryMap) (layout : TaskPlace) (e : End) → entry_cycles (places_of l layout) e ≤ 26 * length layout.privates

@@ -1,29 +1,25 @@
 -- What a compiled source's bound pays for, and what its runtime's words hold at most.
 use Rattle.std.specs.Prelude.{◌≡◌, ℕ, ◌+◌, ◌*◌, ◌<◌, ◌≤◌, List, ◌++◌}
-use Rattle.compiled_model.specs.fram_board.Board.{BoardValue}
-use Rattle.compiled_model.specs.fram_board.Run.{BoardCharge, Moment, RunOutcome}
-use Rattle.compiled_model.specs.machine_effects.World.{World, EachStore}
-use Rattle.compiled_model.specs.machine_effects.Inputs.{Inputs, InputsAreWords}
-use Rattle.compiled_model.specs.machine_effects.Runs.{last_board}
-use Rattle.compiled_model.specs.cost_bound.declared.allowance.Allow.{Allow}
-use Rattle.compiled_model.specs.cost_bound.Allowance.{CheckedProgram, IsAllowed, bound_of}
-use Rattle.compiled_model.specs.source_values.Runs.{State}
-use Rattle.compiled_model.specs.war_analysis.PlanValue.{TaskPlanValue}
-use Rattle.compiled_model.specs.linked_code.Rooms.{PrivatesAreCounted}
-use Rattle.compiled_model.specs.memory_map.declared.words.RuntimeWord.TheVariants.{ListLength, EmitCount, Version}
-use Rattle.compiled_model.specs.memory_map.MemoryMap.{MemoryMap, word_place}
-use Rattle.compiled_model.specs.privatise.Layouts.{IsLayout}
-use Rattle.compiled_model.specs.crash_rules.Model.{bound}
-use Rattle.compiled_model.specs.crash_rules.Runs.{Program}
-use Rattle.compiled_model.specs.crash_rules.Laws.{Origin}
-use Rattle.model_runs.specs.run_charges.View.{outside_of}
-use Rattle.model_runs.specs.run_charges.Laws.{IsRunOfWords}
-use Rattle.compiled_model.specs.memory_map.Laws.{AreApart}
-use Rattle.compiled_model.specs.stands_for.StandsFor.{UndecidedAt}
-use Rattle.compiled_model.specs.Places.{program_places}
-use Rattle.compiled_model.specs.View.{state_view}
+use Rattle.fram_board.specs.Board.{BoardValue}
+use Rattle.fram_board.specs.Run.{BoardCharge, Moment, RunOutcome}
+use Rattle.machine_effects.specs.World.{World}
+use Rattle.machine_effects.specs.Runs.{last_board}
+use Rattle.cost_bound.specs.declared.allowance.Allow.{Allow}
+use Rattle.cost_bound.specs.Allowance.{CheckedProgram, IsAllowed, bound_of}
+use Rattle.source_values.specs.Runs.{State}
+use Rattle.war_analysis.specs.PlanValue.{TaskPlanValue}
+use Rattle.linked_code.specs.Rooms.{PrivatesAreCounted}
+use Rattle.memory_map.specs.declared.words.RuntimeWord.TheVariants.{ListLength, EmitCount, Version}
+use Rattle.memory_map.specs.MemoryMap.{MemoryMap, word_place}
+use Rattle.privatise.specs.Layouts.{IsLayout}
+use Rattle.crash_rules.specs.Model.{bound}
+use Rattle.crash_rules.specs.Runs.{Program}
+use Rattle.crash_rules.specs.Laws.{Origin}
+use Rattle.run_charges.specs.View.{outside_of}
+use Rattle.run_charges.specs.Laws.{IsRunOfWords}
+use Rattle.memory_map.specs.Laws.{AreApart}
 use Rattle.compiled_model.specs.Parts.{compiled_model}
-use Rattle.compiled_model.specs.Needs.{CostsAreWithin}
+use Rattle.compiled_model.specs.Needs.{CostsAreWithin, AttemptsStore}
 use Rattle.model_runs.specs.Runs.{BearsModel}
 
 -- the bound of a compiled source is that of its allowance
@@ -49,8 +45,7 @@ pub record CountsFit (l : MemoryMap) (a w : ℕ) : Type 0 where
 
 -- each attempt stores so
 abbrev pub AttemptsFit : CheckedProgram → MemoryMap → Type 0
-AttemptsFit p l = (s : State) (x : World) (inputs : Inputs) → InputsAreWords inputs → UndecidedAt (program_places p l) (state_view p l) s x
-    → EachStore (CountsFit l) ((compiled_model p l).attempt x.fram inputs).effects
+AttemptsFit p l = AttemptsStore (compiled_model p l) (CountsFit l)
 
 -- at each board of a run the capacities are kept, where they are at first
 abbrev pub CapacitiesAreKept : Program → Type 0

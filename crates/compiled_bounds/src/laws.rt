@@ -1,7 +1,7 @@
 //! Laws of a compiled source's bound and capacities. The functions do nothing: their contracts are the laws.
 
-ghost use Rattle.compiled_model.specs.source_values.Runs.{State};
-ghost use Rattle.compiled_model.specs.crash_rules.Runs.{Program};
+ghost use Rattle.source_values.specs.Runs.{State};
+ghost use Rattle.crash_rules.specs.Runs.{Program};
 ghost use Rattle.compiled_bounds.specs.Laws.{BoundIsTheSources, CapacitiesAreKept, TasksKeepToTheBound};
 
 /// The code of a compiled source as the laws see it.

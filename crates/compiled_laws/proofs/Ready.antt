@@ -1,22 +1,22 @@
 -- An accepted source with its layout is ready to run.
 use Rattle.std.proofs.Common.{ℕ, ◌<◌, sym, subst, arith, List, length}
-use Rattle.task_attempts.specs.cost_bound.declared.allowance.Allow.{Allow}
-use Rattle.task_attempts.proofs.war_analysis.Interface.{element}
-use Rattle.task_attempts.specs.source_values.Runs.{CheckedProgram}
-use Rattle.task_attempts.specs.source_values.Running.{IsRunnable}
-use Rattle.task_attempts.proofs.source_meaning.Interface.{accepted_texts_run}
-use Rattle.task_attempts.specs.war_analysis.PlanValue.{TaskPlanValue}
-use Rattle.task_attempts.specs.array_versions.Program.{Program}
-use Rattle.task_attempts.specs.array_versions.Form.{IsWhole, OfWords}
-use Rattle.task_attempts.specs.memory_map.MemoryMap.{MemoryMap}
-use Rattle.task_attempts.proofs.stands_for.Interface.{each_weaker}
-use Rattle.task_attempts.proofs.lower.Interface.{program_at}
-use Rattle.task_attempts.specs.layout_facts.Facts.{HasLayout}
-use Rattle.task_attempts.proofs.layout_facts.Interface.{places_are_apart, tasks_have_room, privates_are_theirs, tasks_match}
-use Rattle.task_attempts.specs.whole_programs.Laws.{IsLaidOutText}
-use Rattle.task_attempts.proofs.whole_programs.Interface.{tasks_are_whole, privates_are_few}
+use Rattle.cost_bound.specs.declared.allowance.Allow.{Allow}
+use Rattle.war_analysis.proofs.Interface.{element}
+use Rattle.source_values.specs.Runs.{CheckedProgram}
+use Rattle.source_values.specs.Running.{IsRunnable}
+use Rattle.source_meaning.proofs.Interface.{accepted_texts_run}
+use Rattle.war_analysis.specs.PlanValue.{TaskPlanValue}
+use Rattle.array_versions.specs.Program.{Program}
+use Rattle.array_versions.specs.Form.{IsWhole, OfWords}
+use Rattle.memory_map.specs.MemoryMap.{MemoryMap}
+use Rattle.stands_for.proofs.Interface.{each_weaker}
+use Rattle.lower.proofs.Interface.{program_at}
+use Rattle.layout_facts.specs.Facts.{HasLayout}
+use Rattle.layout_facts.proofs.Interface.{places_are_apart, tasks_have_room, privates_are_theirs, tasks_match}
+use Rattle.whole_programs.specs.Laws.{IsLaidOutText}
+use Rattle.whole_programs.proofs.Interface.{tasks_are_whole, privates_are_few}
 use Rattle.task_attempts.proofs.Interface.{compiled_laws, stores_below_code, tasks_leave}
-use Rattle.task_attempts.specs.compiled_model.Parts.{task_program}
+use Rattle.compiled_model.specs.Parts.{task_program}
 use Rattle.compiled_bounds.proofs.Interface.{tasks_keep_to_the_bound}
 use Rattle.compiled_runs.specs.Laws.{CanRun}
 use Rattle.compiled_runs.proofs.Interface.{sources_have_room}
@@ -47,7 +47,7 @@ module _ (text : List ℕ) (p : CheckedProgram) (allow : Allow) (plans : List Ta
     room = tasks_have_room p allow plans l laid;
     privates = privates_are_theirs p allow plans l laid;
     programs = record { whole = λ k below. (one_whole k below).0; of_words = λ k below. (one_whole k below).1 };
-    leave = record { leave = tasks_leave text p allow plans l t run };
+    leave = tasks_leave text p allow plans l t run;
     costs = tasks_keep_to_the_bound p allow plans l t.accepted.allowed (privates_are_few text p allow plans l t) t.layout;
   }
 
@@ -55,8 +55,6 @@ pub sources_are_ready : SourcesAreReady
 sources_are_ready text p allow plans l t = record {
   model = compiled_laws text p allow plans l t (run text p allow plans l t);
   code = code text p allow plans l t;
-  stores = record {
-    below = λ s x inputs words undecided. each_weaker _ (λ a w. a < l.boot.address) (λ a w h. h.below) _
-        (stores_below_code text p allow plans l t (run text p allow plans l t) s x inputs words undecided);
-  };
+  stores = λ s x inputs words settled. each_weaker _ (λ a w. a < l.boot.address) (λ a w h. h.below) _
+      (stores_below_code text p allow plans l t (run text p allow plans l t) s x inputs words settled);
 }

@@ -1,8 +1,8 @@
 -- The crash theorem on compiled sources.
 use Rattle.std.proofs.Common.{◌*◌, ◌≤◌, sym, subst, arith}
-use Rattle.task_attempts.specs.crash_rules.Model.{bound}
-use Rattle.task_attempts.proofs.crash_rules.Interface.{crash_theorem, stops_short, sent_once, spans_follow, progress_law}
-use Rattle.task_attempts.specs.compiled_model.Parts.{compiled_model}
+use Rattle.crash_rules.specs.Model.{bound}
+use Rattle.crash_rules.proofs.Interface.{crash_theorem, stops_short, sent_once, spans_follow, progress_law}
+use Rattle.compiled_model.specs.Parts.{compiled_model}
 use Rattle.compiled_bounds.proofs.Interface.{bound_is_the_sources}
 use Rattle.compiled_runs.specs.Program.{compiled_program}
 use Rattle.compiled_runs.proofs.Interface.{code_keeps_the_laws, runs_leave_the_code}

@@ -1,24 +1,24 @@
 -- What holds of each accepted source that is compiled, whatever its runs.
 use Rattle.std.specs.Prelude.{◌≡◌, ℕ, ◌+◌, ◌*◌, ◌≤◌, List, [], ◌∷◌, length}
-use Rattle.task_attempts.specs.msp_step.declared.machine.Stop.{Stop}
-use Rattle.task_attempts.specs.msp_step.declared.machine.Stop.TheVariants as stop
-use Rattle.task_attempts.specs.machine_effects.World.{World}
-use Rattle.task_attempts.specs.machine_effects.Going.{Halted, going}
-use Rattle.task_attempts.specs.machine_effects.Machine.{MachineBoard}
-use Rattle.task_attempts.specs.code_forms.Placed.{words_of}
-use Rattle.task_attempts.specs.cost_bound.declared.allowance.Allow.{Allow}
-use Rattle.task_attempts.specs.cost_bound.Allowance.{bound_of}
-use Rattle.task_attempts.specs.war_analysis.PlanValue.{TaskPlanValue}
-use Rattle.task_attempts.specs.source_values.Runs.{CheckedProgram, State}
-use Rattle.task_attempts.specs.memory_map.MemoryMap.{MemoryMap}
-use Rattle.task_attempts.specs.crash_rules.Model.{ModelLaws, Short}
-use Rattle.task_attempts.specs.crash_rules.History.{History, observe, behind_boot, first_history, inputs_from}
-use Rattle.task_attempts.specs.crash_rules.Runs.{ProgramLaws, Charge, IsSpentFrom}
-use Rattle.task_attempts.specs.crash_rules.Laws.{Origin, Resting, StandsFor, IsLawful, Matches, Begins, HasRun, PowersUpBehind, AcceptedWords, AreConsecutive}
-use Rattle.compiled_bounds.specs.run_charges.Charges.{AlwaysLeaves}
-use Rattle.task_attempts.specs.compiled_model.Parts.{compiled_model}
+use Rattle.msp_step.specs.declared.machine.Stop.{Stop}
+use Rattle.msp_step.specs.declared.machine.Stop.TheVariants as stop
+use Rattle.machine_effects.specs.World.{World}
+use Rattle.machine_effects.specs.Going.{Halted, going}
+use Rattle.machine_effects.specs.Machine.{MachineBoard}
+use Rattle.code_forms.specs.Placed.{words_of}
+use Rattle.cost_bound.specs.declared.allowance.Allow.{Allow}
+use Rattle.cost_bound.specs.Allowance.{bound_of}
+use Rattle.war_analysis.specs.PlanValue.{TaskPlanValue}
+use Rattle.source_values.specs.Runs.{CheckedProgram, State}
+use Rattle.memory_map.specs.MemoryMap.{MemoryMap}
+use Rattle.crash_rules.specs.Model.{ModelLaws, Short}
+use Rattle.crash_rules.specs.History.{History, observe, behind_boot, first_history, inputs_from}
+use Rattle.crash_rules.specs.Runs.{ProgramLaws, Charge, IsSpentFrom}
+use Rattle.crash_rules.specs.Laws.{Origin, Resting, StandsFor, IsLawful, Matches, Begins, HasRun, PowersUpBehind, AcceptedWords, AreConsecutive}
+use Rattle.run_charges.specs.Charges.{AlwaysLeaves}
+use Rattle.compiled_model.specs.Parts.{compiled_model}
 use Rattle.compiled_runs.specs.Program.{source_code, compiled_program}
-use Rattle.task_attempts.specs.whole_programs.Laws.{IsLaidOutText}
+use Rattle.whole_programs.specs.Laws.{IsLaidOutText}
 
 -- what holds of each accepted text with a plan and a layout of its source
 abbrev OfSources : (CheckedProgram → MemoryMap → Type 0) → Type 0

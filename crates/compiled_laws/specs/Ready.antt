@@ -1,13 +1,13 @@
 -- What the layers of the compiler give of a source with its layout.
 use Rattle.std.specs.Prelude.{ℕ, List}
-use Rattle.task_attempts.specs.cost_bound.declared.allowance.Allow.{Allow}
-use Rattle.task_attempts.specs.source_values.Runs.{CheckedProgram}
-use Rattle.task_attempts.specs.war_analysis.PlanValue.{TaskPlanValue}
-use Rattle.task_attempts.specs.memory_map.MemoryMap.{MemoryMap}
-use Rattle.task_attempts.specs.crash_rules.Model.{ModelLaws}
-use Rattle.task_attempts.specs.whole_programs.Laws.{IsLaidOutText}
-use Rattle.task_attempts.specs.compiled_model.Parts.{compiled_model}
-use Rattle.task_attempts.specs.compiled_model.Needs.{AttemptsStoreBelow}
+use Rattle.cost_bound.specs.declared.allowance.Allow.{Allow}
+use Rattle.source_values.specs.Runs.{CheckedProgram}
+use Rattle.war_analysis.specs.PlanValue.{TaskPlanValue}
+use Rattle.memory_map.specs.MemoryMap.{MemoryMap}
+use Rattle.crash_rules.specs.Model.{ModelLaws}
+use Rattle.whole_programs.specs.Laws.{IsLaidOutText}
+use Rattle.compiled_model.specs.Parts.{compiled_model}
+use Rattle.compiled_model.specs.Needs.{AttemptsStoreBelow}
 use Rattle.compiled_runs.specs.Laws.{CanRun}
 
 -- its tasks and its runtime keep what the crash theorem asks for, its code can run, and no attempt stores on the code

@@ -1,22 +1,20 @@
 -- What the code of a compiled source needs of its tasks, beyond the laws of the model: their cycles, and where they leave for.
 use Rattle.std.specs.Prelude.{◌≡◌, ℕ, ◌+◌, ◌<◌, ◌≤◌, true, length}
-use Rattle.linked_code.specs.machine_effects.World.{World, EachStore}
-use Rattle.linked_code.specs.machine_effects.Inputs.{Inputs, InputsAreWords}
-use Rattle.linked_code.specs.cost_bound.Allowance.{task_bound, versions_of, list_of}
-use Rattle.linked_code.specs.cost_bound.Counts.{emits_of}
-use Rattle.lower.specs.source_values.Runs.{CheckedProgram, State, task_body}
-use Rattle.linked_code.specs.array_versions.Behaviour.{End, GoesOn, Jumps, Short, Strays, Broken, behaviour, started}
-use Rattle.linked_code.specs.array_versions.Form.{IsWhole, OfWords}
-use Rattle.linked_code.specs.word_code.Code.{code_spent}
-use Rattle.linked_code.specs.memory_map.MemoryMap.{MemoryMap}
-use Rattle.linked_code.specs.boot_runtime.Entries.{task_entries}
-use Rattle.linked_code.specs.boot_runtime.Listing.{privates_in, start_cycles}
-use Rattle.linked_code.specs.commit_runtime.Listing.{commit_cycles}
-use Rattle.stands_for.specs.crash_rules.Model.{bound}
-use Rattle.stands_for.specs.StandsFor.{HoldsWords, UndecidedAt, StartedAt}
-use Rattle.compiled_model.specs.Places.{program_places}
-use Rattle.compiled_model.specs.View.{state_view}
-use Rattle.compiled_model.specs.Parts.{task_program, compiled_model}
+use Rattle.machine_effects.specs.World.{World, EachStore}
+use Rattle.machine_effects.specs.Inputs.{Inputs, InputsAreWords}
+use Rattle.cost_bound.specs.Allowance.{task_bound, versions_of, list_of}
+use Rattle.cost_bound.specs.Counts.{emits_of}
+use Rattle.source_values.specs.Runs.{CheckedProgram, State, task_body}
+use Rattle.array_versions.specs.Behaviour.{End, GoesOn, Jumps, Short, Strays, Broken, behaviour, started}
+use Rattle.array_versions.specs.Form.{IsWhole, OfWords}
+use Rattle.word_code.specs.Code.{code_spent}
+use Rattle.memory_map.specs.MemoryMap.{MemoryMap}
+use Rattle.boot_runtime.specs.Entries.{task_entries}
+use Rattle.boot_runtime.specs.Listing.{privates_in, start_cycles}
+use Rattle.commit_runtime.specs.Listing.{commit_cycles}
+use Rattle.crash_rules.specs.Model.{Model, bound}
+use Rattle.stands_for.specs.StandsFor.{HoldsWords}
+use Rattle.compiled_model.specs.Parts.{task_program, compiled_model, IsStarted}
 
 -- a task, from a power-up up to the end of its commit: a boot, which takes 9 cycles at most, a start with the clearing of the version
 -- words, the body and the commit, of as many entries as words: each may be a run of its own
@@ -42,8 +40,7 @@ LeavesFor address Broken = ⊥
 
 -- from a started attempt on, each task leaves for the commit, or is short of readings
 pub record TasksLeave (p : CheckedProgram) (l : MemoryMap) : Type 0 where
-  pub leave : (s : State) (x : World) (inputs : Inputs) → InputsAreWords inputs
-      → StartedAt (program_places p l) (state_view p l) s (privates_in (task_entries l) s.task) x
+  pub leave : (s : State) (x : World) (inputs : Inputs) → InputsAreWords inputs → IsStarted p l s x
       → LeavesFor l.commit.address (behaviour (task_program p l s.task) (started x.fram inputs)).end
 
 -- each task's program is one of which code can be made
@@ -51,7 +48,10 @@ pub record ProgramsAreWhole (p : CheckedProgram) (l : MemoryMap) : Type 0 where
   pub whole : (t : ℕ) → t < length p.tasks → IsWhole (task_program p l t)
   pub of_words : (t : ℕ) → t < length p.tasks → OfWords (task_program p l t)
 
--- each attempt stores below an address alone
-pub record AttemptsStoreBelow (p : CheckedProgram) (l : MemoryMap) (end : ℕ) : Type 0 where
-  pub below : (s : State) (x : World) (inputs : Inputs) → InputsAreWords inputs → UndecidedAt (program_places p l) (state_view p l) s x
-      → EachStore (λ a w. a < end) ((compiled_model p l).attempt x.fram inputs).effects
+-- each attempt of a model stores only so
+abbrev pub AttemptsStore : Model State → (ℕ → ℕ → Type 0) → Type 0
+AttemptsStore m P = (s : State) (x : World) (inputs : Inputs) → InputsAreWords inputs → m.Settled s x → EachStore P (m.attempt x.fram inputs).effects
+
+-- each attempt of a source stores below an address alone
+abbrev pub AttemptsStoreBelow : CheckedProgram → MemoryMap → ℕ → Type 0
+AttemptsStoreBelow p l end = AttemptsStore (compiled_model p l) (λ a w. a < end)

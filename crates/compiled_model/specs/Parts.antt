@@ -1,20 +1,25 @@
 -- A compiled source as the crash theorem takes it: its tasks, its start, its tasks' programs, and the cycles that each is allowed.
-use Rattle.std.specs.Prelude.{ℕ, Bool, true, false, ◌++◌, length, Option, Some, None, get_or}
-use Rattle.linked_code.specs.machine_effects.Inputs.{Inputs}
-use Rattle.linked_code.specs.cost_bound.Allowance.{task_bound, versions_of}
-use Rattle.lower.specs.source_values.Runs.{CheckedProgram, State, Completion, completion_of, attempt_of, task_body}
-use Rattle.linked_code.specs.array_versions.Program.{Program, nothing}
-use Rattle.linked_code.specs.array_versions.Behaviour.{Behaviour, End, GoesOn, Jumps, Short as Starves, Strays, Broken, behaviour, started}
-use Rattle.linked_code.specs.memory_map.declared.runtime.Logging.{Logging}
-use Rattle.linked_code.specs.memory_map.declared.runtime.Logging.TheVariants.{Redo}
-use Rattle.linked_code.specs.memory_map.declared.words.RuntimeWord.TheVariants.{Gate}
-use Rattle.linked_code.specs.memory_map.MemoryMap.{MemoryMap, word_place}
-use Rattle.linked_code.specs.runtime_effects.Stages.{start_effects}
-use Rattle.linked_code.specs.boot_runtime.Entries.{task_entries}
-use Rattle.linked_code.specs.boot_runtime.Listing.{privates_in}
+use Rattle.std.specs.Prelude.{ℕ, Bool, true, false, List, ◌++◌, length, Option, Some, None, get_or}
+use Rattle.fram_board.specs.Effects.{Effect}
+use Rattle.machine_effects.specs.Inputs.{Inputs}
+use Rattle.machine_effects.specs.World.{World}
+use Rattle.cost_bound.specs.Allowance.{task_bound, versions_of}
+use Rattle.source_values.specs.Runs.{CheckedProgram, State, Completion, completion_of, attempt_of, task_body}
+use Rattle.array_versions.specs.Program.{Program, nothing}
+use Rattle.array_versions.specs.Behaviour.{Behaviour, End, GoesOn, Jumps, Short as Starves, Strays, Broken, behaviour, started}
+use Rattle.memory_map.specs.declared.runtime.Logging.{Logging}
+use Rattle.memory_map.specs.declared.runtime.Logging.TheVariants.{Redo}
+use Rattle.memory_map.specs.declared.runtime.Role.{Role}
+use Rattle.memory_map.specs.declared.runtime.Role.TheVariants.{Alone}
+use Rattle.memory_map.specs.declared.words.RuntimeWord.TheVariants.{Gate}
+use Rattle.memory_map.specs.MemoryMap.{MemoryMap, word_place}
+use Rattle.runtime_effects.specs.Stages.{start_effects}
+use Rattle.boot_runtime.specs.Entries.{task_entries}
+use Rattle.boot_runtime.specs.Listing.{privates_in}
 use Rattle.lower.specs.Lowered.{lowered}
-use Rattle.stands_for.specs.crash_rules.Model.{Model, Outcome, Ends, Short, ProgramEffects, program_effects}
+use Rattle.crash_rules.specs.Model.{Model, Outcome, Ends, Short, ProgramEffects, program_effects}
 use Rattle.stands_for.specs.Program.{ProgramParts, program_model}
+use Rattle.stands_for.specs.StandsFor.{StartedAt}
 use Rattle.compiled_model.specs.Places.{program_places}
 use Rattle.compiled_model.specs.View.{state_view}
 
@@ -52,18 +57,31 @@ program_parts p l = record {
   body = λ t fram inputs. effects_of (behaviour (task_program p l t) (started fram inputs));
 }
 
+-- ---- what a runtime chooses
+
 -- the source with its layout under redo
 abbrev pub redo_model : CheckedProgram → MemoryMap → Model State
 redo_model p l = program_model (program_places p l) (state_view p l) (program_parts p l)
 
--- the same under each runtime
-abbrev pub model_under : Logging → CheckedProgram → MemoryMap → Model State
-model_under Redo = redo_model
+-- The same under each runtime. How attempts start, what recoveries do and what FRAM stands for are by how it logs; to whom commits send, and what
+-- they wait for, by the board's role: one that is alone sends to the receiver at its ports, and waits for nothing
+abbrev pub model_under : Logging → Role → CheckedProgram → MemoryMap → Model State
+model_under Redo Alone = redo_model
 
--- The source with its layout, as the crash theorem takes it. How attempts start, what commits and recoveries do and what FRAM stands for
--- are its runtime's; tasks, costs and marks are the same under each
-abbrev pub model_by : Logging → CheckedProgram → MemoryMap → Model State
-model_by logging p l = let chosen = model_under logging p l in record {
+-- the stores of an attempt's start, from FRAM
+abbrev pub start_under : Logging → MemoryMap → (ℕ → ℕ) → List Effect
+start_under Redo l = start_effects l (privates_in (task_entries l))
+
+-- what a world is behind them, with all of the state's task to come
+abbrev pub started_under : Logging → CheckedProgram → MemoryMap → State → World → Type 0
+started_under Redo p l s = StartedAt (program_places p l) (state_view p l) s (privates_in (task_entries l) s.task)
+
+-- ---- the source with its layout and its runtime
+
+-- The source with its layout, as the crash theorem takes it. What its runtime does and what FRAM stands for is chosen; tasks, costs and marks are
+-- the same under each
+abbrev pub model_by : Logging → Role → CheckedProgram → MemoryMap → Model State
+model_by logging role p l = let chosen = model_under logging role p l in record {
   task = whole_task p;
   task_number = λ s. s.task;
   emitted = λ s. s.emitted;
@@ -81,6 +99,12 @@ model_by logging p l = let chosen = model_under logging p l in record {
   Committing = chosen.Committing;
 }
 
--- under the runtime that the memory map names
+-- under the runtime that the memory map names: its model, its starts, and what a world is behind one
 abbrev pub compiled_model : CheckedProgram → MemoryMap → Model State
-compiled_model p l = model_by l.runtime.logging p l
+compiled_model p l = model_by l.runtime.logging l.runtime.role p l
+
+abbrev pub start_of : MemoryMap → (ℕ → ℕ) → List Effect
+start_of l = start_under l.runtime.logging l
+
+abbrev pub IsStarted : CheckedProgram → MemoryMap → State → World → Type 0
+IsStarted p l = started_under l.runtime.logging p l

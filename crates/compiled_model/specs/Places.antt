@@ -1,18 +1,18 @@
 -- The places of a compiled source, by its layout, as the crash theorem takes them.
 use Rattle.std.specs.Prelude.{ℕ, ◌+◌, ◌==◌, ◌&&◌, ◌||◌, not, Bool, false, List, [], ◌∷◌, length}
-use Rattle.linked_code.specs.task_ast.Paths.{CheckedBlock}
-use Rattle.linked_code.specs.task_ast.declared.names.Variable.TheVariants.{Shared}
-use Rattle.lower.specs.path_sums.Sums.{block_sum}
-use Rattle.lower.specs.path_sums.Access.{summary, private_of}
-use Rattle.linked_code.specs.cost_bound.Allowance.{list_of}
-use Rattle.linked_code.specs.cost_bound.Counts.{emits_of}
-use Rattle.lower.specs.source_values.Runs.{CheckedProgram, task_body}
+use Rattle.task_ast.specs.Paths.{CheckedBlock}
+use Rattle.task_ast.specs.declared.names.Variable.TheVariants.{Shared}
+use Rattle.path_sums.specs.Sums.{block_sum}
+use Rattle.path_sums.specs.Access.{summary, private_of}
+use Rattle.cost_bound.specs.Allowance.{list_of}
+use Rattle.cost_bound.specs.Counts.{emits_of}
+use Rattle.source_values.specs.Runs.{CheckedProgram, task_body}
 use Rattle.lower.specs.Seen.{some_path_writes}
-use Rattle.linked_code.specs.memory_map.declared.place.ScalarWidth.{ScalarWidth}
-use Rattle.linked_code.specs.memory_map.declared.place.ScalarWidth.TheVariants.{OneWord, TwoWords}
-use Rattle.linked_code.specs.memory_map.declared.place.VariablePlace.{VariablePlace}
-use Rattle.linked_code.specs.memory_map.declared.place.VariablePlace.TheVariants.{Scalar, Array}
-use Rattle.linked_code.specs.memory_map.MemoryMap.{MemoryMap}
+use Rattle.memory_map.specs.declared.place.ScalarWidth.{ScalarWidth}
+use Rattle.memory_map.specs.declared.place.ScalarWidth.TheVariants.{OneWord, TwoWords}
+use Rattle.memory_map.specs.declared.place.VariablePlace.{VariablePlace}
+use Rattle.memory_map.specs.declared.place.VariablePlace.TheVariants.{Scalar, Array}
+use Rattle.memory_map.specs.MemoryMap.{MemoryMap}
 use Rattle.stands_for.specs.Layout.{ProgramPlaces}
 
 -- whether a shared variable is private in a task with these statements, and whether the task writes it and it isn't private

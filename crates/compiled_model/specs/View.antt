@@ -1,14 +1,14 @@
 -- A state of a source by the addresses of its shared words, and the state that a world has.
 use Rattle.std.specs.Prelude.{ℕ, ◌-◌, ◌/◌, ◌==◌, ◌&&◌, Bool, true, false, nat_le, nat_lt, if◌then◌else◌, List, [], ◌∷◌, length, map, slice_index}
-use Rattle.linked_code.specs.task_ast.declared.SharedDeclaration.{SharedDeclaration}
-use Rattle.lower.specs.source_values.Runs.{CheckedProgram, State, initial_words}
-use Rattle.linked_code.specs.memory_map.declared.place.Region.{Region}
-use Rattle.linked_code.specs.memory_map.declared.place.VariablePlace.{VariablePlace}
-use Rattle.linked_code.specs.memory_map.MemoryMap.{MemoryMap, word_place}
-use Rattle.linked_code.specs.memory_map.Places.{end_of, home_region}
-use Rattle.linked_code.specs.memory_map.declared.words.RuntimeWord.TheVariants.{CurrentTask}
-use Rattle.linked_code.specs.machine_effects.World.{World, world_after}
-use Rattle.linked_code.specs.runtime_effects.Stages.{commit_effects}
+use Rattle.task_ast.specs.declared.SharedDeclaration.{SharedDeclaration}
+use Rattle.source_values.specs.Runs.{CheckedProgram, State, initial_words}
+use Rattle.memory_map.specs.declared.place.Region.{Region}
+use Rattle.memory_map.specs.declared.place.VariablePlace.{VariablePlace}
+use Rattle.memory_map.specs.MemoryMap.{MemoryMap, word_place}
+use Rattle.memory_map.specs.Places.{end_of, home_region}
+use Rattle.memory_map.specs.declared.words.RuntimeWord.TheVariants.{CurrentTask}
+use Rattle.machine_effects.specs.World.{World, world_after}
+use Rattle.runtime_effects.specs.Stages.{commit_effects}
 use Rattle.stands_for.specs.Layout.{StateView}
 use Rattle.stands_for.specs.StandsFor.{words_at}
 

@@ -1,14 +1,14 @@
 -- The layout of a source has room for the code of its programs.
 use Rattle.std.proofs.Common.{◌≡◌, ◌≤◌, ℕ, suc, List, [], ◌∷◌, length, Some, slice_get, refl, arith}
-use Rattle.compiled_model.specs.task_ast.declared.SharedDeclaration.{SharedDeclaration}
-use Rattle.compiled_model.specs.cost_bound.Allowance.{CheckedTask, scalars_of}
-use Rattle.compiled_model.specs.memory_map.MemoryMap.{MemoryMap, TaskPlace}
-use Rattle.compiled_model.specs.memory_map.Spots.{places_of, private_words}
-use Rattle.compiled_model.specs.lower.Seen.{map_seen}
-use Rattle.compiled_model.specs.lower.Lowered.{lowered_tasks}
-use Rattle.compiled_model.proofs.lower.Interface.{blocks_keep_to_words}
-use Rattle.compiled_model.specs.linked_code.Rooms.{ProgramsKeep}
-use Rattle.compiled_model.proofs.linked_code.Interface.{layouts_have_room}
+use Rattle.task_ast.specs.declared.SharedDeclaration.{SharedDeclaration}
+use Rattle.cost_bound.specs.Allowance.{CheckedTask, scalars_of}
+use Rattle.memory_map.specs.MemoryMap.{MemoryMap, TaskPlace}
+use Rattle.memory_map.specs.Spots.{places_of, private_words}
+use Rattle.lower.specs.Seen.{map_seen}
+use Rattle.lower.specs.Lowered.{lowered_tasks}
+use Rattle.lower.proofs.Interface.{blocks_keep_to_words}
+use Rattle.linked_code.specs.Rooms.{ProgramsKeep}
+use Rattle.linked_code.proofs.Interface.{layouts_have_room}
 use Rattle.compiled_runs.specs.Laws.{SourcesHaveRoom}
 
 programs_keep : (l : MemoryMap) (shared : List SharedDeclaration) (tasks : List CheckedTask) (ts : List TaskPlace) → length ts ≡ length tasks

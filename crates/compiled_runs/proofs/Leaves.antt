@@ -1,22 +1,24 @@
 -- A run leaves the code as it is, and stays in it.
+use Rattle.msp_step.specs.declared.machine.Stop.TheVariants as stop
 use Rattle.std.proofs.Common.{◌≡◌, ◌<◌, ◌*◌, ◌/◌, ℕ, length, refl, inl, sym, subst, arith}
-use Rattle.compiled_model.proofs.memory_map.Interface.{apart_of, even_of}
-use Rattle.compiled_model.specs.msp_step.declared.machine.Stop.TheVariants as stop
-use Rattle.compiled_model.specs.machine_effects.World.{EachStore}
-use Rattle.compiled_model.specs.machine_effects.Machine.{machine_powered}
-use Rattle.compiled_model.specs.code_forms.Forms.{core_of}
-use Rattle.compiled_model.specs.code_forms.Placed.{words_of, IsOutside}
-use Rattle.compiled_model.proofs.code_forms.Interface.{powered_has_a_core}
-use Rattle.compiled_model.specs.source_values.Runs.{State}
-use Rattle.compiled_model.specs.lower.Lowered.{lowered}
-use Rattle.compiled_model.specs.crash_rules.Model.{Model, IsElsewhere}
-use Rattle.compiled_model.specs.crash_rules.Runs.{ProgramLaws}
-use Rattle.compiled_model.specs.crash_rules.Laws.{PowersUpBehind, ScriptsStore}
-use Rattle.compiled_model.proofs.crash_rules.Interface.{stops_short, stores_only}
-use Rattle.compiled_model.proofs.stands_for.Interface.{each_weaker, commit_stores_there}
-use Rattle.compiled_model.proofs.linked_code.Interface.{linked_is_code}
+use Rattle.memory_map.proofs.Interface.{apart_of, even_of}
+use Rattle.machine_effects.specs.Machine.{machine_powered}
+use Rattle.code_forms.specs.Forms.{core_of}
+use Rattle.code_forms.specs.Placed.{words_of, IsOutside}
+use Rattle.code_forms.proofs.Interface.{powered_has_a_core}
+use Rattle.source_values.specs.Runs.{CheckedProgram, State}
+use Rattle.memory_map.specs.MemoryMap.{MemoryMap}
+use Rattle.memory_map.specs.Laws.{AreApart}
+use Rattle.lower.specs.Lowered.{lowered}
+use Rattle.crash_rules.specs.Model.{Model, IsElsewhere}
+use Rattle.crash_rules.specs.Runs.{ProgramLaws}
+use Rattle.crash_rules.specs.Laws.{PowersUpBehind, ScriptsStore}
+use Rattle.crash_rules.proofs.Interface.{stops_short, stores_only}
+use Rattle.stands_for.proofs.Interface.{each_weaker, commit_stores_there}
+use Rattle.linked_code.proofs.Interface.{linked_is_code}
 use Rattle.compiled_model.specs.Places.{program_places}
 use Rattle.compiled_model.specs.Parts.{compiled_model}
+use Rattle.compiled_model.specs.Needs.{AttemptsStore, AttemptsStoreBelow}
 use Rattle.compiled_model.proofs.Interface.{is_redo}
 use Rattle.compiled_runs.specs.Program.{source_code, compiled_program}
 use Rattle.compiled_runs.specs.Laws.{CodeIsPlaced, RunsLeaveTheCode}
@@ -42,6 +44,19 @@ code_is_placed p l f =
       };
     }
 
+-- all that a run does stores in front of the code
+pub scripts_store_below : (p : CheckedProgram) (l : MemoryMap) → AreApart l → AttemptsStoreBelow p l l.boot.address
+    → ScriptsStore (compiled_model p l) (λ a w. a < l.boot.address)
+scripts_store_below p l apart =
+    let Below : ℕ → ℕ → Type 0 = λ a w. a < l.boot.address in
+    let P : Model State → Type 0 = λ m. AttemptsStore m Below → ScriptsStore m Below in
+    subst P (sym (is_redo p l)) (λ attempts. record {
+      recoveries = λ s x u. tt;
+      attempts = attempts;
+      commits = λ to x inputs d. each_weaker _ Below (λ a w h. let low = h.below in omega (arith, low, apart)) _
+          (commit_stores_there (program_places p l) x apart d.pending);
+    })
+
 pub runs_leave_the_code : RunsLeaveTheCode
 runs_leave_the_code p l r laws below readings origin x s begins charges t k charged q powered fram left n =
     let up : PowersUpBehind (compiled_model p l) (compiled_program p l) readings origin q = record {
@@ -56,21 +71,9 @@ runs_leave_the_code p l r laws below readings origin x s begins charges t k char
     let c = compiled_program p l in
     let own : ProgramLaws m c = code_keeps_the_laws p l r laws in
     let P : ℕ → ℕ → Type 0 = λ a w. a < l.boot.address in
-    let places = program_places p l in
-    let copies = (apart_of l r.fits.rules).copies in
-    let boot = (apart_of l r.fits.rules).boot in
     let end = (linked_is_code l (lowered l p) r.fits).end in
     let high = r.fits.high in
-    let Stores : Model State → Type 0 = λ k. ScriptsStore k P in
-    let scripts : ScriptsStore m P = subst Stores (sym (is_redo p l)) (record {
-      recoveries = λ st y u. tt;
-      attempts = λ st y inputs words u.
-          let Q : Model State → Type 0 = λ k. EachStore P (k.attempt y.fram inputs).effects in
-          subst Q (is_redo p l) (below.below st y inputs words u);
-      commits = λ to y inputs d. each_weaker _ P (λ a w h. let b = h.below in omega (arith, b, copies, boot)) _
-          (commit_stores_there places y r.apart d.pending);
-    }) in
-    let stores = stores_only m c P laws own scripts readings origin q up n in
+    let stores = stores_only m c P laws own (scripts_store_below p l r.apart below) readings origin q up n in
     record {
       code = record {
         stores = each_weaker P (IsOutside l.boot.address (length (words_of (source_code p l)))) (λ a w h. inl h) _ stores;

@@ -1,49 +1,50 @@
 -- The code makes each attempt and each commit within the task's bound.
+use Rattle.msp_step.specs.declared.machine.Stop.TheVariants as stop
 use Rattle.std.proofs.Common.{◌≡◌, ◌<◌, ◌≤◌, ◌+◌, ℕ, Bool, true, List, [], ◌∷◌, ◌++◌, length, refl, sym, ap, ◌∙◌, subst, arith, append-nil}
-use Rattle.compiled_model.specs.msp_step.declared.machine.Stop.TheVariants as stop
-use Rattle.compiled_model.specs.fram_board.Effects.{Effect, Store}
-use Rattle.compiled_model.specs.machine_effects.World.{World, put, fram_after, world_after, world_after_one}
-use Rattle.compiled_model.specs.machine_effects.Inputs.{Inputs, InputsAreWords}
-use Rattle.compiled_model.specs.machine_effects.Going.{Stalls}
-use Rattle.compiled_model.specs.machine_effects.Machine.{Code, MachineBoard, exec}
-use Rattle.compiled_model.proofs.machine_effects.Interface.{join, join_stall, code_changes_by_effects, fram_after-append}
-use Rattle.compiled_model.specs.code_forms.Forms.{Core, board_of}
-use Rattle.compiled_model.specs.code_forms.Code.{Runs, Starves}
-use Rattle.compiled_model.proofs.crash_rules.Interface.{world_fram}
-use Rattle.compiled_model.specs.source_values.Runs.{CheckedProgram, State}
-use Rattle.compiled_model.specs.array_versions.Behaviour.{WordState, Behaviour, End, GoesOn, Jumps, Short as Lacks, Strays, Broken, behaviour, started}
-use Rattle.compiled_model.specs.word_code.Code.{code_spent}
-use Rattle.compiled_model.specs.array_versions.Laws.{EndsByEffects}
-use Rattle.compiled_model.proofs.array_versions.Interface.{behaves_by_effects}
-use Rattle.compiled_model.specs.word_code.Laws.{HasJumped, ComesTo}
-use Rattle.compiled_model.specs.memory_map.declared.words.RuntimeWord.TheVariants.{CurrentTask, Gate, ListLength, EmitCount, SentBase, Version}
-use Rattle.compiled_model.specs.memory_map.MemoryMap.{MemoryMap, word_place}
-use Rattle.compiled_model.specs.runtime_effects.Places.{CopyPair, listed}
-use Rattle.compiled_model.specs.runtime_effects.Stages.{is_at_end, start_effects, commit_effects}
-use Rattle.compiled_model.specs.runtime_effects.Needs.{CanCommit}
-use Rattle.compiled_model.specs.address_space.Limits.{stack_top}
-use Rattle.compiled_model.specs.runtime_code.Addresses.{start_address}
-use Rattle.compiled_model.specs.runtime_code.Comes.{Comes, IsAt, Enters}
-use Rattle.compiled_model.proofs.runtime_code.Interface.{nothing as no_steps}
-use Rattle.compiled_model.specs.boot_runtime.Entries.{task_entries}
-use Rattle.compiled_model.specs.boot_runtime.Listing.{TaskEntry, entry_at, privates_in, start_steps, start_cycles}
-use Rattle.compiled_model.proofs.boot_runtime.Interface.{clearing_is_dearest}
-use Rattle.compiled_model.specs.commit_runtime.Listing.{commit_steps, commit_cycles}
-use Rattle.compiled_model.specs.lower.Lowered.{lowered}
-use Rattle.compiled_model.specs.crash_rules.Model.{Model, Outcome, Ends, Short, ProgramEffects, program_effects, bound, ModelLaws, AttemptContract}
-use Rattle.compiled_model.specs.crash_rules.Model.{with_commit}
-use Rattle.compiled_model.specs.crash_rules.Runs.{Program, ProgramLaws, Makes}
-use Rattle.compiled_model.specs.stands_for.Program.{StartContract}
-use Rattle.compiled_model.specs.stands_for.StandsFor.{HoldsWords, StartedAt}
-use Rattle.compiled_model.proofs.stands_for.Interface.{numbered_starts, pending_can_commit}
+use Rattle.fram_board.specs.Effects.{Effect, Store}
+use Rattle.machine_effects.specs.World.{World, put, fram_after, world_after, world_after_one}
+use Rattle.machine_effects.specs.Inputs.{Inputs, InputsAreWords}
+use Rattle.machine_effects.specs.Going.{Stalls}
+use Rattle.machine_effects.specs.Machine.{Code, MachineBoard, exec}
+use Rattle.machine_effects.proofs.Interface.{join, join_stall, code_changes_by_effects, fram_after-append}
+use Rattle.code_forms.specs.Forms.{Core, board_of}
+use Rattle.code_forms.specs.Code.{Runs, Starves}
+use Rattle.crash_rules.proofs.Interface.{world_fram}
+use Rattle.source_values.specs.Runs.{CheckedProgram, State}
+use Rattle.array_versions.specs.Behaviour.{WordState, Behaviour, End, GoesOn, Jumps, Short as Lacks, Strays, Broken, behaviour, started}
+use Rattle.word_code.specs.Code.{code_spent}
+use Rattle.array_versions.specs.Laws.{EndsByEffects}
+use Rattle.array_versions.proofs.Interface.{behaves_by_effects}
+use Rattle.word_code.specs.Laws.{HasJumped, ComesTo}
+use Rattle.memory_map.specs.declared.words.RuntimeWord.TheVariants.{CurrentTask, Gate, ListLength, EmitCount, SentBase, Version}
+use Rattle.memory_map.specs.MemoryMap.{MemoryMap, word_place}
+use Rattle.runtime_effects.specs.Places.{CopyPair, listed}
+use Rattle.runtime_effects.specs.Stages.{is_at_end, start_effects, commit_effects}
+use Rattle.runtime_effects.specs.Needs.{CanCommit}
+use Rattle.address_space.specs.Limits.{stack_top}
+use Rattle.runtime_code.specs.Addresses.{start_address}
+use Rattle.runtime_code.specs.Comes.{Comes, IsAt, Enters}
+use Rattle.runtime_code.proofs.Interface.{nothing as no_steps}
+use Rattle.boot_runtime.specs.Entries.{task_entries}
+use Rattle.boot_runtime.specs.Listing.{TaskEntry, entry_at, privates_in, start_steps, start_cycles}
+use Rattle.boot_runtime.proofs.Interface.{clearing_is_dearest}
+use Rattle.commit_runtime.specs.Listing.{commit_steps, commit_cycles}
+use Rattle.lower.specs.Lowered.{lowered}
+use Rattle.crash_rules.specs.Model.{Model, Outcome, Ends, Short, ProgramEffects, program_effects, bound, ModelLaws, AttemptContract, with_commit}
+use Rattle.crash_rules.specs.Runs.{Program, ProgramLaws, Makes}
+use Rattle.stands_for.specs.Program.{StartContract}
+use Rattle.stands_for.specs.StandsFor.{HoldsWords, StartedAt}
+use Rattle.stands_for.proofs.Interface.{numbered_starts, pending_can_commit}
 use Rattle.compiled_model.specs.Places.{program_places}
 use Rattle.compiled_model.specs.View.{state_view}
-use Rattle.compiled_model.specs.Parts.{has_jumped, task_program, redo_model}
-use Rattle.compiled_model.proofs.Interface.{is_redo}
+use Rattle.memory_map.specs.declared.runtime.Logging.{Logging}
+use Rattle.memory_map.specs.declared.runtime.Role.{Role}
+use Rattle.compiled_model.specs.Parts.{has_jumped, task_program, redo_model, started_under}
+use Rattle.compiled_model.proofs.Interface.{is_redo, under_map}
 use Rattle.compiled_model.specs.Needs.{whole_cycles, LeavesFor}
-use Rattle.compiled_model.specs.linked_code.Linked.{ProgramsAreWhole}
-use Rattle.compiled_model.proofs.commit_runtime.Interface.{commit_grows}
-use Rattle.compiled_model.proofs.linked_code.Interface.{programs_count, to_start, to_task, DoesBody, body_there, commit_there, to_commit}
+use Rattle.linked_code.specs.Linked.{ProgramsAreWhole}
+use Rattle.commit_runtime.proofs.Interface.{commit_grows}
+use Rattle.linked_code.proofs.Interface.{programs_count, to_start, to_task, DoesBody, body_there, commit_there, to_commit}
 use Rattle.compiled_runs.specs.Program.{placed_code, IsBooting, IsStarting, compiled_program}
 use Rattle.compiled_runs.specs.Laws.{CanRun, CodeKeepsTheLaws}
 use Rattle.compiled_runs.proofs.Steps.{code_takes}
@@ -240,7 +241,8 @@ module _ (source : Source) where
 
     leaves : LeavesFor l.commit.address b.end
     leaves =
-        let a = r.leave.leave s (world_after es x) u.inputs words is_started in
+        let P : Logging → Role → Type 0 = λ logging role. started_under logging p l s (world_after es x) in
+        let a = r.leave.leave s (world_after es x) u.inputs words (under_map l P is_started) in
         subst (λ t. LeavesFor l.commit.address (behaviour (task_program p l t) (started g u.inputs)).end) (sym is_current)
         (subst (λ h. LeavesFor l.commit.address (behaviour (task_program p l s.task) (started h u.inputs)).end) started_fram a)
 

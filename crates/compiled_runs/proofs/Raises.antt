@@ -1,13 +1,13 @@
 -- A power-up with GATE 0 raises VER.
 use Rattle.std.proofs.Common.{◌≡◌, ◌<◌, ◌+◌, sym, ap, ◌∙◌, arith}
-use Rattle.compiled_model.specs.machine_effects.Going.{At, going}
-use Rattle.compiled_model.proofs.machine_effects.Interface.{put_same}
-use Rattle.compiled_model.specs.code_forms.Forms.{board_of}
-use Rattle.compiled_model.specs.memory_map.declared.words.RuntimeWord.TheVariants.{Gate, Version}
-use Rattle.compiled_model.specs.memory_map.MemoryMap.{word_place}
-use Rattle.compiled_model.specs.lower.Lowered.{lowered}
-use Rattle.compiled_model.specs.linked_code.Linked.{ProgramsAreWhole}
-use Rattle.compiled_model.proofs.linked_code.Interface.{programs_count, to_raised}
+use Rattle.machine_effects.specs.Going.{At, going}
+use Rattle.machine_effects.proofs.Interface.{put_same}
+use Rattle.code_forms.specs.Forms.{board_of}
+use Rattle.memory_map.specs.declared.words.RuntimeWord.TheVariants.{Gate, Version}
+use Rattle.memory_map.specs.MemoryMap.{word_place}
+use Rattle.lower.specs.Lowered.{lowered}
+use Rattle.linked_code.specs.Linked.{ProgramsAreWhole}
+use Rattle.linked_code.proofs.Interface.{programs_count, to_raised}
 use Rattle.compiled_runs.specs.Program.{compiled_program}
 use Rattle.compiled_runs.specs.Laws.{PowerUpsRaiseVersion}
 

@@ -1,25 +1,24 @@
 -- An instruction takes a cycle at least.
+use Rattle.msp_isa.specs.declared.registers.Reg.TheVariants as reg
+use Rattle.msp_isa.specs.declared.operands.Operand.TheVariants as operand
+use Rattle.msp_isa.specs.declared.operands.Src.TheVariants as src
+use Rattle.msp_isa.specs.declared.operands.Dst.TheVariants as dst
+use Rattle.msp_isa.specs.declared.instructions.Instr.TheVariants as instr
+use Rattle.msp_step.specs.declared.machine.Stop.TheVariants as stop
 use Rattle.std.proofs.Common.{◌<◌, ◌==◌, ℕ, Bool, true, false, if◌then◌else◌, Option, Some, None, [], arith}
-use Rattle.compiled_model.specs.msp_isa.declared.registers.Reg.TheVariants as reg
-use Rattle.compiled_model.specs.msp_isa.declared.operands.Operand.{Operand}
-use Rattle.compiled_model.specs.msp_isa.declared.operands.Operand.TheVariants as operand
-use Rattle.compiled_model.specs.msp_isa.declared.operands.Src.{Src}
-use Rattle.compiled_model.specs.msp_isa.declared.operands.Src.TheVariants as src
-use Rattle.compiled_model.specs.msp_isa.declared.operands.Dst.{Dst}
-use Rattle.compiled_model.specs.msp_isa.declared.operands.Dst.TheVariants as dst
-use Rattle.compiled_model.specs.msp_isa.declared.instructions.OneOp.TheVariants.{Rrc, Swpb, Rra, Sxt, Push, Call}
-use Rattle.compiled_model.specs.msp_isa.declared.instructions.Instr.{Instr}
-use Rattle.compiled_model.specs.msp_isa.declared.instructions.Instr.TheVariants as instr
-use Rattle.compiled_model.specs.msp_cycles.Cycles.{CycleRow, operand_cycles, source_cycles, destination_cycles, push, call, read_modify_write, cycles_of}
-use Rattle.compiled_model.specs.msp_step.declared.machine.Stop.TheVariants as stop
-use Rattle.compiled_model.specs.msp_step.Registers.{Registers}
-use Rattle.compiled_model.specs.msp_step.Access.{Access, Completed, Faulted}
-use Rattle.compiled_model.specs.msp_step.Effect.{Written}
-use Rattle.compiled_model.specs.msp_step.Step.{effect, off_bit}
-use Rattle.compiled_model.specs.machine_effects.Going.{Stops}
-use Rattle.compiled_model.specs.machine_effects.Machine.{Code, MachineBus, MachineBoard, MachineOutcome, machine_bus, machine_opened, machine_outcome}
-use Rattle.compiled_model.specs.machine_effects.Machine.{standing, exec}
-use Rattle.compiled_model.specs.crash_rules.Runs.{TakesCycles}
+use Rattle.msp_isa.specs.declared.operands.Operand.{Operand}
+use Rattle.msp_isa.specs.declared.operands.Src.{Src}
+use Rattle.msp_isa.specs.declared.operands.Dst.{Dst}
+use Rattle.msp_isa.specs.declared.instructions.OneOp.TheVariants.{Rrc, Swpb, Rra, Sxt, Push, Call}
+use Rattle.msp_isa.specs.declared.instructions.Instr.{Instr}
+use Rattle.msp_cycles.specs.Cycles.{CycleRow, operand_cycles, source_cycles, destination_cycles, push, call, read_modify_write, cycles_of}
+use Rattle.msp_step.specs.Registers.{Registers}
+use Rattle.msp_step.specs.Access.{Access, Completed, Faulted}
+use Rattle.msp_step.specs.Effect.{Written}
+use Rattle.msp_step.specs.Step.{effect, off_bit}
+use Rattle.machine_effects.specs.Going.{Stops}
+use Rattle.machine_effects.specs.Machine.{Code, MachineBus, MachineBoard, MachineOutcome, machine_bus, machine_opened, machine_outcome, standing, exec}
+use Rattle.crash_rules.specs.Runs.{TakesCycles}
 
 -- each column for an operand has a cycle at least
 record HasCycles (c : CycleRow) : Type 0 where

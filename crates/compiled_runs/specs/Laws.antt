@@ -1,28 +1,28 @@
 -- What the code of a compiled source owes the crash theorem, and the board's runs.
 use Rattle.std.specs.Prelude.{◌≡◌, ◌<◌, ◌+◌, ℕ, List, length}
-use Rattle.compiled_model.specs.machine_effects.World.{World}
-use Rattle.compiled_model.specs.machine_effects.Going.{At, going}
-use Rattle.compiled_model.specs.machine_effects.Machine.{MachineBoard}
-use Rattle.compiled_model.specs.code_forms.Placed.{words_of}
-use Rattle.compiled_model.specs.cost_bound.declared.allowance.Allow.{Allow}
-use Rattle.compiled_model.specs.cost_bound.Allowance.{IsAllowed}
-use Rattle.compiled_model.specs.war_analysis.PlanValue.{TaskPlanValue}
-use Rattle.compiled_model.specs.source_values.Runs.{CheckedProgram, State}
-use Rattle.compiled_model.specs.memory_map.declared.words.RuntimeWord.TheVariants.{Gate, Version}
-use Rattle.compiled_model.specs.memory_map.MemoryMap.{MemoryMap, word_place}
-use Rattle.compiled_model.specs.privatise.Layouts.{IsLayout}
-use Rattle.compiled_model.specs.boot_runtime.Entries.{task_entries}
-use Rattle.compiled_model.specs.boot_runtime.Listing.{privates_in}
-use Rattle.compiled_model.specs.lower.Lowered.{lowered}
-use Rattle.compiled_model.specs.crash_rules.Model.{ModelLaws}
-use Rattle.compiled_model.specs.crash_rules.History.{first_history}
-use Rattle.compiled_model.specs.crash_rules.Runs.{ProgramLaws}
-use Rattle.compiled_model.specs.crash_rules.Laws.{Origin, Begins}
+use Rattle.machine_effects.specs.World.{World}
+use Rattle.machine_effects.specs.Going.{At, going}
+use Rattle.machine_effects.specs.Machine.{MachineBoard}
+use Rattle.code_forms.specs.Placed.{words_of}
+use Rattle.cost_bound.specs.declared.allowance.Allow.{Allow}
+use Rattle.cost_bound.specs.Allowance.{IsAllowed}
+use Rattle.war_analysis.specs.PlanValue.{TaskPlanValue}
+use Rattle.source_values.specs.Runs.{CheckedProgram, State}
+use Rattle.memory_map.specs.declared.words.RuntimeWord.TheVariants.{Gate, Version}
+use Rattle.memory_map.specs.MemoryMap.{MemoryMap, word_place}
+use Rattle.privatise.specs.Layouts.{IsLayout}
+use Rattle.boot_runtime.specs.Entries.{task_entries}
+use Rattle.boot_runtime.specs.Listing.{privates_in}
+use Rattle.lower.specs.Lowered.{lowered}
+use Rattle.crash_rules.specs.Model.{ModelLaws}
+use Rattle.crash_rules.specs.History.{first_history}
+use Rattle.crash_rules.specs.Runs.{ProgramLaws}
+use Rattle.crash_rules.specs.Laws.{Origin, Begins}
 use Rattle.run_charges.specs.Charges.{IsPlacedProgram, AlwaysLeaves}
-use Rattle.compiled_model.specs.memory_map.Laws.{AreApart}
-use Rattle.compiled_model.specs.stands_for.Layout.{HaveRoom, ArePrivate}
-use Rattle.compiled_model.specs.linked_code.Linked.{CodeFits}
-use Rattle.compiled_model.specs.linked_code.Rooms.{PrivatesAreCounted}
+use Rattle.memory_map.specs.Laws.{AreApart}
+use Rattle.stands_for.specs.Layout.{HaveRoom, ArePrivate}
+use Rattle.linked_code.specs.Linked.{CodeFits}
+use Rattle.linked_code.specs.Rooms.{PrivatesAreCounted}
 use Rattle.compiled_model.specs.Places.{program_places}
 use Rattle.compiled_model.specs.Parts.{compiled_model}
 use Rattle.compiled_model.specs.Needs.{CostsAreWithin, TasksLeave, ProgramsAreWhole, AttemptsStoreBelow}

@@ -1,15 +1,15 @@
 -- A compiled source as a program on the machine.
 use Rattle.std.specs.Prelude.{◌≡◌, List}
-use Rattle.compiled_model.specs.msp_isa.declared.instructions.Instr.{Instr}
-use Rattle.compiled_model.specs.machine_effects.Machine.{Code, MachineBoard, exec}
-use Rattle.compiled_model.specs.code_forms.Forms.{Core, board_of}
-use Rattle.compiled_model.specs.code_forms.Placed.{placed}
-use Rattle.compiled_model.specs.source_values.Runs.{CheckedProgram}
-use Rattle.compiled_model.specs.memory_map.MemoryMap.{MemoryMap}
-use Rattle.compiled_model.specs.runtime_code.Addresses.{start_address}
-use Rattle.compiled_model.specs.lower.Lowered.{lowered}
-use Rattle.compiled_model.specs.crash_rules.Runs.{Program}
-use Rattle.compiled_model.specs.linked_code.Linked.{linked}
+use Rattle.msp_isa.specs.declared.instructions.Instr.{Instr}
+use Rattle.machine_effects.specs.Machine.{Code, MachineBoard, exec}
+use Rattle.code_forms.specs.Forms.{Core, board_of}
+use Rattle.code_forms.specs.Placed.{placed}
+use Rattle.source_values.specs.Runs.{CheckedProgram}
+use Rattle.memory_map.specs.MemoryMap.{MemoryMap}
+use Rattle.runtime_code.specs.Addresses.{start_address}
+use Rattle.lower.specs.Lowered.{lowered}
+use Rattle.crash_rules.specs.Runs.{Program}
+use Rattle.linked_code.specs.Linked.{linked}
 
 -- the code of a source with its layout
 abbrev pub source_code : CheckedProgram → MemoryMap → List Instr

@@ -1,23 +1,16 @@
 -- What is saved at the end of a run is what is saved of the board behind its last moment.
-use Rattle.std.proofs.Common.{◌≡◌, ℕ, ◌-◌, refl, sym, ap, ◌∙◌, List, [], ◌∷◌, ◌++◌, Option, Err}
-use Rattle.image_reports.specs.image_laws.msp_isa.declared.instructions.Instr.{Instr}
-use Rattle.image_reports.specs.image_laws.msp_step.declared.machine.Stop.{Stop}
-use Rattle.image_reports.specs.image_laws.msp_step.Registers.{Registers, registers_of}
-use Rattle.image_reports.specs.image_laws.msp_step.Access.{Access, Completed, Faulted}
-use Rattle.image_reports.specs.image_laws.msp_step.Effect.{Written}
-use Rattle.image_reports.specs.image_laws.msp_step.Step.{effect, outcome_of}
-use Rattle.image_reports.proofs.image_laws.fram_board.msp_step.Interface.{Ends, effect_ends}
-use Rattle.image_reports.specs.image_laws.image_map.MapValue.{MapValue}
-use Rattle.fram_state.specs.state_text.declared.state.State.{State}
-use Rattle.image_reports.specs.image_laws.fram_board.Bus.{BusState, board_bus}
-use Rattle.image_reports.specs.image_laws.fram_board.Board.{BoardValue, opened, board_outcome, executed, powered, next_number, receiver_after}
-use Rattle.image_reports.specs.image_laws.fram_board.Saved.{saved}
-use Rattle.image_reports.specs.image_laws.fram_board.Run.{Measure, Moment, Charges, Stopped, RunOutcome, run_outcome, BoardCharge, price}
-use Rattle.image_reports.specs.image_laws.fram_board.Run.{ChargeRun, Spent, NoInstruction}
-use Rattle.image_reports.specs.image_laws.fram_board.Run.{TooDear, Refused, Executed, Run, Over, Next, Last}
-use Rattle.image_reports.proofs.image_laws.fram_board.Interface.{only_takes}
-use Rattle.image_reports.specs.image_laws.machine_effects.Runs.{last_board}
-use Rattle.image_reports.proofs.image_laws.run_charges.Interface.{charge_last}
+use Rattle.compiled_states.proofs.Names.{◌≡◌, ℕ, ◌-◌, refl, sym, ap, ◌∙◌, List, [], ◌∷◌, ◌++◌, Option, Err, MapValue, State, BusState, board_bus, BoardValue}
+use Rattle.compiled_states.proofs.Names.{opened, board_outcome, executed, powered, next_number, receiver_after, saved, Measure, Moment, Charges, Stopped}
+use Rattle.compiled_states.proofs.Names.{RunOutcome, run_outcome, BoardCharge, price, ChargeRun, Spent, NoInstruction, TooDear, Refused, Executed, Run, Over}
+use Rattle.compiled_states.proofs.Names.{Next, Last, last_board, charge_last}
+use Rattle.msp_isa.specs.declared.instructions.Instr.{Instr}
+use Rattle.msp_step.specs.declared.machine.Stop.{Stop}
+use Rattle.msp_step.specs.Registers.{Registers, registers_of}
+use Rattle.msp_step.specs.Access.{Access, Completed, Faulted}
+use Rattle.msp_step.specs.Effect.{Written}
+use Rattle.msp_step.specs.Step.{effect, outcome_of}
+use Rattle.msp_step.proofs.Interface.{Ends, effect_ends}
+use Rattle.fram_board.proofs.Interface.{only_takes}
 
 module _ (map : Option MapValue) where
   -- an instruction that stops takes readings alone

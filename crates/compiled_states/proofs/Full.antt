@@ -1,21 +1,11 @@
 -- The layout of a source leaves no word unused in front of its code.
-use Rattle.std.proofs.Common.{◌≡◌, ℕ, ◌+◌, ◌*◌, ◌≤◌, Bool, true, false, List, [], ◌∷◌, arith}
-use Rattle.image_reports.specs.layout_facts.task_ast.declared.Extent.{Extent}
-use Rattle.image_reports.specs.layout_facts.task_ast.declared.Extent.TheVariants.{Scalar, Long, Array}
-use Rattle.image_reports.specs.layout_facts.task_ast.declared.SharedDeclaration.{SharedDeclaration}
-use Rattle.image_reports.specs.layout_facts.cost_bound.declared.allowance.Allow.{Allow}
-use Rattle.image_reports.specs.layout_facts.cost_bound.Counts.{CheckedBlock, emits_of}
-use Rattle.image_reports.specs.layout_facts.cost_bound.Allowance.{CheckedProgram, CheckedTask, IsAllowed, shared_sum_from, place_part, version_part}
-use Rattle.image_reports.specs.layout_facts.cost_bound.Allowance.{is_written, total}
-use Rattle.image_reports.specs.layout_facts.cost_bound.Allowance.{greatest}
-use Rattle.image_reports.specs.layout_facts.cost_bound.Allowance.{task_words, list_of, words_of, versions_of}
-use Rattle.image_reports.specs.layout_facts.war_analysis.PlanValue.{TaskPlanValue}
-use Rattle.image_reports.specs.layout_facts.memory_map.MemoryMap.{MemoryMap}
-use Rattle.image_reports.specs.layout_facts.memory_map.Places.{end_of}
-use Rattle.image_reports.specs.layout_facts.memory_map.Laws.{AreApart}
-use Rattle.image_reports.proofs.layout_facts.memory_map.Interface.{apart_of}
-use Rattle.image_reports.specs.layout_facts.privatise.Sizes.{home_part, home_words, copy_part, copy_words, body_words, entry_words}
-use Rattle.image_reports.specs.layout_facts.privatise.Layouts.{IsLayout}
+use Rattle.compiled_states.proofs.Names.{◌≡◌, ℕ, ◌+◌, ◌*◌, ◌≤◌, Bool, true, false, List, [], ◌∷◌, ◌∙◌, arith, Extent, SharedDeclaration, Allow, CheckedProgram}
+use Rattle.compiled_states.proofs.Names.{CheckedTask, IsAllowed, shared_sum_from, place_part, version_part, is_written, total, greatest, task_words, list_of}
+use Rattle.compiled_states.proofs.Names.{versions_of, TaskPlanValue, MemoryMap, end_of, AreApart, apart_of, IsLayout}
+use Rattle.task_ast.specs.declared.Extent.TheVariants.{Scalar, Long, Array}
+use Rattle.cost_bound.specs.Counts.{CheckedBlock, emits_of}
+use Rattle.cost_bound.specs.Allowance.{words_of}
+use Rattle.privatise.specs.Sizes.{home_part, home_words, copy_part, copy_words, body_words, entry_words}
 
 -- each part in front of the code begins where the one before ends
 pub record IsFull (l : MemoryMap) : Type 0 where
@@ -54,12 +44,7 @@ total_within f g h (t ∷ ts) e =
     let rest : total f ts ≤ total g ts + total h ts = total_within f g h ts e in
     omega (arith, here, rest)
 
--- what is left in front of the boot, where the code takes as much as it has
-front_of_boot : (boot commit code bw cw tw w e t h c v l m : ℕ) → boot + 2 * bw ≤ commit → commit + 2 * cw ≤ code → code + 2 * tw + 2 ≤ 17408 + 2 * w
-    → bw ≡ 391 + e → cw ≡ 200 → tw ≡ t → w ≤ 600 + (e + t) + (h + c + v) + 3 * l + m → boot ≤ 17424 + 2 * (3 * l + m + v + h + c)
-front_of_boot boot commit code bw cw tw w e t h c v l m x y z a b d k = omega (arith, x, y, z, a, b, d, k)
-
--- so nothing is left between the parts
+-- nothing is left between the parts, where the boot begins no later than they need
 no_room : (l : MemoryMap) → AreApart l → l.boot.address ≤ 17424 + 2 * (3 * l.entries + l.emits.words + l.versions.words + l.homes.words + l.copies.words)
     → IsFull l
 no_room l a room = record {
@@ -87,20 +72,13 @@ layout_is_full p allow plans l h laid =
     total_within (task_words p.shared) (entry_words p.shared) (body_words p.shared) p.tasks (λ c. omega arith) in
     let places = places_within (is_written p.tasks) 0 p.shared in
     let all : words_of p ≤ 600 + (starts + bodies) + (homes + copies + versions) + 3 * list + emits = omega (arith, code, places) in
+    let commit = a.commit in let begin = a.code in let size = laid.size in
+    let boot_has = laid.boot in let commit_has = laid.commit in let code_has = laid.code in
     let front : l.boot.address ≤ 17424 + 2 * (3 * list + emits + versions + homes + copies) =
-    front_of_boot l.boot.address l.commit.address l.code.address l.boot.words l.commit.words l.code.words (words_of p) starts bodies homes copies versions list
-    emits a.commit a.code laid.size laid.boot laid.commit laid.code all in
-    let entries : l.entries ≡ list = by_two l.entries allow.list list laid.list h.list in
-    let sends : l.emits.words ≡ emits = by_two l.emits.words allow.emits emits laid.emits h.emits in
-    let marks : l.versions.words ≡ versions = by_two l.versions.words allow.versions versions laid.versions h.versions in
+    omega (arith, commit, begin, size, boot_has, commit_has, code_has, all) in
+    let entries : l.entries ≡ list = laid.list ∙ h.list in
+    let sends : l.emits.words ≡ emits = laid.emits ∙ h.emits in
+    let marks : l.versions.words ≡ versions = laid.versions ∙ h.versions in
     let own : l.homes.words ≡ homes = laid.homes in
     let others : l.copies.words ≡ copies = laid.copies in
-    no_room l a (same_room l.boot.address l.entries l.emits.words l.versions.words l.homes.words l.copies.words list emits versions homes copies front
-    entries sends marks own others)
-  where
-    by_two : (a b c : ℕ) → a ≡ b → b ≡ c → a ≡ c
-    by_two a b c e f = omega (arith, e, f)
-
-    same_room : (boot l m v h c list emits versions homes copies : ℕ) → boot ≤ 17424 + 2 * (3 * list + emits + versions + homes + copies) → l ≡ list → m ≡ emits
-        → v ≡ versions → h ≡ homes → c ≡ copies → boot ≤ 17424 + 2 * (3 * l + m + v + h + c)
-    same_room boot l m v h c list emits versions homes copies x a b d e f = omega (arith, x, a, b, d, e, f)
+    no_room l a (omega (arith, front, entries, sends, marks, own, others))

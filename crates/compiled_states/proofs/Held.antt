@@ -1,9 +1,7 @@
 -- Stretches that have an address, and stretches that don't.
-use Rattle.std.proofs.Common.{◌≡◌, ◌⊎◌, inl, inr, ℕ, ◌<◌, ◌≤◌, true, false, List, [], ◌∷◌, refl, arith}
-use Rattle.std.specs.Prelude.{nat_le, nat_lt}
-use Rattle.std.proofs.lemmas.Bool.{leb-true, ltb-true, le-leb, lt-ltb, le-ltb, and_parts, and_from, and_right, or_from, or_left, or_right, cases_lt}
+use Rattle.compiled_states.proofs.Names.{◌≡◌, ◌⊎◌, inl, inr, ℕ, ◌<◌, ◌≤◌, true, false, List, [], ◌∷◌, refl, arith, nat_le, nat_lt, leb-true, ltb-true, le-leb}
+use Rattle.compiled_states.proofs.Names.{lt-ltb, le-ltb, and_parts, and_from, and_right, or_from, or_left, or_right, cases_lt, holds, is_held}
 use Rattle.fram_state.specs.declared.stretch.Stretch.{Stretch}
-use Rattle.fram_state.specs.Stretch.{holds, is_held}
 
 pub within : (s : Stretch) (a : ℕ) → s.from ≤ a → a < s.to → holds s a ≡ true
 within s a from to = and_from (nat_le s.from a) (nat_lt a s.to) (le-leb s.from a from) (lt-ltb a s.to to)

@@ -1,13 +1,12 @@
+mod Names
 mod Full
 mod Held
 mod Words
 mod Named
 mod Listed
 mod Sound
-mod Keeping
 mod Ends
 mod Rows
 mod States
 mod Migrated
 mod Suited
-pub use Rattle.image_reports.proofs.source_runs as source_runs

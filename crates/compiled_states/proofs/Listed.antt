@@ -1,54 +1,20 @@
 -- The commit list of a state, entry by entry, and the words that it names, pair by pair.
-use Rattle.std.proofs.Common.{◌≡◌, inl, inr, ℕ, zero, suc, ◌+◌, ◌*◌, ◌%◌, ◌<◌, ◌≤◌, true, List, [], ◌∷◌, ◌++◌, length, refl, sym, ap}
-use Rattle.std.proofs.Common.{◌∙◌}
-use Rattle.std.proofs.Common.{subst, arith, length-append}
-use Rattle.std.specs.Prelude.{nat_le}
-use Rattle.std.specs.List.{list_all}
-use Rattle.std.proofs.lemmas.Bool.{leb-true, le-leb, eqb-true, eq-eqb, and_parts, and_from}
+use Rattle.compiled_states.proofs.Names.{◌≡◌, inl, inr, ℕ, zero, suc, ◌+◌, ◌*◌, ◌%◌, ◌<◌, ◌≤◌, true, List, [], ◌∷◌, ◌++◌, length, refl, sym, ap, ◌∙◌, subst}
+use Rattle.compiled_states.proofs.Names.{⊎_elim, arith, length-append, nat_le, list_all, leb-true, le-leb, eqb-true, eq-eqb, and_parts, and_from, end_of}
+use Rattle.compiled_states.proofs.Names.{even_of, CopyPair, run_pairs, entries_from, ProgramPlaces, IsSharedWord, IsCopyWord, IsAmong, program_places, MapValue}
+use Rattle.compiled_states.proofs.Names.{IsFramWord, IsFram, fram_of, Entry, lies_in, copies_words, is_shared, word_in, words_from, entries_of, are_shared}
+use Rattle.compiled_states.proofs.Names.{is_even, is_entry, words_of, first_entry, among_either, among_front, among_back}
 use Rattle.std.proofs.lemmas.List.Sums.{sum_by-cons}
-use Rattle.image_reports.specs.layout_facts.cost_bound.declared.allowance.Allow.{Allow}
-use Rattle.image_reports.specs.layout_facts.cost_bound.Allowance.{CheckedProgram}
-use Rattle.image_reports.specs.layout_facts.war_analysis.PlanValue.{TaskPlanValue}
-use Rattle.image_reports.specs.layout_facts.memory_map.MemoryMap.{MemoryMap}
-use Rattle.image_reports.specs.layout_facts.memory_map.Places.{end_of}
-use Rattle.image_reports.proofs.layout_facts.memory_map.Interface.{even_of}
-use Rattle.image_reports.specs.layout_facts.runtime_effects.Places.{CopyPair, run_pairs, entries_from}
-use Rattle.image_reports.proofs.layout_facts.runtime_effects.Interface.{run_length}
-use Rattle.image_reports.specs.layout_facts.stands_for.Layout.{ProgramPlaces, IsSharedWord, IsCopyWord, IsAmong}
-use Rattle.image_reports.specs.layout_facts.compiled_model.Places.{program_places}
-use Rattle.image_reports.specs.layout_facts.Facts.{HasLayout}
-use Rattle.image_reports.specs.image_laws.source_maps.Maps.{map_of}
-use Rattle.image_reports.specs.image_laws.source_maps.Placing.{ArePlacesOf}
-use Rattle.image_reports.specs.image_laws.image_map.MapValue.{MapValue, IsFramWord}
-use Rattle.image_reports.specs.image_laws.machine_effects.Machine.{IsFram, fram_of}
-use Rattle.fram_state.specs.declared.entry.Entry.{Entry}
-use Rattle.fram_state.specs.Stretch.{words_at, lies_in}
-use Rattle.fram_state.specs.Named.{copies_words, is_shared}
-use Rattle.fram_state.specs.Runtime.{word_in, words_from}
-use Rattle.fram_state.specs.Sound.{entries_of, are_shared, is_even, is_entry, words_of}
-use Rattle.fram_state.proofs.Interface.{first_entry}
+use Rattle.runtime_effects.proofs.Interface.{run_length}
+use Rattle.fram_state.specs.Stretch.{words_at}
 use Rattle.compiled_states.proofs.Words.{fram_at}
-use Rattle.compiled_states.proofs.Named.{shared_is, is_a_shared}
+use Rattle.compiled_states.proofs.Named.{Mapped, its_map, shared_is, is_a_shared}
 
 -- ---- pairs
 
 -- something holds of each of these pairs
 abbrev pub EachPair : (CopyPair → Type 0) → List CopyPair → Type 0
 EachPair P ps = (q : CopyPair) → IsAmong ps q → P q
-
-each_join : (P : CopyPair → Type 0) (ps qs : List CopyPair) → EachPair P ps → EachPair P qs → EachPair P (ps ++ qs)
-each_join P [] qs h k q a = k q a
-each_join P (p ∷ ps) qs h k q (inl e) = h q (inl e)
-each_join P (p ∷ ps) qs h k q (inr a) = each_join P ps qs (λ r b. h r (inr b)) k q a
-
-each_front : (P : CopyPair → Type 0) (ps qs : List CopyPair) → EachPair P (ps ++ qs) → EachPair P ps
-each_front P [] qs h q a = absurd a
-each_front P (p ∷ ps) qs h q (inl e) = h q (inl e)
-each_front P (p ∷ ps) qs h q (inr a) = each_front P ps qs (λ r b. h r (inr b)) q a
-
-each_back : (P : CopyPair → Type 0) (ps qs : List CopyPair) → EachPair P (ps ++ qs) → EachPair P qs
-each_back P [] qs h = h
-each_back P (p ∷ ps) qs h = each_back P ps qs (λ r b. h r (inr b))
 
 -- the pairs of an entry, and those of entries
 abbrev pub pairs_of : Entry → List CopyPair
@@ -73,10 +39,11 @@ HaveWords [] = Unit {0}
 HaveWords (e ∷ es) = (0 < e.words) × HaveWords es
 
 -- ---- an entry goes from copies to shared words
-module _ (text : List ℕ) (p : CheckedProgram) (allow : Allow) (plans : List TaskPlanValue) (l : MemoryMap) (laid : HasLayout p allow plans l)
-    (kinds : ArePlacesOf p.shared l.variables) where
+module _ (own : Mapped) where
+  open own use {program as p, layout as l, laid}
+
   abbrev m : MapValue
-  m = map_of text p l allow
+  m = its_map own
 
   abbrev places : ProgramPlaces
   places = program_places p l
@@ -91,7 +58,7 @@ module _ (text : List ℕ) (p : CheckedProgram) (allow : Allow) (plans : List Ta
   homes_of zero home copy even h q a = absurd a
   homes_of (suc n) home copy even h q (inl e) =
       let both = and_parts (is_shared m.variables home) (are_shared m.variables n (home + 2)) h in
-      subst (λ r. IsSharedWord places r.home) (sym e) (shared_is text p allow plans l laid kinds home even both.0)
+      subst (λ r. IsSharedWord places r.home) (sym e) (shared_is own home even both.0)
   homes_of (suc n) home copy even h q (inr a) =
       let both = and_parts (is_shared m.variables home) (are_shared m.variables n (home + 2)) h in
       homes_of n (home + 2) (copy + 2) (omega (arith, even)) both.1 q a
@@ -100,7 +67,7 @@ module _ (text : List ℕ) (p : CheckedProgram) (allow : Allow) (plans : List Ta
   are_homes zero home copy h = refl
   are_homes (suc n) home copy h =
       and_from (is_shared m.variables home) (are_shared m.variables n (home + 2))
-      (is_a_shared text p allow plans l laid kinds home (h (record { home = home; copy = copy }) (inl refl)))
+      (is_a_shared own home (h (record { home = home; copy = copy }) (inl refl)))
       (are_homes n (home + 2) (copy + 2) (λ q a. h q (inr a)))
 
   copies_of : (n home copy : ℕ) → copy % 2 ≡ 0 → l.copies.address ≤ copy → copy + 2 * n ≤ end_of l.copies → CopiesAre (run_pairs n home copy)
@@ -143,13 +110,13 @@ module _ (text : List ℕ) (p : CheckedProgram) (allow : Allow) (plans : List Ta
   entry_by n home copy homes copied =
       let first : CopyPair = record { home = home; copy = copy } in
       let c = copied first (inl refl) in
-      let own = homes first (inl refl) in
+      let home_is = homes first (inl refl) in
       and_from (nat_le 1 (suc n)) _ (le-leb 1 (suc n) (omega arith))
       (and_from (is_even copy) _ (eq-eqb (copy % 2) 0 c.even)
       (and_from (lies_in (words_at copy (suc n)) (copies_words m.copies)) _
       (and_from (nat_le l.copies.address copy) (nat_le (copy + 2 * suc n) (end_of l.copies)) (le-leb l.copies.address copy c.from)
       (le-leb (copy + 2 * suc n) (end_of l.copies) (copies_end n home copy copied)))
-      (and_from (is_even home) (are_shared m.variables (suc n) home) (eq-eqb (home % 2) 0 own.even) (are_homes (suc n) home copy homes))))
+      (and_from (is_even home) (are_shared m.variables (suc n) home) (eq-eqb (home % 2) 0 home_is.even) (are_homes (suc n) home copy homes))))
 
   entry_is_good : (home copy words : ℕ) → IsGood (record { home = home; copy = copy; words = words })
       → is_entry m (record { home = home; copy = copy; words = words }) ≡ true
@@ -176,22 +143,21 @@ module _ (text : List ℕ) (p : CheckedProgram) (allow : Allow) (plans : List Ta
 
   pub good_homes : (es : List Entry) → AreGood es → HomesAre (all_pairs es)
   good_homes [] g q a = absurd a
-  good_homes (e ∷ es) g q a = each_join (λ q. IsSharedWord places q.home) (pairs_of e) (all_pairs es) g.0.homes (good_homes es g.1) q a
+  good_homes (e ∷ es) g q a = ⊎_elim {C = IsSharedWord places q.home} (g.0.homes q) (good_homes es g.1 q) (among_either (pairs_of e) (all_pairs es) q a)
 
   pub good_copies : (es : List Entry) → AreGood es → CopiesAre (all_pairs es)
   good_copies [] g q a = absurd a
-  good_copies (e ∷ es) g q a = each_join (λ q. IsCopyWord places q.copy) (pairs_of e) (all_pairs es) g.0.copied (good_copies es g.1) q a
+  good_copies (e ∷ es) g q a = ⊎_elim {C = IsCopyWord places q.copy} (g.0.copied q) (good_copies es g.1 q) (among_either (pairs_of e) (all_pairs es) q a)
 
   pub by_pairs : (es : List Entry) → HaveWords es → HomesAre (all_pairs es) → CopiesAre (all_pairs es) → AreGood es
   by_pairs [] some homes copied = tt
   by_pairs (e ∷ es) some homes copied = (
     record {
       some = some.0;
-      homes = each_front (λ q. IsSharedWord places q.home) (pairs_of e) (all_pairs es) homes;
-      copied = each_front (λ q. IsCopyWord places q.copy) (pairs_of e) (all_pairs es) copied;
+      homes = λ q a. homes q (among_front (pairs_of e) (all_pairs es) q a);
+      copied = λ q a. copied q (among_front (pairs_of e) (all_pairs es) q a);
     },
-    by_pairs es some.1 (each_back (λ q. IsSharedWord places q.home) (pairs_of e) (all_pairs es) homes)
-        (each_back (λ q. IsCopyWord places q.copy) (pairs_of e) (all_pairs es) copied),
+    by_pairs es some.1 (λ q a. homes q (among_back (pairs_of e) (all_pairs es) q a)) (λ q a. copied q (among_back (pairs_of e) (all_pairs es) q a)),
   )
 
 -- ---- the entries in the FRAM

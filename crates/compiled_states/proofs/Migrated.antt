@@ -1,68 +1,36 @@
 -- What a migration makes of an old state belongs to the new image, and rests at the state that the old words make.
-use Rattle.std.proofs.Common.{◌≡◌, ◌⊎◌, inl, inr, ℕ, ◌+◌, ◌*◌, ◌%◌, ◌<◌, ◌≤◌, ◌==◌, ◌||◌, if◌then◌else◌, true, false, List, [], length, map, Option, Some}
-use Rattle.std.proofs.Common.{refl, sym, ap, ap₂, ◌∙◌, subst, arith}
-use Rattle.std.specs.Prelude.{unwrap_or, IfSome}
-use Rattle.std.proofs.lemmas.List.{length-map}
-use Rattle.std.proofs.lemmas.Bool.{eqb-true, eq-eqb, ne_eqb}
-use Rattle.fram_state.specs.state_text.declared.state.State.{State}
-use Rattle.fram_state.specs.Named.{is_shared}
-use Rattle.fram_state.specs.Runtime.{word_in, runtime_of}
-use Rattle.fram_state.specs.Sound.{is_pending}
+use Rattle.compiled_states.proofs.Names.{◌≡◌, ◌⊎◌, inl, inr, ℕ, ◌+◌, ◌*◌, ◌<◌, ◌≤◌, ◌==◌, if◌then◌else◌, Bool, false, List, [], length, map, Option, Some, refl}
+use Rattle.compiled_states.proofs.Names.{sym, ap, ap₂, ◌∙◌, subst, arith, unwrap_or, IfSome, length-map, eq-eqb, ne_eqb, State, is_shared, word_in}
+use Rattle.compiled_states.proofs.Names.{EditionValue, edition_with, row_of, rows_of, shared_word, IsStateOf, IsPendingAt, IsMigrated, edition_of_state}
+use Rattle.compiled_states.proofs.Names.{row_length, RuntimeWord, CurrentTask, Gate, ListLength, EmitCount, Base, Version, MemoryMap, word_place, end_of}
+use Rattle.compiled_states.proofs.Names.{home_region, AreApart, WordStands, apart_of, even_of, words_stand, IsOpen, IsAtRest, SoundAtRest, program_places}
+use Rattle.compiled_states.proofs.Names.{row_in, state_view, state_in, MapValue, ImageValue, IsFram, fram_of, CheckedProgram, first_state, IsImageOf}
+use Rattle.compiled_states.proofs.Names.{fresh_world, images_are_fresh, worlds_stand, BelongsTo, images_belong, world_of, state_with, MayHaveAccepted}
+use Rattle.compiled_states.proofs.Names.{HasFramWords, HasCodeWords, BelongsAt, MigratedStatesBelong}
 use Rattle.fram_state.specs.Sound as state
+use Rattle.source_values.specs.Runs as runs
 use Rattle.fram_state.specs.Kept.{task_names}
-use Rattle.fram_state.specs.Migrated.{EditionValue, edition_with, row_of, rows_of, shared_word, IsStateOf, IsPendingAt, IsMigrated}
 use Rattle.fram_state.specs.Editions.{IsEdition}
-use Rattle.fram_state.proofs.Interface.{edition_of_state, row_length}
-use Rattle.image_reports.specs.layout_facts.memory_map.declared.words.RuntimeWord.{RuntimeWord}
-use Rattle.image_reports.specs.layout_facts.memory_map.declared.words.RuntimeWord.TheVariants.{CurrentTask, Gate, ListLength, EmitCount, Base, Version}
-use Rattle.image_reports.specs.layout_facts.memory_map.MemoryMap.{MemoryMap, word_place}
-use Rattle.image_reports.specs.layout_facts.memory_map.Places.{end_of, home_region}
-use Rattle.image_reports.specs.layout_facts.memory_map.Laws.{AreApart, WordStands}
-use Rattle.image_reports.proofs.layout_facts.memory_map.Interface.{apart_of, even_of, words_stand}
-use Rattle.image_reports.specs.layout_facts.stands_for.StandsFor.{RestsAt, IsAtRest, SoundAtRest}
-use Rattle.image_reports.specs.layout_facts.compiled_model.Places.{program_places}
-use Rattle.image_reports.specs.layout_facts.compiled_model.View.{row_in, state_view, state_in}
-use Rattle.image_reports.specs.image_laws.image_map.MapValue.{MapValue}
-use Rattle.image_reports.specs.image_laws.image_map.Kept.{IsMap}
-use Rattle.image_reports.specs.image_laws.image_text.ImageValue.{ImageValue}
-use Rattle.image_reports.specs.image_laws.machine_effects.Machine.{IsFram, fram_of}
-use Rattle.image_reports.specs.image_laws.cost_bound.declared.allowance.Allow.{Allow}
-use Rattle.image_reports.specs.image_laws.source_values.Runs.{CheckedProgram}
-use Rattle.image_reports.specs.image_laws.source_meaning.Acceptance.{IsAcceptedText}
-use Rattle.image_reports.specs.image_laws.source_maps.Maps.{map_of}
-use Rattle.image_reports.specs.image_laws.Compiled.{IsCompiled}
-use Rattle.image_reports.specs.image_laws.Laws.{IsFreshImage}
-use Rattle.image_reports.proofs.image_laws.Interface.{images_are_fresh, worlds_stand}
-use Rattle.image_reports.specs.Resumed.{BelongsTo}
-use Rattle.image_reports.proofs.Interface.{images_belong}
-use Rattle.compiled_states.specs.Worlds.{world_of, state_with, MayHaveAccepted, HasFramWords, HasCodeWords, BelongsAt}
-use Rattle.compiled_states.specs.Laws.{MigratedStatesBelong}
+use Rattle.image_map.specs.Kept.{IsMap}
+use Rattle.crash_rules.specs.Model.{Model}
+use Rattle.compiled_model.specs.Parts.{compiled_model}
+use Rattle.compiled_model.proofs.Interface.{is_redo}
 use Rattle.compiled_states.proofs.Words.{fram_at, fram_small}
-use Rattle.compiled_states.proofs.Named.{not_shared}
+use Rattle.compiled_states.proofs.Named.{its_map, not_shared}
 use Rattle.compiled_states.proofs.Rows.{none_there, position_below, rows_stand}
-use Rattle.compiled_states.proofs.Sound.{base_rule}
-use Rattle.compiled_states.proofs.States.{laid, source_map, one_map, keeps_code, as_state, some_words, words_before}
+use Rattle.compiled_states.proofs.Sound.{base_at_rest}
+use Rattle.compiled_states.proofs.States.{mapped, image_of, one_map, keeps_code, as_state, some_words, words_before}
 
--- where no commit is pending, BASE is the number that the receiver takes next
-base_at_rest : (m : MapValue) (words : List ℕ) (number : ℕ) → state.IsSound m words number → (word_in words m.words.gate ≡ 1 → ⊥)
-    → word_in words m.words.base ≡ number
-base_at_rest m words number sound rests =
-    let own = runtime_of m.words words in
-    let none : is_pending own ≡ false = ne_eqb own.gate 1 rests in
-    let same : (own.base == number) ≡ true =
-    sym (ap (λ b. if b then own.base == own.sent_base || own.base == (own.sent_base + own.emit_count) % 65536 else own.base == number) none)
-    ∙ base_rule m words number sound in
-    eqb-true own.base number same
-
-module _ (text : List ℕ) (p : CheckedProgram) (allow : Allow) (image : ImageValue) (ok : IsAcceptedText text p allow) (c : IsCompiled text p allow image)
-    (old : EditionValue) (is_old : IsEdition old) (number : ℕ) (t : State) (whole : HasFramWords t)
-    (g : IsMigrated old (edition_with text p (map_of text p c.layout allow) image.words) number t)
+module _ (text : List ℕ) (image : ImageValue) (of : IsImageOf text image) (old : EditionValue) (is_old : IsEdition old) (number : ℕ) (t : State)
+    (whole : HasFramWords t) (g : IsMigrated old (edition_with text of.program (its_map (mapped text image of)) image.words) number t)
     (old_base : word_in old.words old.named.words.base ≡ number) where
+  open of use {program as p, allow, accepted as ok, compiled as c}
+
   abbrev l : MemoryMap
   l = c.layout
 
   abbrev m : MapValue
-  m = map_of text p l allow
+  m = its_map (mapped text image of)
 
   abbrev new : EditionValue
   new = edition_with text p m image.words
@@ -84,24 +52,26 @@ module _ (text : List ℕ) (p : CheckedProgram) (allow : Allow) (image : ImageVa
 
   -- ---- the words of the FRAM
 
+  -- the word that a migration puts at an address: CUR's is the task, BASE's the number, a variable's that of its row, and each other the image's
+  abbrev put_by : Bool → Bool → ℕ → ℕ
+  put_by is_task is_base a =
+      if is_task then task
+      else (if is_base then word_in old.words old.named.words.base else unwrap_or (shared_word m.variables rows a) (word_in image.words a))
+
+  put_at : (a : ℕ) → IsFram a → f a ≡ put_by (a == word_place l CurrentTask) (a == word_place l Base) a
+  put_at a is = fram_at t.image.words a is ∙ g.migrates.each a (record { low = is.low; high = is.high; even = is.even })
+
   -- the word at an address that is neither CUR's nor BASE's
   word_elsewhere : (a : ℕ) → IsFram a → (a ≡ word_place l CurrentTask → ⊥) → (a ≡ word_place l Base → ⊥)
       → f a ≡ unwrap_or (shared_word m.variables rows a) (word_in image.words a)
   word_elsewhere a is no_task no_base =
-      fram_at t.image.words a is ∙ g.migrates.each a (record { low = is.low; high = is.high; even = is.even })
-      ∙ ap (λ b. if b then task
-      else (if a == word_place l Base then word_in old.words old.named.words.base
-      else unwrap_or (shared_word m.variables rows a) (word_in image.words a)))
-      (ne_eqb a (word_place l CurrentTask) no_task)
-      ∙ ap (λ b. if b then word_in old.words old.named.words.base else unwrap_or (shared_word m.variables rows a) (word_in image.words a))
-      (ne_eqb a (word_place l Base) no_base)
+      put_at a is ∙ ap₂ (λ b c. put_by b c a) (ne_eqb a (word_place l CurrentTask) no_task) (ne_eqb a (word_place l Base) no_base)
 
   -- outside of the variables, too, it is the new image's
   as_image : (a : ℕ) → IsFram a → (a ≡ word_place l CurrentTask → ⊥) → (a ≡ word_place l Base → ⊥) → (a < l.homes.address) ⊎ (end_of l.homes ≤ a)
       → f a ≡ fram_of image.words a
   as_image a is no_task no_base outside =
-      let free : is_shared m.variables a ≡ false =
-      not_shared text p allow c.plans l (laid text p allow image ok c) (source_map text p allow image ok c).places a outside in
+      let free : is_shared m.variables a ≡ false = not_shared (mapped text image of) a outside in
       word_elsewhere a is no_task no_base ∙ ap (λ o. unwrap_or o (word_in image.words a)) (none_there m.variables rows a free) ∙ sym (fram_at image.words a is)
 
   -- a word of the runtime is one of the FRAM
@@ -119,25 +89,12 @@ module _ (text : List ℕ) (p : CheckedProgram) (allow : Allow) (image : ImageVa
   current : f (word_place l CurrentTask) ≡ task
   current =
       let a = word_place l CurrentTask in
-      let is = is_word CurrentTask in
-      fram_at t.image.words a is ∙ g.migrates.each a (record { low = is.low; high = is.high; even = is.even })
-      ∙ ap (λ b. if b then task
-      else (if a == word_place l Base then word_in old.words old.named.words.base
-      else unwrap_or (shared_word m.variables rows a) (word_in image.words a)))
-      (eq-eqb a a refl)
+      put_at a (is_word CurrentTask) ∙ ap (λ b. put_by b (a == word_place l Base) a) (eq-eqb a a refl)
 
   base : f (word_place l Base) ≡ number
   base =
       let a = word_place l Base in
-      let is = is_word Base in
-      fram_at t.image.words a is ∙ g.migrates.each a (record { low = is.low; high = is.high; even = is.even })
-      ∙ ap (λ b. if b then task
-      else (if a == word_place l Base then word_in old.words old.named.words.base
-      else unwrap_or (shared_word m.variables rows a) (word_in image.words a)))
-      (ne_eqb a (word_place l CurrentTask) (λ e. omega (arith, e)))
-      ∙ ap (λ b. if b then word_in old.words old.named.words.base else unwrap_or (shared_word m.variables rows a) (word_in image.words a))
-      (eq-eqb a a refl)
-      ∙ old_base
+      put_at a (is_word Base) ∙ ap₂ (λ b c. put_by b c a) (ne_eqb a (word_place l CurrentTask) (λ e. omega (arith, e))) (eq-eqb a a refl) ∙ old_base
 
   -- a version word is the new image's
   version_word : (i : ℕ) → i < l.versions.words → f (l.versions.address + 2 * i) ≡ fram_of image.words (l.versions.address + 2 * i)
@@ -157,8 +114,10 @@ module _ (text : List ℕ) (p : CheckedProgram) (allow : Allow) (image : ImageVa
 
   -- ---- the world of the state
 
-  fresh : IsFreshImage text p allow l image
-  fresh = images_are_fresh text p allow image ok c
+  fresh : IsOpen (program_places p l) (state_view p l) (first_state p) (fresh_world image)
+  fresh =
+      let P : Model runs.State → Type 0 = λ k. k.Rests (first_state p) (fresh_world image) in
+      (subst P (is_redo p l) (images_are_fresh text p allow image ok c).rests).is_open
 
   new_world : BelongsTo p l image (world_of (record { image = image; receiver = 0 }) [])
   new_world = images_belong text p allow image ok c
@@ -175,11 +134,11 @@ module _ (text : List ℕ) (p : CheckedProgram) (allow : Allow) (image : ImageVa
     rests_there = record {
       words = fram_small t.image.words whole.are_words;
       current_task = (let is = current in let below = is_task in omega (arith, is, below));
-      gate = runtime_word Gate (λ e. omega (arith, e)) (λ e. omega (arith, e)) ∙ fresh.rests.is_open.gate;
+      gate = runtime_word Gate (λ e. omega (arith, e)) (λ e. omega (arith, e)) ∙ fresh.gate;
       base = base ∙ sym g.keeps ∙ sym count;
       versions = λ i lt.
           let here = version_word i lt in let there = runtime_word Version (λ e. omega (arith, e)) (λ e. omega (arith, e)) in
-          let most = fresh.rests.is_open.versions i lt in
+          let most = fresh.versions i lt in
           omega (arith, here, there, most);
     }
 
@@ -187,7 +146,7 @@ module _ (text : List ℕ) (p : CheckedProgram) (allow : Allow) (image : ImageVa
     belongs_to =
         let k = new_world.capacities in
         record {
-          code = keeps_code text p allow image ok c t code_words;
+          code = keeps_code text image of t code_words;
           capacities = record {
             list = (let here = runtime_word ListLength (λ e. omega (arith, e)) (λ e. omega (arith, e)) in let most = k.list in omega (arith, here, most));
             emits = (let here = runtime_word EmitCount (λ e. omega (arith, e)) (λ e. omega (arith, e)) in let most = k.emits in omega (arith, here, most));
@@ -202,7 +161,7 @@ module _ (text : List ℕ) (p : CheckedProgram) (allow : Allow) (image : ImageVa
       let k = apart in
       let first = (stands CurrentTask).below in let second = (stands Base).below in
       rows_stand text (row_of old text) (row_length old is_old text) f (word_in image.words) p.shared l.variables l.homes.address (end_of l.homes)
-      (source_map text p allow image ok c).places c.is_layout.rules.homes
+      (mapped text image of).kinds c.is_layout.rules.homes
       (λ a even low high. word_elsewhere a (record { even = even; low = omega (arith, k, low); high = omega (arith, k, high) })
       (λ e. omega (arith, k, first, low, e)) (λ e. omega (arith, k, second, low, e)))
 
@@ -211,11 +170,11 @@ module _ (text : List ℕ) (p : CheckedProgram) (allow : Allow) (image : ImageVa
 
   pub belongs_at : BelongsAt p l image rows task t
   belongs_at = record {
-    belongs = as_state text p allow image ok c t (some_words t.receiver) (words_before t.receiver whole.receiver) whole.count
+    belongs = as_state text image of t (some_words t.receiver) (words_before t.receiver whole.receiver) whole.count
         (g.mapped ∙ sym c.map) code_words (belongs_to (some_words t.receiver) (words_before t.receiver whole.receiver));
     has = has_state;
     rests = λ accepted count.
-        subst (λ s. RestsAt (program_places p l) (state_view p l) s (world_of t accepted)) (has_state accepted)
+        subst (λ s. (compiled_model p l).Rests s (world_of t accepted)) (has_state accepted)
         ((worlds_stand text p allow image ok c).rest (world_of t accepted) (rests_there accepted count));
   }
 
@@ -239,5 +198,5 @@ migrated_states_belong s t old_whole rules whole text p allow image ok c old_tex
     let is_old : IsEdition old = edition_of_state old_text old_p s m is mapped (rules_of s.image.map m rules mapped) old_whole.count in
     let Law : MapValue → Type 0 = λ k. (h : IsMigrated old (edition_with text p k image.words) s.receiver t)
     → BelongsAt p c.layout image (rows_of old (edition_with text p k image.words)) h.migrates.can.number t in
-    subst Law (sym (one_map text p allow image ok c n has))
-    (λ h. belongs_at text p allow image ok c old is_old s.receiver t whole h (old_base_is old_text old_p s m is mapped h.migrates.can.at_rest)) g
+    subst Law (sym (one_map text image (image_of text p allow image ok c) n has))
+    (λ h. belongs_at text image (image_of text p allow image ok c) old is_old s.receiver t whole h (old_base_is old_text old_p s m is mapped h.migrates.can.at_rest)) g

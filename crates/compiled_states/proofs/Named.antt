@@ -1,33 +1,15 @@
 -- What the map of a source names: the words of the runtime, the buffers, the variables and the copies, which are all in front of the code.
-use Rattle.std.proofs.Common.{◌≡◌, ◌⊎◌, inl, inr, ℕ, zero, suc, ◌+◌, ◌*◌, ◌%◌, ◌<◌, ◌≤◌, ◌||◌, Bool, true, false, List, [], ◌∷◌, Some, None, map, refl, sym}
-use Rattle.std.proofs.Common.{ap, arith}
-use Rattle.std.specs.Prelude.{slice_get}
-use Rattle.std.proofs.lemmas.Bool.{false≢true, cases_lt, or_cases, or_from, or_left, or_right}
-use Rattle.image_reports.specs.layout_facts.task_ast.declared.WordType.{WordType}
-use Rattle.image_reports.specs.layout_facts.task_ast.declared.WordType.TheVariants as word
-use Rattle.image_reports.specs.layout_facts.task_ast.declared.Extent.{Extent}
-use Rattle.image_reports.specs.layout_facts.task_ast.declared.Extent.TheVariants as extent
-use Rattle.image_reports.specs.layout_facts.task_ast.declared.SharedDeclaration.{SharedDeclaration}
-use Rattle.image_reports.specs.layout_facts.cost_bound.declared.allowance.Allow.{Allow}
-use Rattle.image_reports.specs.layout_facts.cost_bound.Allowance.{CheckedProgram}
-use Rattle.image_reports.specs.layout_facts.war_analysis.PlanValue.{TaskPlanValue}
-use Rattle.image_reports.specs.layout_facts.memory_map.declared.place.VariablePlace.{VariablePlace}
-use Rattle.image_reports.specs.layout_facts.memory_map.declared.place.VariablePlace.TheVariants.{Scalar, Array}
-use Rattle.image_reports.specs.layout_facts.memory_map.MemoryMap.{MemoryMap}
-use Rattle.image_reports.specs.layout_facts.memory_map.Places.{end_of, scalar_words, home_region, AreInOrder}
-use Rattle.image_reports.specs.layout_facts.memory_map.Laws.{AreApart}
-use Rattle.image_reports.proofs.layout_facts.memory_map.Interface.{apart_of, in_order_end}
-use Rattle.image_reports.specs.layout_facts.stands_for.Layout.{IsSharedWord}
-use Rattle.image_reports.specs.layout_facts.compiled_model.Places.{program_places}
-use Rattle.image_reports.specs.layout_facts.Facts.{HasLayout}
-use Rattle.image_reports.proofs.layout_facts.Interface.{shared_words_are_of_variables}
-use Rattle.image_reports.specs.image_laws.machine_effects.Machine.{IsFram}
-use Rattle.image_reports.specs.image_laws.source_runs.Naming.{length_of}
-use Rattle.image_reports.specs.image_laws.source_maps.Maps.{map_words, map_list, map_buffer, value_type_of, variable_of, variables_of, map_of}
-use Rattle.image_reports.specs.image_laws.source_maps.Placing.{IsOfKind, ArePlacesOf}
-use Rattle.image_reports.specs.image_laws.image_map.MapValue.{MapValue, word_count}
-use Rattle.fram_state.specs.Stretch.{holds, is_held}
-use Rattle.fram_state.specs.Named.{place_words, list_words, variable_words, runtime_words, buffers, is_shared, is_named}
+use Rattle.compiled_states.proofs.Names.{◌≡◌, ◌⊎◌, inl, inr, ℕ, zero, suc, ◌+◌, ◌*◌, ◌%◌, ◌<◌, ◌≤◌, ◌||◌, Bool, true, false, List, [], ◌∷◌, length, Some, None}
+use Rattle.compiled_states.proofs.Names.{map, refl, sym, ap, arith, slice_get, false≢true, cases_lt, or_cases, or_from, or_left, or_right, Extent}
+use Rattle.compiled_states.proofs.Names.{SharedDeclaration, Allow, CheckedProgram, TaskPlanValue, VariablePlace, Scalar, Array, MemoryMap, end_of, scalar_words}
+use Rattle.compiled_states.proofs.Names.{home_region, AreInOrder, AreApart, apart_of, in_order_end, IsSharedWord, program_places, shared_words_are_of_variables}
+use Rattle.compiled_states.proofs.Names.{IsFram, length_of, map_words, map_list, map_buffer, value_type_of, variable_of, variables_of, map_of, IsOfKind}
+use Rattle.compiled_states.proofs.Names.{ArePlacesOf, MapValue, word_count, holds, is_held, place_words, list_words, variable_words, runtime_words, buffers}
+use Rattle.compiled_states.proofs.Names.{is_shared, is_named}
+use Rattle.task_ast.specs.declared.WordType.TheVariants as word
+use Rattle.task_ast.specs.declared.Extent.TheVariants as extent
+use Rattle.layout_facts.specs.Facts.{HasLayout}
+use Rattle.task_ast.specs.declared.WordType.{WordType}
 use Rattle.compiled_states.proofs.Full.{IsFull, layout_is_full}
 use Rattle.compiled_states.proofs.Held.{within, bounds_of, none_held, all_held}
 
@@ -95,10 +77,27 @@ shared_at text (d ∷ ds) (other ∷ places) (suc n) i a place kinds at below is
     (shared_at text ds places n i a place kinds.1 at below is)
 
 -- ---- all that the map names
-module _ (text : List ℕ) (p : CheckedProgram) (allow : Allow) (plans : List TaskPlanValue) (l : MemoryMap) (laid : HasLayout p allow plans l)
-    (kinds : ArePlacesOf p.shared l.variables) where
+
+-- a source with its layout, and how its image's map names them: variables by their declarations, and each task
+pub record Mapped : Type 0 where
+  pub text : List ℕ
+  pub program : CheckedProgram
+  pub allow : Allow
+  pub plans : List TaskPlanValue
+  pub layout : MemoryMap
+  pub laid : HasLayout program allow plans layout
+  pub kinds : ArePlacesOf program.shared layout.variables
+  pub tasks : length (map_of text program layout allow).tasks ≡ length program.tasks
+
+-- the map
+abbrev pub its_map : Mapped → MapValue
+its_map own = map_of own.text own.program own.layout own.allow
+
+module _ (own : Mapped) where
+  open own use {text, program as p, allow, plans, layout as l, laid, kinds}
+
   abbrev m : MapValue
-  m = map_of text p l allow
+  m = its_map own
 
   apart : AreApart l
   apart = apart_of l laid.layout.rules

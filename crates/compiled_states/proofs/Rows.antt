@@ -1,29 +1,11 @@
 -- The words of variables, row by row: those that a map's variables have at their places, and those that stand there in the FRAM.
-use Rattle.std.proofs.Common.{◌≡◌, ℕ, zero, suc, ◌+◌, ◌-◌, ◌*◌, ◌/◌, ◌%◌, ◌<◌, ◌≤◌, if◌then◌else◌, cond, Bool, true, false, List, [], ◌∷◌, length, map, refl}
-use Rattle.std.proofs.Common.{ap, ap₂, ◌∙◌, Some, None, sym, arith}
-use Rattle.std.specs.Prelude.{slice_index, unwrap_or}
-use Rattle.std.specs.List.{position_from}
-use Rattle.std.proofs.lemmas.Bool.{or_parts}
-use Rattle.std.proofs.lemmas.List.{length-replicate}
-use Rattle.image_reports.specs.layout_facts.task_ast.declared.Extent.{Extent}
-use Rattle.image_reports.specs.layout_facts.task_ast.declared.Extent.TheVariants as extent
-use Rattle.image_reports.specs.layout_facts.task_ast.declared.SharedDeclaration.{SharedDeclaration}
-use Rattle.image_reports.specs.layout_facts.memory_map.declared.place.VariablePlace.{VariablePlace}
-use Rattle.image_reports.specs.layout_facts.memory_map.declared.place.VariablePlace.TheVariants.{Scalar, Array}
-use Rattle.image_reports.specs.layout_facts.memory_map.Places.{end_of, scalar_words, home_region, AreInOrder}
-use Rattle.image_reports.proofs.layout_facts.memory_map.Interface.{in_order_end}
-use Rattle.image_reports.specs.layout_facts.stands_for.StandsFor.{words_at}
-use Rattle.image_reports.specs.layout_facts.compiled_model.View.{row_in}
-use Rattle.image_reports.specs.image_laws.image_map.declared.parts.Variable.{Variable}
-use Rattle.image_reports.specs.image_laws.image_map.MapValue.{word_count}
-use Rattle.image_reports.specs.image_laws.source_values.Runs.{initial_words}
-use Rattle.image_reports.specs.image_laws.source_runs.Naming.{length_of}
-use Rattle.image_reports.specs.image_laws.source_maps.Maps.{value_type_of, variable_of, variables_of}
-use Rattle.image_reports.specs.image_laws.source_maps.Placing.{IsOfKind, ArePlacesOf}
-use Rattle.image_reports.proofs.image_laws.Interface.{half}
-use Rattle.fram_state.specs.Stretch.{holds}
-use Rattle.fram_state.specs.Named.{variable_words, is_shared}
-use Rattle.fram_state.specs.Migrated.{shared_word}
+use Rattle.compiled_states.proofs.Names.{◌≡◌, ℕ, zero, suc, ◌+◌, ◌-◌, ◌*◌, ◌/◌, ◌%◌, ◌<◌, ◌≤◌, if◌then◌else◌, cond, Bool, true, false, List, [], ◌∷◌, length}
+use Rattle.compiled_states.proofs.Names.{map, refl, ap, ap₂, ◌∙◌, Some, None, sym, arith, slice_index, unwrap_or, position_from, or_parts, length-replicate}
+use Rattle.compiled_states.proofs.Names.{Extent, SharedDeclaration, VariablePlace, Scalar, Array, end_of, scalar_words, home_region, AreInOrder, in_order_end}
+use Rattle.compiled_states.proofs.Names.{words_at, row_in, word_count, initial_words, length_of, value_type_of, variable_of, variables_of, IsOfKind}
+use Rattle.compiled_states.proofs.Names.{ArePlacesOf, half, holds, variable_words, is_shared, shared_word}
+use Rattle.task_ast.specs.declared.Extent.TheVariants as extent
+use Rattle.image_map.specs.declared.parts.Variable.{Variable}
 use Rattle.compiled_states.proofs.Held.{within, past}
 use Rattle.compiled_states.proofs.Named.{words_are}
 

@@ -1,19 +1,10 @@
 -- The image of an accepted source suits it.
-use Rattle.std.proofs.Common.{◌≡◌, ℕ, suc, List, [], ◌∷◌, length, map, Some, refl, ap, ap₂, ◌∙◌, arith}
-use Rattle.std.specs.Prelude.{slice_get}
+use Rattle.compiled_states.proofs.Names.{◌≡◌, ℕ, suc, List, [], ◌∷◌, length, map, Some, refl, ap, ap₂, ◌∙◌, arith, slice_get, SharedDeclaration, CheckedTask}
+use Rattle.compiled_states.proofs.Names.{TaskPlanValue, VariablePlace, TaskPlace, IsTaskLayout, TaskValue, variables_of, shared_name, task_value_of, tasks_of}
+use Rattle.compiled_states.proofs.Names.{map_of, ArePlacesOf, ImagesSuitTheirSources}
 use Rattle.fram_state.specs.Suits.{line_of, declared_line, planned_task, planned_tasks}
-use Rattle.image_reports.specs.layout_facts.task_ast.declared.SharedDeclaration.{SharedDeclaration}
-use Rattle.image_reports.specs.layout_facts.cost_bound.Allowance.{CheckedTask}
-use Rattle.image_reports.specs.layout_facts.war_analysis.PlanValue.{TaskPlanValue}
-use Rattle.image_reports.specs.layout_facts.memory_map.declared.place.VariablePlace.{VariablePlace}
-use Rattle.image_reports.specs.layout_facts.memory_map.declared.place.PrivateScalar.{PrivateScalar}
-use Rattle.image_reports.specs.layout_facts.memory_map.MemoryMap.{TaskPlace}
-use Rattle.image_reports.specs.layout_facts.privatise.Layouts.{IsTaskLayout}
-use Rattle.image_reports.specs.image_laws.image_map.MapValue.{TaskValue}
-use Rattle.image_reports.specs.image_laws.source_maps.Maps.{variables_of, shared_name, task_value_of, tasks_of, map_of}
-use Rattle.image_reports.specs.image_laws.source_maps.Placing.{ArePlacesOf}
-use Rattle.compiled_states.specs.Laws.{ImagesSuitTheirSources}
-use Rattle.compiled_states.proofs.States.{source_map}
+use Rattle.memory_map.specs.declared.place.PrivateScalar.{PrivateScalar}
+use Rattle.compiled_states.proofs.States.{source_map, image_of}
 
 -- each variable has the line of its declaration
 lines_are : (text : List ℕ) (ds : List SharedDeclaration) (places : List VariablePlace) → ArePlacesOf ds places
@@ -56,7 +47,7 @@ images_suit_their_sources text p allow image ok c = record {
   named = map_of text p c.layout allow;
   mapped = c.map;
   lines = record {
-    variables = lines_are text p.shared c.layout.variables (source_map text p allow image ok c).places;
+    variables = lines_are text p.shared c.layout.variables (source_map text image (image_of text p allow image ok c)).places;
     tasks = tasks_are text p.shared p.tasks c.plans c.layout.tasks c.is_plan.count c.is_layout.tasks.count c.is_layout.tasks.each;
   };
 }

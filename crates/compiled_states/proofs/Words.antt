@@ -1,16 +1,9 @@
 -- The words of a state at addresses, one by one.
-use Rattle.std.proofs.Common.{◌≡◌, ℕ, zero, suc, ◌+◌, ◌*◌, ◌%◌, ◌<◌, ◌≤◌, ◌==◌, ◌&&◌, true, List, ◌∷◌, length, get_or, take, drop, refl, sym, ap}
-use Rattle.std.proofs.Common.{◌∙◌, All}
-use Rattle.std.proofs.Common.{arith}
-use Rattle.std.specs.Prelude.{nat_le, nat_lt, slice_index}
-use Rattle.std.proofs.lemmas.Bool.{leb-true, le-leb, lt-ltb, eq-eqb, and_parts, and_from, cond-true, cond_both}
+use Rattle.compiled_states.proofs.Names.{◌≡◌, ℕ, zero, suc, ◌+◌, ◌*◌, ◌%◌, ◌<◌, ◌≤◌, ◌==◌, ◌&&◌, true, List, ◌∷◌, length, get_or, take, drop, refl, sym, ap}
+use Rattle.compiled_states.proofs.Names.{◌∙◌, All, arith, nat_le, nat_lt, slice_index, leb-true, le-leb, lt-ltb, eq-eqb, and_parts, and_from, cond-true}
+use Rattle.compiled_states.proofs.Names.{cond_both, place_of, is_fram, IsFram, fram_of, word_in, words_from, are_at_most}
 use Rattle.std.proofs.Math.Seq.{drop-cons}
-use Rattle.image_reports.specs.image_laws.image_text.ImageValue.{place_of}
-use Rattle.image_reports.specs.image_laws.fram_board.Bus.{is_fram}
-use Rattle.image_reports.specs.image_laws.machine_effects.Machine.{IsFram, fram_of}
-use Rattle.image_reports.proofs.image_laws.machine_effects.Interface.{index_small}
-use Rattle.fram_state.specs.Runtime.{word_in, words_from}
-use Rattle.fram_state.specs.Sound.{are_at_most}
+use Rattle.machine_effects.proofs.Interface.{index_small}
 
 -- the word of a FRAM at one of its addresses
 pub fram_at : (words : List ℕ) (a : ℕ) → IsFram a → fram_of words a ≡ word_in words a

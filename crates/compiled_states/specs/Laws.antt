@@ -1,24 +1,24 @@
 -- What holds of the states of images of accepted sources.
 use Rattle.std.specs.Prelude.{◌≡◌, ℕ, ◌<◌, ◌≤◌, List, length, All, Some, IfSome}
-use Rattle.fram_state.specs.address_space.Limits.{fram_words}
-use Rattle.fram_state.specs.state_text.declared.state.State.{State}
+use Rattle.address_space.specs.Limits.{fram_words}
+use Rattle.state_text.specs.declared.state.State.{State}
 use Rattle.fram_state.specs.Belongs.{Belongs}
 use Rattle.fram_state.specs.Suits.{Suits}
 use Rattle.fram_state.specs.Migrated.{EditionValue, edition_with, rows_of, IsStateOf, IsMigrated}
-use Rattle.image_reports.specs.image_laws.image_map.MapValue.{MapValue}
-use Rattle.image_reports.specs.image_laws.image_map.Kept.{IsMap}
-use Rattle.image_reports.specs.image_laws.image_text.ImageValue.{ImageValue}
-use Rattle.image_reports.specs.image_laws.energy_trace.TraceValue.{TraceValue}
-use Rattle.image_reports.specs.image_laws.fram_board.Run.{BoardCharge, RunOutcome, Run}
-use Rattle.image_reports.specs.image_laws.board_run.Charges.{charges_of}
-use Rattle.image_reports.specs.image_laws.board_run.History.{start_of}
-use Rattle.image_reports.specs.image_laws.board_run.Report.{report_of}
-use Rattle.image_reports.specs.image_laws.run_charges.Charges.{ArePowerStates}
-use Rattle.image_reports.specs.image_laws.source_runs.Traces.{IsTraceOfWords}
-use Rattle.image_reports.specs.image_laws.cost_bound.declared.allowance.Allow.{Allow}
-use Rattle.image_reports.specs.image_laws.source_values.Runs.{CheckedProgram}
-use Rattle.image_reports.specs.image_laws.source_meaning.Acceptance.{IsAcceptedText}
-use Rattle.image_reports.specs.image_laws.Compiled.{IsCompiled, IsImageOf}
+use Rattle.image_map.specs.MapValue.{MapValue}
+use Rattle.image_map.specs.Kept.{IsMap}
+use Rattle.image_text.specs.ImageValue.{ImageValue}
+use Rattle.energy_trace.specs.TraceValue.{TraceValue}
+use Rattle.fram_board.specs.Run.{BoardCharge, RunOutcome, Run}
+use Rattle.board_run.specs.Charges.{charges_of}
+use Rattle.board_run.specs.History.{start_of}
+use Rattle.board_run.specs.Report.{report_of}
+use Rattle.run_charges.specs.Charges.{ArePowerStates}
+use Rattle.source_runs.specs.Traces.{IsTraceOfWords}
+use Rattle.cost_bound.specs.declared.allowance.Allow.{Allow}
+use Rattle.source_values.specs.Runs.{CheckedProgram}
+use Rattle.source_meaning.specs.Acceptance.{IsAcceptedText}
+use Rattle.image_laws.specs.Compiled.{IsCompiled, IsImageOf}
 use Rattle.image_reports.specs.Resumed.{BelongsTo, IsResumedRun}
 use Rattle.compiled_states.specs.Worlds.{world_of, MayHaveAccepted, HasFramWords, HasCodeWords, BelongsAt, board_of, IsToldByItsSource, LeavesItsStates}
 

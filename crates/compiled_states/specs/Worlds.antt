@@ -1,27 +1,26 @@
 -- States as worlds, the source's states that they have, and the runs that go on from them as sources tell them.
 use Rattle.std.specs.Prelude.{◌≡◌, ℕ, ◌%◌, ◌<◌, ◌≤◌, List, ◌++◌, length, All}
-use Rattle.fram_state.specs.address_space.Limits.{fram_words}
-use Rattle.fram_state.specs.state_text.declared.state.State.{State}
+use Rattle.address_space.specs.Limits.{fram_words}
+use Rattle.state_text.specs.declared.state.State.{State}
 use Rattle.fram_state.specs.Belongs.{Belongs}
-use Rattle.image_reports.specs.image_laws.image_text.ImageValue.{ImageValue}
-use Rattle.image_reports.specs.image_laws.energy_trace.TraceValue.{TraceValue}
-use Rattle.image_reports.specs.image_laws.fram_board.Board.{BoardValue, started}
-use Rattle.image_reports.specs.image_laws.fram_board.Run.{Moment, RunOutcome}
-use Rattle.image_reports.specs.image_laws.fram_board.Saved.{saved}
-use Rattle.image_reports.specs.image_laws.board_run.Charges.{charges_of}
-use Rattle.image_reports.specs.image_laws.machine_effects.World.{World}
-use Rattle.image_reports.specs.image_laws.machine_effects.Machine.{IsFram, fram_of}
-use Rattle.image_reports.specs.image_laws.machine_effects.Runs.{last_board}
-use Rattle.image_reports.specs.image_laws.cost_bound.declared.allowance.Allow.{Allow}
-use Rattle.image_reports.specs.image_laws.source_values.Runs.{CheckedProgram}
-use Rattle.image_reports.specs.image_laws.source_values.Runs as runs
-use Rattle.image_reports.specs.image_laws.source_meaning.Acceptance.{IsAcceptedText}
-use Rattle.image_reports.specs.image_laws.source_maps.Maps.{map_of}
-use Rattle.image_reports.specs.image_laws.memory_map.MemoryMap.{MemoryMap}
-use Rattle.image_reports.specs.image_laws.stands_for.StandsFor.{RestsAt}
-use Rattle.image_reports.specs.image_laws.compiled_model.Places.{program_places}
-use Rattle.image_reports.specs.image_laws.compiled_model.View.{state_view, state_in}
-use Rattle.image_reports.specs.image_laws.Compiled.{IsCompiled}
+use Rattle.image_text.specs.ImageValue.{ImageValue}
+use Rattle.energy_trace.specs.TraceValue.{TraceValue}
+use Rattle.fram_board.specs.Board.{BoardValue, started}
+use Rattle.fram_board.specs.Run.{Moment, RunOutcome}
+use Rattle.fram_board.specs.Saved.{saved}
+use Rattle.board_run.specs.Charges.{charges_of}
+use Rattle.machine_effects.specs.World.{World}
+use Rattle.machine_effects.specs.Machine.{IsFram, fram_of}
+use Rattle.machine_effects.specs.Runs.{last_board}
+use Rattle.cost_bound.specs.declared.allowance.Allow.{Allow}
+use Rattle.source_values.specs.Runs.{CheckedProgram}
+use Rattle.source_values.specs.Runs as runs
+use Rattle.source_meaning.specs.Acceptance.{IsAcceptedText}
+use Rattle.source_maps.specs.Maps.{map_of}
+use Rattle.memory_map.specs.MemoryMap.{MemoryMap}
+use Rattle.compiled_model.specs.View.{state_in}
+use Rattle.compiled_model.specs.Parts.{compiled_model}
+use Rattle.image_laws.specs.Compiled.{IsCompiled}
 use Rattle.image_reports.specs.Resumed.{IsToldOnward}
 
 -- the world of a state whose receiver accepted these words before
@@ -52,7 +51,7 @@ pub record BelongsAt (p : CheckedProgram) (l : MemoryMap) (image : ImageValue) (
   pub belongs : Belongs image s
   pub has : (accepted : List ℕ) → state_in l (world_of s accepted) ≡ state_with shared task accepted
   pub rests : (accepted : List ℕ) → MayHaveAccepted s accepted
-      → RestsAt (program_places p l) (state_view p l) (state_with shared task accepted) (world_of s accepted)
+      → (compiled_model p l).Rests (state_with shared task accepted) (world_of s accepted)
 
 -- the board that goes on from a state, on these readings
 abbrev pub board_of : State → List ℕ → BoardValue

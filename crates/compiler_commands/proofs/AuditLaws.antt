@@ -7,7 +7,7 @@ use Rattle.plain_commands.specs.fram_board.msp_step.declared.machine.Stop.TheVar
 use Rattle.plain_commands.specs.fram_board.Run.{End, Charges, Stopped}
 use Rattle.plain_commands.specs.source_values.Statements.{Outcome}
 use Rattle.plain_commands.specs.source_report.SourceReport.{source_report}
-use Rattle.image_reports.specs.source_runs.Tells.{IsEndOf}
+use Rattle.source_runs.specs.Tells.{IsEndOf}
 use Rattle.compiler_commands.specs.Audited.{TriedReportsAreGood, TriedReportsAreAnsweredYes}
 use Rattle.plain_commands.proofs.Interface.{of_same}
 

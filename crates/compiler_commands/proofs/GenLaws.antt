@@ -5,7 +5,7 @@ use Rattle.plain_commands.specs.cost_bound.declared.allowance.Allow.{Allow}
 use Rattle.plain_commands.specs.energy_trace.Ranges.{IsCharge}
 use Rattle.plain_commands.specs.energy_trace.TraceValue.{TraceValue}
 use Rattle.plain_commands.specs.image_text.ImageValue.{ImageValue}
-use Rattle.image_reports.specs.msp_step.declared.machine.Stop.TheVariants as stop
+use Rattle.msp_step.specs.declared.machine.Stop.TheVariants as stop
 use Rattle.plain_commands.specs.fram_board.Board.{BoardValue, fresh}
 use Rattle.plain_commands.specs.fram_board.Run.{End, Charges, Stopped, RunOutcome, Run}
 use Rattle.plain_commands.specs.board_run.Charges.{charges_of}
@@ -21,7 +21,7 @@ use Rattle.source_generator.specs.Trace.{charge_of, charges, behind_source, gene
 use Rattle.source_generator.proofs.Interface.{few_charges, each_once, few_readings}
 use Rattle.plain_commands.specs.source_values.Runs.{CheckedProgram}
 use Rattle.plain_commands.specs.source_meaning.Acceptance.{IsAcceptedText}
-use Rattle.image_reports.specs.source_runs.Traces.{IsTraceOfWords}
+use Rattle.source_runs.specs.Traces.{IsTraceOfWords}
 use Rattle.plain_commands.specs.command_answers.Ending.{Ending, well, at_fault}
 use Rattle.compiler_commands.specs.Generated.{RanSo, ended_line, four_lines, generated_lines}
 use Rattle.compiler_commands.specs.Build.{IsBuilt}

@@ -10,7 +10,7 @@ use Rattle.plain_commands.specs.source_meaning.Acceptance.{IsAcceptedText}
 use Rattle.plain_commands.specs.command_answers.Ending.{well}
 use Rattle.compiler_commands.specs.Build.{IsBuilt, Builds}
 use Rattle.compiler_commands.specs.Try.{Tries}
-use Rattle.image_reports.specs.source_runs.Traces.{IsTraceOfWords}
+use Rattle.source_runs.specs.Traces.{IsTraceOfWords}
 use Rattle.image_reports.specs.ImageLaw.{ImagesKeepTheLaws}
 use Rattle.plain_commands.specs.RunReport.{IsRunReport}
 use Rattle.compiler_commands.specs.ToldRuns.{IsTold}

@@ -7,7 +7,7 @@ use Rattle.plain_commands.specs.alp_io.declared.report.Reason.{Reason}
 use Rattle.plain_commands.specs.cost_bound.declared.allowance.Allow.{Allow}
 use Rattle.plain_commands.specs.energy_trace.TraceValue.{TraceValue}
 use Rattle.plain_commands.specs.image_text.ImageValue.{ImageValue}
-use Rattle.image_reports.specs.msp_step.declared.machine.Stop.TheVariants as stop
+use Rattle.msp_step.specs.declared.machine.Stop.TheVariants as stop
 use Rattle.plain_commands.specs.fram_board.Board.{BoardValue, fresh}
 use Rattle.plain_commands.specs.fram_board.Laws.{HasRun}
 use Rattle.plain_commands.specs.fram_board.Run.{End, Charges, Stopped, RunOutcome}
@@ -17,10 +17,10 @@ use Rattle.plain_commands.specs.board_run.Report.{report_of}
 use Rattle.plain_commands.specs.source_values.Statements.{Outcome}
 use Rattle.plain_commands.specs.source_values.Runs.{CheckedProgram}
 use Rattle.plain_commands.specs.source_meaning.Acceptance.{IsAcceptedText}
-use Rattle.image_reports.specs.source_maps.Maps.{map_of}
-use Rattle.image_reports.specs.source_runs.Tells.{IsEndOf, IsToldBySource}
-use Rattle.image_reports.specs.source_runs.Traces.{IsTraceOfWords}
-use Rattle.link_image.specs.image_laws.Compiled.{IsCompiled}
+use Rattle.source_maps.specs.Maps.{map_of}
+use Rattle.source_runs.specs.Tells.{IsEndOf, IsToldBySource}
+use Rattle.source_runs.specs.Traces.{IsTraceOfWords}
+use Rattle.image_laws.specs.Compiled.{IsCompiled}
 use Rattle.image_reports.specs.Laws.{ImagesAreTold}
 use Rattle.plain_commands.specs.declared.run.RunEnding.{RunEnding}
 use Rattle.plain_commands.specs.declared.run.RunEnding.TheVariants.{Well, AtFault}

@@ -1,19 +1,19 @@
 -- What `build` makes of its text.
 use Rattle.std.specs.Prelude.{◌≡◌, ℕ, List, [], ◌∷◌, ◌++◌, Some, Ok, IsSomeAnd}
 use Rattle.plain_commands.specs.energy_trace.TraceValue.{TraceValue}
-use Rattle.image_reports.specs.image_map.MapValue.{MapValue}
+use Rattle.image_map.specs.MapValue.{MapValue}
 use Rattle.plain_commands.specs.image_text.ImageValue.{ImageValue}
 use Rattle.plain_commands.specs.image_text.Reading.{image_of}
 use Rattle.plain_commands.specs.image_text.Text.{map_part, text_of}
-use Rattle.image_reports.specs.text_parts.Printed.{printed}
+use Rattle.text_parts.specs.Printed.{printed}
 use Rattle.plain_commands.specs.alp_io.Report.{bound_line}
 use Rattle.plain_commands.specs.cost_bound.declared.allowance.Allow.{Allow}
 use Rattle.plain_commands.specs.source_meaning.Acceptance.{IsAcceptedText}
-use Rattle.link_image.specs.image_laws.Compiled.{IsCompiled}
+use Rattle.image_laws.specs.Compiled.{IsCompiled}
 use Rattle.image_reports.specs.ImageLaw.{IsLawful}
 use Rattle.plain_commands.specs.source_values.Runs.{CheckedProgram}
-use Rattle.image_reports.specs.source_runs.Naming.{IsMapOf}
-use Rattle.image_reports.specs.source_runs.Traces.{IsTraceOfWords}
+use Rattle.source_runs.specs.Naming.{IsMapOf}
+use Rattle.source_runs.specs.Traces.{IsTraceOfWords}
 use Rattle.plain_commands.specs.command_answers.Ending.{well}
 use Rattle.compiler_commands.specs.ToldRuns.{IsTold}
 use Rattle.plain_commands.specs.command_texts.Sources.{RefusesSource, SaysSource}

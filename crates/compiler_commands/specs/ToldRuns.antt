@@ -2,12 +2,12 @@
 use Rattle.std.specs.Prelude.{◌≡◌, ℕ, List, Some}
 use Rattle.plain_commands.specs.energy_trace.TraceValue.{TraceValue}
 use Rattle.plain_commands.specs.source_values.Runs.{CheckedProgram}
-use Rattle.image_reports.specs.image_map.MapValue.{MapValue}
+use Rattle.image_map.specs.MapValue.{MapValue}
 use Rattle.plain_commands.specs.image_text.ImageValue.{ImageValue}
 use Rattle.plain_commands.specs.fram_board.Board.{fresh}
 use Rattle.plain_commands.specs.board_run.Charges.{charges_of}
-use Rattle.image_reports.specs.source_runs.Traces.{IsTraceOfWords}
-use Rattle.image_reports.specs.source_runs.Tells.{IsToldBySource}
+use Rattle.source_runs.specs.Traces.{IsTraceOfWords}
+use Rattle.source_runs.specs.Tells.{IsToldBySource}
 use Rattle.plain_commands.specs.command_answers.Ending.{Ending, well}
 use Rattle.plain_commands.specs.RunReport.{IsRunReport}
 

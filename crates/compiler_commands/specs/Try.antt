@@ -8,7 +8,7 @@ use Rattle.plain_commands.specs.board_run.Charges.{charges_of}
 use Rattle.plain_commands.specs.cost_bound.declared.allowance.Allow.{Allow}
 use Rattle.plain_commands.specs.source_meaning.Acceptance.{IsAcceptedText}
 use Rattle.plain_commands.specs.source_values.Runs.{CheckedProgram}
-use Rattle.image_reports.specs.source_runs.Tells.{IsToldBySource}
+use Rattle.source_runs.specs.Tells.{IsToldBySource}
 use Rattle.plain_commands.specs.command_answers.Ending.{well}
 use Rattle.plain_commands.specs.RunReport.{IsRunReport}
 use Rattle.plain_commands.specs.command_texts.Sources.{SaysSource}

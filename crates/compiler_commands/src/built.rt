@@ -1,9 +1,9 @@
 //! The image of a source, and its text.
 ghost use Rattle.std.specs.Prelude.{◌≡◌, IfOk, IfErr};
-ghost use Rattle.image_reports.specs.task_ast.View.{program_of};
+ghost use Rattle.task_ast.specs.View.{program_of};
 ghost use Rattle.plain_commands.specs.source_meaning.Acceptance.{IsAcceptedText};
 ghost use Rattle.plain_commands.specs.command_answers.declared.failure.Failure.TheVariants.{Memory};
-ghost use Rattle.link_image.specs.image_laws.Compiled.{IsCompiled};
+ghost use Rattle.image_laws.specs.Compiled.{IsCompiled};
 ghost use Rattle.compiler_commands.specs.Build.{IsBuilt};
 ghost use Rattle.compiler_commands.specs.ToldRuns.{IsToldOnTraces};
 

@@ -3,11 +3,11 @@ ghost use Rattle.std.specs.Prelude.{◌≡◌, ◌<◌, ◌≤◌, ◌^◌, [], 
 ghost use Rattle.plain_commands.specs.fram_board.Board.{fresh};
 ghost use Rattle.plain_commands.specs.board_run.History.{start_of};
 ghost use Rattle.plain_commands.specs.alp_io.Shelf.{NeverFall};
-ghost use Rattle.image_reports.specs.task_ast.View.{program_of};
+ghost use Rattle.task_ast.specs.View.{program_of};
 ghost use Rattle.plain_commands.specs.source_meaning.Acceptance.{IsAcceptedText};
 ghost use Rattle.source_generator.specs.Source.{generated_text};
 ghost use Rattle.source_generator.specs.Trace as generator;
-ghost use Rattle.image_reports.specs.source_runs.Traces.{IsTraceOfWords};
+ghost use Rattle.source_runs.specs.Traces.{IsTraceOfWords};
 ghost use Rattle.plain_commands.specs.command_answers.declared.failure.Failure.TheVariants.{Memory};
 ghost use Rattle.plain_commands.specs.command_answers.Ending.{Ending, well};
 ghost use Rattle.compiler_commands.specs.Generated.{RanSo};

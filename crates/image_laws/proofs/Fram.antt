@@ -1,16 +1,9 @@
 -- The words of an image by their addresses.
-use Rattle.std.proofs.Common.{◌≡◌, ◌∙◌, ◌+◌, ◌*◌, ◌%◌, ◌<◌, ◌≤◌, ◌==◌, ◌&&◌, ℕ, suc, true, false, cond, nat_lt, nat_le, List, [], ◌∷◌, map, length, refl}
-use Rattle.std.proofs.Common.{ap, arith, slice_index}
-use Rattle.std.proofs.lemmas.Bool.Decides.{nat_tests}
-use Rattle.memory_map.specs.address_space.Limits.{fram_first}
-use Rattle.image_text.specs.ImageValue.{place_of}
-use Rattle.linked_code.specs.fram_board.Bus.{is_fram}
-use Rattle.linked_code.specs.machine_effects.Machine.{IsFram, fram_of}
-use Rattle.linked_code.specs.code_forms.Placed.{Holds}
+use Rattle.image_laws.proofs.Names.{◌≡◌, ◌∙◌, ◌+◌, ◌*◌, ◌%◌, ◌<◌, ◌≤◌, ◌==◌, ◌&&◌, ℕ, suc, true, false, cond, nat_lt, nat_le, List, [], ◌∷◌, map, length, refl}
+use Rattle.image_laws.proofs.Names.{ap, arith, slice_index, nat_tests, fram_first, place_of, is_fram, IsFram, fram_of, VariablePlace, end_of, home_region}
+use Rattle.image_laws.proofs.Names.{AreInOrder, is_within, word_of_row, shared_word}
+use Rattle.code_forms.specs.Placed.{Holds}
 use Rattle.memory_map.specs.declared.place.Region.{Region}
-use Rattle.memory_map.specs.declared.place.VariablePlace.{VariablePlace}
-use Rattle.memory_map.specs.Places.{end_of, home_region, AreInOrder}
-use Rattle.compiled_runs.specs.compiled_model.View.{is_within, word_of_row, shared_word}
 
 -- ---- words by addresses
 

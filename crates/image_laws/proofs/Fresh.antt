@@ -1,42 +1,24 @@
 -- The world of an image before anything was done.
-use Rattle.std.proofs.Common.{◌≡◌, ◌≢◌, ℕ, ◌+◌, ◌-◌, ◌*◌, ◌/◌, ◌%◌, ◌<◌, ◌≤◌, ◌==◌, ◌&&◌, if◌then◌else◌, cond, ne_eqb, refl, ap, ◌∙◌}
-use Rattle.std.proofs.Common.{arith, true, false, List, length, All}
-use Rattle.std.proofs.lemmas.Bool.Decides.{nat_tests}
-use Rattle.std.specs.Prelude.{slice_index}
-use Rattle.linked_code.specs.cost_bound.declared.allowance.Allow.{Allow}
-use Rattle.whole_programs.specs.source_values.Runs.{CheckedProgram, first_state, initial_rows}
-use Rattle.whole_programs.specs.source_values.Running.{IsRunnable}
-use Rattle.source_meaning.specs.Acceptance.{IsAcceptedText}
+use Rattle.image_laws.proofs.Names.{◌≡◌, ◌≢◌, ℕ, ◌+◌, ◌-◌, ◌*◌, ◌/◌, ◌%◌, ◌<◌, ◌≤◌, ◌==◌, ◌&&◌, if◌then◌else◌, cond, ne_eqb, refl, sym, ap, ◌∙◌, subst, arith}
+use Rattle.image_laws.proofs.Names.{true, false, List, length, All, nat_tests, slice_index, Allow, CheckedProgram, State, first_state, initial_rows}
+use Rattle.image_laws.proofs.Names.{IsAcceptedText, ImageValue, place_of, is_fram, IsFram, fram_of, IsSharedWord, HoldsWords, RestsAt, privates_are_few}
+use Rattle.image_laws.proofs.Names.{HasLayout, tasks_match, program_places, is_within, shared_word, state_view, Model, is_redo, code_words, code_region}
+use Rattle.image_laws.proofs.Names.{data_word, IsCompiled, fresh_world, IsFreshImage, ImagesAreFresh, reset_vector, CurrentTask, Gate, Base, MemoryMap}
+use Rattle.image_laws.proofs.Names.{word_place, end_of, IsLaidOut}
+use Rattle.source_values.specs.Running.{IsRunnable}
 use Rattle.source_meaning.proofs.Interface.{accepted_texts_run}
-use Rattle.image_text.specs.ImageValue.{ImageValue, place_of}
-use Rattle.linked_code.specs.fram_board.Bus.{is_fram}
-use Rattle.linked_code.specs.machine_effects.Machine.{IsFram, fram_of}
-use Rattle.linked_code.proofs.machine_effects.Interface.{index_small}
-use Rattle.compiled_runs.specs.stands_for.Layout.{IsSharedWord}
-use Rattle.compiled_runs.specs.stands_for.StandsFor.{HoldsWords, RestsAt}
-use Rattle.linked_code.proofs.array_versions.Interface.{zero_unless}
+use Rattle.machine_effects.proofs.Interface.{index_small}
+use Rattle.array_versions.proofs.Interface.{zero_unless}
 use Rattle.lower.specs.Lowered.{lowered}
-use Rattle.whole_programs.proofs.Interface.{privates_are_few}
-use Rattle.layout_facts.specs.Facts.{HasLayout}
-use Rattle.layout_facts.proofs.Interface.{tasks_match}
 use Rattle.linked_code.specs.Linked.{CodeFits}
 use Rattle.linked_code.proofs.Interface.{linked_is_code}
-use Rattle.compiled_runs.specs.compiled_model.Places.{program_places}
-use Rattle.compiled_runs.specs.compiled_model.View.{is_within, shared_word, state_view}
 use Rattle.compiled_runs.proofs.Interface.{sources_have_room}
-use Rattle.image_laws.specs.Words.{code_words, code_region, data_word}
-use Rattle.image_laws.specs.Compiled.{IsCompiled}
-use Rattle.image_laws.specs.Laws.{fresh_world, IsFreshImage, ImagesAreFresh}
+use Rattle.memory_map.specs.declared.words.RuntimeWord.{RuntimeWord}
+use Rattle.memory_map.proofs.Interface.{apart_of, even_of}
+use Rattle.runtime_code.proofs.Interface.{places_are_in_fram}
 use Rattle.image_laws.proofs.Fram.{within, outside_before, none_before, holds_by}
 use Rattle.image_laws.proofs.Initial.{initial_rows_are}
 use Rattle.image_laws.proofs.States.{finds_state}
-use Rattle.memory_map.specs.address_space.Limits.{reset_vector}
-use Rattle.memory_map.specs.declared.words.RuntimeWord.{RuntimeWord}
-use Rattle.memory_map.specs.declared.words.RuntimeWord.TheVariants.{CurrentTask, Gate, Base}
-use Rattle.memory_map.specs.MemoryMap.{MemoryMap, word_place}
-use Rattle.memory_map.specs.Places.{end_of, IsLaidOut}
-use Rattle.memory_map.proofs.Interface.{apart_of, even_of}
-use Rattle.linked_code.proofs.runtime_code.Interface.{places_are_in_fram}
 use Rattle.image_laws.proofs.Laid.{laid_out}
 
 holds_words : (words : List ℕ) → All (λ w. w < 0x10000) words → HoldsWords (fram_of words)
@@ -172,7 +154,7 @@ module _ (text : List ℕ) (p : CheckedProgram) (allow : Allow) (image : ImageVa
     fits = fits;
     code = holds_by f l.boot.address (code_words p l) code_at;
     vector = vector;
-    rests = rests;
+    rests = (let P : Model State → Type 0 = λ m. m.Rests (first_state p) (fresh_world image) in subst P (sym (is_redo p l)) rests);
     has_words = finds_state text p allow c.plans l laid (first_state p) (fresh_world image) rests;
   }
 

@@ -1,22 +1,16 @@
 -- The words that shared variables start with are words.
-use Rattle.std.proofs.Common.{◌≡◌, ℕ, zero, suc, ◌^◌, ◌/◌, ◌%◌, ◌<◌, ◌&&◌, ◌==◌, nat_lt, refl, sym, ap, ap₂, subst, arith, true}
-use Rattle.std.proofs.Common.{List, []}
-use Rattle.std.proofs.Common.{◌∷◌, ◌++◌, length, map, replicate, All}
-use Rattle.std.proofs.lemmas.List.Elements.{All-nil, All-cons, All-head, All-tail}
-use Rattle.std.proofs.lemmas.Bool.Decides.{nat_tests}
-use Rattle.linked_code.specs.alp_words.Words.{IsWord}
-use Rattle.task_ast.specs.declared.SharedDeclaration.{SharedDeclaration}
-use Rattle.task_ast.specs.declared.Extent.{Extent}
+use Rattle.image_laws.proofs.Names.{◌≡◌, ℕ, zero, suc, ◌^◌, ◌/◌, ◌%◌, ◌<◌, ◌&&◌, ◌==◌, nat_lt, refl, sym, ap, ap₂, subst, arith, true, List, [], ◌∷◌, ◌++◌}
+use Rattle.image_laws.proofs.Names.{length, map, replicate, All, nat_tests, SharedDeclaration, Extent, CheckedProgram, initial_words, initial_rows, Checks}
+use Rattle.image_laws.proofs.Names.{are_words, are_rows}
 use Rattle.task_ast.specs.declared.Extent.TheVariants as extent
-use Rattle.linked_code.specs.task_lex.declared.token.Token.{Token}
-use Rattle.linked_code.specs.task_lex.Lex.{width_after}
-use Rattle.source_meaning.specs.task_parse.Grammar.{Row, IsExtent, IsWorth, IsLongExtent, IsShared, IsProgram, negated}
-use Rattle.source_meaning.specs.task_parse.Parsed.{Program}
-use Rattle.source_meaning.specs.task_parse.Grammar as grammar
-use Rattle.whole_programs.specs.source_values.Runs.{CheckedProgram, initial_words, initial_rows}
-use Rattle.source_meaning.specs.Acceptance.{Checks}
+use Rattle.task_parse.specs.Grammar as grammar
+use Rattle.std.proofs.lemmas.List.Elements.{All-nil, All-cons, All-head, All-tail}
+use Rattle.alp_words.specs.Words.{IsWord}
+use Rattle.task_lex.specs.declared.token.Token.{Token}
+use Rattle.task_lex.specs.Lex.{width_after}
+use Rattle.task_parse.specs.Grammar.{Row, IsExtent, IsWorth, IsLongExtent, IsShared, IsProgram, negated}
+use Rattle.task_parse.specs.Parsed.{Program}
 use Rattle.checked_trees.proofs.Interface.{OfWords, AreSound, are_sound}
-use Rattle.compiled_runs.specs.compiled_model.View.{are_words, are_rows}
 
 -- tokens with words for numbers
 abbrev HaveWords : List Token → Type 0

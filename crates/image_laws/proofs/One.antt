@@ -1,21 +1,11 @@
 -- An accepted text has one image: its program and its allowance, its plan and its layout are one, and they say each word, and the map.
-use Rattle.std.proofs.Common.{◌≡◌, ◌∙◌, ℕ, ◌+◌, ◌*◌, ◌<◌, List, length, get_or, ap, arith, sym, subst, Some, slice_index}
-use Rattle.std.proofs.lemmas.List.{same_lists, get_or_default}
-use Rattle.memory_map.specs.address_space.Limits.{fram_first, fram_words}
-use Rattle.linked_code.specs.cost_bound.declared.allowance.Allow.{Allow}
-use Rattle.linked_code.specs.cost_bound.Allowance.{IsAllowed}
-use Rattle.whole_programs.specs.source_values.Runs.{CheckedProgram}
+use Rattle.image_laws.proofs.Names.{◌≡◌, ◌∙◌, ℕ, ◌+◌, ◌*◌, ◌<◌, List, length, get_or, ap, arith, sym, subst, Some, slice_index, same_lists, get_or_default}
+use Rattle.image_laws.proofs.Names.{fram_first, fram_words, Allow, IsAllowed, CheckedProgram, ImageValue, place_of, IsFram, fram_of, map_of, IsAcceptedText}
+use Rattle.image_laws.proofs.Names.{AreImageWords, image_word, IsCompiled, ImagesAreOne}
 use Rattle.war_analysis.specs.Laws.{OnePlan}
 use Rattle.privatise.specs.Layouts.{IsLayout}
 use Rattle.privatise.specs.Laws.{OneLayout}
-use Rattle.image_text.specs.ImageValue.{ImageValue, place_of}
-use Rattle.linked_code.specs.machine_effects.Machine.{IsFram, fram_of}
-use Rattle.source_maps.specs.Maps.{map_of}
-use Rattle.source_meaning.specs.Acceptance.{IsAcceptedText}
 use Rattle.source_meaning.specs.Laws.{OneProgram}
-use Rattle.image_laws.specs.Words.{AreImageWords, image_word}
-use Rattle.image_laws.specs.Compiled.{IsCompiled}
-use Rattle.image_laws.specs.Laws.{ImagesAreOne}
 use Rattle.image_laws.proofs.Fram.{fram_at}
 
 -- words of the FRAM that are the same at each address

@@ -1,25 +1,14 @@
 -- A world that rests at a state has its words where the map says.
-use Rattle.std.proofs.Common.{◌≡◌, ℕ, zero, suc, ◌+◌, ◌*◌, ◌<◌, ◌==◌, ◌&&◌, refl, ap, ap₂, ◌∙◌, arith, true, eqb-true, List, [], ◌∷◌, length}
-use Rattle.std.proofs.Common.{Some}
-use Rattle.std.proofs.lemmas.List.{length-replicate}
-use Rattle.std.specs.Prelude.{slice_get, slice_index, slice_index_or}
+use Rattle.image_laws.proofs.Names.{◌≡◌, ℕ, zero, suc, ◌+◌, ◌*◌, ◌<◌, ◌==◌, ◌&&◌, refl, ap, ap₂, ◌∙◌, arith, true, eqb-true, List, [], ◌∷◌, length, Some}
+use Rattle.image_laws.proofs.Names.{length-replicate, slice_get, slice_index, slice_index_or, SharedDeclaration, Extent, initial_words, World, words_at}
+use Rattle.image_laws.proofs.Names.{rows_in, are_words, are_rows, one_word, value_type_of, variables_of, VariablePlace, scalar_words, home_region}
+use Rattle.task_ast.specs.declared.Extent.TheVariants as extent
 use Rattle.std.proofs.lemmas.Bool.{and_parts}
 use Rattle.task_ast.specs.declared.WordType.{WordType}
-use Rattle.task_ast.specs.declared.SharedDeclaration.{SharedDeclaration}
-use Rattle.task_ast.specs.declared.Extent.{Extent}
-use Rattle.task_ast.specs.declared.Extent.TheVariants as extent
-use Rattle.whole_programs.specs.source_values.Runs.{initial_words}
-use Rattle.linked_code.specs.machine_effects.World.{World}
-use Rattle.source_maps.specs.source_runs.Naming.{length_of}
-use Rattle.source_maps.specs.source_runs.Transitions.{words_at, rows_in}
-use Rattle.compiled_runs.specs.compiled_model.View.{are_words, are_rows}
-use Rattle.compiled_runs.specs.image_map.MapValue.{word_count}
-use Rattle.source_maps.proofs.Interface.{one_word}
-use Rattle.source_maps.specs.Maps.{value_type_of, variables_of}
+use Rattle.source_runs.specs.Naming.{length_of}
+use Rattle.image_map.specs.MapValue.{word_count}
 use Rattle.source_maps.specs.Placing.{IsOfKind}
-use Rattle.memory_map.specs.declared.place.VariablePlace.{VariablePlace}
 use Rattle.memory_map.specs.declared.place.VariablePlace.TheVariants.{Scalar, Array}
-use Rattle.memory_map.specs.Places.{scalar_words, home_region}
 
 -- a row stands at a place
 abbrev pub RowStands : World → List ℕ → VariablePlace → Type 0

@@ -1,30 +1,11 @@
 -- Where the world rests at a state of the source, the map finds the state's words in it.
-use Rattle.std.proofs.Common.{◌≡◌, ℕ, ◌+◌, ◌*◌, refl, ◌∙◌, List, [], true, Some}
-use Rattle.std.specs.Prelude.{slice_get, slice_index_or}
-use Rattle.linked_code.specs.cost_bound.declared.allowance.Allow.{Allow}
-use Rattle.linked_code.specs.cost_bound.Allowance.{is_written}
-use Rattle.whole_programs.specs.source_values.Runs.{CheckedProgram, State}
+use Rattle.image_laws.proofs.Names.{◌≡◌, ℕ, ◌+◌, ◌*◌, refl, ◌∙◌, subst, List, [], true, Some, slice_get, slice_index_or, Allow, is_written, CheckedProgram}
+use Rattle.image_laws.proofs.Names.{State, VariablePlace, CurrentTask, MemoryMap, word_place, home_region, World, IsSharedWord, RestsAt, HasWordsOf}
+use Rattle.image_laws.proofs.Names.{program_places, Model, state_view, state_in, is_redo, privates_are_few, HasLayout, words_of_variables_are_shared}
+use Rattle.image_laws.proofs.Names.{view_has_their_words, worlds_have_states, map_of, of_kind, ImageValue, IsAcceptedText, IsCompiled, MapsFindStates}
+use Rattle.image_laws.proofs.Names.{ImagesHaveStates}
 use Rattle.war_analysis.specs.PlanValue.{TaskPlanValue}
-use Rattle.memory_map.specs.declared.place.VariablePlace.{VariablePlace}
-use Rattle.memory_map.specs.declared.words.RuntimeWord.TheVariants.{CurrentTask}
-use Rattle.memory_map.specs.MemoryMap.{MemoryMap, word_place}
-use Rattle.memory_map.specs.Places.{home_region}
-use Rattle.linked_code.specs.machine_effects.World.{World}
-use Rattle.compiled_runs.specs.stands_for.Layout.{IsSharedWord}
-use Rattle.compiled_runs.specs.stands_for.StandsFor.{RestsAt}
-use Rattle.source_maps.specs.source_runs.Transitions.{HasWordsOf}
-use Rattle.compiled_runs.specs.compiled_model.Places.{program_places}
-use Rattle.compiled_runs.specs.compiled_model.View.{state_view, state_in}
 use Rattle.memory_map.specs.Spots.{IsWordOf}
-use Rattle.whole_programs.proofs.Interface.{privates_are_few}
-use Rattle.layout_facts.specs.Facts.{HasLayout}
-use Rattle.layout_facts.proofs.Interface.{words_of_variables_are_shared, view_has_their_words, worlds_have_states}
-use Rattle.source_maps.specs.Maps.{map_of}
-use Rattle.source_maps.proofs.Interface.{of_kind}
-use Rattle.image_text.specs.ImageValue.{ImageValue}
-use Rattle.source_meaning.specs.Acceptance.{IsAcceptedText}
-use Rattle.image_laws.specs.Compiled.{IsCompiled}
-use Rattle.image_laws.specs.Laws.{MapsFindStates, ImagesHaveStates}
 use Rattle.image_laws.proofs.Rows.{RowStands, all_rows}
 use Rattle.image_laws.proofs.Laid.{laid_out}
 
@@ -60,7 +41,9 @@ layout_of text p allow image ok c = record {
 }
 
 pub maps_find_states : MapsFindStates
-maps_find_states text p allow image ok c s x rests = finds_state text p allow c.plans c.layout (layout_of text p allow image ok c) s x rests
+maps_find_states text p allow image ok c s x rests =
+    let P : Model State → Type 0 = λ m. m.Rests s x in
+    finds_state text p allow c.plans c.layout (layout_of text p allow image ok c) s x (subst P (is_redo p c.layout) rests)
 
 -- what stands in each world is a state, and the map finds it
 pub worlds_stand : ImagesHaveStates

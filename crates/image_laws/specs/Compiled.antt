@@ -1,12 +1,12 @@
 -- The image of an accepted source.
 use Rattle.std.specs.Prelude.{◌≡◌, ℕ, List, All, Some}
-use Rattle.linked_code.specs.cost_bound.declared.allowance.Allow.{Allow}
-use Rattle.whole_programs.specs.source_values.Runs.{CheckedProgram}
+use Rattle.cost_bound.specs.declared.allowance.Allow.{Allow}
+use Rattle.source_values.specs.Runs.{CheckedProgram}
 use Rattle.war_analysis.specs.PlanValue.{TaskPlanValue}
 use Rattle.war_analysis.specs.Plans.{IsPlan}
 use Rattle.memory_map.specs.MemoryMap.{MemoryMap}
 use Rattle.privatise.specs.Layouts.{IsLayout}
-use Rattle.linked_code.specs.array_versions.Form.{OfWords}
+use Rattle.array_versions.specs.Form.{OfWords}
 use Rattle.image_text.specs.ImageValue.{ImageValue}
 use Rattle.lower.specs.Lowered.{lowered}
 use Rattle.source_meaning.specs.Acceptance.{IsAcceptedText}

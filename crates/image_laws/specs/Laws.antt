@@ -1,20 +1,21 @@
 -- What holds of the image of an accepted source.
 use Rattle.std.specs.Prelude.{◌≡◌, ℕ, List, []}
-use Rattle.memory_map.specs.address_space.Limits.{reset_vector}
-use Rattle.linked_code.specs.cost_bound.declared.allowance.Allow.{Allow}
-use Rattle.whole_programs.specs.source_values.Runs.{CheckedProgram, State, first_state}
+use Rattle.address_space.specs.Limits.{reset_vector}
+use Rattle.cost_bound.specs.declared.allowance.Allow.{Allow}
+use Rattle.source_values.specs.Runs.{CheckedProgram, State, first_state}
 use Rattle.source_meaning.specs.Acceptance.{IsAcceptedText}
 use Rattle.image_text.specs.ImageValue.{ImageValue}
-use Rattle.linked_code.specs.machine_effects.World.{World}
-use Rattle.linked_code.specs.machine_effects.Machine.{fram_of}
-use Rattle.linked_code.specs.code_forms.Placed.{Holds}
+use Rattle.machine_effects.specs.World.{World}
+use Rattle.machine_effects.specs.Machine.{fram_of}
+use Rattle.code_forms.specs.Placed.{Holds}
 use Rattle.memory_map.specs.MemoryMap.{MemoryMap}
-use Rattle.compiled_runs.specs.stands_for.StandsFor.{HoldsWords, RestsAt, IsAtRest, IsPendingCommit, CommittingTo}
-use Rattle.source_maps.specs.source_runs.Transitions.{HasWordsOf}
+use Rattle.stands_for.specs.StandsFor.{HoldsWords, IsAtRest, IsPendingCommit}
+use Rattle.source_runs.specs.Transitions.{HasWordsOf}
 use Rattle.lower.specs.Lowered.{lowered}
 use Rattle.linked_code.specs.Linked.{CodeFits}
-use Rattle.compiled_runs.specs.compiled_model.Places.{program_places}
-use Rattle.compiled_runs.specs.compiled_model.View.{state_view, state_in, state_left}
+use Rattle.compiled_model.specs.Places.{program_places}
+use Rattle.compiled_model.specs.View.{state_in, state_left}
+use Rattle.compiled_model.specs.Parts.{compiled_model}
 use Rattle.image_laws.specs.Words.{code_words}
 use Rattle.source_maps.specs.Maps.{map_of}
 use Rattle.image_laws.specs.Compiled.{IsCompiled, IsImageOf}
@@ -29,7 +30,7 @@ pub record IsFreshImage (text : List ℕ) (p : CheckedProgram) (allow : Allow) (
   pub fits : CodeFits l (lowered l p)
   pub code : Holds (fram_of image.words) l.boot.address (code_words p l)
   pub vector : fram_of image.words reset_vector ≡ l.boot.address
-  pub rests : RestsAt (program_places p l) (state_view p l) (first_state p) (fresh_world image)
+  pub rests : (compiled_model p l).Rests (first_state p) (fresh_world image)
   pub has_words : HasWordsOf (map_of text p l allow) (fresh_world image) (first_state p)
 
 -- the image of an accepted source rests at the source's first state, before any run
@@ -40,15 +41,15 @@ ImagesAreFresh = (text : List ℕ) (p : CheckedProgram) (allow : Allow) (image :
 -- where the world rests at a state of the source, the map finds the state's words in it
 abbrev pub MapsFindStates : Type 0
 MapsFindStates = (text : List ℕ) (p : CheckedProgram) (allow : Allow) (image : ImageValue) → IsAcceptedText text p allow
-    → (c : IsCompiled text p allow image) → (s : State) (x : World) → RestsAt (program_places p c.layout) (state_view p c.layout) s x
+    → (c : IsCompiled text p allow image) → (s : State) (x : World) → (compiled_model p c.layout).Rests s x
     → HasWordsOf (map_of text p c.layout allow) x s
 
 -- Each world of words has a state, which the map finds. Where no commit is pending the world rests at it, and a pending commit leaves the
 -- state that the world has behind it
 pub record HasStates (text : List ℕ) (p : CheckedProgram) (allow : Allow) (l : MemoryMap) : Type 0 where
   pub words : (x : World) → HoldsWords x.fram → HasWordsOf (map_of text p l allow) x (state_in l x)
-  pub rest : (x : World) → IsAtRest (program_places p l) x → RestsAt (program_places p l) (state_view p l) (state_in l x) x
-  pub commit : (x : World) → IsPendingCommit (program_places p l) x → CommittingTo (program_places p l) (state_view p l) (state_left l x) x
+  pub rest : (x : World) → IsAtRest (program_places p l) x → (compiled_model p l).Rests (state_in l x) x
+  pub commit : (x : World) → IsPendingCommit (program_places p l) x → (compiled_model p l).Committing (state_left l x) x
 
 -- so with the image of each accepted source
 abbrev pub ImagesHaveStates : Type 0

@@ -1,14 +1,14 @@
 -- The words of a compiled image.
 use Rattle.std.specs.Prelude.{◌≡◌, ◌<◌, ℕ, ◌-◌, ◌/◌, ◌==◌, if◌then◌else◌, List, length, All, slice_index}
-use Rattle.memory_map.specs.address_space.Limits.{fram_words, reset_vector}
-use Rattle.whole_programs.specs.source_values.Runs.{CheckedProgram, initial_rows}
-use Rattle.linked_code.specs.machine_effects.Machine.{IsFram, fram_of}
-use Rattle.linked_code.specs.code_forms.Placed.{words_of}
+use Rattle.address_space.specs.Limits.{fram_words, reset_vector}
+use Rattle.source_values.specs.Runs.{CheckedProgram, initial_rows}
+use Rattle.machine_effects.specs.Machine.{IsFram, fram_of}
+use Rattle.code_forms.specs.Placed.{words_of}
 use Rattle.memory_map.specs.declared.words.RuntimeWord.TheVariants.{CurrentTask}
 use Rattle.memory_map.specs.declared.place.Region.{Region}
 use Rattle.memory_map.specs.MemoryMap.{MemoryMap, word_place}
 use Rattle.lower.specs.Lowered.{lowered}
-use Rattle.compiled_runs.specs.compiled_model.View.{is_within, shared_word}
+use Rattle.compiled_model.specs.View.{is_within, shared_word}
 use Rattle.linked_code.specs.Linked.{linked}
 
 -- the words of the code, which stand from the boot's address on

@@ -2,8 +2,6 @@
 
 ghost use Rattle.image_laws.specs.Laws.{ImagesAreFresh, ImagesAreOne, ImagesHaveStates, MapsFindStates};
 
-use linked_code::{layouts_have_room, linked_is_code};
-use lower::laws::statements_keep_to_words;
 use privatise::one_layout;
 use source_meaning::one_program;
 use war_analysis::one_plan;
@@ -12,11 +10,7 @@ use war_analysis::one_plan;
 /// anything was done its world rests at the source's first state.
 pub fn images_are_fresh()
     ensures { ImagesAreFresh }
-{
-    layouts_have_room();
-    linked_is_code();
-    statements_keep_to_words();
-}
+{}
 
 /// An accepted text has one image.
 pub fn images_are_one()

@@ -1,12 +1,5 @@
 -- A run of a compiled source is told by the source.
-use Rattle.std.proofs.Common.{◌∙◌, refl, sym, ap, subst}
-use Rattle.source_values.specs.Runs.{State}
-use Rattle.crash_rules.specs.Model.{Model}
-use Rattle.crash_rules.specs.Runs.{Program}
-use Rattle.compiled_model.specs.Parts.{compiled_model}
-use Rattle.compiled_model.proofs.Interface.{is_redo}
-use Rattle.compiled_bounds.proofs.Interface.{bound_is_the_sources}
-use Rattle.source_runs.proofs.Interface.{runs_are_told}
+use Rattle.image_reports.proofs.Names.{◌∙◌, refl, sym, ap, Program, compiled_model, bound_is_the_sources, runs_are_told}
 use Rattle.image_reports.specs.CompiledLaws.{ModelsAreOfSources, CompiledRunsAreTold}
 use Rattle.image_reports.proofs.Tasks.{transits, is_short}
 
@@ -20,7 +13,7 @@ models_are_of_sources text p l m is = record {
   delay = refl;
   transits = λ s u inputs e. transits p s u inputs e;
   is_short = λ s inputs below e. is_short p is.runnable s inputs below e;
-  rests = λ s x rests. let P : Model State → Type 0 = λ k. k.Rests s x in is.rests s x (subst P (is_redo p l) rests);
+  rests = is.rests;
 }
 
 -- the report of each run of a compiled source is told by the source

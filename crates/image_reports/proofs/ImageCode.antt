@@ -1,25 +1,16 @@
 -- At each front of a run the board's next instruction is one of the code, whose words are those of the image.
-use Rattle.std.proofs.Common.{◌≡◌, ℕ, zero, suc, ◌+◌, ◌*◌, ◌%◌, ◌<◌, ◌≤◌, ◌==◌, Bool, true, false, cond, refl, sym, ap, ◌∙◌, subst, arith, eqb-true, List, []}
-use Rattle.std.proofs.Common.{◌∷◌, length, length-append, Option, Some, None, slice_index}
-use Rattle.std.proofs.lemmas.Bool.Decides.{nat_tests}
-use Rattle.msp_isa.specs.declared.instructions.Instr.{Instr}
-use Rattle.msp_isa.specs.Encoding.{encoding, IsInstruction}
-use Rattle.msp_step.specs.declared.machine.Stop.{Stop}
+use Rattle.image_reports.proofs.Names.{◌≡◌, ℕ, zero, suc, ◌+◌, ◌*◌, ◌%◌, ◌<◌, ◌≤◌, ◌==◌, Bool, true, false, cond, refl, sym, ap, ◌∙◌, subst, arith, eqb-true}
+use Rattle.image_reports.proofs.Names.{List, [], ◌∷◌, length, length-append, Option, Some, None, slice_index, nat_tests, encoding, IsInstruction, place_of}
+use Rattle.image_reports.proofs.Names.{BoardValue, opened, Effect, StepOutcome, Goes, Stops, At, Halted, going, continued, MachineBoard, Code, standing, exec}
+use Rattle.image_reports.proofs.Names.{fram_of, is_fram_address, placed, words_of, Holds, AreInstructions, Marks, History, observe, behind_boot, Program}
+use Rattle.image_reports.proofs.Names.{Charge, Charged}
 use Rattle.msp_step.specs.declared.machine.Stop.TheVariants as stop
+use Rattle.msp_isa.specs.declared.instructions.Instr.{Instr}
+use Rattle.msp_step.specs.declared.machine.Stop.{Stop}
 use Rattle.msp_step.specs.Effect.{word_sum}
 use Rattle.msp_step.specs.Step.{off_bit, FetchedAt}
-use Rattle.image_text.specs.ImageValue.{place_of}
 use Rattle.fram_board.specs.Bus.{board_bus, memory_word, ram_place}
-use Rattle.fram_board.specs.Board.{BoardValue, opened}
-use Rattle.fram_board.specs.Effects.{Effect}
-use Rattle.machine_effects.specs.Going.{StepOutcome, Goes, Stops, At, Halted, going, continued}
-use Rattle.machine_effects.specs.Machine.{MachineBoard, Code, standing, exec, fram_of}
-use Rattle.machine_effects.proofs.Interface.{is_fram_address}
-use Rattle.code_forms.specs.Placed.{placed, words_of, Holds, AreInstructions}
 use Rattle.code_forms.proofs.Interface.{holds_front, holds_back, fram_no_ram, fram_word}
-use Rattle.crash_rules.specs.Model.{Marks}
-use Rattle.crash_rules.specs.History.{History, observe, behind_boot}
-use Rattle.crash_rules.specs.Runs.{Program, Charge, Charged}
 
 -- a machine that goes on, but where a reading is wanted that isn't left
 abbrev pub GoesOn : Program → MachineBoard → Type 0

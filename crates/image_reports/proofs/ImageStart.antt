@@ -1,17 +1,10 @@
 -- Behind an attempt's start each version word is below VER, where none was above it.
-use Rattle.std.proofs.Common.{◌≡◌, ℕ, zero, suc, ◌+◌, ◌*◌, ◌%◌, ◌<◌, ◌≤◌, ◌==◌, Bool, true, false, List, [], ◌∷◌, refl, ap, ◌∙◌, arith}
-use Rattle.std.proofs.lemmas.Bool.Decides.{nat_tests}
-use Rattle.fram_board.specs.Effects.{Effect, Store}
-use Rattle.machine_effects.specs.World.{put, fram_after, EachStore}
-use Rattle.machine_effects.proofs.Interface.{fram_after-append, put_same, put_other}
+use Rattle.image_reports.proofs.Names.{◌≡◌, ℕ, zero, suc, ◌+◌, ◌*◌, ◌%◌, ◌<◌, ◌≤◌, ◌==◌, Bool, true, false, List, [], ◌∷◌, refl, ap, ◌∙◌, arith, nat_tests}
+use Rattle.image_reports.proofs.Names.{Effect, Store, put, fram_after, EachStore, fram_after-append, put_same, put_other, is_at_end, clearing_if, cleared}
+use Rattle.image_reports.proofs.Names.{counting_effects, opening_effects, copied_in, start_effects, IsElsewhere, VersionsWithin, elsewhere_same, word_place}
+use Rattle.image_reports.proofs.Names.{CurrentTask, ListLength, EmitCount, Version}
 use Rattle.runtime_effects.specs.Places.{CopyPair}
-use Rattle.runtime_effects.specs.Stages.{is_at_end, clearing_if, cleared, counting_effects, opening_effects, copied_in, start_effects}
-use Rattle.crash_rules.specs.Model.{IsElsewhere}
 use Rattle.stands_for.specs.Layout.{ProgramPlaces, ArePrivate}
-use Rattle.stands_for.specs.StandsFor.{VersionsWithin}
-use Rattle.stands_for.proofs.Interface.{elsewhere_same}
-use Rattle.memory_map.specs.MemoryMap.{word_place}
-use Rattle.memory_map.specs.declared.words.RuntimeWord.TheVariants.{CurrentTask, ListLength, EmitCount, Version}
 use Rattle.memory_map.specs.Laws.{AreApart}
 
 -- words are cleared from an address on

@@ -1,3 +1,4 @@
+mod Names
 pub mod Begins
 pub mod Told
 pub mod Capacities
@@ -10,6 +11,3 @@ pub mod Resumed
 pub mod Tasks
 pub mod CompiledTold
 pub mod Interface
-pub use Rattle.image_laws.proofs.source_runs as source_runs
-pub use Rattle.image_laws.proofs.layout_facts as layout_facts
-pub use Rattle.image_laws.proofs as image_laws

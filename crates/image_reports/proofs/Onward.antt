@@ -1,86 +1,35 @@
 -- At each front of a run of an accepted text's image, from any world that belongs to the image.
-use Rattle.std.proofs.Common.{◌≡◌, ◌≢◌, ℕ, zero, ◌+◌, ◌*◌, ◌%◌, ◌<◌, ◌≤◌, ◌==◌, Bool, true, false, if◌then◌else◌, refl, sym, ap, ◌∙◌, subst, arith}
-use Rattle.std.proofs.Common.{List, [], ◌∷◌, ◌++◌, length, take, drop, All, append_assoc, length-take-le}
+use Rattle.image_reports.proofs.Names.{◌≡◌, ◌≢◌, ℕ, zero, ◌+◌, ◌%◌, ◌<◌, ◌≤◌, refl, sym, ap, ◌∙◌, subst, arith, List, [], ◌∷◌, ◌++◌, length, take, drop}
+use Rattle.image_reports.proofs.Names.{append_assoc, length-take-le, encoding, BoardValue, PowerState, powered, started, filled, BoardCharge, PowerUp, Moment}
+use Rattle.image_reports.proofs.Names.{RunOutcome, World, fram_after, going, continued, fram_of, last_board, words_of, CheckedProgram, State, IsAcceptedText}
+use Rattle.image_reports.proofs.Names.{map_of, read_off, Gate, Version, MemoryMap, word_place, IsElsewhere, Model, ModelLaws, History, first_history, Program}
+use Rattle.image_reports.proofs.Names.{Origin, Phase, UndecidedPhase, DecidedPhase, CommittingPhase, Begins, power_up_keeps_words, world_fram, never_lost}
+use Rattle.image_reports.proofs.Names.{sent_once, pending_sends, stops_short, stores_only, outside_of, IsMomentFrom, PowersUp, Instructs, AreMoments}
+use Rattle.image_reports.proofs.Names.{AreInstructionMoments, IsRunOfWords, BearsModel, no_delay, Progresses, stood, AtFront, at_front, powers_up, starts_hold}
+use Rattle.image_reports.proofs.Names.{fronts_are_lawful, makes_progress, HoldsWords, IsSound, SoundAtRest, SoundPending, each_weaker, program_places}
+use Rattle.image_reports.proofs.Names.{redo_model, compiled_model, start_under, is_redo, under_map, KeepsCapacities, bound_is_the_sources, KeepsVersions}
+use Rattle.image_reports.proofs.Names.{phase_keeps_versions, capacities_are_kept, source_code, placed_code, compiled_program, code_is_placed}
+use Rattle.image_reports.proofs.Names.{power_ups_raise_version, scripts_store_below, at_first, EachChargePays, runtime_marks, VersionsBelow, KeepsCode}
+use Rattle.image_reports.proofs.Names.{FetchesCode, IsRaisedSoon, RaisesVersion, BelongsTo, known_from, HoldsFrom}
 use Rattle.std.proofs.lemmas.List.{take-append-drop}
-use Rattle.msp_isa.specs.Encoding.{encoding}
 use Rattle.msp_step.specs.Registers.{registers_of}
-use Rattle.image_text.specs.ImageValue.{ImageValue}
-use Rattle.fram_board.specs.Board.{BoardValue, PowerState, powered, started, filled}
 use Rattle.fram_board.specs.Saved.{TakesNextBehind}
 use Rattle.fram_board.specs.Steps.{IsPowerState}
-use Rattle.fram_board.specs.Effects.{Effect}
-use Rattle.fram_board.specs.Run.{BoardCharge, PowerUp, Moment, RunOutcome}
 use Rattle.fram_board.proofs.Interface.{fill_is_a_power_state}
-use Rattle.machine_effects.specs.World.{World, fram_after, EachStore, IsPrefix}
-use Rattle.machine_effects.specs.Going.{going, continued}
-use Rattle.machine_effects.specs.Machine.{fram_of}
-use Rattle.machine_effects.specs.Runs.{last_board}
-use Rattle.code_forms.specs.Placed.{words_of, Holds}
-use Rattle.cost_bound.specs.declared.allowance.Allow.{Allow}
-use Rattle.source_values.specs.Runs.{CheckedProgram, State}
-use Rattle.source_meaning.specs.Acceptance.{IsAcceptedText}
-use Rattle.source_maps.specs.Maps.{map_of}
-use Rattle.source_runs.proofs.Interface.{read_off}
-use Rattle.memory_map.specs.declared.words.RuntimeWord.TheVariants.{Gate, Version}
-use Rattle.memory_map.specs.MemoryMap.{MemoryMap, word_place}
-use Rattle.runtime_effects.specs.Stages.{commit_effects}
 use Rattle.boot_runtime.specs.Entries.{task_entries}
 use Rattle.boot_runtime.specs.Listing.{privates_in}
-use Rattle.crash_rules.specs.Model.{IsElsewhere, Model, ModelLaws, Inputs, program_effects, with_commit, attempt_from, script}
-use Rattle.crash_rules.specs.History.{History, first_history, inputs_from}
-use Rattle.crash_rules.specs.Runs.{Program}
-use Rattle.crash_rules.specs.Laws.{Origin, Phase, UndecidedPhase, DecidedPhase, CommittingPhase, StandsFor, Begins, ScriptsStore}
-use Rattle.machine_effects.proofs.Interface.{power_up_keeps_words}
-use Rattle.crash_rules.proofs.Interface.{world_fram, never_lost, sent_once, pending_sends, stops_short, stores_only}
-use Rattle.run_charges.specs.View.{outside_of, IsMomentFrom, PowersUp, Instructs, AreMoments}
-use Rattle.run_charges.specs.Charges.{AreInstructionMoments, IsPlacedProgram}
-use Rattle.run_charges.specs.Laws.{IsRunOfWords}
-use Rattle.run_charges.proofs.Interface.{follows_keeps, are_behind, front_moments, run_front, instructions_reach, PlacedProgram, is_powered, leads}
-use Rattle.run_charges.proofs.Interface.{reached_on, Counts, moments_count}
-use Rattle.model_runs.specs.Runs.{BearsModel, no_delay, Progresses}
+use Rattle.run_charges.proofs.Interface.{follows_keeps, are_behind, front_moments, run_front, instructions_reach, PlacedProgram, is_powered, leads, reached_on}
+use Rattle.run_charges.proofs.Interface.{Counts, moments_count}
 use Rattle.model_runs.specs.EventLaws.{StartsWith}
-use Rattle.model_runs.proofs.Interface.{stood, AtFront, at_front, powers_up, starts_hold, fronts_are_lawful, makes_progress}
-use Rattle.stands_for.specs.StandsFor.{HoldsWords, IsSound, SoundAtRest, SoundPending}
-use Rattle.stands_for.proofs.Interface.{commit_stores_there, each_weaker}
-use Rattle.compiled_model.specs.Places.{program_places}
-use Rattle.compiled_model.specs.Parts.{redo_model, compiled_model}
-use Rattle.compiled_model.proofs.Interface.{is_redo}
-use Rattle.compiled_bounds.specs.Laws.{KeepsCapacities}
-use Rattle.compiled_bounds.proofs.Interface.{bound_is_the_sources, capacities_are_kept}
-use Rattle.compiled_runs.specs.Program.{source_code, placed_code, compiled_program}
-use Rattle.compiled_runs.proofs.Interface.{code_keeps_the_laws, code_is_placed, power_ups_raise_version, runs_leave_the_code}
-use Rattle.compiled_laws.specs.Ready.{IsReadyToRun}
-use Rattle.compiled_laws.proofs.Interface.{sources_are_ready}
-use Rattle.image_laws.specs.Compiled.{IsCompiled}
-use Rattle.image_laws.specs.Laws.{IsFreshImage}
-use Rattle.source_runs.specs.Tells.{at_first, EachChargePays}
-use Rattle.image_laws.proofs.Interface.{laid_out, images_are_fresh}
-use Rattle.image_reports.specs.ImageLaw.{runtime_marks, start_due, attempt_due, all_due, VersionsBelow, KeepsCode, FetchesCode, IsRaisedSoon, RaisesVersion}
-use Rattle.image_reports.specs.Resumed.{BelongsTo, known_from, HoldsFrom}
+use Rattle.memory_map.specs.declared.runtime.Logging.{Logging}
+use Rattle.memory_map.specs.declared.runtime.Role.{Role}
+use Rattle.compiled_model.specs.Parts.{start_of}
+use Rattle.image_reports.proofs.Begins.{Beginning, first_world, first_board, begins, bears}
 use Rattle.image_reports.proofs.Capacities.{attempts_fit}
 use Rattle.image_reports.proofs.Told.{made}
 use Rattle.image_reports.proofs.ImageStart.{versions_below}
 use Rattle.image_reports.proofs.Untouched.{NeverThere, untouched}
 use Rattle.image_reports.proofs.ImageCode.{GoesOn, StopsAtReadings, goes_on, StandsOn, stands_on, placed_within, same_words, words_fetched}
-
--- what is due is the crash theorem's script, behind a boot as behind a done
-due_is_script : (p : CheckedProgram) (l : MemoryMap) (booted : Bool) (f : ℕ → ℕ) (inputs : Inputs)
-    → (script (compiled_model p l) booted f inputs).effects ≡ all_due p l f inputs
-due_is_script p l booted f inputs = subst P (sym (is_redo p l)) (by (f (word_place l Gate) == 1) booted)
-  where
-    P : Model State → Type 0
-    P m = (script m booted f inputs).effects ≡ all_due p l f inputs
-
-    by : (b booted : Bool) → ◌≡◌ {A = List Effect}
-        (if b then program_effects (commit_effects l f) true
-        else with_commit (redo_model p l) f inputs (attempt_from (redo_model p l) booted f inputs)).effects
-        (if b then (if b then commit_effects l f else [])
-        else attempt_due p l
-        (let es = (if b then commit_effects l f else []) in es ++ start_due l (fram_after es f))
-        f inputs)
-    by true booted = refl
-    by false true = refl
-    by false false = refl
 
 -- a word that isn't 65535 is below it
 below_end : (n : ℕ) → n < 0x10000 → n ≢ 0xFFFF → n < 0xFFFF
@@ -91,56 +40,40 @@ front_are : (ms rest : List Moment) → AreInstructionMoments (ms ++ rest) → A
 front_are [] rest are = tt
 front_are (m ∷ ms) rest are = (are.0, front_are ms rest are.1)
 
--- FRAM whose words are words, with no version word above VER
-record KeepsVersions (l : MemoryMap) (f : ℕ → ℕ) : Type 0 where
-  pub words : HoldsWords f
-  pub versions : (i : ℕ) → i < l.versions.words → f (l.versions.address + 2 * i) ≤ f (word_place l Version)
-
--- what a run stands for under the runtime of a map it stands for under redo
-redo_phase : (p : CheckedProgram) (l : MemoryMap) (readings : List ℕ) (origin : Origin State) (s : State) (h : History)
-    → Phase (compiled_model p l) readings origin s h → Phase (redo_model p l) readings origin s h
-redo_phase p l readings origin s h = let P : Model State → Type 0 = λ m. Phase m readings origin s h in subst P (is_redo p l)
-
--- what a run stands for is so
-phase_keeps_versions : (p : CheckedProgram) (l : MemoryMap) (readings : List ℕ) (origin : Origin State) (s : State) (h : History)
-    → Phase (redo_model p l) readings origin s h → KeepsVersions l h.world.fram
-phase_keeps_versions p l readings origin s h (UndecidedPhase u settled w) = record { words = w.is_open.words; versions = w.is_open.versions }
-phase_keeps_versions p l readings origin s h (DecidedPhase next d t w) = record { words = w.decided.sends.words; versions = w.decided.sends.versions }
-phase_keeps_versions p l readings origin s h (CommittingPhase d k n w) = record { words = w.pending.words; versions = w.pending.versions }
-
 -- what a run stands for is sound
-phase_sound : (p : CheckedProgram) (l : MemoryMap) → ModelLaws (redo_model p l) → (readings : List ℕ) (origin : Origin State) (s : State) (h : History)
-    → Phase (redo_model p l) readings origin s h → IsSound (program_places p l) h.world
-phase_sound p l laws readings origin s h (UndecidedPhase d settled w) =
-    let o = w.is_open in
-    let cur = o.current_task in let task = o.is_task in
-    SoundAtRest (record {
-      words = o.words;
-      current_task = omega (arith, cur, task);
-      gate = o.gate;
-      base = o.base ∙ ap (λ (ws : List ℕ). length ws % 0x10000) (sym o.accepted);
-      versions = o.versions;
-    })
-phase_sound p l laws readings origin s h (DecidedPhase next d t w) = SoundPending (laws.decided_committing s next h.world w).pending
-phase_sound p l laws readings origin s h (CommittingPhase d k n w) = SoundPending w.pending
+phase_sound : (p : CheckedProgram) (l : MemoryMap) → ModelLaws (compiled_model p l) → (readings : List ℕ) (origin : Origin State) (s : State) (h : History)
+    → Phase (compiled_model p l) readings origin s h → IsSound (program_places p l) h.world
+phase_sound p l laws readings origin s h phase =
+    let P : Model State → Type 0 = λ m. ModelLaws m → Phase m readings origin s h → IsSound (program_places p l) h.world in
+    subst P (sym (is_redo p l)) under_redo laws phase
+  where
+    under_redo : ModelLaws (redo_model p l) → Phase (redo_model p l) readings origin s h → IsSound (program_places p l) h.world
+    under_redo own (UndecidedPhase d settled w) =
+        let o = w.is_open in
+        let cur = o.current_task in let task = o.is_task in
+        SoundAtRest (record {
+          words = o.words;
+          current_task = omega (arith, cur, task);
+          gate = o.gate;
+          base = o.base ∙ ap (λ (ws : List ℕ). length ws % 0x10000) (sym o.accepted);
+          versions = o.versions;
+        })
+    under_redo own (DecidedPhase next d t w) = SoundPending (own.decided_committing s next h.world w).pending
+    under_redo own (CommittingPhase d k n w) = SoundPending w.pending
 
--- words that stand in a FRAM stand in each that has the same there
-holds_as : (f g : ℕ → ℕ) (ws : List ℕ) (a : ℕ) → a % 2 ≡ 0 → ((b : ℕ) → b % 2 ≡ 0 → a ≤ b → b < a + 2 * length ws → f b ≡ g b) → Holds g a ws → Holds f a ws
-holds_as f g [] a e h k = tt
-holds_as f g (w ∷ ws) a e h k = (
-  h a e (omega arith) (omega arith) ∙ k.0,
-  holds_as f g ws (a + 2) (omega (arith, e)) (λ b even from to. h b even (omega (arith, from)) (omega (arith, to))) k.1,
-)
+-- a run of an image from a world that belongs to it
+pub record Onward : Type 0 where
+  pub start : Beginning
+  pub accepted : IsAcceptedText start.text start.program start.allow
+  pub belongs : BelongsTo start.program start.compiled.layout start.image (record { fram = fram_of start.fram; accepted = start.before })
+  pub charges : List BoardCharge
+  pub outcome : RunOutcome
+  pub run : IsRunOfWords charges (started start.fram start.number start.readings) outcome
 
--- a run of an image from a world that belongs to it, with this origin
-module _ (text : List ℕ) (p : CheckedProgram) (allow : Allow) (image : ImageValue) (ok : IsAcceptedText text p allow) (c : IsCompiled text p allow image)
-    (fram : List ℕ) (number : ℕ) (accepted_before : List ℕ) (count : length accepted_before % 0x10000 ≡ number)
-    (belongs : BelongsTo p c.layout image (record { fram = fram_of fram; accepted = accepted_before }))
-    (origin : Origin State)
-    (cs : List BoardCharge) (readings : List ℕ) (words : All (λ w. w < 0x10000) readings)
-    (begun : StandsFor (compiled_model p c.layout) readings origin
-    (first_history (runtime_marks c.layout) (record { fram = fram_of fram; accepted = accepted_before })))
-    (r : RunOutcome) (run : IsRunOfWords cs (started fram number readings) r) where
+module _ (onward : Onward) where
+  open onward use {start as at_first, accepted as ok, belongs, charges as cs, outcome as r, run}
+  open (onward.start) use {text, program as p, allow, image, compiled as c, ready, new, fram, number, before, counted, origin, readings}
+
   abbrev l : MemoryMap
   l = c.layout
 
@@ -151,46 +84,16 @@ module _ (text : List ℕ) (p : CheckedProgram) (allow : Allow) (image : ImageVa
   program = compiled_program p l
 
   abbrev x : World
-  x = record { fram = fram_of fram; accepted = accepted_before }
+  x = first_world at_first
 
   abbrev b : BoardValue
-  b = started fram number readings
+  b = first_board at_first
 
-  pub ready : IsReadyToRun p l
-  ready = sources_are_ready text p allow c.plans l (laid_out text p allow image ok c)
-
-  pub new : IsFreshImage text p allow l image
-  new = images_are_fresh text p allow image ok c
-
-  -- the code stands in FRAM
-  pub stands_there : Holds (fram_of fram) l.boot.address (words_of (source_code p l))
-  stands_there = holds_as (fram_of fram) (fram_of image.words) (words_of (source_code p l)) l.boot.address (code_is_placed p l new.fits).even
-      belongs.code.code new.code
-
-  redo_laws : ModelLaws (redo_model p l)
-  redo_laws = let P : Model State → Type 0 = λ m. ModelLaws m in subst P (is_redo p l) ready.model
-
-  abbrev pub begins : Begins model readings origin x (outside_of b)
-  begins = record { fram = refl; readings_left = refl; words = words; stands = begun }
-
-  abbrev pub bearing : BearsModel model program readings origin x b
-  bearing =
-      let P : ℕ → Type 0 = λ entry. IsPlacedProgram program l.boot.address (source_code p l) entry in
-      record {
-        model = ready.model;
-        program = code_keeps_the_laws p l ready.code ready.model;
-        begins = begins;
-        stands = record {
-          place = l.boot.address;
-          instructions = source_code p l;
-          placed = subst P (sym (belongs.code.vector ∙ new.vector)) (code_is_placed p l new.fits);
-          holds = stands_there;
-          leaves = runs_leave_the_code p l ready.code ready.model ready.stores readings origin x (outside_of b) begins;
-        };
-      }
+  abbrev bearing : BearsModel model program readings origin x b
+  bearing = bears at_first
 
   pub starts_with : StartsWith b x
-  starts_with = record { fram = refl; accepted = omega (arith, count); taken = refl }
+  starts_with = record { fram = refl; accepted = omega (arith, counted); taken = refl }
 
   abbrev first : History
   first = first_history (runtime_marks l) x
@@ -205,16 +108,7 @@ module _ (text : List ℕ) (p : CheckedProgram) (allow : Allow) (image : ImageVa
   never_there : (a : ℕ) → l.boot.address ≤ a → NeverThere a program bearing.program.changes (runtime_marks l) (outside_of b) first
   never_there a from es t k charged q up fram left n =
       let P : ℕ → ℕ → Type 0 = λ d w. d < l.boot.address in
-      let apart = ready.code.apart in
-      let Stores : Model State → Type 0 = λ m. ScriptsStore m P in
-      let scripts : ScriptsStore model P = subst Stores (sym (is_redo p l)) (record {
-        recoveries = λ st y u. tt;
-        attempts = λ st y inputs w u.
-            let Q : Model State → Type 0 = λ m. EachStore P (m.attempt y.fram inputs).effects in
-            subst Q (is_redo p l) (ready.stores.below st y inputs w u);
-        commits = λ to y inputs d.
-            each_weaker _ P (λ d w h. let low = h.below in omega (arith, low, apart)) _ (commit_stores_there (program_places p l) y apart d.pending);
-      }) in
+      let scripts = scripts_store_below p l ready.code.apart ready.stores in
       each_weaker P (IsElsewhere a) (λ d w low e. omega (arith, low, from, e)) _
       (stores_only model program P ready.model bearing.program scripts readings origin q
       (powers_up model program readings origin x b bearing es t k charged q up fram left) n)
@@ -238,17 +132,15 @@ module _ (text : List ℕ) (p : CheckedProgram) (allow : Allow) (image : ImageVa
       (ap (λ o. (continued o (going program.step zero)).status) stops)
 
   -- at each front
-  keeps_versions : (ms rest : List Moment) → r.moments ≡ ms ++ rest → KeepsVersions l (known_from l x ms).world.fram
+  keeps_versions : (ms rest : List Moment) → r.moments ≡ ms ++ rest → KeepsVersions p l (known_from l x ms).world.fram
   keeps_versions ms rest e =
-      let lawful = (fronts_are_lawful model program readings origin x cs b r run bearing ms rest e).0 in
-      let s = lawful.stands.state in
-      let h = known_from l x ms in
-      phase_keeps_versions p l readings origin s h (redo_phase p l readings origin s h lawful.stands.phase)
+      let stands = (fronts_are_lawful model program readings origin x cs b r run bearing ms rest e).0.stands in
+      phase_keeps_versions p l readings origin stands.state (known_from l x ms) stands.phase
 
   -- and so at the last boot or done
-  began : (ms rest : List Moment) → r.moments ≡ ms ++ rest → KeepsVersions l (known_from l x ms).start.fram
+  began : (ms rest : List Moment) → r.moments ≡ ms ++ rest → KeepsVersions p l (known_from l x ms).start.fram
   began ms rest e =
-      starts_hold (λ w. KeepsVersions l w.fram) (runtime_marks l) b (first_history (runtime_marks l) x) ms run.whole run.words
+      starts_hold (λ w. KeepsVersions p l w.fram) (runtime_marks l) b (first_history (runtime_marks l) x) ms run.whole run.words
       (front_moments cs b r ms rest run.starts run.run e) (keeps_versions [] r.moments refl)
       (λ ns more d. keeps_versions ns (more ++ rest) (e ∙ ap (λ q. q ++ rest) d ∙ append_assoc ns more rest))
 
@@ -312,11 +204,10 @@ module _ (text : List ℕ) (p : CheckedProgram) (allow : Allow) (image : ImageVa
     front =
         let known = fronts_are_lawful model program readings origin x cs b r run bearing ms rest e in
         let lawful = known.0 in
-        let state = lawful.stands.state in
         let same = known.1.fram in
-        let first : Counts b (first_history (runtime_marks l) x) accepted_before =
+        let first : Counts b (first_history (runtime_marks l) x) before =
         record { whole = run.whole; words = run.words; accepted = refl; count = starts_with.accepted; taken = refl } in
-        let counts = moments_count (runtime_marks l) b (first_history (runtime_marks l) x) accepted_before ms first
+        let counts = moments_count (runtime_marks l) b (first_history (runtime_marks l) x) before ms first
         (front_moments cs b r ms rest run.starts run.run e) in
         let Code : (ℕ → ℕ) → Type 0 = λ f. KeepsCode p l image f in
         let Capacities : (ℕ → ℕ) → Type 0 = λ f. KeepsCapacities l f in
@@ -325,27 +216,27 @@ module _ (text : List ℕ) (p : CheckedProgram) (allow : Allow) (image : ImageVa
           words = counts.accepted;
           number = subst (λ ws. TakesNextBehind ws t.receiver) (sym counts.accepted) counts.count;
           taken = counts.taken;
-          effects = subst (IsPrefix h.effects) (due_is_script p l h.booted h.start.fram (inputs_from readings h.since)) lawful.follows;
+          effects = lawful.follows;
           stands = lawful.stands;
           never_lost = λ decided. let kept = never_lost model ready.model readings origin h lawful decided in
-              let IsAt : State → Model State → Type 0 = λ s m. m.Undecided s h.world in
-              (ap (λ f. f (word_place l Gate)) same ∙ kept.0, λ s u. kept.1 s (subst (IsAt s) (sym (is_redo p l)) u));
+              (ap (λ f. f (word_place l Gate)) same ∙ kept.0, kept.1);
           accepted = sent_once model ready.model readings origin h lawful.stands;
           sent = λ to is none.
               let P : Origin State → Type 0 = λ o. Begins model readings o x (outside_of b) in
               pending_sends model program ready.model bearing.program readings to (outside_of t) h
-              (record { world = x; start = outside_of b; begins = subst P is begins; charges = at.charges; leads = at.charged }) none;
+              (record { world = x; start = outside_of b; begins = subst P is (begins at_first); charges = at.charges; leads = at.charged }) none;
           versions = λ made.
               let P : (ℕ → ℕ) → Type 0 = λ f. VersionsBelow l f in
-              let f : (outside_of t).fram ≡ fram_after (start_due l h.start.fram) h.start.fram =
+              let Raised : Logging → Role → Type 0 = λ logging role. VersionsBelow l (fram_after (start_under logging l h.start.fram) h.start.fram) in
+              let f : (outside_of t).fram ≡ fram_after (start_of l h.start.fram) h.start.fram =
               same ∙ ap (λ w. w.fram) lawful.world ∙ world_fram h.effects h.start ∙ ap (λ es. fram_after es h.start.fram) made in
               let kept = began ms rest e in
-              subst P (sym f) (versions_below (program_places p l) ready.code.apart (privates_in (task_entries l)) ready.code.privates h.start.fram
-              kept.versions (kept.words (word_place l Version)));
+              subst P (sym f) (under_map l Raised (versions_below (program_places p l) ready.code.apart (privates_in (task_entries l)) ready.code.privates
+              h.start.fram kept.versions (kept.words (word_place l Version))));
           belongs = record {
             code = subst Code same keeps_code;
             capacities = subst Capacities same keeps_capacities;
-            sound = phase_sound p l redo_laws readings origin state h (redo_phase p l readings origin state h lawful.stands.phase);
+            sound = phase_sound p l ready.model readings origin lawful.stands.state h lawful.stands.phase;
           };
           kept = kept;
           fetches = fetches;

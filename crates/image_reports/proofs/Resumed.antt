@@ -1,76 +1,36 @@
 -- Each run of a state that belongs to the image of an accepted text keeps the laws.
-use Rattle.std.proofs.Common.{◌≡◌, ◌<◌, ◌≤◌, ◌%◌, ◌^◌, ◌==◌, if◌then◌else◌, ℕ, refl, sym, ap, ◌∙◌, subst, arith, Option, Some, List, ◌++◌, length, drop, All}
+use Rattle.image_reports.proofs.Names.{◌≡◌, ◌<◌, ◌%◌, ◌^◌, ◌==◌, if◌then◌else◌, ℕ, refl, sym, ap, ◌∙◌, subst, arith, Option, Some, List, ◌++◌, length, drop}
+use Rattle.image_reports.proofs.Names.{All, MapValue, ImageValue, BoardValue, started, BoardCharge, RunOutcome, start_with, start_of, report_of, World}
+use Rattle.image_reports.proofs.Names.{world_after, fram_of, Allow, CheckedProgram, State, IsAcceptedText, map_of, resumed_runs_are_told, Gate, MemoryMap}
+use Rattle.image_reports.proofs.Names.{word_place, commit_effects, Model, first_history, Origin, Resting, Pending, StandsFor, runs_may_begin, IsRunOfWords}
+use Rattle.image_reports.proofs.Names.{BearsModel, all_amounts, stops_where_short, IsSound, SoundAtRest, SoundPending, IsAtRest, IsPendingCommit}
+use Rattle.image_reports.proofs.Names.{unsent_are_few, program_places, compiled_model, compiled_program, IsReadyToRun, sources_are_ready, IsCompiled, HasStates}
+use Rattle.image_reports.proofs.Names.{laid_out, images_are_fresh, worlds_stand, runtime_marks, BelongsTo, origin_of, pending_transition, IsToldOnward}
+use Rattle.image_reports.proofs.Names.{ToldAtRest, ToldPending, IsResumedRun, ImagesResume}
 use Rattle.std.proofs.Math.Seq.{drop-append_seam}
-use Rattle.image_map.specs.MapValue.{MapValue}
-use Rattle.image_text.specs.ImageValue.{ImageValue}
-use Rattle.fram_board.specs.Board.{BoardValue, started}
-use Rattle.fram_board.specs.Run.{BoardCharge, RunOutcome, Run}
-use Rattle.board_run.specs.History.{start_with, start_of}
-use Rattle.board_run.specs.Report.{report_of}
-use Rattle.machine_effects.specs.World.{World, world_after}
-use Rattle.machine_effects.specs.Machine.{fram_of}
-use Rattle.machine_effects.proofs.Interface.{fresh_is_whole}
-use Rattle.cost_bound.specs.declared.allowance.Allow.{Allow}
-use Rattle.source_values.specs.Runs.{CheckedProgram, State}
-use Rattle.source_meaning.specs.Acceptance.{IsAcceptedText}
-use Rattle.source_meaning.proofs.Interface.{accepted_texts_run}
-use Rattle.source_maps.specs.Maps.{map_of}
 use Rattle.source_runs.specs.Resumed.{HasTransition}
 use Rattle.source_runs.specs.Laws.{ResumedRunIsTold}
-use Rattle.source_runs.proofs.Interface.{resumed_runs_are_told}
-use Rattle.memory_map.specs.declared.words.RuntimeWord.TheVariants.{Gate}
-use Rattle.memory_map.specs.MemoryMap.{MemoryMap, word_place}
-use Rattle.runtime_effects.specs.Stages.{commit_effects}
-use Rattle.crash_rules.specs.Model.{Model}
-use Rattle.crash_rules.specs.History.{first_history}
-use Rattle.crash_rules.specs.Runs.{Program}
-use Rattle.crash_rules.specs.Laws.{Origin, Resting, Pending, StandsFor}
-use Rattle.crash_rules.proofs.Interface.{runs_may_begin}
-use Rattle.run_charges.specs.Charges.{ArePowerStates}
-use Rattle.run_charges.specs.Laws.{IsRunOfWords}
-use Rattle.model_runs.specs.Runs.{BearsModel, all_amounts}
-use Rattle.model_runs.proofs.Interface.{stops_where_short}
-use Rattle.stands_for.specs.StandsFor.{IsSound, SoundAtRest, SoundPending, IsAtRest, IsPendingCommit}
-use Rattle.stands_for.proofs.Interface.{unsent_are_few}
-use Rattle.compiled_model.specs.Places.{program_places}
 use Rattle.compiled_model.specs.View.{state_in, state_left}
-use Rattle.compiled_model.specs.Parts.{compiled_model}
-use Rattle.compiled_model.proofs.Interface.{is_redo}
-use Rattle.compiled_runs.specs.Program.{compiled_program}
-use Rattle.compiled_laws.specs.Ready.{IsReadyToRun}
-use Rattle.compiled_laws.proofs.Interface.{sources_are_ready}
-use Rattle.image_laws.specs.Compiled.{IsCompiled}
-use Rattle.image_laws.specs.Laws.{HasStates}
-use Rattle.image_laws.proofs.Interface.{laid_out, maps_find_states, worlds_stand}
-use Rattle.image_reports.specs.ImageLaw.{runtime_marks}
-use Rattle.image_reports.specs.Sources.{IsSourcesMap}
-use Rattle.image_reports.specs.Resumed.{BelongsTo, origin_of, pending_transition, IsToldOnward, ToldAtRest, ToldPending, ImagesResume}
 use Rattle.image_reports.proofs.CompiledTold.{models_are_of_sources}
-use Rattle.image_reports.proofs.Told.{made}
-use Rattle.image_reports.proofs.Onward.{bearing, starts_with, front, raises, pays}
+use Rattle.image_reports.proofs.Told.{source}
+use Rattle.image_reports.proofs.Begins.{bears, run_of_words}
+use Rattle.image_reports.proofs.Onward.{Onward, starts_with, front, raises, pays}
 
+-- the world of a saved state that belongs to an image
 module _ (text : List ℕ) (p : CheckedProgram) (allow : Allow) (image : ImageValue) (ok : IsAcceptedText text p allow) (c : IsCompiled text p allow image)
-    (fram : List ℕ) (long : length fram ≡ 24064) (are_words : All (λ w. w < 0x10000) fram) (number : ℕ) (accepted : List ℕ)
-    (count : length accepted % 0x10000 ≡ number) (belongs : BelongsTo p c.layout image (record { fram = fram_of fram; accepted = accepted }))
-    (cs : List BoardCharge) (starts : ArePowerStates cs) (readings : List ℕ) (words : All (λ w. w < 0x10000) readings) (few : length readings ≤ 262144)
-    (r : RunOutcome) (go : Run cs (started fram number readings) r) where
+    (fram : List ℕ) (number : ℕ) (before : List ℕ) (counted : length before % 0x10000 ≡ number)
+    (belongs : BelongsTo p c.layout image (record { fram = fram_of fram; accepted = before })) where
   abbrev l : MemoryMap
   l = c.layout
 
   abbrev model : Model State
   model = compiled_model p l
 
-  abbrev program : Program
-  program = compiled_program p l
-
   abbrev m : MapValue
   m = map_of text p l allow
 
   abbrev x : World
-  x = record { fram = fram_of fram; accepted = accepted }
-
-  abbrev b : BoardValue
-  b = started fram number readings
+  x = record { fram = fram_of fram; accepted = before }
 
   abbrev origin : Origin State
   origin = origin_of l x
@@ -80,27 +40,6 @@ module _ (text : List ℕ) (p : CheckedProgram) (allow : Allow) (image : ImageVa
 
   states : HasStates text p allow l
   states = worlds_stand text p allow image ok c
-
-  -- a board that goes on is as whole as a fresh one
-  pub of_words : IsRunOfWords cs b r
-  of_words =
-      let w = fresh_is_whole fram readings long few are_words words in
-      let whole = w.0 in let of_words = w.1 in
-      record {
-        whole = record {
-          board = record { fram = whole.board.fram; ram = whole.board.ram; taken = whole.board.taken; few = whole.board.few };
-          registers = whole.registers;
-        };
-        words = record {
-          registers = of_words.registers;
-          fram = of_words.fram;
-          ram = of_words.ram;
-          readings = of_words.readings;
-          outnum = of_words.outnum;
-        };
-        starts = starts;
-        run = go;
-      }
 
   -- how it goes on, by GATE
   at_rest : x.fram (word_place l Gate) ≡ 0 → Resting (state_in l x) ≡ origin
@@ -112,43 +51,23 @@ module _ (text : List ℕ) (p : CheckedProgram) (allow : Allow) (image : ImageVa
   -- a sound world is undecided at the state that it has, or about to commit the one that its commit leaves
   undecided_there : IsAtRest (program_places p l) x → model.Undecided (state_in l x) x
   undecided_there q =
-      let Rests : Model State → Type 0 = λ k. k.Rests (state_in l x) x in
-      ready.model.settled_undecided (state_in l x) x (ready.model.rests_settled (state_in l x) x (subst Rests (sym (is_redo p l)) (states.rest x q)))
+      let s = state_in l x in ready.model.settled_undecided s x (ready.model.rests_settled s x (states.rest x q))
 
-  committing_there : IsPendingCommit (program_places p l) x → model.Committing (state_left l x) x
-  committing_there q = let Commits : Model State → Type 0 = λ k. k.Committing (state_left l x) x in subst Commits (sym (is_redo p l)) (states.commit x q)
-
-  begun_by : IsSound (program_places p l) x → StandsFor model readings origin (first_history (runtime_marks l) x)
-  begun_by (SoundAtRest q) =
+  begun_by : (readings : List ℕ) → IsSound (program_places p l) x → StandsFor model readings origin (first_history (runtime_marks l) x)
+  begun_by readings (SoundAtRest q) =
       subst (λ o. StandsFor model readings o (first_history (runtime_marks l) x)) (at_rest q.gate)
       ((runs_may_begin model ready.model readings).resting (state_in l x) x (undecided_there q))
-  begun_by (SoundPending q) =
+  begun_by readings (SoundPending q) =
       subst (λ o. StandsFor model readings o (first_history (runtime_marks l) x)) (in_commit q.gate)
-      ((runs_may_begin model ready.model readings).pending (state_left l x) x (committing_there q))
-
-  begun : StandsFor model readings origin (first_history (runtime_marks l) x)
-  begun = begun_by belongs.sound
-
-  abbrev bears : BearsModel model program readings origin x b
-  bears = bearing text p allow image ok c fram number accepted count belongs origin cs readings words begun r of_words
-
-  source : IsSourcesMap text p l m
-  source = record {
-    runnable = accepted_texts_run text p allow ok;
-    is_map = (made text p allow image ok c).is_map;
-    of_source = (made text p allow image ok c).of_source;
-    bound = ok.allowed.cycles;
-    words = refl;
-    rests = maps_find_states text p allow image ok c;
-  }
+      ((runs_may_begin model ready.model readings).pending (state_left l x) x (states.commit x q))
 
   -- the pending commit makes its transition from the state that the world has
   transition : IsPendingCommit (program_places p l) x → HasTransition m x (state_in l x) (state_left l x) (pending_transition l x)
   transition q =
       let y = world_after (commit_effects l x.fram) x in
       let s = unsent_are_few (program_places p l) ready.code.apart x q ready.code.room in
-      let unsent : drop (length accepted) y.accepted ≡ s.0 = ap (drop (length accepted)) s.1 ∙ drop-append_seam accepted s.0 in
-      let same : accepted ++ drop (length accepted) y.accepted ≡ y.accepted = ap (λ ws. accepted ++ ws) unsent ∙ sym s.1 in
+      let unsent : drop (length before) y.accepted ≡ s.0 = ap (drop (length before)) s.1 ∙ drop-append_seam before s.0 in
+      let same : before ++ drop (length before) y.accepted ≡ y.accepted = ap (λ ws. before ++ ws) unsent ∙ sym s.1 in
       let most = s.2 in
       let len = ap length unsent in
       record {
@@ -159,36 +78,70 @@ module _ (text : List ℕ) (p : CheckedProgram) (allow : Allow) (image : ImageVa
         leaves = ap (λ ws. record (state_left l x) { emitted = ws }) same;
       }
 
-  module _ (few_in_all : all_amounts cs < 2 ^ 64) where
-    told : ResumedRunIsTold model program text p m x cs b r
-    told = resumed_runs_are_told model program text p m x cs b r (models_are_of_sources text p l m source)
-        (starts_with text p allow image ok c fram number accepted count belongs origin cs readings words begun r of_words) of_words few_in_all
+  -- its run
+  module _ (cs : List BoardCharge) (readings : List ℕ) (words : All (λ w. w < 0x10000) readings) (r : RunOutcome)
+      (run : IsRunOfWords cs (started fram number readings) r) where
+    abbrev b : BoardValue
+    b = started fram number readings
 
-    onward_by : IsSound (program_places p l) x → IsToldOnward text p m l x cs b r (report_of (start_with fram (Some m)) r)
-    onward_by (SoundAtRest q) =
-        ToldAtRest q.gate (told.resting (state_in l x) (subst (λ o. BearsModel model program readings o x b) (sym (at_rest q.gate)) bears)
-        (undecided_there q) (states.words x q.words))
-    onward_by (SoundPending q) =
-        ToldPending q.gate (told.pending (state_in l x) (state_left l x) (pending_transition l x)
-        (subst (λ o. BearsModel model program readings o x b) (sym (in_commit q.gate)) bears) (transition q))
+    abbrev on : Onward
+    on = record {
+      start = record {
+        text = text;
+        program = p;
+        allow = allow;
+        image = image;
+        compiled = c;
+        ready = ready;
+        new = images_are_fresh text p allow image ok c;
+        fram = fram;
+        number = number;
+        before = before;
+        counted = counted;
+        code = belongs.code;
+        origin = origin;
+        readings = readings;
+        words = words;
+        begun = begun_by readings belongs.sound;
+      };
+      accepted = ok;
+      belongs = belongs;
+      charges = cs;
+      outcome = r;
+      run = run;
+    }
 
-    onward : IsToldOnward text p m l x cs b r (report_of (start_of (record image { words = fram })) r)
-    onward =
-        let P : Option MapValue → Type 0 = λ o. IsToldOnward text p m l x cs b r (report_of (start_with fram o) r) in
-        subst P (sym c.map) (onward_by belongs.sound)
+    abbrev bearing : BearsModel model (compiled_program p l) readings origin x b
+    bearing = bears on.start
+
+    module _ (few_in_all : all_amounts cs < 2 ^ 64) where
+      told : ResumedRunIsTold model (compiled_program p l) text p m x cs b r
+      told = resumed_runs_are_told model (compiled_program p l) text p m x cs b r (models_are_of_sources text p l m (source text p allow image ok c))
+          (starts_with on) run few_in_all
+
+      onward_by : IsSound (program_places p l) x → IsToldOnward text p m l x cs b r (report_of (start_with fram (Some m)) r)
+      onward_by (SoundAtRest q) =
+          ToldAtRest q.gate (told.resting (state_in l x) (subst (λ o. BearsModel model (compiled_program p l) readings o x b) (sym (at_rest q.gate)) bearing)
+          (undecided_there q) (states.words x q.words))
+      onward_by (SoundPending q) =
+          ToldPending q.gate (told.pending (state_in l x) (state_left l x) (pending_transition l x)
+          (subst (λ o. BearsModel model (compiled_program p l) readings o x b) (sym (in_commit q.gate)) bearing) (transition q))
+
+      onward : IsToldOnward text p m l x cs b r (report_of (start_of (record image { words = fram })) r)
+      onward =
+          let P : Option MapValue → Type 0 = λ o. IsToldOnward text p m l x cs b r (report_of (start_with fram o) r) in
+          subst P (sym c.map) (onward_by belongs.sound)
+
+    resumed : IsResumedRun text p allow l image x cs b r
+    resumed = record {
+      fronts = front on;
+      stops = stops_where_short model (compiled_program p l) readings origin x cs b r run bearing;
+      raises = raises on;
+      progress = pays on;
+      told = onward;
+    }
 
 pub images_resume : ImagesResume
 images_resume text p allow image ok c fram long are_words number accepted count belongs cs starts readings words few r go =
-    let l = c.layout in
-    let x : World = record { fram = fram_of fram; accepted = accepted } in
-    let same = of_words text p allow image ok c fram long are_words number accepted count belongs cs starts readings words few r go in
-    let at = begun text p allow image ok c fram long are_words number accepted count belongs cs starts readings words few r go in
-    let o = origin_of l x in
-    let bear = bearing text p allow image ok c fram number accepted count belongs o cs readings words at r same in
-    record {
-      fronts = front text p allow image ok c fram number accepted count belongs o cs readings words at r same;
-      stops = stops_where_short (compiled_model p l) (compiled_program p l) readings o x cs (started fram number readings) r same bear;
-      raises = raises text p allow image ok c fram number accepted count belongs o cs readings words at r same;
-      progress = pays text p allow image ok c fram number accepted count belongs o cs readings words at r same;
-      told = onward text p allow image ok c fram long are_words number accepted count belongs cs starts readings words few r go;
-    }
+    resumed text p allow image ok c fram number accepted count belongs cs readings words r
+    (run_of_words fram long are_words number cs starts readings words few r go)

@@ -1,5 +1,7 @@
 -- The tasks of a compiled source's model are the source's.
-use Rattle.std.proofs.Common.{◌≡◌, ℕ, ◌<◌, refl, sym, ap, subst, List, [], ◌++◌, length, Option, Some, get_or}
+use Rattle.image_reports.proofs.Names.{◌≡◌, ℕ, ◌<◌, refl, sym, ap, subst, List, [], ◌++◌, length, Option, Some, get_or, CheckedProgram, State, Transition}
+use Rattle.image_reports.proofs.Names.{Completion, TransitionComes, EndsWell, body_of, fresh_attempt, attempt_of, completion_of, exactly, transition_of}
+use Rattle.image_reports.proofs.Names.{state_after, IsRunnable, Inputs, no_inputs, Ends, Short, outcome_of, whole_task}
 use Rattle.std.proofs.lemmas.List.Elements.{All-get_or}
 use Rattle.std.proofs.lemmas.Option.{slice_get-get_or}
 use Rattle.std.specs.Prelude.{slice_get}
@@ -8,11 +10,6 @@ use Rattle.task_ast.specs.declared.names.VariableName.{VariableName}
 use Rattle.task_ast.specs.declared.names.TaskName.{TaskName}
 use Rattle.source_values.specs.Values.{◌>>?◌}
 use Rattle.source_values.specs.Statements.{Outcome, goes_on, to_task, short, run_block}
-use Rattle.source_values.specs.Runs.{CheckedProgram, State, Transition, Completion, TransitionComes, EndsWell, body_of, fresh_attempt, attempt_of}
-use Rattle.source_values.specs.Runs.{completion_of, exactly, transition_of, state_after}
-use Rattle.source_values.specs.Running.{IsRunnable}
-use Rattle.crash_rules.specs.Model.{Inputs, no_inputs, Ends, Short}
-use Rattle.compiled_model.specs.Parts.{outcome_of, whole_task}
 
 -- a transition of a task that takes all its readings
 abbrev pub IsTransitionTo : State → State → Option Transition → Type 0

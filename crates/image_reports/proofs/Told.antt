@@ -1,33 +1,13 @@
 -- The headline.
-use Rattle.std.proofs.Common.{◌<◌, ◌^◌, ℕ, sym, refl, subst, Option, List, All}
-use Rattle.cost_bound.specs.declared.allowance.Allow.{Allow}
-use Rattle.image_map.specs.MapValue.{MapValue}
-use Rattle.image_text.specs.ImageValue.{ImageValue}
-use Rattle.fram_board.specs.Board.{BoardValue, fresh}
-use Rattle.fram_board.specs.Run.{BoardCharge, RunOutcome}
-use Rattle.board_run.specs.Charges.{charges_of}
-use Rattle.board_run.specs.History.{start_with, start_of}
-use Rattle.board_run.specs.Report.{report_of}
-use Rattle.source_values.specs.Runs.{CheckedProgram}
-use Rattle.source_values.specs.Running.{IsRunnable}
-use Rattle.source_meaning.specs.Acceptance.{IsAcceptedText}
-use Rattle.source_meaning.proofs.Interface.{accepted_texts_run}
-use Rattle.run_charges.specs.Laws.{IsRunOfWords}
-use Rattle.model_runs.specs.Runs.{all_amounts}
-use Rattle.compiled_runs.specs.Program.{compiled_program}
-use Rattle.source_runs.specs.Tells.{IsToldBySource}
-use Rattle.source_runs.proofs.Interface.{traces_are_few}
+use Rattle.image_reports.proofs.Names.{◌<◌, ◌^◌, ℕ, sym, refl, subst, Option, List, All, Allow, MapValue, ImageValue, BoardValue, fresh, BoardCharge}
+use Rattle.image_reports.proofs.Names.{RunOutcome, start_with, start_of, report_of, CheckedProgram, IsRunnable, IsAcceptedText, accepted_texts_run}
+use Rattle.image_reports.proofs.Names.{IsRunOfWords, all_amounts, compiled_program, IsToldBySource, map_of, IsCompiled, fresh_world, laid_out, images_are_fresh}
+use Rattle.image_reports.proofs.Names.{maps_find_states, sources_are_ready, ImagesAreMapped}
 use Rattle.image_reports.specs.Sources.{IsSourcesMap}
-use Rattle.image_reports.proofs.CompiledTold.{compiled_runs_are_told}
 use Rattle.source_maps.proofs.Interface.{names_are_names, maps_are_of_sources}
-use Rattle.source_maps.specs.Maps.{map_of}
 use Rattle.source_maps.specs.Laws.{IsSourceMap}
-use Rattle.image_laws.specs.Compiled.{IsCompiled}
-use Rattle.image_laws.specs.Laws.{fresh_world}
-use Rattle.image_laws.proofs.Interface.{laid_out, images_are_fresh, maps_find_states}
-use Rattle.compiled_laws.proofs.Interface.{sources_are_ready}
-use Rattle.image_reports.specs.Laws.{ImagesAreTold, ImagesAreMapped}
-use Rattle.image_reports.proofs.Begins.{begins_with_source, run_of_words}
+use Rattle.image_reports.proofs.CompiledTold.{compiled_runs_are_told}
+use Rattle.image_reports.proofs.Begins.{begins_with_source}
 
 module _ (text : List ℕ) (p : CheckedProgram) (allow : Allow) (image : ImageValue) (ok : IsAcceptedText text p allow) (c : IsCompiled text p allow image) where
   runs : IsRunnable p
@@ -46,6 +26,16 @@ module _ (text : List ℕ) (p : CheckedProgram) (allow : Allow) (image : ImageVa
   abbrev m : MapValue
   m = map_of text p c.layout allow
 
+  pub source : IsSourcesMap text p c.layout m
+  source = record {
+    runnable = runs;
+    is_map = made.is_map;
+    of_source = made.of_source;
+    bound = ok.allowed.cycles;
+    words = refl;
+    rests = maps_find_states text p allow image ok c;
+  }
+
   -- its run under any charges that have fewer than 2^64 cycles and instructions in all
   pub runs_are_told : (cs : List BoardCharge) (readings : List ℕ) → All (λ w. w < 0x10000) readings → (r : RunOutcome)
       → IsRunOfWords cs (fresh image.words readings) r → all_amounts cs < 2 ^ 64
@@ -54,14 +44,6 @@ module _ (text : List ℕ) (p : CheckedProgram) (allow : Allow) (image : ImageVa
       let l = c.layout in
       let x = fresh_world image in
       let b : BoardValue = fresh image.words readings in
-      let source : IsSourcesMap text p l m = record {
-        runnable = runs;
-        is_map = made.is_map;
-        of_source = made.of_source;
-        bound = ok.allowed.cycles;
-        words = refl;
-        rests = maps_find_states text p allow image ok c;
-      } in
       let ready = sources_are_ready text p allow c.plans l (laid_out text p allow image ok c) in
       let new = images_are_fresh text p allow image ok c in
       let P : Option MapValue → Type 0 = λ o. IsToldBySource text p m cs b r (report_of (start_with image.words o) r) in
@@ -71,8 +53,3 @@ module _ (text : List ℕ) (p : CheckedProgram) (allow : Allow) (image : ImageVa
 
 pub images_are_mapped : ImagesAreMapped
 images_are_mapped text p allow image ok c = (made text p allow image ok c).of_source
-
-pub images_are_told : ImagesAreTold
-images_are_told text p allow image ok c trace t r run =
-    runs_are_told text p allow image ok c (charges_of trace.charges) trace.readings t.readings r
-    (run_of_words text p allow image c trace t r run) (traces_are_few trace t).1

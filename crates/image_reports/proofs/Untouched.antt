@@ -1,14 +1,7 @@
 -- A word on which no step stores is, behind any charges, as it was in front of them.
-use Rattle.std.proofs.Common.{◌≡◌, ℕ, refl, ap, ◌∙◌, List, [], ◌∷◌}
-use Rattle.machine_effects.specs.World.{EachStore}
-use Rattle.machine_effects.specs.Going.{going}
-use Rattle.machine_effects.specs.Machine.{MachineBoard}
+use Rattle.image_reports.proofs.Names.{◌≡◌, ℕ, refl, ap, ◌∙◌, List, [], ◌∷◌, EachStore, going, MachineBoard, IsElsewhere, Marks, History, observe, behind_boot}
+use Rattle.image_reports.proofs.Names.{Program, Charge, Charged, changed, elsewhere_same}
 use Rattle.machine_effects.specs.Laws.{ChangesByEffects}
-use Rattle.crash_rules.specs.Model.{IsElsewhere, Marks}
-use Rattle.crash_rules.specs.History.{History, observe, behind_boot}
-use Rattle.crash_rules.specs.Runs.{Program, Charge, Charged}
-use Rattle.crash_rules.proofs.Interface.{changed}
-use Rattle.stands_for.proofs.Interface.{elsewhere_same}
 
 module _ (a : ℕ) (c : Program) (changes : (s : MachineBoard) → ChangesByEffects s (c.step s)) (marks : Marks) where
   -- wherever charges lead, a further one stores elsewhere

@@ -1,6 +1,6 @@
 -- What holds of each run of the image of an accepted source, on the board itself, cut wherever power fails: the effects since the last
 -- boot or done, what the board stands for, the words accepted, the counts, the code that is fetched, how it ends, and its report.
-use Rattle.std.specs.Prelude.{◌≡◌, ◌≢◌, ℕ, ◌+◌, ◌*◌, ◌^◌, ◌%◌, ◌<◌, ◌≤◌, ◌==◌, true, if◌then◌else◌, List, [], ◌∷◌, ◌++◌, length, All}
+use Rattle.std.specs.Prelude.{◌≡◌, ◌≢◌, ℕ, ◌+◌, ◌*◌, ◌^◌, ◌%◌, ◌<◌, ◌≤◌, true, List, ◌∷◌, ◌++◌, length, All}
 use Rattle.msp_isa.specs.declared.instructions.Instr.{Instr}
 use Rattle.msp_isa.specs.Encoding.{encoding}
 use Rattle.msp_step.specs.Registers.{registers_of}
@@ -8,11 +8,10 @@ use Rattle.msp_step.specs.declared.machine.Stop.{Stop}
 use Rattle.msp_step.specs.declared.machine.Stop.TheVariants as stop
 use Rattle.image_text.specs.ImageValue.{ImageValue}
 use Rattle.fram_board.specs.Board.{BoardValue, fresh, IsNextInstruction}
-use Rattle.fram_board.specs.Effects.{Effect}
 use Rattle.fram_board.specs.Run.{BoardCharge, PowerUp, Moment, Stopped, RunOutcome, Run, accepted_words}
 use Rattle.board_run.specs.History.{start_of}
 use Rattle.board_run.specs.Report.{report_of}
-use Rattle.machine_effects.specs.World.{World, fram_after, IsPrefix}
+use Rattle.machine_effects.specs.World.{World}
 use Rattle.machine_effects.specs.Machine.{fram_of}
 use Rattle.machine_effects.specs.Runs.{last_board}
 use Rattle.code_forms.specs.Placed.{Holds}
@@ -21,22 +20,15 @@ use Rattle.source_values.specs.Runs.{CheckedProgram, State, first_state}
 use Rattle.source_meaning.specs.Acceptance.{IsAcceptedText}
 use Rattle.source_runs.specs.Tells.{at_first, EachChargePays, IsToldBySource}
 use Rattle.source_maps.specs.Maps.{map_of}
-use Rattle.memory_map.specs.declared.words.RuntimeWord.TheVariants.{CurrentTask, Gate, Version}
+use Rattle.memory_map.specs.declared.words.RuntimeWord.TheVariants.{Gate, Version}
 use Rattle.memory_map.specs.MemoryMap.{MemoryMap, word_place}
-use Rattle.array_versions.specs.Behaviour.{behaviour, started}
-use Rattle.runtime_effects.specs.Stages.{commit_effects, start_effects, pending_effects, boot_effects}
-use Rattle.boot_runtime.specs.Entries.{task_entries}
-use Rattle.boot_runtime.specs.Listing.{privates_in}
-use Rattle.crash_rules.specs.Model.{Marks, Inputs, CommitContract}
-use Rattle.crash_rules.specs.History.{History, first_history, inputs_from}
-use Rattle.crash_rules.specs.Laws.{Resting, StandsFor, AcceptedWords}
+use Rattle.crash_rules.specs.Model.{Marks, CommitContract}
+use Rattle.crash_rules.specs.History.{History, first_history}
+use Rattle.crash_rules.specs.Laws.{Resting, StandsFor, FollowsScript, AcceptedWords}
 use Rattle.run_charges.specs.View.{outside_of}
 use Rattle.run_charges.specs.Charges.{ArePowerStates, AreInstructionMoments, observed}
 use Rattle.memory_map.specs.Laws.{AreApart}
-use Rattle.stands_for.specs.StandsFor.{RestsAt, UndecidedAt, DecidedFrom}
-use Rattle.compiled_model.specs.Places.{program_places}
-use Rattle.compiled_model.specs.View.{state_view}
-use Rattle.compiled_model.specs.Parts.{task_program, has_jumped, compiled_model}
+use Rattle.compiled_model.specs.Parts.{compiled_model, start_of}
 use Rattle.compiled_bounds.specs.Laws.{KeepsCapacities}
 use Rattle.model_runs.specs.Runs.{IsShort, all_amounts}
 use Rattle.image_laws.specs.Words.{code_words}
@@ -50,25 +42,6 @@ runtime_marks l = record { gate = word_place l Gate }
 -- what is read off the effects of a run's moments, behind them, where an image's fresh board began it
 abbrev pub known_behind : MemoryMap → ImageValue → List Moment → History
 known_behind l image ms = observed (runtime_marks l) ms (first_history (runtime_marks l) (fresh_world image))
-
--- an attempt's start, on FRAM as it is
-abbrev pub start_due : MemoryMap → (ℕ → ℕ) → List Effect
-start_due l f = start_effects l (privates_in (task_entries l)) f
-
--- a start; then the word program of the task that CUR names, on FRAM as the start leaves it and on these inputs; and the commit, where
--- that program comes to its transition
-abbrev pub attempt_due : CheckedProgram → MemoryMap → List Effect → (ℕ → ℕ) → Inputs → List Effect
-attempt_due p l start f inputs =
-    let task = behaviour (task_program p l (f (word_place l CurrentTask))) (started (fram_after start f) inputs) in
-    let es = start ++ task.effects in
-    es ++ (if has_jumped task.end then commit_effects l (fram_after es f) else [])
-
--- all that is due from a boot or a done on, by FRAM and the inputs there. Where GATE is 1: the commit that is pending. Else all
--- of a boot, which then is an attempt's start, with the task and its commit
-abbrev pub all_due : CheckedProgram → MemoryMap → (ℕ → ℕ) → Inputs → List Effect
-all_due p l f inputs =
-    if f (word_place l Gate) == 1 then pending_effects l f
-    else attempt_due p l (boot_effects l (privates_in (task_entries l)) f) f inputs
 
 -- what is known behind these moments is of the board behind them: its FRAM, the words that its receiver accepted, in order, and how many
 -- readings were taken
@@ -103,21 +76,22 @@ pub record FetchesCode (p : CheckedProgram) (l : MemoryMap) (image : ImageValue)
 pub record HoldsAt (p : CheckedProgram) (l : MemoryMap) (image : ImageValue) (readings : List ℕ) (b : BoardValue) (ms : List Moment)
     (h : History) : Type 0 where
   pub tells : TellsOfBoard b ms h
-  -- the effects since the last boot or done are a prefix of what was due there
-  pub effects : IsPrefix h.effects (all_due p l h.start.fram (inputs_from readings h.since))
+  -- the effects since the last boot or done are a prefix of what was due there: where GATE was 1, of the commit that was pending; else of the
+  -- start of an attempt, of the task that CUR named, on the readings from there on, and of its commit
+  pub effects : FollowsScript (compiled_model p l) readings h
   -- the board is undecided at the state of the last done (at first the first state), which the source's tasks reach on the committed
   -- readings of the dones; or it is decided from it to the state that its task gives on the committed readings of the decide
   pub stands : StandsFor (compiled_model p l) readings (Resting (first_state p)) h
   -- a decided state is never lost: between a decide and its done the board is undecided at no state, whatever boots stand between
   pub never_lost : h.decided ≡ true → ((outside_of b).fram (word_place l Gate) ≡ 1)
-      × ((s : State) → UndecidedAt (program_places p l) (state_view p l) s h.world → ⊥)
+      × ((s : State) → (compiled_model p l).Undecided s h.world → ⊥)
   -- between a done, or the start, and the next decide no word is accepted; between a decide and its done a prefix of that task's
   pub accepted : AcceptedWords (compiled_model p l) readings (Resting (first_state p)) h stands.state h.decided
   -- CLN and EN are within the map's capacities, and version words at most VER
   pub capacities : KeepsCapacities l (outside_of b).fram
   -- as a task's first own instruction runs, whose start is made and which has done nothing yet, each version word is below VER. (With
   -- exactly the start's effects the code comes to the task's own: `start_is_made` of `boot_runtime`.)
-  pub versions : h.effects ≡ start_due l h.start.fram → VersionsBelow l (outside_of b).fram
+  pub versions : h.effects ≡ start_of l h.start.fram → VersionsBelow l (outside_of b).fram
   -- no store fell on the code
   pub code : KeepsCode p l image (outside_of b).fram
   -- every word that is fetched is the fresh image's
@@ -141,11 +115,11 @@ RaisesVersion l moments = (ms steps rest : List Moment) (boot : Moment) → mome
 pub record IsLawfulRun (text : List ℕ) (p : CheckedProgram) (allow : Allow) (l : MemoryMap) (image : ImageValue) (cs : List BoardCharge) (readings : List ℕ)
     (r : RunOutcome) : Type 0 where
   -- the fresh board rests at the source's first state
-  pub rests : RestsAt (program_places p l) (state_view p l) (first_state p) (fresh_world image)
+  pub rests : (compiled_model p l).Rests (first_state p) (fresh_world image)
   -- the places that the map names are apart
   pub apart : AreApart l
   -- each prefix of a commit keeps decided, and the whole of it rests at the new state
-  pub commits : (s next : State) (x : World) → DecidedFrom (program_places p l) (state_view p l) s next x → CommitContract (compiled_model p l) s next x
+  pub commits : (s next : State) (x : World) → (compiled_model p l).Decided s next x → CommitContract (compiled_model p l) s next x
   -- at each board, behind any number of instructions
   pub fronts : (ms rest : List Moment) → r.moments ≡ ms ++ rest
       → HoldsAt p l image readings (last_board (fresh image.words readings) ms) ms (known_behind l image ms)

@@ -24,20 +24,20 @@ use Rattle.memory_map.specs.declared.words.RuntimeWord.TheVariants.{CurrentTask,
 use Rattle.memory_map.specs.MemoryMap.{MemoryMap, word_place}
 use Rattle.runtime_effects.specs.Stages.{commit_effects}
 use Rattle.crash_rules.specs.Model.{IsBetween}
-use Rattle.crash_rules.specs.History.{History, first_history, inputs_from}
-use Rattle.crash_rules.specs.Laws.{Origin, Resting, Pending, StandsFor, AcceptedWords}
+use Rattle.crash_rules.specs.History.{History, first_history}
+use Rattle.crash_rules.specs.Laws.{Origin, Resting, Pending, StandsFor, FollowsScript, AcceptedWords}
 use Rattle.run_charges.specs.View.{outside_of}
 use Rattle.run_charges.specs.Charges.{ArePowerStates, observed}
-use Rattle.stands_for.specs.StandsFor.{UndecidedAt, IsSound}
+use Rattle.stands_for.specs.StandsFor.{IsSound}
 use Rattle.compiled_model.specs.Places.{program_places}
-use Rattle.compiled_model.specs.View.{state_view, state_in, state_left}
-use Rattle.compiled_model.specs.Parts.{compiled_model}
+use Rattle.compiled_model.specs.View.{state_in, state_left}
+use Rattle.compiled_model.specs.Parts.{compiled_model, start_of}
 use Rattle.compiled_bounds.specs.Laws.{KeepsCapacities}
 use Rattle.model_runs.specs.Events.{words_between}
 use Rattle.model_runs.specs.Runs.{IsShort, all_amounts}
 use Rattle.image_laws.specs.Compiled.{IsCompiled}
 use Rattle.image_laws.specs.Laws.{fresh_world}
-use Rattle.image_reports.specs.ImageLaw.{runtime_marks, start_due, all_due, VersionsBelow, KeepsCode, FetchesCode, RaisesVersion}
+use Rattle.image_reports.specs.ImageLaw.{runtime_marks, VersionsBelow, KeepsCode, FetchesCode, RaisesVersion}
 
 -- a world from which a run of an image may go on: the code and the reset vector are the image's, the runtime's counts keep to their
 -- capacities, and it is sound
@@ -83,13 +83,13 @@ pub record HoldsFrom (p : CheckedProgram) (l : MemoryMap) (image : ImageValue) (
   pub words : h.world.accepted ≡ x.accepted ++ accepted_words ms
   pub number : TakesNextBehind h.world.accepted b.receiver
   pub taken : h.taken ≡ b.taken
-  pub effects : IsPrefix h.effects (all_due p l h.start.fram (inputs_from readings h.since))
+  pub effects : FollowsScript (compiled_model p l) readings h
   pub stands : StandsFor (compiled_model p l) readings origin h
   pub never_lost : h.decided ≡ true → ((outside_of b).fram (word_place l Gate) ≡ 1)
-      × ((s : State) → UndecidedAt (program_places p l) (state_view p l) s h.world → ⊥)
+      × ((s : State) → (compiled_model p l).Undecided s h.world → ⊥)
   pub accepted : AcceptedWords (compiled_model p l) readings origin h stands.state h.decided
   pub sent : (to : State) → origin ≡ Pending to → h.completed ≡ [] → IsBetween x.accepted to.emitted h.world.accepted
-  pub versions : h.effects ≡ start_due l h.start.fram → VersionsBelow l (outside_of b).fram
+  pub versions : h.effects ≡ start_of l h.start.fram → VersionsBelow l (outside_of b).fram
   pub belongs : BelongsTo p l image h.world
   -- no store fell on the code, nor on a word behind it
   pub kept : (a : ℕ) → l.boot.address ≤ a → (outside_of b).fram a ≡ x.fram a

@@ -7,12 +7,10 @@ use Rattle.source_values.specs.Runs.{CheckedProgram, State}
 use Rattle.source_values.specs.Running.{IsRunnable}
 use Rattle.memory_map.specs.MemoryMap.{MemoryMap}
 use Rattle.machine_effects.specs.World.{World}
-use Rattle.stands_for.specs.StandsFor.{RestsAt}
 use Rattle.source_runs.specs.Naming.{IsMapOf}
 use Rattle.source_maps.specs.Maps.{map_words}
 use Rattle.source_runs.specs.Transitions.{HasWordsOf}
-use Rattle.compiled_model.specs.Places.{program_places}
-use Rattle.compiled_model.specs.View.{state_view}
+use Rattle.compiled_model.specs.Parts.{compiled_model}
 
 -- a map tells of a source with its layout: its variables and tasks, its bound, the runtime's words, and where the words of each state are
 pub record IsSourcesMap (text : List ℕ) (p : CheckedProgram) (l : MemoryMap) (m : MapValue) : Type 0 where
@@ -21,4 +19,4 @@ pub record IsSourcesMap (text : List ℕ) (p : CheckedProgram) (l : MemoryMap) (
   pub of_source : IsMapOf text p m
   pub bound : m.bound ≡ bound_of p
   pub words : m.words ≡ map_words l
-  pub rests : (s : State) (x : World) → RestsAt (program_places p l) (state_view p l) s x → HasWordsOf m x s
+  pub rests : (s : State) (x : World) → (compiled_model p l).Rests s x → HasWordsOf m x s

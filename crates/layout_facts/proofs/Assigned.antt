@@ -1,35 +1,14 @@
 -- What a task assigns, and where it has that.
-use Rattle.std.proofs.Common.{◌≡◌, ℕ, zero, suc, ◌<◌, ◌⊎◌, inl, inr, Bool, true, false, ◌||◌, List, [], ◌∷◌, length, map, get_or, arith, ap, subst, sym, ◌∙◌}
-use Rattle.std.proofs.Common.{Some, None, refl}
-use Rattle.std.specs.Prelude.{Option, is_some, slice_get, Contains, ◌==◌, if◌then◌else◌}
-use Rattle.std.specs.Option.{option_map}
-use Rattle.std.proofs.lemmas.Bool.{cases_Bool, eqb-true, eq-eqb}
-use Rattle.std.proofs.lemmas.List.{length-map}
-use Rattle.std.proofs.lemmas.Option.{slice_get-map, slice_get_within, get_or_from_slice_get}
-use Rattle.cost_bound.specs.declared.allowance.Allow.{Allow}
-use Rattle.cost_bound.specs.Counts.{block_assigns}
-use Rattle.cost_bound.specs.Allowance.{CheckedProgram, CheckedTask, is_written}
-use Rattle.war_analysis.specs.PlanValue.{TaskPlanValue}
-use Rattle.war_analysis.specs.Plans.{IsPrivateIn, IsArrayAt}
-use Rattle.war_analysis.proofs.Interface.{element}
-use Rattle.path_sums.proofs.Interface.{private_is, is_private_of}
-use Rattle.task_ast.specs.declared.names.Variable.TheVariants.{Shared}
-use Rattle.lower.specs.Seen.{some_path_writes, places_seen, map_seen}
-use Rattle.lower.proofs.Interface.{scalar_seen}
-use Rattle.compiled_model.specs.Places.{is_private_in}
-use Rattle.layout_facts.specs.Facts.{HasLayout, IsTaskAt, task_places}
-use Rattle.layout_facts.specs.Laws.{TasksMatch, TaskMatches, AddressesAre, AddressIs}
+use Rattle.layout_facts.proofs.Names.{◌≡◌, ℕ, zero, suc, ◌<◌, ◌⊎◌, inl, inr, Bool, true, false, ◌||◌, List, [], ◌∷◌, length, map, get_or, arith, ap, subst, sym}
+use Rattle.layout_facts.proofs.Names.{◌∙◌, Some, None, refl, Option, is_some, slice_get, Contains, ◌==◌, if◌then◌else◌, option_map, cases_Bool, eqb-true}
+use Rattle.layout_facts.proofs.Names.{eq-eqb, length-map, slice_get-map, slice_get_within, get_or_from_slice_get, Allow, block_assigns, CheckedProgram}
+use Rattle.layout_facts.proofs.Names.{CheckedTask, is_written, TaskPlanValue, IsPrivateIn, IsArrayAt, element, private_is, is_private_of, Shared}
+use Rattle.layout_facts.proofs.Names.{some_path_writes, places_seen, map_seen, scalar_seen, is_private_in, HasLayout, IsTaskAt, task_places, TasksMatch}
+use Rattle.layout_facts.proofs.Names.{TaskMatches, AddressesAre, AddressIs, ArrayCopies, ScalarWidth, Scalar, Array, PrivateScalar, MemoryMap, TaskPlace}
+use Rattle.layout_facts.proofs.Names.{HasItsPlace, copy_among, home_of, home_in, copy_else, address_of, among_is}
 use Rattle.layout_facts.proofs.Lists.{place_of, contains_at}
 use Rattle.layout_facts.proofs.Privates.{Privates, privates_of, ascending_numbers}
 use Rattle.layout_facts.proofs.Planned.{array_declared, array_extent, array_has_place, places_match}
-use Rattle.memory_map.specs.declared.place.ArrayCopies.{ArrayCopies}
-use Rattle.memory_map.specs.declared.place.ScalarWidth.{ScalarWidth}
-use Rattle.memory_map.specs.declared.place.VariablePlace.TheVariants.{Scalar, Array}
-use Rattle.memory_map.specs.declared.place.PrivateScalar.{PrivateScalar}
-use Rattle.memory_map.specs.MemoryMap.{MemoryMap, TaskPlace}
-use Rattle.memory_map.specs.Places.{HasItsPlace}
-use Rattle.memory_map.specs.Spots.{copy_among, home_of, home_in, copy_else, address_of}
-use Rattle.memory_map.proofs.Interface.{among_is}
 
 -- what a task assigns is written by some task
 written_by : (ts : List CheckedTask) (t : ℕ) (task : CheckedTask) (v : ℕ) → slice_get ts t ≡ Some task → block_assigns v task.body ≡ true

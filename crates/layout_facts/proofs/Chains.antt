@@ -1,13 +1,7 @@
 -- The places of the crash theorem, and the room of its buffers.
-use Rattle.std.proofs.Common.{◌≡◌, ℕ, zero, suc, ◌<◌, ◌≤◌, List, [], ◌∷◌, length, arith, ap, subst, sym, Some, None}
-use Rattle.std.specs.Prelude.{slice_get, All}
-use Rattle.std.proofs.lemmas.List.Elements.{All-head, All-tail}
-use Rattle.cost_bound.specs.Counts.{CheckedBlock, emits_of}
-use Rattle.cost_bound.specs.Allowance.{CheckedProgram, CheckedTask, greatest, list_of}
-use Rattle.war_analysis.proofs.Interface.{element}
-use Rattle.source_values.specs.Runs.{body_of, task_body}
-use Rattle.memory_map.proofs.Interface.{apart_of}
-use Rattle.layout_facts.specs.Laws.{PlacesAreApart, TasksHaveRoom}
+use Rattle.layout_facts.proofs.Names.{◌≡◌, ℕ, zero, suc, ◌<◌, ◌≤◌, List, [], ◌∷◌, length, arith, ap, subst, sym, Some, None, slice_get, All, All-head, All-tail}
+use Rattle.layout_facts.proofs.Names.{CheckedBlock, emits_of, CheckedProgram, CheckedTask, greatest, list_of, element, body_of, task_body, apart_of}
+use Rattle.layout_facts.proofs.Names.{PlacesAreApart, TasksHaveRoom}
 
 pub places_are_apart : PlacesAreApart
 places_are_apart p allow plans l h = apart_of l h.layout.rules

@@ -1,17 +1,10 @@
 -- A task's places have what its source declares.
-use Rattle.std.proofs.Common.{◌≡◌, ◌<◌, subst, sym, arith, Some, None, ⊎_elim}
-use Rattle.std.proofs.lemmas.Bool.{cases_Bool}
-use Rattle.task_ast.specs.declared.names.Variable.TheVariants.{Shared}
-use Rattle.lower.specs.Agreement.{IsArray}
+use Rattle.layout_facts.proofs.Names.{◌<◌, subst, sym, arith, Some, None, ⊎_elim, cases_Bool, Shared, IsArray, task_places, PlacesAreAsDeclared}
+use Rattle.layout_facts.proofs.Names.{WrittenArraysHaveCopies, some_path_writes, scalar_seen, array_seen, array_read, TwoWords, IsScalarPlace}
 use Rattle.checked_trees.proofs.Interface.{block_assigned}
-use Rattle.layout_facts.specs.Facts.{task_places}
-use Rattle.layout_facts.specs.Laws.{PlacesAreAsDeclared, WrittenArraysHaveCopies}
-use Rattle.lower.specs.Seen.{some_path_writes}
-use Rattle.lower.proofs.Interface.{scalar_seen, array_seen, array_read}
+use Rattle.memory_map.specs.Spots.{words_at}
 use Rattle.layout_facts.proofs.Planned.{scalar_has_place, long_declared, long_has_place, array_has_place, array_declared, array_extent}
 use Rattle.layout_facts.proofs.Assigned.{stored_has_copies}
-use Rattle.memory_map.specs.declared.place.ScalarWidth.TheVariants.{TwoWords}
-use Rattle.memory_map.specs.Spots.{words_at, IsScalarPlace}
 
 pub places_are_as_declared : PlacesAreAsDeclared
 places_are_as_declared p allow plans l h t task layout k = record {

@@ -1,19 +1,9 @@
 -- The words of the variables fill their region.
-use Rattle.std.proofs.Common.{◌≡◌, ℕ, suc, ◌+◌, ◌*◌, ◌%◌, ◌/◌, ◌-◌, ◌<◌, ◌≤◌, ◌⊎◌, inl, inr, Bool, List, [], ◌∷◌, length, map, sym, ap, arith, Some, refl}
-use Rattle.std.specs.Prelude.{slice_get}
-use Rattle.std.proofs.lemmas.Bool.{cases_lt}
-use Rattle.task_ast.specs.declared.Extent.{Extent}
+use Rattle.layout_facts.proofs.Names.{◌≡◌, ℕ, suc, ◌+◌, ◌*◌, ◌%◌, ◌/◌, ◌-◌, ◌<◌, ◌≤◌, ◌⊎◌, inl, inr, Bool, List, [], ◌∷◌, length, map, sym, ap, arith, Some}
+use Rattle.layout_facts.proofs.Names.{refl, slice_get, cases_lt, Extent, SharedDeclaration, shared_sum_from, is_written, Region, VariablePlace, Scalar, Array}
+use Rattle.layout_facts.proofs.Names.{end_of, scalar_words, AreInOrder, home_region, even_of, home_between, one_home, home_part, IsPlaceOf}
+use Rattle.layout_facts.proofs.Names.{SharedWordsAreOfVariables, WordsOfVariablesAreShared, EachIsOneWord}
 use Rattle.task_ast.specs.declared.Extent.TheVariants as extent
-use Rattle.task_ast.specs.declared.SharedDeclaration.{SharedDeclaration}
-use Rattle.cost_bound.specs.Allowance.{shared_sum_from, is_written}
-use Rattle.memory_map.specs.declared.place.Region.{Region}
-use Rattle.memory_map.specs.declared.place.VariablePlace.{VariablePlace}
-use Rattle.memory_map.specs.declared.place.VariablePlace.TheVariants.{Scalar, Array}
-use Rattle.memory_map.specs.Places.{end_of, scalar_words, AreInOrder, home_region}
-use Rattle.memory_map.proofs.Interface.{even_of, home_between, one_home}
-use Rattle.privatise.specs.Sizes.{home_part}
-use Rattle.privatise.specs.Layouts.{IsPlaceOf}
-use Rattle.layout_facts.specs.Laws.{SharedWordsAreOfVariables, WordsOfVariablesAreShared, EachIsOneWord}
 
 pub words_of_variables_are_shared : WordsOfVariablesAreShared
 words_of_variables_are_shared p allow plans l h v i a w =

@@ -1,25 +1,11 @@
 -- The scalars that a task writes in place, by their addresses.
-use Rattle.std.proofs.Common.{◌≡◌, ℕ, zero, suc, ◌+◌, ◌*◌, ◌<◌, ◌==◌, Bool, true, false, ◌&&◌, not, List, [], ◌∷◌, Some, None, refl, sym, ap, ◌∙◌, subst}
-use Rattle.std.proofs.Common.{⊎_elim, ◌⊎◌, arith, eq-eqb}
-use Rattle.std.specs.Prelude.{slice_get}
-use Rattle.std.proofs.lemmas.Bool.{or_cases, or_left, or_right, and_parts, and_from, eqb-true, not-true, cases_Bool}
-use Rattle.path_sums.proofs.Interface.{some_writes, writes_some, private_is, is_private_of}
+use Rattle.layout_facts.proofs.Names.{◌≡◌, ℕ, zero, suc, ◌+◌, ◌*◌, ◌<◌, ◌==◌, Bool, true, false, ◌&&◌, not, List, [], ◌∷◌, Some, None, refl, sym, ap, ◌∙◌}
+use Rattle.layout_facts.proofs.Names.{subst, ⊎_elim, ◌⊎◌, arith, eq-eqb, slice_get, or_cases, or_left, or_right, and_parts, and_from, eqb-true, not-true}
+use Rattle.layout_facts.proofs.Names.{cases_Bool, some_writes, writes_some, private_is, is_private_of, Shared, CheckedBlock, task_body, some_path_writes}
+use Rattle.layout_facts.proofs.Names.{scalar_home, InPlaceByPaths, is_private_in, stays_in_place, has_word_at, some_scalar_at, program_places, ScalarWidth}
+use Rattle.layout_facts.proofs.Names.{OneWord, TwoWords, MemoryMap, scalar_words, IsWordOf, VariablePlace, Scalar, Array}
 use Rattle.path_sums.specs.Access.{writes, SomePath, IsPrivate}
-use Rattle.task_ast.specs.declared.names.Variable.TheVariants.{Shared}
-use Rattle.cost_bound.specs.Counts.{CheckedBlock}
-use Rattle.source_values.specs.Runs.{task_body}
-use Rattle.lower.specs.Seen.{some_path_writes}
-use Rattle.memory_map.proofs.Interface.{scalar_home}
-use Rattle.layout_facts.specs.Laws.{InPlaceByPaths}
 use Rattle.layout_facts.proofs.Homes.{each_is_one_word}
-use Rattle.compiled_model.specs.Places.{is_private_in, stays_in_place, has_word_at, some_scalar_at, program_places}
-use Rattle.memory_map.specs.declared.place.ScalarWidth.{ScalarWidth}
-use Rattle.memory_map.specs.declared.place.ScalarWidth.TheVariants.{OneWord, TwoWords}
-use Rattle.memory_map.specs.MemoryMap.{MemoryMap}
-use Rattle.memory_map.specs.Places.{scalar_words}
-use Rattle.memory_map.specs.Spots.{IsWordOf}
-use Rattle.memory_map.specs.declared.place.VariablePlace.{VariablePlace}
-use Rattle.memory_map.specs.declared.place.VariablePlace.TheVariants.{Scalar, Array}
 
 -- a scalar has so a word at an address
 record HasWordAt (home : ℕ) (width : ScalarWidth) (a : ℕ) : Type 0 where

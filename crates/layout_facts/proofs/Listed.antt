@@ -1,21 +1,8 @@
 -- The commit list has room for all that a task may list.
-use Rattle.std.proofs.Common.{◌≡◌, ℕ, ◌+◌, ◌<◌, ◌≤◌, true, List, length, arith, ap, sym, ◌∙◌, Some}
-use Rattle.std.specs.Prelude.{slice_get}
-use Rattle.std.proofs.lemmas.List.Elements.{All-weaker}
-use Rattle.std.proofs.lemmas.Option.{slice_get_within}
+use Rattle.layout_facts.proofs.Names.{◌≡◌, ℕ, ◌+◌, ◌<◌, ◌≤◌, true, List, length, arith, ap, sym, ◌∙◌, Some, slice_get, All-weaker, slice_get_within}
+use Rattle.layout_facts.proofs.Names.{SharedDeclaration, Allow, stores_of, CheckedProgram, list_part, TaskPlanValue, is_scalar, Scalar, Array, MemoryMap}
+use Rattle.layout_facts.proofs.Names.{TaskPlace, places_of, Element, IsCopied, AreListed, listed_of, HasLayout, task_room, ListsHaveRoom}
 use Rattle.task_ast.specs.declared.Extent.TheVariants as extent
-use Rattle.task_ast.specs.declared.SharedDeclaration.{SharedDeclaration}
-use Rattle.cost_bound.specs.declared.allowance.Allow.{Allow}
-use Rattle.cost_bound.specs.Counts.{stores_of}
-use Rattle.cost_bound.specs.Allowance.{CheckedProgram, list_part}
-use Rattle.war_analysis.specs.PlanValue.{TaskPlanValue}
-use Rattle.war_analysis.specs.Plans.{is_scalar}
-use Rattle.memory_map.specs.declared.place.VariablePlace.TheVariants.{Scalar, Array}
-use Rattle.memory_map.specs.MemoryMap.{MemoryMap, TaskPlace}
-use Rattle.memory_map.specs.Spots.{places_of, Element, IsCopied}
-use Rattle.lower.specs.Spots.{AreListed, listed_of}
-use Rattle.layout_facts.specs.Facts.{HasLayout, task_room}
-use Rattle.layout_facts.specs.Laws.{ListsHaveRoom}
 use Rattle.layout_facts.proofs.Planned.{array_has_place, scalar_has_place, scalar_at}
 use Rattle.layout_facts.proofs.Room.{all_counted, sum_at_most, part_at_most, listed_none, listed_most}
 use Rattle.layout_facts.proofs.Seen.{room_seen}

@@ -1,7 +1,5 @@
 -- Elements of lists by their places.
-use Rattle.std.proofs.Common.{◌≡◌, ℕ, List, Some, ap, ◌∙◌}
-use Rattle.std.specs.Prelude.{slice_get, Contains}
-use Rattle.std.proofs.lemmas.Option.{slice_get-get_or, slice_get_within, get_or_from_slice_get}
+use Rattle.layout_facts.proofs.Names.{◌≡◌, ℕ, List, Some, ap, ◌∙◌, slice_get, Contains, slice_get-get_or, slice_get_within, get_or_from_slice_get}
 
 -- an element of a list has a place, and what has a place is an element
 pub place_of : {A : Type 0} (xs : List A) (x : A) → Contains xs x → (k : ℕ) × (slice_get xs k ≡ Some x)

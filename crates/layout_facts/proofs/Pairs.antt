@@ -1,12 +1,6 @@
 -- Pairs of words and their copies, and private scalars word by word.
-use Rattle.std.proofs.Common.{◌≡◌, ℕ, zero, suc, ◌+◌, ◌*◌, ◌<◌, List, [], ◌∷◌, ◌++◌, length, get_or, Some, sym, ◌∙◌, subst, ⊎_elim, inl, inr, ◌⊎◌}
-use Rattle.std.proofs.Common.{refl, arith}
-use Rattle.std.specs.Prelude.{Contains, slice_get}
-use Rattle.std.specs.List.{flat_map}
-use Rattle.memory_map.specs.declared.place.PrivateScalar.{PrivateScalar}
-use Rattle.memory_map.specs.Places.{scalar_words}
-use Rattle.runtime_effects.specs.Places.{CopyPair, run_pairs, scalar_pairs}
-use Rattle.stands_for.specs.Layout.{IsAmong}
+use Rattle.layout_facts.proofs.Names.{◌≡◌, ℕ, zero, suc, ◌+◌, ◌*◌, ◌<◌, List, [], ◌∷◌, ◌++◌, length, get_or, Some, sym, ◌∙◌, subst, ⊎_elim, inl, inr, ◌⊎◌, refl}
+use Rattle.layout_facts.proofs.Names.{arith, Contains, slice_get, flat_map, PrivateScalar, scalar_words, CopyPair, run_pairs, scalar_pairs, IsAmong}
 
 -- ---- pairs of two lists
 

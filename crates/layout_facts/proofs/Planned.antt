@@ -1,27 +1,9 @@
 -- What a source declares and assigns, and its places.
-use Rattle.std.proofs.Common.{◌≡◌, ℕ, Bool, true, false, List, length, arith, ap, subst, sym, ◌∙◌, Some, None, refl}
-use Rattle.std.specs.Prelude.{Option, is_some, slice_get, IsSomeAnd}
-use Rattle.std.proofs.lemmas.Option.{slice_get_within}
-use Rattle.task_ast.specs.declared.Extent.{Extent}
+use Rattle.layout_facts.proofs.Names.{◌≡◌, ℕ, Bool, true, false, List, length, arith, ap, subst, sym, ◌∙◌, Some, None, refl, Option, is_some, slice_get}
+use Rattle.layout_facts.proofs.Names.{IsSomeAnd, slice_get_within, Extent, SharedDeclaration, Allow, CheckedProgram, is_written, TaskPlanValue, is_scalar}
+use Rattle.layout_facts.proofs.Names.{IsScalarAt, IsArrayAt, is_long_extent, element, IsPlaceOf, HasLayout, PlacesAreDeclared, PlacesMatch, ArrayCopies}
+use Rattle.layout_facts.proofs.Names.{ScalarWidth, TwoWords, scalar_words, home_part, VariablePlace, Scalar, Array, MemoryMap}
 use Rattle.task_ast.specs.declared.Extent.TheVariants as extent
-use Rattle.task_ast.specs.declared.SharedDeclaration.{SharedDeclaration}
-use Rattle.cost_bound.specs.declared.allowance.Allow.{Allow}
-use Rattle.cost_bound.specs.Allowance.{CheckedProgram, is_written}
-use Rattle.war_analysis.specs.PlanValue.{TaskPlanValue}
-use Rattle.war_analysis.specs.Plans.{is_scalar, IsScalarAt, IsArrayAt}
-use Rattle.source_values.specs.Runs.{is_long_extent}
-use Rattle.war_analysis.proofs.Interface.{element}
-use Rattle.privatise.specs.Layouts.{IsPlaceOf}
-use Rattle.layout_facts.specs.Facts.{HasLayout}
-use Rattle.layout_facts.specs.Laws.{PlacesAreDeclared, PlacesMatch}
-use Rattle.memory_map.specs.declared.place.ArrayCopies.{ArrayCopies}
-use Rattle.memory_map.specs.declared.place.ScalarWidth.{ScalarWidth}
-use Rattle.memory_map.specs.declared.place.ScalarWidth.TheVariants.{TwoWords}
-use Rattle.memory_map.specs.Places.{scalar_words}
-use Rattle.privatise.specs.Sizes.{home_part}
-use Rattle.memory_map.specs.declared.place.VariablePlace.{VariablePlace}
-use Rattle.memory_map.specs.declared.place.VariablePlace.TheVariants.{Scalar, Array}
-use Rattle.memory_map.specs.MemoryMap.{MemoryMap}
 
 -- ---- declarations
 

@@ -1,38 +1,17 @@
 -- The private scalars of tasks.
-use Rattle.std.proofs.Common.{◌≡◌, ℕ, zero, suc, ◌+◌, ◌*◌, ◌<◌, ◌≤◌, ◌⊎◌, inl, inr, List, [], ◌∷◌, ◌++◌, length, map, arith, ap, subst, sym, ◌∙◌, Some, refl}
-use Rattle.std.proofs.Common.{true, false, ⊎_elim}
-use Rattle.std.specs.Prelude.{slice_get, All, AllPairs, get_or}
-use Rattle.std.specs.List.{flat_map}
-use Rattle.std.specs.Option.{option_map}
-use Rattle.std.proofs.lemmas.List.{length-map, get_or-map}
-use Rattle.std.proofs.lemmas.Bool.{cases_lt, cases_Bool}
-use Rattle.std.proofs.lemmas.List.Elements.{All-head, All-tail}
-use Rattle.std.proofs.lemmas.Option.{slice_get-map, slice_get_within, get_or_from_slice_get}
-use Rattle.cost_bound.specs.declared.allowance.Allow.{Allow}
-use Rattle.cost_bound.specs.Allowance.{CheckedProgram, CheckedTask}
-use Rattle.war_analysis.specs.PlanValue.{TaskPlanValue}
-use Rattle.war_analysis.specs.Plans.{IsTaskPlan}
-use Rattle.war_analysis.proofs.Interface.{element}
-use Rattle.runtime_effects.specs.Places.{CopyPair, run_pairs, scalar_pairs}
+use Rattle.layout_facts.proofs.Names.{◌≡◌, ℕ, zero, suc, ◌+◌, ◌*◌, ◌<◌, ◌≤◌, ◌⊎◌, inl, inr, List, [], ◌∷◌, ◌++◌, length, map, arith, ap, subst, sym, ◌∙◌, Some}
+use Rattle.layout_facts.proofs.Names.{refl, true, false, ⊎_elim, slice_get, All, AllPairs, get_or, flat_map, option_map, length-map, get_or-map, cases_lt}
+use Rattle.layout_facts.proofs.Names.{cases_Bool, All-head, All-tail, slice_get-map, slice_get_within, get_or_from_slice_get, Allow, CheckedProgram}
+use Rattle.layout_facts.proofs.Names.{CheckedTask, TaskPlanValue, IsTaskPlan, element, CopyPair, run_pairs, scalar_pairs, IsSharedWord, IsCopyWord, IsAmong}
+use Rattle.layout_facts.proofs.Names.{ArePrivate, Shared, body_of, task_body, is_private_of, is_private_in, stays_in_place, program_places, HasLayout, IsTaskAt}
+use Rattle.layout_facts.proofs.Names.{PrivatesAreTheirs, ScalarsStand, PrivateScalar, ScalarWidth, OneWord, TwoWords, MemoryMap, TaskPlace, scalar_words}
+use Rattle.layout_facts.proofs.Names.{HasItsPlace, copy_regions, IsLaidOut, IsIn, within, before, copies_row, scalar_copy, scalar_home}
 use Rattle.runtime_code.specs.LayoutPlaces.{pairs_of}
 use Rattle.boot_runtime.specs.Entries.{entry_of, task_entries}
 use Rattle.boot_runtime.specs.Listing.{TaskEntry, privates_in}
-use Rattle.stands_for.specs.Layout.{IsSharedWord, IsCopyWord, IsAmong, ArePrivate}
-use Rattle.task_ast.specs.declared.names.Variable.TheVariants.{Shared}
-use Rattle.source_values.specs.Runs.{body_of, task_body}
-use Rattle.path_sums.proofs.Interface.{is_private_of}
-use Rattle.compiled_model.specs.Places.{is_private_in, stays_in_place, program_places}
-use Rattle.layout_facts.specs.Facts.{HasLayout, IsTaskAt}
-use Rattle.layout_facts.specs.Laws.{PrivatesAreTheirs, ScalarsStand}
 use Rattle.layout_facts.proofs.Homes.{words_of_variables_are_shared, each_is_one_word}
 use Rattle.layout_facts.proofs.InPlace.{scalar_found, found_word, in_place_not_private}
 use Rattle.layout_facts.proofs.Pairs.{among_scalars}
-use Rattle.memory_map.specs.declared.place.PrivateScalar.{PrivateScalar}
-use Rattle.memory_map.specs.declared.place.ScalarWidth.{ScalarWidth}
-use Rattle.memory_map.specs.declared.place.ScalarWidth.TheVariants.{OneWord, TwoWords}
-use Rattle.memory_map.specs.MemoryMap.{MemoryMap, TaskPlace}
-use Rattle.memory_map.specs.Places.{end_of, scalar_words, HasItsPlace, copy_regions, IsLaidOut}
-use Rattle.memory_map.proofs.Interface.{IsIn, within, before, copies_row, scalar_copy, scalar_home}
 
 -- ---- a scalar and its copy
 

@@ -1,17 +1,10 @@
 -- Lists of different elements: how many there can be.
-use Rattle.std.proofs.Common.{◌≡◌, ℕ, zero, suc, ◌+◌, ◌<◌, ◌≤◌, ◌⊎◌, inl, inr, Bool, true, false, ◌&&◌, ltb, List, [], ◌∷◌, length, arith, ap, subst, sym}
-use Rattle.std.proofs.Common.{Some, refl}
-use Rattle.std.specs.Prelude.{slice_get, All, AllPairs, ◌==◌}
-use Rattle.std.proofs.lemmas.Bool.{cases_Bool, eqb-true, eq-eqb, ne_eqb, lt-ltb, le-ltb, cases_lt, cases_eq, cases_order, and_right}
-use Rattle.std.proofs.lemmas.List.Elements.{All-head, All-tail}
-use Rattle.task_ast.specs.declared.Extent.{Extent}
+use Rattle.layout_facts.proofs.Names.{◌≡◌, ℕ, zero, suc, ◌+◌, ◌<◌, ◌≤◌, ◌⊎◌, inl, inr, Bool, true, false, ◌&&◌, ltb, List, [], ◌∷◌, length, arith, ap, subst}
+use Rattle.layout_facts.proofs.Names.{sym, Some, refl, slice_get, All, AllPairs, ◌==◌, cases_Bool, eqb-true, eq-eqb, ne_eqb, lt-ltb, le-ltb, cases_lt, cases_eq}
+use Rattle.layout_facts.proofs.Names.{cases_order, and_right, All-head, All-tail, Extent, SharedDeclaration, shared_sum_from, list_part, is_scalar, Element}
+use Rattle.layout_facts.proofs.Names.{listed_of, AreDifferent}
 use Rattle.task_ast.specs.declared.Extent.TheVariants.{Scalar, Long, Array}
-use Rattle.task_ast.specs.declared.SharedDeclaration.{SharedDeclaration}
-use Rattle.cost_bound.specs.Allowance.{shared_sum_from, list_part}
-use Rattle.war_analysis.specs.Plans.{is_scalar}
-use Rattle.memory_map.specs.Spots.{Element}
 use Rattle.alp_words.specs.Words.{bit}
-use Rattle.lower.specs.Spots.{listed_of, AreDifferent}
 
 -- how many of these elements are of an array and have an index below a number
 abbrev below_in : ℕ → ℕ → List Element → ℕ

@@ -1,18 +1,7 @@
 -- What a task sees of a memory map stands in the whole map.
-use Rattle.std.proofs.Common.{◌≡◌, ℕ, ◌+◌, ◌*◌, ◌<◌, Some, refl, ap, ◌∙◌}
-use Rattle.std.specs.Prelude.{slice_get}
-use Rattle.std.proofs.lemmas.List.Elements.{All-weaker}
-use Rattle.lower.specs.Seen.{some_path_writes, places_seen, map_seen}
-use Rattle.lower.specs.Spots.{Room, HasRoom}
-use Rattle.lower.proofs.Interface.{SeenFrom, scalar, array, read, seen_from}
-use Rattle.cost_bound.specs.Counts.{CheckedBlock}
-use Rattle.memory_map.specs.declared.place.ArrayCopies.{ArrayCopies}
-use Rattle.memory_map.specs.declared.place.ScalarWidth.{ScalarWidth}
-use Rattle.memory_map.specs.declared.place.VariablePlace.{VariablePlace}
-use Rattle.memory_map.specs.declared.place.VariablePlace.TheVariants.{Scalar, Array}
-use Rattle.memory_map.specs.MemoryMap.{MemoryMap, TaskPlace}
-use Rattle.memory_map.specs.Places.{home_region}
-use Rattle.memory_map.specs.Spots.{places_of, Element, IsCopied, IsWordOf}
+use Rattle.layout_facts.proofs.Names.{◌≡◌, ℕ, ◌+◌, ◌*◌, ◌<◌, Some, refl, ap, ◌∙◌, slice_get, All-weaker, some_path_writes, places_seen, map_seen, Room, HasRoom}
+use Rattle.layout_facts.proofs.Names.{SeenFrom, scalar, array, read, seen_from, CheckedBlock, ArrayCopies, ScalarWidth, VariablePlace, Scalar, Array, MemoryMap}
+use Rattle.layout_facts.proofs.Names.{TaskPlace, home_region, places_of, Element, IsCopied, IsWordOf}
 
 module _ (body : CheckedBlock) (l : MemoryMap) where
   -- a word of a variable is the same word

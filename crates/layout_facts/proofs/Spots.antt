@@ -1,16 +1,11 @@
 -- The words that a task works on stand apart, behind what it lists and emits.
-use Rattle.std.proofs.Common.{◌≡◌, ℕ, ◌+◌, ◌-◌, ◌*◌, ◌/◌, ◌%◌, ◌<◌, ◌≤◌, arith}
-use Rattle.cost_bound.specs.Counts.{emits_of}
-use Rattle.cost_bound.specs.Allowance.{list_of}
-use Rattle.memory_map.proofs.Interface.{apart_of, even_of, parts_in_fram, element_is, copy_is, version_is, version_between, spots_are_apart}
-use Rattle.layout_facts.specs.Laws.{TaskPlacesAreApart, TaskPlacesAreEven, ElementsStand}
-use Rattle.memory_map.specs.Spots.{places_of, element_address, copy_address, version_address}
-use Rattle.lower.specs.Seen.{some_path_writes, map_seen}
-use Rattle.lower.proofs.Interface.{privates_seen, seen_laid_out}
+use Rattle.layout_facts.proofs.Names.{◌≡◌, ℕ, ◌+◌, ◌-◌, ◌*◌, ◌/◌, ◌%◌, ◌<◌, ◌≤◌, arith, emits_of, list_of, apart_of, even_of, parts_in_fram, element_is}
+use Rattle.layout_facts.proofs.Names.{copy_is, version_is, version_between, spots_are_apart, TaskPlacesAreApart, TaskPlacesAreEven, ElementsStand, places_of}
+use Rattle.layout_facts.proofs.Names.{element_address, copy_address, version_address, some_path_writes, map_seen, privates_seen, seen_laid_out}
+use Rattle.layout_facts.proofs.Privates as privates
 use Rattle.layout_facts.proofs.Chains.{at_most_greatest}
 use Rattle.layout_facts.proofs.Seen.{word_of_seen}
 use Rattle.layout_facts.proofs.Privates.{privates_of}
-use Rattle.layout_facts.proofs.Privates as privates
 
 pub task_places_are_apart : TaskPlacesAreApart
 task_places_are_apart p allow plans l h t task layout k =

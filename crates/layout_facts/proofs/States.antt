@@ -1,28 +1,14 @@
 -- The state that a world has.
-use Rattle.std.proofs.Common.{◌≡◌, ℕ, zero, suc, ◌+◌, ◌*◌, ◌<◌, ◌&&◌, Bool, true, List, [], ◌∷◌, length, map, refl, sym, ap, ap₂, ◌∙◌, eq-eqb, lt-ltb, arith}
-use Rattle.std.proofs.Common.{Some}
-use Rattle.std.proofs.lemmas.Option.{slice_get-map, get_or_from_slice_get}
-use Rattle.std.specs.Option.{option_map}
-use Rattle.std.specs.Prelude.{slice_get, slice_index, slice_index_or}
-use Rattle.task_ast.specs.declared.SharedDeclaration.{SharedDeclaration}
-use Rattle.cost_bound.specs.Allowance.{CheckedProgram, is_written}
-use Rattle.cost_bound.specs.declared.allowance.Allow.{Allow}
-use Rattle.war_analysis.specs.PlanValue.{TaskPlanValue}
-use Rattle.source_values.specs.Runs.{initial_words}
+use Rattle.layout_facts.proofs.Names.{◌≡◌, ℕ, zero, suc, ◌+◌, ◌*◌, ◌<◌, ◌&&◌, Bool, true, List, [], ◌∷◌, length, map, refl, sym, ap, ap₂, ◌∙◌, eq-eqb, lt-ltb}
+use Rattle.layout_facts.proofs.Names.{arith, Some, subst, slice_get-map, get_or_from_slice_get, option_map, slice_get, slice_index, slice_index_or}
+use Rattle.layout_facts.proofs.Names.{SharedDeclaration, CheckedProgram, is_written, Allow, TaskPlanValue, State, initial_words, VariablePlace, Scalar, Array}
+use Rattle.layout_facts.proofs.Names.{MemoryMap, home_region, IsPlaceOf, IsSharedWord, place_length, program_places, are_words, are_rows, shared_word, row_in}
+use Rattle.layout_facts.proofs.Names.{state_view, state_in, state_left, HasLayout, WorldsHaveStates}
 use Rattle.machine_effects.specs.World.{World}
-use Rattle.memory_map.specs.declared.place.VariablePlace.{VariablePlace}
-use Rattle.memory_map.specs.declared.place.VariablePlace.TheVariants.{Scalar, Array}
-use Rattle.memory_map.specs.MemoryMap.{MemoryMap}
-use Rattle.memory_map.specs.Places.{home_region}
-use Rattle.privatise.specs.Layouts.{IsPlaceOf}
-use Rattle.stands_for.specs.Layout.{IsSharedWord}
-use Rattle.stands_for.specs.StandsFor.{HoldsWords, words_at, RestsAt, IsAtRest}
+use Rattle.stands_for.specs.StandsFor.{HoldsWords, words_at, RestsAt, IsAtRest, IsPendingCommit}
 use Rattle.stands_for.proofs.Interface.{commit_rests, words_length}
-use Rattle.lower.specs.Agreement.{place_length}
-use Rattle.compiled_model.specs.Places.{program_places}
-use Rattle.compiled_model.specs.View.{are_words, are_rows, shared_word, row_in, state_view, state_in}
-use Rattle.layout_facts.specs.Facts.{HasLayout}
-use Rattle.layout_facts.specs.Laws.{WorldsHaveStates}
+use Rattle.compiled_model.proofs.Interface.{is_redo}
+use Rattle.crash_rules.specs.Model.{Model}
 use Rattle.layout_facts.proofs.Chains.{places_are_apart, tasks_have_room}
 use Rattle.layout_facts.proofs.Homes.{shared_words_are_of_variables}
 use Rattle.layout_facts.proofs.Views.{initial_length, view_has_their_words}
@@ -95,12 +81,16 @@ module _ (p : CheckedProgram) (allow : Allow) (plans : List TaskPlanValue) (l : 
       }
 
 pub worlds_have_states : WorldsHaveStates
-worlds_have_states p allow plans l h = record {
-  is_state = is_state p allow plans l h;
-  shared = λ x a s. shared_in p allow plans l h x.fram a s;
-  rest = rests p allow plans l h;
-  commit = λ x d. record {
-    pending = d;
-    rests = rests p allow plans l h _ (commit_rests (program_places p l) (places_are_apart p allow plans l h) x d (tasks_have_room p allow plans l h));
-  };
-}
+worlds_have_states p allow plans l h =
+    let places = program_places p l in
+    let Rest : Model State → Type 0 = λ m. (x : World) → IsAtRest places x → m.Rests (state_in l x) x in
+    let Commit : Model State → Type 0 = λ m. (x : World) → IsPendingCommit places x → m.Committing (state_left l x) x in
+    record {
+      is_state = is_state p allow plans l h;
+      shared = λ x a s. shared_in p allow plans l h x.fram a s;
+      rest = subst Rest (sym (is_redo p l)) (rests p allow plans l h);
+      commit = subst Commit (sym (is_redo p l)) (λ x d. record {
+        pending = d;
+        rests = rests p allow plans l h _ (commit_rests places (places_are_apart p allow plans l h) x d (tasks_have_room p allow plans l h));
+      });
+    }

@@ -1,25 +1,10 @@
 -- States by addresses.
-use Rattle.std.proofs.Common.{◌≡◌, ℕ, zero, suc, ◌+◌, ◌*◌, ◌/◌, ◌-◌, ◌<◌, ◌≤◌, Bool, true, false, List, [], ◌∷◌, length, map, sym, ◌∙◌, ap, subst, arith}
-use Rattle.std.proofs.Common.{Some, None, refl}
-use Rattle.std.specs.Prelude.{slice_get, slice_index, slice_index_or}
-use Rattle.std.proofs.lemmas.Bool.{lt-ltb, le-ltb, le-leb, and_parts, and_from, and_right, eqb-true}
-use Rattle.std.proofs.lemmas.List.{length-replicate}
-use Rattle.std.proofs.lemmas.Option.{slice_get_within}
-use Rattle.task_ast.specs.declared.Extent.{Extent}
+use Rattle.layout_facts.proofs.Names.{◌≡◌, ℕ, zero, suc, ◌+◌, ◌*◌, ◌/◌, ◌-◌, ◌<◌, ◌≤◌, Bool, true, false, List, [], ◌∷◌, length, map, sym, ◌∙◌, ap, subst}
+use Rattle.layout_facts.proofs.Names.{arith, Some, None, refl, slice_get, slice_index, slice_index_or, lt-ltb, le-ltb, le-leb, and_parts, and_from, and_right}
+use Rattle.layout_facts.proofs.Names.{eqb-true, length-replicate, slice_get_within, Extent, SharedDeclaration, is_written, element, initial_words, Region}
+use Rattle.layout_facts.proofs.Names.{VariablePlace, Scalar, Array, end_of, scalar_words, AreInOrder, home_region, IsPlaceOf, in_order_within, mapped}
+use Rattle.layout_facts.proofs.Names.{place_length, is_within, word_of_row, shared_word, are_rows, ViewHasTheirWords, RowsFitPlaces}
 use Rattle.task_ast.specs.declared.Extent.TheVariants as extent
-use Rattle.task_ast.specs.declared.SharedDeclaration.{SharedDeclaration}
-use Rattle.cost_bound.specs.Allowance.{is_written}
-use Rattle.war_analysis.proofs.Interface.{element}
-use Rattle.source_values.specs.Runs.{initial_words}
-use Rattle.memory_map.specs.declared.place.Region.{Region}
-use Rattle.memory_map.specs.declared.place.VariablePlace.{VariablePlace}
-use Rattle.memory_map.specs.declared.place.VariablePlace.TheVariants.{Scalar, Array}
-use Rattle.memory_map.specs.Places.{end_of, scalar_words, AreInOrder, home_region}
-use Rattle.privatise.specs.Layouts.{IsPlaceOf}
-use Rattle.memory_map.proofs.Interface.{in_order_within, mapped}
-use Rattle.lower.specs.Agreement.{place_length}
-use Rattle.compiled_model.specs.View.{is_within, word_of_row, shared_word, are_rows}
-use Rattle.layout_facts.specs.Laws.{ViewHasTheirWords, RowsFitPlaces}
 
 is_in : (r : Region) (i a : ℕ) → i < r.words → a ≡ 2 * i + r.address → is_within r a ≡ true
 is_in r i a b e = and_from _ _ (le-leb r.address a (omega (arith, e))) (lt-ltb a (end_of r) (omega (arith, e, b)))

@@ -33,8 +33,9 @@ use Rattle.source_values.specs.Runs.{task_body}
 use Rattle.lower.specs.Seen.{some_path_writes}
 use Rattle.compiled_model.specs.Places.{is_private_in, program_places}
 use Rattle.compiled_model.specs.View.{shared_word, are_rows, state_view, state_in, state_left}
+use Rattle.compiled_model.specs.Parts.{compiled_model}
 use Rattle.machine_effects.specs.World.{World}
-use Rattle.stands_for.specs.StandsFor.{HoldsWords, RestsAt, IsAtRest, IsPendingCommit, CommittingTo}
+use Rattle.stands_for.specs.StandsFor.{HoldsWords, IsAtRest, IsPendingCommit}
 use Rattle.layout_facts.specs.Facts.{HasLayout, IsTaskAt, task_room, task_places}
 
 -- what holds of each source and its layout
@@ -102,8 +103,8 @@ RowsFitPlaces = OfLayouts (λ p l. (rows : List (List ℕ)) (v : ℕ) (place : V
 pub record WorldsStand (p : CheckedProgram) (l : MemoryMap) : Type 0 where
   pub is_state : (x : World) → HoldsWords x.fram → (state_view p l).is_state (state_in l x) ≡ true
   pub shared : (x : World) (a : ℕ) → IsSharedWord (program_places p l) a → x.fram a ≡ (state_view p l).word (state_in l x) a
-  pub rest : (x : World) → IsAtRest (program_places p l) x → RestsAt (program_places p l) (state_view p l) (state_in l x) x
-  pub commit : (x : World) → IsPendingCommit (program_places p l) x → CommittingTo (program_places p l) (state_view p l) (state_left l x) x
+  pub rest : (x : World) → IsAtRest (program_places p l) x → (compiled_model p l).Rests (state_in l x) x
+  pub commit : (x : World) → IsPendingCommit (program_places p l) x → (compiled_model p l).Committing (state_left l x) x
 
 -- so with each source and its layout
 abbrev pub WorldsHaveStates : Type 0

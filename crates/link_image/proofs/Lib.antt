@@ -1,4 +1,4 @@
-mod Fits
+mod Names
 mod Written
 mod Placing
 mod Ready

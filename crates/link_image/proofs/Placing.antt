@@ -1,30 +1,18 @@
 -- Words that are put into an image.
-use Rattle.std.proofs.Common.{◌≡◌, ◌≢◌, ◌∙◌, ◌+◌, ◌-◌, ◌*◌, ◌/◌, ◌%◌, ◌<◌, ◌≤◌, ◌==◌, ◌&&◌, ℕ, zero, suc, Bool, true, false, cond, if◌then◌else◌, List, [], ◌∷◌}
-use Rattle.std.proofs.Common.{map, drop, length, replicate, refl, sym, ap, subst, arith, eqb-true, slice_index, slice_set, get_or}
-use Rattle.std.proofs.Common.{get_or-set_same, get_or-set_other}
-use Rattle.std.proofs.lemmas.Bool.Decides.{nat_tests}
-use Rattle.std.proofs.lemmas.List.{at_drop_more}
-use Rattle.linked_code.proofs.machine_effects.Interface.{zeros_at}
-use Rattle.task_ast.specs.declared.Extent.{Extent}
-use Rattle.task_ast.specs.declared.SharedDeclaration.{SharedDeclaration}
-use Rattle.image_text.specs.ImageValue.{place_of, zeros}
-use Rattle.linked_code.specs.fram_board.Bus.{is_fram}
-use Rattle.linked_code.specs.machine_effects.Machine.{IsFram, fram_of}
+use Rattle.link_image.proofs.Names.{◌≡◌, ◌≢◌, ◌∙◌, ◌+◌, ◌-◌, ◌*◌, ◌/◌, ◌%◌, ◌<◌, ◌≤◌, ◌==◌, ◌&&◌, ℕ, zero, suc, Bool, true, false, cond, if◌then◌else◌, List}
+use Rattle.link_image.proofs.Names.{[], ◌∷◌, map, drop, length, replicate, refl, sym, ap, subst, arith, eqb-true, slice_index, slice_set, get_or}
+use Rattle.link_image.proofs.Names.{get_or-set_same, get_or-set_other, at_drop_more, SharedDeclaration, place_of, zeros, IsFram, fram_of, initial_words}
+use Rattle.link_image.proofs.Names.{fram_first, reset_vector, OneWord, TwoWords, Scalar, Array, MemoryMap, end_of, home_region, AreInOrder, IsLaidOut}
+use Rattle.link_image.proofs.Names.{in_order_end, parts_in_fram, is_within, word_of_row, shared_word, AreWords, All-nil, All-cons}
 use Rattle.task_ast.specs.declared.Extent.TheVariants as extent
-use Rattle.whole_programs.specs.source_values.Runs.{initial_words}
-use Rattle.memory_map.specs.address_space.Limits.{fram_first, reset_vector}
+use Rattle.std.proofs.lemmas.Bool.Decides.{nat_tests}
+use Rattle.machine_effects.proofs.Interface.{zeros_at}
+use Rattle.task_ast.specs.declared.Extent.{Extent}
+use Rattle.fram_board.specs.Bus.{is_fram}
 use Rattle.memory_map.specs.declared.place.Region.{Region}
-use Rattle.memory_map.specs.declared.place.ScalarWidth.TheVariants.{OneWord, TwoWords}
 use Rattle.memory_map.specs.declared.place.VariablePlace.{VariablePlace}
-use Rattle.memory_map.specs.declared.place.VariablePlace.TheVariants.{Scalar, Array}
-use Rattle.memory_map.specs.MemoryMap.{MemoryMap}
-use Rattle.memory_map.specs.Places.{end_of, home_region, AreInOrder, IsLaidOut}
-use Rattle.memory_map.proofs.Interface.{in_order_end, parts_in_fram}
-use Rattle.image_laws.specs.compiled_model.View.{is_within, word_of_row, shared_word}
 use Rattle.source_maps.specs.Placing.{IsOfKind, ArePlacesOf}
 use Rattle.link_image.specs.Initial.{initial_put}
-use Rattle.image_laws.specs.Words.{AreWords}
-use Rattle.std.proofs.lemmas.List.Elements.{All-nil, All-cons}
 use Rattle.image_laws.proofs.Interface.{fram_at, within, none_before}
 
 -- a word that is set
@@ -157,32 +145,30 @@ from_number (d ∷ ds) (v ∷ vs) low end (suc i) h =
 pub record IsNext (d : SharedDeclaration) (v : VariablePlace) (ds : List SharedDeclaration) (vs : List VariablePlace) (low end : ℕ) : Type 0 where
   pub here : FromHere (d ∷ ds) (v ∷ vs) low end
 
-pub next_of : (ds : List SharedDeclaration) (vs : List VariablePlace) (low end i : ℕ) (d : SharedDeclaration) (v : VariablePlace) → ArePlacesOf ds vs
-    → AreInOrder low (map home_region vs) end
-    → i < length ds → i < length vs → d ≡ get_or ds i d → v ≡ get_or vs i v → IsNext d v (drop (i + 1) ds) (drop (i + 1) vs) low end
-next_of ds vs low end i d v places order l m a b =
-    let all : FromHere ds vs low end = record { places = places; from = low; above = omega arith; order = order } in
-    let there = from_number ds vs low end i all in
-    let one = subst (λ xs. FromHere xs (drop i vs) low end) (at_drop_more (λ xs. xs) ds i d l ∙ ap (λ x. x ∷ drop (i + 1) ds) (sym a)) there in
-    record { here = subst (λ xs. FromHere (d ∷ drop (i + 1) ds) xs low end) (at_drop_more (λ xs. xs) vs i v m ∙ ap (λ x. x ∷ drop (i + 1) vs) (sym b)) one }
-
 pub same_length : (ds : List SharedDeclaration) (vs : List VariablePlace) → ArePlacesOf ds vs → length ds ≡ length vs
 same_length [] [] h = refl
 same_length [] (v ∷ vs) h = absurd h
 same_length (d ∷ ds) [] h = absurd h
 same_length (d ∷ ds) (v ∷ vs) h = let r = same_length ds vs h.1 in omega (arith, r)
 
-pub next_put : (ds : List SharedDeclaration) (vs : List VariablePlace) (low end i : ℕ) (d : SharedDeclaration) (v : VariablePlace) → ArePlacesOf ds vs
-    → AreInOrder low (map home_region vs) end
-    → i < length ds → i < length vs → d ≡ get_or ds i d → v ≡ get_or vs i v → (a old new : ℕ) → a % 2 ≡ 0
-    → old ≡ shared_word (drop (i + 1) vs) (rows_of (drop (i + 1) ds)) a
-    → new ≡ initial_put d.extent v a old → new ≡ shared_word (drop i vs) (rows_of (drop i ds)) a
-next_put ds vs low end i d v places order l m e f a old new even same put =
-    let n = (next_of ds vs low end i d v places order l m e f).here in
-    put ∙ variable_put d.extent v (drop (i + 1) vs) (rows_of (drop (i + 1) ds)) n.from end a old n.places.0 n.order even same
-    ∙ sym (at_drop_more (λ xs. shared_word (drop i vs) (rows_of xs) a) ds i d l ∙ ap (λ x. shared_word (drop i vs) (rows_of (x ∷ drop (i + 1) ds)) a) (sym e)
-    ∙ at_drop_more (λ xs. shared_word xs (rows_of (d ∷ drop (i + 1) ds)) a) vs i v m
-    ∙ ap (λ x. shared_word (x ∷ drop (i + 1) vs) (rows_of (d ∷ drop (i + 1) ds)) a) (sym f))
+-- the variable of a number, with its declaration
+module _ (ds : List SharedDeclaration) (vs : List VariablePlace) (low end i : ℕ) (d : SharedDeclaration) (v : VariablePlace) (places : ArePlacesOf ds vs)
+    (order : AreInOrder low (map home_region vs) end) (l : i < length ds) (m : i < length vs) (e : d ≡ get_or ds i d) (f : v ≡ get_or vs i v) where
+  pub next_of : IsNext d v (drop (i + 1) ds) (drop (i + 1) vs) low end
+  next_of =
+      let all : FromHere ds vs low end = record { places = places; from = low; above = omega arith; order = order } in
+      let there = from_number ds vs low end i all in
+      let one = subst (λ xs. FromHere xs (drop i vs) low end) (at_drop_more (λ xs. xs) ds i d l ∙ ap (λ x. x ∷ drop (i + 1) ds) (sym e)) there in
+      record { here = subst (λ xs. FromHere (d ∷ drop (i + 1) ds) xs low end) (at_drop_more (λ xs. xs) vs i v m ∙ ap (λ x. x ∷ drop (i + 1) vs) (sym f)) one }
+
+  pub next_put : (a old new : ℕ) → a % 2 ≡ 0 → old ≡ shared_word (drop (i + 1) vs) (rows_of (drop (i + 1) ds)) a → new ≡ initial_put d.extent v a old
+      → new ≡ shared_word (drop i vs) (rows_of (drop i ds)) a
+  next_put a old new even same put =
+      let n = next_of.here in
+      put ∙ variable_put d.extent v (drop (i + 1) vs) (rows_of (drop (i + 1) ds)) n.from end a old n.places.0 n.order even same
+      ∙ sym (at_drop_more (λ xs. shared_word (drop i vs) (rows_of xs) a) ds i d l ∙ ap (λ x. shared_word (drop i vs) (rows_of (x ∷ drop (i + 1) ds)) a) (sym e)
+      ∙ at_drop_more (λ xs. shared_word xs (rows_of (d ∷ drop (i + 1) ds)) a) vs i v m
+      ∙ ap (λ x. shared_word (x ∷ drop (i + 1) vs) (rows_of (d ∷ drop (i + 1) ds)) a) (sym f))
 
 -- one more word behind others
 pub word_put : (at k w a old new : ℕ) (ws : List ℕ) → at % 2 ≡ 0 → a % 2 ≡ 0 → w ≡ slice_index ws k → k < length ws
@@ -219,7 +205,8 @@ wider from low end high (v ∷ vs) l h o =
 pub wider_order : (l : MemoryMap) → IsLaidOut l → AreInOrder fram_first (map home_region l.variables) reset_vector
 wider_order l h =
     let homes = (parts_in_fram l h).homes in
-    wider l.homes.address fram_first (end_of l.homes) reset_vector l.variables homes.from homes.end h.homes
+    let end = homes.end in
+    wider l.homes.address fram_first (end_of l.homes) reset_vector l.variables homes.from (omega (arith, end)) h.homes
 
 -- ---- words
 

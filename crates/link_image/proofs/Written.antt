@@ -1,27 +1,17 @@
 -- The words of the code, written part by part.
-use Rattle.std.proofs.Common.{◌≡◌, ◌∙◌, ℕ, zero, suc, ◌+◌, ◌-◌, ◌*◌, ◌/◌, ◌%◌, ◌<◌, ◌≤◌, List, [], ◌∷◌, ◌++◌, map, length, drop, refl, sym, ap, ap₂, subst}
-use Rattle.std.proofs.Common.{arith, append_assoc, length-append, get_or}
-use Rattle.std.specs.Prelude.{All}
-use Rattle.std.proofs.lemmas.List.{at_drop_more}
-use Rattle.codegen.specs.msp_isa.declared.instructions.Instr.{Instr}
-use Rattle.codegen.specs.msp_isa.Encoding.{encoding}
-use Rattle.linked_code.specs.code_forms.Forms.{Form}
-use Rattle.linked_code.specs.code_forms.Placed.{instructions, words_of}
-use Rattle.linked_code.proofs.code_forms.Interface.{instructions-append}
-use Rattle.linked_code.proofs.runtime_code.Interface.{code_bytes}
-use Rattle.codegen.specs.array_versions.Program.{Program}
-use Rattle.codegen.specs.array_versions.View.{program_of}
-use Rattle.std.proofs.lemmas.List.Elements.{All-nil, All-cons, All-head, All-tail}
-use Rattle.memory_map.specs.address_space.Limits.{reset_vector}
-use Rattle.codegen.specs.array_versions.declared.program.WordProgram.{WordProgram}
-use Rattle.codegen.specs.word_code.Code.{repeated}
-use Rattle.memory_map.specs.MemoryMap.{MemoryMap, TaskPlace}
-use Rattle.memory_map.specs.Places.{end_of, AreInOrder}
-use Rattle.memory_map.proofs.Interface.{apart_of, even_of, in_order_end}
-use Rattle.linked_code.specs.Parts.{filler, CodePart, part_end, chained, PartsInOrder}
-use Rattle.linked_code.specs.Linked.{boot_part, commit_part, task_part, task_parts, linked, ProgramsFit, CodeFits}
+use Rattle.link_image.proofs.Names.{◌≡◌, ◌∙◌, ℕ, zero, suc, ◌+◌, ◌-◌, ◌*◌, ◌/◌, ◌%◌, ◌<◌, ◌≤◌, List, [], ◌∷◌, ◌++◌, map, length, drop, refl, sym, ap, ap₂}
+use Rattle.link_image.proofs.Names.{subst, arith, append_assoc, length-append, get_or, All, at_drop_more, instructions, words_of, program_of, All-nil, All-cons}
+use Rattle.link_image.proofs.Names.{All-head, All-tail, reset_vector, repeated, MemoryMap, TaskPlace, end_of, AreInOrder, apart_of, even_of, in_order_end}
+use Rattle.link_image.proofs.Names.{filler, CodePart, part_end, chained, PartsInOrder, boot_part, commit_part, task_part, task_parts, linked, ProgramsFit}
+use Rattle.link_image.proofs.Names.{CodeFits, IsShort}
+use Rattle.msp_isa.specs.declared.instructions.Instr.{Instr}
+use Rattle.msp_isa.specs.Encoding.{encoding}
+use Rattle.code_forms.specs.Forms.{Form}
+use Rattle.code_forms.proofs.Interface.{instructions-append}
+use Rattle.runtime_code.proofs.Interface.{code_bytes}
+use Rattle.array_versions.specs.Program.{Program}
+use Rattle.array_versions.specs.declared.program.WordProgram.{WordProgram}
 use Rattle.linked_code.proofs.Interface.{in_order}
-use Rattle.link_image.specs.Needs.{IsShort}
 
 -- the words of forms
 abbrev pub words_in : List Form → List ℕ

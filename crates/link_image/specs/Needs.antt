@@ -1,11 +1,11 @@
 -- What an image is made from: an accepted source with its plan and its layout.
 use Rattle.std.specs.Prelude.{◌≡◌, ◌<◌, ◌≤◌, ℕ, List, All, length}
-use Rattle.linked_code.specs.cost_bound.declared.allowance.Allow.{Allow}
-use Rattle.whole_programs.specs.source_values.Runs.{CheckedProgram}
+use Rattle.cost_bound.specs.declared.allowance.Allow.{Allow}
+use Rattle.source_values.specs.Runs.{CheckedProgram}
 use Rattle.memory_map.specs.MemoryMap.{MemoryMap}
-use Rattle.codegen.specs.array_versions.Program.{Program}
-use Rattle.codegen.specs.array_versions.Form.{IsWhole, OfWords}
-use Rattle.codegen.specs.array_versions.Cost.{words_of}
+use Rattle.array_versions.specs.Program.{Program}
+use Rattle.array_versions.specs.Form.{IsWhole, OfWords}
+use Rattle.array_versions.specs.Cost.{words_of}
 use Rattle.lower.specs.Lowered.{lowered}
 use Rattle.linked_code.specs.Linked.{CodeFits}
 use Rattle.source_maps.specs.Names.{HasNames}

@@ -1,11 +1,11 @@
 //! The words of the code.
 ghost use Rattle.std.specs.Prelude.{◌≡◌, ◌+◌, ◌-◌, ◌*◌, ◌/◌, ◌%◌, ◌≤◌, ◌++◌, ◌∷◌, [], ℕ, All, IfOk, OnOk, length, map};
-ghost use Rattle.memory_map.specs.address_space.Limits.{reset_vector};
-ghost use Rattle.linked_code.specs.code_forms.Placed.{instructions, words_of};
-ghost use Rattle.codegen.specs.array_versions.View.{program_of};
-ghost use Rattle.codegen.specs.array_versions.Form.{IsWhole};
+ghost use Rattle.address_space.specs.Limits.{reset_vector};
+ghost use Rattle.code_forms.specs.Placed.{instructions, words_of};
+ghost use Rattle.array_versions.specs.View.{program_of};
+ghost use Rattle.array_versions.specs.Form.{IsWhole};
 ghost use Rattle.link_image.specs.Needs.{IsShort};
-ghost use Rattle.codegen.specs.word_code.Code.{repeated, code_of};
+ghost use Rattle.word_code.specs.Code.{repeated, code_of};
 ghost use Rattle.linked_code.specs.Parts.{filler, chained, PartsInOrder};
 ghost use Rattle.linked_code.specs.Linked.{linked, task_part, task_parts, CodeFits};
 

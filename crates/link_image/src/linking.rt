@@ -11,16 +11,15 @@ ghost use Rattle.image_laws.specs.Compiled.{IsCompiled, IsImageOf};
 use crate::code::code_words;
 use crate::words::put_image;
 use image_text::Image;
-use linked_code::{layouts_have_room, linked_is_code};
-use lower::laws::statements_keep_to_words;
+use linked_code::linked_is_code;
 use lower::lower;
 use memory_map::Layout;
 use privatise::layout;
-use source_maps::{map_of, maps_are_of_sources, names_are_names};
+use source_maps::map_of;
 use source_meaning::{Accepted, SourceFault, accept};
 use std::alloc::{AllocError, Global};
 use war_analysis::{Plan, analyse};
-use whole_programs::{privates_are_few, programs_are_whole};
+use whole_programs::programs_are_whole;
 
 // A source with its plan and its layout is ready to be linked: its code has room, and its names can be those of a map.
 fn is_ready(accepted: &Accepted, plan: &Plan, layout: &Layout)
@@ -29,12 +28,7 @@ fn is_ready(accepted: &Accepted, plan: &Plan, layout: &Layout)
     requires laid_out { IsLayout (program_of accepted.now.checked.source) accepted.now.allow plan.now layout.now }
     ensures { IsReadyToLink accepted.now.text.items (program_of accepted.now.checked.source) accepted.now.allow layout.now }
 {
-    layouts_have_room();
-    statements_keep_to_words();
-    privates_are_few();
     programs_are_whole();
-    names_are_names();
-    maps_are_of_sources();
     let _ = accepted.checked();
     let _ = plan.tasks();
     layout.rules();

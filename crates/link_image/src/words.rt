@@ -1,13 +1,13 @@
 //! The words of the FRAM.
 ghost use Rattle.std.specs.Prelude.{◌≡◌, ◌+◌, ◌-◌, ◌*◌, ◌/◌, ◌%◌, ◌==◌, ◌≤◌, ℕ, All, length, map, if◌then◌else◌, slice_index};
-ghost use Rattle.memory_map.specs.address_space.Limits.{fram_first, fram_words, reset_vector};
+ghost use Rattle.address_space.specs.Limits.{fram_first, fram_words, reset_vector};
 ghost use Rattle.image_text.specs.ImageValue.{zeros};
-ghost use Rattle.linked_code.specs.machine_effects.Machine.{IsFram, fram_of};
-ghost use Rattle.whole_programs.specs.source_values.Runs.{initial_words};
+ghost use Rattle.machine_effects.specs.Machine.{IsFram, fram_of};
+ghost use Rattle.source_values.specs.Runs.{initial_words};
 ghost use Rattle.memory_map.specs.MemoryMap.{word_place};
 ghost use Rattle.memory_map.specs.declared.words.RuntimeWord.TheVariants.{CurrentTask};
 ghost use Rattle.memory_map.specs.Places.{end_of, home_region, AreInOrder};
-ghost use Rattle.image_laws.specs.compiled_model.View.{is_within, shared_word};
+ghost use Rattle.compiled_model.specs.View.{is_within, shared_word};
 ghost use Rattle.source_maps.specs.Placing.{IsOfKind, ArePlacesOf};
 ghost use Rattle.link_image.specs.Initial.{initial_put};
 ghost use Rattle.image_laws.specs.Words.{AreWords};

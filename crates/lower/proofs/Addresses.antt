@@ -1,21 +1,18 @@
 -- Where the words that a task works on stand.
-use Rattle.std.proofs.Common.{◌≡◌, ℕ, ◌+◌, ◌*◌, ◌%◌, ◌<◌, ◌≤◌, nat_lt, ◌&&◌, Option, Some, true, ap, ◌∙◌, subst, arith, eq-eqb, le-leb, lt-ltb, inl, inr, ◌⊎◌}
-use Rattle.std.proofs.Common.{⊎_elim, if◌then◌else◌}
-use Rattle.std.proofs.lemmas.Bool.{cases_eq}
+use Rattle.lower.proofs.Names.{◌≡◌, ℕ, ◌+◌, ◌*◌, ◌%◌, ◌<◌, ◌≤◌, nat_le, nat_lt, ◌&&◌, Option, Some, true, ap, ◌∙◌, subst, arith, le-leb, lt-ltb, inl, inr}
+use Rattle.lower.proofs.Names.{◌⊎◌, ⊎_elim, if◌then◌else◌, cases_eq, fram_first, program_end, Behaviour, strays, is_place, at_place, ArrayCopies}
+use Rattle.lower.proofs.Names.{words_scalar, Places, address_of, scalar_address, IsScalarPlace, IsScalarAt, IsScalarWord, IsArrayAt, Element, IsElement}
+use Rattle.lower.proofs.Names.{IsCopied, Spot, IsSpot, element_in, copy_in, version_in, element_address, copy_address, version_address, spot_address, Room}
+use Rattle.lower.proofs.Names.{AreApart, AreEven, AreDifferent}
+use Rattle.std.proofs.Common.{eq-eqb}
 use Rattle.std.specs.Prelude.{slice_get}
-use Rattle.fram_board.specs.Bus.{is_fram}
-use Rattle.array_versions.specs.Behaviour.{Behaviour, strays, is_place, at_place}
-use Rattle.memory_map.specs.declared.place.ArrayCopies.{ArrayCopies}
-use Rattle.memory_map.proofs.Interface.{words_scalar}
-use Rattle.memory_map.specs.Spots.{Places, address_of, scalar_address, IsScalarPlace, IsScalarAt, IsScalarWord, IsArrayAt, Element, IsElement, IsCopied, Spot}
-use Rattle.memory_map.specs.Spots.{IsSpot, element_in, copy_in, version_in, element_address, copy_address, version_address, spot_address}
-use Rattle.lower.specs.Spots.{Room, AreApart, AreEven, AreDifferent}
 
 -- ---- places
 
-pub fram_place : (a : ℕ) → a % 2 ≡ 0 → 0x4400 ≤ a → a < 0x10000 → is_place a ≡ true
+pub fram_place : (a : ℕ) → a % 2 ≡ 0 → fram_first ≤ a → a < program_end → is_place a ≡ true
 fram_place a even low high =
-    ap (λ b. b && is_fram a) (eq-eqb (a % 2) 0 even) ∙ ap (λ b. b && nat_lt a 0x10000) (le-leb 0x4400 a low) ∙ lt-ltb a 0x10000 high
+    ap (λ b. b && (nat_le fram_first a && nat_lt a program_end)) (eq-eqb (a % 2) 0 even)
+    ∙ ap (λ b. b && nat_lt a program_end) (le-leb fram_first a low) ∙ lt-ltb a program_end high
 
 pub placed : (a : ℕ) (b : Behaviour) → is_place a ≡ true → at_place a b ≡ b
 placed a b e = ap (λ c. if c then b else strays) e

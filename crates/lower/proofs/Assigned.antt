@@ -1,15 +1,11 @@
 -- What statements do with a value: they take it as one word, or a long takes both of its words.
-use Rattle.std.proofs.Common.{◌≡◌, ℕ, zero, suc, ◌/◌, ◌%◌, List, [], ◌∷◌, Option, Some, None, refl, sym, ap, ◌∙◌, slice_set, get_or}
-use Rattle.task_ast.specs.Paths.{CheckedExpression}
-use Rattle.task_ast.specs.declared.WordType.{WordType}
-use Rattle.task_ast.specs.declared.WordType.TheVariants.{Unsigned, Int, Long}
-use Rattle.task_ast.specs.declared.names.Variable.{Variable}
-use Rattle.task_ast.specs.declared.names.Variable.TheVariants.{Shared}
-use Rattle.task_ast.specs.Types.{IsOneWord, type_of, by_width}
-use Rattle.source_values.specs.Values.{Variables, Attempt, Evaluated, with_word, converted, value_of}
-use Rattle.source_values.specs.Statements.{Outcome, if_value, assigned}
-use Rattle.source_values.proofs.Interface.{IsBehind}
-use Rattle.lower.specs.Agreement.{converted_to}
+use Rattle.lower.proofs.Names.{◌≡◌, ℕ, zero, suc, ◌/◌, ◌%◌, List, [], ◌∷◌, Option, Some, None, refl, sym, ap, ◌∙◌, slice_set, CheckedExpression, WordType}
+use Rattle.lower.proofs.Names.{Unsigned, Int, Long, Variable, Shared, IsOneWord, Variables, Evaluated, with_word, converted, value_of, Outcome, if_value}
+use Rattle.lower.proofs.Names.{converted_to}
+use Rattle.std.proofs.Common.{get_or}
+use Rattle.task_ast.specs.Types.{type_of, by_width}
+use Rattle.source_values.specs.Values.{Attempt}
+use Rattle.source_values.specs.Statements.{assigned}
 
 -- the value of an expression as one word
 abbrev pub word_value : CheckedExpression → Attempt → Option Evaluated
@@ -18,19 +14,14 @@ word_value e m = converted_to (type_of e) Unsigned (value_of e m)
 -- as an expression of one word has it
 same_word : (of : WordType) → IsOneWord of → (o : Option Evaluated) → converted_to of Unsigned o ≡ o
 same_word Long k o = absurd k
-same_word Int k None = refl
+same_word of k None = refl
 same_word Int k (Some x) = refl
-same_word Unsigned k None = refl
 same_word Unsigned k (Some x) = refl
 
 pub word_as_value : (e : CheckedExpression) (m : Attempt) → IsOneWord (type_of e) → word_value e m ≡ value_of e m
 word_as_value e m k = same_word (type_of e) k (value_of e m)
 
 -- ---- what goes on with a value
-
--- an attempt behind one that is behind another
-pub both_behind : {m s u : Attempt} → IsBehind m s → IsBehind s u → IsBehind m u
-both_behind is then = record { variables = then.variables ∙ is.variables; emitted = then.emitted ∙ is.emitted }
 
 -- alike with each value
 pub if_same : (o : Option Evaluated) (f g : ℕ → Attempt → Outcome) → ((v : ℕ) (s : Attempt) → f v s ≡ g v s) → if_value o f ≡ if_value o g
@@ -56,10 +47,8 @@ assigned_as of s x from w = by_width of (assigned s x 0 (converted from of w)) (
 -- each type of one word takes the same word
 pub same_conversion : (from to : WordType) (w : ℕ) → IsOneWord to → converted from Unsigned w ≡ converted from to w
 same_conversion from Long w k = absurd k
-same_conversion Long Int w k = refl
-same_conversion Long Unsigned w k = refl
-same_conversion Int Int w k = refl
-same_conversion Int Unsigned w k = refl
+same_conversion Long to w k = refl
+same_conversion Int to w k = refl
 same_conversion Unsigned to w k = refl
 
 -- what changes a row twice

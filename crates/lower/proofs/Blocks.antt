@@ -1,110 +1,109 @@
 -- The program of statements does what they do.
-use Rattle.std.proofs.Common.{◌≡◌, ℕ, zero, suc, ◌+◌, ◌-◌, ◌*◌, ◌/◌, ◌%◌, ◌<◌, ◌≤◌, List, [], ◌∷◌, ◌++◌, length, Option, Some, None, Bool, true, false, refl}
-use Rattle.std.proofs.Common.{sym, ap, ◌∙◌, subst, arith, if◌then◌else◌, le_refl, ⊎_elim}
+use Rattle.lower.proofs.Names.{◌≡◌, ℕ, zero, suc, ◌+◌, ◌-◌, ◌*◌, ◌/◌, ◌%◌, ◌<◌, ◌≤◌, List, [], ◌∷◌, ◌++◌, length, Option, Some, None, Bool, true, false, refl}
+use Rattle.lower.proofs.Names.{sym, ap, ◌∙◌, subst, arith, if◌then◌else◌, le_refl, ⊎_elim, cases_lt, Store, put, CheckedExpression, CheckedStatement}
+use Rattle.lower.proofs.Names.{CheckedChoice, CheckedBlock, PlacedOperator, Variable, Shared, Local, CheckedTask, Evaluated, word_at, with_word, converted}
+use Rattle.lower.proofs.Names.{value_of, holds, Outcome, to_task, if_value, with_value, run_statement, run_choice, run_block, statement_emits, choice_emits}
+use Rattle.lower.proofs.Names.{block_emits, statement_count, choice_count, block_count, is_shared, is_store_to, more_turns, IsOneWord, WordType}
+use Rattle.lower.proofs.Names.{Unsigned, Int, Long, runs_go_on_along_paths, PlainOperation, plain_word, stacked, Program, keep, emit_word, versioned_write}
+use Rattle.lower.proofs.Names.{versioned_update, choose, repeat, nothing, joined, WordState, Behaviour, then_on, local_updated, is_place, at_place, stored}
+use Rattle.lower.proofs.Names.{with_local, word_emitted, pushed, way_by_top, tested, behaviour, with_stack, step_behaviour, joined_go_on, joined_assoc}
+use Rattle.lower.proofs.Names.{decided_by_truth, update_step, write_long, setting, long_setting, updating, of_words, sides_set, scalar_assignment}
+use Rattle.lower.proofs.Names.{lowered_long, one, write_step, written_array, list_place, store_step, update_element_step, loop_local, assignment}
+use Rattle.lower.proofs.Names.{index_and_value, element_setting, element_updating, element_sides_set, element_assignment, lowered_transition}
+use Rattle.lower.proofs.Names.{lowered_expression, lowered_test, lowered_statement, lowered_choice, lowered_block, lowered_task, lowered_tasks, high_address}
+use Rattle.lower.proofs.Names.{listed_of, IsLocal, WellFormedExpression, WellFormedStatement, WellFormedChoice, WellFormedBlock, local_word}
+use Rattle.lower.proofs.Names.{assignment_writes, store_writes, loop_writes, taken_writes, passed_writes, first_writes, others_write, statement_sum}
+use Rattle.lower.proofs.Names.{choice_sum, block_sum, summary, IsWrittenArray, StandsFor, Scene, at_variable, at_emit_count, in_buffer, converted_to}
+use Rattle.lower.proofs.Names.{truth_of, AgreesAt, BlocksAgree, MemoryMap, TaskPlace, word_place, ListLength, EmitCount, Version, VariablePlace, word_even}
+use Rattle.lower.proofs.Names.{first_word, privates_few, address_of, scalar_address, IsScalarWord, scalar, Inputs}
 use Rattle.std.specs.Prelude.{slice_get, get_or}
-use Rattle.std.proofs.lemmas.Bool.{cases_lt}
-use Rattle.fram_board.specs.Effects.{Store}
-use Rattle.machine_effects.specs.World.{put}
-use Rattle.task_ast.specs.Tree as t
-use Rattle.task_ast.specs.Paths.{CheckedExpression, CheckedStatement, CheckedChoice, CheckedBlock}
-use Rattle.task_ast.specs.declared.PlacedOperator.{PlacedOperator}
-use Rattle.task_ast.specs.declared.names.Variable.{Variable}
-use Rattle.task_ast.specs.declared.names.Variable.TheVariants.{Shared, Local}
-use Rattle.cost_bound.specs.Allowance.{CheckedTask}
-use Rattle.source_values.specs.Values.{Attempt, Evaluated, evaluated, made_of, truth_word, word_at, with_word, converted, value_of, holds}
-use Rattle.source_values.specs.Statements as source
-use Rattle.source_values.specs.Statements.{Outcome, goes_on, to_task, if_value, with_value, run_statement, run_choice, run_block, statement_emits, choice_emits}
-use Rattle.source_values.specs.Statements.{block_emits}
-use Rattle.cost_bound.specs.Counts.{statement_count, choice_count, block_count, is_shared, is_store_to, stores_of}
-use Rattle.source_values.proofs.Interface.{IsBehind, made_behind, more_turns}
-use Rattle.task_ast.specs.Types.{IsOneWord, type_of, joined_type}
-use Rattle.task_ast.specs.declared.WordType.{WordType}
-use Rattle.task_ast.specs.declared.WordType.TheVariants.{Unsigned, Int, Long}
-use Rattle.task_ast.proofs.Interface as one_word
-use Rattle.path_runs.proofs.Interface.{runs_go_on_along_paths}
-use Rattle.array_versions.specs.declared.operations.PlainOperation.{PlainOperation}
-use Rattle.array_versions.specs.Operations.{plain_word}
-use Rattle.array_versions.specs.Program.{Program, keep, emit_word, versioned_write, versioned_update, choose, repeat, nothing, step, joined}
-use Rattle.array_versions.specs.Behaviour as words
-use Rattle.array_versions.specs.Behaviour.{WordState, Behaviour, behind_effects, then_on, local_updated, is_place, at_place, stored, with_local, word_emitted}
-use Rattle.array_versions.specs.Behaviour.{with_readings, pushed, way_by_top, tested, behaviour}
-use Rattle.array_versions.proofs.Interface.{joined_go_on, joined_assoc, decided_by_truth}
-use Rattle.lower.specs.Lowered.{update_step, write_long, setting, long_setting, updating, of_words, sides_set, scalar_assignment, lowering, lowered_long, one}
-use Rattle.lower.specs.Lowered.{write_step, written_array, list_place, store_step, update_element_step, loop_local, assignment, index_and_value}
-use Rattle.lower.specs.Lowered.{element_setting, element_updating, element_sides_set, element_assignment, lowered_transition, lowered_expression, lowered_test}
-use Rattle.lower.specs.Lowered.{lowered_statement, lowered_choice, lowered_block, lowered_task, lowered_tasks}
-use Rattle.lower.specs.Spots.{listed_of}
-use Rattle.checked_trees.specs.WellFormed.{IsLocal, WellFormedExpression, WellFormedStatement, WellFormedChoice, WellFormedBlock}
-use Rattle.checked_trees.proofs.Interface.{local_word, assignment_writes, store_writes, loop_writes, taken_writes, passed_writes, first_writes, others_write}
-use Rattle.path_sums.specs.Sums.{statement_sum, choice_sum, block_sum}
-use Rattle.path_sums.specs.Access.{summary}
+use Rattle.source_values.specs.Values.{Attempt}
+use Rattle.source_values.specs.Statements.{goes_on}
+use Rattle.task_ast.specs.Types.{type_of, joined_type}
 use Rattle.lower.proofs.Declared.{IsTarget, IsLongTarget, IsTargetOf, local_target, target_of, array_target}
-use Rattle.lower.specs.Agreement.{HoldVariables, HoldEmits, IsWrittenArray, StandsFor, Scene}
-use Rattle.lower.specs.Agreement.{at_variable, at_emit_count, in_buffer, valued, long_valued, in_state, converted_to, truth_of, AgreesAt}
-use Rattle.lower.specs.Agreement.{AgreesWithValue, AgreesWithLong, BlocksAgree}
 use Rattle.lower.proofs.Addresses.{fram_place, placed, spot_place, first_address}
 use Rattle.lower.proofs.Updates.{is_update, update_goes_on, is_element_update, element_update_goes_on, is_of_words, joined_words}
-use Rattle.lower.proofs.Assigned.{both_behind, word_value, word_as_value, if_same, if_converted, both_assigned, assigned_as, same_conversion, words_commute}
-use Rattle.lower.proofs.Values.{small_modulo, holds_bit, truth_pushed}
-use Rattle.lower.proofs.Longs.{test_agrees}
-use Rattle.lower.proofs.EachExpression.{high_is, lowering_agrees, expressions_agree, longs_agree}
+use Rattle.cost_bound.specs.Counts.{stores_of}
+use Rattle.lower.proofs.Assigned.{word_value, word_as_value, if_same, if_converted, both_assigned, assigned_as, same_conversion, words_commute}
+use Rattle.lower.proofs.Values.{small_modulo, holds_bit, truth_pushed, Keeping, Keeps, Leaves, single}
+use Rattle.lower.proofs.EachExpression.{high_is, expression_leaves, long_leaves, test_leaves}
 use Rattle.lower.proofs.Emitted.{EmitsAtMost, statement_emitted, block_emitted}
-use Rattle.lower.proofs.Stored.{same_variables, same_list, same_emits, spot_list, spot_emits, scalar_set, local_holds, after_emit, emit_spots, first_held}
-use Rattle.lower.proofs.Stored.{emit_list, emitted_emits, few_entries}
+use Rattle.lower.proofs.Stored.{same_variables, same_list, spot_list, scalar_set, local_holds, after_emit, emit_spots, first_held, emit_list, emitted_emits}
+use Rattle.lower.proofs.Stored.{few_entries}
 use Rattle.lower.proofs.Neighbours.{runs_are_few}
 use Rattle.lower.proofs.Transitions.{transition_behaves}
-use Rattle.lower.proofs.Ends.{Does, does_then, does_alone, does_at}
-use Rattle.lower.proofs.Elements.{Start, DoesFrom, few_listed, list_fits, few_emitted, store_does, element_update_does}
-use Rattle.memory_map.specs.MemoryMap.{MemoryMap, TaskPlace, word_place}
-use Rattle.memory_map.specs.declared.words.RuntimeWord.TheVariants.{ListLength, EmitCount}
-use Rattle.memory_map.specs.declared.place.VariablePlace.{VariablePlace}
-use Rattle.memory_map.proofs.Interface.{word_even, first_word, privates_few}
-use Rattle.memory_map.specs.Spots.{address_of, scalar_address, IsScalarWord, scalar}
+use Rattle.lower.proofs.Ends.{Does, does_then, does_alone, does_at, ends_behind}
+use Rattle.lower.proofs.Elements.{Start, DoesFrom, few_listed, list_fits, store_does, element_update_does, spot_stands}
+use Rattle.task_ast.specs.Tree as t
+use Rattle.source_values.specs.Statements as source
+use Rattle.task_ast.proofs.Interface as one_word
+use Rattle.array_versions.specs.Behaviour as words
 
 module _ (z : Scene) where
   -- ---- steps that take a value, where statements begin
 
-  -- a word of a shared scalar is set
+  -- nothing is done
+  nothing_does : {n : ℕ} {count : ℕ → ℕ} (here : Start z n count) → DoesFrom here (words.goes_on [] here.w) (goes_on here.m)
+  nothing_does here = record { stores = tt; stack_kept = refl; listed = here.listed; stands = here.stands; few = few_listed here }
+
+  -- where a word of a shared scalar is set
+  word_stands : (i j : ℕ) {n : ℕ} {count : ℕ → ℕ} (here : Start z n count) (v : ℕ) → IsScalarWord z.p i j
+      → StandsFor z.p (source.assigned here.m (Shared i) j v) here.listed (stored (scalar_address z.p i j) v here.w)
+  word_stands i j here v is = spot_stands here (scalar i j) v (with_word here.m.variables (Shared i) j v) is (λ x e. cc)
+      (scalar_set z.p z.room i j v here.m.variables here.w.fram here.w.locals z.apart is here.stands.variables)
+
+  word_number : (i j : ℕ) {n : ℕ} {count : ℕ → ℕ} (here : Start z n count) (v : ℕ) → IsScalarWord z.p i j
+      → put here.w.fram (scalar_address z.p i j) v (word_place z.p.map Version) ≡ z.ver
+  word_number i j here v is = (spot_list z.p z.room (scalar i j) v here.w.fram z.apart is (λ x e. cc)).version ∙ here.number
+
+  abbrev word_set : (i j : ℕ) {n : ℕ} {count : ℕ → ℕ} (here : Start z n count) (v : ℕ) → IsScalarWord z.p i j → Start z n count
+  word_set i j here v is = record {
+    m = source.assigned here.m (Shared i) j v;
+    listed = here.listed;
+    w = stored (scalar_address z.p i j) v here.w;
+    most = here.most;
+    stands = word_stands i j here v is;
+    number = word_number i j here v is;
+    emits = here.emits;
+    lists = here.lists;
+    within = here.within;
+  }
+
+  -- a word of a shared scalar is set, and what is done behind that with the stack below
+  word_kept_then : (i j a : ℕ) {n : ℕ} {count : ℕ → ℕ} (here : Start z n count) (v : ℕ) (below : List ℕ) (next : WordState → Behaviour) (o : Outcome)
+      → a ≡ scalar_address z.p i j → (is : IsScalarWord z.p i j) → z.written i ≡ true
+      → DoesFrom (word_set i j here v is) (next (with_stack below (stored (scalar_address z.p i j) v here.w))) o
+      → DoesFrom here (then_on (step_behaviour (keep a) (with_stack (v ∷ below) here.w)) next) o
+  word_kept_then i j a here v below next o e is ok h =
+      let at = scalar_address z.p i j in
+      let u : WordState = with_stack below (stored at v here.w) in
+      let b = next u in
+      subst (λ c. DoesFrom here (then_on (step_behaviour (keep c) (with_stack (v ∷ below) here.w)) next) o) (sym e)
+      (subst (λ r. DoesFrom here (then_on r next) o)
+      (sym (placed at (words.goes_on (Store at v ∷ []) u) (spot_place z.p z.room (scalar i j) z.apart z.even is)))
+      (ends_behind z here.w.fram u.fram here.most here.w.stack (Store at v ∷ []) b.effects b.end o refl (at_variable i j is ok refl, tt) h))
+
   word_kept_does : (i j a : ℕ) {n : ℕ} {count : ℕ → ℕ} (here : Start z n count) (v : ℕ)
       → a ≡ scalar_address z.p i j → IsScalarWord z.p i j → z.written i ≡ true
       → DoesFrom here (behaviour (one (keep a)) (pushed v here.w)) (goes_on (source.assigned here.m (Shared i) j v))
   word_kept_does i j a here v e is ok =
-      let p = z.p in
-      let f = here.w.fram in
-      let at = scalar_address p i j in
-      let o : Outcome = goes_on (source.assigned here.m (Shared i) j v) in
-      let Kept : ℕ → Type 0 = λ b. Does z f here.most here.w.stack (behaviour (one (keep b)) (pushed v here.w)) o in
-      let P : Behaviour → Type 0 = λ b. Does z f here.most here.w.stack (then_on b (behaviour nothing)) o in
-      let fits = list_fits here in
-      subst Kept (sym e)
-      (subst P (sym (placed at (words.goes_on (Store at v ∷ []) (stored at v here.w)) (spot_place p z.room (scalar i j) z.apart z.even is))) (record {
-        stores = (at_variable i j is ok refl, tt);
-        stack_kept = refl;
-        listed = here.listed;
-        stands = record {
-          variables = scalar_set p z.room i j v here.m.variables f here.w.locals z.apart is here.stands.variables;
-          emitted = same_emits p z.room here.m.emitted f _ (few_emitted here)
-              (spot_emits p z.room (scalar i j) v f z.apart is) here.stands.emitted;
-          list = same_list p z.room here.listed f _ (omega (arith, fits)) (spot_list p z.room (scalar i j) v f z.apart is (λ x e. cc)) here.stands.list;
-          readings = here.stands.readings;
-        };
-        few = few_listed here;
-      }))
+      let after = word_set i j here v is in
+      word_kept_then i j a here v here.w.stack (behaviour nothing) (goes_on after.m) e is ok (nothing_does after)
+
+  -- a local is set, and what is known else stays
+  local_stands : {n : ℕ} {count : ℕ → ℕ} (i k : ℕ) → i < 256 → (here : Start z n count)
+      → StandsFor z.p (source.assigned here.m (Local i) 0 k) here.listed (with_local (i % 65536) k here.w)
+  local_stands i k low here = record {
+    variables = local_holds z.p i k here.m.variables here.w.fram here.w.locals low here.stands.variables;
+    emitted = here.stands.emitted;
+    list = here.stands.list;
+    readings = here.stands.readings;
+  }
 
   write_does : (x : Variable) {n : ℕ} {count : ℕ → ℕ} (here : Start z n count) (v : ℕ) → IsTarget z.p z.written x
       → DoesFrom here (behaviour (one (write_step z.p x)) (pushed v here.w)) (goes_on (source.assigned here.m x 0 v))
-  write_does (Local i) here v k = record {
-    stores = tt;
-    stack_kept = refl;
-    listed = here.listed;
-    stands = record {
-      variables = local_holds z.p i v here.m.variables here.w.fram here.w.locals k here.stands.variables;
-      emitted = here.stands.emitted;
-      list = here.stands.list;
-      readings = here.stands.readings;
-    };
-    few = few_listed here;
-  }
+  write_does (Local i) here v k =
+      record { stores = tt; stack_kept = refl; listed = here.listed; stands = local_stands i v k here; few = few_listed here }
   write_does (Shared i) here v k =
       word_kept_does i 0 (address_of z.p i) here v (sym (first_address z.p i)) (first_word z.p i k.0) k.1
 
@@ -137,42 +136,16 @@ module _ (z : Scene) where
       → DoesFrom here (behaviour (write_long z.p x) (pushed (v / 65536) (pushed (v % 65536) here.w))) (goes_on (both_assigned here.m x v))
   write_long_does (Local i) here v k = absurd k
   write_long_does (Shared i) here v k =
-      let p = z.p in
-      let f = here.w.fram in
-      let first : IsScalarWord p i 0 = let is = k.0 in omega (arith, is) in
-      let a = scalar_address p i 0 in
-      let b = scalar_address p i 1 in
+      let first : IsScalarWord z.p i 0 = let is = k.0 in omega (arith, is) in
+      let a = address_of z.p i in
       let low = v % 65536 in
       let high = v / 65536 in
-      let once = put f b high in
-      let u : WordState = pushed low here.w in
-      let t : WordState = record here.w { fram = once } in
-      let o : Outcome = goes_on (both_assigned here.m (Shared i) v) in
-      let Kept : ℕ → ℕ → Type 0 = λ c d. Does z f here.most here.w.stack (behaviour (step (keep c) (one (keep d))) (pushed high u)) o in
-      let P : Behaviour → Type 0 = λ c. Does z f here.most here.w.stack (then_on c (behaviour (one (keep a)))) o in
-      let Q : Behaviour → Type 0 = λ c. Does z f here.most here.w.stack (behind_effects (Store b high ∷ []) (then_on c (behaviour nothing))) o in
-      let kept_high = placed b (words.goes_on (Store b high ∷ []) (stored b high u)) (spot_place p z.room (scalar i 1) z.apart z.even k.0) in
-      let kept_low = placed a (words.goes_on (Store a low ∷ []) (stored a low t)) (spot_place p z.room (scalar i 0) z.apart z.even first) in
-      let fits = list_fits here in
-      let few = few_emitted here in
-      let room : length here.listed ≤ z.room.list = omega (arith, fits) in
-      let variables = scalar_set p z.room i 1 high here.m.variables f here.w.locals z.apart k.0 here.stands.variables in
-      let emitted = same_emits p z.room here.m.emitted f once few (spot_emits p z.room (scalar i 1) high f z.apart k.0) here.stands.emitted in
-      let list = same_list p z.room here.listed f once room (spot_list p z.room (scalar i 1) high f z.apart k.0 (λ x e. cc)) here.stands.list in
-      subst (λ c. Kept c (address_of p i)) (sym (high_is p z.room i z.apart k.0)) (subst (Kept b) (first_address p i)
-      (subst P (sym kept_high) (subst Q (sym kept_low) (record {
-        stores = (at_variable i 1 k.0 k.1 refl, (at_variable i 0 first k.1 refl, tt));
-        stack_kept = refl;
-        listed = here.listed;
-        stands = record {
-          variables = subst (λ x. HoldVariables p x (put once a low) here.w.locals) (words_commute here.m.variables i high low)
-              (scalar_set p z.room i 0 low (with_word here.m.variables (Shared i) 1 high) once here.w.locals z.apart first variables);
-          emitted = same_emits p z.room here.m.emitted once _ few (spot_emits p z.room (scalar i 0) low once z.apart first) emitted;
-          list = same_list p z.room here.listed once _ room (spot_list p z.room (scalar i 0) low once z.apart first (λ x e. cc)) list;
-          readings = here.stands.readings;
-        };
-        few = few_listed here;
-      }))))
+      let behind = word_set i 1 here high k.0 in
+      let last = goes_on (source.assigned behind.m (Shared i) 0 low) in
+      subst (λ x. DoesFrom here (behaviour (write_long z.p (Shared i)) (pushed high (pushed low here.w))) (goes_on (record here.m { variables = x })))
+      (words_commute here.m.variables i high low)
+      (word_kept_then i 1 (high_address a) here high (low ∷ here.w.stack) (behaviour (one (keep a))) last (high_is z.p z.room i z.apart k.0) k.0 k.1
+      (word_kept_does i 0 a behind low (sym (first_address z.p i)) first k.1))
 
   -- so many stores to the elements of one variable
   abbrev one_store : Variable → ℕ → ℕ
@@ -245,44 +218,74 @@ module _ (z : Scene) where
 
   -- ---- behind a value
 
-  -- the variables and the emitted words are as they were, and the readings left are those of the attempt behind the value
-  abbrev behind_value : {n : ℕ} {count : ℕ → ℕ} (here : Start z n count) (u : Attempt) → IsBehind here.m u → Start z n count
-  behind_value {n} here u is = record {
-    m = u;
-    listed = here.listed;
-    w = with_readings u.left here.w;
-    most = here.most;
-    stands = record {
-      variables = subst (λ v. HoldVariables z.p v here.w.fram here.w.locals) (sym is.variables) here.stands.variables;
-      emitted = subst (λ es. HoldEmits z.p es here.w.fram) (sym is.emitted) here.stands.emitted;
-      list = here.stands.list;
-      readings = refl;
+  -- what stands while an expression is evaluated: the state stands for the attempt behind what is evaluated, FRAM and the emitted words are as
+  -- they were
+  record IsStill {n : ℕ} {count : ℕ → ℕ} (here : Start z n count) (m : Attempt) (w : WordState) : Type 0 where
+    stands : StandsFor z.p m here.listed w
+    fram : w.fram ≡ here.w.fram
+    emitted : m.emitted ≡ here.m.emitted
+
+  -- the state with the stack that there was
+  abbrev beside_stack : {n : ℕ} {count : ℕ → ℕ} → Start z n count → (ℕ → ℕ) → (ℕ → Option ℕ) → Inputs → WordState
+  beside_stack here f l i = record { stack = here.w.stack; locals = l; fram = f; inputs = i }
+
+  abbrev keeping : {n : ℕ} {count : ℕ → ℕ} → Start z n count → Keeping
+  keeping here = record {
+    shared = z.shared;
+    p = z.p;
+    room = z.room;
+    apart = z.apart;
+    even = z.even;
+    declared = z.declared;
+    Holds = λ m f l i. IsStill here m (beside_stack here f l i);
+    variables = λ m f l i h. h.stands.variables;
+    readings = λ m f l i h. h.stands.readings;
+    taken = λ m f l i rs h. record {
+      stands = record { variables = h.stands.variables; emitted = h.stands.emitted; list = h.stands.list; readings = refl };
+      fram = h.fram;
+      emitted = h.emitted;
     };
-    number = here.number;
-    emits = subst (λ es. length {A = ℕ} es + n ≤ z.room.emits) (sym is.emitted) here.emits;
+  }
+
+  at_first : {n : ℕ} {count : ℕ → ℕ} (here : Start z n count) → Keeps (keeping here) here.m here.w
+  at_first here = record { stands = here.stands; fram = refl; emitted = refl }
+
+  -- a state behind a value, the value taken from the stack
+  record Behind {n : ℕ} {count : ℕ → ℕ} (here : Start z n count) : Type 0 where
+    m : Attempt
+    w : WordState
+    still : IsStill here m (with_stack here.w.stack w)
+
+  abbrev behind_value : {n : ℕ} {count : ℕ → ℕ} (here : Start z n count) → Behind here → Start z n count
+  behind_value {n} here there = record {
+    m = there.m;
+    listed = here.listed;
+    w = with_stack here.w.stack there.w;
+    most = here.most;
+    stands = there.still.stands;
+    number = ap (λ f. f (word_place z.p.map Version)) there.still.fram ∙ here.number;
+    emits = subst (λ es. length {A = ℕ} es + n ≤ z.room.emits) (sym there.still.emitted) here.emits;
     lists = here.lists;
     within = here.within;
   }
 
-  -- a program that leaves what is made of the value of an expression, and what goes on from there
-  made_does : (f : ℕ → ℕ) (e : CheckedExpression) {n : ℕ} {count : ℕ → ℕ} (here : Start z n count) (there : Evaluated → WordState) (b : Behaviour)
-      (next : WordState → Behaviour) (more : ℕ → Attempt → Outcome) → AgreesAt there b (made_of f (value_of e here.m))
-      → ((v : ℕ) (u : Attempt) → IsBehind here.m u → DoesFrom here (next (there (evaluated v u))) (more v u))
-      → DoesFrom here (then_on b next) (if_value (made_of f (value_of e here.m)) more)
-  made_does f e here there b next more agrees k =
-      does_at z here.most here.w.stack here.w there b (made_of f (value_of e here.m)) next more agrees
-      (λ x is. k x.value x.behind (made_behind f e here.m x is))
-
-  value_agrees : (e : CheckedExpression) {n : ℕ} {count : ℕ → ℕ} (here : Start z n count) → WellFormedExpression z.shared e
-      → AgreesWithValue here.w (behaviour (lowered_expression z.p e) here.w) (word_value e here.m)
-  value_agrees e here fits =
-      let P : List ℕ → Type 0 = λ l. AgreesWithValue here.w (behaviour (lowered_expression z.p e) here.w) (word_value e (record here.m { left = l })) in
-      subst P here.stands.readings (expressions_agree z.shared z.p z.room e here.m here.w z.apart z.even z.declared fits here.stands.variables)
+  -- a program that leaves words of a value on top of these, and what goes on from there
+  value_does : {n : ℕ} {count : ℕ → ℕ} (here : Start z n count) (words : ℕ → List ℕ) (below : List ℕ) (b : Behaviour) (o : Option Evaluated)
+      (next : WordState → Behaviour) (more : ℕ → Attempt → Outcome) → AgreesAt (Leaves (keeping here) words below) b o
+      → ((v : ℕ) (there : Behind here) → DoesFrom (behind_value here there) (next (with_stack (words v ++ below) there.w)) (more v there.m))
+      → DoesFrom here (then_on b next) (if_value o more)
+  value_does here words below b o next more agrees k =
+      does_at z here.most here.w.stack here.w (Leaves (keeping here) words below) b o next more agrees
+      (λ x s there. (
+        there.kept.fram,
+        subst (λ l. Does z s.fram here.most here.w.stack (next (with_stack l s)) (more x.value x.behind)) (sym there.stack)
+            (k x.value (record { m = x.behind; w = s; still = there.kept })),
+      ))
 
   -- what a program does with a word on the stack, behind a value
   abbrev DoesWith : {n : ℕ} {count : ℕ → ℕ} → Start z n count → Program → (ℕ → Attempt → Outcome) → Type 0
   DoesWith here last more =
-      (v : ℕ) (u : Attempt) → IsBehind here.m u → DoesFrom here (behaviour last (pushed v (with_readings u.left here.w))) (more v u)
+      (v : ℕ) (there : Behind here) → DoesFrom (behind_value here there) (behaviour last (with_stack (v ∷ here.w.stack) there.w)) (more v there.m)
 
   -- the value of an expression as one word, and a program that takes it
   value_taken : (e : CheckedExpression) {n : ℕ} {count : ℕ → ℕ} (here : Start z n count) (last : Program) (more : ℕ → Attempt → Outcome)
@@ -291,7 +294,8 @@ module _ (z : Scene) where
   value_taken e here last more fits k =
       let q = lowered_expression z.p e in
       subst (λ b. DoesFrom here b (if_value (word_value e here.m) more)) (sym (joined_go_on q last here.w))
-      (made_does (converted (type_of e) Unsigned) e here (valued here.w) (behaviour q here.w) (behaviour last) more (value_agrees e here fits) k)
+      (value_does here single here.w.stack (behaviour q here.w) (word_value e here.m) (behaviour last) more
+      (expression_leaves (keeping here) e here.m here.w (at_first here) fits) k)
 
   -- ---- assignments
 
@@ -304,7 +308,7 @@ module _ (z : Scene) where
       → Sets x e here (setting z.p x e)
   setting_does x e here fits target =
       value_taken e here (one (write_step z.p x)) (λ v s. goes_on (source.assigned s x 0 v)) fits
-      (λ v u is. write_does x (behind_value here u is) v target)
+      (λ v there. write_does x (behind_value here there) v target)
 
   -- in place, where both sides are of one word
   sides_do : (x : Variable) (op : PlacedOperator) (a b : CheckedExpression) (o : Option PlainOperation) {n : ℕ} {count : ℕ → ℕ} (here : Start z n count)
@@ -322,7 +326,7 @@ module _ (z : Scene) where
       ∙ update_goes_on x op a b o here.m (is_update x op.operator a o word.is) types.0 types.1
       ∙ sym (ap (λ r. if_value r next) (word_as_value b here.m types.1)) in
       subst (DoesFrom here (behaviour (sides_set z.p x op a b (Some o)) here.w)) (sym same)
-      (value_taken b here (one (update_step z.p o x)) next fits.1 (λ v u is. update_does o x (behind_value here u is) v target))
+      (value_taken b here (one (update_step z.p o x)) next fits.1 (λ v there. update_does o x (behind_value here there) v target))
 
   -- by the kind of the expression: the first clause makes it a proof by cases
   assignment_does : (x : Variable) (e : CheckedExpression) {n : ℕ} {count : ℕ → ℕ} (here : Start z n count)
@@ -337,14 +341,13 @@ module _ (z : Scene) where
       → DoesFrom here (behaviour (long_setting z.p x e) here.w)
       (if_value (converted_to (type_of e) Long (value_of e here.m)) (λ v s. goes_on (both_assigned s x v)))
   long_setting_does x e here fits target =
-      let value : List ℕ → Option Evaluated = λ l. converted_to (type_of e) Long (value_of e (record here.m { left = l })) in
+      let o = converted_to (type_of e) Long (value_of e here.m) in
       let given : ℕ → Attempt → Outcome = λ v s. goes_on (both_assigned s x v) in
       let q = lowered_long z.p e in
-      let agrees = subst (λ l. AgreesWithLong here.w (behaviour q here.w) (value l)) here.stands.readings
-      (longs_agree z.shared z.p z.room e here.m here.w z.apart z.even z.declared fits here.stands.variables) in
-      subst (λ b. DoesFrom here b (if_value (value here.m.left) given)) (sym (joined_go_on q (write_long z.p x) here.w))
-      (made_does (converted (type_of e) Long) e here (long_valued here.w) (behaviour q here.w) (behaviour (write_long z.p x)) given agrees
-      (λ v u is. write_long_does x (behind_value here u is) v target))
+      subst (λ b. DoesFrom here b (if_value o given)) (sym (joined_go_on q (write_long z.p x) here.w))
+      (value_does here stacked here.w.stack (behaviour q here.w) o (behaviour (write_long z.p x)) given
+      (long_leaves (keeping here) e here.m here.w (at_first here) fits)
+      (λ v there. write_long_does x (behind_value here there) v target))
 
   -- a variable of one word takes the value as one word
   word_assigned_does : (of : WordType) (x : Variable) (e : CheckedExpression) {n : ℕ} {count : ℕ → ℕ} (here : Start z n count) → IsOneWord of
@@ -376,25 +379,22 @@ module _ (z : Scene) where
   -- an index and a value, and what a program does with both
   index_and_value_do : (index e : CheckedExpression) (last : Program) (given : ℕ → ℕ → Attempt → Outcome) {n : ℕ} {count : ℕ → ℕ} (here : Start z n count)
       → WellFormedExpression z.shared index → WellFormedExpression z.shared e
-      → ((i v : ℕ) (u : Attempt) → IsBehind here.m u
-      → DoesFrom here (behaviour last (pushed v (pushed i (with_readings u.left here.w)))) (given i v u))
+      → ((i v : ℕ) (there : Behind here)
+      → DoesFrom (behind_value here there) (behaviour last (with_stack (v ∷ (i ∷ here.w.stack)) there.w)) (given i v there.m))
       → DoesFrom here (behaviour (joined (index_and_value z.p index e) last) here.w)
       (if_value (word_value index here.m) (λ i s. if_value (word_value e s) (given i)))
   index_and_value_do index e last given here of_index of_e k =
       let first = lowered_expression z.p index in
       let second = lowered_expression z.p e in
       let more : ℕ → Attempt → Outcome = λ i s. if_value (word_value e s) (given i) in
-      let P : Program → Type 0 = λ q. DoesFrom here (behaviour q here.w) (if_value (word_value index here.m) more) in
-      subst P (sym (joined_assoc first second last))
+      subst (λ q. DoesFrom here (behaviour q here.w) (if_value (word_value index here.m) more)) (sym (joined_assoc first second last))
       (value_taken index here (joined second last) more of_index
-      (λ i s is.
-      let behind = behind_value here s is in
-      let u : WordState = pushed i behind.w in
-      let Q : Behaviour → Type 0 = λ b. DoesFrom here b (more i s) in
-      subst Q (sym (joined_go_on second last u))
-      (does_at z here.most here.w.stack u (valued u) (behaviour second u) (word_value e s) (behaviour last) (given i)
-      (expressions_agree z.shared z.p z.room e s u z.apart z.even z.declared of_e behind.stands.variables)
-      (λ x given. k i x.value x.behind (both_behind is (made_behind (converted (type_of e) Unsigned) e s x given))))))
+      (λ i there.
+      let u : WordState = with_stack (i ∷ here.w.stack) there.w in
+      subst (λ b. DoesFrom (behind_value here there) b (more i there.m)) (sym (joined_go_on second last u))
+      (subst (λ f. Does z f here.most here.w.stack (then_on (behaviour second u) (behaviour last)) (more i there.m)) (sym there.still.fram)
+      (value_does here single u.stack (behaviour second u) (word_value e there.m) (behaviour last) (given i)
+      (expression_leaves (keeping here) e there.m u there.still of_e) (k i)))))
 
   -- an assignment to an element does what the source's does: the index and the value are taken as one word
   abbrev stored_word : Variable → CheckedExpression → ℕ → Attempt → Outcome
@@ -407,7 +407,7 @@ module _ (z : Scene) where
       → WellFormedExpression z.shared index → WellFormedExpression z.shared e → AssignsElement x index e here (element_setting z.p x index e)
   element_setting_does x index e here array of_index of_e =
       index_and_value_do index e (one (store_step z.p x)) (λ i v s. goes_on (source.assigned s x i v)) here of_index of_e
-      (λ i v u is. store_step_does x i v (behind_value here u is) array)
+      (λ i v there. store_step_does x i v (behind_value here there) array)
 
   -- what is given of an index and of a value, as of expressions of one word
   as_values : (index e : CheckedExpression) (m : Attempt) (given : ℕ → ℕ → Attempt → Outcome) → IsOneWord (type_of index) → IsOneWord (type_of e)
@@ -439,7 +439,7 @@ module _ (z : Scene) where
       ∙ sym (as_values index b m next index_word types.1) in
       subst (DoesFrom here (behaviour (element_sides_set z.p x index op a b (Some o)) here.w)) (sym same)
       (index_and_value_do index b (one (update_element_step z.p o x)) next here of_index of_e.1
-      (λ i v u is. update_step_does o x i v (behind_value here u is) array))
+      (λ i v there. update_step_does o x i v (behind_value here there) array))
 
   -- by the kind of the expression: the first clause makes it a proof by cases
   element_does : (x : Variable) (index e : CheckedExpression) (here : Start z 0 (one_store x)) → IsWrittenArray z.p x
@@ -488,16 +488,6 @@ module _ (z : Scene) where
 
   -- ---- loops
 
-  -- a local is set, and what is known else stays
-  with_loop_local : {n : ℕ} {count : ℕ → ℕ} (i k : ℕ) → i < 256 → (here : Start z n count)
-      → StandsFor z.p (source.assigned here.m (Local i) 0 k) here.listed (with_local (i % 65536) k here.w)
-  with_loop_local i k low here = record {
-    variables = local_holds z.p i k here.m.variables here.w.fram here.w.locals low here.stands.variables;
-    emitted = here.stands.emitted;
-    list = here.stands.list;
-    readings = here.stands.readings;
-  }
-
   -- a turn of a loop: what its program does, and that it emits so much at most
   record Turn (q : Program) (run : Attempt → Outcome) (e : ℕ) (c : ℕ → ℕ) : Type 0 where
     does : (here : Start z e c) → DoesFrom here (behaviour q here.w) (run here.m)
@@ -511,7 +501,7 @@ module _ (z : Scene) where
   no_turns : (i : ℕ) (q : Program) (run : Attempt → Outcome) (k : ℕ) (stack : List ℕ) {n : ℕ} {count : ℕ → ℕ} (here : Start z n count) → i < 256
       → here.w.stack ≡ stack → TurnsDo i q run 0 k stack here
   no_turns i q run k stack here low same =
-      record { stores = tt; stack_kept = same; listed = here.listed; stands = with_loop_local i k low here; few = few_listed here }
+      record { stores = tt; stack_kept = same; listed = here.listed; stands = local_stands i k low here; few = few_listed here }
 
   turns_do : (i : ℕ) (q : Program) (run : Attempt → Outcome) (e : ℕ) (c : ℕ → ℕ) → i < 256 → Turn q run e c → (j k : ℕ) (stack : List ℕ)
       (here : Start z (j * e) (λ v. j * c v)) → here.w.stack ≡ stack → TurnsDo i q run j k stack here
@@ -528,7 +518,7 @@ module _ (z : Scene) where
         listed = here.listed;
         w = with_local (i % 65536) k here.w;
         most = once;
-        stands = with_loop_local i k low here;
+        stands = local_stands i k low here;
         number = here.number;
         emits = omega (arith, fits);
         lists = λ v. omega arith;
@@ -586,7 +576,7 @@ module _ (z : Scene) where
 
   -- one way of a choice does what the source runs, from any attempt behind the condition on
   abbrev WayDoes : {n : ℕ} {count : ℕ → ℕ} → Start z n count → Program → (Attempt → Outcome) → Type 0
-  WayDoes here q run = (u : Attempt) → IsBehind here.m u → DoesFrom here (behaviour q (with_readings u.left here.w)) (run u)
+  WayDoes here q run = (there : Behind here) → DoesFrom (behind_value here there) (behaviour q (with_stack here.w.stack there.w)) (run there.m)
 
   -- a choice, where both ways do
   choice_of_ways : (e : CheckedExpression) {n : ℕ} {count : ℕ → ℕ} (here : Start z n count) (taken otherwise : Program) (f g : Attempt → Outcome)
@@ -595,21 +585,16 @@ module _ (z : Scene) where
       (with_value e here.m (λ v s. if holds v then f s else g s))
   choice_of_ways e here taken otherwise f g fits a b =
       let w = here.w in
-      let m = here.m in
       let c = lowered_test z.p e in
-      let o = value_of e m in
+      let o = value_of e here.m in
       let run : ℕ → Attempt → Outcome = λ v s. if holds v then f s else g s in
       let ways = way_by_top (behaviour taken) (behaviour otherwise) in
-      let decided = decided_by_truth c (behaviour taken) (behaviour otherwise) w in
-      let agrees = subst (λ l. AgreesWithValue w (truth_pushed c w) (truth_of (value_of e (record m { left = l })))) here.stands.readings
-      (test_agrees (type_of e) w (lowering z.p e) (value_of e (in_state w m))
-      (lowering_agrees z.shared z.p z.room e m w z.apart z.even z.declared fits here.stands.variables)) in
       does_alone z w.fram here.most w.stack (tested c (behaviour taken) (behaviour otherwise) w) (if_value o run)
-      (subst (λ r. DoesFrom here r (if_value o run)) (sym decided)
+      (subst (λ r. DoesFrom here r (if_value o run)) (sym (decided_by_truth c (behaviour taken) (behaviour otherwise) w))
       (subst (DoesFrom here (then_on (truth_pushed c w) ways)) (by_truth o f g)
-      (made_does truth_word e here (valued w) (truth_pushed c w) ways run agrees (λ v u is.
-      let s : WordState = with_readings u.left w in
-      either_does (holds v) here (behaviour taken s) (behaviour otherwise s) (f u) (g u) (a u is) (b u is)))))
+      (value_does here single w.stack (truth_pushed c w) (truth_of o) ways run (test_leaves (keeping here) e here.m w (at_first here) fits)
+      (λ v there. let s = with_stack w.stack there.w in
+      either_does (holds v) (behind_value here there) (behaviour taken s) (behaviour otherwise s) (f there.m) (g there.m) (a there) (b there)))))
 
   -- for statements that emit and list no more
   abbrev with_fewer : {n : ℕ} {count : ℕ → ℕ} (here : Start z n count) (k : ℕ) (fewer : ℕ → ℕ) → k ≤ n → ((v : ℕ) → fewer v ≤ count v)
@@ -633,10 +618,6 @@ module _ (z : Scene) where
   -- what some path writes, the task writes
   abbrev Writes : (ℕ → Bool) → Type 0
   Writes writes = (v : ℕ) → writes v ≡ true → z.written v ≡ true
-
-  -- nothing is done
-  nothing_does : {n : ℕ} {count : ℕ → ℕ} (here : Start z n count) → DoesFrom here (words.goes_on [] here.w) (goes_on here.m)
-  nothing_does here = record { stores = tt; stack_kept = refl; listed = here.listed; stands = here.stands; few = few_listed here }
 
   mutual
     statement_does : (s : CheckedStatement) (here : Start z (statement_emits s) (λ v. statement_count (is_store_to v) s)) → WellFormedStatement z.shared s
@@ -663,7 +644,7 @@ module _ (z : Scene) where
         let last = one (emit_word (word_place z.p.map EmitCount) z.p.map.emits.address) in
         let given : ℕ → Attempt → Outcome = λ v s. goes_on (record s { emitted = s.emitted ++ v ∷ [] }) in
         subst (DoesFrom here (behaviour (joined (lowered_expression z.p e) last) here.w)) (if_converted (type_of e) Unsigned (value_of e here.m) given)
-        (value_taken e here last given fits.0 (λ v u is. emit_does (behind_value here u is) v))
+        (value_taken e here last given fits.0 (λ v there. emit_does (behind_value here there) v))
     statement_does (t.transition task) here fits writes = transition_does task.task here
 
     choice_does : (c : CheckedChoice) (here : Start z (choice_emits c) (λ v. choice_count (is_store_to v) c)) → WellFormedChoice z.shared c
@@ -673,11 +654,11 @@ module _ (z : Scene) where
     choice_does (t.otherwise block) here fits writes = block_does block here fits writes
     choice_does (t.test e block more) here fits writes =
         choice_of_ways e here (lowered_block z.p block) (lowered_choice z.p more) (run_block block) (run_choice more) fits.0
-        (λ u is. block_does block
-        (with_fewer (behind_value here u is) (block_emits block) (λ v. block_count (is_store_to v) block) (omega arith) (λ v. omega arith)) fits.1
+        (λ there. block_does block
+        (with_fewer (behind_value here there) (block_emits block) (λ v. block_count (is_store_to v) block) (omega arith) (λ v. omega arith)) fits.1
         (λ v k. writes v (taken_writes v e block more k)))
-        (λ u is. choice_does more
-        (with_fewer (behind_value here u is) (choice_emits more) (λ v. choice_count (is_store_to v) more) (omega arith) (λ v. omega arith)) fits.2
+        (λ there. choice_does more
+        (with_fewer (behind_value here there) (choice_emits more) (λ v. choice_count (is_store_to v) more) (omega arith) (λ v. omega arith)) fits.2
         (λ v k. writes v (passed_writes v e block more k)))
 
     block_does : (b : CheckedBlock) (here : Start z (block_emits b) (λ v. block_count (is_store_to v) b)) → WellFormedBlock z.shared b

@@ -1,20 +1,9 @@
 -- Programs one behind another, and those of lists from one item on.
-use Rattle.std.proofs.Common.{◌≡◌, ℕ, suc, ◌+◌, ◌<◌, ◌≤◌, List, [], ◌∷◌, ◌++◌, length, get_or, drop, true, false, refl, sym, ap, ◌∙◌, drop-cons, add-one}
-use Rattle.std.proofs.Common.{if◌then◌else◌}
-use Rattle.std.proofs.lemmas.List.{drop_all}
-use Rattle.task_ast.specs.View.{statement_of, block_view}
-use Rattle.task_ast.specs.declared.Stmt.{Stmt}
-use Rattle.task_ast.specs.declared.names.VariableName.{VariableName}
-use Rattle.task_ast.specs.declared.names.TaskName.{TaskName}
-use Rattle.array_versions.specs.declared.program.WordStep.{WordStep}
-use Rattle.array_versions.specs.Program.{Program, list_entry, step, nothing, joined, behind}
-use Rattle.array_versions.specs.View.{step_of, steps_of}
-use Rattle.array_versions.proofs.Interface.{joined_assoc, joined_nothing}
-use Rattle.lower.specs.declared.runs.Run.{Run}
-use Rattle.lower.specs.Runs.{run_at, is_followed_by, longer, runs_from}
-use Rattle.lower.specs.Lowered.{entries, lowered_statement, lowered_block}
-use Rattle.memory_map.specs.declared.place.PrivateScalar.{PrivateScalar}
-use Rattle.memory_map.specs.Spots.{Places}
+use Rattle.lower.proofs.Names.{◌≡◌, ℕ, suc, ◌+◌, ◌<◌, ◌≤◌, List, [], ◌∷◌, ◌++◌, length, drop, true, false, refl, sym, ap, ◌∙◌, drop-cons, add-one}
+use Rattle.lower.proofs.Names.{if◌then◌else◌, drop_all, statement_of, block_view, Stmt, VariableName, TaskName, WordStep, Program, list_entry, step, nothing}
+use Rattle.lower.proofs.Names.{joined, behind, step_of, steps_of, joined_assoc, joined_nothing, Run, run_at, is_followed_by, longer, runs_from, entries}
+use Rattle.lower.proofs.Names.{lowered_statement, lowered_block, PrivateScalar, Places}
+use Rattle.std.proofs.Common.{get_or}
 
 pub steps_of_joined : (a b : List WordStep) → steps_of (a ++ b) ≡ joined (steps_of a) (steps_of b)
 steps_of_joined [] b = refl

@@ -1,28 +1,19 @@
 -- What tasks spend along the way that they take, against the allowance of a source: the entries of the private scalars are paid for once, at
 -- the transition.
-use Rattle.std.proofs.Common.{◌≡◌, ℕ, zero, suc, ◌+◌, ◌-◌, ◌*◌, ◌%◌, ◌==◌, ◌≤◌, max, Bool, true, false, if◌then◌else◌, List, [], ◌∷◌, length, Some}
-use Rattle.std.proofs.Common.{None, refl, sym, subst, arith}
-use Rattle.task_ast.specs.Tree as t
-use Rattle.task_ast.specs.Paths.{CheckedStatement, CheckedChoice, CheckedBlock}
-use Rattle.cost_bound.specs.Table.{cycles_column, statement_price, conditions_price, blocks_price, block_price}
-use Rattle.memory_map.specs.MemoryMap.{word_place}
-use Rattle.memory_map.specs.declared.words.RuntimeWord.TheVariants.{NextTask, Gate, ListLength, Base, SentBase}
-use Rattle.lower.specs.declared.runs.Run.{Run}
-use Rattle.lower.specs.Runs.{runs_of}
+use Rattle.lower.proofs.Names.{◌≡◌, ℕ, zero, suc, ◌+◌, ◌-◌, ◌*◌, ◌%◌, ◌==◌, ◌≤◌, max, Bool, true, false, if◌then◌else◌, List, [], ◌∷◌, length, Some, None}
+use Rattle.lower.proofs.Names.{refl, sym, subst, arith, CheckedStatement, CheckedChoice, CheckedBlock, cycles_column, statement_price, conditions_price}
+use Rattle.lower.proofs.Names.{blocks_price, block_price, word_place, NextTask, Gate, ListLength, Base, SentBase, Run, runs_of, is_true, compare_words, Step}
+use Rattle.lower.proofs.Names.{Test, Program, choose, repeat, store_number, move_word, jump, nothing, step, joined, WordState, End, GoesOn, Jumps, Short}
+use Rattle.lower.proofs.Names.{Strays, Broken, Behaviour, behaves, broken, on_end, then_on, is_place, strays, with_stack, with_top, way_by_top, way_by_two}
+use Rattle.lower.proofs.Names.{with_local, turns, step_behaviour, tested, behaviour, test_cycles, cycles_of, spent_on, top_spent, spent_by_top, spent_by_two}
+use Rattle.lower.proofs.Names.{turns_spent, step_spent, test_spent, spent, joined_go_on, joined_cycles, joined_spend, ways_keep_to_cycles, Places, emission}
+use Rattle.lower.proofs.Names.{scalar_assignment, one, assignment, element_assignment, entries, lowered_transition, loop_local, lowered_test}
+use Rattle.lower.proofs.Names.{lowered_statement, lowered_choice, lowered_block, entry_cycles, BlocksKeepToCycles}
 use Rattle.lower.proofs.Neighbours.{runs_are_few}
-use Rattle.array_versions.specs.Operations.{is_true, compare_words}
-use Rattle.array_versions.specs.Program as word
-use Rattle.array_versions.specs.Program.{Step, Test, Program, choose, repeat, store_number, move_word, jump, nothing, step, joined}
-use Rattle.array_versions.specs.Behaviour.{WordState, End, GoesOn, Jumps, Short, Strays, Broken, Behaviour, behaves, broken, on_end, then_on, is_place, goes_on}
-use Rattle.array_versions.specs.Behaviour.{strays, with_stack, with_top, way_by_top, way_by_two, with_local, turns, step_behaviour, tested, behaviour}
-use Rattle.array_versions.specs.Cost.{test_cycles, cycles_of, spent_on, top_spent, spent_by_top, spent_by_two, turns_spent, step_spent, test_spent}
-use Rattle.array_versions.specs.Cost.{spent}
-use Rattle.array_versions.proofs.Interface.{joined_go_on, joined_cycles, joined_spend, ways_keep_to_cycles}
-use Rattle.memory_map.specs.Spots.{Places}
-use Rattle.lower.specs.Lowered.{emission, scalar_assignment, one, assignment, element_assignment, entries, lowered_transition, loop_local, lowered_test}
-use Rattle.lower.specs.Lowered.{lowered_statement, lowered_choice, lowered_block}
-use Rattle.lower.specs.Sizes.{entry_cycles, BlocksKeepToCycles}
+use Rattle.array_versions.specs.Behaviour.{goes_on}
 use Rattle.lower.proofs.Sizes.{assignment_keeps, scalar_keeps, element_keeps, emission_keeps, test_cycles_kept}
+use Rattle.task_ast.specs.Tree as t
+use Rattle.array_versions.specs.Program as word
 
 -- an end within an allowance and, where it leaves, the entries
 abbrev Within : Places → ℕ → End → ℕ → Type 0
@@ -40,10 +31,8 @@ Leaves Broken = Unit {0}
 
 leaves_pay : (p : Places) (e : End) (n most : ℕ) → Leaves e → n ≤ most + 26 * length p.privates → Within p most e n
 leaves_pay p (GoesOn s) n most l h = absurd l
-leaves_pay p (Jumps to s) n most l h = h
 leaves_pay p Short n most l h = absurd l
-leaves_pay p Strays n most l h = h
-leaves_pay p Broken n most l h = h
+leaves_pay p e n most l h = h
 
 -- where an address isn't that of a word, what stands behind is not come to
 placed_leaves : (c : Bool) (b : Behaviour) (next : WordState → Behaviour) → Leaves (then_on b next).end → Leaves (then_on (if c then b else strays) next).end
@@ -109,10 +98,7 @@ both : (p : Places) (e : End) (f : WordState → Behaviour) (cost : WordState �
     → ((s : WordState) → Within p more (f s).end (cost s))
     → Within p (most + more) (on_end e f).end (n + spent_on e cost)
 both p (GoesOn s) f cost n most more a h = let b = h s in omega (arith, a, b)
-both p (Jumps to s) f cost n most more a h = omega (arith, a)
-both p Short f cost n most more a h = omega (arith, a)
-both p Strays f cost n most more a h = omega (arith, a)
-both p Broken f cost n most more a h = omega (arith, a)
+both p e f cost n most more a h = omega (arith, a)
 
 joined_spends : (p : Places) (a b : Program) (most more : ℕ) (s : WordState) → Within p most (behaviour a s).end (spent a s)
     → ((s : WordState) → Within p more (behaviour b s).end (spent b s))
@@ -132,10 +118,7 @@ alone p first most s h = by (step_behaviour first s).end h
   where
     by : (e : End) → Within p most e (step_spent first s) → Within p most (on_end e (behaviour nothing)).end (step_spent first s + spent_on e (spent nothing))
     by (GoesOn v) h = omega (arith, h)
-    by (Jumps to v) h = omega (arith, h)
-    by Short h = omega (arith, h)
-    by Strays h = omega (arith, h)
-    by Broken h = omega (arith, h)
+    by e h = omega (arith, h)
 
 -- ---- turns
 

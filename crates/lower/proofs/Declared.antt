@@ -1,15 +1,7 @@
 -- The names of a well-formed tree stand for variables that have their places.
-use Rattle.std.proofs.Common.{◌≡◌, ◌<◌, ℕ, Bool, true, List, refl}
+use Rattle.lower.proofs.Names.{◌≡◌, ◌<◌, ℕ, Bool, true, List, refl, SharedDeclaration, WordType, Long, Variable, Shared, Local, is_shared}
+use Rattle.lower.proofs.Names.{Places, IsScalarAt, IsScalarWord, IsOfType, IsLocal, IsWordName, IsArrayName, IsArray, IsWrittenArray, AsDeclared, HasCopies}
 use Rattle.std.proofs.lemmas.Bool.{eq-eqb}
-use Rattle.task_ast.specs.declared.SharedDeclaration.{SharedDeclaration}
-use Rattle.task_ast.specs.declared.WordType.{WordType}
-use Rattle.task_ast.specs.declared.WordType.TheVariants.{Unsigned, Int, Long}
-use Rattle.task_ast.specs.declared.names.Variable.{Variable}
-use Rattle.task_ast.specs.declared.names.Variable.TheVariants.{Shared, Local}
-use Rattle.cost_bound.specs.Counts.{is_shared}
-use Rattle.memory_map.specs.Spots.{Places, IsScalarAt, IsScalarWord}
-use Rattle.checked_trees.specs.WellFormed.{IsOfType, IsLocal, IsWordName, IsArrayName}
-use Rattle.lower.specs.Agreement.{IsArray, IsWrittenArray, AsDeclared, HasCopies}
 
 -- ---- variables that are read
 
@@ -26,8 +18,7 @@ IsLong p (Local n) = ⊥
 -- a variable of a type
 abbrev pub IsKnownAs : Places → WordType → Variable → Type 0
 IsKnownAs p Long x = IsLong p x
-IsKnownAs p Int x = IsKnown p x
-IsKnownAs p Unsigned x = IsKnown p x
+IsKnownAs p _ x = IsKnown p x
 
 module _ (shared : List SharedDeclaration) (p : Places) (declared : AsDeclared shared p) where
   known : (x : Variable) → IsWordName shared x → IsKnown p x
@@ -37,8 +28,7 @@ module _ (shared : List SharedDeclaration) (p : Places) (declared : AsDeclared s
   pub known_as : (of : WordType) (x : Variable) → IsWordName shared x → IsOfType shared of x → IsKnownAs p of x
   known_as Long (Shared v) h t = declared.longs v t
   known_as Long (Local n) h t = absurd t
-  known_as Int x h t = known x h
-  known_as Unsigned x h t = known x h
+  known_as of x h t = known x h
 
   pub array_known : (x : Variable) → IsArrayName shared x → IsArray p x
   array_known (Shared v) h = declared.arrays v h
@@ -59,8 +49,7 @@ IsLongTarget p written (Local n) = ⊥
 -- the same of a variable of a type
 abbrev pub IsTargetOf : Places → (ℕ → Bool) → WordType → Variable → Type 0
 IsTargetOf p written Long x = IsLongTarget p written x
-IsTargetOf p written Int x = IsTarget p written x
-IsTargetOf p written Unsigned x = IsTarget p written x
+IsTargetOf p written _ x = IsTarget p written x
 
 pub local_target : (p : Places) (written : ℕ → Bool) (x : Variable) → IsLocal x → IsTarget p written x
 local_target p written (Shared v) h = absurd h
@@ -78,8 +67,7 @@ module _ (shared : List SharedDeclaration) (p : Places) (written : ℕ → Bool)
   pub target_of : (of : WordType) (x : Variable) → IsWordName shared x → IsOfType shared of x → IsWritten written x → IsTargetOf p written of x
   target_of Long (Shared v) h t w = (declared.longs v t, w v (eq-eqb v v refl))
   target_of Long (Local n) h t w = absurd t
-  target_of Int x h t w = target x h w
-  target_of Unsigned x h t w = target x h w
+  target_of of x h t w = target x h w
 
   pub array_target : (x : Variable) → HasCopies shared p written → IsArrayName shared x → IsWritten written x → IsWrittenArray p x
   array_target (Shared v) copied h w = copied v h (w v (eq-eqb v v refl))

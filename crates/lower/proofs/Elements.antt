@@ -1,38 +1,18 @@
 -- A store to an element, as the step of a task.
-use Rattle.std.proofs.Common.{◌≡◌, ℕ, ◌+◌, ◌*◌, ◌==◌, ◌<◌, ◌≤◌, List, [], ◌∷◌, ◌++◌, length, map, get_or, Option, Some, Contains, Bool, true, false, refl}
-use Rattle.std.proofs.Common.{sym, ap, ◌∙◌, subst, arith, ⊎_elim, length-append, append-nil, if◌then◌else◌}
-use Rattle.std.proofs.lemmas.Bool.{cases_eq, cases_lt}
-use Rattle.std.proofs.lemmas.List.{length-map}
-use Rattle.std.proofs.lemmas.List.Elements.{All-same}
-use Rattle.fram_board.specs.Effects.{Effect, Store}
-use Rattle.machine_effects.specs.World.{put}
-use Rattle.machine_effects.proofs.Interface.{put_other}
-use Rattle.task_ast.specs.declared.names.Variable.TheVariants.{Shared}
-use Rattle.source_values.specs.Values.{word_at, with_word}
-use Rattle.source_values.specs.Statements.{Attempt, Outcome, goes_on}
-use Rattle.array_versions.specs.declared.operations.PlainOperation.{PlainOperation}
-use Rattle.array_versions.specs.Operations.{plain_word}
-use Rattle.array_versions.specs.Behaviour.{WordState, Behaviour, goes_on as going_on, then_on, is_place, word_listed, versioned_stored, behaviour}
-use Rattle.array_versions.specs.Behaviour.{own_place, versioned_updated}
-use Rattle.array_versions.specs.Program.{nothing}
-use Rattle.array_versions.specs.declared.program.ArrayPlace.{ArrayPlace}
-use Rattle.memory_map.specs.MemoryMap.{word_place}
-use Rattle.memory_map.specs.declared.words.RuntimeWord.TheVariants.{Version}
-use Rattle.memory_map.specs.declared.place.ArrayCopies.{ArrayCopies}
-use Rattle.memory_map.specs.declared.place.VariablePlace.{VariablePlace}
-use Rattle.memory_map.specs.declared.place.VariablePlace.TheVariants.{Array}
-use Rattle.memory_map.proofs.Interface.{word_even}
-use Rattle.memory_map.specs.Spots.{private_words, IsArrayAt, Element, IsCopied, element, copy, version, element_address, copy_address, version_address}
-use Rattle.lower.specs.Lowered.{array_place, list_place}
-use Rattle.lower.specs.Spots.{listed_of}
-use Rattle.lower.specs.Agreement.{own_word, element_pair, at_copy, at_version, HoldVariables, StandsFor, Scene, bounds, WentOn}
+use Rattle.lower.proofs.Names.{◌≡◌, ℕ, ◌+◌, ◌*◌, ◌==◌, ◌<◌, ◌≤◌, List, [], ◌∷◌, ◌++◌, length, map, Option, Some, Contains, Bool, true, false, refl, sym, ap}
+use Rattle.lower.proofs.Names.{◌∙◌, subst, arith, ⊎_elim, length-append, append-nil, if◌then◌else◌, cases_eq, cases_lt, length-map, All-same, Effect, Store}
+use Rattle.lower.proofs.Names.{put, put_other, Shared, word_at, with_word, Variables, Outcome, PlainOperation, plain_word, WordState, Behaviour, going_on}
+use Rattle.lower.proofs.Names.{then_on, is_place, word_listed, versioned_stored, behaviour, own_place, versioned_updated, stored, nothing, ArrayPlace}
+use Rattle.lower.proofs.Names.{word_place, Version, ArrayCopies, VariablePlace, Array, word_even, private_words, IsArrayAt, Element, IsCopied, element, copy}
+use Rattle.lower.proofs.Names.{version, element_address, copy_address, version_address, IsSpot, Spot, spot_address, array_place, list_place, listed_of}
+use Rattle.lower.proofs.Names.{own_word, element_pair, at_copy, at_version, HoldVariables, StandsFor, Scene, bounds, WentOn, CopyPair}
+use Rattle.std.proofs.Common.{get_or}
+use Rattle.source_values.specs.Statements.{Attempt, goes_on}
 use Rattle.lower.proofs.Addresses.{fram_place, spot_place, element_is, copy_is, version_is, has_element}
-use Rattle.lower.proofs.Stored.{word_past, set_holds, same_list, same_emits, spot_emits}
+use Rattle.lower.proofs.Stored.{word_past, set_holds, same_list, same_emits, spot_emits, spot_list}
 use Rattle.lower.proofs.Lists.{HasNext, lists_word}
-use Rattle.runtime_effects.specs.Places.{CopyPair}
-use Rattle.lower.proofs.Versioned.{stores_again, stores_first, stores_nothing, update_stores, updates_nothing}
-use Rattle.lower.proofs.Versioned.{element_set, again_stored, again_list, after_mark, mark_keeps_pairs}
-use Rattle.lower.proofs.Versioned.{mark_keeps_words, elements_have_next, first_stored_at, first_emits, first_list, pushed_of, push_listed}
+use Rattle.lower.proofs.Versioned.{stores_again, stores_first, stores_nothing, update_stores, updates_nothing, element_set, again_stored, after_mark}
+use Rattle.lower.proofs.Versioned.{mark_keeps_pairs, mark_keeps_words, elements_have_next, first_stored_at, first_emits, first_list, pushed_of, push_listed}
 use Rattle.lower.proofs.Ends.{Does}
 
 -- where statements begin that emit and list so much: an attempt, the elements that it has listed, a state that stands for it, and how many
@@ -60,6 +40,21 @@ list_fits {z} here = z.has_room here.listed here.stands.list.are_listed (λ v. l
 
 pub few_emitted : {z : Scene} {n : ℕ} {count : ℕ → ℕ} (here : Start z n count) → length here.m.emitted ≤ z.room.emits
 few_emitted here = let a = here.emits in omega (arith, a)
+
+-- a store to a word that the task works on, no version word: the rest stays
+pub spot_stands : {z : Scene} {n : ℕ} {count : ℕ → ℕ} (here : Start z n count) (s : Spot) (v : ℕ) (m : Variables) → IsSpot z.p s
+    → ((x : Element) → version x ≡ s → ⊥) → HoldVariables z.p m (put here.w.fram (spot_address z.p s) v) here.w.locals
+    → StandsFor z.p (record here.m { variables = m }) here.listed (stored (spot_address z.p s) v here.w)
+spot_stands {z} here s v m is ne variables =
+    let f = here.w.fram in
+    let g = put f (spot_address z.p s) v in
+    let fits = list_fits here in
+    record {
+      variables = variables;
+      emitted = same_emits z.p z.room here.m.emitted f g (few_emitted here) (spot_emits z.p z.room s v f z.apart is) here.stands.emitted;
+      list = same_list z.p z.room here.listed f g (omega (arith, fits)) (spot_list z.p z.room s v f z.apart is ne) here.stands.list;
+      readings = here.stands.readings;
+    }
 
 -- a store to an element of array n
 module _ (z : Scene) (n i v elements len : ℕ) (c : ArrayCopies) (at : IsArrayAt z.p n elements len (Some c))
@@ -130,12 +125,7 @@ module _ (z : Scene) (n i v elements len : ℕ) (c : ArrayCopies) (at : IsArrayA
         stores = tt;
         stack_kept = refl;
         listed = listed;
-        stands = record {
-          variables = past_set l;
-          emitted = h.stands.emitted;
-          list = h.stands.list;
-          readings = h.stands.readings;
-        };
+        stands = record { variables = past_set l; emitted = h.stands.emitted; list = h.stands.list; readings = h.stands.readings };
         few = few_listed h;
       })
 
@@ -146,7 +136,6 @@ module _ (z : Scene) (n i v elements len : ℕ) (c : ArrayCopies) (at : IsArrayA
       let f = w.fram in
       let is = is_copied l in
       let now = again_stored p z.room x v f z.apart is marked in
-      let fits = list_fits h in
       let Q : ℕ → Type 0 = λ a. put f a v (word_place p.map Version) ≡ put f a v (version_address p x) in
       let same = subst Q (copy_is p x elements len c at) (now.number ∙ sym now.mark) ∙ ap (put f (2 * i + c.copies) v) (version_is p x elements len c at) in
       let P : ℕ → Type 0 = λ a. WentOn p (bounds z f most) w.stack (Store a v ∷ []) (record w { fram = put f a v }) after in
@@ -155,13 +144,8 @@ module _ (z : Scene) (n i v elements len : ℕ) (c : ArrayCopies) (at : IsArrayA
         stores = (at_copy x is refl, tt);
         stack_kept = refl;
         listed = listed;
-        stands = record {
-          variables = element_set p z.room x v m.variables f (put f (copy_address p x) v) w.locals is now h.stands.variables;
-          emitted = same_emits p z.room m.emitted f (put f (copy_address p x) v) (few_emitted h)
-              (spot_emits p z.room (copy x) v f z.apart is) h.stands.emitted;
-          list = same_list p z.room listed f (put f (copy_address p x) v) (omega (arith, fits)) (again_list p z.room x v f z.apart is) h.stands.list;
-          readings = h.stands.readings;
-        };
+        stands = spot_stands h (copy x) v (with_word m.variables (Shared n) i v) is (λ y e. cc)
+            (element_set p z.room x v m.variables f (put f (copy_address p x) v) w.locals is now h.stands.variables);
         few = few_listed h;
       }))
 
@@ -212,7 +196,7 @@ module _ (z : Scene) (n i v elements len : ℕ) (c : ArrayCopies) (at : IsArrayA
           variables = element_set p z.room x v m.variables f g w.locals is now h.stands.variables;
           emitted = same_emits p z.room m.emitted f g (few_emitted h)
               (first_emits p z.room x v f g apart is lists.elsewhere) h.stands.emitted;
-          list = first_list p z.room listed x v f g apart is fits unmarked h.stands.list now
+          list = first_list p listed x v f g is unmarked h.stands.list now
               (lists.pairs ∙ ap (λ l. l ++ element_pair p x ∷ []) pairs) lists.have;
           readings = h.stands.readings;
         };

@@ -1,8 +1,7 @@
 -- Statements emit no more words than they count.
-use Rattle.std.proofs.Common.{ℕ, ◌+◌, ◌≤◌, length}
-use Rattle.task_ast.specs.Paths.{CheckedStatement, CheckedBlock}
-use Rattle.source_values.specs.Statements.{Attempt, Outcome, goes_on, to_task, short, run_statement, run_block, statement_emits, block_emits}
-use Rattle.source_values.proofs.Interface.{EmitsUpTo, statement_up_to, block_up_to}
+use Rattle.lower.proofs.Names.{ℕ, ◌+◌, ◌≤◌, length, CheckedStatement, CheckedBlock, Outcome, to_task, short, run_statement, run_block, statement_emits}
+use Rattle.lower.proofs.Names.{block_emits, EmitsUpTo, statement_up_to, block_up_to}
+use Rattle.source_values.specs.Statements.{Attempt, goes_on}
 
 -- where an outcome goes on, at most so many words are emitted
 abbrev pub EmitsAtMost : ℕ → Outcome → Type 0

@@ -1,21 +1,12 @@
 -- Programs and statements one behind another: the ends of both agree where each step's do.
-use Rattle.std.proofs.Common.{◌≡◌, ℕ, ◌<◌, ◌≤◌, List, [], ◌∷◌, ◌++◌, length, Option, Some, None, Bool, refl, sym, ap, ◌∙◌, subst, arith, append_assoc}
-use Rattle.std.proofs.Common.{append-nil}
-use Rattle.memory_map.specs.MemoryMap.{word_place}
-use Rattle.memory_map.specs.declared.words.RuntimeWord.TheVariants.{ListLength, EmitCount, Version}
-use Rattle.fram_board.specs.Effects.{Effect, Store, Take, Outside}
-use Rattle.machine_effects.specs.World.{put, fram_after}
-use Rattle.machine_effects.proofs.Interface.{fram_after-append, put_other}
-use Rattle.source_values.specs.Values.{Attempt, Evaluated}
-use Rattle.source_values.specs.Statements.{Outcome, goes_on, to_task, short, and_then, if_value}
-use Rattle.array_versions.specs.Program.{Program, nothing}
-use Rattle.array_versions.specs.Behaviour.{WordState, End, GoesOn, Jumps, Short, Strays, Broken, Behaviour, behind_effects, on_end, then_on, behaviour}
-use Rattle.array_versions.specs.Laws.{EndsByEffects}
-use Rattle.array_versions.proofs.Interface.{behaves_by_effects}
-use Rattle.memory_map.specs.Spots.{Places, Element, scalar, copy, version}
-use Rattle.lower.specs.Spots.{Room, AreApart, listed_of}
-use Rattle.lower.specs.Agreement.{TakesAndStores, OnlyTakes, IsTaskStore, at_variable, at_copy, at_version, in_list, at_list_length, at_emit_count, in_buffer}
-use Rattle.lower.specs.Agreement.{StandsFor, EndsAt, AgreesAt, Scene, bounds, Left, EndsAs, Agrees}
+use Rattle.lower.proofs.Names.{◌≡◌, ℕ, ◌<◌, ◌≤◌, List, [], ◌∷◌, ◌++◌, length, Option, Some, None, Bool, refl, sym, ap, ◌∙◌, subst, arith, append_assoc}
+use Rattle.lower.proofs.Names.{append-nil, word_place, ListLength, EmitCount, Version, Effect, Store, Take, Outside, put, fram_after, fram_after-append}
+use Rattle.lower.proofs.Names.{put_other, Evaluated, Outcome, to_task, short, and_then, if_value, Program, nothing, WordState, End, GoesOn, Jumps, Short}
+use Rattle.lower.proofs.Names.{Broken, Behaviour, behind_effects, on_end, then_on, behaviour, EndsByEffects, behaves_by_effects, Places, Element}
+use Rattle.lower.proofs.Names.{scalar, copy, version, Room, AreApart, listed_of, TakesAndStores, OnlyTakes, IsTaskStore, at_variable, at_copy, at_version}
+use Rattle.lower.proofs.Names.{in_list, at_list_length, at_emit_count, in_buffer, StandsFor, EndsAt, AgreesAt, Scene, bounds, Left, EndsAs, Agrees}
+use Rattle.source_values.specs.Values.{Attempt}
+use Rattle.source_values.specs.Statements.{goes_on}
 use Rattle.lower.proofs.Values.{takes_append, only_takes}
 use Rattle.lower.proofs.Emitted.{EmitsAtMost}
 
@@ -79,9 +70,6 @@ ends_behind z start from most stack es fs (GoesOn s) (goes_on m) is h k =
       stands = k.stands;
       few = k.few;
     }
-ends_behind z start from most stack es fs (GoesOn s) (to_task task m) is h k = absurd k
-ends_behind z start from most stack es fs (GoesOn s) short is h k = absurd k
-ends_behind z start from most stack es fs (Jumps to s) (goes_on m) is h k = absurd k
 ends_behind z start from most stack es fs (Jumps to s) (to_task task m) is h k = record {
   body = es ++ k.body;
   there = k.there;
@@ -94,12 +82,9 @@ ends_behind z start from most stack es fs (Jumps to s) (to_task task m) is h k =
   commits = k.commits;
   readings = k.readings;
 }
-ends_behind z start from most stack es fs (Jumps to s) short is h k = absurd k
-ends_behind z start from most stack es fs Short (goes_on m) is h k = absurd k
-ends_behind z start from most stack es fs Short (to_task task m) is h k = absurd k
 ends_behind z start from most stack es fs Short short is h k = takes_append (IsTaskStore z.p z.written z.room z.ver) es fs h k
-ends_behind z start from most stack es fs Strays o is h k = absurd k
 ends_behind z start from most stack es fs Broken o is h k = tt
+ends_behind z start from most stack es fs e o is h k = absurd k
 
 -- none behind
 pub ends_alone : (z : Scene) (start most : ℕ → ℕ) (stack : List ℕ) (es : List Effect) (e : End) (o : Outcome) → Ends z start most stack es e o
@@ -158,17 +143,11 @@ does_then z few most stack n o first next more less k =
         ∙ stores_keep z.p z.written z.room z.ver (word_place z.p.map Version) es first.w.fram z.apart (keeps_version z.p z.room z.apart) h.stores ∙ first.ver in
         ends_behind z first.w.fram s.fram most stack es (next s).effects (next s).end (more m) by.0 h.stores
         (k s m h.listed refl (record { stack_kept = h.stack_kept; stands = h.stands; number = kept; few_emitted = emits; few_listed = h.few }))
-    go es (GoesOn s) (to_task task m) by h emits k = absurd h
-    go es (GoesOn s) short by h emits k = absurd h
-    go es (Jumps to s) (goes_on m) by h emits k = absurd h
     go es (Jumps to s) (to_task task m) by h emits k = ends_alone z first.w.fram most stack es (Jumps to s) (to_task task m)
         (left_with_fewer z first.w.fram most few es to s task m less h)
-    go es (Jumps to s) short by h emits k = absurd h
-    go es Short (goes_on m) by h emits k = absurd h
-    go es Short (to_task task m) by h emits k = absurd h
     go es Short short by h emits k = ends_alone z first.w.fram most stack es Short short h
-    go es Strays o by h emits k = absurd h
     go es Broken o by h emits k = tt
+    go es e o by h emits k = absurd h
 
 -- nothing behind
 pub does_alone : (z : Scene) (start most : ℕ → ℕ) (stack : List ℕ) (b : Behaviour) (o : Outcome) → Does z start most stack b o
@@ -177,28 +156,22 @@ does_alone z start most stack b o h = go b.effects b.end h
   where
     go : (es : List Effect) (e : End) → Ends z start most stack es e o → Does z start most stack (behind_effects es (on_end e (behaviour nothing))) o
     go es (GoesOn s) h = ends_alone z start most stack es (GoesOn s) o h
-    go es (Jumps to s) h = ends_alone z start most stack es (Jumps to s) o h
-    go es Short h = ends_alone z start most stack es Short o h
-    go es Strays h = absurd h
-    go es Broken h = tt
+    go es e h = ends_alone z start most stack es e o h
 
--- the state that a value makes, and what is done with it: it may know that the value is the one of this program
-pub does_at : (z : Scene) (most : ℕ → ℕ) (stack : List ℕ) (w : WordState) (there : Evaluated → WordState) (b : Behaviour) (o : Option Evaluated)
-    (next : WordState → Behaviour) (more : ℕ → Attempt → Outcome)
-    → AgreesAt there b o → ((x : Evaluated) → o ≡ Some x → Does z w.fram most stack (next (there x)) (more x.value x.behind))
+-- a value, and what is done from each state that it leaves: FRAM is as it was
+pub does_at : (z : Scene) (most : ℕ → ℕ) (stack : List ℕ) (w : WordState) (there : Evaluated → WordState → Type 0) (b : Behaviour) (o : Option Evaluated)
+    (next : WordState → Behaviour) (more : ℕ → Attempt → Outcome) → AgreesAt there b o
+    → ((x : Evaluated) (s : WordState) → there x s → (s.fram ≡ w.fram) × Does z s.fram most stack (next s) (more x.value x.behind))
     → Does z w.fram most stack (then_on b next) (if_value o more)
-does_at z most stack w there b o next more h k = go b.effects b.end o refl h.0 h.1
+does_at z most stack w there b o next more h k = go b.effects b.end o h.0 h.1
   where
-    go : (es : List Effect) (e : End) (q : Option Evaluated) → o ≡ q → OnlyTakes es → EndsAt there e q
-        → Does z w.fram most stack (behind_effects es (on_end e next)) (if_value q more)
-    go es (GoesOn s) (Some x) is h e =
-        let P : WordState → Type 0 = λ s. Does z w.fram most stack (behind_effects es (next s)) (more x.value x.behind) in
-        let b = next (there x) in
-        subst P (sym e) (ends_behind z w.fram w.fram most stack es b.effects b.end (more x.value x.behind) (sym (takes_keep es w.fram h))
-        (only_takes (IsTaskStore z.p z.written z.room z.ver) es h) (k x is))
-    go es (GoesOn s) None is h e = absurd e
-    go es (Jumps to s) q is h e = absurd e
-    go es Short (Some x) is h e = absurd e
-    go es Short None is h e = ends_alone z w.fram most stack es Short short (only_takes (IsTaskStore z.p z.written z.room z.ver) es h)
-    go es Strays q is h e = absurd e
-    go es Broken q is h e = tt
+    go : (es : List Effect) (e : End) (o : Option Evaluated) → OnlyTakes es → EndsAt there e o
+        → Does z w.fram most stack (behind_effects es (on_end e next)) (if_value o more)
+    go es (GoesOn s) (Some x) h e =
+        let n = k x s e in
+        let b = next s in
+        ends_behind z w.fram s.fram most stack es b.effects b.end (more x.value x.behind) (n.0 ∙ sym (takes_keep es w.fram h))
+        (only_takes (IsTaskStore z.p z.written z.room z.ver) es h) n.1
+    go es Short None h e = ends_alone z w.fram most stack es Short short (only_takes (IsTaskStore z.p z.written z.room z.ver) es h)
+    go es Broken o h e = tt
+    go es end o h e = absurd e

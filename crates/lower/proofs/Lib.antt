@@ -1,3 +1,4 @@
+mod Names
 mod Neighbours
 mod Addresses
 mod Declared

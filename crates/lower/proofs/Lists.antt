@@ -1,24 +1,14 @@
 -- A word that is listed: the last run gets longer, or an entry of one word stands behind it.
-use Rattle.std.proofs.Common.{◌≡◌, ℕ, zero, suc, ◌+◌, ◌*◌, ◌%◌, ◌<◌, ◌≤◌, List, [], ◌∷◌, ◌++◌, length, length-append, append_assoc, All, refl, sym, ap, ◌∙◌}
-use Rattle.std.proofs.Common.{subst, arith, Bool, true, false, if◌then◌else◌, Contains, ⊎_elim}
-use Rattle.std.proofs.lemmas.Bool.{cases_eq}
-use Rattle.std.proofs.lemmas.Bool.Decides.{nat_tests}
-use Rattle.std.proofs.lemmas.List.Elements.{All-contains, Contains-append_right}
-use Rattle.fram_board.specs.Effects.{Effect, Store}
-use Rattle.machine_effects.specs.World.{put}
-use Rattle.machine_effects.proofs.Interface.{put_same, put_other}
-use Rattle.array_versions.specs.Behaviour.{WordState, Behaviour, goes_on, at_place, raised, entry_stored, ends_before, listed_behind, word_listed}
-use Rattle.memory_map.specs.MemoryMap.{word_place}
-use Rattle.memory_map.specs.declared.words.RuntimeWord.TheVariants.{ListLength}
-use Rattle.memory_map.proofs.Interface.{word_even}
-use Rattle.memory_map.specs.Spots.{Places}
-use Rattle.runtime_effects.specs.Places.{CopyPair, run_pairs, entries_from}
-use Rattle.runtime_effects.proofs.Interface.{run_length, run_longer, entries_alike, last_apart, entries_are_few}
-use Rattle.lower.specs.Lowered.{list_place}
-use Rattle.lower.specs.Spots.{Room, AreApart, AreEven}
-use Rattle.lower.specs.Agreement.{TakesAndStores, IsTaskStore, in_list, at_list_length}
+use Rattle.lower.proofs.Names.{◌≡◌, ℕ, zero, suc, ◌+◌, ◌*◌, ◌%◌, ◌<◌, ◌≤◌, List, [], ◌∷◌, ◌++◌, length, length-append, append_assoc, refl, sym, ap, ◌∙◌}
+use Rattle.lower.proofs.Names.{subst, arith, Bool, true, false, if◌then◌else◌, Contains, ⊎_elim, cases_eq, nat_tests, All-contains, Contains-append_right}
+use Rattle.lower.proofs.Names.{Effect, Store, put, put_same, put_other, WordState, Behaviour, at_place, raised, entry_stored, ends_before, listed_behind}
+use Rattle.lower.proofs.Names.{word_listed, word_place, ListLength, word_even, Places, CopyPair, run_pairs, entries_from, run_length, run_longer}
+use Rattle.lower.proofs.Names.{entries_alike, last_apart, entries_are_few, list_place, Room, AreApart, AreEven, TakesAndStores, IsTaskStore, in_list}
+use Rattle.lower.proofs.Names.{at_list_length}
+use Rattle.std.proofs.Common.{All}
+use Rattle.array_versions.specs.Behaviour.{goes_on}
 use Rattle.lower.proofs.Addresses.{placed}
-use Rattle.lower.proofs.Transitions.{after_entry, HaveRoom, count_place, home_place, copy_place, words_place, entry_behaves}
+use Rattle.lower.proofs.Transitions.{after_entry, HaveRoom, room_for, count_place, home_place, copy_place, words_place, entry_behaves}
 
 -- no run in the list is without a word
 abbrev pub HaveWords : ℕ → ℕ → (ℕ → ℕ) → Type 0
@@ -186,15 +176,6 @@ module _ (p : Places) (written : ℕ → Bool) (room : Room) (ver home copy : �
   abbrev Lists : Type 0
   Lists = ListsWord p written room ver home copy w
 
-  has_room : (n : ℕ) → n < room.list → HaveRoom count list n 1
-  has_room n l = record {
-    low = omega (arith, apart);
-    above = omega (arith, apart);
-    high = omega (arith, apart, l);
-    even_count = word_even p.map ListLength even.row;
-    even_list = even.list;
-  }
-
   above : count + 2 ≤ list
   above = omega (arith, apart)
 
@@ -208,7 +189,7 @@ module _ (p : Places) (written : ℕ → Bool) (room : Room) (ver home copy : �
       record {
         effects = Store (6 * n + list) home ∷ Store (6 * n + list + 2) copy ∷ Store (6 * n + list + 4) 1 ∷ Store count (n + 1) ∷ [];
         memory = memory;
-        does = same ∙ entry_behaves count list n home copy 1 w e (has_room n l);
+        does = same ∙ entry_behaves count list n home copy 1 w e (room_for p room n 1 apart even (omega (arith, l)));
         stores = (
           in_list (omega arith) (omega (arith, l)),
           (in_list (omega arith) (omega (arith, l)), (in_list (omega arith) (omega (arith, l)), (at_list_length refl (omega (arith, l)), tt))),
@@ -243,7 +224,8 @@ module _ (p : Places) (written : ℕ → Bool) (room : Room) (ver home copy : �
   by_count : (n : ℕ) → w.fram count ≡ n → n < room.list → HaveWords list n w.fram → All HasNext (entries_from n list w.fram)
       → length (entries_from n list w.fram) + 1 < 0x10000 → Lists
   by_count zero e l have next short =
-      let placed_count = placed count (listed_behind (w.fram count) (list_place p) home copy w) (count_place count list 0 (has_room 0 l)) in
+      let placed_count = placed count (listed_behind (w.fram count) (list_place p) home copy w)
+      (count_place count list 0 (room_for p room 0 1 apart even (omega (arith, l)))) in
       enters 0 e l have (placed_count ∙ ap (λ k. listed_behind k (list_place p) home copy w) e)
   by_count (suc n) e l have next short = by (ends_before w.fram (6 * n + list) home copy) refl
     where
@@ -254,7 +236,7 @@ module _ (p : Places) (written : ℕ → Bool) (room : Room) (ver home copy : �
       either b = if b then raised (a + 4) w else entry_stored count list home copy 1 w
 
       last_room : HaveRoom count list n 1
-      last_room = has_room n (omega (arith, l))
+      last_room = room_for p room n 1 apart even (omega (arith, l))
 
       opened : word_listed (list_place p) home copy w ≡ either (ends_before w.fram a home copy)
       opened =

@@ -1,38 +1,22 @@
 -- The programs of longs leave both words of their values, the high one on top.
-use Rattle.std.proofs.Common.{◌≡◌, ℕ, ◌+◌, ◌-◌, ◌*◌, ◌/◌, ◌%◌, ◌==◌, Option, Some, None, Bool, true, false, not, nat_lt, refl, sym, ap, ◌∙◌, subst, arith}
-use Rattle.std.proofs.Common.{eq-eqb, ne_eqb, ⊎_elim, bit_or, bit_xor}
-use Rattle.std.proofs.lemmas.Bool.{cases_eq}
-use Rattle.std.proofs.lemmas.Nat.{le_or_l, le_or_r}
-use Rattle.std.specs.Int.Bits.{xor_self, xor_assoc, xor_zero_r}
-use Rattle.alp_words.specs.Words.{bit}
-use Rattle.task_ast.specs.declared.WordType.{WordType}
-use Rattle.task_ast.specs.declared.WordType.TheVariants.{Unsigned, Int, Long}
-use Rattle.task_ast.specs.declared.BinaryOperator.{BinaryOperator}
+use Rattle.lower.proofs.Names.{◌≡◌, ℕ, ◌+◌, ◌-◌, ◌*◌, ◌/◌, ◌%◌, ◌==◌, Option, Some, None, Bool, true, false, not, nat_lt, refl, sym, ap, ◌∙◌, subst, arith}
+use Rattle.lower.proofs.Names.{ne_eqb, ⊎_elim, bit_or, bit_xor, List, [], ◌∷◌, ◌++◌, cases_eq, le_or_l, le_or_r, xor_self, xor_assoc, xor_zero_r, bit}
+use Rattle.lower.proofs.Names.{WordType, Unsigned, Int, Long, BinaryOperator, ShiftOperator, IsOneWord, Evaluated, gives, made_of, holds, converted}
+use Rattle.lower.proofs.Names.{long_difference, long_binary_value, long_shift_value, truth_word, PlainOperation, Plain, plain_long, all_bits, stacked, Test}
+use Rattle.lower.proofs.Names.{Program, binary, long, holds_test, fails, joined, behind, WordState, Behaviour, pushed, behaviour, step_behaviour, with_stack}
+use Rattle.lower.proofs.Names.{LongQuestion, LongMeaning, long_meaning, long_shift, one, Lowering, as_test, as_long, word_program, value_test, widening}
+use Rattle.lower.proofs.Names.{long_words, long_program, long_zero, answer, long_binary_lowering, is_refused, AgreesAt, converted_to, truth_of}
+use Rattle.std.proofs.Common.{eq-eqb}
+use Rattle.source_values.specs.Values.{Attempt}
+use Rattle.array_versions.specs.Behaviour.{goes_on}
+use Rattle.lower.proofs.Values.{made_twice, pair_value, pair_made, pair_is_truth, twice, truth_pushed, LoweringAgrees, by_word, by_test, not_word, not_agrees}
+use Rattle.lower.proofs.Values.{Keeping, Leaves, LeavesWord, SidesAgree, pair_leaves, single, step_leaves, then_program}
 use Rattle.task_ast.specs.declared.BinaryOperator.TheVariants as operator
-use Rattle.task_ast.specs.declared.ShiftOperator.{ShiftOperator}
 use Rattle.task_ast.specs.declared.ShiftOperator.TheVariants as shift_operator
-use Rattle.task_ast.specs.Types.{IsOneWord}
-use Rattle.source_values.specs.Values.{Attempt, Evaluated, evaluated, gives, made_of, holds, converted, long_difference, long_binary_value}
-use Rattle.source_values.specs.Values.{long_shift_value}
-use Rattle.array_versions.specs.declared.operations.PlainOperation.{PlainOperation}
 use Rattle.array_versions.specs.declared.operations.PlainOperation.TheVariants as plain
-use Rattle.array_versions.specs.declared.operations.BinaryOperation.TheVariants.{Plain}
 use Rattle.array_versions.specs.declared.operations.LongOperation.TheVariants as with_longs
-use Rattle.array_versions.specs.Operations.{plain_long, all_bits}
-use Rattle.array_versions.specs.Program.{Test, Program, binary, long, holds as holds_test, fails, joined}
-use Rattle.array_versions.specs.Behaviour.{WordState, Behaviour, then_on, pushed, behaviour}
-use Rattle.array_versions.proofs.Interface.{joined_go_on, then_on_assoc}
-use Rattle.lower.specs.declared.operations.LongQuestion.{LongQuestion}
 use Rattle.lower.specs.declared.operations.LongQuestion.TheVariants as question
-use Rattle.lower.specs.declared.operations.LongMeaning.{LongMeaning}
 use Rattle.lower.specs.declared.operations.LongMeaning.TheVariants as meaning
-use Rattle.lower.specs.Operations.{long_meaning, long_shift}
-use Rattle.lower.specs.Lowered.{one, Lowering, as_test, as_long, word_program, value_test, widening, long_words, long_program, long_zero, answer}
-use Rattle.lower.specs.Lowered.{long_binary_lowering}
-use Rattle.task_check.specs.Occurrences.{is_refused}
-use Rattle.lower.specs.Agreement.{valued, long_valued, AgreesAt, AgreesWithValue, AgreesWithLong, converted_to, truth_of}
-use Rattle.lower.proofs.Values.{agrees_with, agrees_then, pair_value, pair_truth, pair_is_truth, truth_pushed, LoweringAgrees, by_word, by_test}
-use Rattle.lower.proofs.Values.{not_word, not_agrees}
 
 -- ---- numbers
 
@@ -64,176 +48,20 @@ xor_holds a b = ap not (tests_alike (bit_xor a b) 0 a b same (λ e. ap (λ n. bi
     same : bit_xor a b ≡ 0 → a ≡ b
     same e = sym (xor_zero_r a) ∙ ap (bit_xor a) (sym (xor_self b)) ∙ sym (xor_assoc a b b) ∙ ap (λ n. bit_xor n b) e
 
--- ---- a long as one word, and as a test
-
--- the program of an expression that is long leaves its value as a long
-pub record LongAgrees (w : WordState) (l : Lowering) (o : Option Evaluated) : Type 0 where
-  pub words : Program
-  pub is_long : l ≡ as_long words
-  pub leaves : AgreesWithLong w (behaviour words w) o
-
-pub by_long : (w : WordState) (q : Program) (o : Option Evaluated) → AgreesWithLong w (behaviour q w) o → LongAgrees w (as_long q) o
-by_long w q o h = record { words = q; is_long = refl; leaves = h }
-
--- the state that a value makes, and what makes another state of it
-pub then_at : (there last : Evaluated → WordState) (w : WordState) (q more : Program) (o : Option Evaluated) (f : ℕ → ℕ)
-    → AgreesAt there (behaviour q w) o → ((x : Evaluated) → AgreesAt last (behaviour more (there x)) (gives (f x.value) x.behind))
-    → AgreesAt last (behaviour (joined q more) w) (made_of f o)
-then_at there last w q more o f h k =
-    subst (λ b. AgreesAt last b (made_of f o)) (sym (joined_go_on q more w))
-    (agrees_then there last (behaviour q w) o (behaviour more) (λ x. gives (f x.value) x.behind) h k)
-
--- its low word
-low_word : (w : WordState) (q : Program) (o : Option Evaluated) → AgreesWithLong w (behaviour q w) o
-    → AgreesWithValue w (behaviour (joined q (one (long with_longs.LowWord))) w) (converted_to Long Unsigned o)
-low_word w q o h = then_at (long_valued w) (valued w) w q (one (long with_longs.LowWord)) o (λ n. n % 65536) h (λ x. (tt, refl))
-
--- the bits of both words
-any_bit : (w : WordState) (q : Program) (o : Option Evaluated) → AgreesWithLong w (behaviour q w) o
-    → AgreesWithValue w (behaviour (joined q (one (binary (Plain plain.Or)))) w) (made_of both_words o)
-any_bit w q o h = then_at (long_valued w) (valued w) w q (one (binary (Plain plain.Or))) o both_words h (λ x. (tt, refl))
+-- ---- what is made of pairs of longs
 
 any_bit_is_truth : (o : Option Evaluated) → truth_of (made_of both_words o) ≡ truth_of o
-any_bit_is_truth None = refl
-any_bit_is_truth (Some x) = ap (λ b. gives (bit b) x.behind) (words_hold x.value)
-
--- whether it isn't 0
-any_bit_holds : (w : WordState) (q : Program) (o : Option Evaluated) → AgreesWithLong w (behaviour q w) o
-    → AgreesWithValue w (truth_pushed (value_test (as_long q)) w) (truth_of o)
-any_bit_holds w q o h =
-    let bits = joined q (one (binary (Plain plain.Or))) in
-    subst (AgreesWithValue w (truth_pushed (holds_test bits) w)) (any_bit_is_truth o) (by_word w bits _ (any_bit w q o h)).test
-
--- ---- one word as a long
-
--- 0 behind a word
-zero_behind : (w : WordState) (x : Evaluated) → AgreesWithLong w (behaviour (widening Unsigned) (valued w x)) (Some x)
-zero_behind w x = (tt, let same : x.value + 65536 * 0 ≡ x.value = omega arith in ap (λ n. long_valued w (evaluated n x.behind)) same)
-
-widening_agrees : (of : WordType) → IsOneWord of → (w : WordState) (x : Evaluated)
-    → AgreesWithLong w (behaviour (widening of) (valued w x)) (gives (converted of Long x.value) x.behind)
-widening_agrees Long k w x = absurd k
-widening_agrees Int k w x = (tt, refl)
-widening_agrees Unsigned k w x = zero_behind w x
-
-widened_agrees : (of : WordType) → IsOneWord of → (w : WordState) (q : Program) (o : Option Evaluated) → AgreesWithValue w (behaviour q w) o
-    → AgreesWithLong w (behaviour (joined q (widening of)) w) (converted_to of Long o)
-widened_agrees of k w q o h = then_at (valued w) (long_valued w) w q (widening of) o (converted of Long) h (widening_agrees of k w)
-
--- ---- what an expression leaves, by its type
-
--- of a long its two words, and of others a word and a test
-abbrev pub AgreesAs : WordType → WordState → Lowering → Option Evaluated → Type 0
-AgreesAs Long w l o = LongAgrees w l o
-AgreesAs Int w l o = LoweringAgrees w l o
-AgreesAs Unsigned w l o = LoweringAgrees w l o
-
-pub as_one_word : (of : WordType) → IsOneWord of → (w : WordState) (l : Lowering) (o : Option Evaluated) → LoweringAgrees w l o → AgreesAs of w l o
-as_one_word Long k w l o h = absurd k
-as_one_word Int k w l o h = h
-as_one_word Unsigned k w l o h = h
-
-pub of_one_word : (of : WordType) → IsOneWord of → (w : WordState) (l : Lowering) (o : Option Evaluated) → AgreesAs of w l o → LoweringAgrees w l o
-of_one_word Long k w l o h = absurd k
-of_one_word Int k w l o h = h
-of_one_word Unsigned k w l o h = h
+any_bit_is_truth o = made_twice truth_word both_words truth_word o (λ x. ap bit (words_hold x))
 
 -- a value as one of its own type
 same_value : (o : Option Evaluated) → o ≡ made_of (λ n. n) o
 same_value None = refl
 same_value (Some x) = refl
 
--- its value as one word
-pub word_agrees : (of : WordType) (w : WordState) (l : Lowering) (o : Option Evaluated) → AgreesAs of w l o
-    → AgreesWithValue w (behaviour (word_program l) w) (converted_to of Unsigned o)
-word_agrees Long w l o h =
-    subst (λ l. AgreesWithValue w (behaviour (word_program l) w) (converted_to Long Unsigned o)) (sym h.is_long) (low_word w h.words o h.leaves)
-word_agrees Int w l o h = subst (AgreesWithValue w (behaviour (word_program l) w)) (same_value o) h.word
-word_agrees Unsigned w l o h = subst (AgreesWithValue w (behaviour (word_program l) w)) (same_value o) h.word
-
--- the two words of a long
-pub words_agree : (w : WordState) (l : Lowering) (o : Option Evaluated) → LongAgrees w l o → AgreesWithLong w (behaviour (long_words l) w) o
-words_agree w l o h = subst (λ l. AgreesWithLong w (behaviour (long_words l) w) o) (sym h.is_long) h.leaves
-
--- its value as a long
-pub long_agrees : (of : WordType) (w : WordState) (l : Lowering) (o : Option Evaluated) → AgreesAs of w l o
-    → AgreesWithLong w (behaviour (long_program of l) w) (converted_to of Long o)
-long_agrees Long w l o h = subst (AgreesWithLong w (behaviour (long_words l) w)) (same_value o) (words_agree w l o h)
-long_agrees Int w l o h = widened_agrees Int tt w (word_program l) o h.word
-long_agrees Unsigned w l o h = widened_agrees Unsigned tt w (word_program l) o h.word
-
--- its test
-pub test_agrees : (of : WordType) (w : WordState) (l : Lowering) (o : Option Evaluated) → AgreesAs of w l o
-    → AgreesWithValue w (truth_pushed (value_test l) w) (truth_of o)
-test_agrees Long w l o h =
-    subst (λ l. AgreesWithValue w (truth_pushed (value_test l) w) (truth_of o)) (sym h.is_long) (any_bit_holds w h.words o h.leaves)
-test_agrees Int w l o h = h.test
-test_agrees Unsigned w l o h = h.test
-
--- ---- operators in front, and shifts
-
--- from 0 on the stack
-pub negated : (w : WordState) (q : Program) (o : Option Evaluated)
-    → (let u = pushed 0 (pushed 0 w) in AgreesWithLong u (behaviour q u) o)
-    → AgreesWithLong w (behaviour (joined (joined long_zero q) (one (long (with_longs.Calculate plain.Subtract)))) w)
-    (made_of (long_difference 0) o)
-negated w q o h =
-    let u = pushed 0 (pushed 0 w) in
-    then_at (long_valued u) (long_valued w) u q (one (long (with_longs.Calculate plain.Subtract))) o (long_difference 0) h
-    (λ x. (tt, ap (λ n. long_valued w (evaluated (long_difference 0 n) x.behind)) (whole x.value)))
-
-pub complemented : (w : WordState) (q : Program) (o : Option Evaluated) → AgreesWithLong w (behaviour q w) o
-    → AgreesWithLong w (behaviour (joined q (one (long with_longs.Complement))) w) (made_of (λ n. 4294967295 - n) o)
-complemented w q o h = then_at (long_valued w) (long_valued w) w q (one (long with_longs.Complement)) o (λ n. 4294967295 - n) h
-    (λ x. (tt, ap (λ n. long_valued w (evaluated (4294967295 - n) x.behind)) (whole x.value)))
-
-shifted_step : (op : ShiftOperator) (k : ℕ) (w : WordState) (x : Evaluated)
-    → AgreesWithLong w (behaviour (one (long (long_shift op k))) (long_valued w x)) (gives (long_shift_value op x.value k) x.behind)
-shifted_step shift_operator.Left k w x = (tt, ap (λ n. long_valued w (evaluated (long_shift_value shift_operator.Left n k) x.behind)) (whole x.value))
-shifted_step shift_operator.Right k w x = (tt, ap (λ n. long_valued w (evaluated (long_shift_value shift_operator.Right n k) x.behind)) (whole x.value))
-
-pub long_shifted : (op : ShiftOperator) (k : ℕ) (w : WordState) (q : Program) (o : Option Evaluated) → AgreesWithLong w (behaviour q w) o
-    → AgreesWithLong w (behaviour (joined q (one (long (long_shift op k)))) w) (made_of (λ n. long_shift_value op n k) o)
-long_shifted op k w q o h =
-    then_at (long_valued w) (long_valued w) w q (one (long (long_shift op k))) o (λ n. long_shift_value op n k) h (shifted_step op k w)
-
--- ---- two sides
-
--- the programs of two sides as longs, the second from the attempt behind the first
-pub record LongSidesAgree (w : WordState) (a b : Program) (o : Option Evaluated) (second : Attempt → Option Evaluated) : Type 0 where
-  pub left_side : AgreesWithLong w (behaviour a w) o
-  pub right_side : (x : Evaluated) → o ≡ Some x → AgreesWithLong (long_valued w x) (behaviour b (long_valued w x)) (second x.behind)
-
--- the state with two longs on top of the stack
-abbrev with_both : WordState → ℕ → Evaluated → WordState
-with_both w x y = long_valued (long_valued w (evaluated x y.behind)) y
-
--- what is done with both values
-sides_then : (last : Evaluated → WordState) (w : WordState) (a b more : Program) (o : Option Evaluated) (second : Attempt → Option Evaluated)
-    (f : ℕ → ℕ → ℕ) → LongSidesAgree w a b o second
-    → ((x : ℕ) (y : Evaluated) → AgreesAt last (behaviour more (with_both w x y)) (gives (f x y.value) y.behind))
-    → AgreesAt last (behaviour (joined (joined a b) more) w) (pair_value f o second)
-sides_then last w a b more o second f h k =
-    let next = behaviour more in
-    let rest : WordState → Behaviour = λ v. then_on (behaviour b v) next in
-    let P : Behaviour → Type 0 = λ r. AgreesAt last r (pair_value f o second) in
-    let is = joined_go_on (joined a b) more w ∙ ap (λ r. then_on r next) (joined_go_on a b w) ∙ sym (then_on_assoc (behaviour a w) (behaviour b) next) in
-    subst P (sym is)
-    (agrees_with (long_valued w) last (behaviour a w) o rest (λ x. made_of (f x.value) (second x.behind)) h.left_side (λ x given.
-    agrees_then (long_valued (long_valued w x)) last (behaviour b (long_valued w x)) (second x.behind) next (λ y. gives (f x.value y.value) y.behind)
-    (h.right_side x given) (λ y. k x.value y)))
-
 -- two longs are their words
 with_both_whole : {A : Type 0} (f : ℕ → ℕ → A) (x y : ℕ)
     → f (x % 65536 + 65536 * (x / 65536)) (y % 65536 + 65536 * (y / 65536)) ≡ f x y
 with_both_whole f x y = ap (λ n. f n (y % 65536 + 65536 * (y / 65536))) (whole x) ∙ ap (f x) (whole y)
-
--- an operation behind both
-calculated : (op : PlainOperation) (w : WordState) (a b : Program) (o : Option Evaluated) (second : Attempt → Option Evaluated)
-    → LongSidesAgree w a b o second
-    → AgreesWithLong w (behaviour (joined (joined a b) (one (long (with_longs.Calculate op)))) w) (pair_value (plain_long op) o second)
-calculated op w a b o second h = sides_then (long_valued w) w a b (one (long (with_longs.Calculate op))) o second (plain_long op) h
-    (λ x y. (tt, with_both_whole (λ m n. long_valued w (evaluated (plain_long op m n) y.behind)) x y.value))
 
 -- the answer to a question
 abbrev answers : LongQuestion → ℕ → ℕ → Bool
@@ -244,53 +72,11 @@ answers question.Differ x y = not (x == y)
 -- values of pairs that are alike
 pub pair_same : (f g : ℕ → ℕ → ℕ) (o : Option Evaluated) (second : Attempt → Option Evaluated) → ((x y : ℕ) → f x y ≡ g x y)
     → pair_value f o second ≡ pair_value g o second
-pair_same f g None second e = refl
-pair_same f g (Some x) second e = by (second x.behind)
-  where
-    by : (o : Option Evaluated) → made_of (f x.value) o ≡ made_of (g x.value) o
-    by None = refl
-    by (Some y) = ap (λ n. gives n y.behind) (e x.value y.value)
-
--- the truth of a word that is made of both
-holds_of_pair : (w : WordState) (q : Program) (o : Option Evaluated) (second : Attempt → Option Evaluated) (f : ℕ → ℕ → ℕ) (b : ℕ → ℕ → Bool)
-    → ((x y : ℕ) → holds (f x y) ≡ b x y) → AgreesWithValue w (behaviour q w) (pair_value f o second)
-    → AgreesWithValue w (truth_pushed (holds_test q) w) (pair_value (λ x y. bit (b x y)) o second)
-holds_of_pair w q o second f b e h =
-    subst (AgreesWithValue w (truth_pushed (holds_test q) w))
-    (sym (pair_truth f o second) ∙ pair_same (λ x y. bit (holds (f x y))) (λ x y. bit (b x y)) o second (λ x y. ap bit (e x y)))
-    (by_word w q (pair_value f o second) h).test
+pair_same f g o second e = same_value (pair_value f o second) ∙ pair_made (λ n. n) f g o second e
 
 all_bits_hold : (b : Bool) → holds (all_bits b) ≡ b
 all_bits_hold true = refl
 all_bits_hold false = refl
-
--- the bits of both words of what is made of two longs
-bits_of_pair : (f : ℕ → ℕ → ℕ) (o : Option Evaluated) (second : Attempt → Option Evaluated)
-    → made_of both_words (pair_value f o second) ≡ pair_value (λ x y. both_words (f x y)) o second
-bits_of_pair f None second = refl
-bits_of_pair f (Some x) second = by (second x.behind)
-  where
-    by : (o : Option Evaluated) → made_of both_words (made_of (f x.value) o) ≡ made_of (λ y. both_words (f x.value y)) o
-    by None = refl
-    by (Some y) = refl
-
-question_agrees : (q : LongQuestion) (w : WordState) (a b : Program) (o : Option Evaluated) (second : Attempt → Option Evaluated)
-    → LongSidesAgree w a b o second
-    → AgreesWithValue w (truth_pushed (holds_test (answer q (joined a b))) w) (pair_value (λ x y. bit (answers q x y)) o second)
-question_agrees question.Below w a b o second h =
-    holds_of_pair w (answer question.Below (joined a b)) o second (λ x y. all_bits (nat_lt x y)) nat_lt (λ x y. all_bits_hold (nat_lt x y))
-    (sides_then (valued w) w a b (one (long with_longs.Below)) o second (λ x y. all_bits (nat_lt x y)) h
-    (λ x y. (tt, with_both_whole (λ m n. valued w (evaluated (all_bits (nat_lt m n)) y.behind)) x y.value)))
-question_agrees question.Above w a b o second h =
-    holds_of_pair w (answer question.Above (joined a b)) o second (λ x y. all_bits (nat_lt y x)) (λ x y. nat_lt y x) (λ x y. all_bits_hold (nat_lt y x))
-    (sides_then (valued w) w a b (one (long with_longs.Above)) o second (λ x y. all_bits (nat_lt y x)) h
-    (λ x y. (tt, with_both_whole (λ m n. valued w (evaluated (all_bits (nat_lt n m)) y.behind)) x y.value)))
-question_agrees question.Differ w a b o second h =
-    let q = joined (joined a b) (one (long (with_longs.Calculate plain.Xor))) in
-    let bits = joined q (one (binary (Plain plain.Or))) in
-    holds_of_pair w bits o second (λ x y. both_words (bit_xor x y)) (λ x y. not (x == y)) (λ x y. words_hold (bit_xor x y) ∙ xor_holds x y)
-    (subst (AgreesWithValue w (behaviour bits w)) (bits_of_pair bit_xor o second)
-    (any_bit w q (pair_value bit_xor o second) (calculated plain.Xor w a b o second h)))
 
 -- what an operator gives of two longs
 abbrev pub long_meaning_value : LongMeaning → ℕ → ℕ → ℕ
@@ -303,10 +89,6 @@ abbrev pub long_meaning_type : LongMeaning → WordType
 long_meaning_type (meaning.Calculates op) = Long
 long_meaning_type (meaning.Holds q) = Int
 long_meaning_type (meaning.Fails q) = Int
-
-twice : (b : Bool) → not (not b) ≡ b
-twice true = refl
-twice false = refl
 
 -- of each operator alike: the first clause makes it a proof by cases
 pub long_same : (op : BinaryOperator) (x y : ℕ) → is_refused op Long ≡ false → long_meaning_value (long_meaning op) x y ≡ long_binary_value op x y
@@ -325,29 +107,165 @@ not_of_bit : (b : Bool) → bit (bit b == 0) ≡ bit (not b)
 not_of_bit true = refl
 not_of_bit false = refl
 
-not_of_pair : (b : ℕ → ℕ → Bool) (o : Option Evaluated) (second : Attempt → Option Evaluated)
-    → made_of not_word (pair_value (λ x y. bit (b x y)) o second) ≡ pair_value (λ x y. bit (not (b x y))) o second
-not_of_pair b None second = refl
-not_of_pair b (Some x) second = by (second x.behind)
-  where
-    by : (o : Option Evaluated) → made_of not_word (made_of (λ y. bit (b x.value y)) o) ≡ made_of (λ y. bit (not (b x.value y))) o
-    by None = refl
-    by (Some y) = ap (λ n. gives n y.behind) (not_of_bit (b x.value y.value))
+-- ---- what an expression leaves, by its type
 
--- what fails where this holds
-turned_pair : (w : WordState) (c : Test) (o : Option Evaluated) (second : Attempt → Option Evaluated) (b : ℕ → ℕ → Bool)
-    → AgreesWithValue w (truth_pushed c w) (pair_value (λ x y. bit (b x y)) o second)
-    → LoweringAgrees w (as_test (fails c)) (pair_value (λ x y. bit (not (b x y))) o second)
-turned_pair w c o second b h =
-    let pair = pair_value (λ x y. bit (b x y)) o second in
-    subst (LoweringAgrees w (as_test (fails c))) (not_of_pair b o second)
-    (not_agrees w c pair (subst (AgreesWithValue w (truth_pushed c w)) (sym (pair_bit_is_truth b o second)) h))
+-- a program leaves a value as a long on top of these
+abbrev pub LeavesLong : Keeping → List ℕ → Behaviour → Option Evaluated → Type 0
+LeavesLong k below b o = AgreesAt (Leaves k stacked below) b o
 
-pub long_binary_agrees : (m : LongMeaning) (w : WordState) (a b : Program) (o : Option Evaluated) (second : Attempt → Option Evaluated)
-    → LongSidesAgree w a b o second
-    → AgreesAs (long_meaning_type m) w (long_binary_lowering m (joined a b)) (pair_value (long_meaning_value m) o second)
-long_binary_agrees (meaning.Calculates op) w a b o second h = by_long w _ _ (calculated op w a b o second h)
-long_binary_agrees (meaning.Holds q) w a b o second h =
-    by_test w (holds_test (answer q (joined a b))) _ (pair_bit_is_truth (answers q) o second) (question_agrees q w a b o second h)
-long_binary_agrees (meaning.Fails q) w a b o second h =
-    turned_pair w (holds_test (answer q (joined a b))) o second (answers q) (question_agrees q w a b o second h)
+-- the program of an expression that is long leaves its value as a long
+pub record LongAgrees (k : Keeping) (w : WordState) (l : Lowering) (o : Option Evaluated) : Type 0 where
+  pub words : Program
+  pub is_long : l ≡ as_long words
+  pub leaves : LeavesLong k w.stack (behaviour words w) o
+
+-- of a long its two words, and of others a word and a test
+abbrev pub AgreesAs : Keeping → WordType → WordState → Lowering → Option Evaluated → Type 0
+AgreesAs k Long w l o = LongAgrees k w l o
+AgreesAs k _ w l o = LoweringAgrees k w l o
+
+module _ (k : Keeping) where
+  pub by_long : (w : WordState) (q : Program) (o : Option Evaluated) → LeavesLong k w.stack (behaviour q w) o → LongAgrees k w (as_long q) o
+  by_long w q o h = record { words = q; is_long = refl; leaves = h }
+
+  pub as_one_word : (of : WordType) → IsOneWord of → (w : WordState) (l : Lowering) (o : Option Evaluated) → LoweringAgrees k w l o → AgreesAs k of w l o
+  as_one_word Long is w l o h = absurd is
+  as_one_word of is w l o h = h
+
+  pub of_one_word : (of : WordType) → IsOneWord of → (w : WordState) (l : Lowering) (o : Option Evaluated) → AgreesAs k of w l o → LoweringAgrees k w l o
+  of_one_word Long is w l o h = absurd is
+  of_one_word of is w l o h = h
+
+  -- ---- steps behind longs
+
+  -- its low word
+  low_word : (w : WordState) (q : Program) (o : Option Evaluated) → LeavesLong k w.stack (behaviour q w) o
+      → LeavesWord k w.stack (behaviour (behind q (long with_longs.LowWord)) w) (converted_to Long Unsigned o)
+  low_word w q o h = step_leaves k stacked single (long with_longs.LowWord) (λ n. n % 65536) w q o h (λ x s. refl)
+
+  -- the bits of both words
+  any_bit : (w : WordState) (q : Program) (o : Option Evaluated) → LeavesLong k w.stack (behaviour q w) o
+      → LeavesWord k w.stack (behaviour (behind q (binary (Plain plain.Or))) w) (made_of both_words o)
+  any_bit w q o h = step_leaves k stacked single (binary (Plain plain.Or)) both_words w q o h (λ x s. refl)
+
+  -- whether it isn't 0
+  any_bit_holds : (w : WordState) (q : Program) (o : Option Evaluated) → LeavesLong k w.stack (behaviour q w) o
+      → LeavesWord k w.stack (truth_pushed (value_test (as_long q)) w) (truth_of o)
+  any_bit_holds w q o h =
+      let bits = behind q (binary (Plain plain.Or)) in
+      subst (LeavesWord k w.stack (truth_pushed (holds_test bits) w)) (any_bit_is_truth o) (by_word k w bits _ (any_bit w q o h)).test
+
+  -- one word as a long
+  widened_agrees : (of : WordType) → IsOneWord of → (w : WordState) (q : Program) (o : Option Evaluated) → LeavesWord k w.stack (behaviour q w) o
+      → LeavesLong k w.stack (behaviour (joined q (widening of)) w) (converted_to of Long o)
+  widened_agrees Long is w q o h = absurd is
+  widened_agrees Int is w q o h = step_leaves k single stacked (long with_longs.Widen) (converted Int Long) w q o h (λ x s. refl)
+  widened_agrees Unsigned is w q o h =
+      then_program k single (Leaves k stacked w.stack) w q (widening Unsigned) o (λ x. gives x.value x.behind) h
+      (λ x s kept. let same : x.value + 65536 * 0 ≡ x.value = omega arith in (tt, record { stack = ap (λ n. stacked n ++ w.stack) same; kept = kept }))
+
+  -- its value as one word
+  pub word_agrees : (of : WordType) (w : WordState) (l : Lowering) (o : Option Evaluated) → AgreesAs k of w l o
+      → LeavesWord k w.stack (behaviour (word_program l) w) (converted_to of Unsigned o)
+  word_agrees Long w l o h =
+      subst (λ l. LeavesWord k w.stack (behaviour (word_program l) w) (converted_to Long Unsigned o)) (sym h.is_long) (low_word w h.words o h.leaves)
+  word_agrees of w l o h = subst (LeavesWord k w.stack (behaviour (word_program l) w)) (same_value o) h.word
+
+  -- the two words of a long
+  pub words_agree : (w : WordState) (l : Lowering) (o : Option Evaluated) → LongAgrees k w l o → LeavesLong k w.stack (behaviour (long_words l) w) o
+  words_agree w l o h = subst (λ l. LeavesLong k w.stack (behaviour (long_words l) w) o) (sym h.is_long) h.leaves
+
+  -- its value as a long
+  pub long_agrees : (of : WordType) (w : WordState) (l : Lowering) (o : Option Evaluated) → AgreesAs k of w l o
+      → LeavesLong k w.stack (behaviour (long_program of l) w) (converted_to of Long o)
+  long_agrees Long w l o h = subst (LeavesLong k w.stack (behaviour (long_words l) w)) (same_value o) (words_agree w l o h)
+  long_agrees of w l o h = widened_agrees of tt w (word_program l) o h.word
+
+  -- its test
+  pub test_agrees : (of : WordType) (w : WordState) (l : Lowering) (o : Option Evaluated) → AgreesAs k of w l o
+      → LeavesWord k w.stack (truth_pushed (value_test l) w) (truth_of o)
+  test_agrees Long w l o h =
+      subst (λ l. LeavesWord k w.stack (truth_pushed (value_test l) w) (truth_of o)) (sym h.is_long) (any_bit_holds w h.words o h.leaves)
+  test_agrees of w l o h = h.test
+
+  -- ---- operators in front, and shifts
+
+  -- from 0 on the stack
+  pub negated : (w : WordState) (q : Program) (o : Option Evaluated)
+      → (let u = pushed 0 (pushed 0 w) in LeavesLong k u.stack (behaviour q u) o)
+      → LeavesLong k w.stack (behaviour (joined (joined long_zero q) (one (long (with_longs.Calculate plain.Subtract)))) w) (made_of (long_difference 0) o)
+  negated w q o h =
+      then_program k stacked (Leaves k stacked w.stack) (pushed 0 (pushed 0 w)) q (one (long (with_longs.Calculate plain.Subtract))) o
+      (λ x. gives (long_difference 0 x.value) x.behind) h
+      (λ x s kept. (tt, record { stack = ap (λ n. stacked (long_difference 0 n) ++ w.stack) (whole x.value); kept = kept }))
+
+  pub complemented : (w : WordState) (q : Program) (o : Option Evaluated) → LeavesLong k w.stack (behaviour q w) o
+      → LeavesLong k w.stack (behaviour (behind q (long with_longs.Complement)) w) (made_of (λ n. 4294967295 - n) o)
+  complemented w q o h = step_leaves k stacked stacked (long with_longs.Complement) (λ n. 4294967295 - n) w q o h
+      (λ x s. ap (λ n. goes_on [] (with_stack (stacked (4294967295 - n) ++ w.stack) s)) (whole x))
+
+  pub long_shifted : (op : ShiftOperator) (n : ℕ) (w : WordState) (q : Program) (o : Option Evaluated) → LeavesLong k w.stack (behaviour q w) o
+      → LeavesLong k w.stack (behaviour (behind q (long (long_shift op n))) w) (made_of (λ v. long_shift_value op v n) o)
+  long_shifted op n w q o h = step_leaves k stacked stacked (long (long_shift op n)) (λ v. long_shift_value op v n) w q o h (by op)
+    where
+      by : (op : ShiftOperator) (x : ℕ) (s : WordState) → step_behaviour (long (long_shift op n)) (with_stack (stacked x ++ w.stack) s)
+          ≡ goes_on [] (with_stack (stacked (long_shift_value op x n) ++ w.stack) s)
+      by shift_operator.Left x s = ap (λ v. goes_on [] (with_stack (stacked (long_shift_value shift_operator.Left v n) ++ w.stack) s)) (whole x)
+      by shift_operator.Right x s = ap (λ v. goes_on [] (with_stack (stacked (long_shift_value shift_operator.Right v n) ++ w.stack) s)) (whole x)
+
+  -- ---- two sides
+
+  -- an operation behind both
+  calculated : (op : PlainOperation) (w : WordState) (a b : Program) (o : Option Evaluated) (second : Attempt → Option Evaluated)
+      → SidesAgree k stacked w a b o second
+      → LeavesLong k w.stack (behaviour (behind (joined a b) (long (with_longs.Calculate op))) w) (pair_value (plain_long op) o second)
+  calculated op w a b o second h = pair_leaves k stacked stacked (long (with_longs.Calculate op)) (plain_long op) w a b o second h
+      (λ x y s. with_both_whole (λ m n. goes_on [] (with_stack (stacked (plain_long op m n) ++ w.stack) s)) x y)
+
+  -- the truth of a word that is made of both
+  holds_of_pair : (w : WordState) (q : Program) (o : Option Evaluated) (second : Attempt → Option Evaluated) (f : ℕ → ℕ → ℕ) (b : ℕ → ℕ → Bool)
+      → ((x y : ℕ) → holds (f x y) ≡ b x y) → LeavesWord k w.stack (behaviour q w) (pair_value f o second)
+      → LeavesWord k w.stack (truth_pushed (holds_test q) w) (pair_value (λ x y. bit (b x y)) o second)
+  holds_of_pair w q o second f b e h =
+      subst (LeavesWord k w.stack (truth_pushed (holds_test q) w))
+      (pair_made truth_word f (λ x y. bit (b x y)) o second (λ x y. ap bit (e x y)))
+      (by_word k w q (pair_value f o second) h).test
+
+  question_agrees : (q : LongQuestion) (w : WordState) (a b : Program) (o : Option Evaluated) (second : Attempt → Option Evaluated)
+      → SidesAgree k stacked w a b o second
+      → LeavesWord k w.stack (truth_pushed (holds_test (answer q (joined a b))) w) (pair_value (λ x y. bit (answers q x y)) o second)
+  question_agrees question.Below w a b o second h =
+      let bits : ℕ → ℕ → ℕ = λ x y. all_bits (nat_lt x y) in
+      holds_of_pair w (answer question.Below (joined a b)) o second bits nat_lt (λ x y. all_bits_hold (nat_lt x y))
+      (pair_leaves k stacked single (long with_longs.Below) bits w a b o second h
+      (λ x y s. with_both_whole (λ m n. goes_on [] (with_stack (bits m n ∷ w.stack) s)) x y))
+  question_agrees question.Above w a b o second h =
+      let bits : ℕ → ℕ → ℕ = λ x y. all_bits (nat_lt y x) in
+      holds_of_pair w (answer question.Above (joined a b)) o second bits (λ x y. nat_lt y x) (λ x y. all_bits_hold (nat_lt y x))
+      (pair_leaves k stacked single (long with_longs.Above) bits w a b o second h
+      (λ x y s. with_both_whole (λ m n. goes_on [] (with_stack (bits m n ∷ w.stack) s)) x y))
+  question_agrees question.Differ w a b o second h =
+      let q = behind (joined a b) (long (with_longs.Calculate plain.Xor)) in
+      let bits = behind q (binary (Plain plain.Or)) in
+      holds_of_pair w bits o second (λ x y. both_words (bit_xor x y)) (λ x y. not (x == y)) (λ x y. words_hold (bit_xor x y) ∙ xor_holds x y)
+      (subst (LeavesWord k w.stack (behaviour bits w)) (pair_made both_words bit_xor (λ x y. both_words (bit_xor x y)) o second (λ x y. refl))
+      (any_bit w q (pair_value bit_xor o second) (calculated plain.Xor w a b o second h)))
+
+  -- what fails where this holds
+  turned_pair : (w : WordState) (c : Test) (o : Option Evaluated) (second : Attempt → Option Evaluated) (b : ℕ → ℕ → Bool)
+      → LeavesWord k w.stack (truth_pushed c w) (pair_value (λ x y. bit (b x y)) o second)
+      → LoweringAgrees k w (as_test (fails c)) (pair_value (λ x y. bit (not (b x y))) o second)
+  turned_pair w c o second b h =
+      let pair = pair_value (λ x y. bit (b x y)) o second in
+      subst (LoweringAgrees k w (as_test (fails c)))
+      (pair_made not_word (λ x y. bit (b x y)) (λ x y. bit (not (b x y))) o second (λ x y. not_of_bit (b x y)))
+      (not_agrees k w c pair (subst (LeavesWord k w.stack (truth_pushed c w)) (sym (pair_bit_is_truth b o second)) h))
+
+  pub long_binary_agrees : (m : LongMeaning) (w : WordState) (a b : Program) (o : Option Evaluated) (second : Attempt → Option Evaluated)
+      → SidesAgree k stacked w a b o second
+      → AgreesAs k (long_meaning_type m) w (long_binary_lowering m (joined a b)) (pair_value (long_meaning_value m) o second)
+  long_binary_agrees (meaning.Calculates op) w a b o second h = by_long w _ _ (calculated op w a b o second h)
+  long_binary_agrees (meaning.Holds q) w a b o second h =
+      by_test k w (holds_test (answer q (joined a b))) _ (pair_bit_is_truth (answers q) o second) (question_agrees q w a b o second h)
+  long_binary_agrees (meaning.Fails q) w a b o second h =
+      turned_pair w (holds_test (answer q (joined a b))) o second (answers q) (question_agrees q w a b o second h)

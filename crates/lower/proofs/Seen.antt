@@ -1,19 +1,10 @@
 -- A memory map as a task sees it keeps the rules of memory maps, and what stands there stands in the whole map at the same address.
-use Rattle.std.proofs.Common.{◌≡◌, ℕ, zero, suc, ◌+◌, ◌*◌, Bool, true, false, List, [], ◌∷◌, ◌++◌, length, map, Option, Some, None, refl, sym, ap, ◌∙◌}
-use Rattle.std.proofs.Common.{subst, arith, slice_get}
-use Rattle.std.specs.Prelude.{All, option_map}
-use Rattle.std.specs.List.{flat_map}
-use Rattle.std.proofs.lemmas.List.Elements.{All-weaker}
-use Rattle.memory_map.specs.declared.place.Region.{Region}
-use Rattle.memory_map.specs.declared.place.ArrayCopies.{ArrayCopies}
-use Rattle.memory_map.specs.declared.place.ScalarWidth.{ScalarWidth}
-use Rattle.memory_map.specs.declared.place.VariablePlace.{VariablePlace}
-use Rattle.memory_map.specs.declared.place.VariablePlace.TheVariants.{Scalar, Array}
-use Rattle.memory_map.specs.declared.place.PrivateScalar.{PrivateScalar}
-use Rattle.memory_map.specs.MemoryMap.{MemoryMap, TaskPlace}
-use Rattle.memory_map.specs.Places.{end_of, scalar_words, AreInOrder, home_region, copy_regions, version_regions, HasItsPlace, IsLaidOut}
-use Rattle.memory_map.proofs.Interface.{in_order_append}
-use Rattle.lower.specs.Seen.{place_seen, places_seen}
+use Rattle.lower.proofs.Names.{◌≡◌, ℕ, zero, suc, ◌+◌, Bool, true, false, List, [], ◌∷◌, ◌++◌, length, map, Option, Some, None, refl, sym, ap, ◌∙◌, subst}
+use Rattle.lower.proofs.Names.{arith, inl, inr, ◌⊎◌, ⊎_elim, option_map, flat_map, All-weaker, Region, ArrayCopies, ScalarWidth, VariablePlace, Scalar, Array}
+use Rattle.lower.proofs.Names.{PrivateScalar, MemoryMap, TaskPlace, end_of, AreInOrder, home_region, copy_regions, version_regions, HasItsPlace}
+use Rattle.lower.proofs.Names.{IsLaidOut, in_order_append, place_seen, places_seen}
+use Rattle.std.proofs.Common.{slice_get}
+use Rattle.std.specs.Prelude.{All}
 
 -- the place of a variable of a number
 pub place_at : (written : ℕ → Bool) (k : ℕ) (xs : List VariablePlace) (v : ℕ)
@@ -30,85 +21,78 @@ places_count written k (x ∷ xs) = ap suc (places_count written (k + 1) xs)
 
 -- ---- in order
 
--- without the first region
-without_first : (from : ℕ) (r : Region) (rs : List Region) (end : ℕ) → AreInOrder from (r ∷ rs) end → AreInOrder from rs end
-without_first from r rs end h = let b = h.0 in in_order_append from [] (end_of r) rs end (omega (arith, b)) h.1
+-- without the first regions
+without_first : (from : ℕ) (rs more : List Region) (end : ℕ) → AreInOrder from (rs ++ more) end → AreInOrder from more end
+without_first from [] more end h = h
+without_first from (r ∷ rs) more end h =
+    let b = h.0 in in_order_append from [] (end_of r) more end (omega (arith, b)) (without_first (end_of r) rs more end h.1)
+
+-- with others behind the first ones
+others_behind : (from : ℕ) (rs more others : List Region) (end : ℕ) → AreInOrder from (rs ++ more) end
+    → ((from : ℕ) → AreInOrder from more end → AreInOrder from others end) → AreInOrder from (rs ++ others) end
+others_behind from [] more others end h k = k from h
+others_behind from (r ∷ rs) more others end h k = (h.0, others_behind (end_of r) rs more others end h.1 k)
+
+-- a place that is seen has the same regions or none
+abbrev SameOrNone : (VariablePlace → List Region) → Bool → VariablePlace → Type 0
+SameOrNone regions written x = (regions (place_seen written x) ≡ regions x) ⊎ (regions (place_seen written x) ≡ [])
+
+-- so those that are seen stay in order
+seen_in_order : (regions : VariablePlace → List Region) → ((b : Bool) (x : VariablePlace) → SameOrNone regions b x)
+    → (written : ℕ → Bool) (k : ℕ) (xs : List VariablePlace) (from end : ℕ) → AreInOrder from (flat_map regions xs) end
+    → AreInOrder from (flat_map regions (places_seen written k xs)) end
+seen_in_order regions seen written k [] from end h = h
+seen_in_order regions seen written k (x ∷ xs) from end h =
+    let rest = flat_map regions xs in
+    let later = flat_map regions (places_seen written (k + 1) xs) in
+    let In : List Region → Type 0 = λ rs. AreInOrder from (rs ++ later) end in
+    let next : (from : ℕ) → AreInOrder from rest end → AreInOrder from later end = λ from h. seen_in_order regions seen written (k + 1) xs from end h in
+    ⊎_elim (λ e. subst In (sym e) (others_behind from (regions x) rest later end h next))
+    (λ e. subst In (sym e) (next from (without_first from (regions x) rest end h))) (seen (written k) x)
+
+copies_seen : (b : Bool) (x : VariablePlace) → SameOrNone copy_regions b x
+copies_seen b (Scalar home copy width) = inl refl
+copies_seen true (Array elements length copies) = inl refl
+copies_seen false (Array elements length copies) = inr refl
+
+versions_seen : (b : Bool) (x : VariablePlace) → SameOrNone version_regions b x
+versions_seen b (Scalar home copy width) = inl refl
+versions_seen true (Array elements length copies) = inl refl
+versions_seen false (Array elements length copies) = inr refl
+
+home_seen : (b : Bool) (x : VariablePlace) → home_region (place_seen b x) ≡ home_region x
+home_seen b (Scalar home copy width) = refl
+home_seen true (Array elements length copies) = refl
+home_seen false (Array elements length copies) = refl
 
 homes_same : (written : ℕ → Bool) (k : ℕ) (xs : List VariablePlace) → map home_region (places_seen written k xs) ≡ map home_region xs
 homes_same written k [] = refl
-homes_same written k (Scalar home copy width ∷ xs) = ap (λ rs. record { address = home; words = scalar_words width } ∷ rs) (homes_same written (k + 1) xs)
-homes_same written k (Array elements length copies ∷ xs) = by (written k) (homes_same written (k + 1) xs)
-  where
-    by : (b : Bool) → map home_region (places_seen written (k + 1) xs) ≡ map home_region xs
-        → home_region (place_seen b (Array elements length copies)) ∷ map home_region (places_seen written (k + 1) xs)
-        ≡ record { address = elements; words = length } ∷ map home_region xs
-    by true e = ap (λ rs. record { address = elements; words = length } ∷ rs) e
-    by false e = ap (λ rs. record { address = elements; words = length } ∷ rs) e
-
-copies_in_order : (written : ℕ → Bool) (k : ℕ) (xs : List VariablePlace) (from end : ℕ) → AreInOrder from (flat_map copy_regions xs) end
-    → AreInOrder from (flat_map copy_regions (places_seen written k xs)) end
-copies_in_order written k [] from end h = h
-copies_in_order written k (Scalar home copy width ∷ xs) from end h = (h.0, copies_in_order written (k + 1) xs (copy + 2 * scalar_words width) end h.1)
-copies_in_order written k (Array elements length None ∷ xs) from end h = by (written k) (copies_in_order written (k + 1) xs from end h)
-  where
-    by : (b : Bool) → AreInOrder from (flat_map copy_regions (places_seen written (k + 1) xs)) end
-        → AreInOrder from (copy_regions (place_seen b (Array elements length None)) ++ flat_map copy_regions (places_seen written (k + 1) xs)) end
-    by true r = r
-    by false r = r
-copies_in_order written k (Array elements length (Some c) ∷ xs) from end h =
-    by (written k) (copies_in_order written (k + 1) xs (c.copies + 2 * length) end h.1)
-    (copies_in_order written (k + 1) xs from end (without_first from (record { address = c.copies; words = length }) (flat_map copy_regions xs) end h))
-  where
-    by : (b : Bool) → AreInOrder (c.copies + 2 * length) (flat_map copy_regions (places_seen written (k + 1) xs)) end
-        → AreInOrder from (flat_map copy_regions (places_seen written (k + 1) xs)) end
-        → AreInOrder from (copy_regions (place_seen b (Array elements length (Some c))) ++ flat_map copy_regions (places_seen written (k + 1) xs)) end
-    by true r q = (h.0, r)
-    by false r q = q
-
-versions_in_order : (written : ℕ → Bool) (k : ℕ) (xs : List VariablePlace) (from end : ℕ) → AreInOrder from (flat_map version_regions xs) end
-    → AreInOrder from (flat_map version_regions (places_seen written k xs)) end
-versions_in_order written k [] from end h = h
-versions_in_order written k (Scalar home copy width ∷ xs) from end h = versions_in_order written (k + 1) xs from end h
-versions_in_order written k (Array elements length None ∷ xs) from end h = by (written k) (versions_in_order written (k + 1) xs from end h)
-  where
-    by : (b : Bool) → AreInOrder from (flat_map version_regions (places_seen written (k + 1) xs)) end
-        → AreInOrder from (version_regions (place_seen b (Array elements length None)) ++ flat_map version_regions (places_seen written (k + 1) xs)) end
-    by true r = r
-    by false r = r
-versions_in_order written k (Array elements length (Some c) ∷ xs) from end h =
-    by (written k) (versions_in_order written (k + 1) xs (c.versions + 2 * length) end h.1)
-    (versions_in_order written (k + 1) xs from end (without_first from (record { address = c.versions; words = length }) (flat_map version_regions xs) end h))
-  where
-    by : (b : Bool) → AreInOrder (c.versions + 2 * length) (flat_map version_regions (places_seen written (k + 1) xs)) end
-        → AreInOrder from (flat_map version_regions (places_seen written (k + 1) xs)) end
-        → AreInOrder from (version_regions (place_seen b (Array elements length (Some c))) ++ flat_map version_regions (places_seen written (k + 1) xs)) end
-    by true r q = (h.0, r)
-    by false r q = q
+homes_same written k (x ∷ xs) = λ j. home_seen (written k) x j ∷ homes_same written (k + 1) xs j
 
 -- ---- one place
+
+place_of : (written : ℕ → Bool) (xs : List VariablePlace) (v : ℕ) (x : VariablePlace) (b : Bool) → slice_get xs v ≡ Some x → written v ≡ b
+    → slice_get (places_seen written 0 xs) v ≡ Some (place_seen b x)
+place_of written xs v x b e w =
+    let same : 0 + v ≡ v = omega arith in
+    place_at written 0 xs v ∙ ap (λ n. option_map (place_seen (written n)) (slice_get xs v)) same ∙ (λ j. option_map (place_seen (w j)) (e j))
 
 -- a scalar's place is the same
 pub scalar_seen : (written : ℕ → Bool) (xs : List VariablePlace) (v home copy : ℕ) (width : ScalarWidth)
     → slice_get xs v ≡ Some (Scalar home copy width)
     → slice_get (places_seen written 0 xs) v ≡ Some (Scalar home copy width)
-scalar_seen written xs v home copy width e = place_at written 0 xs v ∙ ap (option_map (place_seen (written (0 + v)))) e
+scalar_seen written xs v home copy width e = place_of written xs v (Scalar home copy width) (written v) e refl
 
 -- an array has its elements, and its copies where it is written
 pub array_seen : (written : ℕ → Bool) (xs : List VariablePlace) (v elements length : ℕ) (copies : Option ArrayCopies)
     → slice_get xs v ≡ Some (Array elements length copies) → written v ≡ true
     → slice_get (places_seen written 0 xs) v ≡ Some (Array elements length copies)
-array_seen written xs v elements length copies e w =
-    let same : 0 + v ≡ v = omega arith in
-    place_at written 0 xs v ∙ ap (λ n. option_map (place_seen (written n)) (slice_get xs v)) same
-    ∙ ap (λ b. option_map (place_seen b) (slice_get xs v)) w ∙ ap (option_map (place_seen true)) e
+array_seen written xs v elements length copies e w = place_of written xs v (Array elements length copies) true e w
 
 pub array_read : (written : ℕ → Bool) (xs : List VariablePlace) (v elements length : ℕ) (copies : Option ArrayCopies)
     → slice_get xs v ≡ Some (Array elements length copies) → written v ≡ false
     → slice_get (places_seen written 0 xs) v ≡ Some (Array elements length None)
-array_read written xs v elements length copies e w =
-    let same : 0 + v ≡ v = omega arith in
-    place_at written 0 xs v ∙ ap (λ n. option_map (place_seen (written n)) (slice_get xs v)) same
-    ∙ ap (λ b. option_map (place_seen b) (slice_get xs v)) w ∙ ap (option_map (place_seen false)) e
+array_read written xs v elements length copies e w = place_of written xs v (Array elements length copies) false e w
 
 -- what a seen place is of
 pub data SeenFrom (xs : List VariablePlace) (v : ℕ) (written : Bool) : VariablePlace → Type 0 where
@@ -155,8 +139,8 @@ seen_laid_out written m h = record {
   chain = h.chain;
   list = h.list;
   homes = subst (λ rs. AreInOrder m.homes.address rs (end_of m.homes)) (sym (homes_same written 0 m.variables)) h.homes;
-  copies = copies_in_order written 0 m.variables m.copies.address (end_of m.copies) h.copies;
-  versions = versions_in_order written 0 m.variables m.versions.address (end_of m.versions) h.versions;
+  copies = seen_in_order copy_regions copies_seen written 0 m.variables m.copies.address (end_of m.copies) h.copies;
+  versions = seen_in_order version_regions versions_seen written 0 m.variables m.versions.address (end_of m.versions) h.versions;
   code = h.code;
   privates = All-weaker (λ t. All (HasItsPlace m.variables) t.privates) (λ t. All (HasItsPlace (places_seen written 0 m.variables)) t.privates)
       (λ (t : TaskPlace) k. privates_seen written m.variables t.privates k) m.tasks h.privates;

@@ -1,58 +1,32 @@
 -- The words of a task's code, and the cycles of its expressions, are within the allowance of a source.
-use Rattle.std.proofs.Common.{◌≡◌, ℕ, ◌+◌, ◌*◌, ◌<◌, ◌≤◌, ◌==◌, Bool, true, false, List, [], ◌∷◌, length, Option, Some, None, slice_get, refl, sym, ap, arith}
-use Rattle.std.proofs.Common.{nat_le, if◌then◌else◌}
-use Rattle.std.proofs.lemmas.Bool.Decides.{nat_tests}
-use Rattle.task_ast.specs.Tree as t
-use Rattle.task_ast.specs.Paths.{CheckedExpression, CheckedStatement, CheckedChoice, CheckedBlock}
-use Rattle.task_ast.specs.declared.WordType.{WordType}
-use Rattle.task_ast.specs.declared.WordType.TheVariants.{Unsigned, Int, Long}
-use Rattle.task_ast.specs.Types.{is_long, binary_type, unary_type, literal_type}
-use Rattle.task_ast.specs.declared.UnaryOperator.{UnaryOperator}
-use Rattle.task_ast.specs.declared.UnaryOperator.TheVariants as unary_operator
-use Rattle.task_ast.specs.declared.BinaryOperator.{BinaryOperator}
-use Rattle.task_ast.specs.declared.PlacedOperator.{PlacedOperator}
-use Rattle.task_ast.specs.declared.BinaryOperator.TheVariants as operator
-use Rattle.task_ast.specs.declared.ShiftOperator.{ShiftOperator}
-use Rattle.task_ast.specs.declared.ShiftOperator.TheVariants as shift_operator
-use Rattle.task_ast.specs.declared.ShortCircuitOperator.{ShortCircuitOperator}
-use Rattle.task_ast.specs.declared.ShortCircuitOperator.TheVariants.{And as BothHold, Or as OneHolds}
-use Rattle.task_ast.specs.declared.names.Variable.{Variable}
-use Rattle.task_ast.specs.declared.names.Variable.TheVariants.{Shared, Local}
-use Rattle.task_ast.proofs.Interface.{width_least}
+use Rattle.lower.proofs.Names.{◌≡◌, ℕ, ◌+◌, ◌*◌, ◌<◌, ◌≤◌, ◌==◌, Bool, true, false, List, [], ◌∷◌, length, Option, Some, None, refl, sym, ap, arith, nat_le}
+use Rattle.lower.proofs.Names.{if◌then◌else◌, nat_tests, CheckedExpression, CheckedStatement, CheckedChoice, CheckedBlock, WordType, Unsigned, Int, Long}
+use Rattle.lower.proofs.Names.{is_long, binary_type, unary_type, literal_type, UnaryOperator, BinaryOperator, PlacedOperator, ShiftOperator}
+use Rattle.lower.proofs.Names.{ShortCircuitOperator, BothHold, OneHolds, Variable, Shared, Local, width_least, cycles_column, words_column, operator_price}
+use Rattle.lower.proofs.Names.{expression_price, statement_price, conditions_price, blocks_price, block_price, Negate, Complement, Plain, PlainOperation}
+use Rattle.lower.proofs.Names.{Subtract, And, Xor, Or, Step, Test, Program, number, truth, unary, binary, shift, long, emit_word, store_number, move_word}
+use Rattle.lower.proofs.Names.{jump, step, joined, binary_cycles, step_cycles, test_cycles, cycles_of, entry_words, step_words, test_words, words_of}
+use Rattle.lower.proofs.Names.{joined_cycles, steps_keep_to_words, word_place, Gate, ListLength, EmitCount, Base, SentBase, VariablePlace, Scalar, Array}
+use Rattle.lower.proofs.Names.{PrivateScalar, Places, private_words, some_words, run_at, runs_of}
+use Rattle.lower.proofs.Names.{BinaryMeaning, Calculates, CommonBits, Holds, Fails, LongQuestion, LongMeaning, binary_meaning, shift_operation, operand_type}
+use Rattle.lower.proofs.Names.{long_meaning, long_shift, BlocksKeepToWords, one, read_step, write_step, read_long, write_long, element_read, element_step}
+use Rattle.lower.proofs.Names.{store_step, Lowering, as_word, as_test, as_bits, as_long, word_program, value_test, widening, long_words, long_program}
+use Rattle.lower.proofs.Names.{name_lowering, unary_lowering, long_zero, operand_lowering, answer, long_binary_lowering, sides_lowering, shift_lowering}
+use Rattle.lower.proofs.Names.{update_step, setting, long_setting, updating, of_words, sides_set, scalar_assignment, widened_type, lowered_long}
+use Rattle.lower.proofs.Names.{index_and_value, element_setting, update_element_step, element_updating, element_sides_set, binary_lowering, sides_test}
+use Rattle.lower.proofs.Names.{lowering, assignment, element_assignment, emission, entries, lowered_transition, lowered_expression, lowered_test}
+use Rattle.lower.proofs.Names.{lowered_statement, lowered_choice, lowered_block}
+use Rattle.std.proofs.Common.{slice_get}
 use Rattle.source_values.specs.Values.{by_width, joined_type, type_of}
-use Rattle.cost_bound.specs.Table.{cycles_column, words_column, operator_price, expression_price, statement_price, conditions_price, blocks_price, block_price}
-use Rattle.array_versions.specs.declared.operations.UnaryOperation.TheVariants.{Negate, Complement}
-use Rattle.array_versions.specs.declared.operations.BinaryOperation.TheVariants.{Plain}
-use Rattle.array_versions.specs.declared.operations.PlainOperation.{PlainOperation}
-use Rattle.array_versions.specs.declared.operations.PlainOperation.TheVariants.{Subtract, And, Xor, Or}
+use Rattle.array_versions.proofs.Interface.{joined_words}
+use Rattle.task_ast.specs.Tree as t
+use Rattle.lower.proofs.Neighbours.{of_runs}
+use Rattle.task_ast.specs.declared.UnaryOperator.TheVariants as unary_operator
+use Rattle.task_ast.specs.declared.BinaryOperator.TheVariants as operator
+use Rattle.task_ast.specs.declared.ShiftOperator.TheVariants as shift_operator
 use Rattle.array_versions.specs.declared.operations.LongOperation.TheVariants as with_longs
-use Rattle.array_versions.specs.Program.{Step, Test, Program, number, truth, unary, binary, shift, long, emit_word, store_number, move_word, jump, step, joined}
-use Rattle.array_versions.specs.Cost.{binary_cycles, step_cycles, test_cycles, cycles_of, entry_words, step_words, test_words, words_of}
-use Rattle.array_versions.proofs.Interface.{joined_cycles, joined_words, steps_keep_to_words}
-use Rattle.memory_map.specs.MemoryMap.{word_place}
-use Rattle.memory_map.specs.declared.words.RuntimeWord.TheVariants.{Gate, ListLength, EmitCount, Base, SentBase}
-use Rattle.memory_map.specs.declared.place.VariablePlace.{VariablePlace}
-use Rattle.memory_map.specs.declared.place.VariablePlace.TheVariants.{Scalar, Array}
-use Rattle.memory_map.specs.declared.place.PrivateScalar.{PrivateScalar}
-use Rattle.memory_map.specs.Places.{scalar_words}
-use Rattle.memory_map.specs.Spots.{Places, private_words}
-use Rattle.memory_map.proofs.Interface.{some_words}
-use Rattle.lower.specs.declared.runs.Run.{Run}
-use Rattle.lower.specs.Runs.{run_at, is_followed_by, longer, runs_from, runs_of}
-use Rattle.lower.specs.declared.operations.BinaryMeaning.{BinaryMeaning}
-use Rattle.lower.specs.declared.operations.BinaryMeaning.TheVariants.{Calculates, CommonBits, Holds, Fails}
-use Rattle.lower.specs.declared.operations.LongQuestion.{LongQuestion}
 use Rattle.lower.specs.declared.operations.LongQuestion.TheVariants as question
-use Rattle.lower.specs.declared.operations.LongMeaning.{LongMeaning}
 use Rattle.lower.specs.declared.operations.LongMeaning.TheVariants as meaning
-use Rattle.lower.specs.Operations.{binary_meaning, shift_operation, operand_type, long_meaning, long_shift}
-use Rattle.lower.specs.Sizes.{BlocksKeepToWords}
-use Rattle.lower.specs.Lowered.{one, read_step, write_step, read_long, write_long, element_read, element_step, store_step, Lowering, as_word, as_test, as_bits}
-use Rattle.lower.specs.Lowered.{as_long, word_program, value_test, widening, long_words, long_program, name_lowering, unary_lowering, long_zero}
-use Rattle.lower.specs.Lowered.{operand_lowering, answer, long_binary_lowering, sides_lowering, shift_lowering, update_step, setting}
-use Rattle.lower.specs.Lowered.{long_setting, updating, of_words, sides_set, scalar_assignment, widened_type, lowered_long, index_and_value, element_setting}
-use Rattle.lower.specs.Lowered.{update_element_step, element_updating, element_sides_set, binary_lowering, sides_test, lowering, assignment, element_assignment}
-use Rattle.lower.specs.Lowered.{emission, entries, lowered_transition, lowered_expression, lowered_test, lowered_statement, lowered_choice, lowered_block}
 
 -- ---- single steps
 
@@ -116,15 +90,12 @@ record Row (s : ℕ) (op : BinaryOperator) (is of : WordType) : Type 0 where
 -- of each operator alike: the first clause makes it a proof by cases
 row : (s : ℕ) (op : BinaryOperator) (is of : WordType) → Row s op is of
 row s operator.Multiply is of = record { words = omega arith; cycles = omega arith }
-row s operator.Divide is of = record { words = omega arith; cycles = omega arith }
-row s operator.Remainder is of = record { words = omega arith; cycles = omega arith }
 row s _ is of = record { words = omega (arith, least of); cycles = omega (arith, least of) }
 
 -- in place of long the type is unsigned
 no_long : (of : WordType) → (if is_long of then Unsigned else of) ≡ Long → ⊥
 no_long Long e = absurd (cc)
-no_long Int e = absurd (cc)
-no_long Unsigned e = absurd (cc)
+no_long of e = absurd (cc)
 
 -- longs are taken where the joined type is long, by an operator with the price of one of longs
 record TakesLongs (s : ℕ) (op : BinaryOperator) (of : WordType) : Type 0 where
@@ -169,14 +140,12 @@ has_more of l x y m n h = record {
 -- one word and its widening
 widened_has : (of : WordType) (q : Program) (x : Price) → Costs q x → Costs (joined q (widening of)) (beside (wider of) 12 x)
 widened_has Long q x h = let l = added q (widening Long) in (omega (arith, l, h), omega (arith, l, h))
-widened_has Int q x h = let l = added q (widening Int) in (omega (arith, l, h), omega (arith, l, h))
-widened_has Unsigned q x h = let l = added q (widening Unsigned) in (omega (arith, l, h), omega (arith, l, h))
+widened_has of q x h = let l = added q (widening of) in (omega (arith, l, h), omega (arith, l, h))
 
 long_has : (of : WordType) (l : Lowering) (x : Price) → Costs (word_program l) x → Costs (long_words l) (beside 2 12 x)
     → Costs (long_program of l) (beside (wider of) 12 x)
 long_has Long l x h k = k
-long_has Int l x h k = widened_has Int (word_program l) x h
-long_has Unsigned l x h k = widened_has Unsigned (word_program l) x h
+long_has of l x h k = widened_has of (word_program l) x h
 
 word_has : (of : WordType) (q : Program) (x : Price) → Costs q x → HasPrice of (as_word q) x
 word_has of q x h = record { word = h; test = (omega (arith, h), omega (arith, h)); long = long_has of (as_word q) x h (widened_has Long q x h) }
@@ -216,8 +185,7 @@ last_has of q s m n x c h = let l = added q (one s) in word_has of _ (beside m n
 name_has : (p : Places) (of : WordType) (x : Variable) → HasPrice of (name_lowering p of x) (record { words = by_width of 16 32; cycles = by_width of 40 80 })
 name_has p Long (Shared v) = long_value_has Long (read_long p (Shared v)) _ (omega arith) (omega arith)
 name_has p Long (Local n) = long_value_has Long (read_long p (Local n)) _ (omega arith) (omega arith)
-name_has p Int x = let a = read_costs p x in word_has Int (one (read_step p x)) _ (omega (arith, a), omega (arith, a))
-name_has p Unsigned x = let a = read_costs p x in word_has Unsigned (one (read_step p x)) _ (omega (arith, a), omega (arith, a))
+name_has p of x = let a = read_costs p x in word_has of (one (read_step p x)) _ (omega (arith, a), omega (arith, a))
 
 unary_has : (of : WordType) (op : UnaryOperator) (l : Lowering) (x : Price) → HasPrice of l x
     → HasPrice (unary_type op of) (unary_lowering op l) (beside 16 40 x)
@@ -227,8 +195,6 @@ unary_has of unary_operator.Not l x h = test_has Int _ (beside 16 40 x) (omega (
 
 operand_has : (of : WordType) (op : UnaryOperator) (l : Lowering) (x : Price) → HasPrice of l x
     → HasPrice (unary_type op of) (operand_lowering of op l) (beside (by_width of 16 32) (by_width of 40 80) x)
-operand_has Int op l x h = unary_has Int op l x h
-operand_has Unsigned op l x h = unary_has Unsigned op l x h
 operand_has Long unary_operator.Negate l x h =
     let beneath = added long_zero (long_words l) in
     let all = added (joined long_zero (long_words l)) (one (long (with_longs.Calculate Subtract))) in
@@ -237,6 +203,7 @@ operand_has Long unary_operator.Complement l x h =
     let all = added (long_words l) (one (long with_longs.Complement)) in
     long_value_has Long _ (beside 32 80 x) (omega (arith, all, h.long)) (omega (arith, all, h.long))
 operand_has Long unary_operator.Not l x h = test_has Int _ (beside 32 80 x) (omega (arith, h.test)) (omega (arith, h.test))
+operand_has of op l x h = unary_has of op l x h
 
 binary_has : (of : WordType) (meaning : BinaryMeaning) (sides : Program) (x : Price) → words_of sides ≤ x.words → cycles_of sides + 22 ≤ x.cycles
     → HasPrice of (binary_lowering meaning sides) (beside 16 (operation_cycles meaning + 32) x)
@@ -244,8 +211,7 @@ binary_has of (Calculates op) sides x h k =
     let l = added sides (one (binary op)) in
     word_has of _ (beside 16 (binary_cycles op + 32) x) (omega (arith, l, steps_keep_to_words (binary op), h), omega (arith, l, k))
 binary_has of CommonBits sides x h k = bits_have of sides (beside 16 40 x) (omega (arith, h)) (omega (arith, k))
-binary_has of (Holds c) sides x h k = test_has of _ (beside 16 40 x) (omega (arith, h)) (omega (arith, k))
-binary_has of (Fails c) sides x h k = test_has of _ (beside 16 40 x) (omega (arith, h)) (omega (arith, k))
+binary_has of meaning sides x h k = test_has of _ (beside 16 40 x) (omega (arith, h)) (omega (arith, k))
 
 -- an answer behind two longs has 12 words at most, and takes 24 cycles at most
 answer_costs : (q : LongQuestion) (sides : Program)
@@ -270,14 +236,10 @@ long_binary_has of (meaning.Fails q) sides x h k =
 -- with a long among two operands no more than one is widened
 wider_together : (s of : WordType) → joined_type s of ≡ Long → wider s + wider of ≤ 9
 wider_together Long Long e = omega arith
-wider_together Long Int e = omega arith
-wider_together Long Unsigned e = omega arith
-wider_together Int Long e = omega arith
-wider_together Unsigned Long e = omega arith
+wider_together Long of e = omega arith
+wider_together s Long e = omega arith
 wider_together Int Int e = absurd (cc)
-wider_together Int Unsigned e = absurd (cc)
-wider_together Unsigned Int e = absurd (cc)
-wider_together Unsigned Unsigned e = absurd (cc)
+wider_together s of e = absurd (cc)
 
 -- the prices of two sides together
 abbrev together : Price → Price → Price
@@ -309,8 +271,6 @@ module _ (s : ℕ) where
   sides_have : (is first second u v : WordType) (op : BinaryOperator) (l r : Lowering) (x y : Price) → operand_type op (joined_type first second) ≡ is
       → BothHave first second u v l r x y
       → HasPrice (binary_type op first second) (sides_lowering is op u v l r) (operator_and_sides s op (joined_type first second) x y)
-  sides_have Int first second u v op l r x y e h = word_sides_have Int (joined_type first second) _ op l r x y h.left.word h.right.word
-  sides_have Unsigned first second u v op l r x y e h = word_sides_have Unsigned (joined_type first second) _ op l r x y h.left.word h.right.word
   sides_have Long first second u v op l r x y e h =
       let takes = takes_longs s op (joined_type first second) e in
       let sides = added (long_program u l) (long_program v r) in
@@ -318,6 +278,7 @@ module _ (s : ℕ) where
       has_more (binary_type op first second) _ (beside 32 80 (together x y)) _ (omega (arith, takes.words)) (omega (arith, takes.cycles))
       (long_binary_has (binary_type op first second) (long_meaning op) _ (together x y)
       (omega (arith, sides, few, h.left.long, h.right.long, h.left_wider, h.right_wider)) (omega (arith, sides, h.left.long, h.right.long)))
+  sides_have is first second u v op l r x y e h = word_sides_have is (joined_type first second) _ op l r x y h.left.word h.right.word
 
 word_shift_has : (of : WordType) (op : ShiftOperator) (l : Lowering) (x : Price) (k : ℕ) → HasPrice of l x
     → HasPrice of (as_word (joined (word_program l) (one (shift (shift_operation op of) k)))) (beside 16 100 x)
@@ -327,12 +288,11 @@ word_shift_has of op l x k h =
 
 shift_has : (of : WordType) (op : ShiftOperator) (l : Lowering) (x : Price) (k : ℕ) → HasPrice of l x
     → HasPrice of (shift_lowering of op l k) (beside (by_width of 16 32) (by_width of 100 400) x)
-shift_has Int op l x k h = word_shift_has Int op l x k h
-shift_has Unsigned op l x k h = word_shift_has Unsigned op l x k h
 shift_has Long op l x k h =
     let all = added (long_words l) (one (long (long_shift op k))) in
     let few = long_shift_costs op k in
     long_value_has Long _ (beside 32 400 x) (omega (arith, all, few, h.long)) (omega (arith, all, few, h.long))
+shift_has of op l x k h = word_shift_has of op l x k h
 
 both_cost : (op : ShortCircuitOperator) (c d : Test)
     → (test_words (sides_test op c d) ≡ test_words c + test_words d) × (test_cycles (sides_test op c d) ≡ test_cycles c + test_cycles d)
@@ -397,26 +357,15 @@ one_entry words some = by (words == 1) refl
     by true e = omega (arith, some)
     by false e = let more : 2 ≤ words = grind (arith, nat_tests) in omega (arith, more)
 
--- the entries of a run and of those behind it
-abbrev FromRun : ℕ → ℕ → Run → List PrivateScalar → Type 0
-FromRun count list r privates = words_of (entries count list (runs_from r privates)) ≤ 16 * (r.words + private_words privates)
-
-either_entry : (count list : ℕ) (b : Bool) (r : Run) (s : PrivateScalar) (more : List PrivateScalar) → 0 < r.words
-    → FromRun count list (longer r s) more → FromRun count list (run_at s) more
-    → words_of (entries count list (if b then runs_from (longer r s) more else r ∷ runs_from (run_at s) more))
-    ≤ 16 * (r.words + (scalar_words s.width + private_words more))
-either_entry count list true r s more some joined apart = omega (arith, joined)
-either_entry count list false r s more some joined apart = let one = one_entry r.words some in omega (arith, one, apart)
-
-entries_from_run : (count list : ℕ) (r : Run) (privates : List PrivateScalar) → 0 < r.words → FromRun count list r privates
-entries_from_run count list r [] some = let one = one_entry r.words some in omega (arith, one)
-entries_from_run count list r (s ∷ more) some =
-    either_entry count list (is_followed_by r s) r s more some (entries_from_run count list (longer r s) more (omega (arith, some)))
-    (entries_from_run count list (run_at s) more (some_words s.width))
-
 entries_words : (count list : ℕ) (privates : List PrivateScalar) → words_of (entries count list (runs_of privates)) ≤ 16 * private_words privates
 entries_words count list [] = omega arith
-entries_words count list (s ∷ more) = let rest = entries_from_run count list (run_at s) more (some_words s.width) in omega (arith, rest)
+entries_words count list (s ∷ more) =
+    let rest = of_runs (λ r privates rs. 0 < r.words → words_of (entries count list rs) ≤ 16 * (r.words + private_words privates))
+    (λ r some. let one = one_entry r.words some in omega (arith, one))
+    (λ r s more rs e h some. let joined = h (omega (arith, some)) in omega (arith, joined))
+    (λ r s more rs h some. let one = one_entry r.words some in let apart = h (some_words s.width) in omega (arith, one, apart))
+    (run_at s) more (some_words s.width) in
+    omega (arith, rest)
 
 transition_words : (p : Places) (s task : ℕ) → private_words p.privates ≤ s → words_of (lowered_transition p task) ≤ 40 + 16 * s
 transition_words p s task few =
@@ -464,8 +413,7 @@ long_setting_keeps p s x e =
   where
     most_wider : (of : WordType) → wider of ≤ 7
     most_wider Long = omega arith
-    most_wider Int = omega arith
-    most_wider Unsigned = omega arith
+    most_wider of = omega arith
 
     writes : (x : Variable) → Keeps (write_long p x) (record { words = 5; cycles = 10 })
     writes (Shared v) = (omega arith, omega arith)
@@ -474,8 +422,7 @@ long_setting_keeps p s x e =
 pub scalar_keeps : (p : Places) (s : ℕ) (of : WordType) (x : Variable) (e : CheckedExpression)
     → Keeps (scalar_assignment p of x e) (beside (by_width of 24 40) (by_width of 40 80) (price s e))
 scalar_keeps p s Long x e = long_setting_keeps p s x e
-scalar_keeps p s Int x e = assignment_keeps p s x e
-scalar_keeps p s Unsigned x e = assignment_keeps p s x e
+scalar_keeps p s of x e = assignment_keeps p s x e
 
 -- an assignment to an element keeps to its row and those of its parts
 abbrev ElementKeeps : ℕ → CheckedExpression → CheckedExpression → Program → Type 0

@@ -1,28 +1,15 @@
 -- What stores do to a state that stands for an attempt.
-use Rattle.std.proofs.Common.{◌≡◌, ℕ, ◌+◌, ◌*◌, ◌%◌, ◌==◌, ◌<◌, ◌≤◌, List, [], ◌∷◌, ◌++◌, length, get_or, slice_set, slice_get, Option, Some, None, Contains}
-use Rattle.std.proofs.Common.{All, refl, sym, ap, ◌∙◌, subst, arith, eq-eqb, ne_eqb, ⊎_elim, length-append, if◌then◌else◌}
-use Rattle.std.proofs.lemmas.Bool.{cases_eq}
-use Rattle.std.proofs.lemmas.List.{get_or-set_same, get_or-set_other, length-set, get_or_append_left, get_or_past, length-map}
-use Rattle.runtime_effects.specs.Places.{CopyPair, entries_from}
-use Rattle.runtime_effects.proofs.Interface.{entries_alike, entries_are_few}
-use Rattle.std.proofs.Math.Seq.{get_or-append_seam}
-use Rattle.machine_effects.specs.World.{put}
-use Rattle.machine_effects.proofs.Interface.{put_at, put_other}
-use Rattle.task_ast.specs.declared.names.Variable.TheVariants.{Shared, Local}
-use Rattle.source_values.specs.Values.{Variables, word_at, with_word}
+use Rattle.lower.proofs.Names.{◌≡◌, ℕ, ◌+◌, ◌*◌, ◌%◌, ◌==◌, ◌<◌, ◌≤◌, List, [], ◌∷◌, ◌++◌, length, slice_set, Option, Some, None, Contains, refl, sym, ap}
+use Rattle.lower.proofs.Names.{◌∙◌, subst, arith, ne_eqb, ⊎_elim, length-append, if◌then◌else◌, cases_eq, get_or-set_same, get_or-set_other, length-set}
+use Rattle.lower.proofs.Names.{get_or_append_left, get_or_past, length-map, CopyPair, entries_from, entries_alike, entries_are_few, get_or-append_seam, put}
+use Rattle.lower.proofs.Names.{put_at, put_other, Shared, Local, Variables, word_at, with_word, Room, AreApart, own_word, HoldVariables, HoldEmits}
+use Rattle.lower.proofs.Names.{element_pair, HoldList, word_place, ListLength, EmitCount, Version, ArrayCopies, VariablePlace, Scalar, Array, first_word}
+use Rattle.lower.proofs.Names.{Places, address_of, scalar_address, IsScalarAt, words_at, IsScalarWord, IsArrayAt, Element, IsElement, IsCopied, Spot, scalar}
+use Rattle.lower.proofs.Names.{element, copy, version, IsSpot, element_address, copy_address, version_address, spot_address}
+use Rattle.std.proofs.Common.{get_or, slice_get, All, eq-eqb}
 use Rattle.array_versions.specs.Behaviour.{assigned}
-use Rattle.lower.specs.Spots.{Room, AreApart}
-use Rattle.lower.specs.Agreement.{own_word, HoldVariables, HoldEmits, element_pair, HoldList}
 use Rattle.lower.proofs.Addresses.{element_is, copy_is, version_is, no_scalar, word_scalar, first_address}
 use Rattle.lower.proofs.Values.{small_modulo}
-use Rattle.memory_map.specs.MemoryMap.{word_place}
-use Rattle.memory_map.specs.declared.words.RuntimeWord.TheVariants.{ListLength, EmitCount, Version}
-use Rattle.memory_map.specs.declared.place.ArrayCopies.{ArrayCopies}
-use Rattle.memory_map.specs.declared.place.VariablePlace.{VariablePlace}
-use Rattle.memory_map.specs.declared.place.VariablePlace.TheVariants.{Scalar, Array}
-use Rattle.memory_map.proofs.Interface.{first_word}
-use Rattle.memory_map.specs.Spots.{Places, address_of, scalar_address, IsScalarAt, words_at, IsScalarWord, IsArrayAt, Element, IsElement, IsCopied, Spot}
-use Rattle.memory_map.specs.Spots.{scalar, element, copy, version, IsSpot, element_address, copy_address, version_address, spot_address}
 
 -- ---- another word of a shared variable
 
@@ -80,35 +67,26 @@ set_holds p v i w m f g locals inside h words elements = record {
 
 -- ---- words that stay
 
-own_same_at : (p : Places) (f g : ℕ → ℕ) (x : Element) (elements length : ℕ) (copies : Option ArrayCopies) → IsArrayAt p x.array elements length copies
-    → x.index < length
-    → g (word_place p.map Version) ≡ f (word_place p.map Version) → g (element_address p x) ≡ f (element_address p x)
-    → (IsCopied p x → g (copy_address p x) ≡ f (copy_address p x)) → (IsCopied p x → g (version_address p x) ≡ f (version_address p x))
-    → own_word p g (Some (Array elements length copies)) x.index ≡ own_word p f (Some (Array elements length copies)) x.index
-own_same_at p f g x elements length None at below ver e c n =
-    sym (ap g (element_is p x elements length None at)) ∙ e ∙ ap f (element_is p x elements length None at)
-own_same_at p f g x elements length (Some k) at below ver e c n =
-    let is : IsCopied p x = record { elements = elements; length = length; copies = k; is_array = at; below = below } in
-    let at_element = element_is p x elements length (Some k) at in
-    let at_copy = copy_is p x elements length k at in
-    let at_version = version_is p x elements length k at in
-    let same_element = sym (ap g at_element) ∙ e ∙ ap f at_element in
-    let same_copy = sym (ap g at_copy) ∙ c is ∙ ap f at_copy in
-    let same_version = sym (ap g at_version) ∙ n is ∙ ap f at_version in
-    let i = x.index in
-    ap (λ z. if z == g (2 * i + k.versions) then g (2 * i + k.copies) else g (2 * i + elements)) ver
-    ∙ ap (λ z. if f (word_place p.map Version) == z then g (2 * i + k.copies) else g (2 * i + elements)) same_version
-    ∙ ap (λ z. if f (word_place p.map Version) == f (2 * i + k.versions) then z else g (2 * i + elements)) same_copy
-    ∙ ap (λ z. if f (word_place p.map Version) == f (2 * i + k.versions) then f (2 * i + k.copies) else z) same_element
-
 -- an element whose words stay is the same one
 pub own_same : (p : Places) (f g : ℕ → ℕ) (x : Element) → IsElement p x → g (word_place p.map Version) ≡ f (word_place p.map Version)
     → g (element_address p x) ≡ f (element_address p x)
     → (IsCopied p x → g (copy_address p x) ≡ f (copy_address p x)) → (IsCopied p x → g (version_address p x) ≡ f (version_address p x))
     → own_word p g (slice_get p.map.variables x.array) x.index ≡ own_word p f (slice_get p.map.variables x.array) x.index
 own_same p f g x is ver e c n =
-    ap (λ o. own_word p g o x.index) is.is_array.place ∙ own_same_at p f g x is.elements is.length is.copies is.is_array is.below ver e c n
-    ∙ sym (ap (λ o. own_word p f o x.index) is.is_array.place)
+    ap (λ o. own_word p g o x.index) is.is_array.place ∙ by is.copies is.is_array ∙ sym (ap (λ o. own_word p f o x.index) is.is_array.place)
+  where
+    by : (copies : Option ArrayCopies) → IsArrayAt p x.array is.elements is.length copies
+        → own_word p g (Some (Array is.elements is.length copies)) x.index ≡ own_word p f (Some (Array is.elements is.length copies)) x.index
+    by None at = let here = element_is p x is.elements is.length None at in sym (ap g here) ∙ e ∙ ap f here
+    by (Some k) at =
+        let copied : IsCopied p x = record { elements = is.elements; length = is.length; copies = k; is_array = at; below = is.below } in
+        let at_element = element_is p x is.elements is.length (Some k) at in
+        let at_copy = copy_is p x is.elements is.length k at in
+        let at_version = version_is p x is.elements is.length k at in
+        let same_element = sym (ap g at_element) ∙ e ∙ ap f at_element in
+        let same_copy = sym (ap g at_copy) ∙ c copied ∙ ap f at_copy in
+        let same_version = sym (ap g at_version) ∙ n copied ∙ ap f at_version in
+        λ j. if ver j == same_version j then same_copy j else same_element j
 
 -- VER and the words that the task works on stay
 pub record SpotsStay (p : Places) (f g : ℕ → ℕ) : Type 0 where

@@ -1,28 +1,14 @@
 -- An assignment in place: `x = x + e`, `a[i] = a[i] + e` and their like.
-use Rattle.std.proofs.Common.{◌≡◌, ℕ, Bool, true, false, ◌&&◌, Option, Some, None, refl, sym, ap, subst, ◌∙◌, if◌then◌else◌}
-use Rattle.std.proofs.lemmas.Bool.{eqb-true, and_parts}
+use Rattle.lower.proofs.Names.{◌≡◌, ℕ, Bool, true, false, ◌&&◌, Option, Some, None, refl, sym, ap, subst, ◌∙◌, if◌then◌else◌, eqb-true, and_parts}
+use Rattle.lower.proofs.Names.{CheckedExpression, WordType, Unsigned, Int, Long, BinaryOperator, Variable, Shared, Local, VariableName, PlacedOperator}
+use Rattle.lower.proofs.Names.{IsOneWord, by_one_word, joined_word, ◌>>?◌, Evaluated, gives, made_of, word_at, scalar_value, binary_value, binary_result}
+use Rattle.lower.proofs.Names.{value_of, scalar_word, value_takes, Outcome, if_value, with_value, PlainOperation, plain_word, plain_operation, is_same}
+use Rattle.lower.proofs.Names.{is_name, updating, of_words, is_number, are_alike, element_updating}
+use Rattle.source_values.specs.Values.{Attempt, joined_type, type_of}
+use Rattle.source_values.specs.Statements.{goes_on, assigned}
 use Rattle.task_ast.specs.Tree as t
-use Rattle.task_ast.specs.Paths.{CheckedExpression}
-use Rattle.task_ast.specs.declared.WordType.{WordType}
-use Rattle.task_ast.specs.declared.WordType.TheVariants.{Unsigned, Int, Long}
-use Rattle.task_ast.specs.declared.BinaryOperator.{BinaryOperator}
 use Rattle.task_ast.specs.declared.BinaryOperator.TheVariants as operator
-use Rattle.task_ast.specs.declared.names.Variable.{Variable}
-use Rattle.task_ast.specs.declared.names.Variable.TheVariants.{Shared, Local}
-use Rattle.task_ast.specs.declared.names.VariableName.{VariableName}
-use Rattle.task_ast.specs.declared.PlacedOperator.{PlacedOperator}
-use Rattle.task_ast.specs.Types.{IsOneWord}
-use Rattle.task_ast.proofs.Interface.{by_one_word, joined_word}
-use Rattle.source_values.specs.Values.{◌>>?◌, Attempt, Evaluated, gives, made_of, word_at, scalar_value, joined_type, type_of, binary_value, binary_result}
-use Rattle.source_values.specs.Values.{value_of}
-use Rattle.source_values.proofs.Interface.{scalar_word, value_takes}
-use Rattle.source_values.specs.Statements.{Outcome, goes_on, if_value, with_value, assigned}
-use Rattle.array_versions.specs.declared.operations.PlainOperation.{PlainOperation}
 use Rattle.array_versions.specs.declared.operations.PlainOperation.TheVariants as plain
-use Rattle.array_versions.specs.Operations.{plain_word}
-use Rattle.lower.specs.Operations.{plain_operation}
-use Rattle.path_sums.specs.Access.{is_same}
-use Rattle.lower.specs.Lowered.{is_name, updating, of_words, is_number, are_alike, element_updating}
 
 -- an operation that is one of words
 pub record IsOfWords (of : WordType) (o : Option PlainOperation) (p : PlainOperation) : Type 0 where
@@ -31,18 +17,15 @@ pub record IsOfWords (of : WordType) (o : Option PlainOperation) (p : PlainOpera
 
 pub is_of_words : (of : WordType) (o : Option PlainOperation) (p : PlainOperation) → of_words of o ≡ Some p → IsOfWords of o p
 is_of_words Long o p h = absurd (cc)
-is_of_words Int o p h = record { word = tt; is = h }
-is_of_words Unsigned o p h = record { word = tt; is = h }
+is_of_words of o p h = record { word = tt; is = h }
 
 -- operands whose joined type has one word have one word
 pub joined_words : (s of : WordType) → IsOneWord (joined_type s of) → IsOneWord s × IsOneWord of
 joined_words Long of k = absurd k
 joined_words Int Long k = absurd k
-joined_words Int Int k = (tt, tt)
-joined_words Int Unsigned k = (tt, tt)
 joined_words Unsigned Long k = absurd k
-joined_words Unsigned Int k = (tt, tt)
-joined_words Unsigned Unsigned k = (tt, tt)
+joined_words Int of k = (tt, tt)
+joined_words Unsigned of k = (tt, tt)
 
 -- the left side is the variable alone, and the operator has an operation that is one instruction
 pub record IsUpdate (x : Variable) (op : BinaryOperator) (a : CheckedExpression) (o : PlainOperation) : Type 0 where

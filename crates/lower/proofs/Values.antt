@@ -1,53 +1,26 @@
 -- The programs of expressions of words leave their values.
-use Rattle.std.proofs.Common.{◌≡◌, ℕ, ◌+◌, ◌*◌, ◌%◌, ◌==◌, ◌<◌, ◌≤◌, List, [], ◌∷◌, ◌++◌, Option, Some, None, Bool, true, false, not, nat_le, nat_lt, refl, sym}
-use Rattle.std.proofs.Common.{ap, ◌∙◌, subst, arith, le-ltb, lt-ltb, get_or, ⊎_elim, if◌then◌else◌, bit_and}
-use Rattle.alp_words.specs.Words.{bit}
-use Rattle.fram_board.specs.Effects.{Effect, Store, Take, Outside}
-use Rattle.std.proofs.lemmas.Bool.{cases_lt}
-use Rattle.std.proofs.lemmas.List.{get_or_past}
-use Rattle.task_ast.specs.declared.WordType.{WordType}
-use Rattle.task_ast.specs.declared.WordType.TheVariants.{Unsigned, Int, Long}
-use Rattle.task_ast.specs.declared.UnaryOperator.{UnaryOperator}
-use Rattle.task_ast.specs.declared.UnaryOperator.TheVariants as unary_operator
-use Rattle.task_ast.specs.declared.BinaryOperator.{BinaryOperator}
-use Rattle.task_ast.specs.declared.BinaryOperator.TheVariants as operator
-use Rattle.task_ast.specs.declared.ShiftOperator.{ShiftOperator}
-use Rattle.task_ast.specs.declared.ShiftOperator.TheVariants as shift_operator
-use Rattle.task_ast.specs.declared.ShortCircuitOperator.{ShortCircuitOperator}
-use Rattle.task_ast.specs.declared.ShortCircuitOperator.TheVariants.{And as BothHold, Or as OneHolds}
-use Rattle.task_ast.specs.declared.names.Variable.{Variable}
-use Rattle.task_ast.specs.declared.names.Variable.TheVariants.{Shared, Local}
-use Rattle.source_values.specs.Values.{◌>>?◌, Variables, Attempt, Evaluated, word_at, holds, unary_value, binary_value, shift_value, shifted_value, is_settled}
-use Rattle.source_values.specs.Values.{evaluated, gives, made_of, reading_of, truth_word}
-use Rattle.array_versions.specs.declared.operations.UnaryOperation.{UnaryOperation}
-use Rattle.array_versions.specs.declared.operations.UnaryOperation.TheVariants.{Negate, Complement}
-use Rattle.array_versions.specs.declared.operations.BinaryOperation.{BinaryOperation}
-use Rattle.array_versions.specs.declared.operations.BinaryOperation.TheVariants.{Plain}
-use Rattle.array_versions.specs.declared.operations.PlainOperation.TheVariants.{And}
-use Rattle.array_versions.specs.declared.operations.Comparison.TheVariants.{CommonBit}
-use Rattle.array_versions.specs.Operations.{unary_word, binary_word, shift_word, shifted_word, compare_words}
-use Rattle.array_versions.specs.Program.{Test, Program, load, local, unary, binary, compares, fails, nothing, joined}
-use Rattle.array_versions.specs.Behaviour.{WordState, End, GoesOn, Jumps, Short, Strays, Broken, Behaviour, goes_on, behind_effects, on_end, then_on, is_place}
-use Rattle.array_versions.specs.Behaviour.{at_place, with_readings, pushed, number_pushed, local_pushed, reading_pushed, way_by_top, way_by_two, tested}
-use Rattle.array_versions.specs.Behaviour.{behaviour}
-use Rattle.array_versions.proofs.Interface.{joined_go_on, then_on_assoc, decided_by_truth}
-use Rattle.memory_map.specs.MemoryMap.{word_place}
-use Rattle.memory_map.specs.declared.words.RuntimeWord.TheVariants.{Version}
-use Rattle.memory_map.specs.declared.place.ArrayCopies.{ArrayCopies}
-use Rattle.memory_map.specs.declared.place.VariablePlace.{VariablePlace}
-use Rattle.memory_map.specs.declared.place.VariablePlace.TheVariants.{Array}
-use Rattle.memory_map.proofs.Interface.{word_even, first_word}
-use Rattle.memory_map.specs.Spots.{Places, address_of, scalar_address, IsScalarWord, IsArrayAt, Element, IsElement, IsCopied, scalar, element, copy, version}
-use Rattle.lower.specs.declared.operations.BinaryMeaning.{BinaryMeaning}
-use Rattle.lower.specs.declared.operations.BinaryMeaning.TheVariants.{Calculates, CommonBits, Holds, Fails}
-use Rattle.lower.specs.Operations.{binary_meaning, shift_operation}
-use Rattle.lower.specs.Lowered.{one, read_step, element_read, element_step, Lowering, as_word, as_test, word_program, value_test, unary_lowering}
-use Rattle.lower.specs.Lowered.{binary_lowering, sides_test}
-use Rattle.lower.specs.Spots.{Room, AreApart, AreEven}
-use Rattle.lower.specs.Agreement.{IsArray, own_word, HoldVariables, TakesAndStores, OnlyTakes, valued, EndsAt, AgreesAt, AgreesWithValue, in_state}
-use Rattle.lower.specs.Agreement.{truth_of}
+use Rattle.lower.proofs.Names.{◌≡◌, ℕ, ◌+◌, ◌*◌, ◌%◌, ◌==◌, ◌<◌, ◌≤◌, List, [], ◌∷◌, ◌++◌, Option, Some, None, Bool, true, false, not, nat_le, nat_lt, refl}
+use Rattle.lower.proofs.Names.{sym, ap, ◌∙◌, subst, arith, le-ltb, lt-ltb, ⊎_elim, if◌then◌else◌, bit_and, bit, Effect, Store, Take, Outside, cases_lt}
+use Rattle.lower.proofs.Names.{get_or_past, WordType, Int, UnaryOperator, BinaryOperator, ShiftOperator, ShortCircuitOperator, BothHold, OneHolds, Variable}
+use Rattle.lower.proofs.Names.{Shared, Local, ◌>>?◌, Variables, Evaluated, word_at, holds, unary_value, binary_value, shift_value, shifted_value, is_settled}
+use Rattle.lower.proofs.Names.{gives, made_of, reading_of, truth_word, next_reading, Negate, Complement, BinaryOperation, Plain, And, CommonBit, unary_word}
+use Rattle.lower.proofs.Names.{binary_word, shift_word, shifted_word, compare_words, Test, Program, load, local, unary, binary, compares, fails, nothing}
+use Rattle.lower.proofs.Names.{joined, Step, sense, behind, WordState, End, GoesOn, Short, Broken, Behaviour, behind_effects, on_end, then_on, is_place}
+use Rattle.lower.proofs.Names.{at_place, pushed, number_pushed, local_pushed, reading_pushed, way_by_top, way_by_two, tested, behaviour, step_behaviour}
+use Rattle.lower.proofs.Names.{with_stack, joined_go_on, then_on_assoc, decided_by_truth, word_place, Version, ArrayCopies, Array, word_even, first_word}
+use Rattle.lower.proofs.Names.{Places, address_of, scalar_address, IsScalarWord, IsArrayAt, Element, IsElement, IsCopied, scalar, element, copy, version}
+use Rattle.lower.proofs.Names.{IsSpot, Spot, spot_address, BinaryMeaning, Calculates, CommonBits, Holds, Fails, binary_meaning, shift_operation, one}
+use Rattle.lower.proofs.Names.{read_step, element_read, element_step, Lowering, as_word, as_test, word_program, value_test, unary_lowering, binary_lowering}
+use Rattle.lower.proofs.Names.{sides_test, Room, AreApart, AreEven, IsArray, own_word, HoldVariables, TakesAndStores, OnlyTakes, EndsAt, AgreesAt, truth_of}
+use Rattle.lower.proofs.Names.{AsDeclared, Inputs, SharedDeclaration}
+use Rattle.std.proofs.Common.{get_or}
+use Rattle.source_values.specs.Values.{Attempt}
+use Rattle.array_versions.specs.Behaviour.{goes_on}
 use Rattle.lower.proofs.Declared.{IsKnown}
 use Rattle.lower.proofs.Addresses.{fram_place, placed, spot_place, first_address, element_is, copy_is, version_is, has_element}
+use Rattle.task_ast.specs.declared.UnaryOperator.TheVariants as unary_operator
+use Rattle.task_ast.specs.declared.BinaryOperator.TheVariants as operator
+use Rattle.task_ast.specs.declared.ShiftOperator.TheVariants as shift_operator
 
 -- ---- effects
 
@@ -66,182 +39,37 @@ only_takes P (Outside o ∷ es) h = h
 
 -- ---- one behind the other
 
--- what goes on with a value may know that it is the one of this program
-pub agrees_with : (there last : Evaluated → WordState) (b : Behaviour) (o : Option Evaluated) (next : WordState → Behaviour)
-    (more : Evaluated → Option Evaluated)
-    → AgreesAt there b o → ((x : Evaluated) → o ≡ Some x → AgreesAt last (next (there x)) (more x))
+-- what goes on with a value, from any state that it leaves
+pub agrees_then : (there last : Evaluated → WordState → Type 0) (b : Behaviour) (o : Option Evaluated) (next : WordState → Behaviour)
+    (more : Evaluated → Option Evaluated) → AgreesAt there b o → ((x : Evaluated) (s : WordState) → there x s → AgreesAt last (next s) (more x))
     → AgreesAt last (then_on b next) (o >>? more)
-agrees_with there last b o next more h k = go b.effects b.end o refl h.0 h.1
+agrees_then there last b o next more h k = go b.effects b.end o h.0 h.1
   where
-    go : (es : List Effect) (e : End) (q : Option Evaluated) → o ≡ q → OnlyTakes es → EndsAt there e q
-        → AgreesAt last (behind_effects es (on_end e next)) (q >>? more)
-    go es (GoesOn s) (Some x) is h e =
-        let P : WordState → Type 0 = λ s. AgreesAt last (behind_effects es (next s)) (more x) in
-        let n = k x is in
-        subst P (sym e) (takes_append (λ a w. ⊥) es (next (there x)).effects h n.0, n.1)
-    go es (GoesOn s) None is h e = absurd e
-    go es (Jumps to s) q is h e = absurd e
-    go es Short (Some x) is h e = absurd e
-    go es Short None is h e = (takes_append (λ a w. ⊥) es [] h tt, tt)
-    go es Strays q is h e = absurd e
-    go es Broken q is h e = (takes_append (λ a w. ⊥) es [] h tt, tt)
-
-pub agrees_then : (there last : Evaluated → WordState) (b : Behaviour) (o : Option Evaluated) (next : WordState → Behaviour)
-    (more : Evaluated → Option Evaluated) → AgreesAt there b o → ((x : Evaluated) → AgreesAt last (next (there x)) (more x))
-    → AgreesAt last (then_on b next) (o >>? more)
-agrees_then there last b o next more h k = agrees_with there last b o next more h (λ x is. k x)
-
--- the same behind a value that is known
-pub agrees_given : (there last : Evaluated → WordState) (b : Behaviour) (x : Evaluated) (next : WordState → Behaviour) (o : Option Evaluated)
-    → AgreesAt there b (Some x) → AgreesAt last (next (there x)) o → AgreesAt last (then_on b next) o
-agrees_given there last b x next o h k =
-    let P : Evaluated → Type 0 = λ y. AgreesAt last (next (there y)) o in
-    agrees_with there last b (Some x) next (λ y. o) h (λ y is. let same : x ≡ y = cc in subst P same k)
-
--- of a value that is pushed
-pub value_then : (w v : WordState) (b : Behaviour) (o : Option Evaluated) (next : WordState → Behaviour) (more : Evaluated → Option Evaluated)
-    → AgreesWithValue v b o → ((x : Evaluated) → AgreesWithValue w (next (valued v x)) (more x))
-    → AgreesWithValue w (then_on b next) (o >>? more)
-value_then w v b o next more h k = agrees_then (valued v) (valued w) b o next more h k
+    go : (es : List Effect) (e : End) (o : Option Evaluated) → OnlyTakes es → EndsAt there e o
+        → AgreesAt last (behind_effects es (on_end e next)) (o >>? more)
+    go es (GoesOn s) (Some x) h e = let n = k x s e in (takes_append (λ a w. ⊥) es (next s).effects h n.0, n.1)
+    go es Short None h e = (takes_append (λ a w. ⊥) es [] h tt, tt)
+    go es Broken o h e = (takes_append (λ a w. ⊥) es [] h tt, tt)
+    go es end o h e = absurd e
 
 -- nothing behind
-pub value_done : (w : WordState) (b : Behaviour) (o : Option Evaluated) → AgreesWithValue w b o → AgreesWithValue w (then_on b (behaviour nothing)) o
-value_done w b o h = go b.effects b.end o h.0 h.1
+pub agrees_alone : (there : Evaluated → WordState → Type 0) (b : Behaviour) (o : Option Evaluated) → AgreesAt there b o
+    → AgreesAt there (then_on b (behaviour nothing)) o
+agrees_alone there b o h = go b.effects b.end h.0 h.1
   where
-    go : (es : List Effect) (e : End) (o : Option Evaluated) → OnlyTakes es → EndsAt (valued w) e o
-        → AgreesWithValue w (behind_effects es (on_end e (behaviour nothing))) o
-    go es (GoesOn s) o h e = (takes_append (λ a w. ⊥) es [] h tt, e)
-    go es (Jumps to s) o h e = absurd e
-    go es Short o h e = (takes_append (λ a w. ⊥) es [] h tt, e)
-    go es Strays o h e = absurd e
-    go es Broken o h e = (takes_append (λ a w. ⊥) es [] h tt, e)
+    go : (es : List Effect) (e : End) → OnlyTakes es → EndsAt there e o → AgreesAt there (behind_effects es (on_end e (behaviour nothing))) o
+    go es (GoesOn s) h e = (takes_append (λ a w. ⊥) es [] h tt, e)
+    go es end h e = (takes_append (λ a w. ⊥) es [] h tt, e)
 
--- ---- leaves
-
-local_agrees : (w : WordState) (m : Attempt) (o : Option ℕ) (v : ℕ) → ((u : ℕ) → o ≡ Some u → v ≡ u)
-    → AgreesWithValue w (then_on (local_pushed o w) (behaviour nothing)) (gives v (in_state w m))
-local_agrees w m None v h = (tt, tt)
-local_agrees w m (Some u) v h = (tt, ap (λ x. valued w (evaluated x (in_state w m))) (sym (h u refl)))
-
--- a number below 256 is its own residue
-pub small_modulo : (n : ℕ) → n < 256 → n % 65536 ≡ n
-small_modulo n h = omega arith
-
-load_agrees : (w : WordState) (m : Attempt) (a v : ℕ) → is_place a ≡ true → w.fram a ≡ v
-    → AgreesWithValue w (behaviour (one (load a)) w) (gives v (in_state w m))
-load_agrees w m a v place is =
-    let P : Behaviour → Type 0 = λ b. AgreesWithValue w (then_on b (behaviour nothing)) (gives v (in_state w m)) in
-    subst P (sym (placed a (goes_on [] (pushed (w.fram a) w)) place)) (tt, ap (λ x. valued w (evaluated x (in_state w m))) is)
-
-pub word_read_agrees : (p : Places) (room : Room) (v i a : ℕ) (m : Attempt) (w : WordState) → a ≡ scalar_address p v i → AreApart p room → AreEven p
-    → IsScalarWord p v i → HoldVariables p m.variables w.fram w.locals
-    → AgreesWithValue w (behaviour (one (load a)) w) (gives (word_at m.variables (Shared v) i) (in_state w m))
-word_read_agrees p room v i a m w e apart even k h =
-    let word = word_at m.variables (Shared v) i in
-    let P : ℕ → Type 0 = λ b. AgreesWithValue w (behaviour (one (load b)) w) (gives word (in_state w m)) in
-    subst P (sym e) (load_agrees w m (scalar_address p v i) word (spot_place p room (scalar v i) apart even k) (h.words v i k))
-
-pub read_agrees : (p : Places) (room : Room) (x : Variable) (m : Attempt) (w : WordState) → AreApart p room → AreEven p → IsKnown p x
-    → HoldVariables p m.variables w.fram w.locals
-    → AgreesWithValue w (behaviour (one (read_step p x)) w) (gives (word_at m.variables x 0) (in_state w m))
-read_agrees p room (Shared v) m w apart even k h =
-    word_read_agrees p room v 0 (address_of p v) m w (sym (first_address p v)) apart even (first_word p v k) h
-read_agrees p room (Local n) m w apart even k h =
-    let word = word_at m.variables (Local n) 0 in
-    let P : ℕ → Type 0 = λ j. AgreesWithValue w (behaviour (one (local j)) w) (gives word (in_state w m)) in
-    subst P (sym (small_modulo n k)) (local_agrees w m (w.locals n) word (λ u e. h.locals n u e))
-
-pub sense_agrees : (w : WordState) (m : Attempt) (rs : List ℕ)
-    → AgreesWithValue w (then_on (reading_pushed rs w) (behaviour nothing)) (reading_of rs m)
-sense_agrees w m [] = (tt, tt)
-sense_agrees w m (r ∷ rs) = (tt, refl)
-
--- ---- elements
-
--- a word that is one of two, each at a place
-either_agrees : (w : WordState) (b : Bool) (c e x y v : ℕ) (behind : Attempt) → is_place c ≡ true → is_place e ≡ true → (if b then x else y) ≡ v
-    → (let first = at_place c (goes_on [] (valued w (evaluated x behind))) in
-    let second = at_place e (goes_on [] (valued w (evaluated y behind))) in
-    AgreesWithValue w (then_on (if b then first else second) (behaviour nothing)) (gives v behind))
-either_agrees w true c e x y v behind is_c is_e is =
-    let P : Behaviour → Type 0 = λ b. AgreesWithValue w (then_on b (behaviour nothing)) (gives v behind) in
-    subst P (sym (placed c (goes_on [] (valued w (evaluated x behind))) is_c)) (tt, ap (λ z. valued w (evaluated z behind)) is)
-either_agrees w false c e x y v behind is_c is_e is =
-    let P : Behaviour → Type 0 = λ b. AgreesWithValue w (then_on b (behaviour nothing)) (gives v behind) in
-    subst P (sym (placed e (goes_on [] (valued w (evaluated y behind))) is_e)) (tt, ap (λ z. valued w (evaluated z behind)) is)
-
--- one word at a place
-one_agrees : (w : WordState) (e x v : ℕ) (behind : Attempt) → is_place e ≡ true → x ≡ v
-    → AgreesWithValue w (then_on (at_place e (goes_on [] (valued w (evaluated x behind)))) (behaviour nothing)) (gives v behind)
-one_agrees w e x v behind is_e is =
-    let P : Behaviour → Type 0 = λ b. AgreesWithValue w (then_on b (behaviour nothing)) (gives v behind) in
-    subst P (sym (placed e (goes_on [] (valued w (evaluated x behind))) is_e)) (tt, ap (λ z. valued w (evaluated z behind)) is)
-
--- an index within the array, or past its end
-index_agrees : (w : WordState) (i length v : ℕ) (behind : Attempt) (inside : Behaviour)
-    → (i < length → AgreesWithValue w (then_on inside (behaviour nothing)) (gives v behind)) → (length ≤ i → v ≡ 0)
-    → AgreesWithValue w (then_on (if nat_lt i length then inside else goes_on [] (valued w (evaluated 0 behind))) (behaviour nothing)) (gives v behind)
-index_agrees w i length v behind inside h k =
-    let past : Behaviour = goes_on [] (valued w (evaluated 0 behind)) in
-    let P : Bool → Type 0 = λ b. AgreesWithValue w (then_on (if b then inside else past) (behaviour nothing)) (gives v behind) in
-    ⊎_elim (λ l. subst P (sym (lt-ltb i length l)) (h l)) (λ l. subst P (sym (le-ltb i length l)) (tt, ap (λ z. valued w (evaluated z behind)) (sym (k l))))
-    (cases_lt i length)
-
-past_end : (p : Places) (v elements length i : ℕ) (copies : Option ArrayCopies) (m : Variables) (f : ℕ → ℕ) (locals : ℕ → Option ℕ)
-    → IsArrayAt p v elements length copies → HoldVariables p m f locals → length ≤ i → word_at m (Shared v) i ≡ 0
-past_end p v elements length i copies m f locals at h l =
-    let e = h.lengths v (Array elements length copies) at.place in
-    get_or_past (get_or m.shared v []) i 0 (omega (arith, e, l))
-
-module _ (p : Places) (room : Room) (apart : AreApart p room) (even : AreEven p) where
-  -- the word of an array
-  array_agrees : (v elements length i : ℕ) (copies : Option ArrayCopies) (m : Variables) (w : WordState) (behind : Attempt)
-      → IsArrayAt p v elements length copies → HoldVariables p m w.fram w.locals
-      → AgreesWithValue w (behaviour (one (element_read p (Some (Array elements length copies)))) (valued w (evaluated i behind)))
-      (gives (word_at m (Shared v) i) behind)
-  array_agrees v elements length i None m w behind at h =
-      let x : Element = record { array = v; index = i } in
-      let e = 2 * i + elements in
-      let word = word_at m (Shared v) i in
-      let P : ℕ → Type 0 = λ a. is_place a ≡ true in
-      let Q : Option VariablePlace → Type 0 = λ o. own_word p w.fram o i ≡ word in
-      index_agrees w i length word behind (at_place e (goes_on [] (valued w (evaluated (w.fram e) behind))))
-      (λ l.
-      let is : IsElement p x = record { elements = elements; length = length; copies = None; is_array = at; below = l } in
-      one_agrees w e (w.fram e) word behind (subst P (element_is p x elements length None at) (spot_place p room (element x) apart even is))
-      (subst Q at.place (h.elements x is)))
-      (past_end p v elements length i None m w.fram w.locals at h)
-  array_agrees v elements length i (Some c) m w behind at h =
-      let x : Element = record { array = v; index = i } in
-      let e = 2 * i + elements in
-      let o = 2 * i + c.copies in
-      let n = 2 * i + c.versions in
-      let ver = word_place p.map Version in
-      let word = word_at m (Shared v) i in
-      let P : ℕ → Type 0 = λ a. is_place a ≡ true in
-      let Q : Option VariablePlace → Type 0 = λ o. own_word p w.fram o i ≡ word in
-      let R : Behaviour → Type 0 = λ b. AgreesWithValue w (then_on b (behaviour nothing)) (gives word behind) in
-      let read : Behaviour = if w.fram ver == w.fram n then at_place o (goes_on [] (valued w (evaluated (w.fram o) behind))) else at_place e
-      (goes_on [] (valued w (evaluated (w.fram e) behind))) in
-      index_agrees w i length word behind (at_place ver (at_place n read))
-      (λ l.
-      let is : IsCopied p x = record { elements = elements; length = length; copies = c; is_array = at; below = l } in
-      let at_version = placed ver (at_place n read) (fram_place ver (word_even p.map Version even.row) (omega (arith, apart)) (omega (arith, apart))) in
-      let at_mark = placed n read (subst P (version_is p x elements length c at) (spot_place p room (version x) apart even is)) in
-      subst R (sym (at_version ∙ at_mark))
-      (either_agrees w (w.fram ver == w.fram n) o e (w.fram o) (w.fram e) word behind
-      (subst P (copy_is p x elements length c at) (spot_place p room (copy x) apart even is))
-      (subst P (element_is p x elements length (Some c) at) (spot_place p room (element x) apart even (has_element p x is)))
-      (subst Q at.place (h.elements x (has_element p x is)))))
-      (past_end p v elements length i (Some c) m w.fram w.locals at h)
-
-  pub element_agrees : (x : Variable) (i : ℕ) (m : Variables) (w : WordState) (behind : Attempt) → IsArray p x → HoldVariables p m w.fram w.locals
-      → AgreesWithValue w (behaviour (one (element_step p x)) (valued w (evaluated i behind))) (gives (word_at m x i) behind)
-  element_agrees (Shared v) i m w behind k h =
-      let P : Option VariablePlace → Type 0 =
-      λ o. AgreesWithValue w (behaviour (one (element_read p o)) (valued w (evaluated i behind))) (gives (word_at m (Shared v) i) behind) in
-      subst P (sym k.3.place) (array_agrees v k.0 k.1 i k.2 m w behind k.3 h)
-  element_agrees (Local n) i m w behind k h = absurd k
+-- what the states are that values leave
+pub agrees_as : (there last : Evaluated → WordState → Type 0) (b : Behaviour) (o : Option Evaluated) → ((x : Evaluated) (s : WordState) → there x s → last x s)
+    → AgreesAt there b o → AgreesAt last b o
+agrees_as there last b o k h = (h.0, by b.end o h.1)
+  where
+    by : (e : End) (o : Option Evaluated) → EndsAt there e o → EndsAt last e o
+    by (GoesOn s) (Some x) e = k x s e
+    by Short None e = e
+    by end o e = e
 
 -- ---- operators
 
@@ -255,24 +83,19 @@ meaning_word (Fails c) u v = bit (not (compare_words c u v))
 -- an order looks at signs, and all others are alike
 pub binary_same : (op : BinaryOperator) (of : WordType) (u v : ℕ) → meaning_word (binary_meaning op of) u v ≡ binary_value op of u v
 binary_same operator.Less Int u v = refl
-binary_same operator.Less Unsigned u v = refl
-binary_same operator.Less Long u v = refl
+binary_same operator.Less of u v = refl
 binary_same operator.LessEqual Int u v = refl
-binary_same operator.LessEqual Unsigned u v = refl
-binary_same operator.LessEqual Long u v = refl
+binary_same operator.LessEqual of u v = refl
 binary_same operator.Greater Int u v = refl
-binary_same operator.Greater Unsigned u v = refl
-binary_same operator.Greater Long u v = refl
+binary_same operator.Greater of u v = refl
 binary_same operator.GreaterEqual Int u v = refl
-binary_same operator.GreaterEqual Unsigned u v = refl
-binary_same operator.GreaterEqual Long u v = refl
+binary_same operator.GreaterEqual of u v = refl
 binary_same _ of u v = refl
 
 shifted_same : (op : ShiftOperator) (of : WordType) (v k : ℕ) → shifted_word (shift_operation op of) v k ≡ shifted_value op of v k
 shifted_same shift_operator.Left of v k = refl
 shifted_same shift_operator.Right Int v k = refl
-shifted_same shift_operator.Right Unsigned v k = refl
-shifted_same shift_operator.Right Long v k = refl
+shifted_same shift_operator.Right of v k = refl
 
 pub shift_same : (op : ShiftOperator) (of : WordType) (v k : ℕ) → shift_word (shift_operation op of) v k ≡ shift_value op of v k
 shift_same op of v k = ap (λ x. if nat_le k 15 then x else 0) (shifted_same op of v k)
@@ -287,37 +110,34 @@ holds_bit false = refl
 bit_is_truth : (b : Bool) (behind : Attempt) → truth_of (gives (bit b) behind) ≡ gives (bit b) behind
 bit_is_truth b behind = ap (λ c. gives (bit c) behind) (holds_bit b)
 
+-- what is made of what is made of a value
+pub made_twice : (g f h : ℕ → ℕ) (o : Option Evaluated) → ((x : ℕ) → g (f x) ≡ h x) → made_of g (made_of f o) ≡ made_of h o
+made_twice g f h None e = refl
+made_twice g f h (Some x) e = ap (λ n. gives n x.behind) (e x.value)
+
 -- what is 1 or 0 is its own truth
 truth_twice : (o : Option Evaluated) → truth_of (truth_of o) ≡ truth_of o
-truth_twice None = refl
-truth_twice (Some x) = bit_is_truth (holds x.value) x.behind
+truth_twice o = made_twice truth_word truth_word truth_word o (λ x. ap bit (holds_bit (holds x)))
 
 -- the word that the values of two sides make, the second from the attempt that the first leaves
 abbrev pub pair_value : (ℕ → ℕ → ℕ) → Option Evaluated → (Attempt → Option Evaluated) → Option Evaluated
 pair_value f o second = o >>? λ x. made_of (f x.value) (second x.behind)
 
--- the truth of such a word
-pub pair_truth : (f : ℕ → ℕ → ℕ) (o : Option Evaluated) (second : Attempt → Option Evaluated)
-    → pair_value (λ x y. truth_word (f x y)) o second ≡ truth_of (pair_value f o second)
-pair_truth f None second = refl
-pair_truth f (Some x) second = by (second x.behind)
-  where
-    by : (o : Option Evaluated) → made_of (λ y. truth_word (f x.value y)) o ≡ truth_of (made_of (f x.value) o)
-    by None = refl
-    by (Some y) = refl
+-- what is made of such a word
+pub pair_made : (g : ℕ → ℕ) (f h : ℕ → ℕ → ℕ) (o : Option Evaluated) (second : Attempt → Option Evaluated) → ((x y : ℕ) → g (f x y) ≡ h x y)
+    → made_of g (pair_value f o second) ≡ pair_value h o second
+pair_made g f h None second e = refl
+pair_made g f h (Some x) second e = made_twice g (f x.value) (h x.value) (second x.behind) (e x.value)
 
 -- where it is 1 or 0, it is its own truth
 pub pair_is_truth : (f : ℕ → ℕ → ℕ) (b : ℕ → ℕ → Bool) (o : Option Evaluated) (second : Attempt → Option Evaluated)
     → ((x y : ℕ) → bit (b x y) ≡ f x y) → truth_of (pair_value f o second) ≡ pair_value f o second
-pair_is_truth f b None second e = refl
-pair_is_truth f b (Some x) second e = by (second x.behind)
-  where
-    one_or_zero : (u v : ℕ) → truth_word (f u v) ≡ f u v
-    one_or_zero u v = ap truth_word (sym (e u v)) ∙ ap bit (holds_bit (b u v)) ∙ e u v
+pair_is_truth f b o second e =
+    pair_made truth_word f f o second (λ x y. ap truth_word (sym (e x y)) ∙ ap bit (holds_bit (b x y)) ∙ e x y)
 
-    by : (o : Option Evaluated) → truth_of (made_of (f x.value) o) ≡ made_of (f x.value) o
-    by None = refl
-    by (Some y) = ap (λ r. gives r y.behind) (one_or_zero x.value y.value)
+pub twice : (b : Bool) → not (not b) ≡ b
+twice true = refl
+twice false = refl
 
 -- `!` of a value, and of a truth
 abbrev pub not_word : ℕ → ℕ
@@ -328,16 +148,10 @@ not_truth w = bit (not (holds w))
 
 -- that of a value by that of its truth
 not_of_truth : (o : Option Evaluated) → made_of not_truth (truth_of o) ≡ made_of not_word o
-not_of_truth None = refl
-not_of_truth (Some x) = by (x.value == 0)
-  where
-    by : (b : Bool) → gives (not_truth (bit (not b))) x.behind ≡ gives (bit b) x.behind
-    by true = refl
-    by false = refl
+not_of_truth o = made_twice not_truth truth_word not_word o (λ x. ap (λ b. bit (not b)) (holds_bit (holds x)) ∙ ap bit (twice (x == 0)))
 
 not_is_truth : (o : Option Evaluated) → truth_of (made_of not_word o) ≡ made_of not_word o
-not_is_truth None = refl
-not_is_truth (Some x) = bit_is_truth (x.value == 0) x.behind
+not_is_truth o = made_twice truth_word not_word not_word o (λ x. ap bit (holds_bit (x == 0)))
 
 -- `&&` or `||` of a value by that of its truth, the right side being this of the attempt behind the left one
 abbrev pub side_value : ShortCircuitOperator → (Attempt → Option Evaluated) → Evaluated → Option Evaluated
@@ -346,16 +160,8 @@ side_value op right x = if is_settled op x.value then gives (truth_word x.value)
 pub sides_of_truth : (o : Option Evaluated) (op : ShortCircuitOperator) (right : Attempt → Option Evaluated)
     → (truth_of o >>? side_value op right) ≡ (o >>? side_value op right)
 sides_of_truth None op right = refl
-sides_of_truth (Some x) BothHold right = by (holds x.value)
-  where
-    by : (b : Bool) → side_value BothHold right (evaluated (bit b) x.behind) ≡ (if not b then gives (bit b) x.behind else truth_of (right x.behind))
-    by true = refl
-    by false = refl
-sides_of_truth (Some x) OneHolds right = by (holds x.value)
-  where
-    by : (b : Bool) → side_value OneHolds right (evaluated (bit b) x.behind) ≡ (if b then gives (bit b) x.behind else truth_of (right x.behind))
-    by true = refl
-    by false = refl
+sides_of_truth (Some x) BothHold right = ap (λ b. if not b then gives (bit b) x.behind else truth_of (right x.behind)) (holds_bit (holds x.value))
+sides_of_truth (Some x) OneHolds right = ap (λ b. if b then gives (bit b) x.behind else truth_of (right x.behind)) (holds_bit (holds x.value))
 
 pub sides_are_truth : (op : ShortCircuitOperator) (o : Option Evaluated) (right : Attempt → Option Evaluated)
     → (let r = o >>? side_value op right in truth_of r ≡ r)
@@ -366,173 +172,353 @@ sides_are_truth op (Some x) right = by (is_settled op x.value)
     by true = bit_is_truth (holds x.value) x.behind
     by false = truth_twice (right x.behind)
 
--- ---- tests
-
 -- a test pushes its truth
 abbrev pub truth_pushed : Test → WordState → Behaviour
 truth_pushed c w = tested c (number_pushed 1) (number_pushed 0) w
 
+-- ---- what states keep of an attempt
+
+-- In a task with such declarations and places: what FRAM, the locals and the inputs hold of an attempt while expressions are evaluated. Whatever
+-- it is, the variables stand there and the readings left, and it is kept where a reading is taken
+pub record Keeping : Type 1 where
+  pub shared : List SharedDeclaration
+  pub p : Places
+  pub room : Room
+  pub apart : AreApart p room
+  pub even : AreEven p
+  pub declared : AsDeclared shared p
+  pub Holds : Attempt → (ℕ → ℕ) → (ℕ → Option ℕ) → Inputs → Type 0
+  pub variables : (m : Attempt) (f : ℕ → ℕ) (l : ℕ → Option ℕ) (i : Inputs) → Holds m f l i → HoldVariables p m.variables f l
+  pub readings : (m : Attempt) (f : ℕ → ℕ) (l : ℕ → Option ℕ) (i : Inputs) → Holds m f l i → i.readings ≡ m.left
+  pub taken : (m : Attempt) (f : ℕ → ℕ) (l : ℕ → Option ℕ) (i : Inputs) (rs : List ℕ) → Holds m f l i
+      → Holds (record m { left = rs }) f l (record i { readings = rs })
+
+-- a state keeps an attempt, whatever is on its stack
+abbrev pub Keeps : Keeping → Attempt → WordState → Type 0
+Keeps k m s = k.Holds m s.fram s.locals s.inputs
+
+-- a value as one word on the stack
+abbrev pub single : ℕ → List ℕ
+single v = v ∷ []
+
+-- a value leaves its words on top of these, and a state that keeps the attempt behind it
+pub record Leaves (k : Keeping) (words : ℕ → List ℕ) (below : List ℕ) (x : Evaluated) (s : WordState) : Type 0 where
+  pub stack : s.stack ≡ words x.value ++ below
+  pub kept : Keeps k x.behind s
+
+-- a program leaves a value as one word on top of these
+abbrev pub LeavesWord : Keeping → List ℕ → Behaviour → Option Evaluated → Type 0
+LeavesWord k below b o = AgreesAt (Leaves k single below) b o
+
 -- the program of an expression leaves its value, and its test decides by the value
-pub record LoweringAgrees (w : WordState) (l : Lowering) (o : Option Evaluated) : Type 0 where
-  pub word : AgreesWithValue w (behaviour (word_program l) w) o
-  pub test : AgreesWithValue w (truth_pushed (value_test l) w) (truth_of o)
+pub record LoweringAgrees (k : Keeping) (w : WordState) (l : Lowering) (o : Option Evaluated) : Type 0 where
+  pub word : LeavesWord k w.stack (behaviour (word_program l) w) o
+  pub test : LeavesWord k w.stack (truth_pushed (value_test l) w) (truth_of o)
 
--- 1 is pushed where it holds, else 0
-pub bit_agrees : (b : Bool) (r : ℕ) (w : WordState) (behind : Attempt) → bit b ≡ r
-    → (let u : WordState = with_readings behind.left w in AgreesWithValue w (if b then number_pushed 1 u else number_pushed 0 u) (gives r behind))
-bit_agrees true r w behind e = (tt, ap (λ v. valued w (evaluated v behind)) e)
-bit_agrees false r w behind e = (tt, ap (λ v. valued w (evaluated v behind)) e)
+-- the programs of two sides leave such words, the second from the attempt behind the first
+pub record SidesAgree (k : Keeping) (words : ℕ → List ℕ) (w : WordState) (a b : Program) (o : Option Evaluated)
+    (second : Attempt → Option Evaluated) : Type 0 where
+  pub left_side : AgreesAt (Leaves k words w.stack) (behaviour a w) o
+  pub right_side : (x : Evaluated) (s : WordState) → Keeps k x.behind s → (let below = words x.value ++ w.stack in
+      AgreesAt (Leaves k words below) (behaviour b (with_stack below s)) (second x.behind))
 
--- 0 is pushed where it holds, else 1
-pub turned_bit_agrees : (b : Bool) (r : ℕ) (w : WordState) (behind : Attempt) → bit (not b) ≡ r
-    → (let u : WordState = with_readings behind.left w in AgreesWithValue w (if b then number_pushed 0 u else number_pushed 1 u) (gives r behind))
-turned_bit_agrees true r w behind e = (tt, ap (λ v. valued w (evaluated v behind)) e)
-turned_bit_agrees false r w behind e = (tt, ap (λ v. valued w (evaluated v behind)) e)
+-- a number below 256 is its own residue
+pub small_modulo : (n : ℕ) → n < 256 → n % 65536 ≡ n
+small_modulo n h = omega arith
 
--- what agrees with other readings in front agrees
-pub from_left : (w : WordState) (left : List ℕ) (b : Behaviour) (o : Option Evaluated) → AgreesWithValue (with_readings left w) b o
-    → AgreesWithValue w b o
-from_left w left b o h = (h.0, by b.end o h.1)
-  where
-    by : (e : End) (o : Option Evaluated) → EndsAt (valued (with_readings left w)) e o → EndsAt (valued w) e o
-    by (GoesOn s) (Some x) g = g
-    by (GoesOn s) None g = g
-    by (Jumps to s) o g = g
-    by Short (Some x) g = g
-    by Short None g = g
-    by Strays o g = g
-    by Broken o g = g
+past_end : (p : Places) (v elements length i : ℕ) (copies : Option ArrayCopies) (m : Variables) (f : ℕ → ℕ) (locals : ℕ → Option ℕ)
+    → IsArrayAt p v elements length copies → HoldVariables p m f locals → length ≤ i → word_at m (Shared v) i ≡ 0
+past_end p v elements length i copies m f locals at h l =
+    let e = h.lengths v (Array elements length copies) at.place in
+    get_or_past (get_or m.shared v []) i 0 (omega (arith, e, l))
 
--- by a program that leaves the value
-pub by_word : (w : WordState) (q : Program) (o : Option Evaluated) → AgreesWithValue w (behaviour q w) o → LoweringAgrees w (as_word q) o
-by_word w q o h = record {
-  word = h;
-  test = value_then w w (behaviour q w) o (way_by_top (number_pushed 1) (number_pushed 0)) (λ x. gives (truth_word x.value) x.behind) h
-      (λ x. bit_agrees (holds x.value) (truth_word x.value) w x.behind refl);
-}
+module _ (k : Keeping) where
+  -- ---- leaves
 
--- by a test, where the value is 1 or 0
-pub by_test : (w : WordState) (c : Test) (o : Option Evaluated) → truth_of o ≡ o → AgreesWithValue w (truth_pushed c w) o → LoweringAgrees w (as_test c) o
-by_test w c o e h = record {
-  word = value_done w (truth_pushed c w) o h;
-  test = subst (AgreesWithValue w (truth_pushed c w)) (sym e) h;
-}
+  local_agrees : (o : Option ℕ) (v : ℕ) (m : Attempt) (w : WordState) → Keeps k m w → ((u : ℕ) → o ≡ Some u → v ≡ u)
+      → LeavesWord k w.stack (then_on (local_pushed o w) (behaviour nothing)) (gives v m)
+  local_agrees None v m w kept h = (tt, tt)
+  local_agrees (Some u) v m w kept h = (tt, record { stack = ap (λ x. x ∷ w.stack) (sym (h u refl)); kept = kept })
 
--- a value, and what is done with it
-pub then_step : (w : WordState) (q last : Program) (o : Option Evaluated) (more : Evaluated → Option Evaluated)
-    → AgreesWithValue w (behaviour q w) o → ((x : Evaluated) → o ≡ Some x → AgreesWithValue w (behaviour last (valued w x)) (more x))
-    → AgreesWithValue w (behaviour (joined q last) w) (o >>? more)
-then_step w q last o more h k =
-    subst (λ b. AgreesWithValue w b (o >>? more)) (sym (joined_go_on q last w)) (agrees_with (valued w) (valued w) (behaviour q w) o (behaviour last) more h k)
+  load_agrees : (a v : ℕ) (m : Attempt) (w : WordState) → Keeps k m w → is_place a ≡ true → w.fram a ≡ v
+      → LeavesWord k w.stack (behaviour (one (load a)) w) (gives v m)
+  load_agrees a v m w kept place is =
+      subst (λ b. LeavesWord k w.stack (then_on b (behaviour nothing)) (gives v m)) (sym (placed a (goes_on [] (pushed (w.fram a) w)) place))
+      (tt, record { stack = ap (λ x. x ∷ w.stack) is; kept = kept })
 
--- ---- two sides
+  pub word_read_agrees : (v i a : ℕ) (m : Attempt) (w : WordState) → Keeps k m w → a ≡ scalar_address k.p v i → IsScalarWord k.p v i
+      → LeavesWord k w.stack (behaviour (one (load a)) w) (gives (word_at m.variables (Shared v) i) m)
+  word_read_agrees v i a m w kept e is =
+      let word = word_at m.variables (Shared v) i in
+      let h = k.variables m w.fram w.locals w.inputs kept in
+      subst (λ b. LeavesWord k w.stack (behaviour (one (load b)) w) (gives word m)) (sym e)
+      (load_agrees (scalar_address k.p v i) word m w kept (spot_place k.p k.room (scalar v i) k.apart k.even is) (h.words v i is))
 
--- the programs of two sides, the second from the attempt behind the first
-pub record SidesAgree (w : WordState) (a b : Program) (o : Option Evaluated) (second : Attempt → Option Evaluated) : Type 0 where
-  pub left_side : AgreesWithValue w (behaviour a w) o
-  pub right_side : (x : Evaluated) → o ≡ Some x → AgreesWithValue (valued w x) (behaviour b (valued w x)) (second x.behind)
+  pub read_agrees : (x : Variable) (m : Attempt) (w : WordState) → Keeps k m w → IsKnown k.p x
+      → LeavesWord k w.stack (behaviour (one (read_step k.p x)) w) (gives (word_at m.variables x 0) m)
+  read_agrees (Shared v) m w kept is = word_read_agrees v 0 (address_of k.p v) m w kept (sym (first_address k.p v)) (first_word k.p v is)
+  read_agrees (Local n) m w kept is =
+      let word = word_at m.variables (Local n) 0 in
+      let h = k.variables m w.fram w.locals w.inputs kept in
+      subst (λ j. LeavesWord k w.stack (behaviour (one (local j)) w) (gives word m)) (sym (small_modulo n is))
+      (local_agrees (w.locals n) word m w kept (λ u e. h.locals n u e))
 
--- what is done with both values, which makes this word of them
-abbrev MakesWord : WordState → (WordState → Behaviour) → (ℕ → ℕ → ℕ) → Type 0
-MakesWord w next f =
-    (x y : ℕ) (behind : Attempt) → AgreesWithValue w (next (with_readings behind.left (record w { stack = y ∷ (x ∷ w.stack) }))) (gives (f x y) behind)
+  pub sense_agrees : (m : Attempt) (w : WordState) → Keeps k m w → LeavesWord k w.stack (behaviour (one sense) w) (next_reading m)
+  sense_agrees m w kept =
+      subst (λ rs. LeavesWord k w.stack (behaviour (one sense) w) (reading_of rs m)) (k.readings m w.fram w.locals w.inputs kept) (by w.inputs.readings)
+    where
+      by : (rs : List ℕ) → LeavesWord k w.stack (then_on (reading_pushed rs w) (behaviour nothing)) (reading_of rs m)
+      by [] = (tt, tt)
+      by (r ∷ rs) = (tt, record { stack = refl; kept = k.taken m w.fram w.locals w.inputs rs kept })
 
-sides_agree : (w : WordState) (a b : Program) (o : Option Evaluated) (second : Attempt → Option Evaluated) (f : ℕ → ℕ → ℕ)
-    (next : WordState → Behaviour) → SidesAgree w a b o second → MakesWord w next f
-    → AgreesWithValue w (then_on (behaviour (joined a b) w) next) (pair_value f o second)
-sides_agree w a b o second f next h k =
-    let rest : WordState → Behaviour = λ v. then_on (behaviour b v) next in
-    let P : Behaviour → Type 0 = λ r. AgreesWithValue w r (pair_value f o second) in
-    let is = ap (λ r. then_on r next) (joined_go_on a b w) ∙ sym (then_on_assoc (behaviour a w) (behaviour b) next) in
-    subst P (sym is)
-    (agrees_with (valued w) (valued w) (behaviour a w) o rest (λ x. made_of (f x.value) (second x.behind)) h.left_side (λ x given.
-    value_then w (valued w x) (behaviour b (valued w x)) (second x.behind) next (λ y. gives (f x.value y.value) y.behind) (h.right_side x given)
-    (λ y. k x.value y.value y.behind)))
+  -- ---- elements
 
--- an operation behind both sides
-operated_agrees : (op : BinaryOperation) (w : WordState) (a b : Program) (o : Option Evaluated) (second : Attempt → Option Evaluated) (f : ℕ → ℕ → ℕ)
-    → SidesAgree w a b o second → ((x y : ℕ) → binary_word op x y ≡ f x y)
-    → AgreesWithValue w (behaviour (joined (joined a b) (one (binary op))) w) (pair_value f o second)
-operated_agrees op w a b o second f h e =
-    subst (λ r. AgreesWithValue w r (pair_value f o second)) (sym (joined_go_on (joined a b) (one (binary op)) w))
-    (sides_agree w a b o second f (behaviour (one (binary op))) h (λ x y behind. (tt, ap (λ v. valued w (evaluated v behind)) (e x y))))
+  -- behind an index: what reads a word
+  module _ (below : List ℕ) (m : Attempt) (w : WordState) (kept : Keeps k m w) where
+    abbrev pushes : ℕ → Behaviour
+    pushes v = goes_on [] (with_stack (v ∷ below) w)
 
--- an operator of two sides
-pub binary_agrees : (meaning : BinaryMeaning) (w : WordState) (a b : Program) (o : Option Evaluated) (second : Attempt → Option Evaluated) (f : ℕ → ℕ → ℕ)
-    → SidesAgree w a b o second → ((x y : ℕ) → meaning_word meaning x y ≡ f x y)
-    → LoweringAgrees w (binary_lowering meaning (joined a b)) (pair_value f o second)
-binary_agrees (Calculates op) w a b o second f h e =
-    by_word w (joined (joined a b) (one (binary op))) (pair_value f o second) (operated_agrees op w a b o second f h e)
-binary_agrees CommonBits w a b o second f h e =
-    let makes : MakesWord w (way_by_two CommonBit (number_pushed 1) (number_pushed 0)) (λ x y. truth_word (f x y)) =
-    λ x y behind. bit_agrees (holds (bit_and x y)) (truth_word (f x y)) w behind (ap truth_word (e x y)) in
-    record {
-      word = operated_agrees (Plain And) w a b o second f h e;
-      test = subst (AgreesWithValue w (truth_pushed (compares CommonBit (joined a b)) w)) (pair_truth f o second)
-          (sides_agree w a b o second (λ x y. truth_word (f x y)) (way_by_two CommonBit (number_pushed 1) (number_pushed 0)) h makes);
-    }
-binary_agrees (Holds c) w a b o second f h e =
-    by_test w (compares c (joined a b)) (pair_value f o second) (pair_is_truth f (compare_words c) o second e)
-    (sides_agree w a b o second f (way_by_two c (number_pushed 1) (number_pushed 0)) h
-    (λ x y behind. bit_agrees (compare_words c x y) (f x y) w behind (e x y)))
-binary_agrees (Fails c) w a b o second f h e =
-    by_test w (fails (compares c (joined a b))) (pair_value f o second) (pair_is_truth f (λ x y. not (compare_words c x y)) o second e)
-    (sides_agree w a b o second f (way_by_two c (number_pushed 0) (number_pushed 1)) h
-    (λ x y behind. turned_bit_agrees (compare_words c x y) (f x y) w behind (e x y)))
+    abbrev Reads : Behaviour → ℕ → Type 0
+    Reads b v = LeavesWord k below (then_on b (behaviour nothing)) (gives v m)
 
--- ---- `!`, `&&` and `||`
+    -- one word at a place
+    one_read : (a x v : ℕ) → is_place a ≡ true → x ≡ v → Reads (at_place a (pushes x)) v
+    one_read a x v place is =
+        subst (λ b. Reads b v) (sym (placed a (pushes x) place)) (tt, record { stack = ap (λ y. y ∷ below) is; kept = kept })
 
--- an operation behind a value
-turned_agrees : (op : UnaryOperation) (w : WordState) (l : Lowering) (o : Option Evaluated) → LoweringAgrees w l o
-    → LoweringAgrees w (as_word (joined (word_program l) (one (unary op)))) (made_of (unary_word op) o)
-turned_agrees op w l o h =
-    let last = one (unary op) in
-    by_word w (joined (word_program l) last) (made_of (unary_word op) o)
-    (then_step w (word_program l) last o (λ x. gives (unary_word op x.value) x.behind) h.word (λ x is. (tt, refl)))
+    -- a word that is one of two, each at a place
+    either_read : (b : Bool) (c e x y v : ℕ) → is_place c ≡ true → is_place e ≡ true → (if b then x else y) ≡ v
+        → Reads (if b then at_place c (pushes x) else at_place e (pushes y)) v
+    either_read true c e x y v is_c is_e is = one_read c x v is_c is
+    either_read false c e x y v is_c is_e is = one_read e y v is_e is
 
--- `!` of a value by its test
-pub not_agrees : (w : WordState) (c : Test) (o : Option Evaluated) → AgreesWithValue w (truth_pushed c w) (truth_of o)
-    → LoweringAgrees w (as_test (fails c)) (made_of not_word o)
-not_agrees w c o h =
-    let turned = way_by_top (number_pushed 0) (number_pushed 1) in
-    let r : Option Evaluated = made_of not_word o in
-    by_test w (fails c) r (not_is_truth o)
-    (subst (λ b. AgreesWithValue w b r) (sym (decided_by_truth c (number_pushed 0) (number_pushed 1) w))
-    (subst (AgreesWithValue w (then_on (truth_pushed c w) turned)) (not_of_truth o)
-    (value_then w w (truth_pushed c w) (truth_of o) turned (λ x. gives (not_truth x.value) x.behind) h
-    (λ x. turned_bit_agrees (holds x.value) (not_truth x.value) w x.behind refl))))
+    -- an index within the array, or past its end
+    index_read : (i length v : ℕ) (inside : Behaviour) → (i < length → Reads inside v) → (length ≤ i → v ≡ 0)
+        → Reads (if nat_lt i length then inside else pushes 0) v
+    index_read i length v inside h past =
+        let P : Bool → Type 0 = λ b. Reads (if b then inside else pushes 0) v in
+        ⊎_elim (λ l. subst P (sym (lt-ltb i length l)) (h l))
+        (λ l. subst P (sym (le-ltb i length l)) (tt, record { stack = ap (λ y. y ∷ below) (sym (past l)); kept = kept })) (cases_lt i length)
 
-pub unary_agrees : (op : UnaryOperator) (w : WordState) (l : Lowering) (o : Option Evaluated) → LoweringAgrees w l o
-    → LoweringAgrees w (unary_lowering op l) (made_of (unary_value op) o)
-unary_agrees unary_operator.Negate w l o h = turned_agrees Negate w l o h
-unary_agrees unary_operator.Complement w l o h = turned_agrees Complement w l o h
-unary_agrees unary_operator.Not w l o h = not_agrees w (value_test l) o h.test
+    -- the word of an array
+    array_read : (v elements length i : ℕ) (copies : Option ArrayCopies) → IsArrayAt k.p v elements length copies
+        → LeavesWord k below (behaviour (one (element_read k.p (Some (Array elements length copies)))) (with_stack (i ∷ below) w))
+        (gives (word_at m.variables (Shared v) i) m)
+    array_read v elements length i copies at = by copies at
+      where
+        x : Element
+        x = record { array = v; index = i }
 
-pub side_agrees : (op : ShortCircuitOperator) (w : WordState) (c d : Test) (o : Option Evaluated) (right : Attempt → Option Evaluated)
-    → AgreesWithValue w (truth_pushed c w) (truth_of o)
-    → ((x : Evaluated) → truth_of o ≡ Some x → AgreesWithValue w (truth_pushed d (with_readings x.behind.left w)) (truth_of (right x.behind)))
-    → AgreesWithValue w (truth_pushed (sides_test op c d) w) (truth_of o >>? side_value op right)
-side_agrees BothHold w c d o right h k =
-    let next = way_by_top (truth_pushed d) (number_pushed 0) in
-    subst (λ r. AgreesWithValue w r (truth_of o >>? side_value BothHold right)) (sym (decided_by_truth c (truth_pushed d) (number_pushed 0) w))
-    (agrees_with (valued w) (valued w) (truth_pushed c w) (truth_of o) next (side_value BothHold right) h
-    (λ x is. by (holds x.value) x.behind (k x is)))
-  where
-    by : (b : Bool) (behind : Attempt)
-        → (let u : WordState = with_readings behind.left w in
-        AgreesWithValue w (truth_pushed d u) (truth_of (right behind))
-        → AgreesWithValue w (if b then truth_pushed d u else number_pushed 0 u) (if not b then gives (bit b) behind else truth_of (right behind)))
-    by true behind g = g
-    by false behind g = (tt, refl)
-side_agrees OneHolds w c d o right h k =
-    let next = way_by_top (number_pushed 1) (truth_pushed d) in
-    subst (λ r. AgreesWithValue w r (truth_of o >>? side_value OneHolds right)) (sym (decided_by_truth c (number_pushed 1) (truth_pushed d) w))
-    (agrees_with (valued w) (valued w) (truth_pushed c w) (truth_of o) next (side_value OneHolds right) h
-    (λ x is. by (holds x.value) x.behind (k x is)))
-  where
-    by : (b : Bool) (behind : Attempt)
-        → (let u : WordState = with_readings behind.left w in
-        AgreesWithValue w (truth_pushed d u) (truth_of (right behind))
-        → AgreesWithValue w (if b then number_pushed 1 u else truth_pushed d u) (if b then gives (bit b) behind else truth_of (right behind)))
-    by true behind g = (tt, refl)
-    by false behind g = g
+        word : ℕ
+        word = word_at m.variables (Shared v) i
+
+        held : HoldVariables k.p m.variables w.fram w.locals
+        held = k.variables m w.fram w.locals w.inputs kept
+
+        here : (s : Spot) (a : ℕ) → IsSpot k.p s → spot_address k.p s ≡ a → is_place a ≡ true
+        here s a is e = subst (λ a. is_place a ≡ true) e (spot_place k.p k.room s k.apart k.even is)
+
+        by : (copies : Option ArrayCopies) → IsArrayAt k.p v elements length copies
+            → LeavesWord k below (behaviour (one (element_read k.p (Some (Array elements length copies)))) (with_stack (i ∷ below) w)) (gives word m)
+        by None at =
+            let e = 2 * i + elements in
+            index_read i length word (at_place e (pushes (w.fram e)))
+            (λ l.
+            let is : IsElement k.p x = record { elements = elements; length = length; copies = None; is_array = at; below = l } in
+            one_read e (w.fram e) word (here (element x) e is (element_is k.p x elements length None at))
+            (subst (λ o. own_word k.p w.fram o i ≡ word) at.place (held.elements x is)))
+            (past_end k.p v elements length i None m.variables w.fram w.locals at held)
+        by (Some c) at =
+            let e = 2 * i + elements in
+            let o = 2 * i + c.copies in
+            let n = 2 * i + c.versions in
+            let ver = word_place k.p.map Version in
+            let apart = k.apart in
+            let read : Behaviour = if w.fram ver == w.fram n then at_place o (pushes (w.fram o)) else at_place e (pushes (w.fram e)) in
+            index_read i length word (at_place ver (at_place n read))
+            (λ l.
+            let is : IsCopied k.p x = record { elements = elements; length = length; copies = c; is_array = at; below = l } in
+            let at_version = placed ver (at_place n read)
+            (fram_place ver (word_even k.p.map Version k.even.row) (omega (arith, apart)) (omega (arith, apart))) in
+            let at_mark = placed n read (here (version x) n is (version_is k.p x elements length c at)) in
+            subst (λ b. Reads b word) (sym (at_version ∙ at_mark))
+            (either_read (w.fram ver == w.fram n) o e (w.fram o) (w.fram e) word (here (copy x) o is (copy_is k.p x elements length c at))
+            (here (element x) e (has_element k.p x is) (element_is k.p x elements length (Some c) at))
+            (subst (λ o. own_word k.p w.fram o i ≡ word) at.place (held.elements x (has_element k.p x is)))))
+            (past_end k.p v elements length i (Some c) m.variables w.fram w.locals at held)
+
+    pub element_agrees : (x : Variable) (i : ℕ) → IsArray k.p x
+        → LeavesWord k below (behaviour (one (element_step k.p x)) (with_stack (i ∷ below) w)) (gives (word_at m.variables x i) m)
+    element_agrees (Shared v) i is =
+        subst (λ o. LeavesWord k below (behaviour (one (element_read k.p o)) (with_stack (i ∷ below) w)) (gives (word_at m.variables (Shared v) i) m))
+        (sym is.3.place) (array_read v is.0 is.1 i is.2 is.3)
+    element_agrees (Local n) i is = absurd is
+
+  -- ---- behind a value
+
+  -- what goes on from the words of a value
+  pub agrees_behind : (words : ℕ → List ℕ) (below : List ℕ) (last : Evaluated → WordState → Type 0) (b : Behaviour) (o : Option Evaluated)
+      (next : WordState → Behaviour) (more : Evaluated → Option Evaluated) → AgreesAt (Leaves k words below) b o
+      → ((x : Evaluated) (s : WordState) → Keeps k x.behind s → AgreesAt last (next (with_stack (words x.value ++ below) s)) (more x))
+      → AgreesAt last (then_on b next) (o >>? more)
+  agrees_behind words below last b o next more h f =
+      agrees_then (Leaves k words below) last b o next more h
+      (λ x s there. subst (λ l. AgreesAt last (next (with_stack l s)) (more x)) (sym there.stack) (f x s there.kept))
+
+  -- a program behind that of a value
+  pub then_program : (words : ℕ → List ℕ) (last : Evaluated → WordState → Type 0) (w : WordState) (q next : Program) (o : Option Evaluated)
+      (more : Evaluated → Option Evaluated) → AgreesAt (Leaves k words w.stack) (behaviour q w) o
+      → ((x : Evaluated) (s : WordState) → Keeps k x.behind s → AgreesAt last (behaviour next (with_stack (words x.value ++ w.stack) s)) (more x))
+      → AgreesAt last (behaviour (joined q next) w) (o >>? more)
+  then_program words last w q next o more h f =
+      subst (λ b. AgreesAt last b (o >>? more)) (sym (joined_go_on q next w)) (agrees_behind words w.stack last (behaviour q w) o (behaviour next) more h f)
+
+  -- what is done with both values
+  pub sides_then : (words : ℕ → List ℕ) (last : Evaluated → WordState → Type 0) (w : WordState) (a b : Program) (next : WordState → Behaviour)
+      (o : Option Evaluated) (second : Attempt → Option Evaluated) (f : ℕ → ℕ → ℕ) → SidesAgree k words w a b o second
+      → ((x y : ℕ) (m : Attempt) (s : WordState) → Keeps k m s → AgreesAt last (next (with_stack (words y ++ (words x ++ w.stack)) s)) (gives (f x y) m))
+      → AgreesAt last (then_on (behaviour (joined a b) w) next) (pair_value f o second)
+  sides_then words last w a b next o second f h g =
+      let rest : WordState → Behaviour = λ v. then_on (behaviour b v) next in
+      let is = ap (λ r. then_on r next) (joined_go_on a b w) ∙ sym (then_on_assoc (behaviour a w) (behaviour b) next) in
+      subst (λ r. AgreesAt last r (pair_value f o second)) (sym is)
+      (agrees_behind words w.stack last (behaviour a w) o rest (λ x. made_of (f x.value) (second x.behind)) h.left_side (λ x s kept.
+      let below = words x.value ++ w.stack in
+      agrees_behind words below last (behaviour b (with_stack below s)) (second x.behind) next (λ y. gives (f x.value y.value) y.behind)
+      (h.right_side x s kept) (λ y t kept. g x.value y.value y.behind t kept)))
+
+  -- a step behind a value that makes another of it: what it does on any stack
+  pub step_leaves : (from to : ℕ → List ℕ) (last : Step) (f : ℕ → ℕ) (w : WordState) (q : Program) (o : Option Evaluated)
+      → AgreesAt (Leaves k from w.stack) (behaviour q w) o
+      → ((x : ℕ) (s : WordState) → step_behaviour last (with_stack (from x ++ w.stack) s) ≡ goes_on [] (with_stack (to (f x) ++ w.stack) s))
+      → AgreesAt (Leaves k to w.stack) (behaviour (behind q last) w) (made_of f o)
+  step_leaves from to last f w q o h does =
+      let there = Leaves k to w.stack in
+      then_program from there w q (one last) o (λ x. gives (f x.value) x.behind) h
+      (λ x s kept. subst (λ b. AgreesAt there (then_on b (behaviour nothing)) (gives (f x.value) x.behind)) (sym (does x.value s))
+      (tt, record { stack = refl; kept = kept }))
+
+  -- a step behind two values
+  pub pair_leaves : (from to : ℕ → List ℕ) (last : Step) (f : ℕ → ℕ → ℕ) (w : WordState) (a b : Program) (o : Option Evaluated)
+      (second : Attempt → Option Evaluated) → SidesAgree k from w a b o second
+      → ((x y : ℕ) (s : WordState) → step_behaviour last (with_stack (from y ++ (from x ++ w.stack)) s) ≡ goes_on [] (with_stack (to (f x y) ++ w.stack) s))
+      → AgreesAt (Leaves k to w.stack) (behaviour (behind (joined a b) last) w) (pair_value f o second)
+  pair_leaves from to last f w a b o second h does =
+      let there = Leaves k to w.stack in
+      subst (λ r. AgreesAt there r (pair_value f o second)) (sym (joined_go_on (joined a b) (one last) w))
+      (sides_then from there w a b (behaviour (one last)) o second f h
+      (λ x y m s kept. subst (λ r. AgreesAt there (then_on r (behaviour nothing)) (gives (f x y) m)) (sym (does x y s))
+      (tt, record { stack = refl; kept = kept })))
+
+  -- ---- tests
+
+  -- 1 is pushed where it holds, else 0
+  bit_agrees : (b : Bool) (r : ℕ) (m : Attempt) (s : WordState) → Keeps k m s → bit b ≡ r
+      → LeavesWord k s.stack (if b then number_pushed 1 s else number_pushed 0 s) (gives r m)
+  bit_agrees true r m s kept e = (tt, record { stack = ap (λ v. v ∷ s.stack) e; kept = kept })
+  bit_agrees false r m s kept e = (tt, record { stack = ap (λ v. v ∷ s.stack) e; kept = kept })
+
+  -- 0 is pushed where it holds, else 1
+  turned_bit_agrees : (b : Bool) (r : ℕ) (m : Attempt) (s : WordState) → Keeps k m s → bit (not b) ≡ r
+      → LeavesWord k s.stack (if b then number_pushed 0 s else number_pushed 1 s) (gives r m)
+  turned_bit_agrees true r m s kept e = bit_agrees false r m s kept e
+  turned_bit_agrees false r m s kept e = bit_agrees true r m s kept e
+
+  -- by a program that leaves the value
+  pub by_word : (w : WordState) (q : Program) (o : Option Evaluated) → LeavesWord k w.stack (behaviour q w) o → LoweringAgrees k w (as_word q) o
+  by_word w q o h = record {
+    word = h;
+    test = agrees_behind single w.stack (Leaves k single w.stack) (behaviour q w) o (way_by_top (number_pushed 1) (number_pushed 0))
+        (λ x. gives (truth_word x.value) x.behind) h
+        (λ x s kept. bit_agrees (holds x.value) (truth_word x.value) x.behind (with_stack w.stack s) kept refl);
+  }
+
+  -- by a test, where the value is 1 or 0
+  pub by_test : (w : WordState) (c : Test) (o : Option Evaluated) → truth_of o ≡ o → LeavesWord k w.stack (truth_pushed c w) o
+      → LoweringAgrees k w (as_test c) o
+  by_test w c o e h = record {
+    word = agrees_alone (Leaves k single w.stack) (truth_pushed c w) o h;
+    test = subst (LeavesWord k w.stack (truth_pushed c w)) (sym e) h;
+  }
+
+  -- ---- operators
+
+  -- an operation behind both sides
+  operated : (op : BinaryOperation) (w : WordState) (a b : Program) (o : Option Evaluated) (second : Attempt → Option Evaluated) (f : ℕ → ℕ → ℕ)
+      → SidesAgree k single w a b o second → ((x y : ℕ) → binary_word op x y ≡ f x y)
+      → LeavesWord k w.stack (behaviour (behind (joined a b) (binary op)) w) (pair_value f o second)
+  operated op w a b o second f h e =
+      pair_leaves single single (binary op) f w a b o second h (λ x y s. ap (λ v. goes_on [] (with_stack (v ∷ w.stack) s)) (e x y))
+
+  -- an operator of two sides
+  pub binary_agrees : (meaning : BinaryMeaning) (w : WordState) (a b : Program) (o : Option Evaluated) (second : Attempt → Option Evaluated) (f : ℕ → ℕ → ℕ)
+      → SidesAgree k single w a b o second → ((x y : ℕ) → meaning_word meaning x y ≡ f x y)
+      → LoweringAgrees k w (binary_lowering meaning (joined a b)) (pair_value f o second)
+  binary_agrees (Calculates op) w a b o second f h e =
+      by_word w (behind (joined a b) (binary op)) (pair_value f o second) (operated op w a b o second f h e)
+  binary_agrees CommonBits w a b o second f h e = record {
+    word = operated (Plain And) w a b o second f h e;
+    test = subst (LeavesWord k w.stack (truth_pushed (compares CommonBit (joined a b)) w))
+        (sym (pair_made truth_word f (λ x y. truth_word (f x y)) o second (λ x y. refl)))
+        (sides_then single (Leaves k single w.stack) w a b (way_by_two CommonBit (number_pushed 1) (number_pushed 0)) o second (λ x y. truth_word (f x y)) h
+        (λ x y m s kept. bit_agrees (holds (bit_and x y)) (truth_word (f x y)) m (with_stack w.stack s) kept (ap truth_word (e x y))));
+  }
+  binary_agrees (Holds c) w a b o second f h e =
+      by_test w (compares c (joined a b)) (pair_value f o second) (pair_is_truth f (compare_words c) o second e)
+      (sides_then single (Leaves k single w.stack) w a b (way_by_two c (number_pushed 1) (number_pushed 0)) o second f h
+      (λ x y m s kept. bit_agrees (compare_words c x y) (f x y) m (with_stack w.stack s) kept (e x y)))
+  binary_agrees (Fails c) w a b o second f h e =
+      by_test w (fails (compares c (joined a b))) (pair_value f o second) (pair_is_truth f (λ x y. not (compare_words c x y)) o second e)
+      (sides_then single (Leaves k single w.stack) w a b (way_by_two c (number_pushed 0) (number_pushed 1)) o second f h
+      (λ x y m s kept. turned_bit_agrees (compare_words c x y) (f x y) m (with_stack w.stack s) kept (e x y)))
+
+  -- a step behind a value
+  pub worked_agrees : (last : Step) (f : ℕ → ℕ) (w : WordState) (l : Lowering) (o : Option Evaluated) → LoweringAgrees k w l o
+      → ((x : ℕ) (s : WordState) → step_behaviour last (with_stack (x ∷ w.stack) s) ≡ goes_on [] (with_stack (f x ∷ w.stack) s))
+      → LoweringAgrees k w (as_word (behind (word_program l) last)) (made_of f o)
+  worked_agrees last f w l o h does = by_word w _ _ (step_leaves single single last f w (word_program l) o h.word does)
+
+  -- `!` of a value by its test
+  pub not_agrees : (w : WordState) (c : Test) (o : Option Evaluated) → LeavesWord k w.stack (truth_pushed c w) (truth_of o)
+      → LoweringAgrees k w (as_test (fails c)) (made_of not_word o)
+  not_agrees w c o h =
+      let turned = way_by_top (number_pushed 0) (number_pushed 1) in
+      let r : Option Evaluated = made_of not_word o in
+      by_test w (fails c) r (not_is_truth o)
+      (subst (λ b. LeavesWord k w.stack b r) (sym (decided_by_truth c (number_pushed 0) (number_pushed 1) w))
+      (subst (LeavesWord k w.stack (then_on (truth_pushed c w) turned)) (not_of_truth o)
+      (agrees_behind single w.stack (Leaves k single w.stack) (truth_pushed c w) (truth_of o) turned (λ x. gives (not_truth x.value) x.behind) h
+      (λ x s kept. turned_bit_agrees (holds x.value) (not_truth x.value) x.behind (with_stack w.stack s) kept refl))))
+
+  pub unary_agrees : (op : UnaryOperator) (w : WordState) (l : Lowering) (o : Option Evaluated) → LoweringAgrees k w l o
+      → LoweringAgrees k w (unary_lowering op l) (made_of (unary_value op) o)
+  unary_agrees unary_operator.Negate w l o h = worked_agrees (unary Negate) (unary_word Negate) w l o h (λ x s. refl)
+  unary_agrees unary_operator.Complement w l o h = worked_agrees (unary Complement) (unary_word Complement) w l o h (λ x s. refl)
+  unary_agrees unary_operator.Not w l o h = not_agrees w (value_test l) o h.test
+
+  -- ---- `&&` and `||`
+
+  pub side_agrees : (op : ShortCircuitOperator) (w : WordState) (c d : Test) (o : Option Evaluated) (right : Attempt → Option Evaluated)
+      → LeavesWord k w.stack (truth_pushed c w) (truth_of o)
+      → ((m : Attempt) (s : WordState) → Keeps k m s → LeavesWord k w.stack (truth_pushed d (with_stack w.stack s)) (truth_of (right m)))
+      → LeavesWord k w.stack (truth_pushed (sides_test op c d) w) (truth_of o >>? side_value op right)
+  side_agrees BothHold w c d o right h f =
+      let next = way_by_top (truth_pushed d) (number_pushed 0) in
+      subst (λ r. LeavesWord k w.stack r (truth_of o >>? side_value BothHold right)) (sym (decided_by_truth c (truth_pushed d) (number_pushed 0) w))
+      (agrees_behind single w.stack (Leaves k single w.stack) (truth_pushed c w) (truth_of o) next (side_value BothHold right) h
+      (λ x s kept. by (holds x.value) x.behind (with_stack w.stack s) kept (f x.behind s kept)))
+    where
+      by : (b : Bool) (m : Attempt) (u : WordState) → Keeps k m u → LeavesWord k u.stack (truth_pushed d u) (truth_of (right m))
+          → LeavesWord k u.stack (if b then truth_pushed d u else number_pushed 0 u) (if not b then gives (bit b) m else truth_of (right m))
+      by true m u kept g = g
+      by false m u kept g = (tt, record { stack = refl; kept = kept })
+  side_agrees OneHolds w c d o right h f =
+      let next = way_by_top (number_pushed 1) (truth_pushed d) in
+      subst (λ r. LeavesWord k w.stack r (truth_of o >>? side_value OneHolds right)) (sym (decided_by_truth c (number_pushed 1) (truth_pushed d) w))
+      (agrees_behind single w.stack (Leaves k single w.stack) (truth_pushed c w) (truth_of o) next (side_value OneHolds right) h
+      (λ x s kept. by (holds x.value) x.behind (with_stack w.stack s) kept (f x.behind s kept)))
+    where
+      by : (b : Bool) (m : Attempt) (u : WordState) → Keeps k m u → LeavesWord k u.stack (truth_pushed d u) (truth_of (right m))
+          → LeavesWord k u.stack (if b then number_pushed 1 u else truth_pushed d u) (if b then gives (bit b) m else truth_of (right m))
+      by true m u kept g = (tt, record { stack = refl; kept = kept })
+      by false m u kept g = g

@@ -1,33 +1,18 @@
 -- A store to an element: to its copy, and the first time in an attempt to its version word and to the commit list.
-use Rattle.std.proofs.Common.{◌≡◌, ℕ, zero, suc, ◌+◌, ◌*◌, ◌==◌, ◌<◌, ◌≤◌, List, [], ◌∷◌, ◌++◌, length, map, slice_get, Option, Some, Contains, All, true}
-use Rattle.std.proofs.Common.{Bool, refl, sym, ap, ◌∙◌, subst, arith, eq-eqb, ne_eqb, lt-ltb, le-ltb, ⊎_elim, if◌then◌else◌}
-use Rattle.std.proofs.lemmas.List.{map-append}
-use Rattle.std.proofs.lemmas.List.Elements.{All-append, All-map, All-weaker, Contains-append_left, Contains-append_right, Contains-append_cases}
-use Rattle.std.proofs.lemmas.List.Elements.{Contains-get_or}
-use Rattle.std.proofs.lemmas.List.Quantifiers.{all_pairs_push}
-use Rattle.fram_board.specs.Effects.{Effect, Store}
-use Rattle.machine_effects.specs.World.{put}
-use Rattle.machine_effects.proofs.Interface.{put_at, put_other}
-use Rattle.task_ast.specs.declared.names.Variable.TheVariants.{Shared}
-use Rattle.source_values.specs.Values.{Variables, word_at, with_word}
-use Rattle.array_versions.specs.declared.operations.PlainOperation.{PlainOperation}
-use Rattle.array_versions.specs.Operations.{plain_word}
-use Rattle.array_versions.specs.declared.program.ArrayPlace.{ArrayPlace}
-use Rattle.array_versions.specs.declared.program.ListPlace.{ListPlace}
-use Rattle.array_versions.specs.Behaviour.{WordState, Behaviour, goes_on, behind_effects, is_place, at_place, stored, word_listed, first_stored, own_stored}
-use Rattle.array_versions.specs.Behaviour.{versioned_stored, own_place, own_kept, own_updated, versioned_updated}
-use Rattle.lower.specs.Spots.{Room, AreApart, AreDifferent, AreListed, listed_of}
-use Rattle.lower.specs.Agreement.{own_word, HoldVariables, element_pair, HoldList}
+use Rattle.lower.proofs.Names.{◌≡◌, ℕ, zero, suc, ◌+◌, ◌*◌, ◌==◌, ◌<◌, ◌≤◌, List, [], ◌∷◌, ◌++◌, length, map, Option, Some, Contains, true, Bool, refl, sym}
+use Rattle.lower.proofs.Names.{ap, ◌∙◌, subst, arith, ne_eqb, lt-ltb, le-ltb, ⊎_elim, if◌then◌else◌, map-append, All-append, All-map, All-weaker}
+use Rattle.lower.proofs.Names.{Contains-append_left, Contains-append_right, Contains-append_cases, Contains-get_or, all_pairs_push, Effect, Store, put}
+use Rattle.lower.proofs.Names.{put_at, put_other, Shared, Variables, word_at, with_word, PlainOperation, plain_word, ArrayPlace, ListPlace, WordState}
+use Rattle.lower.proofs.Names.{Behaviour, behind_effects, is_place, at_place, stored, word_listed, first_stored, own_stored, versioned_stored, own_place}
+use Rattle.lower.proofs.Names.{own_kept, own_updated, versioned_updated, Room, AreApart, AreDifferent, AreListed, listed_of, own_word, HoldVariables}
+use Rattle.lower.proofs.Names.{element_pair, HoldList, entries_from, entries_alike, word_place, ListLength, EmitCount, Version, Array, Places, scalar_address}
+use Rattle.lower.proofs.Names.{IsScalarAt, IsScalarWord, Element, IsElement, IsCopied, Spot, scalar, element, copy, version, IsSpot, copy_address}
+use Rattle.lower.proofs.Names.{version_address, spot_address}
+use Rattle.std.proofs.Common.{slice_get, All, eq-eqb}
+use Rattle.array_versions.specs.Behaviour.{goes_on}
 use Rattle.lower.proofs.Addresses.{placed, has_element, copy_is, version_is, no_scalar, word_scalar, same_element, same_or_not}
-use Rattle.lower.proofs.Stored.{word_same, word_other, set_holds, own_same, ListStays, EmitsStay, few_entries, spot_list}
-use Rattle.runtime_effects.specs.Places.{entries_from}
-use Rattle.runtime_effects.proofs.Interface.{entries_alike}
+use Rattle.lower.proofs.Stored.{word_same, word_other, set_holds, own_same, EmitsStay, few_entries}
 use Rattle.lower.proofs.Lists.{HaveWords, HasNext, IsElse}
-use Rattle.memory_map.specs.MemoryMap.{word_place}
-use Rattle.memory_map.specs.declared.words.RuntimeWord.TheVariants.{ListLength, EmitCount, Version}
-use Rattle.memory_map.specs.declared.place.VariablePlace.TheVariants.{Array}
-use Rattle.memory_map.specs.Spots.{Places, scalar_address, IsScalarAt, IsScalarWord, Element, IsElement, IsCopied, Spot, scalar, element, copy, version}
-use Rattle.memory_map.specs.Spots.{IsSpot, copy_address, version_address, spot_address}
 
 -- ---- what the step does
 
@@ -169,10 +154,6 @@ again_stored p room x v f apart is marked =
       spots = λ s of ne d. put_other f a v (spot_address p s) (λ e. ne (apart.distinct s (copy x) of is e));
     }
 
-pub again_list : (p : Places) (room : Room) (x : Element) (v : ℕ) (f : ℕ → ℕ) → AreApart p room → IsCopied p x
-    → ListStays p room f (put f (copy_address p x) v)
-again_list p room x v f apart is = spot_list p room (copy x) v f apart is (λ y e. cc)
-
 -- ---- the first store
 
 -- FRAM behind the copy and the version word
@@ -282,11 +263,11 @@ elements_have_next p room xs apart copied =
     let copied_to = apart.below (copy x) is in
     record { home = omega (arith, home); copy = omega (arith, copied_to) }) xs copied)
 
-pub first_list : (p : Places) (room : Room) (xs : List Element) (x : Element) (v : ℕ) (f g : ℕ → ℕ) → AreApart p room → IsCopied p x → length xs < room.list
+pub first_list : (p : Places) (xs : List Element) (x : Element) (v : ℕ) (f g : ℕ → ℕ) → IsCopied p x
     → (f (word_place p.map Version) ≡ f (version_address p x) → ⊥) → HoldList p xs f → IsStored p x v f g
     → entries_from (g (word_place p.map ListLength)) p.map.list.address g ≡ map (element_pair p) xs ++ element_pair p x ∷ []
     → HaveWords p.map.list.address (g (word_place p.map ListLength)) g → HoldList p (xs ++ x ∷ []) g
-first_list p room xs x v f g apart is few unmarked h now pairs have = record {
+first_list p xs x v f g is unmarked h now pairs have = record {
   are_listed = push_listed p xs x h.are_listed is fresh;
   pairs = pairs ∙ sym (map-append (element_pair p) xs (x ∷ []));
   runs = have;

@@ -151,10 +151,10 @@ valued w x = with_readings x.behind.left (record w { stack = x.value ∷ w.stack
 abbrev pub long_valued : WordState → Evaluated → WordState
 long_valued w x = with_readings x.behind.left (record w { stack = x.value / 65536 ∷ (x.value % 65536 ∷ w.stack) })
 
--- the end leaves the state that a value makes, or is short where there is none. A program that reads a local before it is assigned is
--- broken, and then nothing is said
-abbrev pub EndsAt : (Evaluated → WordState) → End → Option Evaluated → Type 0
-EndsAt there (GoesOn s) (Some x) = s ≡ there x
+-- the end leaves a state as it is asked for behind this value, or is short where there is none. A program that reads a local before it is
+-- assigned is broken, and then nothing is said
+abbrev pub EndsAt : (Evaluated → WordState → Type 0) → End → Option Evaluated → Type 0
+EndsAt there (GoesOn s) (Some x) = there x s
 EndsAt there (GoesOn s) None = ⊥
 EndsAt there Short (Some x) = ⊥
 EndsAt there Short None = Unit {0}
@@ -162,17 +162,17 @@ EndsAt there (Jumps to s) o = ⊥
 EndsAt there Strays o = ⊥
 EndsAt there Broken o = Unit {0}
 
--- a program takes readings alone, and ends as an expression does: with the state that its value makes, or short of readings
-abbrev pub AgreesAt : (Evaluated → WordState) → Behaviour → Option Evaluated → Type 0
+-- a program takes readings alone, and ends as an expression does: with a state as its value leaves one, or short of readings
+abbrev pub AgreesAt : (Evaluated → WordState → Type 0) → Behaviour → Option Evaluated → Type 0
 AgreesAt there b o = OnlyTakes b.effects × EndsAt there b.end o
 
--- the same with the value pushed
+-- the same with the value pushed, and nothing else changed
 abbrev pub AgreesWithValue : WordState → Behaviour → Option Evaluated → Type 0
-AgreesWithValue w b o = AgreesAt (valued w) b o
+AgreesWithValue w b o = AgreesAt (λ x s. s ≡ valued w x) b o
 
 -- the same with the value pushed as a long
 abbrev pub AgreesWithLong : WordState → Behaviour → Option Evaluated → Type 0
-AgreesWithLong w b o = AgreesAt (long_valued w) b o
+AgreesWithLong w b o = AgreesAt (λ x s. s ≡ long_valued w x) b o
 
 -- an attempt with the readings left that a state has
 abbrev pub in_state : WordState → Attempt → Attempt

@@ -1,6 +1,6 @@
 -- Where the words that a task works on stand apart from the runtime's, and for how much there is room.
 use Rattle.std.specs.Prelude.{◌≡◌, ℕ, ◌+◌, ◌*◌, ◌%◌, ◌≤◌, ◌==◌, if◌then◌else◌, List, [], ◌∷◌, length, All, AllPairs}
-use Rattle.address_space.specs.Limits.{fram_first, fram_end, reset_vector}
+use Rattle.address_space.specs.Limits.{fram_first, program_end}
 use Rattle.memory_map.specs.MemoryMap.{row_region}
 use Rattle.memory_map.specs.Places.{end_of}
 use Rattle.memory_map.specs.Spots.{Places, private_words, Element, IsCopied, Spot, IsSpot, spot_address}
@@ -15,9 +15,9 @@ pub record AreApart (p : Places) (room : Room) : Type 0 where
   pub row : fram_first ≤ p.map.row
   pub list : end_of (row_region p.map) ≤ p.map.list.address
   pub emits : p.map.list.address + 6 * room.list ≤ p.map.emits.address
-  pub high : p.map.emits.address + 2 * room.emits ≤ fram_end
+  pub high : p.map.emits.address + 2 * room.emits ≤ program_end
   pub spots : (s : Spot) → IsSpot p s → p.map.emits.address + 2 * room.emits ≤ spot_address p s
-  pub below : (s : Spot) → IsSpot p s → spot_address p s + 2 ≤ reset_vector
+  pub below : (s : Spot) → IsSpot p s → spot_address p s + 2 ≤ program_end
   pub distinct : (s t : Spot) → IsSpot p s → IsSpot p t → spot_address p s ≡ spot_address p t → s ≡ t
 
 -- all places are at even addresses, as the CPU takes words

@@ -3,7 +3,7 @@
 -- cycles are those of every bus (SLAU049 and SLAU144, CPU chapter).
 use Rattle.std.specs.Prelude.{ℕ, zero, suc, ◌-◌, ◌%◌, ◌≡◌, ◌<◌, ◌≤◌, ◌==◌, ◌&&◌, if◌then◌else◌, slice_index, List, [], ◌∷◌, ◌++◌, Result, Ok, Err, Option}
 use Rattle.std.specs.Prelude.{Some, None}
-use Rattle.fram_board.specs.address_space.Limits.{ram_first, ram_end, reset_vector}
+use Rattle.fram_board.specs.address_space.Limits.{ram_first, ram_end, fram_first, program_end, reset_vector}
 pub use Rattle.fram_board.specs.address_space.Limits.{IsFramWord as IsFram}
 use Rattle.fram_board.specs.alp_words.declared.Width.{Width}
 use Rattle.fram_board.specs.alp_words.declared.Width.TheVariants.{Word, Byte}
@@ -169,6 +169,12 @@ pub record IsRam (a : ℕ) : Type 0 where
   pub even : a % 2 ≡ 0
   pub low : ram_first ≤ a
   pub high : a < ram_end
+
+-- the address of a word of FRAM in front of where a program ends
+pub record IsPlace (a : ℕ) : Type 0 where
+  pub even : a % 2 ≡ 0
+  pub low : fram_first ≤ a
+  pub high : a < program_end
 
 -- FRAM by addresses, from the list of its words
 abbrev pub fram_of : List ℕ → ℕ → ℕ

@@ -1,7 +1,7 @@
 -- The regions of a memory map, and the words of the runtime in front of them.
 use Rattle.std.proofs.Common.{◌≡◌, ℕ, ◌+◌, ◌*◌, ◌%◌, ◌<◌, ◌≤◌, ◌==◌, if◌then◌else◌, arith, subst, refl, sym, ◌∙◌, ap, Some}
 use Rattle.std.specs.Prelude.{slice_get}
-use Rattle.address_space.specs.Limits.{fram_first, reset_vector}
+use Rattle.address_space.specs.Limits.{fram_first, program_end}
 use Rattle.memory_map.specs.declared.place.Region.{Region}
 use Rattle.memory_map.specs.declared.words.RuntimeWord.{RuntimeWord}
 use Rattle.memory_map.specs.declared.words.RuntimeWord.TheVariants.{CurrentTask, NextTask, Gate, ListLength, EmitCount, Base, SentBase, Version}
@@ -21,7 +21,7 @@ record Parts (m : MemoryMap) : Type 0 where
 list_end : (a words entries b : ℕ) → words ≡ list_entry_room * entries → a + 2 * words ≤ b → a + 2 * (list_entry_room * entries) ≤ b
 list_end a words entries b e h = subst (λ n. a + 2 * n ≤ b) e h
 
-parts_of : (m : MemoryMap) → m.list.words ≡ list_entry_room * m.entries → AreInOrder fram_first (parts m) reset_vector → Parts m
+parts_of : (m : MemoryMap) → m.list.words ≡ list_entry_room * m.entries → AreInOrder fram_first (parts m) program_end → Parts m
 parts_of m e (row, (list, (emits, (versions, (homes, (copies, (boot, (commit, (code, high))))))))) = record {
   apart = record {
     row = row.from;
@@ -59,7 +59,7 @@ even_of m h = (parts_of m h.list h.chain).even
 -- a region of the map by its number
 in_fram : (m : MemoryMap) → IsLaidOut m → (k : ℕ) (r : Region) → slice_get (parts m) k ≡ Some r → IsInFram r
 in_fram m h k r e =
-    let w = in_order_within fram_first (parts m) reset_vector k r h.chain e in
+    let w = in_order_within fram_first (parts m) program_end k r h.chain e in
     record { even = w.even; from = w.from; end = w.end }
 
 -- each region is in the FRAM

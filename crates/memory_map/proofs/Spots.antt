@@ -1,7 +1,7 @@
 -- The words that a task works on stand apart.
 use Rattle.std.proofs.Common.{◌≡◌, ℕ, ◌≤◌, inl, inr, arith, ap, subst, sym, ◌∙◌, Some, refl}
 use Rattle.std.specs.Prelude.{Option, slice_get, All}
-use Rattle.address_space.specs.Limits.{reset_vector}
+use Rattle.address_space.specs.Limits.{program_end}
 use Rattle.memory_map.specs.declared.place.ArrayCopies.{ArrayCopies}
 use Rattle.memory_map.specs.declared.place.VariablePlace.TheVariants.{Scalar, Array}
 use Rattle.memory_map.specs.MemoryMap.{MemoryMap, TaskPlace}
@@ -51,7 +51,7 @@ module _ (l : MemoryMap) (h : IsLaidOut l) where
   record Chain : Type 0 where
     versions : end_of l.versions ≤ l.homes.address
     homes : end_of l.homes ≤ l.copies.address
-    high : end_of l.copies ≤ reset_vector
+    high : end_of l.copies ≤ program_end
 
   chain : Chain
   chain =
@@ -59,7 +59,7 @@ module _ (l : MemoryMap) (h : IsLaidOut l) where
       record { versions = a.homes; homes = a.copies; high = (parts_in_fram l h).copies.end }
 
   -- all that stand are between the versions and the end of the copies
-  pub between : (v i a : ℕ) → Stands l v i a → IsBetween l.versions.address a reset_vector
+  pub between : (v i a : ℕ) → Stands l v i a → IsBetween l.versions.address a program_end
   between v i a (at_home w) =
       let b = home_between l h v i a w in
       let x = b.from in let y = b.end in let r = chain.versions in let s = chain.homes in let t = chain.high in

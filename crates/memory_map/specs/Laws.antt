@@ -1,6 +1,6 @@
 -- What holds of memory maps.
 use Rattle.std.specs.Prelude.{◌≡◌, ℕ, ◌+◌, ◌*◌, ◌%◌, ◌<◌, ◌≤◌, Some, slice_get, Contains}
-use Rattle.address_space.specs.Limits.{fram_first, reset_vector, IsFramWord}
+use Rattle.address_space.specs.Limits.{fram_first, program_end, IsFramWord}
 use Rattle.memory_map.specs.declared.place.Region.{Region}
 use Rattle.memory_map.specs.declared.place.VariablePlace.{VariablePlace}
 use Rattle.memory_map.specs.declared.words.RuntimeWord.{RuntimeWord}
@@ -20,7 +20,7 @@ pub record AreApart (m : MemoryMap) : Type 0 where
   pub boot : end_of m.copies ≤ m.boot.address
   pub commit : end_of m.boot ≤ m.commit.address
   pub code : end_of m.commit ≤ m.code.address
-  pub high : end_of m.code ≤ reset_vector
+  pub high : end_of m.code ≤ program_end
 
 -- each region begins at an even address
 pub record AreEven (m : MemoryMap) : Type 0 where
@@ -34,11 +34,11 @@ pub record AreEven (m : MemoryMap) : Type 0 where
   pub commit : m.commit.address % 2 ≡ 0
   pub code : m.code.address % 2 ≡ 0
 
--- a region at an even address, of words of the FRAM in front of its last
+-- a region at an even address, of words of the FRAM in front of a program's end
 pub record IsInFram (r : Region) : Type 0 where
   pub even : r.address % 2 ≡ 0
   pub from : fram_first ≤ r.address
-  pub end : end_of r ≤ reset_vector
+  pub end : end_of r ≤ program_end
 
 -- all regions
 pub record PartsInFram (m : MemoryMap) : Type 0 where

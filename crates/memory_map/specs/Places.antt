@@ -1,7 +1,7 @@
 -- The rules of a memory map, whatever its source: its places are even, in the FRAM, and apart.
 use Rattle.std.specs.Prelude.{◌≡◌, ℕ, ◌+◌, ◌*◌, ◌%◌, ◌≤◌, List, [], ◌∷◌, map, Option, None, Some, All, slice_get}
 use Rattle.std.specs.List.{flat_map}
-use Rattle.address_space.specs.Limits.{fram_first, reset_vector}
+use Rattle.address_space.specs.Limits.{fram_first, program_end}
 use Rattle.memory_map.specs.declared.place.Region.{Region}
 use Rattle.memory_map.specs.declared.place.ArrayCopies.{ArrayCopies}
 use Rattle.memory_map.specs.declared.place.ScalarWidth.{ScalarWidth}
@@ -70,8 +70,8 @@ pub record HasItsPlace (variables : List VariablePlace) (s : PrivateScalar) : Ty
 
 -- the rules of a memory map
 pub record IsLaidOut (m : MemoryMap) : Type 0 where
-  -- one chain: the words of the runtime, the buffers, the variables, their copies, and all code above them, up to the word at FFFE
-  pub chain : AreInOrder fram_first (parts m) reset_vector
+  -- one chain: the words of the runtime, the buffers, the variables, their copies, and all code above them, up to the end of a program
+  pub chain : AreInOrder fram_first (parts m) program_end
   pub list : m.list.words ≡ list_entry_room * m.entries
   -- the variables in order, and the same of their copies and versions
   pub homes : AreInOrder m.homes.address (map home_region m.variables) (end_of m.homes)

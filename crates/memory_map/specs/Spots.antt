@@ -1,6 +1,6 @@
 -- The words that a task works on: where each stands.
 use Rattle.std.specs.Prelude.{◌≡◌, ℕ, ◌+◌, ◌*◌, ◌%◌, ◌<◌, ◌≤◌, ◌==◌, if◌then◌else◌, List, [], ◌∷◌, Option, Some, None, All, slice_get}
-use Rattle.address_space.specs.Limits.{reset_vector}
+use Rattle.address_space.specs.Limits.{program_end}
 use Rattle.memory_map.specs.declared.place.ArrayCopies.{ArrayCopies}
 use Rattle.memory_map.specs.declared.place.VariablePlace.{VariablePlace}
 use Rattle.memory_map.specs.declared.place.VariablePlace.TheVariants.{Scalar, Array}
@@ -163,11 +163,11 @@ pub record IsWordOf (l : MemoryMap) (v i a : ℕ) : Type 0 where
 
 -- ---- they stand apart
 
--- behind the first version word, at an even address in front of the vector
+-- behind the first version word, at an even address in front of the program's end
 pub record SpotStands (p : Places) (s : Spot) : Type 0 where
   pub even : spot_address p s % 2 ≡ 0
   pub from : p.map.versions.address ≤ spot_address p s
-  pub end : spot_address p s + 2 ≤ reset_vector
+  pub end : spot_address p s + 2 ≤ program_end
 
 -- each word that a task works on, at an address of its own
 pub record SpotsStand (p : Places) : Type 0 where

@@ -74,7 +74,7 @@ impl TaskLayout {
 ///
 /// From 0x4400 up, each at an even address and apart from the others: the words of the runtime; the commit list, with three words kept
 /// for an entry; the emit buffer; the version words of all written arrays; the words of all shared variables; the copies of scalars
-/// and of written arrays; and then code: the boot, the commit, each task. All of it ends below 0xFFFE.
+/// and of written arrays; and then code: the boot, the commit, each task. All of it ends below 0xFF18.
 #[derive(Drop)]
 pub struct Layout {
     runtime: Runtime,

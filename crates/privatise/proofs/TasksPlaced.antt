@@ -14,7 +14,7 @@ use Rattle.task_ast.specs.declared.names.VariableName.{VariableName}
 use Rattle.task_ast.specs.declared.names.TaskName.{TaskName}
 use Rattle.cost_bound.specs.Allowance.{CheckedTask, total}
 use Rattle.war_analysis.specs.PlanValue.{TaskPlanValue}
-use Rattle.memory_map.specs.address_space.Limits.{reset_vector}
+use Rattle.memory_map.specs.address_space.Limits.{program_end}
 use Rattle.memory_map.specs.declared.place.VariablePlace.{VariablePlace}
 use Rattle.memory_map.specs.declared.place.PrivateScalar.{PrivateScalar}
 use Rattle.memory_map.specs.MemoryMap.{TaskPlace}
@@ -55,12 +55,12 @@ no_array places i place h at other =
 pub no_privates : (places : List VariablePlace) (numbers : List ℕ) → ArePrivates places (take 0 numbers) []
 no_privates places numbers = record { numbers = refl; places = All-nil (HasItsPlace places) }
 
-pub next_private : (places : List VariablePlace) (numbers : List ℕ) (i : ℕ) (number : ℕ) (s : PrivateScalar) (xs ys : List PrivateScalar)
-    → i < length numbers → number ≡ get_or numbers i number → s.number ≡ number → HasItsPlace places s
+pub next_private : (places : List VariablePlace) (numbers : List ℕ) (i : ℕ) (s : PrivateScalar) (xs ys : List PrivateScalar)
+    → i < length numbers → s.number ≡ get_or numbers i 0 → HasItsPlace places s
     → ys ≡ xs ++ s ∷ [] → ArePrivates places (take i numbers) xs → ArePrivates places (take (i + 1) numbers) ys
-next_private places numbers i number s xs ys l at is has e h = subst (λ zs. ArePrivates places (take (i + 1) numbers) zs) (sym e) (record {
-  numbers = map-append (λ s. s.number) xs (s ∷ []) ∙ ap (λ ns. ns ++ s.number ∷ []) h.numbers ∙ ap (λ n. take i numbers ++ n ∷ []) (is ∙ at)
-      ∙ sym (take_more numbers i number l);
+next_private places numbers i s xs ys l at has e h = subst (λ zs. ArePrivates places (take (i + 1) numbers) zs) (sym e) (record {
+  numbers = map-append (λ s. s.number) xs (s ∷ []) ∙ ap (λ ns. ns ++ s.number ∷ []) h.numbers ∙ ap (λ n. take i numbers ++ n ∷ []) at
+      ∙ sym (take_more numbers i 0 l);
   places = All-push (HasItsPlace places) xs s h.places has;
 })
 
@@ -98,14 +98,14 @@ module _ (shared : List SharedDeclaration) (places : List VariablePlace) (tasks 
   pub small_task : total (body_words shared) (map task_of tasks) ≤ 22000 → body_words shared (task_of task).body ≤ 22000
   small_task small = let part = total_part (body_words shared) tasks i task l is in omega (arith, part, small)
 
-  fits : (at part rest all : ℕ) → at + 2 * (part + rest) ≡ all → all ≤ reset_vector → at + 2 * part < 65536
+  fits : (at part rest all : ℕ) → at + 2 * (part + rest) ≡ all → all ≤ program_end → at + 2 * part < 65536
   fits at part rest all h k = omega (arith, h, k)
 
   step : total (body_words shared) (map task_of (drop i tasks)) ≡ body_words shared (task_of task).body + total (body_words shared)
       (map task_of (drop (i + 1) tasks))
   step = total_step (body_words shared) tasks i task l is
 
-  pub task_fits : (layouts : List TaskPlace) (words : ℕ) → address + 2 * total (body_words shared) (map task_of tasks) ≤ reset_vector → words
+  pub task_fits : (layouts : List TaskPlace) (words : ℕ) → address + 2 * total (body_words shared) (map task_of tasks) ≤ program_end → words
       ≡ body_words shared (task_of task).body → TasksBelow shared places tasks plans address i at layouts → at + 2 * words < 65536
   task_fits layouts words room e h =
       let f : at + 2 * body_words shared (task_of task).body < 65536 =

@@ -11,7 +11,7 @@ use Rattle.task_ast.specs.declared.Extent.{Extent}
 use Rattle.task_ast.specs.declared.Extent.TheVariants as extent
 use Rattle.task_ast.specs.declared.SharedDeclaration.{SharedDeclaration}
 use Rattle.cost_bound.specs.Allowance.{shared_sum_from, version_part}
-use Rattle.memory_map.specs.address_space.Limits.{reset_vector}
+use Rattle.memory_map.specs.address_space.Limits.{program_end}
 use Rattle.memory_map.specs.declared.place.VariablePlace.{VariablePlace}
 use Rattle.privatise.specs.declared.variables.Free.{Free}
 use Rattle.memory_map.specs.Places.{home_region, copy_regions, version_regions, AreInOrder}
@@ -110,7 +110,7 @@ module _ (shared : List SharedDeclaration) (written : List Bool) (free : Free) (
   version_step = sum_step (λ k e. version_part (slice_index_or written k false) e) shared i extent l at
       ∙ ap (λ m. version_part m extent + shared_sum_from (λ k e. version_part (slice_index_or written k false) e) (i + 1) (drop (i + 1) shared)) (sym marked)
 
-  fits : (next part rest all : ℕ) → next + 2 * (part + rest) ≡ all → all ≤ reset_vector → next + 2 * part < 65536
+  fits : (next part rest all : ℕ) → next + 2 * (part + rest) ≡ all → all ≤ program_end → next + 2 * part < 65536
   fits next part rest all h k = omega (arith, h, k)
 
   pub room_for : (place : VariablePlace) → place ≡ place_at mark extent next → (places : List VariablePlace) → IsRoom shared written free

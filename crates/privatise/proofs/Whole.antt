@@ -18,7 +18,7 @@ use Rattle.cost_bound.proofs.Interface.{written_sum}
 use Rattle.war_analysis.specs.PlanValue.{TaskPlanValue}
 use Rattle.war_analysis.specs.Plans.{is_scalar, IsPrivateIn, IsPlan}
 use Rattle.war_analysis.proofs.Interface.{element}
-use Rattle.memory_map.specs.address_space.Limits.{fram_first, reset_vector}
+use Rattle.memory_map.specs.address_space.Limits.{fram_first, program_end}
 use Rattle.memory_map.specs.declared.place.VariablePlace.{VariablePlace}
 use Rattle.privatise.specs.declared.variables.Free.{Free}
 use Rattle.privatise.specs.declared.sizes.Sizes.{Sizes}
@@ -91,11 +91,11 @@ sizes_add p allow s a k =
       code = k.code j;
     })
 
-below_top : (n w : ℕ) → n + 1 ≡ w → w ≤ 22000 → fram_first + 2 * n ≤ reset_vector
+below_top : (n w : ℕ) → n + 1 ≡ w → w ≤ 22000 → fram_first + 2 * n ≤ program_end
 below_top n w e h = omega (arith, e, h)
 
 pub sizes_fit : (p : CheckedProgram) (allow : Allow) (s : Sizes) → IsAllowed p allow → AreSizes p s
-    → fram_first + 2 * (row_words + commit_words + 3 * allow.list + allow.emits + allow.versions + s.homes + s.copies + s.boot + s.code) ≤ reset_vector
+    → fram_first + 2 * (row_words + commit_words + 3 * allow.list + allow.emits + allow.versions + s.homes + s.copies + s.boot + s.code) ≤ program_end
 sizes_fit p allow s a k = below_top _ (words_of p) (sizes_add p allow s a k) a.within_size
 
 -- ---- the regions
@@ -187,8 +187,8 @@ right_behind end r e f = record { from = omega (arith, e); even = f }
 
 -- the regions in order
 pub chain : (allow : Allow) (s : Sizes) (r : Regions) (places : List VariablePlace) (layouts : List TaskPlace) → AreRegions allow s r
-    → fram_first + 2 * (row_words + commit_words + 3 * allow.list + allow.emits + allow.versions + s.homes + s.copies + s.boot + s.code) ≤ reset_vector
-    → AreInOrder fram_first (parts (map_with lone_redo r places layouts)) reset_vector
+    → fram_first + 2 * (row_words + commit_words + 3 * allow.list + allow.emits + allow.versions + s.homes + s.copies + s.boot + s.code) ≤ program_end
+    → AreInOrder fram_first (parts (map_with lone_redo r places layouts)) program_end
 chain allow s r places layouts k fits =
     let b = starts allow s r k in
     let e = even_starts allow s r k in
@@ -202,7 +202,7 @@ chain allow s r places layouts k fits =
     let boot : IsBehind (end_of r.copies) r.boot = right_behind _ r.boot k.boot (even r.boot.address _ b.boot) in
     let commit : IsBehind (end_of r.boot) r.commit = right_behind _ r.commit k.commit (even r.commit.address _ b.commit) in
     let code : IsBehind (end_of r.commit) r.code = right_behind _ r.code k.code e.code in
-    let high : end_of r.code ≤ reset_vector = omega (arith, end, fits) in
+    let high : end_of r.code ≤ program_end = omega (arith, end, fits) in
     (row, (list, (emits, (versions, (homes, (copies, (boot, (commit, (code, high)))))))))
 
 -- ---- the variables
@@ -213,7 +213,7 @@ copies_are p written few h = written_sum copy_part p.shared p.shared written (is
 versions_are : (p : CheckedProgram) (written : List Bool) → length p.shared ≤ 256 → AreWritten p written → version_sum written p.shared ≡ versions_of p
 versions_are p written few h = written_sum version_part p.shared p.shared written (is_written p.tasks) (version_sum written p.shared) few refl h refl
 
-fits_in : (a w n m total : ℕ) → a ≡ row_end + 2 * n → w ≡ m → fram_first + 2 * total ≤ reset_vector → n + m + row_words ≤ total → a + 2 * w ≤ reset_vector
+fits_in : (a w n m total : ℕ) → a ≡ row_end + 2 * n → w ≡ m → fram_first + 2 * total ≤ program_end → n + m + row_words ≤ total → a + 2 * w ≤ program_end
 fits_in a w n m total e f h k = omega (arith, e, f, h, k)
 
 pub room : (p : CheckedProgram) (allow : Allow) (s : Sizes) (r : Regions) (written : List Bool) → length p.shared ≤ 256 → AreWritten p written
@@ -288,11 +288,11 @@ small t n rest w e h k = omega (arith, e, h, k)
 pub code_small : (p : CheckedProgram) (allow : Allow) (s : Sizes) → IsAllowed p allow → AreSizes p s → total (body_words p.shared) p.tasks ≤ 22000
 code_small p allow s a k = small _ s.code _ (words_of p) (sym k.code) (sizes_add p allow s a k) a.within_size
 
-code_room_by : (a t n rest : ℕ) → a ≡ fram_first + 2 * rest → t ≡ n → fram_first + 2 * (rest + n) ≤ reset_vector → a + 2 * t ≤ reset_vector
+code_room_by : (a t n rest : ℕ) → a ≡ fram_first + 2 * rest → t ≡ n → fram_first + 2 * (rest + n) ≤ program_end → a + 2 * t ≤ program_end
 code_room_by a t n rest e f h = omega (arith, e, f, h)
 
 pub code_room : (p : CheckedProgram) (allow : Allow) (s : Sizes) (r : Regions) → IsAllowed p allow → AreSizes p s → AreRegions allow s r
-    → r.code.address + 2 * total (body_words p.shared) p.tasks ≤ reset_vector
+    → r.code.address + 2 * total (body_words p.shared) p.tasks ≤ program_end
 code_room p allow s r a k g = code_room_by r.code.address _ s.code _ (starts allow s r g).code (sym k.code) (sizes_fit p allow s a k)
 
 -- what the layouts of tasks are made of

@@ -8,7 +8,7 @@ use Rattle.task_ast.specs.declared.SharedDeclaration.{SharedDeclaration}
 use Rattle.cost_bound.specs.declared.allowance.Allow.{Allow}
 use Rattle.cost_bound.specs.Allowance.{CheckedTask, CheckedProgram, shared_sum, version_part, total}
 use Rattle.war_analysis.specs.PlanValue.{TaskPlanValue}
-use Rattle.memory_map.specs.address_space.Limits.{fram_first, reset_vector}
+use Rattle.memory_map.specs.address_space.Limits.{fram_first, program_end}
 use Rattle.memory_map.specs.Words.{row_words}
 use Rattle.memory_map.specs.declared.place.ArrayCopies.{ArrayCopies}
 use Rattle.memory_map.specs.declared.place.ScalarWidth.{ScalarWidth}
@@ -48,9 +48,9 @@ version_sum written shared = shared_sum (λ i extent. version_part (slice_index_
 
 -- all variables have room from the free addresses on, which are even
 pub record IsRoom (shared : List SharedDeclaration) (written : List Bool) (free : Free) : Type 0 where
-  pub home : free.home + 2 * home_words shared ≤ reset_vector
-  pub copy : free.copy + 2 * copy_sum written shared ≤ reset_vector
-  pub version : free.version + 2 * version_sum written shared ≤ reset_vector
+  pub home : free.home + 2 * home_words shared ≤ program_end
+  pub copy : free.copy + 2 * copy_sum written shared ≤ program_end
+  pub version : free.version + 2 * version_sum written shared ≤ program_end
   pub even_home : free.home % 2 ≡ 0
   pub even_copy : free.copy % 2 ≡ 0
   pub even_version : free.version % 2 ≡ 0

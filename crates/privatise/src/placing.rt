@@ -3,7 +3,7 @@ ghost use Rattle.std.specs.Prelude.{◌≡◌, ◌+◌, ◌*◌, ◌≤◌, IfOk
 ghost use Rattle.task_ast.specs.View.{program_of};
 ghost use Rattle.cost_bound.specs.Allowance.{IsAllowed};
 ghost use Rattle.war_analysis.specs.Plans.{IsPlan};
-ghost use Rattle.memory_map.specs.address_space.Limits.{fram_first, reset_vector};
+ghost use Rattle.memory_map.specs.address_space.Limits.{fram_first, program_end};
 ghost use Rattle.memory_map.specs.Words.{row_words};
 ghost use Rattle.memory_map.specs.Places.{end_of};
 ghost use Rattle.privatise.specs.Sizes.{commit_words};
@@ -24,7 +24,7 @@ use war_analysis::Plan;
 const ENTRY: u32 = 3;
 
 fn region_behind(region: Region, words: u32) -> Region
-    requires { region.address + 2 * region.words ≤ reset_vector }
+    requires { region.address + 2 * region.words ≤ program_end }
     ensures address { result.address ≡ end_of region }
     ensures words { result.words ≡ words }
 {
@@ -37,7 +37,7 @@ fn region_behind(region: Region, words: u32) -> Region
 // The runtime's words stand at the start of the FRAM, and behind them the regions, one right behind another.
 fn regions_of(allow: &Allow, sizes: Sizes) -> Regions
     requires { fram_first + 2 * (row_words + commit_words + 3 * allow.now.list + allow.now.emits + allow.now.versions + sizes.homes + sizes.copies +
-        sizes.boot + sizes.code) ≤ reset_vector }
+        sizes.boot + sizes.code) ≤ program_end }
     ensures { AreRegions allow.now sizes result }
 {
     let row = Region {

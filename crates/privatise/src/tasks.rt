@@ -3,7 +3,7 @@ ghost use Rattle.std.specs.Prelude.{◌≡◌, ◌+◌, ◌*◌, ◌%◌, ◌≤
 ghost use Rattle.task_ast.specs.View.{task_of};
 ghost use Rattle.cost_bound.specs.Allowance.{total};
 ghost use Rattle.war_analysis.specs.PlanValue.{TaskPlanValue};
-ghost use Rattle.memory_map.specs.address_space.Limits.{reset_vector};
+ghost use Rattle.memory_map.specs.address_space.Limits.{program_end};
 ghost use Rattle.memory_map.specs.Places.{HasItsPlace};
 ghost use Rattle.privatise.specs.Sizes.{body_words};
 ghost use Rattle.privatise.specs.Placing.{IsScalarPlaceAt, ArePrivates, IsPlacedTask, ArePlacedTasks};
@@ -76,7 +76,7 @@ pub fn place_tasks(
 ) -> Result<Vec<TaskLayout>, AllocError>
     requires few { length shared.now ≤ 256 }
     requires small { total (body_words shared.now) (map task_of tasks.now) ≤ 22000 }
-    requires room { address + 2 * total (body_words shared.now) (map task_of tasks.now) ≤ reset_vector }
+    requires room { address + 2 * total (body_words shared.now) (map task_of tasks.now) ≤ program_end }
     requires even { address % 2 ≡ 0 }
     requires count { length plans.now ≡ length tasks.now }
     requires scalars { (k : ℕ) (plan : TaskPlanValue) → slice_get plans.now k ≡ Some plan → All (IsScalarPlaceAt variables.now) plan.private_scalars }

@@ -1,10 +1,16 @@
 -- What the proofs of other crates cite.
 
 -- Stretches of code one after another.
-pub use Rattle.runtime_code.proofs.Chains.{straight, one_form, comes_on, recounted, nothing, then_on, moved_to, known_at}
--- The tests and the jumps of loops that count down.
-pub use Rattle.runtime_code.proofs.Loops.{if_any_most, if_any_grows, last_flag, tested, one_less, begun, Loop, turn_stands, jumps_to, passes, begins}
-pub use Rattle.runtime_code.proofs.Loops.{goes_back, leaves}
+pub use Rattle.code_forms.proofs.Interface.{no_steps as nothing, comes_on, form_comes}
+pub use Rattle.runtime_code.proofs.Chains.{behind, core_at, from_there, ends, then_on, so_ends, recounted, on_fram, moved_to, straight, jumps, compares}
+-- Loops that count down.
+pub use Rattle.runtime_code.proofs.Loops.{if_any_most, if_any_grows, last_flag, Loop, Turning, Point, Turn, IsBehind, Makes, count_at, loop_ends, in_front}
+pub use Rattle.runtime_code.proofs.Loops.{turn_there, loops}
+-- What is left of a region as a loop goes over it.
+pub use Rattle.runtime_code.proofs.Regions.{IsLeft, all_left, left_from, first_left}
+-- The way to the task that CUR names, whatever is done in its stub; the sends.
+pub use Rattle.runtime_code.proofs.Ladder.{rung_in, IsRung, Does, HasLadder, ladder_bytes, to_task}
+pub use Rattle.runtime_code.proofs.Sending.{BehindSends, sends_are_made}
 -- The length of code.
 pub use Rattle.runtime_code.proofs.Sizes.{code_bytes, are_instructions-append}
 -- The runtime's words and buffers in a memory map.

@@ -2,40 +2,32 @@
 use Rattle.std.proofs.Common.{◌≡◌, ℕ, ◌+◌, ◌*◌, ◌%◌, ◌<◌, ◌≤◌, List, [], ◌∷◌, inl, inr, arith}
 use Rattle.std.specs.List.{All, flat_map}
 use Rattle.std.proofs.lemmas.List.Elements.{All-weaker, All-nil, All-head, All-tail, All-append}
-use Rattle.runtime_effects.specs.address_space.Limits.{IsFramWord, reset_vector}
-use Rattle.runtime_effects.specs.machine_effects.Machine.{IsFram}
+use Rattle.runtime_effects.specs.address_space.Limits.{program_end}
+use Rattle.runtime_effects.specs.machine_effects.Machine.{IsPlace}
 use Rattle.runtime_effects.specs.memory_map.declared.place.PrivateScalar.{PrivateScalar}
 use Rattle.runtime_effects.specs.memory_map.declared.words.RuntimeWord.TheVariants.{NextTask, EmitCount, SentBase}
 use Rattle.runtime_effects.specs.memory_map.MemoryMap.{MemoryMap, word_place}
 use Rattle.runtime_effects.specs.memory_map.Places.{end_of, scalar_words, HasItsPlace, IsLaidOut}
 use Rattle.runtime_effects.proofs.memory_map.Interface.{apart_of, parts_in_fram, words_stand, private_home, private_copy}
-use Rattle.runtime_effects.specs.Needs.{IsRegion, ArePairWords}
+use Rattle.runtime_effects.specs.Needs.{ArePairWords}
 use Rattle.runtime_effects.specs.Places.{scalar_pairs}
 use Rattle.runtime_effects.proofs.Interface.{run_all}
 use Rattle.runtime_code.specs.LayoutPlaces.{pairs_of}
 use Rattle.runtime_code.specs.Laws.{PlacesAreInFram, OpeningKeepsTask, HomesLeaveCommit, PrivatesAreWords}
 
--- a word of the FRAM, as the machine has it
-fram_word : (a : ℕ) → IsFramWord a → IsFram a
-fram_word a h = record { even = h.even; low = h.low; high = h.high }
-
--- so many bytes at an even address, behind the beginning of the FRAM and in front of the vector
-region : (p bytes : ℕ) → p % 2 ≡ 0 → 0x4400 ≤ p → p + bytes ≤ reset_vector → IsRegion p bytes
-region p bytes e low high = record { even = e; low = low; high = omega (arith, high) }
-
-in_fram : (a : ℕ) → a % 2 ≡ 0 → 0x4400 ≤ a → a < reset_vector → IsFram a
-in_fram a e low high = record { even = e; low = low; high = omega (arith, high) }
-
 pub places_are_in_fram : PlacesAreInFram
 places_are_in_fram l h =
     let list = (apart_of l h).emits in
     let r = parts_in_fram l h in
-    let emits = r.emits.end in
+    let emits = r.emits.end in let first = r.list.end in
     record {
-      words = λ w. fram_word (word_place l w) (words_stand l w h).is_fram;
-      list = region l.list.address (6 * l.entries) r.list.even r.list.from (omega (arith, list, emits));
-      emits = region l.emits.address (2 * l.emits.words) r.emits.even r.emits.from emits;
-      versions = region l.versions.address (2 * l.versions.words) r.versions.even r.versions.from r.versions.end;
+      words = λ w.
+          let stands = words_stand l w h in
+          let is = stands.is_fram in let below = stands.below in
+          record { even = is.even; low = is.low; high = omega (arith, below, first) };
+      list = record { even = r.list.even; low = r.list.from; high = omega (arith, list, emits) };
+      emits = record { even = r.emits.even; low = r.emits.from; high = emits };
+      versions = record { even = r.versions.even; low = r.versions.from; high = r.versions.end };
     }
 
 -- CUR stands in front of the version words
@@ -74,9 +66,9 @@ word_pairs l h s p =
       copy = word_in i (scalar_words s.width) s.copy l.copies.address (end_of l.copies) below copy.even copy.from copy.end r.copies.from r.copies.end;
     })
   where
-    word_in : (i n a from end : ℕ) → i < n → a % 2 ≡ 0 → from ≤ a → a + 2 * n ≤ end → 0x4400 ≤ from → end ≤ reset_vector → IsFram (2 * i + a)
+    word_in : (i n a from end : ℕ) → i < n → a % 2 ≡ 0 → from ≤ a → a + 2 * n ≤ end → 0x4400 ≤ from → end ≤ program_end → IsPlace (2 * i + a)
     word_in i n a from end below even low high first last =
-        in_fram (2 * i + a) (omega (arith, even)) (omega (arith, low, first)) (omega (arith, below, high, last))
+        record { even = omega (arith, even); low = omega (arith, low, first); high = omega (arith, below, high, last) }
 
 pub privates_are_words : PrivatesAreWords
 privates_are_words l h =

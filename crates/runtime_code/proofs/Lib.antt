@@ -1,6 +1,9 @@
 mod Chains
 mod Loops
+mod Regions
 mod Sizes
+mod Ladder
+mod Sending
 mod Layouts
 pub mod Interface
 pub use Rattle.runtime_effects.proofs.fram_board as fram_board

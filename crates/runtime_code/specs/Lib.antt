@@ -1,5 +1,7 @@
 pub mod Comes
 pub mod Counted
+pub mod Ladder
+pub mod Sending
 pub mod Addresses
 pub mod LayoutPlaces
 pub mod Laws

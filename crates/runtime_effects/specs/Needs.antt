@@ -1,21 +1,21 @@
 -- What commit and attempt start need of FRAM, and where the runtime's places stand.
 use Rattle.std.specs.Prelude.{◌≡◌, ◌≢◌, ℕ, ◌+◌, ◌*◌, ◌%◌, ◌<◌, ◌≤◌, ◌⊎◌, length, All}
-use Rattle.memory_map.specs.address_space.Limits.{fram_first, fram_end}
+use Rattle.memory_map.specs.address_space.Limits.{fram_first, program_end}
 use Rattle.memory_map.specs.declared.words.RuntimeWord.{RuntimeWord}
-use Rattle.machine_effects.specs.Machine.{IsFram}
+use Rattle.machine_effects.specs.Machine.{IsPlace}
 use Rattle.memory_map.specs.declared.words.RuntimeWord.TheVariants.{CurrentTask, NextTask, ListLength, EmitCount, SentBase}
 use Rattle.memory_map.specs.MemoryMap.{MemoryMap, word_place}
 use Rattle.runtime_effects.specs.Places.{CopyPair, entry_bytes, listed}
 
--- so many bytes from an address on are words of FRAM, with room behind them
+-- so many bytes from an address on are words of FRAM in front of where a program ends
 pub record IsRegion (p bytes : ℕ) : Type 0 where
   pub even : p % 2 ≡ 0
   pub low : fram_first ≤ p
-  pub high : p + bytes < fram_end
+  pub high : p + bytes ≤ program_end
 
 -- the runtime's words and lists stand in FRAM
 pub record AreInFram (m : MemoryMap) : Type 0 where
-  pub words : (w : RuntimeWord) → IsFram (word_place m w)
+  pub words : (w : RuntimeWord) → IsPlace (word_place m w)
   pub list : IsRegion m.list.address (entry_bytes * m.entries)
   pub emits : IsRegion m.emits.address (2 * m.emits.words)
   pub versions : IsRegion m.versions.address (2 * m.versions.words)
@@ -32,11 +32,10 @@ pub record LeavesCommit (m : MemoryMap) (a : ℕ) : Type 0 where
   pub list : IsOutOf m.list.address (entry_bytes * m.entries) a
   pub emits : IsOutOf m.emits.address (2 * m.emits.words) a
 
--- a word to copy home: both are words of FRAM, the copy in front of the last one, and the home is none that the commit reads
+-- a word to copy home: both are words of FRAM, and the home is none that the commit reads
 pub record IsCopied (m : MemoryMap) (x : CopyPair) : Type 0 where
-  pub home : IsFram x.home
-  pub copy : IsFram x.copy
-  pub before_last : x.copy + 2 < fram_end
+  pub home : IsPlace x.home
+  pub copy : IsPlace x.copy
   pub leaves : LeavesCommit m x.home
 
 -- FRAM on which a commit can be made: its entries, the words that they name and its emits are within their capacities, and it copies
@@ -53,5 +52,5 @@ pub record KeepsTask (m : MemoryMap) : Type 0 where
 
 -- a scalar and its copy are words of FRAM
 pub record ArePairWords (x : CopyPair) : Type 0 where
-  pub home : IsFram x.home
-  pub copy : IsFram x.copy
+  pub home : IsPlace x.home
+  pub copy : IsPlace x.copy

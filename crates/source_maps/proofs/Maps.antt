@@ -10,7 +10,7 @@ use Rattle.cost_bound.specs.Allowance.{CheckedTask, is_written}
 use Rattle.privatise.specs.war_analysis.PlanValue.{TaskPlanValue}
 use Rattle.privatise.specs.war_analysis.Plans.{IsScalarAt, IsPrivateIn, IsTaskPlan}
 use Rattle.source_report.specs.SourceReport.{spelled}
-use Rattle.memory_map.specs.address_space.Limits.{fram_first, fram_end, reset_vector}
+use Rattle.memory_map.specs.address_space.Limits.{fram_first, fram_end, program_end}
 use Rattle.memory_map.specs.declared.words.RuntimeWord.{RuntimeWord}
 use Rattle.memory_map.specs.declared.words.RuntimeWord.TheVariants.{CurrentTask, NextTask, Gate, ListLength, EmitCount, Base, SentBase, Version}
 use Rattle.memory_map.specs.declared.place.VariablePlace.{VariablePlace}
@@ -59,7 +59,7 @@ pub record ArePlaced (l : MemoryMap) : Type 0 where
   pub versions : IsPlace (map_buffer l.versions)
   pub copies : IsPlace (map_buffer l.copies)
   pub low : fram_first ≤ l.homes.address
-  pub high : end_of l.homes ≤ reset_vector
+  pub high : end_of l.homes ≤ program_end
 
 pub are_placed : (l : MemoryMap) → IsLaidOut l → ArePlaced l
 are_placed l h =

@@ -12,7 +12,7 @@ use Rattle.image_map.specs.MapValue.{IsFramWord, IsVariable, scalar_words, word_
 use Rattle.source_report.specs.source_values.Runs.{is_long_extent}
 use Rattle.source_runs.specs.Naming.{length_of, AreVariablesOf}
 use Rattle.source_report.specs.SourceReport.{spelled}
-use Rattle.memory_map.specs.address_space.Limits.{fram_first, reset_vector}
+use Rattle.memory_map.specs.address_space.Limits.{fram_first, program_end}
 use Rattle.memory_map.specs.declared.place.VariablePlace.{VariablePlace}
 use Rattle.memory_map.specs.declared.place.VariablePlace.TheVariants.{Scalar, Array}
 use Rattle.memory_map.specs.Places.{end_of, home_region, AreInOrder, scalar_words as width_words}
@@ -63,7 +63,7 @@ no_long word_type.Int = refl
 no_long word_type.Long = refl
 
 fits_there : (w : WordType) (e : Extent) (place : VariablePlace) (end : ℕ) → IsOfKind e place → HasWords e → end_of (home_region place) ≤ end
-    → end ≤ reset_vector → fits (home_region place).address (word_count (value_type_of w e) (length_of e)) ≡ true
+    → end ≤ program_end → fits (home_region place).address (word_count (value_type_of w e) (length_of e)) ≡ true
 fits_there w (extent.Scalar v) (Scalar home copy width) end h words l m =
     let wide = ap width_words h in
     ap (fits home) (one_word w) ∙ fits_so 1 (λ e. cc) home (omega (arith, l, m, wide))
@@ -91,7 +91,7 @@ in_order_end from end (p ∷ ps) h =
 
 pub variables_are : (text : List ℕ) (from end : ℕ) (ds : List SharedDeclaration) (ps : List VariablePlace) → ArePlacesOf ds ps
     → AreInOrder from (map home_region ps) end
-    → fram_first ≤ from → end ≤ reset_vector → All (λ d. HasWords d.extent) ds → All IsVariable (variables_of text ds ps)
+    → fram_first ≤ from → end ≤ program_end → All (λ d. HasWords d.extent) ds → All IsVariable (variables_of text ds ps)
 variables_are text from end [] [] places order low high words = All-nil IsVariable
 variables_are text from end [] (p ∷ ps) places order low high words = absurd places
 variables_are text from end (d ∷ ds) [] places order low high words = absurd places

@@ -1,24 +1,15 @@
 -- Behind each effect of a pending commit the commit is pending, and leaves what it left before.
-use Rattle.std.proofs.Common.{◌≡◌, ℕ, suc, ◌+◌, ◌*◌, ◌%◌, ◌<◌, ◌≤◌, List, ◌++◌, refl, sym, ap, ap₂, ◌∙◌, subst, ⊎_elim, inl, inr, ◌⊎◌, arith, length}
+use Rattle.stands_for.proofs.Names.{◌≡◌, ℕ, suc, ◌+◌, ◌*◌, ◌%◌, ◌<◌, ◌≤◌, List, ◌++◌, refl, sym, ap, ap₂, ◌∙◌, subst, ⊎_elim, inl, inr, ◌⊎◌, arith, length}
+use Rattle.stands_for.proofs.Names.{cases_eq, Store, Outside, Offered, World, put, accepted_after, world_after_one, world_after, put_same, put_other, CopyPair}
+use Rattle.stands_for.proofs.Names.{listed, emits_sent, commit_effects, HoldsThroughout, ProgramPlaces, StateView, IsSharedWord, IsAmong, HaveRoom, HoldsWords}
+use Rattle.stands_for.proofs.Names.{words_at, RestsAt, IsPendingCommit, CommittingTo, MemoryMap, word_place, CurrentTask, NextTask, Gate, Base, SentBase}
+use Rattle.stands_for.proofs.Names.{AreApart}
 use Rattle.std.proofs.Math.Path.{fun_ext}
-use Rattle.std.proofs.lemmas.Bool.{cases_eq}
-use Rattle.runtime_effects.specs.fram_board.Effects.{Store, Outside, Offered}
-use Rattle.runtime_effects.specs.machine_effects.World.{World, put, accepted_after, world_after_one, world_after}
-use Rattle.runtime_effects.proofs.machine_effects.Interface.{put_same, put_other}
-use Rattle.runtime_effects.specs.Places.{CopyPair, entry_bytes, entries_from, listed}
-use Rattle.runtime_effects.proofs.Interface.{entries_alike}
-use Rattle.runtime_effects.specs.Stages.{emits_sent, commit_effects}
-use Rattle.crash_rules.specs.Model.{HoldsThroughout}
-use Rattle.stands_for.specs.Layout.{ProgramPlaces, StateView, IsSharedWord, IsAmong, HaveRoom}
-use Rattle.stands_for.specs.StandsFor.{HoldsWords, words_at, RestsAt, IsPendingCommit, CommittingTo}
 use Rattle.stands_for.proofs.Sends.{next_base, IsEmit}
-use Rattle.stands_for.proofs.Keeps.{put_either, put_words}
+use Rattle.stands_for.proofs.Keeps.{put_either, put_words, ReadsAlike, reads_alike, listed_alike, entries_stay}
 use Rattle.stands_for.proofs.Walks.{commit_before, through}
 use Rattle.stands_for.proofs.Behind.{IsHome, copies_behind, copies_related, closed, behind_commit, IsSent, one_sent, emits_received, words_alike}
 use Rattle.stands_for.proofs.Pending.{few, copies_apart, still_to_send}
-use Rattle.runtime_effects.specs.memory_map.MemoryMap.{MemoryMap, word_place}
-use Rattle.runtime_effects.specs.memory_map.declared.words.RuntimeWord.TheVariants.{CurrentTask, NextTask, Gate, ListLength, EmitCount, Base, SentBase, Version}
-use Rattle.runtime_effects.specs.memory_map.Laws.{AreApart}
 
 -- two functions that are the same but at an address, with a word put there
 put_alike : (f g : ℕ → ℕ) (a w b : ℕ) → ((b ≡ a → ⊥) → f b ≡ g b) → put f a w b ≡ put g a w b
@@ -69,47 +60,17 @@ module _ (l : ProgramPlaces) (apart : AreApart l.map) (room : HaveRoom l) (x : W
   unchanged k y w a off c b = ⊎_elim (λ e. e) (λ h. absurd (off (home_shared a h))) (w.same a c b)
 
   -- what the commit reads
-  record ReadsAlike (y : World) : Type 0 where
-    gate : y.fram (word_place m Gate) ≡ f (word_place m Gate)
-    next_task : y.fram (word_place m NextTask) ≡ f (word_place m NextTask)
-    list_length : y.fram (word_place m ListLength) ≡ f (word_place m ListLength)
-    emit_count : y.fram (word_place m EmitCount) ≡ f (word_place m EmitCount)
-    sent_base : y.fram (word_place m SentBase) ≡ f (word_place m SentBase)
-    version : y.fram (word_place m Version) ≡ f (word_place m Version)
-    entries : (a : ℕ) → m.list.address ≤ a → a < m.list.address + entry_bytes * f (word_place m ListLength) → y.fram a ≡ f a
-    list : listed m y.fram ≡ ps
-    emits : (a : ℕ) → m.emits.address ≤ a → a < m.emits.address + 2 * f (word_place m EmitCount) → y.fram a ≡ f a
-    copies : (q : CopyPair) → IsAmong ps q → y.fram q.copy ≡ f q.copy
-    versions : (i : ℕ) → i < m.versions.words → y.fram (m.versions.address + 2 * i) ≡ f (m.versions.address + 2 * i)
+  reads : (k : ℕ) (y : World) → IsWithin k y → ReadsAlike l f y.fram
+  reads k y w = reads_alike l x y apart (unchanged k y w)
 
-  reads_alike : (k : ℕ) (y : World) → IsWithin k y → ReadsAlike y
-  reads_alike k y w =
-      let same = unchanged k y w in
-      let small = p.list_length in let small_emits = p.emit_count in
-      let cln : y.fram (word_place m ListLength) ≡ f (word_place m ListLength) =
-      same (word_place m ListLength) (λ h. omega (arith, apart, h)) (λ e. omega (arith, apart, e)) (λ e. omega (arith, apart, e)) in
-      let entries : (a : ℕ) → m.list.address ≤ a → a < m.list.address + entry_bytes * f (word_place m ListLength) → y.fram a ≡ f a = λ a lo hi.
-      same a (λ h. omega (arith, apart, h, small, hi)) (λ e. omega (arith, apart, e, lo)) (λ e. omega (arith, apart, e, lo)) in
-      record {
-        gate = same (word_place m Gate) (λ h. omega (arith, apart, h)) (λ e. omega (arith, apart, e)) (λ e. omega (arith, apart, e));
-        next_task = same (word_place m NextTask) (λ h. omega (arith, apart, h)) (λ e. omega (arith, apart, e)) (λ e. omega (arith, apart, e));
-        list_length = cln;
-        emit_count = same (word_place m EmitCount) (λ h. omega (arith, apart, h)) (λ e. omega (arith, apart, e)) (λ e. omega (arith, apart, e));
-        sent_base = same (word_place m SentBase) (λ h. omega (arith, apart, h)) (λ e. omega (arith, apart, e)) (λ e. omega (arith, apart, e));
-        version = same (word_place m Version) (λ h. omega (arith, apart, h)) (λ e. omega (arith, apart, e)) (λ e. omega (arith, apart, e));
-        entries = entries;
-        list = ap (λ n. entries_from n m.list.address y.fram) cln
-            ∙ entries_alike (f (word_place m ListLength)) m.list.address f y.fram entries;
-        emits = λ a lo hi. same a (λ h. omega (arith, apart, h, small_emits, hi)) (λ e. omega (arith, apart, e, lo)) (λ e. omega (arith, apart, e, lo));
-        copies = λ q h. let c = p.copies q h in
-            same q.copy (λ s. omega (arith, apart, s, c)) (λ e. omega (arith, apart, e, c)) (λ e. omega (arith, apart, e, c));
-        versions = λ i h. same (m.versions.address + 2 * i) (λ s. omega (arith, apart, s, h)) (λ e. omega (arith, apart, e)) (λ e. omega (arith, apart, e));
-      }
+  listed_there : (k : ℕ) (y : World) → IsWithin k y → listed m y.fram ≡ ps
+  listed_there k y w = listed_alike l f y.fram (reads k y w) p.list_length
 
   -- within the commit it is pending
   within_pending : (k : ℕ) (y : World) → IsWithin k y → IsPendingCommit l y
   within_pending k y w =
-      let r = reads_alike k y w in
+      let r = reads k y w in
+      let same_list = listed_there k y w in
       let list = p.list_length in let emits = p.emit_count in let joins = w.sent.joins in
       let next = r.next_task in let is_next = p.next_task in let cln = r.list_length in let en = r.emit_count in let ver = r.version in
       record {
@@ -118,12 +79,10 @@ module _ (l : ProgramPlaces) (apart : AreApart l.map) (room : HaveRoom l) (x : W
         current_task = w.current_task;
         next_task = omega (arith, next, is_next);
         list_length = omega (arith, cln, list);
-        entries = λ i h.
-            let below : i < f (word_place m ListLength) = subst (λ n. i < n) cln h in
-            subst (λ n. 0 < n) (sym (r.entries (m.list.address + entry_bytes * i + 4) (omega arith) (omega (arith, below)))) (p.entries i below);
-        list_words = subst (λ qs. length qs ≤ m.entries) (sym r.list) p.list_words;
-        homes = λ q h. p.homes q (subst (λ qs. IsAmong qs q) r.list h);
-        copies = λ q h. p.copies q (subst (λ qs. IsAmong qs q) r.list h);
+        entries = entries_stay l f y.fram r p.list_length p.entries;
+        list_words = subst (λ qs. length qs ≤ m.entries) (sym same_list) p.list_words;
+        homes = λ q h. p.homes q (subst (λ qs. IsAmong qs q) same_list h);
+        copies = λ q h. p.copies q (subst (λ qs. IsAmong qs q) same_list h);
         emit_count = omega (arith, en, emits);
         sent = w.sent.count;
         sent_some = omega (arith, en, joins);
@@ -135,22 +94,22 @@ module _ (l : ProgramPlaces) (apart : AreApart l.map) (room : HaveRoom l) (x : W
   -- and leaves the same world
   same_fram : (k : ℕ) (y : World) → IsWithin k y → closed m y.fram (copies_behind (listed m y.fram) y.fram) ≡ closed m f (copies_behind ps f)
   same_fram k y w =
-      let r = reads_alike k y w in
+      let r = reads k y w in
       let g = copies_behind (listed m y.fram) y.fram in
       let cur = word_place m CurrentTask in
       ap₂ (λ n b. put (put (put g cur n) (word_place m Base) b) (word_place m Gate) 0) r.next_task
       (ap₂ (λ a b. (a + b) % 0x10000) r.sent_base r.emit_count)
-      ∙ ap (λ qs. closed m f (copies_behind qs y.fram)) r.list
+      ∙ ap (λ qs. closed m f (copies_behind qs y.fram)) (listed_there k y w)
       ∙ closed_alike m f (copies_behind ps y.fram) (copies_behind ps f)
-      (λ a c b. copies_related (λ z v u. v ≡ u) ps y.fram f a (copies_apart l apart x p) r.copies (w.same a c b))
+      (λ a c b. copies_related (λ z v u. v ≡ u) ps y.fram f a (copies_apart l apart x p) (λ q h. r.copies q.copy (p.copies q h)) (w.same a c b))
 
   same_accepted : (k : ℕ) (y : World) → IsWithin k y → accepted_after (emits_sent m y.fram) y.accepted ≡ all
   same_accepted k y w =
-      let r = reads_alike k y w in
-      let s = w.sent in
+      let r = reads k y w in
+      let s = w.sent in let emits = p.emit_count in
       let en = r.emit_count in let most = few l apart x p room in let joins = s.joins in
       let rest : words_at s.left (m.emits.address + 2 * s.count) y.fram ≡ words_at s.left (m.emits.address + 2 * s.count) f =
-      words_alike s.left (m.emits.address + 2 * s.count) f y.fram (λ a lo hi. r.emits a (omega (arith, lo)) (omega (arith, hi, joins))) in
+      words_alike s.left (m.emits.address + 2 * s.count) f y.fram (λ a lo hi. r.emits a (omega (arith, lo)) (omega (arith, hi, joins, emits))) in
       emits_received m y.fram (omega (arith, en, most)) all y.accepted (w.words (word_place m SentBase))
       (record {
         count = s.count;

@@ -1,21 +1,13 @@
 -- What a commit leaves: FRAM with the copies at home and the last stores made, and the accepted words with those behind them that weren't
 -- sent yet.
-use Rattle.std.proofs.Common.{◌≡◌, ℕ, zero, suc, ◌+◌, ◌-◌, ◌*◌, ◌%◌, ◌<◌, ◌≤◌, List, [], ◌∷◌, ◌++◌, refl, sym, ap, ap₂, ◌∙◌, subst, ⊎_elim, inl, inr, ◌⊎◌}
-use Rattle.std.proofs.Common.{arith, ne_eqb, eq-eqb, cond, length, drop, length-append, append_assoc, append-nil}
+use Rattle.stands_for.proofs.Names.{◌≡◌, ℕ, zero, suc, ◌+◌, ◌-◌, ◌*◌, ◌%◌, ◌<◌, ◌≤◌, List, [], ◌∷◌, ◌++◌, refl, sym, ap, ap₂, ◌∙◌, subst, ⊎_elim, inl, inr, ◌⊎◌}
+use Rattle.stands_for.proofs.Names.{arith, ne_eqb, eq-eqb, cond, length, drop, length-append, append_assoc, append-nil, cases_eq, slice_index, Store, Outside}
+use Rattle.stands_for.proofs.Names.{Offered, World, put, received, fram_after, accepted_after, world_after_one, world_after, world_after-append, put_same}
+use Rattle.stands_for.proofs.Names.{put_other, CopyPair, listed, copied_home, sends, emits_sent, commit_closed, commit_effects, IsAmong, words_at, MemoryMap}
+use Rattle.stands_for.proofs.Names.{word_place, CurrentTask, NextTask, Gate, EmitCount, Base, SentBase}
 use Rattle.std.proofs.Math.Seq.{drop-cons, drop-length}
-use Rattle.std.proofs.lemmas.Bool.{cases_eq}
-use Rattle.std.specs.List.{slice_index}
-use Rattle.runtime_effects.specs.fram_board.Effects.{Store, Outside, Offered}
-use Rattle.runtime_effects.specs.machine_effects.World.{World, put, received, fram_after, accepted_after, world_after_one, world_after}
-use Rattle.runtime_effects.proofs.machine_effects.Interface.{world_after-append, put_same, put_other}
-use Rattle.runtime_effects.specs.Places.{CopyPair, listed}
-use Rattle.runtime_effects.specs.Stages.{copied_home, sends, emits_sent, commit_closed, commit_effects}
-use Rattle.stands_for.specs.Layout.{IsAmong}
-use Rattle.stands_for.specs.StandsFor.{words_at}
 use Rattle.stands_for.proofs.Sends.{next_base, IsEmit, IsSending, sends_begin, next_emit, sends_on}
 use Rattle.stands_for.proofs.Keeps.{same_number}
-use Rattle.runtime_effects.specs.memory_map.MemoryMap.{MemoryMap, word_place}
-use Rattle.runtime_effects.specs.memory_map.declared.words.RuntimeWord.TheVariants.{CurrentTask, NextTask, Gate, EmitCount, Base, SentBase}
 
 -- an address is the home of one of these pairs
 abbrev pub IsHome : List CopyPair → ℕ → Type 0

@@ -1,22 +1,13 @@
 -- A commit keeps a decided world decided at each of its effects, and leaves the state to which it is decided.
-use Rattle.std.proofs.Common.{◌≡◌, ℕ, ◌+◌, ◌-◌, ◌*◌, ◌%◌, ◌<◌, List, ◌++◌, sym, ap, ap₂, ◌∙◌, subst, ⊎_elim, inl, inr, arith, length, take, drop}
-use Rattle.std.proofs.Common.{length-append, length-take-le, append_assoc, zero-le}
-use Rattle.std.proofs.lemmas.List.{take-append-drop}
-use Rattle.runtime_effects.specs.machine_effects.World.{World, accepted_after}
-use Rattle.runtime_effects.specs.Places.{CopyPair, listed}
-use Rattle.runtime_effects.specs.Stages.{emits_sent}
-use Rattle.crash_rules.specs.Model.{HoldsThroughout}
-use Rattle.stands_for.specs.Layout.{ProgramPlaces, StateView, IsSharedWord, HaveRoom}
-use Rattle.stands_for.specs.StandsFor.{RestsAt, SendsAndCloses, CopiesHome, DecidedFrom, IsPendingCommit, CommittingTo, words_at}
+use Rattle.stands_for.proofs.Names.{◌≡◌, ℕ, ◌+◌, ◌-◌, ◌*◌, ◌%◌, ◌<◌, List, ◌++◌, sym, ap, ap₂, ◌∙◌, subst, ⊎_elim, inl, inr, arith, length, take, drop}
+use Rattle.stands_for.proofs.Names.{length-append, length-take-le, append_assoc, zero-le, take-append-drop, World, accepted_after, CopyPair, listed, emits_sent}
+use Rattle.stands_for.proofs.Names.{HoldsThroughout, ProgramPlaces, StateView, IsSharedWord, HaveRoom, RestsAt, SendsAndCloses, CopiesHome, DecidedFrom}
+use Rattle.stands_for.proofs.Names.{IsPendingCommit, CommittingTo, words_at, word_place, CurrentTask, NextTask, SentBase, AreApart}
 use Rattle.stands_for.proofs.Sends.{next_base}
-use Rattle.stands_for.proofs.Keeps.{Transition, So, few_emits, shared_sends, cur_keeps, base_keeps, weaken, send_keeps}
-use Rattle.stands_for.proofs.Keeps.{few, few_words, bears_home, copy_home}
+use Rattle.stands_for.proofs.Keeps.{Transition, So, few_emits, shared_sends, cur_keeps, base_keeps, weaken, send_keeps, few, few_words, bears_home, copy_home}
 use Rattle.stands_for.proofs.Walks.{commit_before, SendsKeep, through}
 use Rattle.stands_for.proofs.Behind.{any_among, copies_behind, copies_related, closed, closed_other, behind_commit, emits_received, words_are}
 use Rattle.stands_for.proofs.Pending.{copies_apart, current_behind, rest_behind}
-use Rattle.runtime_effects.specs.memory_map.MemoryMap.{word_place}
-use Rattle.runtime_effects.specs.memory_map.declared.words.RuntimeWord.TheVariants.{CurrentTask, NextTask, SentBase}
-use Rattle.runtime_effects.specs.memory_map.Laws.{AreApart}
 
 -- the commit of a decided world
 module _ {St : Type 0} (l : ProgramPlaces) (apart : AreApart l.map) (room : HaveRoom l) (v : StateView St) (s next : St) (x : World)

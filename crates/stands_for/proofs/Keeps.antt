@@ -1,19 +1,11 @@
 -- Each effect of a commit keeps a decided world decided.
-use Rattle.std.proofs.Common.{◌≡◌, ℕ, suc, ◌+◌, ◌*◌, ◌%◌, ◌<◌, ◌≤◌, List, [], ◌∷◌, ◌++◌, refl, sym, ap, ap₂, ◌∙◌, subst, ⊎_elim, inl, inr, ◌⊎◌, arith, ne_eqb}
-use Rattle.std.proofs.Common.{eq-eqb, cond, length, take, length-append, length-take-le, append_assoc, take-suc}
-use Rattle.std.proofs.lemmas.Bool.{cases_eq}
-use Rattle.std.specs.List.{slice_index}
-use Rattle.runtime_effects.specs.fram_board.Effects.{Store, Outside, Offered}
-use Rattle.runtime_effects.specs.machine_effects.World.{World, put, world_after_one}
-use Rattle.runtime_effects.proofs.machine_effects.Interface.{put_same, put_other}
-use Rattle.runtime_effects.specs.Places.{CopyPair, entry_bytes, entries_from}
-use Rattle.runtime_effects.proofs.Interface.{entries_alike}
-use Rattle.stands_for.specs.Layout.{ProgramPlaces, StateView, IsSharedWord, IsAmong, HaveRoom}
-use Rattle.stands_for.specs.StandsFor.{HoldsWords, AcceptedFrom, SendsAndCloses, CopiesHome}
+use Rattle.stands_for.proofs.Names.{◌≡◌, ℕ, suc, ◌+◌, ◌*◌, ◌%◌, ◌<◌, ◌≤◌, List, [], ◌∷◌, ◌++◌, refl, sym, ap, ap₂, ◌∙◌, subst, ⊎_elim, inl, inr, ◌⊎◌, arith}
+use Rattle.stands_for.proofs.Names.{ne_eqb, eq-eqb, cond, length, take, length-append, length-take-le, append_assoc, take-suc, cases_eq, slice_index, Store}
+use Rattle.stands_for.proofs.Names.{Outside, Offered, World, put, world_after_one, put_same, put_other, CopyPair, entry_bytes, entries_from, entries_alike}
+use Rattle.stands_for.proofs.Names.{ProgramPlaces, StateView, IsSharedWord, IsAmong, HaveRoom, HoldsWords, AcceptedFrom, SendsAndCloses, CopiesHome, word_place}
+use Rattle.stands_for.proofs.Names.{CurrentTask, NextTask, Gate, ListLength, EmitCount, Base, SentBase, Version, AreApart, listed, IsCopyWord, EntriesHaveWords}
+use Rattle.memory_map.specs.Places.{end_of}
 use Rattle.stands_for.proofs.Sends.{next_base}
-use Rattle.runtime_effects.specs.memory_map.MemoryMap.{word_place}
-use Rattle.runtime_effects.specs.memory_map.declared.words.RuntimeWord.TheVariants.{CurrentTask, NextTask, Gate, ListLength, EmitCount, Base, SentBase, Version}
-use Rattle.runtime_effects.specs.memory_map.Laws.{AreApart}
 
 -- what was put, or what was there
 pub put_either : (f : ℕ → ℕ) (a w x : ℕ) → ((x ≡ a) × (put f a w x ≡ w)) ⊎ ((x ≡ a → ⊥) × (put f a w x ≡ f x))
@@ -31,6 +23,47 @@ same_number a j i hj hi e = omega arith
 -- a change of FRAM that leaves all words but shared ones, CUR and BASE
 abbrev pub LeavesRuntime : ProgramPlaces → World → World → Type 0
 LeavesRuntime l x y = (a : ℕ) → (IsSharedWord l a → ⊥) → (a ≡ word_place l.map CurrentTask → ⊥) → (a ≡ word_place l.map Base → ⊥) → y.fram a ≡ x.fram a
+
+-- What a commit reads of FRAM is the same in two: the runtime's words but CUR and BASE, the list, the words to send, copies and version words
+pub record ReadsAlike (l : ProgramPlaces) (f g : ℕ → ℕ) : Type 0 where
+  pub gate : g (word_place l.map Gate) ≡ f (word_place l.map Gate)
+  pub next_task : g (word_place l.map NextTask) ≡ f (word_place l.map NextTask)
+  pub list_length : g (word_place l.map ListLength) ≡ f (word_place l.map ListLength)
+  pub emit_count : g (word_place l.map EmitCount) ≡ f (word_place l.map EmitCount)
+  pub sent_base : g (word_place l.map SentBase) ≡ f (word_place l.map SentBase)
+  pub version : g (word_place l.map Version) ≡ f (word_place l.map Version)
+  pub entries : (a : ℕ) → l.map.list.address ≤ a → a < l.map.list.address + entry_bytes * l.map.entries → g a ≡ f a
+  pub emits : (a : ℕ) → l.map.emits.address ≤ a → a < end_of l.map.emits → g a ≡ f a
+  pub copies : (a : ℕ) → IsCopyWord l a → g a ≡ f a
+  pub versions : (i : ℕ) → i < l.map.versions.words → g (l.map.versions.address + 2 * i) ≡ f (l.map.versions.address + 2 * i)
+
+pub reads_alike : (l : ProgramPlaces) (x y : World) → AreApart l.map → LeavesRuntime l x y → ReadsAlike l x.fram y.fram
+reads_alike l x y apart same =
+    let m = l.map in
+    record {
+      gate = same (word_place m Gate) (λ h. omega (arith, apart, h)) (λ e. omega (arith, e)) (λ e. omega (arith, e));
+      next_task = same (word_place m NextTask) (λ h. omega (arith, apart, h)) (λ e. omega (arith, e)) (λ e. omega (arith, e));
+      list_length = same (word_place m ListLength) (λ h. omega (arith, apart, h)) (λ e. omega (arith, e)) (λ e. omega (arith, e));
+      emit_count = same (word_place m EmitCount) (λ h. omega (arith, apart, h)) (λ e. omega (arith, e)) (λ e. omega (arith, e));
+      sent_base = same (word_place m SentBase) (λ h. omega (arith, apart, h)) (λ e. omega (arith, e)) (λ e. omega (arith, e));
+      version = same (word_place m Version) (λ h. omega (arith, apart, h)) (λ e. omega (arith, e)) (λ e. omega (arith, e));
+      entries = λ a lo hi. same a (λ h. omega (arith, apart, h, hi)) (λ e. omega (arith, apart, e, lo)) (λ e. omega (arith, apart, e, lo));
+      emits = λ a lo hi. same a (λ h. omega (arith, apart, h, hi)) (λ e. omega (arith, apart, e, lo)) (λ e. omega (arith, apart, e, lo));
+      copies = λ a c. same a (λ h. omega (arith, apart, h, c)) (λ e. omega (arith, apart, e, c)) (λ e. omega (arith, apart, e, c));
+      versions = λ i h. same (m.versions.address + 2 * i) (λ s. omega (arith, apart, s, h)) (λ e. omega (arith, apart, e)) (λ e. omega (arith, apart, e));
+    }
+
+-- so is what the list names, and each of its entries has a word in both
+pub listed_alike : (l : ProgramPlaces) (f g : ℕ → ℕ) → ReadsAlike l f g → f (word_place l.map ListLength) ≤ l.map.entries → listed l.map g ≡ listed l.map f
+listed_alike l f g r few =
+    ap (λ n. entries_from n l.map.list.address g) r.list_length
+    ∙ entries_alike (f (word_place l.map ListLength)) l.map.list.address f g (λ a lo hi. r.entries a lo (omega (arith, hi, few)))
+
+pub entries_stay : (l : ProgramPlaces) (f g : ℕ → ℕ) → ReadsAlike l f g → f (word_place l.map ListLength) ≤ l.map.entries → EntriesHaveWords l f
+    → EntriesHaveWords l g
+entries_stay l f g r few h i lt =
+    let below : i < f (word_place l.map ListLength) = subst (λ n. i < n) r.list_length lt in
+    subst (λ n. 0 < n) (sym (r.entries (l.map.list.address + entry_bytes * i + 4) (omega arith) (omega (arith, below, few)))) (h i below)
 
 -- one that leaves all but CUR and BASE
 abbrev pub LeavesAll : ProgramPlaces → World → World → Type 0
@@ -57,19 +90,16 @@ module _ {St : Type 0} (t : Transition St) where
   pub few_emits : (k : ℕ) (x : World) → Sends k x → length es ≤ l.map.emits.words
   few_emits k x d = let a = d.within_emits in let b = room.emits (v.task s) is_task in omega (arith, a, b)
 
+  sums : {f g : ℕ → ℕ} → ReadsAlike l f g → next_base l.map f ≡ next_base l.map g
+  sums r = ap₂ (λ a b. (a + b) % 0x10000) (sym r.sent_base) (sym r.emit_count)
+
   -- a change that sets CUR and BASE only to what the next state has, and leaves the runtime's other words, keeps what is to be sent
   pub keeps_sends : (k k' : ℕ) (x y : World) → HoldsWords y.fram → LeavesRuntime l x y
       → ((y.fram (word_place l.map CurrentTask) ≡ x.fram (word_place l.map CurrentTask)) ⊎ (y.fram (word_place l.map CurrentTask) ≡ v.task next))
       → ((y.fram (word_place l.map Base) ≡ x.fram (word_place l.map Base)) ⊎ (y.fram (word_place l.map Base) ≡ next_base l.map x.fram))
       → AcceptedFrom v s es k' y → Sends k x → Sends k' y
   keeps_sends k k' x y ws same curs bases so d =
-      let m = l.map in
-      let en : y.fram (word_place m EmitCount) ≡ x.fram (word_place m EmitCount) =
-      same (word_place m EmitCount) (λ h. omega (arith, apart, h)) (λ e. omega (arith, apart, e)) (λ e. omega (arith, apart, e)) in
-      let sb : y.fram (word_place m SentBase) ≡ x.fram (word_place m SentBase) =
-      same (word_place m SentBase) (λ h. omega (arith, apart, h)) (λ e. omega (arith, apart, e)) (λ e. omega (arith, apart, e)) in
-      let ver : y.fram (word_place m Version) ≡ x.fram (word_place m Version) =
-      same (word_place m Version) (λ h. omega (arith, apart, h)) (λ e. omega (arith, apart, e)) (λ e. omega (arith, apart, e)) in
+      let r = reads_alike l x y apart same in
       let small_emits = few_emits k x d in
       record {
         is_state = d.is_state;
@@ -77,22 +107,17 @@ module _ {St : Type 0} (t : Transition St) where
         is_task = d.is_task;
         next_is_task = d.next_is_task;
         words = ws;
-        gate = same (word_place m Gate) (λ h. omega (arith, apart, h)) (λ e. omega (arith, apart, e)) (λ e. omega (arith, apart, e)) ∙ d.gate;
-        next_task = same (word_place m NextTask) (λ h. omega (arith, apart, h)) (λ e. omega (arith, apart, e)) (λ e. omega (arith, apart, e)) ∙ d.next_task;
+        gate = r.gate ∙ d.gate;
+        next_task = r.next_task ∙ d.next_task;
         current_task = ⊎_elim (λ e. ⊎_elim (λ o. inl (e ∙ o)) (λ o. inr (e ∙ o)) d.current_task) (λ e. inr e) curs;
         emitted = d.emitted;
-        emit_count = en ∙ d.emit_count;
+        emit_count = r.emit_count ∙ d.emit_count;
         within_emits = d.within_emits;
-        buffer = λ i h. same (m.emits.address + 2 * i) (λ q. omega (arith, apart, q, h, small_emits)) (λ e. omega (arith, apart, e))
-            (λ e. omega (arith, apart, e))
-            ∙ d.buffer i h;
-        sent_base = sb ∙ d.sent_base;
-        base = ⊎_elim (λ e. ⊎_elim (λ o. inl (e ∙ o ∙ sym sb)) (λ o. inr (e ∙ o ∙ ap₂ (λ a b. (a + b) % 0x10000) (sym sb) (sym en))) d.base)
-            (λ e. inr (e ∙ ap₂ (λ a b. (a + b) % 0x10000) (sym sb) (sym en))) bases;
+        buffer = λ i h. r.emits (l.map.emits.address + 2 * i) (omega arith) (omega (arith, h, small_emits)) ∙ d.buffer i h;
+        sent_base = r.sent_base ∙ d.sent_base;
+        base = ⊎_elim (λ e. ⊎_elim (λ o. inl (e ∙ o ∙ sym r.sent_base)) (λ o. inr (e ∙ o ∙ sums r)) d.base) (λ e. inr (e ∙ sums r)) bases;
         accepted = so;
-        versions = λ i h. let c = d.versions i h in let e : y.fram (m.versions.address + 2 * i) ≡ x.fram (m.versions.address + 2 * i) =
-            same (m.versions.address + 2 * i)
-            (λ q. omega (arith, apart, q, h)) (λ e. omega (arith, apart, e)) (λ e. omega (arith, apart, e)) in omega (arith, c, e, ver);
+        versions = λ i h. let c = d.versions i h in let e = r.versions i h in let ver = r.version in omega (arith, c, e, ver);
       }
 
   -- the accepted words are those of a world with the same
@@ -209,25 +234,15 @@ module _ {St : Type 0} (t : Transition St) where
     -- a change that leaves the runtime's words, and sets shared words only to what the next state has
     pub keeps_home : (x y : World) → LeavesRuntime l x y → ((a : ℕ) → IsSharedWord l a → (y.fram a ≡ x.fram a) ⊎ (y.fram a ≡ v.word next a)) → Home x → Home y
     keeps_home x y same moves d =
-        let m = l.map in
-        let cln : y.fram (word_place m ListLength) ≡ x.fram (word_place m ListLength) =
-        same (word_place m ListLength) (λ h. omega (arith, apart, h)) (λ e. omega (arith, apart, e)) (λ e. omega (arith, apart, e)) in
-        let small = few x d in
-        let list : (a : ℕ) → m.list.address ≤ a → a < m.list.address + entry_bytes * x.fram (word_place m ListLength)
-        → y.fram a ≡ x.fram a = λ a lo hi. same a (λ h. omega (arith, apart, h, small, hi)) (λ e. omega (arith, apart, e, lo))
-        (λ e. omega (arith, apart, e, lo)) in
+        let r = reads_alike l x y apart same in
         record {
-          pairs_listed = ap (λ n. entries_from n m.list.address y.fram) cln ∙ entries_alike (x.fram (word_place m ListLength)) m.list.address x.fram y.fram list
-              ∙ d.pairs_listed;
-          entries = λ i h.
-              let below : i < x.fram (word_place m ListLength) = subst (λ n. i < n) cln h in
-              subst (λ n. 0 < n) (sym (list (m.list.address + entry_bytes * i + 4) (omega arith) (omega (arith, below)))) (d.entries i below);
-          within_list = subst (λ n. n ≤ l.list_capacity (v.task s)) (sym cln) d.within_list;
+          pairs_listed = listed_alike l x.fram y.fram r (few x d) ∙ d.pairs_listed;
+          entries = entries_stay l x.fram y.fram r (few x d) d.entries;
+          within_list = subst (λ n. n ≤ l.list_capacity (v.task s)) (sym r.list_length) d.within_list;
           within_words = d.within_words;
           homes = d.homes;
           copies = d.copies;
-          copied = λ p h. let c = d.copies p h in same p.copy (λ q. omega (arith, apart, q, c)) (λ e. omega (arith, apart, e, c))
-              (λ e. omega (arith, apart, e, c)) ∙ d.copied p h;
+          copied = λ p h. r.copies p.copy (d.copies p h) ∙ d.copied p h;
           either = λ p h. ⊎_elim (λ e. ⊎_elim (λ o. inl (e ∙ o)) (λ o. inr (e ∙ o)) (d.either p h)) (λ e. inr e) (moves p.home (d.homes p h));
           others = λ a sh none. ⊎_elim (λ e. e ∙ d.others a sh none) (λ e. e) (moves a sh);
         }

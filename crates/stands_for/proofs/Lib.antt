@@ -1,3 +1,4 @@
+mod Names
 mod Sends
 mod Keeps
 mod Walks
@@ -9,4 +10,3 @@ mod Starts
 mod Attempts
 mod Theorems
 pub mod Interface
-pub use Rattle.crash_rules.proofs as crash_rules

@@ -1,23 +1,15 @@
 -- A pending commit: what it needs, where it stores, and that behind it none is pending.
-use Rattle.std.proofs.Common.{◌≡◌, ℕ, zero, suc, ◌+◌, ◌-◌, ◌*◌, ◌%◌, ◌<◌, ◌≤◌, List, [], ◌∷◌, ◌++◌, refl, sym, ap, ◌∙◌, subst, inl, inr, arith, length}
-use Rattle.std.proofs.Common.{length-append, All}
-use Rattle.runtime_effects.specs.fram_board.Effects.{Store}
-use Rattle.runtime_effects.specs.machine_effects.World.{World, put, accepted_after, world_after, EachStore}
-use Rattle.runtime_effects.proofs.machine_effects.Interface.{world_after-append, each_store-append, put_same, put_other}
-use Rattle.runtime_effects.specs.Places.{CopyPair, listed}
-use Rattle.runtime_effects.specs.Stages.{emits_sent, commit_effects}
+use Rattle.stands_for.proofs.Names.{◌≡◌, ℕ, zero, suc, ◌+◌, ◌-◌, ◌*◌, ◌%◌, ◌<◌, ◌≤◌, List, [], ◌∷◌, ◌++◌, refl, sym, ap, ◌∙◌, subst, inl, inr, arith, length}
+use Rattle.stands_for.proofs.Names.{length-append, All, Store, World, put, accepted_after, world_after, EachStore, world_after-append, each_store-append}
+use Rattle.stands_for.proofs.Names.{put_same, put_other, CopyPair, listed, emits_sent, commit_effects, Inputs, HoldsThroughout, IsElsewhere, IsBetween}
+use Rattle.stands_for.proofs.Names.{CommitKeeps, ProgramPlaces, StateView, IsSharedWord, IsAmong, HaveRoom, HoldsWords, words_at, RestsAt, IsAtRest}
+use Rattle.stands_for.proofs.Names.{IsPendingCommit, CommittingTo, ProgramParts, program_model, IsCommitStore, MemoryMap, word_place, CurrentTask, NextTask}
+use Rattle.stands_for.proofs.Names.{Gate, EmitCount, Base, SentBase, Version, AreApart}
 use Rattle.runtime_effects.specs.Needs.{IsCopied, CanCommit}
-use Rattle.crash_rules.specs.Model.{Inputs, HoldsThroughout, IsElsewhere, IsBetween, CommitKeeps}
-use Rattle.stands_for.specs.Layout.{ProgramPlaces, StateView, IsSharedWord, IsAmong, HaveRoom}
-use Rattle.stands_for.specs.StandsFor.{HoldsWords, words_at, RestsAt, IsAtRest, IsPendingCommit, CommittingTo}
-use Rattle.stands_for.specs.Program.{ProgramParts, program_model, IsCommitStore}
 use Rattle.stands_for.proofs.Sends.{next_base}
 use Rattle.stands_for.proofs.Keeps.{put_words}
 use Rattle.stands_for.proofs.Walks.{commit_before, commit_is, commit_takes, commit_stores_so}
 use Rattle.stands_for.proofs.Behind.{CopiesAreApart, copies_behind, copies_related, closed, closed_other, behind_commit, words_length, IsSent, emits_received}
-use Rattle.runtime_effects.specs.memory_map.MemoryMap.{MemoryMap, word_place}
-use Rattle.runtime_effects.specs.memory_map.declared.words.RuntimeWord.TheVariants.{CurrentTask, NextTask, Gate, EmitCount, Base, SentBase, Version}
-use Rattle.runtime_effects.specs.memory_map.Laws.{AreApart}
 
 -- what holds of each of these pairs, by their indices
 pub all_among : (P : CopyPair → Type 0) (ps : List CopyPair) → ((p : CopyPair) → IsAmong ps p → P p) → All P ps
@@ -61,7 +53,6 @@ module _ (l : ProgramPlaces) (apart : AreApart l.map) (x : World) (p : IsPending
             record {
               home = record { even = even_home; low = omega (arith, apart, home); high = omega (arith, apart, home) };
               copy = record { even = even_copy; low = omega (arith, apart, copy); high = omega (arith, apart, copy) };
-              before_last = omega (arith, apart, copy);
               leaves = record {
                 next_task = λ e. omega (arith, apart, home, e);
                 emit_count = λ e. omega (arith, apart, home, e);

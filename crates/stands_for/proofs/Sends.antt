@@ -1,7 +1,5 @@
 -- Where a commit's sends are: which words, in which order, with which numbers.
-use Rattle.std.proofs.Common.{◌≡◌, ℕ, suc, ◌+◌, ◌*◌, ◌%◌, ◌<◌, ap, arith}
-use Rattle.runtime_effects.specs.memory_map.MemoryMap.{MemoryMap, word_place}
-use Rattle.runtime_effects.specs.memory_map.declared.words.RuntimeWord.TheVariants.{EmitCount, SentBase}
+use Rattle.stands_for.proofs.Names.{◌≡◌, ℕ, suc, ◌+◌, ◌*◌, ◌%◌, ◌<◌, ap, arith, MemoryMap, word_place, EmitCount, SentBase}
 
 -- the number behind the last word of a commit
 abbrev pub next_base : MemoryMap → (ℕ → ℕ) → ℕ

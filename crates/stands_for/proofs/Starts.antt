@@ -1,22 +1,13 @@
 -- An attempt's start keeps a world undecided, and leaves an attempt that has started.
-use Rattle.std.proofs.Common.{◌≡◌, ℕ, zero, suc, ◌+◌, ◌*◌, ◌<◌, ◌≤◌, List, [], ◌∷◌, ◌++◌, refl, sym, ap, ◌∙◌, subst, ⊎_elim, inl, inr, arith, ◌==◌, ◌%◌, Bool}
-use Rattle.std.proofs.Common.{true, false}
-use Rattle.std.proofs.lemmas.Bool.{cases_eq}
+use Rattle.stands_for.proofs.Names.{◌≡◌, ℕ, zero, suc, ◌+◌, ◌*◌, ◌<◌, ◌≤◌, List, [], ◌∷◌, ◌++◌, refl, sym, ap, ◌∙◌, subst, ⊎_elim, inl, inr, arith, ◌==◌, ◌%◌}
+use Rattle.stands_for.proofs.Names.{Bool, true, false, cases_eq, Effect, Store, Take, Outside, World, put, world_after_one, world_after, fram_after}
+use Rattle.stands_for.proofs.Names.{readings_taken, EachStore, readings_taken-append, world_after-append, each_store-append, put_same, put_other, CopyPair}
+use Rattle.stands_for.proofs.Names.{is_at_end, clearing_if, cleared, counting_effects, opening_effects, copied_in, start_effects, HoldsThroughout, IsElsewhere}
+use Rattle.stands_for.proofs.Names.{world_fram, holds-append, ProgramPlaces, StateView, IsSharedWord, IsAmong, ArePrivate, VersionsWithin, UndecidedAt}
+use Rattle.stands_for.proofs.Names.{StartedAt, IsStartStore, StartContract, MemoryMap, word_place, CurrentTask, Gate, ListLength, EmitCount, Base, Version}
+use Rattle.stands_for.proofs.Names.{AreApart}
 use Rattle.std.proofs.lemmas.Bool.Decides.{nat_tests}
-use Rattle.runtime_effects.specs.fram_board.Effects.{Effect, Store, Take, Outside}
-use Rattle.runtime_effects.specs.machine_effects.World.{World, put, world_after_one, world_after, fram_after, readings_taken, EachStore}
-use Rattle.runtime_effects.proofs.machine_effects.Interface.{readings_taken-append, world_after-append, each_store-append, put_same, put_other}
-use Rattle.runtime_effects.specs.Places.{CopyPair}
-use Rattle.runtime_effects.specs.Stages.{is_at_end, clearing_if, cleared, counting_effects, opening_effects, copied_in, start_effects}
-use Rattle.crash_rules.specs.Model.{HoldsThroughout, IsElsewhere}
-use Rattle.crash_rules.proofs.Interface.{world_fram, holds-append}
-use Rattle.stands_for.specs.Layout.{ProgramPlaces, StateView, IsSharedWord, IsAmong, ArePrivate}
-use Rattle.stands_for.specs.StandsFor.{VersionsWithin, UndecidedAt, StartedAt}
-use Rattle.stands_for.specs.Program.{IsStartStore, StartContract}
 use Rattle.stands_for.proofs.Keeps.{put_either, put_words}
-use Rattle.runtime_effects.specs.memory_map.MemoryMap.{MemoryMap, word_place}
-use Rattle.runtime_effects.specs.memory_map.declared.words.RuntimeWord.TheVariants.{CurrentTask, Gate, ListLength, EmitCount, Base, Version}
-use Rattle.runtime_effects.specs.memory_map.Laws.{AreApart}
 
 -- a weaker fact of each store
 pub each_weaker : (P Q : ℕ → ℕ → Type 0) → ((a w : ℕ) → P a w → Q a w) → (es : List Effect) → EachStore P es → EachStore Q es

@@ -1,8 +1,6 @@
 -- The laws of what a world stands for.
-use Rattle.std.proofs.Common.{[], ◌++◌, take, drop, refl, sym, ap, ◌∙◌, subst, inr}
-use Rattle.std.proofs.lemmas.List.{take-append-drop}
-use Rattle.crash_rules.specs.Model.{IsBetween}
-use Rattle.stands_for.specs.Program.{KeepsTheLaws, NumberedStarts, PendingCanCommit, CommitStores}
+use Rattle.stands_for.proofs.Names.{[], ◌++◌, take, drop, refl, sym, ap, ◌∙◌, subst, inr, take-append-drop, IsBetween, KeepsTheLaws, NumberedStarts}
+use Rattle.stands_for.proofs.Names.{PendingCanCommit, CommitStores}
 use Rattle.stands_for.proofs.Pending.{sent_first, commit_keeps, commit_stores, can_commit}
 use Rattle.stands_for.proofs.Behind.{behind_commit}
 use Rattle.stands_for.proofs.Again.{committing}

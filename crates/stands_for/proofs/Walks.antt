@@ -1,17 +1,9 @@
 -- The effects of a commit one by one: what each of them keeps, the commit keeps up to its last.
-use Rattle.std.proofs.Common.{◌≡◌, ℕ, zero, suc, ◌+◌, ◌%◌, ◌<◌, List, [], ◌∷◌, ◌++◌, refl, sym, ap, ◌∙◌, subst, inl, inr, arith, append_assoc}
-use Rattle.runtime_effects.specs.fram_board.Effects.{Effect, Store, Outside, Offered}
-use Rattle.runtime_effects.specs.machine_effects.World.{World, put, world_after_one, world_after, readings_taken, EachStore}
-use Rattle.runtime_effects.proofs.machine_effects.Interface.{readings_taken-append, each_store-append}
-use Rattle.runtime_effects.specs.Places.{CopyPair, listed}
-use Rattle.runtime_effects.specs.Stages.{copied_home, sends, emits_sent, commit_effects}
-use Rattle.runtime_effects.proofs.Interface.{sends_store}
-use Rattle.crash_rules.specs.Model.{HoldsThroughout}
-use Rattle.crash_rules.proofs.Interface.{holds-append}
-use Rattle.stands_for.specs.Layout.{IsAmong}
+use Rattle.stands_for.proofs.Names.{◌≡◌, ℕ, zero, suc, ◌+◌, ◌%◌, ◌<◌, List, [], ◌∷◌, ◌++◌, refl, sym, ap, ◌∙◌, subst, inl, inr, arith, append_assoc, Effect}
+use Rattle.stands_for.proofs.Names.{Store, Outside, Offered, World, put, world_after_one, world_after, readings_taken, EachStore, readings_taken-append}
+use Rattle.stands_for.proofs.Names.{each_store-append, CopyPair, listed, copied_home, sends, emits_sent, commit_effects, sends_store, HoldsThroughout}
+use Rattle.stands_for.proofs.Names.{holds-append, IsAmong, MemoryMap, word_place, CurrentTask, NextTask, Gate, EmitCount, Base, SentBase}
 use Rattle.stands_for.proofs.Sends.{next_base, IsEmit, IsSending, sends_begin, next_emit, sends_on}
-use Rattle.runtime_effects.specs.memory_map.MemoryMap.{MemoryMap, word_place}
-use Rattle.runtime_effects.specs.memory_map.declared.words.RuntimeWord.TheVariants.{CurrentTask, NextTask, Gate, EmitCount, Base, SentBase}
 
 -- the last stores but GATE's
 abbrev pub closed_before : MemoryMap → (ℕ → ℕ) → List Effect

@@ -1,7 +1,7 @@
 -- Where the words of a compiled program are, and what a state of its source is there.
 use Rattle.std.specs.Prelude.{◌≡◌, ℕ, ◌%◌, ◌<◌, ◌≤◌, ◌⊎◌, Bool, false, List, [], ◌∷◌}
-use Rattle.runtime_effects.specs.memory_map.MemoryMap.{MemoryMap}
-use Rattle.runtime_effects.specs.memory_map.Places.{end_of}
+use Rattle.memory_map.specs.MemoryMap.{MemoryMap}
+use Rattle.memory_map.specs.Places.{end_of}
 use Rattle.runtime_effects.specs.Places.{CopyPair}
 
 -- the memory map of a program, and what each task may do there

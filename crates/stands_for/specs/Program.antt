@@ -1,15 +1,15 @@
 -- A compiled program as the crash theorem takes it, and what its start and its tasks owe.
 use Rattle.std.specs.Prelude.{◌≡◌, ℕ, ◌<◌, ◌≤◌, List, []}
-use Rattle.runtime_effects.specs.memory_map.MemoryMap.{word_place}
-use Rattle.runtime_effects.specs.memory_map.Places.{end_of}
-use Rattle.runtime_effects.specs.memory_map.declared.words.RuntimeWord.TheVariants.{CurrentTask, Gate, ListLength, EmitCount}
-use Rattle.runtime_effects.specs.fram_board.Effects.{Effect}
-use Rattle.runtime_effects.specs.machine_effects.World.{World, world_after, fram_after, readings_taken, EachStore}
+use Rattle.memory_map.specs.MemoryMap.{word_place}
+use Rattle.memory_map.specs.Places.{end_of}
+use Rattle.memory_map.specs.declared.words.RuntimeWord.TheVariants.{CurrentTask, Gate, ListLength, EmitCount}
+use Rattle.fram_board.specs.Effects.{Effect}
+use Rattle.machine_effects.specs.World.{World, world_after, fram_after, readings_taken, EachStore}
 use Rattle.runtime_effects.specs.Places.{CopyPair}
 use Rattle.runtime_effects.specs.Stages.{commit_effects, start_effects}
 use Rattle.runtime_effects.specs.Needs.{CanCommit}
 use Rattle.crash_rules.specs.Model.{Outcome, ProgramEffects, behind_effects, HoldsThroughout, Inputs, InputsAreWords, Model, ModelLaws, AttemptContract}
-use Rattle.runtime_effects.specs.memory_map.Laws.{AreApart}
+use Rattle.memory_map.specs.Laws.{AreApart}
 use Rattle.stands_for.specs.Layout.{ProgramPlaces, StateView, HaveRoom, ArePrivate}
 use Rattle.stands_for.specs.StandsFor.{RestsAt, UndecidedAt, DecidedFrom, IsPendingCommit, CommittingTo, StartedAt}
 

@@ -1,10 +1,10 @@
 -- What FRAM and the accepted words stand for: they rest at a state of the source, are undecided at it, or decided from one to another; or a
 -- commit is pending that leaves one.
 use Rattle.std.specs.Prelude.{◌≡◌, ℕ, zero, suc, ◌+◌, ◌*◌, ◌%◌, ◌<◌, ◌≤◌, ◌⊎◌, true, List, [], ◌∷◌, ◌++◌, length, take, slice_index}
-use Rattle.runtime_effects.specs.memory_map.MemoryMap.{word_place}
-use Rattle.runtime_effects.specs.memory_map.declared.words.RuntimeWord.TheVariants.{CurrentTask, NextTask, Gate, ListLength, EmitCount, Base, SentBase, Version}
-pub use Rattle.runtime_effects.specs.machine_effects.alp_words.Words.{HoldsWords}
-use Rattle.runtime_effects.specs.machine_effects.World.{World, world_after}
+use Rattle.memory_map.specs.MemoryMap.{word_place}
+use Rattle.memory_map.specs.declared.words.RuntimeWord.TheVariants.{CurrentTask, NextTask, Gate, ListLength, EmitCount, Base, SentBase, Version}
+pub use Rattle.alp_words.specs.Words.{HoldsWords}
+use Rattle.machine_effects.specs.World.{World, world_after}
 use Rattle.runtime_effects.specs.Places.{CopyPair, entry_bytes, listed}
 use Rattle.runtime_effects.specs.Stages.{commit_effects}
 use Rattle.stands_for.specs.Layout.{ProgramPlaces, StateView, IsSharedWord, IsCopyWord, IsAmong}

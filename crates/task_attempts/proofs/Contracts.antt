@@ -1,36 +1,23 @@
 -- The program of a task decides, or is short exactly where the task is, and stores before the code.
-use Rattle.std.proofs.Common.{◌≡◌, ℕ, ◌≤◌, List, [], ◌∷◌, ◌++◌, length, true, false, refl, sym, ap, ◌∙◌, subst, arith, append-nil}
-use Rattle.std.proofs.lemmas.List.{append_cancel_right}
-use Rattle.std.proofs.lemmas.Option.{get_or_from_slice_get}
-use Rattle.layout_facts.specs.fram_board.Effects.{Effect, Store}
-use Rattle.layout_facts.specs.machine_effects.World.{readings_taken, EachStore}
-use Rattle.layout_facts.specs.machine_effects.Inputs.{InputsAreWords, inputs_taken, no_inputs}
-use Rattle.layout_facts.proofs.machine_effects.Interface.{readings_taken-append, each_store-append}
-use Rattle.layout_facts.specs.cost_bound.Counts.{emits_of, stores_of}
-use Rattle.layout_facts.specs.lower.Seen.{some_path_writes}
-use Rattle.layout_facts.specs.source_values.Statements.{Attempt, Outcome, to_task, short, run_block, block_emits}
-use Rattle.layout_facts.specs.source_values.Runs.{State, Completion, completion_of, attempt_of, fresh_attempt, EndsWell, TransitionComes}
-use Rattle.layout_facts.proofs.source_values.Interface.{readings_left_over_lem}
-use Rattle.layout_facts.specs.array_versions.Program.{Program}
-use Rattle.layout_facts.specs.array_versions.Behaviour.{WordState, End, GoesOn, Jumps, Short as Starves, Broken, behaviour, started}
-use Rattle.layout_facts.specs.array_versions.Laws.{EndsByEffects, IsSound}
-use Rattle.layout_facts.proofs.array_versions.Interface.{behaves_by_effects, whole_ends_soundly, StoresWords, stores_words}
-use Rattle.layout_facts.specs.crash_rules.Model.{Ends, program_effects, IsElsewhere, Model, AttemptContract, Decides, RunsShort}
-use Rattle.layout_facts.specs.lower.Agreement.{TakesAndStores, EndsAs, BlocksAgree}
-use Rattle.layout_facts.specs.lower.Lowered.{lowered_block}
-use Rattle.layout_facts.specs.compiled_model.Parts.{task_program, outcome_of, whole_task, has_jumped, effects_of, program_parts, redo_model}
-use Rattle.layout_facts.specs.compiled_model.Needs.{LeavesFor}
-use Rattle.task_attempts.specs.Laws.{IsBelowCode}
-use Rattle.task_attempts.proofs.Rows.{HasRows, block_rows}
+use Rattle.task_attempts.proofs.Names.{◌≡◌, ℕ, ◌≤◌, List, [], ◌∷◌, ◌++◌, length, true, false, refl, sym, ap, ◌∙◌, subst, arith, append-nil, append_cancel_right}
+use Rattle.task_attempts.proofs.Names.{get_or_from_slice_get, Effect, Store, readings_taken, EachStore, InputsAreWords, inputs_taken, no_inputs}
+use Rattle.task_attempts.proofs.Names.{readings_taken-append, each_store-append, emits_of, Attempt, Outcome, to_task, short, run_block, block_emits, State}
+use Rattle.task_attempts.proofs.Names.{Completion, completion_of, attempt_of, fresh_attempt, EndsWell, TransitionComes, readings_left_over_lem, WordState, End}
+use Rattle.task_attempts.proofs.Names.{GoesOn, Jumps, Broken, behaviour, started, behaves_by_effects, whole_ends_soundly, StoresWords, stores_words, Ends}
+use Rattle.task_attempts.proofs.Names.{program_effects, IsElsewhere, Model, AttemptContract, Decides, RunsShort, TakesAndStores, EndsAs, BlocksAgree}
+use Rattle.task_attempts.proofs.Names.{lowered_block, task_program, outcome_of, whole_task, has_jumped, effects_of, program_parts, redo_model, LeavesFor}
+use Rattle.task_attempts.proofs.Names.{IsBelowCode, Gate, word_place}
+use Rattle.array_versions.specs.Program.{Program}
+use Rattle.array_versions.specs.Behaviour.{Short as Starves}
+use Rattle.array_versions.specs.Laws.{EndsByEffects, IsSound}
 use Rattle.source_meaning.proofs.Interface.{emits_same}
+use Rattle.task_attempts.proofs.Rows.{HasRows, block_rows}
 use Rattle.task_attempts.proofs.Quiet.{stores_each, stores_as, quiet_through}
 use Rattle.task_attempts.proofs.Tasks.{body_is, program_is}
 use Rattle.task_attempts.proofs.Stores.{Safe, StoresOf, task_safe, emits_fit}
 use Rattle.task_attempts.proofs.Starts.{held_attempt, held_runs, attempt_stands}
 use Rattle.task_attempts.proofs.Started.{Started, scene}
 use Rattle.task_attempts.proofs.Decided.{setting, bounds, Transition, before, effects_are, safe_before, quiet_before, quiet_start, quiet_of, next, decided}
-use Rattle.layout_facts.specs.memory_map.declared.words.RuntimeWord.TheVariants.{Gate}
-use Rattle.layout_facts.specs.memory_map.MemoryMap.{word_place}
 
 module _ (run : Started) where
   open run use {program as p, map as l, given, state as s, is_task, task as i, world as x, inputs, start as st}

@@ -1,60 +1,30 @@
 -- Behind the last store of a transition the world is decided to the state that the source comes to.
-use Rattle.std.proofs.Common.{◌≡◌, ℕ, ◌+◌, ◌*◌, ◌%◌, ◌<◌, ◌≤◌, List, [], ◌∷◌, ◌++◌, length, length-append, map, get_or, Some, None, true, false, refl}
-use Rattle.std.proofs.Common.{sym, ap, ◌∙◌, subst, ⊎_elim, inl, arith, append_assoc, append-nil}
-use Rattle.std.specs.Prelude.{Contains, slice_get}
-use Rattle.std.specs.List.{flat_map}
-use Rattle.std.proofs.lemmas.List.{get_or_past}
-use Rattle.std.proofs.lemmas.Bool.{cases_lt, cases_Bool}
-use Rattle.std.proofs.lemmas.List.{length-map}
-use Rattle.std.proofs.lemmas.Option.{slice_get_cases, slice_get_within}
-use Rattle.layout_facts.specs.fram_board.Effects.{Effect, Store}
-use Rattle.layout_facts.specs.machine_effects.World.{World, world_after_one, world_after, fram_after}
-use Rattle.layout_facts.proofs.machine_effects.Interface.{fram_after-append, world_after-append, each_store-front, put_same, put_other, each_store-back}
-use Rattle.layout_facts.proofs.crash_rules.Interface.{world_fram}
-use Rattle.layout_facts.specs.task_ast.declared.SharedDeclaration.{SharedDeclaration}
-use Rattle.layout_facts.specs.task_ast.declared.names.Variable.TheVariants.{Shared}
-use Rattle.layout_facts.specs.cost_bound.Counts.{emits_of, stores_of}
-use Rattle.layout_facts.specs.cost_bound.Allowance.{is_written, list_of}
-use Rattle.layout_facts.proofs.war_analysis.Interface.{element as item_at}
-use Rattle.layout_facts.specs.source_values.Values.{word_at}
-use Rattle.layout_facts.specs.source_values.Statements.{Attempt}
-use Rattle.layout_facts.specs.source_values.Runs.{State, initial_words, task_body}
-use Rattle.layout_facts.specs.array_versions.Behaviour.{WordState, started}
-use Rattle.layout_facts.specs.runtime_effects.Places.{CopyPair, scalar_pairs, entries_from, listed}
-use Rattle.layout_facts.proofs.runtime_effects.Interface.{scalar_pairs_count}
-use Rattle.layout_facts.specs.lower.Seen.{some_path_writes}
-use Rattle.layout_facts.proofs.lower.Interface.{takes_append, few_entries, runs_are_few, scalar_seen, array_seen, array_read}
-use Rattle.layout_facts.specs.lower.Runs.{runs_of}
-use Rattle.layout_facts.specs.stands_for.Layout.{IsAmong, IsSharedWord, IsCopyWord}
-use Rattle.layout_facts.specs.stands_for.StandsFor.{EntriesHaveWords, SendsAndCloses, CopiesHome, DecidedFrom}
-use Rattle.layout_facts.proofs.stands_for.Interface.{put_words}
-use Rattle.layout_facts.specs.lower.Agreement.{TakesAndStores, transition_effects, element_pair, Bounds, Left, place_length}
-use Rattle.layout_facts.specs.lower.Agreement as agreement
-use Rattle.layout_facts.specs.lower.Spots.{listed_of}
-use Rattle.layout_facts.specs.compiled_model.Places.{stays_in_place}
-use Rattle.layout_facts.specs.compiled_model.View.{are_rows}
-use Rattle.layout_facts.proofs.memory_map.Interface.{scalar_home, privates_few}
-use Rattle.layout_facts.proofs.Interface.{contains_at, scalar_found, found_word, among_either, among_front, among_back, word_pair, among_scalars}
-use Rattle.layout_facts.proofs.Interface.{scalars_among}
+use Rattle.task_attempts.proofs.Names.{◌≡◌, ℕ, ◌+◌, ◌*◌, ◌%◌, ◌<◌, ◌≤◌, List, [], ◌∷◌, ◌++◌, length, length-append, map, get_or, Some, None, true, false, refl}
+use Rattle.task_attempts.proofs.Names.{sym, ap, ◌∙◌, subst, ⊎_elim, inl, arith, append_assoc, append-nil, Contains, slice_get, flat_map, get_or_past, cases_lt}
+use Rattle.task_attempts.proofs.Names.{cases_Bool, length-map, slice_get_cases, slice_get_within, Effect, Store, World, world_after_one, world_after}
+use Rattle.task_attempts.proofs.Names.{fram_after, fram_after-append, world_after-append, each_store-front, put_same, put_other, each_store-back, world_fram}
+use Rattle.task_attempts.proofs.Names.{SharedDeclaration, Shared, emits_of, stores_of, is_written, list_of, word_at, Attempt, State, initial_words, task_body}
+use Rattle.task_attempts.proofs.Names.{WordState, CopyPair, scalar_pairs, entries_from, listed, scalar_pairs_count, some_path_writes, takes_append, few_entries}
+use Rattle.task_attempts.proofs.Names.{runs_are_few, scalar_seen, array_seen, array_read, runs_of, IsAmong, IsSharedWord, IsCopyWord, EntriesHaveWords}
+use Rattle.task_attempts.proofs.Names.{SendsAndCloses, CopiesHome, DecidedFrom, put_words, TakesAndStores, transition_effects, element_pair, Bounds, Left}
+use Rattle.task_attempts.proofs.Names.{place_length, listed_of, stays_in_place, are_rows, scalar_home, privates_few, contains_at, scalar_found, found_word}
+use Rattle.task_attempts.proofs.Names.{among_either, among_front, among_back, word_pair, among_scalars, scalars_among, StoresWords, CurrentTask, NextTask, Gate}
+use Rattle.task_attempts.proofs.Names.{ListLength, EmitCount, Base, SentBase, Version, VariablePlace, Scalar, Array, PrivateScalar, word_place, scalar_words}
+use Rattle.task_attempts.proofs.Names.{scalar_address, private_words, IsScalarWord, Element, IsElement, IsCopied, Spot, IsSpot, scalar, copy, spot_address}
+use Rattle.task_attempts.proofs.Names.{element_address, copy_address, IsWordOf}
+use Rattle.lower.specs.Agreement as agreement
+use Rattle.war_analysis.proofs.Interface.{element as item_at}
+use Rattle.memory_map.specs.Spots.{element}
 use Rattle.task_attempts.proofs.Rows.{rows_are, rows_count, declared_length}
-use Rattle.layout_facts.proofs.array_versions.Interface.{StoresWords}
 use Rattle.task_attempts.proofs.Quiet.{IsQuiet, IsQuietAt, quiet_behind, stores_as, stays_within}
 use Rattle.task_attempts.proofs.Entries.{IsTransitionStore, transition_stores, closing, closed, closed_sent, closed_next, closed_count, closed_pairs}
-use Rattle.task_attempts.proofs.Entries.{closed_entries, IsLeft, closed_left}
+use Rattle.task_attempts.proofs.Entries.{closed_entries, IsLeft, closed_left, Closing}
 use Rattle.task_attempts.proofs.Listed.{among_map, map_among}
 use Rattle.task_attempts.proofs.Tasks.{body_is, private_copy, private_not_in_place}
 use Rattle.task_attempts.proofs.Started.{Started, scene}
 use Rattle.task_attempts.proofs.Stores.{Safe, StoresOf, task_safe, transition_safe}
-use Rattle.task_attempts.proofs.Words.{OwnWord, marked, unmarked, own_word_of, IsTaskWord, left_there, private, element as an_element, task_word}
-use Rattle.task_attempts.proofs.Words.{scalar_there, element_there, element_word}
-use Rattle.layout_facts.specs.memory_map.declared.words.RuntimeWord.TheVariants.{CurrentTask, NextTask, Gate, ListLength, EmitCount, Base, SentBase, Version}
-use Rattle.layout_facts.specs.memory_map.declared.place.VariablePlace.{VariablePlace}
-use Rattle.layout_facts.specs.memory_map.declared.place.VariablePlace.TheVariants.{Scalar, Array}
-use Rattle.layout_facts.specs.memory_map.declared.place.PrivateScalar.{PrivateScalar}
-use Rattle.layout_facts.specs.memory_map.MemoryMap.{word_place}
-use Rattle.layout_facts.specs.memory_map.Places.{scalar_words}
-use Rattle.layout_facts.specs.memory_map.Spots.{scalar_address, private_words, IsScalarWord, Element, IsElement, IsCopied, Spot, IsSpot, scalar}
-use Rattle.layout_facts.specs.memory_map.Spots.{element, copy, spot_address, element_address, copy_address, IsWordOf}
+use Rattle.task_attempts.proofs.Words.{OwnWord, marked, unmarked, own_word_of, IsTaskWord, left_there, private, element as an_element, task_word, scalar_there}
+use Rattle.task_attempts.proofs.Words.{element_there, element_word}
 
 module _ (run : Started) where
   open run use {program as p, map as l, given, state as s, is_task, task as i, world as x, inputs, start as st}
@@ -111,6 +81,9 @@ module _ (run : Started) where
     abbrev transition : List Effect
     transition = transition_effects here task count base
 
+    abbrev leaving : Closing
+    leaving = record { places = here; room = space; apart = facts.apart; task = task; base = base; fram = left.there.fram }
+
     -- the effects but the last
     abbrev pub before : List Effect
     before = left.body ++ transition
@@ -154,26 +127,24 @@ module _ (run : Started) where
     u = quiet_behind sites view s ver before x quiet_before quiet_start
 
     abbrev g : ℕ → ℕ
-    g = closed here space facts.apart task count base left.there.fram refl
+    g = closed leaving
 
     z_is : z.fram ≡ g
     z_is =
         ap (λ w. w.fram) (sym (world_after-append before (Store (word_place l Gate) 1 ∷ []) x))
         ∙ world_fram (before ++ Store (word_place l Gate) 1 ∷ []) x
         ∙ ap (λ e. fram_after e x.fram) (append_assoc left.body transition (Store (word_place l Gate) 1 ∷ []))
-        ∙ fram_after-append left.body (closing here space facts.apart task count base left.there.fram refl) x.fram
-        ∙ ap (fram_after (closing here space facts.apart task count base left.there.fram refl)) (sym left.arrived)
+        ∙ fram_after-append left.body (closing leaving) x.fram
+        ∙ ap (fram_after (closing leaving)) (sym left.arrived)
 
     z_before : (a : ℕ) → (a ≡ word_place l Gate → ⊥) → z.fram a ≡ y.fram a
     z_before a ne = put_other y.fram (word_place l Gate) 1 a ne
 
     abbrev Stays : ℕ → Type 0
-    Stays a = IsLeft here space facts.apart task count base left.there.fram refl a
+    Stays a = IsLeft leaving a
 
     z_there : (a : ℕ) → Stays a → z.fram a ≡ left.there.fram a
-    z_there a h =
-        ap (λ f. f a) z_is
-        ∙ closed_left here space facts.apart task count base left.there.fram refl a h
+    z_there a h = ap (λ f. f a) z_is ∙ closed_left leaving a h
 
     high_stays : (a : ℕ) → l.emits.address ≤ a → Stays a
     high_stays a h =
@@ -240,9 +211,7 @@ module _ (run : Started) where
     -- ---- the commit list
 
     z_count : z.fram (word_place l ListLength) ≡ count + length (runs_of i.layout.privates)
-    z_count =
-        ap (λ f. f (word_place l ListLength)) z_is
-        ∙ closed_count here space facts.apart task count base left.there.fram refl
+    z_count = ap (λ f. f (word_place l ListLength)) z_is ∙ closed_count leaving
 
     -- a pair of the list is an element with its copy, or a word of a private scalar with its copy
     data IsPair (q : CopyPair) : Type 0 where
@@ -254,7 +223,7 @@ module _ (run : Started) where
     z_pairs : listed sites.map z.fram ≡ map (element_pair here) left.listed ++ flat_map scalar_pairs i.layout.privates
     z_pairs =
         ap (λ f. entries_from (f (word_place l ListLength)) l.list.address f) z_is
-        ∙ closed_pairs here space facts.apart task count base left.there.fram refl
+        ∙ closed_pairs leaving
         ∙ ap (λ ps. ps ++ flat_map scalar_pairs i.layout.privates) left.stands.list.pairs
 
     abbrev Listed : CopyPair → Type 0
@@ -300,8 +269,7 @@ module _ (run : Started) where
 
     -- each entry has a word
     entries_have_words : EntriesHaveWords sites z.fram
-    entries_have_words = subst (EntriesHaveWords sites) (sym z_is)
-        (closed_entries here space facts.apart task count base left.there.fram refl left.stands.list.runs)
+    entries_have_words = subst (EntriesHaveWords sites) (sym z_is) (closed_entries leaving left.stands.list.runs)
 
     -- ---- the next state
 
@@ -452,14 +420,10 @@ module _ (run : Started) where
     base_is = let apart = given.apart in z_before (word_place l Base) (λ e. omega (arith, apart, e)) ∙ u.undecided.is_open.base
 
     sent_is : z.fram (word_place l SentBase) ≡ base
-    sent_is =
-        ap (λ f. f (word_place l SentBase)) z_is
-        ∙ closed_sent here space facts.apart task count base left.there.fram refl
+    sent_is = ap (λ f. f (word_place l SentBase)) z_is ∙ closed_sent leaving
 
     next_is : z.fram (word_place l NextTask) ≡ task % 65536
-    next_is =
-        ap (λ f. f (word_place l NextTask)) z_is
-        ∙ closed_next here space facts.apart task count base left.there.fram refl
+    next_is = ap (λ f. f (word_place l NextTask)) z_is ∙ closed_next leaving
 
     emit_count_is : z.fram (word_place l EmitCount) ≡ length m.emitted
     emit_count_is =

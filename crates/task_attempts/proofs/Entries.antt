@@ -1,21 +1,10 @@
 -- What FRAM holds behind a transition's stores.
-use Rattle.std.proofs.Common.{◌≡◌, ℕ, suc, ◌+◌, ◌*◌, ◌%◌, ◌<◌, ◌≤◌, List, [], ◌∷◌, ◌++◌, length, refl, sym, ap, ◌∙◌, subst, ⊎_elim, arith}
-use Rattle.std.proofs.Common.{append_assoc, append-nil}
-use Rattle.std.proofs.lemmas.Bool.{cases_lt}
-use Rattle.std.specs.List.{AllByRecursion, flat_map}
-use Rattle.layout_facts.specs.fram_board.Effects.{Effect, Store}
-use Rattle.layout_facts.specs.machine_effects.World.{put, fram_after}
-use Rattle.layout_facts.proofs.machine_effects.Interface.{fram_after-append, put_same, put_other, put_at}
-use Rattle.layout_facts.specs.lower.Spots.{Room, AreApart}
-use Rattle.layout_facts.specs.lower.Agreement.{TakesAndStores, entry_effects, transition_effects}
-use Rattle.layout_facts.proofs.lower.Interface.{takes_append, after_entry, entered_pairs, pairs_of_runs, runs_pairs, runs_have_words}
-use Rattle.layout_facts.specs.memory_map.MemoryMap.{word_place}
-use Rattle.layout_facts.specs.memory_map.declared.words.RuntimeWord.TheVariants.{NextTask, Gate, ListLength, SentBase}
-use Rattle.layout_facts.specs.runtime_effects.Places.{run_pairs, scalar_pairs, entries_from}
-use Rattle.layout_facts.proofs.runtime_effects.Interface.{entries_alike}
-use Rattle.layout_facts.specs.lower.declared.runs.Run.{Run}
-use Rattle.layout_facts.specs.lower.Runs.{runs_of}
-use Rattle.layout_facts.specs.memory_map.Spots.{Places}
+use Rattle.task_attempts.proofs.Names.{◌≡◌, ℕ, suc, ◌+◌, ◌*◌, ◌%◌, ◌<◌, ◌≤◌, List, [], ◌∷◌, ◌++◌, length, refl, sym, ap, ◌∙◌, subst, ⊎_elim, arith}
+use Rattle.task_attempts.proofs.Names.{append_assoc, append-nil, cases_lt, AllByRecursion, flat_map, Effect, Store, put, fram_after, fram_after-append}
+use Rattle.task_attempts.proofs.Names.{put_same, put_other, put_at, Room, AreApart, TakesAndStores, entry_effects, transition_effects, takes_append}
+use Rattle.task_attempts.proofs.Names.{after_entry, entered_pairs, pairs_of_runs, runs_pairs, runs_have_words, word_place, NextTask, Gate, ListLength, SentBase}
+use Rattle.task_attempts.proofs.Names.{run_pairs, scalar_pairs, entries_from, entries_alike, runs_of, Places}
+use Rattle.lower.specs.declared.runs.Run.{Run}
 
 module _ (count list : ℕ) where
   -- words before the entries and behind them stay
@@ -111,7 +100,22 @@ module _ (p : Places) (room : Room) where
         (at_sent_base refl, tt),
   )
 
-module _ (p : Places) (room : Room) (apart : AreApart p room) (task n base : ℕ) (f : ℕ → ℕ) (counted : f (word_place p.map ListLength) ≡ n) where
+-- a transition behind a task's statements: the places with their room, the task that it names, BASE, and FRAM as the statements leave it
+pub record Closing : Type 0 where
+  pub places : Places
+  pub room : Room
+  pub apart : AreApart places room
+  pub task : ℕ
+  pub base : ℕ
+  pub fram : ℕ → ℕ
+
+module _ (transition : Closing) where
+  open transition use {places as p, apart, task, base, fram as f}
+
+  -- the entries in front of its own
+  abbrev n : ℕ
+  n = f (word_place p.map ListLength)
+
   -- a transition's effects, with the gate
   abbrev pub closing : List Effect
   closing = transition_effects p task n base ++ Store (word_place p.map Gate) 1 ∷ []
@@ -137,9 +141,6 @@ module _ (p : Places) (room : Room) (apart : AreApart p room) (task n base : ℕ
       ap (λ g. g a) closed_is ∙ put_other (put with_entries (word_place p.map SentBase) base) (word_place p.map Gate) 1 a ng
       ∙ put_other with_entries (word_place p.map SentBase) base a ns
 
-  pub closed_gate : closed (word_place p.map Gate) ≡ 1
-  closed_gate = ap (λ g. g (word_place p.map Gate)) closed_is ∙ put_same (put with_entries (word_place p.map SentBase) base) (word_place p.map Gate) 1
-
   pub closed_sent : closed (word_place p.map SentBase) ≡ base
   closed_sent =
       ap (λ g. g (word_place p.map SentBase)) closed_is
@@ -159,7 +160,7 @@ module _ (p : Places) (room : Room) (apart : AreApart p room) (task n base : ℕ
   closed_count =
       at_close (word_place p.map ListLength) (λ e. omega (arith, e, apart)) (λ e. omega (arith, e, apart))
       ∙ count_there (word_place p.map ListLength) p.map.list.address (runs_of p.privates) n told
-      (put_other f (word_place p.map NextTask) (task % 65536) (word_place p.map ListLength) (λ e. omega (arith, e, apart)) ∙ counted)
+      (put_other f (word_place p.map NextTask) (task % 65536) (word_place p.map ListLength) (λ e. omega (arith, e, apart)))
 
   -- what the list names: what it named, and the private scalars
   pub closed_pairs : entries_from (closed (word_place p.map ListLength)) p.map.list.address closed

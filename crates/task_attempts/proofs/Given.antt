@@ -1,44 +1,23 @@
 -- What the proofs take of a source with its layout.
-use Rattle.std.specs.Prelude.{◌≡◌, ℕ, ◌+◌, ◌*◌, ◌<◌, ◌≤◌, true, false, List, [], Contains, length, Some, slice_get, slice_index, slice_index_or}
-use Rattle.layout_facts.specs.cost_bound.declared.allowance.Allow.{Allow}
-use Rattle.layout_facts.proofs.path_sums.Interface.{is_private_of}
-use Rattle.layout_facts.specs.task_ast.declared.names.Variable.TheVariants.{Shared}
-use Rattle.layout_facts.specs.path_runs.Laws.{IsScalarIn}
-use Rattle.layout_facts.specs.cost_bound.Counts.{CheckedBlock, stores_of}
-use Rattle.layout_facts.specs.cost_bound.Allowance.{CheckedTask}
-use Rattle.layout_facts.specs.war_analysis.PlanValue.{TaskPlanValue}
-use Rattle.layout_facts.specs.source_values.Runs.{CheckedProgram}
-use Rattle.layout_facts.specs.source_values.Running.{IsRunnable}
-use Rattle.layout_facts.specs.array_versions.Form.{IsWhole, OfWords}
-use Rattle.layout_facts.specs.memory_map.declared.place.ScalarWidth.{ScalarWidth}
-use Rattle.layout_facts.specs.memory_map.declared.place.VariablePlace.{VariablePlace}
-use Rattle.layout_facts.specs.memory_map.declared.place.VariablePlace.TheVariants.{Scalar}
-use Rattle.layout_facts.specs.memory_map.declared.place.PrivateScalar.{PrivateScalar}
-use Rattle.layout_facts.specs.memory_map.MemoryMap.{MemoryMap, TaskPlace}
-use Rattle.layout_facts.specs.memory_map.Places.{end_of, scalar_words, HasItsPlace}
-use Rattle.layout_facts.specs.privatise.Layouts.{AreVariables}
-use Rattle.layout_facts.specs.boot_runtime.Entries.{task_entries}
-use Rattle.layout_facts.specs.boot_runtime.Listing.{privates_in}
-use Rattle.layout_facts.specs.memory_map.Laws as memory
-use Rattle.layout_facts.proofs.memory_map.Interface.{apart_of}
-use Rattle.layout_facts.specs.stands_for.Layout.{IsSharedWord, IsCopyWord, HaveRoom, ArePrivate}
-use Rattle.layout_facts.specs.memory_map.Spots.{places_of, address_of, Element, IsCopied, copy_address, version_address, IsWordOf}
-use Rattle.layout_facts.specs.lower.Spots.{AreApart, AreEven, HasRoom}
-use Rattle.layout_facts.specs.lower.Seen.{some_path_writes, map_seen}
-use Rattle.layout_facts.specs.lower.Lowered.{lowered_task}
-use Rattle.layout_facts.specs.lower.Agreement.{place_length, AsDeclared, HasCopies}
-use Rattle.layout_facts.specs.compiled_model.Places.{is_private_in, program_places}
-use Rattle.layout_facts.specs.compiled_model.View.{shared_word, are_rows}
-use Rattle.layout_facts.specs.Facts.{HasLayout, IsTaskAt, task_room, task_places}
-use Rattle.task_attempts.proofs.Held.{scalar_block}
-use Rattle.layout_facts.proofs.Interface.{each_is_one_word, scalar_declared, places_are_declared, addresses_are, tasks_match, places_are_apart, tasks_have_room}
-use Rattle.layout_facts.proofs.Interface.{places_are_as_declared, written_arrays_have_copies}
-use Rattle.layout_facts.proofs.Interface.{shared_words_are_of_variables, words_of_variables_are_shared, lists_have_room, privates_are_theirs, elements_stand}
-use Rattle.layout_facts.proofs.Interface.{task_places_are_apart, task_places_are_even, view_has_their_words, rows_fit_places}
+use Rattle.task_attempts.proofs.Names.{◌≡◌, ℕ, ◌+◌, ◌*◌, ◌<◌, ◌≤◌, true, false, List, [], Contains, length, Some, slice_get, slice_index, slice_index_or}
+use Rattle.task_attempts.proofs.Names.{is_private_of, Shared, IsScalarIn, CheckedBlock, stores_of, CheckedTask, CheckedProgram, ScalarWidth, VariablePlace}
+use Rattle.task_attempts.proofs.Names.{Scalar, PrivateScalar, MemoryMap, TaskPlace, end_of, scalar_words, HasItsPlace, AreVariables, task_entries, privates_in}
+use Rattle.task_attempts.proofs.Names.{apart_of, IsSharedWord, IsCopyWord, HaveRoom, ArePrivate, places_of, address_of, Element, IsCopied, copy_address}
+use Rattle.task_attempts.proofs.Names.{version_address, IsWordOf, AreApart, AreEven, HasRoom, some_path_writes, map_seen, lowered_task, place_length}
+use Rattle.task_attempts.proofs.Names.{AsDeclared, HasCopies, is_private_in, program_places, shared_word, are_rows, HasLayout, IsTaskAt, task_room, task_places}
+use Rattle.task_attempts.proofs.Names.{each_is_one_word, scalar_declared, places_are_declared, addresses_are, tasks_match, places_are_apart, tasks_have_room}
+use Rattle.task_attempts.proofs.Names.{places_are_as_declared, written_arrays_have_copies, shared_words_are_of_variables, words_of_variables_are_shared}
+use Rattle.task_attempts.proofs.Names.{lists_have_room, privates_are_theirs, elements_stand, task_places_are_apart, task_places_are_even, view_has_their_words}
+use Rattle.task_attempts.proofs.Names.{rows_fit_places, WellFormedBlock}
+use Rattle.memory_map.specs.Laws as memory
+use Rattle.cost_bound.specs.declared.allowance.Allow.{Allow}
+use Rattle.war_analysis.specs.PlanValue.{TaskPlanValue}
+use Rattle.source_values.specs.Running.{IsRunnable}
+use Rattle.array_versions.specs.Form.{IsWhole, OfWords}
 use Rattle.whole_programs.specs.Laws.{IsLaidOutText}
-use Rattle.checked_trees.specs.WellFormed.{WellFormedBlock}
 use Rattle.checked_trees.proofs.Interface.{task_checked}
 use Rattle.whole_programs.proofs.Interface.{tasks_are_whole, privates_are_few}
+use Rattle.task_attempts.proofs.Held.{scalar_block}
 
 -- rows have the places' lengths
 abbrev pub FitPlaces : MemoryMap → List (List ℕ) → Type 0

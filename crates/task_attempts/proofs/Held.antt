@@ -1,31 +1,19 @@
 -- The variables that an attempt starts from, as FRAM has them: a scalar that the task writes in place may hold any words there. The task
 -- comes to the same from these variables as from the state's, since each of its paths writes such a scalar before it reads it and before
 -- its transition. So an attempt is compared with the source's attempt from what FRAM holds, and that one with the source's own.
-use Rattle.std.proofs.Common.{◌≡◌, ℕ, zero, suc, ◌==◌, ◌<◌, ◌≤◌, List, [], length, get_or, slice_set, Bool, true, false, Option, Some}
-use Rattle.std.proofs.Common.{None, refl, sym, ap, ◌∙◌, subst, ⊎_elim, arith}
-use Rattle.std.specs.Prelude.{slice_get, IsSomeAnd}
-use Rattle.std.proofs.lemmas.Bool.{cases_eq, cases_Bool, eqb-true}
-use Rattle.std.proofs.lemmas.List.{get_or-set_other, length-set}
-use Rattle.layout_facts.specs.task_ast.Tree as t
-use Rattle.layout_facts.specs.task_ast.Paths.{CheckedStatement, CheckedChoice, CheckedBlock}
-use Rattle.layout_facts.specs.task_ast.declared.SharedDeclaration.{SharedDeclaration}
-use Rattle.layout_facts.specs.task_ast.declared.Extent.{Extent}
-use Rattle.layout_facts.specs.task_ast.declared.Extent.TheVariants as extent
-use Rattle.layout_facts.specs.task_ast.Types.{is_long}
-use Rattle.layout_facts.specs.task_ast.declared.names.Variable.{Variable}
-use Rattle.layout_facts.specs.task_ast.declared.names.Variable.TheVariants.{Shared, Local}
-use Rattle.layout_facts.specs.path_sums.Access.{is_same, writes, SomePath, IsPrivate}
-use Rattle.layout_facts.specs.task_ast.declared.WordType.{WordType}
-use Rattle.layout_facts.specs.task_ast.declared.WordType.TheVariants.{Unsigned, Int, Long}
-use Rattle.layout_facts.specs.source_values.Values.{Variables, word_at, with_word, by_width}
-use Rattle.layout_facts.proofs.lower.Interface.{word_same, word_other, row_length}
-use Rattle.layout_facts.specs.source_values.Statements.{Attempt, run_block}
-use Rattle.layout_facts.specs.war_analysis.Plans.{is_scalar, IsScalarAt, IsArrayAt}
-use Rattle.layout_facts.specs.source_values.Runs.{is_long_extent}
-use Rattle.layout_facts.specs.privatise.Sizes.{home_part}
-use Rattle.checked_trees.specs.WellFormed.{IsArrayName, IsLocal, IsOfType, WellFormedStatement, WellFormedChoice, WellFormedBlock}
-use Rattle.layout_facts.specs.path_runs.Laws.{IsScalarInStatement, IsScalarInChoice, IsScalarIn}
-use Rattle.layout_facts.proofs.path_runs.Interface.{first_writes_forget}
+use Rattle.task_attempts.proofs.Names.{◌≡◌, ℕ, zero, suc, ◌==◌, ◌<◌, ◌≤◌, List, [], length, get_or, slice_set, Bool, true, false, Option, Some, None, refl, sym}
+use Rattle.task_attempts.proofs.Names.{ap, ◌∙◌, subst, ⊎_elim, arith, slice_get, IsSomeAnd, cases_eq, cases_Bool, eqb-true, get_or-set_other, length-set}
+use Rattle.task_attempts.proofs.Names.{CheckedStatement, CheckedChoice, CheckedBlock, SharedDeclaration, Extent, Variable, Shared, Local, WordType, Unsigned}
+use Rattle.task_attempts.proofs.Names.{Int, Long, Variables, word_at, with_word, by_width, word_same, word_other, row_length, Attempt, run_block}
+use Rattle.task_attempts.proofs.Names.{is_long_extent, IsArrayName, IsLocal, IsOfType, WellFormedStatement, WellFormedChoice, WellFormedBlock}
+use Rattle.task_attempts.proofs.Names.{IsScalarInStatement, IsScalarInChoice, IsScalarIn}
+use Rattle.task_ast.specs.Tree as t
+use Rattle.task_ast.specs.declared.Extent.TheVariants as extent
+use Rattle.task_ast.specs.Types.{is_long}
+use Rattle.path_sums.specs.Access.{is_same, writes, SomePath, IsPrivate}
+use Rattle.war_analysis.specs.Plans.{is_scalar, IsScalarAt, IsArrayAt}
+use Rattle.privatise.specs.Sizes.{home_part}
+use Rattle.path_runs.proofs.Interface.{first_writes_forget}
 
 -- ---- no element of a scalar is stored to, and each of its words is given
 

@@ -1,3 +1,4 @@
+mod Names
 mod Held
 mod Given
 mod Rows
@@ -13,10 +14,3 @@ mod Decided
 mod Contracts
 mod Theorems
 pub mod Interface
-pub use Rattle.layout_facts.proofs.crash_rules as crash_rules
-pub use Rattle.layout_facts.proofs.stands_for as stands_for
-pub use Rattle.layout_facts.proofs.war_analysis as war_analysis
-pub use Rattle.source_meaning.proofs as source_meaning
-pub use Rattle.layout_facts.proofs.lower as lower
-pub use Rattle.whole_programs.proofs as whole_programs
-pub use Rattle.layout_facts.proofs as layout_facts

@@ -1,8 +1,6 @@
 -- The pairs that a commit list names.
-use Rattle.std.proofs.Common.{◌≡◌, ℕ, zero, suc, ◌<◌, List, [], ◌∷◌, length, map, get_or, sym, ap, ⊎_elim, inl, inr, refl, arith}
-use Rattle.std.specs.Prelude.{Contains}
-use Rattle.layout_facts.specs.runtime_effects.Places.{CopyPair}
-use Rattle.layout_facts.specs.stands_for.Layout.{IsAmong}
+use Rattle.task_attempts.proofs.Names.{◌≡◌, ℕ, zero, suc, ◌<◌, List, [], ◌∷◌, length, map, get_or, sym, ap, ⊎_elim, inl, inr, refl, arith, Contains, CopyPair}
+use Rattle.task_attempts.proofs.Names.{IsAmong}
 
 -- pairs of other things
 module _ {X : Type 0} (f : X → CopyPair) where

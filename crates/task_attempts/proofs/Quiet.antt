@@ -1,16 +1,8 @@
 -- Stores that an undecided world bears.
-use Rattle.std.proofs.Common.{◌≡◌, ℕ, ◌+◌, ◌*◌, ◌<◌, ◌≤◌, List, [], ◌∷◌, ◌⊎◌, true, refl, sym, ◌∙◌, subst, ⊎_elim, inl, inr, arith}
-use Rattle.std.proofs.lemmas.Bool.{cases_eq}
-use Rattle.layout_facts.specs.fram_board.Effects.{Effect, Store, Take, Outside}
-use Rattle.layout_facts.specs.machine_effects.World.{World, put, world_after_one, world_after, fram_after, EachStore}
-use Rattle.layout_facts.proofs.machine_effects.Interface.{put_other}
-use Rattle.layout_facts.specs.crash_rules.Model.{HoldsThroughout}
-use Rattle.layout_facts.specs.stands_for.Layout.{ProgramPlaces, StateView, IsSharedWord}
-use Rattle.layout_facts.specs.stands_for.StandsFor.{VersionsWithin, UndecidedAt}
-use Rattle.layout_facts.proofs.stands_for.Interface.{put_either, put_words}
-use Rattle.layout_facts.specs.lower.Agreement.{TakesAndStores}
-use Rattle.layout_facts.specs.memory_map.MemoryMap.{word_place}
-use Rattle.layout_facts.specs.memory_map.declared.words.RuntimeWord.TheVariants.{CurrentTask, Gate, Base, Version}
+use Rattle.task_attempts.proofs.Names.{◌≡◌, ℕ, ◌+◌, ◌*◌, ◌<◌, ◌≤◌, List, [], ◌∷◌, ◌⊎◌, true, refl, sym, ◌∙◌, subst, ⊎_elim, inl, inr, arith, cases_eq, Effect}
+use Rattle.task_attempts.proofs.Names.{Store, Take, Outside, World, put, world_after_one, world_after, fram_after, EachStore, put_other, HoldsThroughout}
+use Rattle.task_attempts.proofs.Names.{ProgramPlaces, StateView, IsSharedWord, VersionsWithin, UndecidedAt, put_either, put_words, TakesAndStores, word_place}
+use Rattle.task_attempts.proofs.Names.{CurrentTask, Gate, Base, Version}
 
 -- a store of a word to none of the words that an undecided world at this task speaks of, and to a version word of no more than VER, which
 -- is this number

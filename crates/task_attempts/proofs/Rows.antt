@@ -1,32 +1,14 @@
 -- Rows of words: statements keep how many there are, and rows of the declared lengths are a state's.
-use Rattle.std.proofs.Common.{◌≡◌, ℕ, zero, suc, ◌+◌, ◌-◌, ◌/◌, ◌%◌, ◌<◌, List, [], ◌∷◌, ◌++◌, length, Some, None, Bool, true, false, get_or, refl}
-use Rattle.std.proofs.Common.{sym, ap, ◌∙◌}
-use Rattle.std.proofs.Common.{arith, eq-eqb, if◌then◌else◌}
-use Rattle.std.specs.Prelude.{◌&&◌, ◌==◌, nat_lt, slice_get}
+use Rattle.task_attempts.proofs.Names.{◌≡◌, ℕ, zero, suc, ◌+◌, ◌-◌, ◌/◌, ◌%◌, ◌<◌, List, [], ◌∷◌, ◌++◌, length, Some, None, Bool, true, false, get_or, refl}
+use Rattle.task_attempts.proofs.Names.{sym, ap, ◌∙◌, arith, eq-eqb, if◌then◌else◌, ◌&&◌, ◌==◌, nat_lt, slice_get, lt-ltb, and_from, and_parts, length-replicate}
+use Rattle.task_attempts.proofs.Names.{CheckedExpression, CheckedStatement, CheckedChoice, CheckedBlock, Extent, SharedDeclaration, WordType, Unsigned, Int}
+use Rattle.task_attempts.proofs.Names.{Long, Variable, Shared, Local, by_width, type_of, converted, holds, Attempt, Outcome, goes_on, to_task, short, and_then}
+use Rattle.task_attempts.proofs.Names.{with_value, assigned, assigned_to, assigned_value, word_of, turns, run_statement, run_choice, run_block, initial_words}
+use Rattle.task_attempts.proofs.Names.{VariablePlace, Scalar, Array, scalar_words, IsPlaceOf, place_length, are_words, are_rows, for_value}
+use Rattle.task_ast.specs.Tree as t
+use Rattle.task_ast.specs.declared.Extent.TheVariants as extent
 use Rattle.std.proofs.Math.ListN.{length-set}
-use Rattle.std.proofs.lemmas.Bool.{lt-ltb, and_from, and_parts}
-use Rattle.std.proofs.lemmas.List.{length-replicate}
-use Rattle.layout_facts.specs.task_ast.Tree as t
-use Rattle.layout_facts.specs.task_ast.Paths.{CheckedExpression, CheckedStatement, CheckedChoice, CheckedBlock}
-use Rattle.layout_facts.specs.task_ast.declared.Extent.{Extent}
-use Rattle.layout_facts.specs.task_ast.declared.Extent.TheVariants as extent
-use Rattle.layout_facts.specs.task_ast.declared.SharedDeclaration.{SharedDeclaration}
-use Rattle.layout_facts.specs.task_ast.declared.WordType.{WordType}
-use Rattle.layout_facts.specs.task_ast.declared.WordType.TheVariants.{Unsigned, Int, Long}
-use Rattle.layout_facts.specs.task_ast.declared.names.VariableName.{VariableName}
-use Rattle.layout_facts.specs.task_ast.declared.names.Variable.{Variable}
-use Rattle.layout_facts.specs.task_ast.declared.names.Variable.TheVariants.{Shared, Local}
-use Rattle.layout_facts.specs.source_values.Values.{by_width, type_of, converted, holds}
-use Rattle.layout_facts.specs.source_values.Statements.{Attempt, Outcome, goes_on, to_task, short, and_then, with_value, assigned, assigned_to, assigned_value}
-use Rattle.layout_facts.specs.source_values.Statements.{word_of, turns, run_statement, run_choice, run_block}
-use Rattle.layout_facts.specs.source_values.Runs.{initial_words}
-use Rattle.layout_facts.specs.memory_map.declared.place.VariablePlace.{VariablePlace}
-use Rattle.layout_facts.specs.memory_map.declared.place.VariablePlace.TheVariants.{Scalar, Array}
-use Rattle.layout_facts.specs.memory_map.Places.{scalar_words}
-use Rattle.layout_facts.specs.privatise.Layouts.{IsPlaceOf}
-use Rattle.layout_facts.specs.lower.Agreement.{place_length}
-use Rattle.layout_facts.specs.compiled_model.View.{are_words, are_rows}
-use Rattle.layout_facts.proofs.source_values.Interface.{for_value}
+use Rattle.task_ast.specs.declared.names.VariableName.{VariableName}
 
 -- where an outcome has variables, there are so many shared ones
 abbrev pub HasRows : ℕ → Outcome → Type 0

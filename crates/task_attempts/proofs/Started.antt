@@ -1,19 +1,6 @@
 -- A started attempt of a task, and what the laws on it speak of.
-use Rattle.std.proofs.Common.{ℕ, ◌<◌, length}
-use Rattle.layout_facts.specs.machine_effects.World.{World}
-use Rattle.layout_facts.specs.machine_effects.Inputs.{Inputs}
-use Rattle.layout_facts.specs.cost_bound.Counts.{CheckedBlock}
-use Rattle.layout_facts.specs.source_values.Runs.{CheckedProgram, State}
-use Rattle.layout_facts.specs.boot_runtime.Entries.{task_entries}
-use Rattle.layout_facts.specs.boot_runtime.Listing.{privates_in}
-use Rattle.layout_facts.specs.stands_for.Layout.{ProgramPlaces, StateView}
-use Rattle.layout_facts.specs.stands_for.StandsFor.{StartedAt}
-use Rattle.layout_facts.specs.lower.Spots.{Room}
-use Rattle.layout_facts.specs.compiled_model.Places.{program_places}
-use Rattle.layout_facts.specs.compiled_model.View.{state_view}
-use Rattle.layout_facts.specs.memory_map.declared.words.RuntimeWord.TheVariants.{Version}
-use Rattle.layout_facts.specs.memory_map.MemoryMap.{MemoryMap, word_place}
-use Rattle.layout_facts.specs.memory_map.Spots.{Places}
+use Rattle.task_attempts.proofs.Names.{ℕ, ◌<◌, length, World, Inputs, CheckedBlock, CheckedProgram, State, task_entries, privates_in, ProgramPlaces, StateView}
+use Rattle.task_attempts.proofs.Names.{StartedAt, Room, program_places, state_view, Version, MemoryMap, word_place, Places}
 use Rattle.task_attempts.proofs.Given.{IsGiven, IsTaskGiven}
 use Rattle.task_attempts.proofs.Tasks.{IsAt, task_at, places, body, room, task_given}
 

@@ -1,39 +1,18 @@
 -- A started attempt stands for the source's attempt of the task.
-use Rattle.std.proofs.Common.{◌≡◌, ℕ, ◌+◌, ◌*◌, ◌<◌, [], length, Option, Some, None, Bool, true, false, ◌&&◌, not, refl, sym, ap, ◌∙◌}
-use Rattle.std.proofs.Common.{subst, ⊎_elim, arith}
-use Rattle.std.proofs.lemmas.Bool.{cases_Bool, and_parts, and_from}
-use Rattle.std.proofs.lemmas.Option.{slice_get_within}
-use Rattle.std.specs.Prelude.{Contains, slice_get, slice_index_or}
-use Rattle.layout_facts.specs.runtime_effects.Places.{entries_from}
-use Rattle.layout_facts.proofs.path_sums.Interface.{is_private_of}
-use Rattle.layout_facts.specs.source_values.Values.{Variables, word_at}
-use Rattle.layout_facts.specs.source_values.Statements.{Attempt, run_block}
-use Rattle.layout_facts.specs.source_values.Runs.{fresh_attempt, task_body}
-use Rattle.layout_facts.specs.task_ast.declared.names.Variable.TheVariants.{Shared}
-use Rattle.layout_facts.specs.array_versions.Behaviour.{started}
-use Rattle.layout_facts.specs.lower.Agreement.{own_word, place_length, StandsFor}
-use Rattle.layout_facts.specs.lower.Seen.{some_path_writes, map_seen}
-use Rattle.layout_facts.proofs.lower.Interface.{SeenFrom, seen_from}
-use Rattle.layout_facts.proofs.lower.Interface.{scalar as seen_scalar, array as seen_array, read as seen_read}
-use Rattle.layout_facts.specs.path_runs.Laws.{IsScalarIn}
-use Rattle.layout_facts.proofs.Interface.{word_pair, scalar_of_seen, scalar_found, found_word, in_place_written, in_place_not_private}
-use Rattle.layout_facts.specs.compiled_model.Places.{is_private_in, stays_in_place, program_places}
-use Rattle.layout_facts.proofs.memory_map.Interface.{scalar_home, IsPlaceOfScalar, scalar_place, words_scalar}
+use Rattle.task_attempts.proofs.Names.{◌≡◌, ℕ, ◌+◌, ◌*◌, ◌<◌, [], length, Option, Some, None, Bool, true, false, ◌&&◌, not, refl, sym, ap, ◌∙◌, subst, ⊎_elim}
+use Rattle.task_attempts.proofs.Names.{arith, cases_Bool, and_parts, and_from, slice_get_within, Contains, slice_get, slice_index_or, entries_from}
+use Rattle.task_attempts.proofs.Names.{is_private_of, Variables, word_at, Attempt, run_block, fresh_attempt, task_body, Shared, started, own_word, place_length}
+use Rattle.task_attempts.proofs.Names.{StandsFor, some_path_writes, map_seen, SeenFrom, seen_from, IsScalarIn, word_pair, scalar_of_seen, scalar_found}
+use Rattle.task_attempts.proofs.Names.{found_word, in_place_written, in_place_not_private, is_private_in, stays_in_place, program_places, scalar_home}
+use Rattle.task_attempts.proofs.Names.{IsPlaceOfScalar, scalar_place, words_scalar, Version, ScalarWidth, PrivateScalar, VariablePlace, Scalar, Array}
+use Rattle.task_attempts.proofs.Names.{scalar_words, home_region, word_place, scalar_address, words_at, home_in, IsScalarWord, Element, IsElement, IsCopied}
+use Rattle.task_attempts.proofs.Names.{version_address, element_address, IsWordOf}
+use Rattle.lower.proofs.Interface.{scalar as seen_scalar, array as seen_array, read as seen_read}
 use Rattle.task_attempts.proofs.Tasks.{body_is, among_privates}
 use Rattle.task_attempts.proofs.Started.{Started, scene}
 use Rattle.task_attempts.proofs.Held.{refreshed, refreshed_count, refreshed_locals, refreshed_rows, refreshed_other, refreshed_held, refreshed_runs}
 use Rattle.task_attempts.proofs.Rows.{rows_count}
 use Rattle.task_attempts.proofs.Words.{OwnWord, marked, unmarked, own_word_of, element_word}
-use Rattle.layout_facts.specs.memory_map.declared.words.RuntimeWord.TheVariants.{Version}
-use Rattle.layout_facts.specs.memory_map.declared.place.ScalarWidth.{ScalarWidth}
-use Rattle.layout_facts.specs.memory_map.declared.place.PrivateScalar.{PrivateScalar}
-use Rattle.layout_facts.specs.memory_map.declared.place.VariablePlace.{VariablePlace}
-use Rattle.layout_facts.specs.memory_map.declared.place.VariablePlace.TheVariants.{Scalar, Array}
-use Rattle.layout_facts.specs.memory_map.Places.{scalar_words, home_region}
-use Rattle.layout_facts.specs.memory_map.MemoryMap.{word_place}
-use Rattle.layout_facts.specs.memory_map.Spots.{scalar_address, words_at, home_in, IsScalarWord, Element, IsElement, IsCopied, version_address}
-use Rattle.layout_facts.specs.memory_map.Spots.{element_address}
-use Rattle.layout_facts.specs.memory_map.Spots.{IsWordOf}
 
 -- whether a place is one of a scalar
 abbrev is_scalar_at : Option VariablePlace → Bool

@@ -1,25 +1,12 @@
 -- Where a task's program stores: at words that an undecided world doesn't speak of, before the code.
-use Rattle.std.proofs.Common.{◌≡◌, ℕ, ◌+◌, ◌*◌, ◌<◌, ◌≤◌, ◌∙◌, Some, false, not, sym, ap, subst, ⊎_elim, arith}
-use Rattle.std.proofs.lemmas.Bool.{cases_Bool, and_from}
-use Rattle.std.specs.Prelude.{true, slice_get}
-use Rattle.layout_facts.specs.cost_bound.Counts.{emits_of}
-use Rattle.layout_facts.specs.cost_bound.Allowance.{list_of}
-use Rattle.layout_facts.specs.source_values.Runs.{task_body}
-use Rattle.layout_facts.specs.memory_map.declared.words.RuntimeWord.TheVariants.{CurrentTask, Gate, ListLength, EmitCount, Base, Version}
-use Rattle.layout_facts.specs.memory_map.declared.place.VariablePlace.TheVariants.{Scalar}
-use Rattle.layout_facts.specs.memory_map.MemoryMap.{word_place}
-use Rattle.layout_facts.specs.stands_for.Layout.{IsSharedWord, IsCopyWord}
-use Rattle.layout_facts.proofs.memory_map.Interface.{scalar_home, IsPlaceOfScalar, scalar_place, words_scalar}
-use Rattle.layout_facts.specs.lower.Seen.{some_path_writes, map_seen}
-use Rattle.layout_facts.proofs.Interface.{scalar_of_seen, scalar_is}
-use Rattle.layout_facts.specs.memory_map.Spots.{scalar_address, words_at, IsScalarWord}
-use Rattle.layout_facts.specs.memory_map.declared.place.PrivateScalar.{PrivateScalar}
-use Rattle.layout_facts.specs.memory_map.Places.{end_of, scalar_words}
-use Rattle.layout_facts.specs.lower.Agreement.{IsTaskStore, at_variable, at_copy, at_version, in_list, at_list_length, at_emit_count, in_buffer}
-use Rattle.layout_facts.specs.compiled_model.Places.{is_private_in, stays_in_place}
+use Rattle.task_attempts.proofs.Names.{◌≡◌, ℕ, ◌+◌, ◌*◌, ◌<◌, ◌≤◌, ◌∙◌, Some, false, not, sym, ap, subst, ⊎_elim, arith, cases_Bool, and_from, true, slice_get}
+use Rattle.task_attempts.proofs.Names.{emits_of, list_of, task_body, CurrentTask, Gate, ListLength, EmitCount, Base, Version, Scalar, word_place, IsSharedWord}
+use Rattle.task_attempts.proofs.Names.{IsCopyWord, scalar_home, IsPlaceOfScalar, scalar_place, words_scalar, some_path_writes, map_seen, scalar_of_seen}
+use Rattle.task_attempts.proofs.Names.{scalar_is, scalar_address, words_at, IsScalarWord, PrivateScalar, end_of, scalar_words, IsTaskStore, at_variable}
+use Rattle.task_attempts.proofs.Names.{at_copy, at_version, in_list, at_list_length, at_emit_count, in_buffer, is_private_in, stays_in_place}
+use Rattle.task_attempts.proofs.Entries as transition
 use Rattle.task_attempts.proofs.Given.{IsVersionWord}
 use Rattle.task_attempts.proofs.Quiet.{IsQuiet}
-use Rattle.task_attempts.proofs.Entries as transition
 use Rattle.task_attempts.proofs.Entries.{IsTransitionStore, at_next_task, at_sent_base, in_entries}
 use Rattle.task_attempts.proofs.Tasks.{body_is, private_copy}
 use Rattle.task_attempts.proofs.Started.{Started, scene}
@@ -36,11 +23,10 @@ module _ (run : Started) where
     pub from : 0x4400 ≤ a
     pub below : a < end_of l.copies
 
-  -- behind CUR and before the version words
-  safe_low : (a w : ℕ) → w < 0x10000 → word_place l CurrentTask < a → a < l.versions.address → (a ≡ word_place l Gate → ⊥) → (a ≡ word_place l Base → ⊥) →
-      (a ≡ word_place l Version → ⊥)
-      → (a ≡ word_place l ListLength → w ≤ l.entries) → (a ≡ word_place l EmitCount → w ≤ emits_of code) → Safe a w
-  safe_low a w small lo hi gate base ver list few =
+  -- a word of the runtime behind CUR that is none of GATE, BASE and VER
+  safe_word : (a w : ℕ) → w < 0x10000 → word_place l CurrentTask < a → a < l.list.address → (a ≡ word_place l Gate → ⊥) → (a ≡ word_place l Base → ⊥)
+      → (a ≡ word_place l Version → ⊥) → (a ≡ word_place l ListLength → w ≤ l.entries) → (a ≡ word_place l EmitCount → w ≤ emits_of code) → Safe a w
+  safe_word a w small lo hi gate base version list few =
       let apart = given.apart in
       record {
         quiet = record {
@@ -49,8 +35,8 @@ module _ (run : Started) where
           current_task = λ e. omega (arith, e, lo);
           gate = gate;
           base = base;
-          version = ver;
-          versions = λ i h e. absurd (omega (arith, e, hi));
+          version = version;
+          versions = λ i h e. absurd (omega (arith, apart, e, hi));
         };
         list_length = list;
         emit_count = few;
@@ -58,69 +44,68 @@ module _ (run : Started) where
         below = omega (arith, apart, hi);
       }
 
-  safe_copy : (a w : ℕ) → w < 0x10000 → IsCopyWord sites a → Safe a w
-  safe_copy a w small c =
+  -- a word behind the runtime's, and before the code: where a scalar stands, the task writes it in place, and a version word becomes VER
+  safe_behind : (a w : ℕ) → w < 0x10000 → l.list.address ≤ a → a < end_of l.copies → (IsSharedWord sites a → sites.written_in_place s.task a ≡ true)
+      → (IsVersionWord l a → w ≤ ver) → Safe a w
+  safe_behind a w small lo hi in_place most =
       let apart = given.apart in
       record {
         quiet = record {
           is_word = small;
-          in_place = λ h. absurd (omega (arith, apart, h, c));
-          current_task = λ e. omega (arith, apart, e, c);
-          gate = λ e. omega (arith, apart, e, c);
-          base = λ e. omega (arith, apart, e, c);
-          version = λ e. omega (arith, apart, e, c);
-          versions = λ i h e. absurd (omega (arith, apart, e, h, c));
+          in_place = in_place;
+          current_task = λ e. omega (arith, apart, e, lo);
+          gate = λ e. omega (arith, apart, e, lo);
+          base = λ e. omega (arith, apart, e, lo);
+          version = λ e. omega (arith, apart, e, lo);
+          versions = λ i h e. most (record { number = i; below = h; is = e });
         };
-        list_length = λ e. absurd (omega (arith, apart, e, c));
-        emit_count = λ e. absurd (omega (arith, apart, e, c));
-        from = omega (arith, apart, c);
-        below = omega (arith, c);
+        list_length = λ e. absurd (omega (arith, apart, e, lo));
+        emit_count = λ e. absurd (omega (arith, apart, e, lo));
+        from = omega (arith, apart, lo);
+        below = hi;
       }
+
+  -- one of the list or of the buffer
+  safe_buffer : (a w : ℕ) → w < 0x10000 → l.list.address ≤ a → a < l.versions.address → Safe a w
+  safe_buffer a w small lo hi =
+      let apart = given.apart in
+      safe_behind a w small lo (omega (arith, apart, hi)) (λ h. absurd (omega (arith, apart, h, hi))) (λ v. let is = v.is in absurd (omega (arith, is, hi)))
+
+  safe_copy : (a w : ℕ) → w < 0x10000 → IsCopyWord sites a → Safe a w
+  safe_copy a w small c =
+      let apart = given.apart in
+      safe_behind a w small (omega (arith, apart, c)) (omega (arith, c)) (λ h. absurd (omega (arith, apart, h, c)))
+      (λ v. let is = v.is in let below = v.below in absurd (omega (arith, apart, is, below, c)))
 
   safe_version : (a w : ℕ) → w < 0x10000 → w ≡ ver → IsVersionWord l a → Safe a w
   safe_version a w small is c =
       let apart = given.apart in
-      record {
-        quiet = record {
-          is_word = small;
-          in_place = λ h. absurd (omega (arith, apart, h, c));
-          current_task = λ e. omega (arith, apart, e, c);
-          gate = λ e. omega (arith, apart, e, c);
-          base = λ e. omega (arith, apart, e, c);
-          version = λ e. omega (arith, apart, e, c);
-          versions = λ i h e. omega (arith, is);
-        };
-        list_length = λ e. absurd (omega (arith, apart, e, c));
-        emit_count = λ e. absurd (omega (arith, apart, e, c));
-        from = omega (arith, apart, c);
-        below = omega (arith, apart, c);
-      }
+      let at = c.is in let below = c.below in
+      safe_behind a w small (omega (arith, apart, at, below)) (omega (arith, apart, at, below)) (λ h. absurd (omega (arith, apart, h, at, below)))
+      (λ v. omega (arith, is))
 
   -- a word of a scalar that the task writes in place
   safe_home : (a w : ℕ) → w < 0x10000 → IsSharedWord sites a → sites.written_in_place s.task a ≡ true → Safe a w
   safe_home a w small c is =
       let apart = given.apart in
-      record {
-        quiet = record {
-          is_word = small;
-          in_place = λ h. is;
-          current_task = λ e. omega (arith, apart, e, c);
-          gate = λ e. omega (arith, apart, e, c);
-          base = λ e. omega (arith, apart, e, c);
-          version = λ e. omega (arith, apart, e, c);
-          versions = λ i h e. absurd (omega (arith, apart, e, h, c));
-        };
-        list_length = λ e. absurd (omega (arith, apart, e, c));
-        emit_count = λ e. absurd (omega (arith, apart, e, c));
-        from = omega (arith, apart, c);
-        below = omega (arith, apart, c);
-      }
+      safe_behind a w small (omega (arith, apart, c)) (omega (arith, apart, c)) (λ h. is)
+      (λ v. let at = v.is in let below = v.below in absurd (omega (arith, apart, at, below, c)))
 
   list_fits : list_of p.shared code ≤ l.entries
   list_fits = subst (λ b. list_of p.shared b ≤ l.entries) (body_is p l given s.task i) (given.room.list s.task is_task)
 
   pub emits_fit : emits_of code ≤ l.emits.words
   emits_fit = subst (λ b. emits_of b ≤ l.emits.words) (body_is p l given s.task i) (given.room.emits s.task is_task)
+
+  -- the runtime's words are before the list
+  before_list : (a : ℕ) → a < l.row + 16 → a < l.list.address
+  before_list a h = let apart = given.apart in omega (arith, apart, h)
+
+  safe_count : (a w : ℕ) → a ≡ word_place l ListLength → w ≤ space.list → w < 0x10000 → Safe a w
+  safe_count a w is h small =
+      let fits = list_fits in
+      safe_word a w small (omega (arith, is)) (before_list a (omega (arith, is))) (λ q. omega (arith, is, q)) (λ q. omega (arith, is, q))
+      (λ q. omega (arith, is, q)) (λ q. omega (arith, h, fits)) (λ q. absurd (omega (arith, is, q)))
 
   abbrev pub StoresOf : ℕ → ℕ → Type 0
   StoresOf = IsTaskStore here (some_path_writes code) space ver
@@ -162,49 +147,21 @@ module _ (run : Started) where
   task_safe a w (at_copy x h is) small = subst (λ z. Safe z w) (sym is) (safe_copy _ w small (facts.copies x h))
   task_safe a w (at_version x h is e) small = subst (λ z. Safe z w) (sym is) (safe_version _ w small e (facts.versions x h))
   task_safe a w (in_list lo hi) small =
-      let apart = given.apart in
-      let fits = list_fits in
-      safe_low a w small (omega (arith, apart, lo)) (omega (arith, apart, hi, fits)) (λ q. omega (arith, apart, lo, q))
-      (λ q. omega (arith, apart, lo, q))
-      (λ q. omega (arith, apart, lo, q)) (λ q. absurd (omega (arith, apart, lo, q))) (λ q. absurd (omega (arith, apart, lo, q)))
-  task_safe a w (at_list_length is h) small =
-      let apart = given.apart in
-      let fits = list_fits in
-      safe_low a w small (omega (arith, apart, is)) (omega (arith, apart, is)) (λ q. omega (arith, apart, is, q))
-      (λ q. omega (arith, apart, is, q))
-      (λ q. omega (arith, apart, is, q)) (λ q. omega (arith, h, fits)) (λ q. absurd (omega (arith, apart, is, q)))
+      let apart = given.apart in let fits = list_fits in safe_buffer a w small (omega (arith, lo)) (omega (arith, apart, hi, fits))
+  task_safe a w (at_list_length is h) small = safe_count a w is h small
   task_safe a w (at_emit_count is h) small =
-      let apart = given.apart in
-      safe_low a w small (omega (arith, apart, is)) (omega (arith, apart, is)) (λ q. omega (arith, apart, is, q))
-      (λ q. omega (arith, apart, is, q))
-      (λ q. omega (arith, apart, is, q)) (λ q. absurd (omega (arith, apart, is, q))) (λ q. h)
+      safe_word a w small (omega (arith, is)) (before_list a (omega (arith, is))) (λ q. omega (arith, is, q)) (λ q. omega (arith, is, q))
+      (λ q. omega (arith, is, q)) (λ q. absurd (omega (arith, is, q))) (λ q. h)
   task_safe a w (in_buffer j h is) small =
-      let apart = given.apart in
-      let fits = emits_fit in
-      safe_low a w small (omega (arith, apart, is)) (omega (arith, apart, is, h, fits)) (λ q. omega (arith, apart, is, q))
-      (λ q. omega (arith, apart, is, q))
-      (λ q. omega (arith, apart, is, q)) (λ q. absurd (omega (arith, apart, is, q))) (λ q. absurd (omega (arith, apart, is, q)))
+      let apart = given.apart in let fits = emits_fit in safe_buffer a w small (omega (arith, apart, is)) (omega (arith, apart, is, h, fits))
 
   pub transition_safe : (a w : ℕ) → IsTransitionStore here space a w → w < 0x10000 → Safe a w
   transition_safe a w (at_next_task is) small =
-      let apart = given.apart in
-      safe_low a w small (omega (arith, apart, is)) (omega (arith, apart, is)) (λ q. omega (arith, apart, is, q))
-      (λ q. omega (arith, apart, is, q))
-      (λ q. omega (arith, apart, is, q)) (λ q. absurd (omega (arith, apart, is, q))) (λ q. absurd (omega (arith, apart, is, q)))
-  transition_safe a w (transition.at_list_length is h) small =
-      let apart = given.apart in
-      let fits = list_fits in
-      safe_low a w small (omega (arith, apart, is)) (omega (arith, apart, is)) (λ q. omega (arith, apart, is, q))
-      (λ q. omega (arith, apart, is, q))
-      (λ q. omega (arith, apart, is, q)) (λ q. omega (arith, h, fits)) (λ q. absurd (omega (arith, apart, is, q)))
+      safe_word a w small (omega (arith, is)) (before_list a (omega (arith, is))) (λ q. omega (arith, is, q)) (λ q. omega (arith, is, q))
+      (λ q. omega (arith, is, q)) (λ q. absurd (omega (arith, is, q))) (λ q. absurd (omega (arith, is, q)))
+  transition_safe a w (transition.at_list_length is h) small = safe_count a w is h small
   transition_safe a w (at_sent_base is) small =
-      let apart = given.apart in
-      safe_low a w small (omega (arith, apart, is)) (omega (arith, apart, is)) (λ q. omega (arith, apart, is, q))
-      (λ q. omega (arith, apart, is, q))
-      (λ q. omega (arith, apart, is, q)) (λ q. absurd (omega (arith, apart, is, q))) (λ q. absurd (omega (arith, apart, is, q)))
+      safe_word a w small (omega (arith, is)) (before_list a (omega (arith, is))) (λ q. omega (arith, is, q)) (λ q. omega (arith, is, q))
+      (λ q. omega (arith, is, q)) (λ q. absurd (omega (arith, is, q))) (λ q. absurd (omega (arith, is, q)))
   transition_safe a w (in_entries lo hi) small =
-      let apart = given.apart in
-      let fits = list_fits in
-      safe_low a w small (omega (arith, apart, lo)) (omega (arith, apart, hi, fits)) (λ q. omega (arith, apart, lo, q))
-      (λ q. omega (arith, apart, lo, q))
-      (λ q. omega (arith, apart, lo, q)) (λ q. absurd (omega (arith, apart, lo, q))) (λ q. absurd (omega (arith, apart, lo, q)))
+      let apart = given.apart in let fits = list_fits in safe_buffer a w small (omega (arith, lo)) (omega (arith, apart, hi, fits))

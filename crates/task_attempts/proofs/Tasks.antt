@@ -1,28 +1,12 @@
 -- A task of a source by its number, and where its program stores.
-use Rattle.std.proofs.Common.{◌≡◌, ℕ, ◌+◌, ◌*◌, ◌<◌, List, [], ◌∷◌, false, length, map, Some, sym, ap, ◌∙◌, subst, ⊎_elim, arith}
-use Rattle.std.specs.Prelude.{Contains, slice_get, option_map}
-use Rattle.std.proofs.lemmas.Option.{slice_get-map, get_or_from_slice_get}
-use Rattle.layout_facts.specs.cost_bound.Counts.{CheckedBlock}
-use Rattle.layout_facts.specs.cost_bound.Allowance.{CheckedTask}
-use Rattle.layout_facts.proofs.war_analysis.Interface.{element}
-use Rattle.layout_facts.specs.source_values.Runs.{CheckedProgram, body_of, task_body}
-use Rattle.layout_facts.specs.runtime_effects.Places.{CopyPair}
-use Rattle.layout_facts.proofs.lower.Interface.{program_at}
-use Rattle.layout_facts.specs.runtime_code.LayoutPlaces.{pairs_of}
-use Rattle.layout_facts.specs.boot_runtime.Listing.{privates_in}
-use Rattle.layout_facts.specs.boot_runtime.Entries.{entry_of, task_entries}
-use Rattle.layout_facts.specs.stands_for.Layout.{IsAmong, IsCopyWord, ArePrivate}
-use Rattle.layout_facts.specs.lower.Spots.{Room}
-use Rattle.layout_facts.specs.lower.Lowered.{lowered_block}
-use Rattle.layout_facts.specs.compiled_model.Places.{program_places}
-use Rattle.layout_facts.specs.compiled_model.Parts.{task_program}
-use Rattle.layout_facts.specs.Facts.{task_room, task_places}
+use Rattle.task_attempts.proofs.Names.{◌≡◌, ℕ, ◌+◌, ◌*◌, ◌<◌, List, [], ◌∷◌, false, length, map, Some, sym, ap, ◌∙◌, subst, ⊎_elim, arith, Contains, slice_get}
+use Rattle.task_attempts.proofs.Names.{option_map, slice_get-map, get_or_from_slice_get, CheckedBlock, CheckedTask, CheckedProgram, body_of, task_body}
+use Rattle.task_attempts.proofs.Names.{CopyPair, program_at, privates_in, entry_of, task_entries, IsAmong, IsCopyWord, ArePrivate, Room, lowered_block}
+use Rattle.task_attempts.proofs.Names.{program_places, task_program, task_room, task_places, word_pair, scalars_among, PrivateScalar, MemoryMap, TaskPlace}
+use Rattle.task_attempts.proofs.Names.{scalar_words, Places}
+use Rattle.war_analysis.proofs.Interface.{element}
+use Rattle.runtime_code.specs.LayoutPlaces.{pairs_of}
 use Rattle.task_attempts.proofs.Given.{IsGiven, IsTaskGiven}
-use Rattle.layout_facts.proofs.Interface.{word_pair, scalars_among}
-use Rattle.layout_facts.specs.memory_map.declared.place.PrivateScalar.{PrivateScalar}
-use Rattle.layout_facts.specs.memory_map.MemoryMap.{MemoryMap, TaskPlace}
-use Rattle.layout_facts.specs.memory_map.Places.{scalar_words}
-use Rattle.layout_facts.specs.memory_map.Spots.{Places}
 
 -- a task of a source by its number, with its layout
 pub record IsAt (p : CheckedProgram) (l : MemoryMap) (k : ℕ) : Type 0 where

@@ -1,25 +1,12 @@
 -- The words of the variables as a task has them.
-use Rattle.std.proofs.Common.{◌≡◌, ℕ, ◌+◌, ◌*◌, ◌==◌, ◌<◌, length, Option, Some, None, Bool, true, false, refl, sym, ap, ◌∙◌, subst, ⊎_elim, eq-eqb}
-use Rattle.std.proofs.Common.{ne_eqb, if◌then◌else◌}
-use Rattle.std.proofs.lemmas.Bool.{cases_eq, cases_Bool}
-use Rattle.std.specs.Prelude.{Contains, slice_get}
-use Rattle.layout_facts.specs.cost_bound.Counts.{CheckedBlock}
-use Rattle.layout_facts.specs.lower.Seen.{some_path_writes, map_seen}
-use Rattle.layout_facts.proofs.lower.Interface.{scalar_seen, array_seen, array_read}
-use Rattle.layout_facts.specs.compiled_model.Places.{is_private_in}
-use Rattle.layout_facts.proofs.Interface.{word_of_seen}
-use Rattle.layout_facts.specs.lower.Agreement.{own_word}
+use Rattle.task_attempts.proofs.Names.{◌≡◌, ℕ, ◌+◌, ◌*◌, ◌==◌, ◌<◌, length, Option, Some, None, Bool, true, false, refl, sym, ap, ◌∙◌, subst, ⊎_elim, eq-eqb}
+use Rattle.task_attempts.proofs.Names.{ne_eqb, if◌then◌else◌, cases_eq, cases_Bool, Contains, slice_get, CheckedBlock, some_path_writes, map_seen, scalar_seen}
+use Rattle.task_attempts.proofs.Names.{array_seen, array_read, is_private_in, word_of_seen, own_word, Version, ScalarWidth, VariablePlace, Scalar, Array}
+use Rattle.task_attempts.proofs.Names.{PrivateScalar, MemoryMap, TaskPlace, word_place, scalar_words, home_region, Places, places_of, scalar_address, words_at}
+use Rattle.task_attempts.proofs.Names.{IsScalarWord, Element, IsElement, IsCopied, element_in, copy_in, version_in, element_address, copy_address}
+use Rattle.task_attempts.proofs.Names.{version_address, IsWordOf}
+use Rattle.memory_map.specs.declared.place.ArrayCopies.{ArrayCopies}
 use Rattle.task_attempts.proofs.Given.{ArePrivates}
-use Rattle.layout_facts.specs.memory_map.declared.words.RuntimeWord.TheVariants.{Version}
-use Rattle.layout_facts.specs.memory_map.declared.place.ArrayCopies.{ArrayCopies}
-use Rattle.layout_facts.specs.memory_map.declared.place.ScalarWidth.{ScalarWidth}
-use Rattle.layout_facts.specs.memory_map.declared.place.VariablePlace.{VariablePlace}
-use Rattle.layout_facts.specs.memory_map.declared.place.VariablePlace.TheVariants.{Scalar, Array}
-use Rattle.layout_facts.specs.memory_map.declared.place.PrivateScalar.{PrivateScalar}
-use Rattle.layout_facts.specs.memory_map.MemoryMap.{MemoryMap, TaskPlace, word_place}
-use Rattle.layout_facts.specs.memory_map.Places.{scalar_words, home_region}
-use Rattle.layout_facts.specs.memory_map.Spots.{Places, places_of, scalar_address, words_at, IsScalarWord, Element, IsElement, IsCopied, element_in, copy_in}
-use Rattle.layout_facts.specs.memory_map.Spots.{version_in, element_address, copy_address, version_address, IsWordOf}
 
 -- an element as an attempt has it: its copy where its version word is VER, else the element itself
 pub data OwnWord (p : Places) (f : ℕ → ℕ) (x : Element) : Type 0 where

@@ -1,24 +1,18 @@
 -- What the word programs of a source's tasks owe the crash theorem.
 use Rattle.std.specs.Prelude.{◌≡◌, ℕ, ◌<◌, ◌≤◌, List}
-use Rattle.layout_facts.specs.machine_effects.World.{World, EachStore}
-use Rattle.layout_facts.specs.machine_effects.Inputs.{Inputs, InputsAreWords}
-use Rattle.layout_facts.specs.cost_bound.declared.allowance.Allow.{Allow}
-use Rattle.layout_facts.specs.source_values.Runs.{CheckedProgram, State}
-use Rattle.layout_facts.specs.source_values.Running.{IsRunnable}
-use Rattle.layout_facts.specs.war_analysis.PlanValue.{TaskPlanValue}
-use Rattle.layout_facts.specs.memory_map.address_space.Limits.{fram_first}
-use Rattle.layout_facts.specs.memory_map.declared.words.RuntimeWord.TheVariants.{ListLength, EmitCount}
-use Rattle.layout_facts.specs.memory_map.MemoryMap.{MemoryMap, word_place}
-use Rattle.layout_facts.specs.array_versions.Behaviour.{behaviour, started}
-use Rattle.layout_facts.specs.boot_runtime.Entries.{task_entries}
-use Rattle.layout_facts.specs.boot_runtime.Listing.{privates_in}
-use Rattle.layout_facts.specs.crash_rules.Model.{ModelLaws}
-use Rattle.layout_facts.specs.stands_for.StandsFor.{UndecidedAt, StartedAt}
-use Rattle.layout_facts.specs.stands_for.Program.{TasksContract}
-use Rattle.layout_facts.specs.compiled_model.Places.{program_places}
-use Rattle.layout_facts.specs.compiled_model.View.{state_view}
-use Rattle.layout_facts.specs.compiled_model.Parts.{program_parts, compiled_model, task_program}
-use Rattle.layout_facts.specs.compiled_model.Needs.{LeavesFor}
+use Rattle.machine_effects.specs.World.{World}
+use Rattle.machine_effects.specs.Inputs.{Inputs, InputsAreWords}
+use Rattle.cost_bound.specs.declared.allowance.Allow.{Allow}
+use Rattle.source_values.specs.Runs.{CheckedProgram, State}
+use Rattle.source_values.specs.Running.{IsRunnable}
+use Rattle.war_analysis.specs.PlanValue.{TaskPlanValue}
+use Rattle.address_space.specs.Limits.{fram_first}
+use Rattle.memory_map.specs.declared.words.RuntimeWord.TheVariants.{ListLength, EmitCount}
+use Rattle.memory_map.specs.MemoryMap.{MemoryMap, word_place}
+use Rattle.array_versions.specs.Behaviour.{behaviour, started}
+use Rattle.crash_rules.specs.Model.{ModelLaws, AttemptContract}
+use Rattle.compiled_model.specs.Parts.{compiled_model, IsStarted, task_program, effects_of}
+use Rattle.compiled_model.specs.Needs.{TasksLeave, AttemptsStore}
 use Rattle.whole_programs.specs.Laws.{IsLaidOutText}
 
 -- what holds of each accepted text with a plan and a layout, whose runs go on
@@ -26,9 +20,11 @@ abbrev OfTexts : (CheckedProgram → MemoryMap → Type 0) → Type 0
 OfTexts F = (text : List ℕ) (p : CheckedProgram) (allow : Allow) (plans : List TaskPlanValue) (l : MemoryMap)
     → IsLaidOutText text p allow plans l → IsRunnable p → F p l
 
--- the word programs keep the tasks' contract
+-- the word programs keep the tasks' contract: from a started attempt on they decide, or are short exactly where the source is
 abbrev pub TasksKeepTheirContract : Type 0
-TasksKeepTheirContract = OfTexts (λ p l. TasksContract (program_places p l) (state_view p l) (privates_in (task_entries l)) (program_parts p l))
+TasksKeepTheirContract = OfTexts (λ p l. (s : State) (x : World) (inputs : Inputs) → InputsAreWords inputs → IsStarted p l s x
+    → AttemptContract (compiled_model p l) s inputs x ((compiled_model p l).task s inputs)
+    (effects_of (behaviour (task_program p l s.task) (started x.fram inputs))))
 
 -- so a compiled source has all that the crash theorem needs
 abbrev pub CompiledSourcesKeepTheLaws : Type 0
@@ -42,13 +38,10 @@ pub record IsBelowCode (l : MemoryMap) (a w : ℕ) : Type 0 where
   pub list : a ≡ word_place l ListLength → w ≤ l.entries
   pub emits : a ≡ word_place l EmitCount → w ≤ l.emits.words
 
--- an attempt from an undecided world stores nothing to the code
+-- an attempt stores nothing to the code
 abbrev pub AttemptsStoreBelowCode : Type 0
-AttemptsStoreBelowCode = OfTexts (λ p l. (s : State) (x : World) (inputs : Inputs) → InputsAreWords inputs
-    → UndecidedAt (program_places p l) (state_view p l) s x → EachStore (IsBelowCode l) ((compiled_model p l).attempt x.fram inputs).effects)
+AttemptsStoreBelowCode = OfTexts (λ p l. AttemptsStore (compiled_model p l) (IsBelowCode l))
 
 -- from a started attempt on each task leaves for the commit, or is short of readings
 abbrev pub TasksLeaveForTheCommit : Type 0
-TasksLeaveForTheCommit = OfTexts (λ p l. (s : State) (x : World) (inputs : Inputs) → InputsAreWords inputs
-    → StartedAt (program_places p l) (state_view p l) s (privates_in (task_entries l) s.task) x
-    → LeavesFor l.commit.address (behaviour (task_program p l s.task) (started x.fram inputs)).end)
+TasksLeaveForTheCommit = OfTexts TasksLeave

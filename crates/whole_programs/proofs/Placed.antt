@@ -7,7 +7,7 @@ use Rattle.std.specs.Option.{option_map}
 use Rattle.std.proofs.lemmas.Option.{slice_get-map}
 use Rattle.std.proofs.lemmas.List.Elements.{All-head, All-tail}
 use Rattle.alp_words.specs.Words.{IsWord}
-use Rattle.address_space.specs.Limits.{reset_vector}
+use Rattle.address_space.specs.Limits.{program_end}
 use Rattle.memory_map.specs.declared.words.RuntimeWord.{RuntimeWord}
 use Rattle.memory_map.specs.declared.place.Region.{Region}
 use Rattle.memory_map.specs.declared.place.ArrayCopies.{ArrayCopies}
@@ -56,14 +56,14 @@ regions_end f from (x ∷ vs) end (suc i) v h e = let s = in_order_split from (f
 module _ (l : MemoryMap) (laid : IsLaidOut l) where
   -- ---- variables
 
-  home_ends : (i : ℕ) (v : VariablePlace) → slice_get l.variables i ≡ Some v → end_of (home_region v) ≤ reset_vector
+  home_ends : (i : ℕ) (v : VariablePlace) → slice_get l.variables i ≡ Some v → end_of (home_region v) ≤ program_end
   home_ends i v e =
       let there = slice_get-map home_region l.variables i ∙ ap (option_map home_region) e in
       let a = (in_order_within l.homes.address (map home_region l.variables) (end_of l.homes) i (home_region v) laid.homes there).end in
       let b = (parts_in_fram l laid).homes.end in
       omega arith
 
-  copies_end : (i : ℕ) (v : VariablePlace) → slice_get l.variables i ≡ Some v → (low : ℕ) × (high : ℕ) × (high ≤ reset_vector)
+  copies_end : (i : ℕ) (v : VariablePlace) → slice_get l.variables i ≡ Some v → (low : ℕ) × (high : ℕ) × (high ≤ program_end)
       × AreInOrder low (copy_regions v) high
   copies_end i v e =
       let r = regions_end copy_regions l.copies.address l.variables (end_of l.copies) i v laid.copies e in
@@ -72,7 +72,7 @@ module _ (l : MemoryMap) (laid : IsLaidOut l) where
       (r.0, r.1, omega arith, r.3)
 
   versions_end : (i : ℕ) (v : VariablePlace) → slice_get l.variables i ≡ Some v
-      → (low : ℕ) × (high : ℕ) × (high ≤ reset_vector) × AreInOrder low (version_regions v) high
+      → (low : ℕ) × (high : ℕ) × (high ≤ program_end) × AreInOrder low (version_regions v) high
   versions_end i v e =
       let r = regions_end version_regions l.versions.address l.variables (end_of l.versions) i v laid.versions e in
       let a = r.2 in
@@ -80,7 +80,7 @@ module _ (l : MemoryMap) (laid : IsLaidOut l) where
       (r.0, r.1, omega arith, r.3)
 
   -- the first address of a region that ends by a low end
-  one_region : (low high a words : ℕ) → high ≤ reset_vector → AreInOrder low (record { address = a; words = words } ∷ []) high → IsWord a
+  one_region : (low high a words : ℕ) → high ≤ program_end → AreInOrder low (record { address = a; words = words } ∷ []) high → IsWord a
   one_region low high a words l h = let end = h.1 in omega arith
 
   place_of_words : (i : ℕ) (v : VariablePlace) → slice_get l.variables i ≡ Some v → PlaceOfWords (Some v)

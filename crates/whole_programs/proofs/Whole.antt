@@ -31,7 +31,7 @@ block_whole p shared b words even formed =
       record {
         locals = 256;
         room = enough;
-        fits = omega arith;
+        fits = record { fits = omega arith };
         low_locals = sound.0;
         loops_count = sound.1;
         ways = task_way p words shared even b formed.statements (safe_paths b formed.assigned) formed.ends;

@@ -10,7 +10,7 @@ use Rattle.array_versions.specs.msp_step.msp_isa.declared.operands.Konst.TheVari
 use Rattle.word_code.proofs.Registers.{Holds, Has, line, store_line, jump_with}
 use Rattle.word_code.proofs.Operands.{AreThese, compare_number}
 use Rattle.word_code.proofs.Stretches.{Setting, runs_on, dearer, so_runs}
-use Rattle.word_code.proofs.Memory.{place_is}
+use Rattle.word_code.proofs.Memory.{place_is, address_small}
 use Rattle.word_code.proofs.Follows.{StandsFor, Follows, ends_at, guarded}
 use Rattle.word_code.proofs.ListParts.{sixfold, six_times, at_offset, plus_none}
 use Rattle.word_code.proofs.Jumps.{near_distance}
@@ -173,7 +173,7 @@ module _ (z : Setting) where
         let small = f1.high in
         let four : sixfold (u.fram count) ≡ 6 * n = ap (λ f. sixfold (f count)) i.fram ∙ six_times n (omega (arith, small)) in
         let first : sixfold (u.fram count) + list ≡ at = ap (λ k. k + list) four in
-        let second : sixfold (u.fram count) + word_sum list 2 ≡ at + 2 = ap (λ k. k + word_sum list 2) four ∙ at_offset (6 * n) list 2 f2.high in
+        let second : sixfold (u.fram count) + word_sum list 2 ≡ at + 2 = ap (λ k. k + word_sum list 2) four ∙ at_offset (6 * n) list 2 (address_small f2) in
         store_line z ms (Store at home ∷ Store (at + 2) copy ∷ []) both.fram 17 (pc + 24) _ i (tt, (tt, (tt, (tt, (tt, (tt, (tt, tt))))))) h
         ((fc, tt), ((tt, tt), ((tt, tt), ((tt, tt), ((tt, tt), ((tt, subst IsFram (sym first) f1), ((tt, subst IsFram (sym second) f2), tt))))))) refl refl
         (omega (arith, i.at)) (λ e. Store (first e) home ∷ Store (second e) copy ∷ []) (λ e. put (put (i.fram e) (first e) home) (second e) copy)
@@ -185,12 +185,12 @@ module _ (z : Setting) where
         → Has z R4 pc both (6 * w.fram count) t → Runs z.code (Store (at + 4) words ∷ []) 5 t (StandsFor z (pc + form_bytes m) three))
     words_part true pc t e f h j =
         let one : 1 ≡ words = is_one words e in
-        let there : t.work 4 + word_sum list 4 ≡ at + 4 = ap (λ k. k + word_sum list 4) j.held ∙ at_offset (6 * w.fram count) list 4 f.high in
+        let there : t.work 4 + word_sum list 4 ≡ at + 4 = ap (λ k. k + word_sum list 4) j.held ∙ at_offset (6 * w.fram count) list 4 (address_small f) in
         dearer z (omega arith) (store_line z (Move (Constant konst.One) (ToIndexed R4 (word_sum list 4)) ∷ []) (Store (at + 4) words ∷ []) three.fram 4 (pc + 4)
         (StandsFor z (pc + 4) three) j.is (tt, tt) h ((tt, subst IsFram (sym there) f), tt) refl refl (omega (arith, j.is.at))
         (λ k. Store (there k) (one k) ∷ []) (λ k. put (j.is.fram k) (there k) (one k)) (λ s. s))
     words_part false pc t e f h j =
-        let there : t.work 4 + word_sum list 4 ≡ at + 4 = ap (λ k. k + word_sum list 4) j.held ∙ at_offset (6 * w.fram count) list 4 f.high in
+        let there : t.work 4 + word_sum list 4 ≡ at + 4 = ap (λ k. k + word_sum list 4) j.held ∙ at_offset (6 * w.fram count) list 4 (address_small f) in
         store_line z (Move (Number words) (ToIndexed R4 (word_sum list 4)) ∷ []) (Store (at + 4) words ∷ []) three.fram 5 (pc + 6) _ j.is (tt, tt) h
         ((tt, subst IsFram (sym there) f), tt) refl refl (omega (arith, j.is.at)) (λ k. Store (there k) words ∷ [])
         (λ k. put (j.is.fram k) (there k) words) (λ s. s)

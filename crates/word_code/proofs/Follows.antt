@@ -120,7 +120,13 @@ reach_more z owed Q most more u es _ l a = tt
 
 -- where it comes to, exactly
 exactly : (z : Setting) (es : List Effect) (most : ℕ) (u : Core) (P : Core → Type 0) (a : Runs z.code es most u P) → Runs z.code es most u (λ t. t ≡ a.end)
-exactly z es most u P a = record { steps = a.steps; cycles = a.cycles; end = a.end; within = a.within; leads = a.leads; holds = refl }
+exactly z es most u P a =
+    record {
+      steps = a.steps;
+      cycles = a.cycles;
+      within = a.within;
+      comes = record { end = a.end; leads = a.leads; forms = a.forms; holds = refl };
+    }
 
 pays_on : (z : Setting) (owed most more : ℕ) (u : Core) (P Q : Core → Type 0) (es fs : List Effect) → Runs z.code es most u P
     → ((t : Core) → P t → Pays z fs owed more t Q) → Pays z (es ++ fs) owed (most + more) u Q

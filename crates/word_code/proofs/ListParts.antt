@@ -8,7 +8,7 @@ use Rattle.word_code.proofs.Names.{put_words, mark_code, next_code, word_code, f
 use Rattle.array_versions.specs.msp_step.msp_isa.declared.instructions.Condition.TheVariants as condition
 use Rattle.array_versions.specs.msp_step.msp_isa.declared.instructions.TwoOp.TheVariants as op
 use Rattle.array_versions.specs.msp_step.msp_isa.declared.operands.Konst.TheVariants as konst
-use Rattle.word_code.proofs.Memory.{HoldsWords, place_is}
+use Rattle.word_code.proofs.Memory.{HoldsWords, place_is, address_small}
 use Rattle.word_code.proofs.Registers.{Holds, Flagged, IsZero, line, store_line, jump_with, equal_flag, jump_to}
 use Rattle.word_code.proofs.Stretches.{Setting, runs_on, dearer}
 use Rattle.word_code.proofs.Follows.{StandsFor, Follows, then_end, ends_at, guarded, more_cycles}
@@ -93,8 +93,8 @@ module _ (z : Setting) where
       let v = (u.fram list.cln + 1) % 0x10000 in
       let r = j.held in
       let pa : t.work 5 + list.list ≡ a = ap (λ q. q + list.list) r.five in
-      let pb : t.work 5 + word_sum list.list 2 ≡ a + 2 = ap (λ q. q + word_sum list.list 2) r.five ∙ at_offset n list.list 2 f2.high in
-      let pd : t.work 5 + word_sum list.list 4 ≡ a + 4 = ap (λ q. q + word_sum list.list 4) r.five ∙ at_offset n list.list 4 f3.high in
+      let pb : t.work 5 + word_sum list.list 2 ≡ a + 2 = ap (λ q. q + word_sum list.list 2) r.five ∙ at_offset n list.list 2 (address_small f2) in
+      let pd : t.work 5 + word_sum list.list 4 ≡ a + 4 = ap (λ q. q + word_sum list.list 4) r.five ∙ at_offset n list.list 4 (address_small f3) in
       let one : ℕ → ℕ = put t.fram (t.work 5 + list.list) (t.work 7) in
       let F : ℕ → ℕ = put (put one (t.work 5 + word_sum list.list 2) (t.work 4)) (t.work 5 + word_sum list.list 4) 1 in
       let fr : F ≡ u.fram = λ k. put (put (put (j.is.fram k) (pa k) (r.seven k)) (pb k) (r.four k)) (pd k) 1 in
@@ -263,7 +263,7 @@ module _ (z : Setting) where
         let high = (z.tidy (pc + 88) _ at88).high in
         let e58 : pc + 46 + 12 ≡ pc + 58 = omega arith in
         let tested = test_part words_at copies_at R4 copy (pc + 46) w (6 * n) home copy (a + 4) (a + 2) t wl (λ k. omega (arith, k)) f4 f2
-        (at_offset (6 * n) list.list 4 f4.high) (at_offset (6 * n) list.list 2 f2.high) copy_tests j.held.four small j in
+        (at_offset (6 * n) list.list 4 (address_small f4)) (at_offset (6 * n) list.list 2 (address_small f2)) copy_tests j.held.four small j in
         let on : Runs z.code [] 8 t (Flagged z (Found (6 * n) home copy) (IsZero b) (pc + 58) w) =
         subst (λ c. Runs z.code [] 8 t (Flagged z (Found (6 * n) home copy) (IsZero c) (pc + 58) w)) same
         (subst (λ p. Runs z.code [] 8 t (Flagged z (Found (6 * n) home copy) (IsZero ((2 * w.fram (a + 4) + w.fram (a + 2)) % 0x10000 == copy)) p w))
@@ -281,7 +281,7 @@ module _ (z : Setting) where
             dearer z (omega arith)
             (runs_on z on (λ u k.
             runs_on z (jump_with z condition.NotEqual 6 (pc + 58) (pc + 60) false at58 (ap not k.flag) (omega arith) k.all) (λ u k.
-            runs_on z (longer_part words_at (pc + 60) w (6 * n) home copy (a + 4) u f4 (at_offset (6 * n) list.list 4 f4.high) lengthens k) (λ u k.
+            runs_on z (longer_part words_at (pc + 60) w (6 * n) home copy (a + 4) u f4 (at_offset (6 * n) list.list 4 (address_small f4)) lengthens k) (λ u k.
             let k70 = subst (λ p. StandsFor z p (stored (a + 4) v w) u) e70 k in
             jump_to z condition.Always 10 (pc + 70) (pc + 92) true (stored (a + 4) v w) u at70 refl to k70))))
         by false on =
@@ -340,7 +340,7 @@ module _ (z : Setting) where
         then_end z (pc + 92) 30 next.effects next.end
         (subst (λ p. Runs z.code [] 8 u (Flagged z (Found (6 * n) home copy) (IsZero b) p w)) e44
         (test_part words_at list.list R7 home (pc + 32) w (6 * n) home copy (a + 4) a u wl (λ q. omega (arith, q)) f4 f1
-        (at_offset (6 * n) list.list 4 f4.high) refl home_tests j.held.seven hs j)) (λ u j.
+        (at_offset (6 * n) list.list 4 (address_small f4)) refl home_tests j.held.seven hs j)) (λ u j.
         by_home b n w home copy u wl cs e f2 f4 j))))))
 
     -- behind the first store to a copy
@@ -354,7 +354,7 @@ module _ (z : Setting) where
         let y = stored m x w in
         let next : Behaviour = listed_behind (y.fram list.cln) list e c y in
         guarded z (is_place e) (pc + 92) 58 t _ (λ g1. guarded_behind (is_place list.cln) (pc + 92) 58 t (Store m x ∷ []) next (λ g2.
-        let eh = (place_is e g1).high in
+        let eh = address_small (place_is e g1) in
         then_end z (pc + 92) 45 next.effects next.end
-        (mark_part place list pc i w t wl fm (place_is list.cln g2) eh fc.high marks is four six) (λ u j.
-        lists (y.fram list.cln) y e c u (put_words w.fram m x wl (wl list.ver)) eh fc.high refl j)))
+        (mark_part place list pc i w t wl fm (place_is list.cln g2) eh (address_small fc) marks is four six) (λ u j.
+        lists (y.fram list.cln) y e c u (put_words w.fram m x wl (wl list.ver)) eh (address_small fc) refl j)))

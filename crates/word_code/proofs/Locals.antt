@@ -18,7 +18,7 @@ mutual
   step_below k (repeat n from below p) l = (omega (arith, l), program_below k p (omega (arith, l)))
   step_below k _ l = tt
 
-  test_below : (k : ℕ) (t : Test) → test_locals t ≤ k → TestLocalsBelow k t
+  pub test_below : (k : ℕ) (t : Test) → test_locals t ≤ k → TestLocalsBelow k t
   test_below k (holds p) l = program_below k p l
   test_below k (compares o p) l = program_below k p l
   test_below k (both t u) l = (test_below k t (omega (arith, l)), test_below k u (omega (arith, l)))

@@ -2,7 +2,7 @@
 use Rattle.word_code.proofs.Names.{◌≡◌, ℕ, ◌+◌, ◌-◌, ◌*◌, ◌/◌, ◌%◌, ◌^◌, ◌<◌, ◌≤◌, Bool, true, false, nat_le, nat_lt, if◌then◌else◌, List, [], ◌∷◌, ◌++◌}
 use Rattle.word_code.proofs.Names.{length, Option, None, Some, refl, sym, ap, ap₂, ◌∙◌, subst, arith, ltb-true, nat_tests, Core, Form, R4, R6, Runs, Source}
 use Rattle.word_code.proofs.Names.{Stands, forms_bytes, Waiting, WordState, Behaviour, GoesOn, goes_on, broken, with_stack, Left, Right, shift_word, flushed}
-use Rattle.word_code.proofs.Names.{top_of, below_top, any_held, kept, top_to_four, shift_middle, PlainOperation}
+use Rattle.word_code.proofs.Names.{top_of, below_top, kept, top_to_four, shift_middle, PlainOperation}
 use Rattle.word_code.specs.declared.waiting.Waiting.TheVariants as waiting
 use Rattle.array_versions.specs.Behaviour.{with_words}
 use Rattle.array_versions.specs.Cost.{long_cycles}
@@ -15,11 +15,11 @@ use Rattle.word_code.specs.Code.{longs_lost, pair_lost, pair_to_registers, short
 use Rattle.word_code.specs.Code.{left_code, left_behind, right_shift_code, right_behind, complement_code, widen_code, long_code, long_behind}
 use Rattle.word_code.proofs.Memory.{AreWords}
 use Rattle.word_code.proofs.Stretches.{Setting, two_parts, nothing_run, so_runs, dearer}
-use Rattle.word_code.proofs.Registers.{HasWord, Holds, Has}
-use Rattle.word_code.proofs.Operands.{owed, none_held, clear_cycles, owed_kept, load_cycles, load_owed, Describes, Waits, waiting_word, head_is, words_same}
-use Rattle.word_code.proofs.Operands.{dressed, flush_part, four_part, five_part, drop_part, top_to_four_part, result_waits, waits_more}
+use Rattle.word_code.proofs.Registers.{HasWord}
+use Rattle.word_code.proofs.Operands.{owed, load_owed, Describes, waiting_word, head_is, words_same, dressed, flush_part, four_part, five_part, drop_part}
+use Rattle.word_code.proofs.Operands.{waits_more}
 use Rattle.word_code.proofs.Follows.{reach_more}
-use Rattle.word_code.proofs.Results.{Does, StepDoes, does_behind, made_waits, value_part}
+use Rattle.word_code.proofs.Results.{Does, StepDoes, Makes, Fetched, Template, template, does_behind, fetched, four_fetched, leaves_words, in_six}
 use Rattle.word_code.proofs.ShiftParts.{shift_part}
 use Rattle.word_code.proofs.LongWords.{Pair, pair, worth, pair_of, AreSmall, worth_small, high_of, low_of, sign_small, far_left_high, far_left_low, far_right}
 use Rattle.word_code.proofs.LongSides.{HasPair, HasLongs, right_cycles, pair_cycles, low_cycles, high_cycles, low_price, high_price, pair_owed, longs_owed}
@@ -123,24 +123,10 @@ two_taken P (b ∷ (a ∷ rest)) next p f = f b a rest refl
 module _ (z : Setting) where
   -- ---- longs that come to wait
 
-  -- a long in registers, and where it waits
-  made_long : (P : (ℕ → ℕ) → Type 0) (front ms : List Form) (ks : List Waiting) (l c most pc : ℕ) (w : WordState) (a : Pair) (vs : List ℕ) (u : Core)
-      → any_held ks ≡ false → length vs + 2 ≤ z.room → l + c + (owed ks + 6) ≤ most → Stands z.code pc (front ++ ms)
-      → (let mid = pc + forms_bytes front in (Stands z.code pc front → Runs z.code [] l u (Waits z ks mid (with_stack vs w) P))
-      → ((xs : List ℕ) (t : Core) → Stands z.code mid ms → Holds z P mid (with_stack xs w) t
-      → Runs z.code [] c t (Holds z (HasPair a) (mid + forms_bytes ms) (with_stack xs w)))
-      → Does z (long_waits ks) (pc + forms_bytes (front ++ ms)) most u (goes_on [] (with_stack (a.high ∷ (a.low ∷ vs)) w)))
-  made_long P front ms ks l c most pc w a vs u none room budget h come middle =
-      let mid = pc + forms_bytes front in
-      let end = mid + forms_bytes ms in
-      does_behind z {l = l} front ms (long_waits ks) (most - l) most pc u (goes_on [] (with_stack (a.high ∷ (a.low ∷ vs)) w)) (omega (arith, budget)) h
-      come (λ t s k. record {
-        spent = c;
-        within = omega (arith, budget);
-        runs = so_runs (middle k.is.rest t s (record { is = k.is.is; held = k.held })) (λ q j.
-            let low = result_waits z waiting.R4 ks end w a.low vs k.is.rest t.work q k.is.stack (tt, k.is.there) none (omega (arith, room)) j.held.four j.is in
-            waits_more z waiting.R6 (waiting.R4 ∷ ks) end (with_stack (a.low ∷ vs) w) a.high q tt j.held.six (omega (arith, room)) low);
-      })
+  -- a long in R6 and R4
+  abbrev in_pair : {w : WordState} {P : (ℕ → ℕ) → Type 0} (ms : List Form) (c : ℕ) (a : Pair) → Makes z P w ms c (HasPair a) → Template z w P
+  in_pair ms c a f =
+      leaves_words z (waiting.R6 ∷ (waiting.R4 ∷ [])) (a.high ∷ (a.low ∷ [])) (tt, (tt, tt)) (λ g q. ap₂ (λ x y. x ∷ (y ∷ [])) q.six q.four) ms c f
 
   -- all that waits is pushed first, or not
   parted_does : (lost : Bool) (os : List Waiting) (made : List Waiting → List Form) (after : List Waiting → List Waiting) (most pc : ℕ) (w : WordState)
@@ -155,105 +141,61 @@ module _ (z : Setting) where
 
   -- ---- two longs
 
-  -- an operation on two longs whose result is one
-  calculation_does : (o : PlainOperation) (os : List Waiting) (pc : ℕ) (w : WordState) (a b : Pair) (vs : List ℕ) (u : Core)
-      → w.stack ≡ b.high ∷ (b.low ∷ (a.high ∷ (a.low ∷ vs))) → AreSmall a → AreSmall b → longs_lost os ≡ false
-      → (let ms = long_sides os ++ long_calculation o (low_source os) (high_source os) in let n = plain_long o (worth a) (worth b) in
-      Stands z.code pc ms → Describes z os pc w u → Does z (long_waits (kept (below_two (below_two os)))) (pc + forms_bytes ms) (16 + owed os) u
-      (goes_on [] (with_stack (n / 0x10000 ∷ (n % 0x10000 ∷ vs)) w)))
-  calculation_does o os pc w a b vs u e la lb lost h d =
-      let x = low_source os in
-      let y = high_source os in
-      let under = below_two (below_two os) in
-      let front = long_sides os in
-      made_long (HasLongs x y a b w.fram) front (long_calculation o x y) (kept under) (clear_cycles under + (right_cycles os + pair_cycles (below_two os)))
-      (low_cycles os + high_cycles os) (16 + owed os) pc w (pair_of (plain_long o (worth a) (worth b))) vs u (none_held under)
-      (omega (arith, d.fits, ap (length {A = ℕ}) e)) (omega (arith, longs_owed os)) h (λ s. long_sides_part z os pc w a b vs u e lost s d)
-      (λ xs t s k. calculation_part z o x y (low_cycles os) (high_cycles os) (pc + forms_bytes front) a b (with_stack xs w) t la lb (low_price os)
-      (high_price os) s k)
-
-  -- a comparison of two longs
-  comparison_does : (made : Source → Source → List Form) (more v : ℕ) (os : List Waiting) (pc : ℕ) (w : WordState) (a b : Pair) (vs : List ℕ) (u : Core)
-      → w.stack ≡ b.high ∷ (b.low ∷ (a.high ∷ (a.low ∷ vs))) → longs_lost os ≡ false
-      → (let x = low_source os in let y = high_source os in let ms = long_sides os ++ made x y in let mid = pc + forms_bytes (long_sides os) in
-      Stands z.code pc ms → Describes z os pc w u
-      → ((xs : List ℕ) (t : Core) → Stands z.code mid (made x y) → Holds z (HasLongs x y a b w.fram) mid (with_stack xs w) t
-      → Runs z.code [] (low_cycles os + high_cycles os + more) t (Has z R6 (mid + forms_bytes (made x y)) (with_stack xs w) v))
-      → Does z (waiting.R6 ∷ kept (below_two (below_two os))) (pc + forms_bytes ms) (13 + more + owed os) u (goes_on [] (with_stack (v ∷ vs) w)))
-  comparison_does made more v os pc w a b vs u e lost h d middle =
-      let x = low_source os in
-      let y = high_source os in
-      let under = below_two (below_two os) in
-      made_waits z (HasLongs x y a b w.fram) R6 waiting.R6 (long_sides os) (made x y) (kept under)
-      (clear_cycles under + (right_cycles os + pair_cycles (below_two os))) (low_cycles os + high_cycles os + more) (13 + more + owed os) pc w v vs u
-      (none_held under) tt (omega (arith, d.fits, ap (length {A = ℕ}) e)) (omega (arith, longs_owed os)) (λ f. refl) h
-      (λ s. long_sides_part z os pc w a b vs u e lost s d) middle
-
-  -- two longs on the stack, their words being words
+  -- two longs on the stack
   abbrev pub TwoLongs : WordState → Pair → Pair → List ℕ → Type 0
   TwoLongs w a b vs = w.stack ≡ b.high ∷ (b.low ∷ (a.high ∷ (a.low ∷ vs)))
 
-  calculation_reaches : (o : PlainOperation) (os : List Waiting) (pc : ℕ) (w : WordState) (a b : Pair) (vs : List ℕ) (u : Core) → TwoLongs w a b vs
-      → AreSmall a → AreSmall b → (let n = plain_long o (worth a) (worth b) in StepDoes z [] os (long (with_longs.Calculate o)) 16 pc w u
-      (goes_on [] (with_stack (n / 0x10000 ∷ (n % 0x10000 ∷ vs)) w)))
-  calculation_reaches o os pc w a b vs u e la lb h d =
-      let n = plain_long o (worth a) (worth b) in
-      parted_does (longs_lost os) os (λ ps. long_sides ps ++ long_calculation o (low_source ps) (high_source ps))
-      (λ ps. long_waits (kept (below_two (below_two ps)))) 16 pc w u (goes_on [] (with_stack (n / 0x10000 ∷ (n % 0x10000 ∷ vs)) w)) h d
-      (λ p t s k. calculation_does o (parting (longs_lost os) os) p w a b vs t e la lb (parted_longs (longs_lost os) os refl) s k)
+  module _ (w : WordState) (a b : Pair) (vs : List ℕ) (e : TwoLongs w a b vs) (la : AreSmall a) (lb : AreSmall b) where
+    -- the left one comes to registers, and the right one to where it is read
+    abbrev longs_fetched : (os : List Waiting) (pc : ℕ) (u : Core) → longs_lost os ≡ false → Describes z os pc w u
+        → Fetched z pc w vs u (HasLongs (low_source os) (high_source os) a b w.fram)
+    longs_fetched os pc u lost d =
+        fetched z (long_sides os) (below_two (below_two os)) (right_cycles os + pair_cycles (below_two os)) 4
+        (omega (arith, d.fits, ap (length {A = ℕ}) e)) (λ s. long_sides_part z os pc w a b vs u e lost s d)
 
-  below_reaches : (os : List Waiting) (pc : ℕ) (w : WordState) (a b : Pair) (vs : List ℕ) (u : Core) → TwoLongs w a b vs → AreSmall a → AreSmall b
-      → StepDoes z [] os (long with_longs.Below) 14 pc w u (goes_on [] (with_stack (all_bits (nat_lt (worth a) (worth b)) ∷ vs) w))
-  below_reaches os pc w a b vs u e la lb h d =
-      let v = all_bits (nat_lt (worth a) (worth b)) in
-      let qs = parting (longs_lost os) os in
-      parted_does (longs_lost os) os (λ ps. long_sides ps ++ below_code (low_source ps) (high_source ps)) (λ ps. waiting.R6 ∷ kept (below_two (below_two ps)))
-      14 pc w u (goes_on [] (with_stack (v ∷ vs) w)) h d
-      (λ p t s k. comparison_does below_code 1 v qs p w a b vs t e (parted_longs (longs_lost os) os refl) s k (λ xs q r j.
-      below_part z (low_source qs) (high_source qs) (low_cycles qs) (high_cycles qs) (p + forms_bytes (long_sides qs)) a b (with_stack xs w) q la lb
-      (low_price qs) (high_price qs) r j))
+    calculation_reaches : (o : PlainOperation) (os : List Waiting) (pc : ℕ) (u : Core) → (let n = plain_long o (worth a) (worth b) in
+        StepDoes z [] os (long (with_longs.Calculate o)) 16 pc w u (goes_on [] (with_stack (n / 0x10000 ∷ (n % 0x10000 ∷ vs)) w)))
+    calculation_reaches o os pc u h d =
+        let lost = longs_lost os in
+        let n = plain_long o (worth a) (worth b) in
+        parted_does lost os (λ ps. long_sides ps ++ long_calculation o (low_source ps) (high_source ps)) (λ ps. long_waits (kept (below_two (below_two ps))))
+        16 pc w u (goes_on [] (with_stack (n / 0x10000 ∷ (n % 0x10000 ∷ vs)) w)) h d (λ p t s k.
+        let qs = parting lost os in
+        let x = low_source qs in let y = high_source qs in
+        let reads = low_cycles qs in let reads_high = high_cycles qs in
+        template z (longs_fetched qs p t (parted_longs lost os refl) k) (in_pair (long_calculation o x y) (reads + reads_high) (pair_of n) (λ q xs r s k.
+        calculation_part z x y reads reads_high (low_price qs) (high_price qs) b (with_stack xs w) o q a r la lb s k))
+        (16 + owed qs) (omega arith) (omega (arith, longs_owed qs)) s)
 
-  above_reaches : (os : List Waiting) (pc : ℕ) (w : WordState) (a b : Pair) (vs : List ℕ) (u : Core) → TwoLongs w a b vs → AreSmall a → AreSmall b
-      → StepDoes z [] os (long with_longs.Above) 16 pc w u (goes_on [] (with_stack (all_bits (nat_lt (worth b) (worth a)) ∷ vs) w))
-  above_reaches os pc w a b vs u e la lb h d =
-      let v = all_bits (nat_lt (worth b) (worth a)) in
-      let qs = parting (longs_lost os) os in
-      parted_does (longs_lost os) os (λ ps. long_sides ps ++ above_code (low_source ps) (high_source ps)) (λ ps. waiting.R6 ∷ kept (below_two (below_two ps)))
-      16 pc w u (goes_on [] (with_stack (v ∷ vs) w)) h d
-      (λ p t s k. comparison_does above_code 3 v qs p w a b vs t e (parted_longs (longs_lost os) os refl) s k (λ xs q r j.
-      dearer z (omega arith)
-      (above_part z (low_source qs) (high_source qs) (low_cycles qs) (high_cycles qs) (p + forms_bytes (long_sides qs)) a b (with_stack xs w) q la lb
-      (low_price qs) (high_price qs) r j)))
+    -- a comparison, which leaves a word in R6
+    comparison_does : (made : Source → Source → List Form) (more most v : ℕ) (os : List Waiting) (pc : ℕ) (u : Core) → 13 + more ≤ most
+        → (let qs = parting (longs_lost os) os in let x = low_source qs in let y = high_source qs in
+        Makes z (HasLongs x y a b w.fram) w (made x y) (low_cycles qs + high_cycles qs + more) (HasWord R6 v)
+        → Stands z.code pc (parted (longs_lost os) os ++ (long_sides qs ++ made x y)) → Describes z os pc w u
+        → Does z (waiting.R6 ∷ kept (below_two (below_two qs))) (pc + forms_bytes (parted (longs_lost os) os ++ (long_sides qs ++ made x y))) (most + owed os) u
+        (goes_on [] (with_stack (v ∷ vs) w)))
+    comparison_does made more most v os pc u l makes h d =
+        let lost = longs_lost os in
+        let qs = parting lost os in
+        parted_does lost os (λ ps. long_sides ps ++ made (low_source ps) (high_source ps)) (λ ps. waiting.R6 ∷ kept (below_two (below_two ps)))
+        most pc w u (goes_on [] (with_stack (v ∷ vs) w)) h d (λ p t s k.
+        template z (longs_fetched qs p t (parted_longs lost os refl) k)
+        (in_six z (made (low_source qs) (high_source qs)) (low_cycles qs + high_cycles qs + more) v makes)
+        (most + owed qs) (omega arith) (omega (arith, l, longs_owed qs)) s)
 
-  -- ---- one long
+    below_reaches : (os : List Waiting) (pc : ℕ) (u : Core)
+        → StepDoes z [] os (long with_longs.Below) 14 pc w u (goes_on [] (with_stack (all_bits (nat_lt (worth a) (worth b)) ∷ vs) w))
+    below_reaches os pc u h d =
+        let qs = parting (longs_lost os) os in
+        comparison_does below_code 1 14 (all_bits (nat_lt (worth a) (worth b))) os pc u (omega arith) (λ p xs t s k.
+        below_part z (low_source qs) (high_source qs) (low_cycles qs) (high_cycles qs) (low_price qs) (high_price qs) b (with_stack xs w) p a t la lb s k) h d
 
-  -- what is made of the long on top in R6 and R4
-  pair_does : (c : ℕ) (ms : List Form) (n : ℕ) (os : List Waiting) (pc : ℕ) (w : WordState) (a : Pair) (vs : List ℕ) (u : Core)
-      → w.stack ≡ a.high ∷ (a.low ∷ vs)
-      → pair_lost os ≡ false → ((p : ℕ) (xs : List ℕ) (t : Core) → Stands z.code p ms → Holds z (HasPair a) p (with_stack xs w) t
-      → Runs z.code [] c t (Holds z (HasPair (pair_of n)) (p + forms_bytes ms) (with_stack xs w)))
-      → Stands z.code pc (pair_to_registers os ++ ms) → Describes z os pc w u
-      → Does z (long_waits (kept (below_two os))) (pc + forms_bytes (pair_to_registers os ++ ms)) (10 + c + owed os) u
-      (goes_on [] (with_stack (n / 0x10000 ∷ (n % 0x10000 ∷ vs)) w))
-  pair_does c ms n os pc w a vs u e lost middle h d =
-      let under = below_two os in
-      made_long (HasPair a) (pair_to_registers os) ms (kept under) (clear_cycles under + pair_cycles os) c (10 + c + owed os) pc w (pair_of n) vs u
-      (none_held under) (omega (arith, d.fits, ap (length {A = ℕ}) e)) (omega (arith, owed_kept under, pair_owed os)) h
-      (λ s. pair_to_registers_part z os pc w a vs u e lost s d) (λ xs t s k. middle (pc + forms_bytes (pair_to_registers os)) xs t s k)
-
-  short_reaches : (c : ℕ) (ms : List Form) (f : ℕ → ℕ) (os : List Waiting) (pc : ℕ) (w : WordState) (a : Pair) (vs : List ℕ) (u : Core)
-      → LongTurns z ms c 0x100000000 f → w.stack ≡ a.high ∷ (a.low ∷ vs) → AreSmall a → Stands z.code pc (short_code os ms) → Describes z os pc w u
-      → (let n = f (worth a) in Does z (short_behind os) (pc + forms_bytes (short_code os ms)) (10 + c + owed os) u
-      (goes_on [] (with_stack (n / 0x10000 ∷ (n % 0x10000 ∷ vs)) w)))
-  short_reaches c ms f os pc w a vs u turns e la h d =
-      let n = f (worth a) in
-      parted_does (pair_lost os) os (λ ps. pair_to_registers ps ++ ms) (λ ps. long_waits (kept (below_two ps))) (10 + c) pc w u
-      (goes_on [] (with_stack (n / 0x10000 ∷ (n % 0x10000 ∷ vs)) w)) h d
-      (λ p t s k. pair_does c ms n (parting (pair_lost os) os) p w a vs t e (parted_pair (pair_lost os) os refl)
-      (λ q xs r x j. turns q (worth a) (with_stack xs w) r (worth_small a la) x (record { is = j.is; held = as_worth a r.work la j.held })) s k)
-    where
-      as_worth : (a : Pair) (g : ℕ → ℕ) → AreSmall a → HasPair a g → HasPair (pair_of (worth a)) g
-      as_worth a g s k = let l = s.low in record { four = k.four ∙ omega arith; six = k.six ∙ omega arith }
+    above_reaches : (os : List Waiting) (pc : ℕ) (u : Core)
+        → StepDoes z [] os (long with_longs.Above) 16 pc w u (goes_on [] (with_stack (all_bits (nat_lt (worth b) (worth a)) ∷ vs) w))
+    above_reaches os pc u h d =
+        let qs = parting (longs_lost os) os in
+        comparison_does above_code 3 16 (all_bits (nat_lt (worth b) (worth a))) os pc u (omega arith) (λ p xs t s k. dearer z (omega arith)
+        (above_part z (low_source qs) (high_source qs) (low_cycles qs) (high_cycles qs) (low_price qs) (high_price qs) b (with_stack xs w) p a t la lb s k)) h d
 
   -- ---- words that go, and words that come
 
@@ -291,143 +233,117 @@ module _ (z : Setting) where
       nothing_run z (subst (λ n. Describes z (o ∷ os) n (with_stack (v ∷ vs) w) u) same
       (waits_more z o os pc (with_stack vs w) v u d.there.0 k.1 room left))
 
-  -- 0 below a result in R4
-  zero_below : (ks : List Waiting) (pc most : ℕ) (w : WordState) (r : ℕ) (vs : List ℕ) (u : Core) → length vs + 2 ≤ z.room
-      → Does z (waiting.R4 ∷ ks) pc most u (goes_on [] (with_stack (r ∷ vs) w))
-      → Does z (waiting.R4 ∷ (waiting.Number 0 ∷ ks)) pc (most + 4) u (goes_on [] (with_stack (r ∷ (0 ∷ vs)) w))
-  zero_below ks pc most w r vs u room a =
-      record {
-        spent = a.spent;
-        within = omega (arith, a.within);
-        runs = so_runs a.runs (λ t d.
-            let k = drop_part z waiting.R4 ks pc (with_stack (r ∷ vs) w) r vs t refl d in
-            let zero = waits_more z (waiting.Number 0) ks pc (with_stack vs w) 0 t tt refl (omega (arith, room)) k.0 in
-            waits_more z waiting.R4 (waiting.Number 0 ∷ ks) pc (with_stack (0 ∷ vs) w) r t tt k.1 (omega (arith, room)) zero);
-      }
+  -- ---- one long
 
-  -- 0 on top of it
-  zero_above : (ks : List Waiting) (pc most : ℕ) (w : WordState) (r : ℕ) (vs : List ℕ) (u : Core) → length vs + 2 ≤ z.room
-      → Does z (waiting.R4 ∷ ks) pc most u (goes_on [] (with_stack (r ∷ vs) w))
-      → Does z (waiting.Number 0 ∷ (waiting.R4 ∷ ks)) pc (most + 4) u (goes_on [] (with_stack (0 ∷ (r ∷ vs)) w))
-  zero_above ks pc most w r vs u room a =
-      record {
-        spent = a.spent;
-        within = omega (arith, a.within);
-        runs = so_runs a.runs (λ t d.
-            waits_more z (waiting.Number 0) (waiting.R4 ∷ ks) pc (with_stack (r ∷ vs) w) 0 t tt refl (omega (arith, room)) d);
-      }
+  -- it comes to R6 and R4
+  abbrev pair_fetched : (os : List Waiting) (pc : ℕ) (w : WordState) (a : Pair) (vs : List ℕ) (u : Core) → w.stack ≡ a.high ∷ (a.low ∷ vs)
+      → pair_lost os ≡ false → Describes z os pc w u → Fetched z pc w vs u (HasPair a)
+  pair_fetched os pc w a vs u e lost d =
+      fetched z (pair_to_registers os) (below_two os) (pair_cycles os) 2 (omega (arith, d.fits, ap (length {A = ℕ}) e))
+      (λ s. pair_to_registers_part z os pc w a vs u e lost s d)
 
-  -- ---- shifts
+  module _ (w : WordState) (a : Pair) (vs : List ℕ) (e : w.stack ≡ a.high ∷ (a.low ∷ vs)) (la : AreSmall a) where
+    -- what code leaves of it, where such words wait behind it
+    abbrev LeavesLong : List Waiting → List Form → ℕ → ℕ → List Waiting → ℕ → Core → Type 0
+    LeavesLong after ms n most os pc u = Stands z.code pc ms → Describes z os pc w u
+        → Does z after (pc + forms_bytes ms) (most + owed os) u (goes_on [] (with_stack (n / 0x10000 ∷ (n % 0x10000 ∷ vs)) w))
 
-  far_left : (k : ℕ) (os : List Waiting) (pc : ℕ) (w : WordState) (a : Pair) (vs : List ℕ) (u : Core) → w.stack ≡ a.high ∷ (a.low ∷ vs) → AreSmall a
-      → Stands z.code pc (left_code false os k) → Describes z os pc w u
-      → Does z (left_behind false os) (pc + forms_bytes (left_code false os k)) (32 + owed os) u
-      (goes_on [] (with_stack (shift_word Left a.low (k - 16) ∷ (0 ∷ vs)) w))
-  far_left k os pc w a vs u e la h d =
-      let r = shift_word Left a.low (k - 16) in
-      let under = below_top os in
-      let ks = kept (below_top under) in
-      let front = dropped (top_of os) in
-      let four = top_to_four under in
-      let ms = shift_middle Left (k - 16) in
-      let mid = pc + forms_bytes front in
-      let left = with_stack (a.low ∷ vs) w in
-      let last = pc + forms_bytes (front ++ (four ++ ms)) in
-      reach_more z (owed (left_behind false os)) (Describes z (left_behind false os) last) (28 + owed os + 4) (32 + owed os) u []
-      (GoesOn (with_stack (r ∷ (0 ∷ vs)) w)) (omega arith)
-      (zero_below ks last (28 + owed os) w r vs u (omega (arith, d.fits, ap (length {A = ℕ}) e))
-      (does_behind z front (four ++ ms) (waiting.R4 ∷ ks) (15 + owed under) (28 + owed os) pc u (goes_on [] (with_stack (r ∷ vs) w))
-      (omega (arith, pop_owed os)) h (λ s. dropped_part os pc w a.high (a.low ∷ vs) u e s d)
-      (λ t s j. value_part z R4 four ms 10 15 r (omega arith) refl j s (λ s. top_to_four_part z under mid left a.low vs t refl s j)
-      (λ xs q s i. shift_part z Left (k - 16) (mid + forms_bytes four) a.low (with_stack xs w) q la.low s i))))
+    as_worth : (g : ℕ → ℕ) → HasPair a g → HasPair (pair_of (worth a)) g
+    as_worth g k = let low = la.low in record { four = k.four ∙ omega arith; six = k.six ∙ omega arith }
 
-  far_right_reaches : (k : ℕ) (os : List Waiting) (pc : ℕ) (w : WordState) (a : Pair) (vs : List ℕ) (u : Core) → w.stack ≡ a.high ∷ (a.low ∷ vs)
-      → AreSmall a → Stands z.code pc (right_shift_code false os k) → Describes z os pc w u
-      → Does z (right_behind false os) (pc + forms_bytes (right_shift_code false os k)) (32 + owed os) u
-      (goes_on [] (with_stack (0 ∷ (shift_word Right a.high (k - 16) ∷ vs)) w))
-  far_right_reaches k os pc w a vs u e la h d =
-      let r = shift_word Right a.high (k - 16) in
-      let under = high_behind os in
-      let ks = kept (below_top under) in
-      let front = high_code os in
-      let four = top_to_four under in
-      let ms = shift_middle Right (k - 16) in
-      let mid = pc + forms_bytes front in
-      let left = with_stack (a.high ∷ vs) w in
-      let last = pc + forms_bytes (front ++ (four ++ ms)) in
-      reach_more z (owed (right_behind false os)) (Describes z (right_behind false os) last) (28 + owed os + 4) (32 + owed os) u []
-      (GoesOn (with_stack (0 ∷ (r ∷ vs)) w)) (omega arith)
-      (zero_above ks last (28 + owed os) w r vs u (omega (arith, d.fits, ap (length {A = ℕ}) e))
-      (does_behind z front (four ++ ms) (waiting.R4 ∷ ks) (15 + owed under) (28 + owed os) pc u (goes_on [] (with_stack (r ∷ vs) w))
-      (omega (arith, high_owed os)) h (λ s. high_part os pc w a.high a.low vs u e s d)
-      (λ t s j. value_part z R4 four ms 10 15 r (omega arith) refl j s (λ s. top_to_four_part z under mid left a.high vs t refl s j)
-      (λ xs q s i. shift_part z Right (k - 16) (mid + forms_bytes four) a.high (with_stack xs w) q la.high s i))))
+    short_reaches : (c : ℕ) (ms : List Form) (f : ℕ → ℕ) → LongTurns z ms c 0x100000000 f → (os : List Waiting) (pc : ℕ) (u : Core)
+        → LeavesLong (short_behind os) (short_code os ms) (f (worth a)) (10 + c) os pc u
+    short_reaches c ms f turns os pc u h d =
+        let n = f (worth a) in
+        let lost = pair_lost os in
+        parted_does lost os (λ ps. pair_to_registers ps ++ ms) (λ ps. long_waits (kept (below_two ps))) (10 + c) pc w u
+        (goes_on [] (with_stack (n / 0x10000 ∷ (n % 0x10000 ∷ vs)) w)) h d (λ p t s k.
+        let qs = parting lost os in
+        template z (pair_fetched qs p w a vs t e (parted_pair lost os refl) k) (in_pair ms c (pair_of n) (λ q xs r x j.
+        turns q (worth a) (with_stack xs w) r (worth_small a la) x (record { is = j.is; held = as_worth r.work j.held })))
+        (10 + c + owed qs) (omega arith) (omega (arith, pair_owed qs)) s)
 
-  -- a result by its words
-  as_words : {after : List Waiting} {end most : ℕ} {u : Core} (w : WordState) (v y x t : ℕ) (vs : List ℕ) → v ≡ x → y ≡ t
-      → Does z after end most u (goes_on [] (with_stack (x ∷ (t ∷ vs)) w)) → Does z after end most u (goes_on [] (with_stack (v ∷ (y ∷ vs)) w))
-  as_words {after} {end} {most} {u} w v y x t vs e f a =
-      subst (λ xs. Does z after end most u (goes_on [] (with_stack xs w))) (sym (ap₂ (λ m n. m ∷ (n ∷ vs)) e f)) a
+    -- by 16 bits and more: one word of it is shifted, and the other one is 0
+    far_left : (k : ℕ) (os : List Waiting) (pc : ℕ) (u : Core) → 16 ≤ k
+        → LeavesLong (left_behind false os) (left_code false os k) (long_to_left (worth a) k) 32 os pc u
+    far_left k os pc u m h d =
+        let n = long_to_left (worth a) k in
+        let under = below_top os in
+        let left = with_stack (a.low ∷ vs) w in
+        let ms = shift_middle Left (k - 16) in
+        let is = left_words k a.low a.high m la.low la.high in
+        let room : 2 + length vs ≤ z.room = omega (arith, d.fits, ap (length {A = ℕ}) e) in
+        does_behind z (dropped (top_of os)) (top_to_four under ++ ms) (left_behind false os) (19 + owed under) (32 + owed os) pc u
+        (goes_on [] (with_stack (n / 0x10000 ∷ (n % 0x10000 ∷ vs)) w)) (omega (arith, pop_owed os)) h
+        (λ s. dropped_part os pc w a.high (a.low ∷ vs) u e s d) (λ t s j.
+        template z (record (four_fetched z under (pc + forms_bytes (dropped (top_of os))) left a.low vs t refl j) { taken = 2; room = room })
+        (leaves_words z {Q = HasWord R4 (shift_word Left a.low (k - 16))} (waiting.R4 ∷ (waiting.Number 0 ∷ [])) (n / 0x10000 ∷ (n % 0x10000 ∷ []))
+        (tt, (tt, tt)) (λ g q. ap₂ (λ x y. x ∷ (y ∷ [])) (q ∙ sym is.0) (sym is.1)) ms 10
+        (λ p xs r x i. shift_part z Left (k - 16) p a.low (with_stack xs left) r la.low x i))
+        (19 + owed under) (omega arith) (omega (arith, load_owed under)) s)
 
-  left_reaches : (b : Bool) (k : ℕ) (os : List Waiting) (pc : ℕ) (w : WordState) (a : Pair) (vs : List ℕ) (u : Core) → nat_lt k 16 ≡ b
-      → w.stack ≡ a.high ∷ (a.low ∷ vs) → AreSmall a → Stands z.code pc (left_code b os k) → Describes z os pc w u
-      → (let n = long_to_left (worth a) k in Does z (left_behind b os) (pc + forms_bytes (left_code b os k)) (32 + owed os) u
-      (goes_on [] (with_stack (n / 0x10000 ∷ (n % 0x10000 ∷ vs)) w)))
-  left_reaches true k os pc w a vs u few e la h d =
-      short_reaches 22 (left_by k) (λ n. long_to_left n k) os pc w a vs u (left_part z k (ltb-true k 16 few)) e la h d
-  left_reaches false k os pc w a vs u few e la h d =
-      let m : 16 ≤ k = grind (arith, nat_tests) in
-      let is = left_words k a.low a.high m la.low la.high in
-      as_words w _ _ _ _ vs is.0 is.1 (far_left k os pc w a vs u e la h d)
+    far_right_reaches : (k : ℕ) (os : List Waiting) (pc : ℕ) (u : Core) → 16 ≤ k
+        → LeavesLong (right_behind false os) (right_shift_code false os k) (long_to_right (worth a) k) 32 os pc u
+    far_right_reaches k os pc u m h d =
+        let n = long_to_right (worth a) k in
+        let under = high_behind os in
+        let left = with_stack (a.high ∷ vs) w in
+        let ms = shift_middle Right (k - 16) in
+        let is = right_words k a.low a.high m la.low la.high in
+        let room : 2 + length vs ≤ z.room = omega (arith, d.fits, ap (length {A = ℕ}) e) in
+        does_behind z (high_code os) (top_to_four under ++ ms) (right_behind false os) (19 + owed under) (32 + owed os) pc u
+        (goes_on [] (with_stack (n / 0x10000 ∷ (n % 0x10000 ∷ vs)) w)) (omega (arith, high_owed os)) h
+        (λ s. high_part os pc w a.high a.low vs u e s d) (λ t s j.
+        template z (record (four_fetched z under (pc + forms_bytes (high_code os)) left a.high vs t refl j) { taken = 2; room = room })
+        (leaves_words z {Q = HasWord R4 (shift_word Right a.high (k - 16))} (waiting.Number 0 ∷ (waiting.R4 ∷ [])) (n / 0x10000 ∷ (n % 0x10000 ∷ []))
+        (tt, (tt, tt)) (λ g q. ap₂ (λ x y. x ∷ (y ∷ [])) (sym is.0) (q ∙ sym is.1)) ms 10
+        (λ p xs r x i. shift_part z Right (k - 16) p a.high (with_stack xs left) r la.high x i))
+        (19 + owed under) (omega arith) (omega (arith, load_owed under)) s)
 
-  right_reaches : (b : Bool) (k : ℕ) (os : List Waiting) (pc : ℕ) (w : WordState) (a : Pair) (vs : List ℕ) (u : Core) → nat_lt k 16 ≡ b
-      → w.stack ≡ a.high ∷ (a.low ∷ vs) → AreSmall a → Stands z.code pc (right_shift_code b os k) → Describes z os pc w u
-      → (let n = long_to_right (worth a) k in Does z (right_behind b os) (pc + forms_bytes (right_shift_code b os k)) (32 + owed os) u
-      (goes_on [] (with_stack (n / 0x10000 ∷ (n % 0x10000 ∷ vs)) w)))
-  right_reaches true k os pc w a vs u few e la h d =
-      short_reaches 22 (right_by k) (λ n. long_to_right n k) os pc w a vs u (right_part z k (ltb-true k 16 few)) e la h d
-  right_reaches false k os pc w a vs u few e la h d =
-      let m : 16 ≤ k = grind (arith, nat_tests) in
-      let is = right_words k a.low a.high m la.low la.high in
-      as_words w _ _ _ _ vs is.0 is.1 (far_right_reaches k os pc w a vs u e la h d)
+    left_reaches : (b : Bool) (k : ℕ) (os : List Waiting) (pc : ℕ) (u : Core) → nat_lt k 16 ≡ b
+        → LeavesLong (left_behind b os) (left_code b os k) (long_to_left (worth a) k) 32 os pc u
+    left_reaches true k os pc u few h d = short_reaches 22 (left_by k) (λ n. long_to_left n k) (left_part z k (ltb-true k 16 few)) os pc u h d
+    left_reaches false k os pc u few h d = let m : 16 ≤ k = grind (arith, nat_tests) in far_left k os pc u m h d
 
-  complement_reaches : (os : List Waiting) (pc : ℕ) (w : WordState) (a : Pair) (vs : List ℕ) (u : Core) → w.stack ≡ a.high ∷ (a.low ∷ vs) → AreSmall a
-      → (let n = 4294967295 - worth a in
-      StepDoes z [] os (long with_longs.Complement) 16 pc w u (goes_on [] (with_stack (n / 0x10000 ∷ (n % 0x10000 ∷ vs)) w)))
-  complement_reaches os pc w a vs u e la h d =
-      let made = short_reaches 2 complement_code (λ n. 4294967295 - n) os pc w a vs u (complement_part z) e la h d in
-      let n = 4294967295 - worth a in
-      reach_more z (owed (short_behind os)) (Describes z (short_behind os) (pc + forms_bytes (short_code os complement_code))) (12 + owed os) (16 + owed os)
-      u []
-      (GoesOn (with_stack (n / 0x10000 ∷ (n % 0x10000 ∷ vs)) w)) (omega arith) made
+    right_reaches : (b : Bool) (k : ℕ) (os : List Waiting) (pc : ℕ) (u : Core) → nat_lt k 16 ≡ b
+        → LeavesLong (right_behind b os) (right_shift_code b os k) (long_to_right (worth a) k) 32 os pc u
+    right_reaches true k os pc u few h d = short_reaches 22 (right_by k) (λ n. long_to_right n k) (right_part z k (ltb-true k 16 few)) os pc u h d
+    right_reaches false k os pc u few h d = let m : 16 ≤ k = grind (arith, nat_tests) in far_right_reaches k os pc u m h d
+
+    complement_reaches : (os : List Waiting) (pc : ℕ) (u : Core)
+        → LeavesLong (short_behind os) (short_code os complement_code) (4294967295 - worth a) 16 os pc u
+    complement_reaches os pc u h d =
+        let n = 4294967295 - worth a in
+        reach_more z (owed (short_behind os)) (Describes z (short_behind os) (pc + forms_bytes (short_code os complement_code))) (12 + owed os)
+        (16 + owed os) u [] (GoesOn (with_stack (n / 0x10000 ∷ (n % 0x10000 ∷ vs)) w)) (omega arith)
+        (short_reaches 2 complement_code (λ m. 4294967295 - m) (complement_part z) os pc u h d)
+
+    -- two words that are one long already
+    join_reaches : (os : List Waiting) (pc : ℕ) (u : Core) → LeavesLong os [] (worth a) 0 os pc u
+    join_reaches os pc u h d =
+        let same : pc ≡ pc + 0 = omega arith in
+        let is = e ∙ ap₂ (λ x y. x ∷ (y ∷ vs)) (sym (high_of a la)) (sym (low_of a la)) in
+        let n = worth a in
+        let there = subst (λ l. Describes z os pc (with_stack l w) u) is d in
+        record {
+          spent = 0;
+          within = omega arith;
+          runs = nothing_run z (subst (λ p. Describes z os p (with_stack (n / 0x10000 ∷ (n % 0x10000 ∷ vs)) w) u) same there);
+        }
 
   -- ---- one word and two
-
-  -- two words that are one long already
-  join_reaches : (os : List Waiting) (pc : ℕ) (w : WordState) (a : Pair) (vs : List ℕ) (u : Core) → w.stack ≡ a.high ∷ (a.low ∷ vs) → AreSmall a
-      → (let n = worth a in
-      StepDoes z [] os (long with_longs.Join) 0 pc w u (goes_on [] (with_stack (n / 0x10000 ∷ (n % 0x10000 ∷ vs)) w)))
-  join_reaches os pc w a vs u e la h d =
-      let same : pc ≡ pc + 0 = omega arith in
-      let there = subst (λ l. Describes z os pc (with_stack l w) u) e d in
-      as_words w _ _ _ _ vs (high_of a la) (low_of a la)
-      (record {
-        spent = 0;
-        within = omega arith;
-        runs = nothing_run z (subst (λ p. Describes z os p (with_stack (a.high ∷ (a.low ∷ vs)) w) u) same there);
-      })
 
   widen_reaches : (os : List Waiting) (pc : ℕ) (w : WordState) (y : ℕ) (vs : List ℕ) (u : Core) → w.stack ≡ y ∷ vs → y < 0x10000 → length vs + 2 ≤ z.room
       → (let n = two_words y (sign_word y) in
       StepDoes z [] os (long with_longs.Widen) 12 pc w u (goes_on [] (with_stack (n / 0x10000 ∷ (n % 0x10000 ∷ vs)) w)))
   widen_reaches os pc w y vs u e l room h d =
-      let under = below_top os in
       let a = pair y (sign_word y) in
+      let n = worth a in
       let small : AreSmall a = record { low = l; high = sign_small y } in
-      as_words w _ _ _ _ vs (high_of a small) (low_of a small)
-      (made_long (HasWord R4 y) (top_to_four os) widen_code (kept under) (clear_cycles under + load_cycles (top_of os)) 4 (12 + owed os) pc w
-      (pair y (sign_word y)) vs u (none_held under) room (omega (arith, owed_kept under, load_owed os)) h
-      (λ s. top_to_four_part z os pc w y vs u e s d) (λ xs t s k. widen_part z (pc + forms_bytes (top_to_four os)) y (with_stack xs w) t l s k))
+      template z (record (four_fetched z os pc w y vs u e d) { taken = 2; room = omega (arith, room) })
+      (leaves_words z {Q = HasPair a} (waiting.R6 ∷ (waiting.R4 ∷ [])) (n / 0x10000 ∷ (n % 0x10000 ∷ [])) (tt, (tt, tt))
+      (λ g q. ap₂ (λ x y. x ∷ (y ∷ [])) (q.six ∙ sym (high_of a small)) (q.four ∙ sym (low_of a small))) widen_code 4
+      (λ p xs t s k. widen_part z p y (with_stack xs w) t l s k)) (12 + owed os) (omega arith) (omega (arith, load_owed os)) h
 
   low_reaches : (os : List Waiting) (pc : ℕ) (w : WordState) (v y : ℕ) (vs : List ℕ) (u : Core) → w.stack ≡ v ∷ (y ∷ vs)
       → StepDoes z [] os (long with_longs.LowWord) 2 pc w u (goes_on [] (with_stack (y ∷ vs) w))
@@ -457,31 +373,31 @@ module _ (z : Setting) where
       let op = with_longs.Calculate o in
       four_taken (Ends op os pc u) vs (made_of op w) tt (λ bh bl ah al rest f.
       let t = subst AreWords f s in
-      calculation_reaches o os pc w (pair al ah) (pair bl bh) rest u (e ∙ f) (small_pair ah al rest t.1.1) (small_pair bh bl (ah ∷ (al ∷ rest)) t) h d)
+      calculation_reaches w (pair al ah) (pair bl bh) rest (e ∙ f) (small_pair ah al rest t.1.1) (small_pair bh bl (ah ∷ (al ∷ rest)) t) o os pc u h d)
   long_reaches with_longs.Below os pc w vs u e s room h d =
       four_taken (Ends with_longs.Below os pc u) vs (made_of with_longs.Below w) tt (λ bh bl ah al rest f.
       let t = subst AreWords f s in
-      below_reaches os pc w (pair al ah) (pair bl bh) rest u (e ∙ f) (small_pair ah al rest t.1.1) (small_pair bh bl (ah ∷ (al ∷ rest)) t) h d)
+      below_reaches w (pair al ah) (pair bl bh) rest (e ∙ f) (small_pair ah al rest t.1.1) (small_pair bh bl (ah ∷ (al ∷ rest)) t) os pc u h d)
   long_reaches with_longs.Above os pc w vs u e s room h d =
       four_taken (Ends with_longs.Above os pc u) vs (made_of with_longs.Above w) tt (λ bh bl ah al rest f.
       let t = subst AreWords f s in
-      above_reaches os pc w (pair al ah) (pair bl bh) rest u (e ∙ f) (small_pair ah al rest t.1.1) (small_pair bh bl (ah ∷ (al ∷ rest)) t) h d)
+      above_reaches w (pair al ah) (pair bl bh) rest (e ∙ f) (small_pair ah al rest t.1.1) (small_pair bh bl (ah ∷ (al ∷ rest)) t) os pc u h d)
   long_reaches (with_longs.ShiftLeft k) os pc w vs u e s room h d =
       let op = with_longs.ShiftLeft k in
       two_taken (Ends op os pc u) vs (made_of op w) tt (λ ah al rest f.
-      left_reaches (nat_lt k 16) k os pc w (pair al ah) rest u refl (e ∙ f) (small_pair ah al rest (subst AreWords f s)) h d)
+      left_reaches w (pair al ah) rest (e ∙ f) (small_pair ah al rest (subst AreWords f s)) (nat_lt k 16) k os pc u refl h d)
   long_reaches (with_longs.ShiftRight k) os pc w vs u e s room h d =
       let op = with_longs.ShiftRight k in
       two_taken (Ends op os pc u) vs (made_of op w) tt (λ ah al rest f.
-      right_reaches (nat_lt k 16) k os pc w (pair al ah) rest u refl (e ∙ f) (small_pair ah al rest (subst AreWords f s)) h d)
+      right_reaches w (pair al ah) rest (e ∙ f) (small_pair ah al rest (subst AreWords f s)) (nat_lt k 16) k os pc u refl h d)
   long_reaches with_longs.Complement os pc w vs u e s room h d =
       two_taken (Ends with_longs.Complement os pc u) vs (made_of with_longs.Complement w) tt (λ ah al rest f.
-      complement_reaches os pc w (pair al ah) rest u (e ∙ f) (small_pair ah al rest (subst AreWords f s)) h d)
+      complement_reaches w (pair al ah) rest (e ∙ f) (small_pair ah al rest (subst AreWords f s)) os pc u h d)
   long_reaches with_longs.Widen os pc w [] u e s room h d = tt
   long_reaches with_longs.Widen os pc w (y ∷ rest) u e s room h d = widen_reaches os pc w y rest u e s.0 (omega (arith, room)) h d
   long_reaches with_longs.Join os pc w vs u e s room h d =
       two_taken (Ends with_longs.Join os pc u) vs (made_of with_longs.Join w) tt (λ ah al rest f.
-      join_reaches os pc w (pair al ah) rest u (e ∙ f) (small_pair ah al rest (subst AreWords f s)) h d)
+      join_reaches w (pair al ah) rest (e ∙ f) (small_pair ah al rest (subst AreWords f s)) os pc u h d)
   long_reaches with_longs.LowWord os pc w vs u e s room h d =
       two_taken (Ends with_longs.LowWord os pc u) vs (made_of with_longs.LowWord w) tt (λ v y rest f. low_reaches os pc w v y rest u (e ∙ f) h d)
   long_reaches with_longs.HighWord os pc w vs u e s room h d =

@@ -8,7 +8,7 @@ use Rattle.word_code.specs.Code.{below_two, in_six, six_from, pair_from, pair_to
 use Rattle.word_code.proofs.Memory.{local_words, local_word, in_register}
 use Rattle.word_code.proofs.Stretches.{two_parts, Setting, dearer, nothing_run, so_runs}
 use Rattle.word_code.proofs.Operands.{IsThere, owed, load_cycles, load_price, load_owed, number_cases, source_still, source_needs, source_word, Describes}
-use Rattle.word_code.proofs.Operands.{Waits, IsLoaded, words_same, words_kept, move_part, take_part, drop_part, four_part, clear_cycles, owed_kept, none_held}
+use Rattle.word_code.proofs.Operands.{Waits, IsLoaded, words_same, words_kept, move_part, take_part, drop_part, four_part, clear_cycles, none_held}
 use Rattle.word_code.proofs.Operands.{waiting_word, waiting_words, behind_cleared}
 use Rattle.word_code.proofs.Sides.{side_cycles, reading_cycles, side_owed}
 use Rattle.word_code.proofs.LongWords.{Pair}
@@ -141,12 +141,11 @@ pub pair_owed : (os : List Waiting) → pair_cycles os + owed (below_two os) ≤
 pair_owed os = omega (arith, load_owed os, load_owed (below_top os))
 
 -- the two longs and both instructions
-pub longs_owed : (os : List Waiting) → (let under = below_two (below_two os) in
-    clear_cycles under + (right_cycles os + pair_cycles (below_two os)) + (low_cycles os + high_cycles os) + owed (kept under) ≤ 10 + owed os)
+pub longs_owed : (os : List Waiting) → right_cycles os + pair_cycles (below_two os) + (low_cycles os + high_cycles os) + owed (below_two (below_two os))
+    ≤ 10 + owed os
 longs_owed os =
     omega (
       arith,
-      owed_kept (below_two (below_two os)),
       side_owed (rests (top_of os)) os,
       side_owed (rests (top_of (below_top os))) (below_top os),
       pair_owed (below_two os),

@@ -11,7 +11,7 @@ use Rattle.array_versions.specs.msp_step.msp_isa.declared.operands.Konst.TheVari
 use Rattle.word_code.proofs.Registers.{Has}
 use Rattle.word_code.proofs.Operands.{compare_number}
 use Rattle.word_code.proofs.Stretches.{Setting, straight, runs_on, dearer, so_runs}
-use Rattle.word_code.proofs.Memory.{local_words, in_register, in_ram, Memory, local_needs, set_register, set_ram}
+use Rattle.word_code.proofs.Memory.{local_words, in_register, in_ram, Memory, local_read, set_register, set_ram}
 use Rattle.word_code.proofs.Follows.{StandsFor, Follows, OnGoesOn, more_cycles, then_end, then_way, ends_at}
 use Rattle.word_code.proofs.Parts.{local_number}
 use Rattle.word_code.proofs.Jumps.{whole_size, Decided, back_part}
@@ -70,10 +70,10 @@ module _ (z : Setting) where
       let all = ram_turn_end n below in
       let word = in_ram (local_words u.work) u.ram n b ∙ i.memory.vars n k lt q in
       let next : (u.ram a + 1 + 0) % 0x10000 ≡ k + 1 = omega (arith, word) in
-      let needs = local_needs z n b lt in
+      let needs = local_read z n i.memory b lt in
       let end : pc + 10 + form_bytes last ≡ pc + forms_bytes all = omega arith in
       let added = straight z ms 8 u (end_of u (forms_run ms u).status) [] 8 (Has z R4 (pc + 10) (with_local n (k + 1) w) (k + 1)) (tt, (tt, (tt, tt)))
-      (stands_at z.code pc ms u (first_forms z.code pc 3 all h) i.at) ((needs, tt), ((tt, tt), ((tt, needs), tt))) refl (omega arith)
+      (stands_at z.code pc ms u (first_forms z.code pc 3 all h) i.at) ((needs, tt), ((tt, tt), ((tt, needs.0), tt))) refl (omega arith)
       (record {
         is =
             record {

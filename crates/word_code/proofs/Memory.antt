@@ -22,6 +22,9 @@ stack_below ram a w sp (v ∷ vs) l h = (put_other ram a w sp (λ e. omega arith
 pub place_is : (a : ℕ) → is_place a ≡ true → IsFram a
 place_is a h = record { even = grind (arith, nat_tests); low = grind (arith, nat_tests); high = grind (arith, nat_tests) }
 
+pub address_small : {a : ℕ} → IsFram a → a < 0x10000
+address_small f = let high = f.high in omega (arith, high)
+
 pub assigned_same : (f : ℕ → Option ℕ) (n v : ℕ) → assigned f n v n ≡ Some v
 assigned_same f n v = ap (λ b. if b then Some v else f n) (eq-eqb n n refl)
 
@@ -84,18 +87,23 @@ module _ (z : Setting) where
 
   pub pop_needs : {sp v : ℕ} {ram : ℕ → ℕ} {words vs : List ℕ} {ls : ℕ → Option ℕ} → Memory z sp ram words (v ∷ vs) ls → IsRam sp
   pop_needs m =
-      let d = m.depth in let f = m.fits in let r = z.roomy in record { even = omega arith; low = omega arith; high = omega arith }
+      let d = m.depth in let f = m.fits in let r = z.roomy.fits in record { even = omega arith; low = omega arith; high = omega arith }
 
   pub push_needs : {sp : ℕ} {ram : ℕ → ℕ} {words vs : List ℕ} {ls : ℕ → Option ℕ} → Memory z sp ram words vs ls → length vs < z.room → HasPushRoom sp
-  push_needs m l = let d = m.depth in let r = z.roomy in record { even = omega arith; low = omega arith; high = omega arith }
+  push_needs m l = let d = m.depth in let r = z.roomy.fits in record { even = omega arith; room = record { fits = omega arith }; high = omega arith }
 
   pub local_needs : (n : ℕ) → nat_lt n 8 ≡ false → n < z.locals → IsRam (local_address n)
-  local_needs n e l = let r = z.roomy in let m = from_eight n e in record { even = omega arith; low = omega arith; high = omega arith }
+  local_needs n e l = let r = z.roomy.fits in let m = from_eight n e in record { even = omega arith; low = omega arith; high = omega arith }
+
+  -- a local in RAM is read above the stack
+  pub local_read : {sp : ℕ} {ram : ℕ → ℕ} {words vs : List ℕ} {ls : ℕ → Option ℕ} (n : ℕ) → Memory z sp ram words vs ls → nat_lt n 8 ≡ false
+      → n < z.locals → IsRam (local_address n) × (sp ≤ local_address n)
+  local_read n m e l = let d = m.depth in let r = z.roomy.fits in let from = from_eight n e in (local_needs n e l, omega arith)
 
   pub push_memory : {sp : ℕ} {ram : ℕ → ℕ} {words vs : List ℕ} {ls : ℕ → Option ℕ} (v : ℕ) → Memory z sp ram words vs ls → length vs < z.room
       → Memory z (sp - 2) (put ram (sp - 2) v) words (v ∷ vs) ls
   push_memory {sp} {ram} {words} {vs} v m l =
-      let d = m.depth in let r = z.roomy in
+      let d = m.depth in let r = z.roomy.fits in
       let up : sp - 2 + 2 ≡ sp = omega arith in
       let apart : (n : ℕ) → n < z.locals → put ram (sp - 2) v (local_address n) ≡ ram (local_address n) =
       λ n h. put_other ram (sp - 2) v (local_address n) (λ e. omega arith) in
@@ -153,4 +161,4 @@ module _ (z : Setting) where
           let other : nat_eq k n ≡ false = ne_eqb k n (λ q. omega arith) in
           ap (λ b. if b then v else get_or words k 0) (sym other)
       by false k t =
-          let r = z.roomy in ap (λ b. if b then v else ram (local_address k)) (address_same k n (omega (arith, r, lt)))
+          let r = z.roomy.fits in ap (λ b. if b then v else ram (local_address k)) (address_same k n (omega (arith, r, lt)))

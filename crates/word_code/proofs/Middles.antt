@@ -26,36 +26,38 @@ pub record IsRead (x : Source) (b : WorkRegister) (l r : ℕ) (t s : Core) : Typ
   pub right : source_value x t ≡ r
 
 module _ (z : Setting) where
-  -- an operation on a register: its value is written or not, and its flags are
-  pub calculate : (o : TwoOp) (x : Source) (b : WorkRegister) (c : ℕ) {l r : ℕ} {t : Core} (s : Core) (writes : Bool) (P : Core → Type 0) → IsNotMov o
-      → writes_destination o ≡ writes → source_cycles to_register (source_operand x) ≤ c → z.code t.pc ≡ Some (instruction_of (Calculate o x b))
-      → IsRead x b l r t s → (let does = operated o Word l r t.flags in P (record s {
-        pc = t.pc + (2 + source_bytes x);
-        flags = flags_after does.flags s.flags;
-        work = if writes then put s.work (work_number b) does.value else s.work;
-      })) → Runs z.code [] c t P
-  calculate o x b c {l} {r} {t} s writes P reads e price h k p =
-      let n = work_number b in
-      let cost = cycles_of (instruction_of (Calculate o x b)) in
-      let after : Bool → Core → ℕ → ℕ → Core = λ d q i j. let does = operated o Word i j t.flags in
-      record q { pc = t.pc + (2 + source_bytes x); flags = flags_after does.flags q.flags; work = if d then put q.work n does.value else q.work } in
-      hop z (Calculate o x b) c t (after writes s l r) [] cost P h (reads, k.needs)
-      (ap (λ q. Goes [] cost (after (writes_destination o) q (q.work n) (source_value x t))) k.still
-      ∙ ap₂ (λ i j. Goes [] cost (after (writes_destination o) s i j)) k.left k.right ∙ ap (λ d. Goes [] cost (after d s l r)) e) price p
+  module _ (o : TwoOp) (x : Source) (b : WorkRegister) (c : ℕ) where
+    -- an operation on a register: its value is written or not, and its flags are
+    pub calculate : {l r : ℕ} {t : Core} (s : Core) (writes : Bool) (P : Core → Type 0) → IsNotMov o
+        → writes_destination o ≡ writes → source_cycles to_register (source_operand x) ≤ c → z.code t.pc ≡ Some (instruction_of (Calculate o x b))
+        → IsRead x b l r t s → (let does = operated o Word l r t.flags in P (record s {
+          pc = t.pc + (2 + source_bytes x);
+          flags = flags_after does.flags s.flags;
+          work = if writes then put s.work (work_number b) does.value else s.work;
+        })) → Runs z.code [] c t P
+    calculate {l} {r} {t} s writes P reads e price h k p =
+        let n = work_number b in
+        let cost = cycles_of (instruction_of (Calculate o x b)) in
+        let after : Bool → Core → ℕ → ℕ → Core = λ d q i j. let does = operated o Word i j t.flags in
+        record q { pc = t.pc + (2 + source_bytes x); flags = flags_after does.flags q.flags; work = if d then put q.work n does.value else q.work } in
+        hop z (Calculate o x b) c t (after writes s l r) [] cost P h (reads, k.needs)
+        (ap (λ q. Goes [] cost (after (writes_destination o) q (q.work n) (source_value x t))) k.still
+        ∙ ap₂ (λ i j. Goes [] cost (after (writes_destination o) s i j)) k.left k.right ∙ ap (λ d. Goes [] cost (after d s l r)) e) price p
 
-  -- what an operation makes of the two is written
-  pub plain_step : (o : PlainOperation) (x : Source) (b : WorkRegister) (c : ℕ) {l r : ℕ} {t : Core} (s : Core) (P : Core → Type 0) → l < 0x10000
-      → r < 0x10000 → source_cycles to_register (source_operand x) ≤ c → z.code t.pc ≡ Some (instruction_of (Calculate (plain_instruction o) x b))
-      → IsRead x b l r t s → ((f : Flags) → P (record s {
-        pc = t.pc + (2 + source_bytes x);
-        flags = f;
-        work = put s.work (work_number b) (plain_word o l r);
-      })) → Runs z.code [] c t P
-  plain_step o x b c {l} {r} {t} s P ll lr price h k p =
-      let needs = plain_needs o in
-      let f = flags_after (operated (plain_instruction o) Word l r t.flags).flags s.flags in
-      calculate (plain_instruction o) x b c s true P needs.0 needs.1 price h k
-      (subst (λ v. P (record s { pc = t.pc + (2 + source_bytes x); flags = f; work = put s.work (work_number b) v })) (sym (makes o l r t.flags ll lr)) (p f))
+  module _ (o : PlainOperation) (x : Source) (b : WorkRegister) (c : ℕ) where
+    -- what an operation makes of the two is written
+    pub plain_step : {l r : ℕ} {t : Core} (s : Core) (P : Core → Type 0) → l < 0x10000
+        → r < 0x10000 → source_cycles to_register (source_operand x) ≤ c → z.code t.pc ≡ Some (instruction_of (Calculate (plain_instruction o) x b))
+        → IsRead x b l r t s → ((f : Flags) → P (record s {
+          pc = t.pc + (2 + source_bytes x);
+          flags = f;
+          work = put s.work (work_number b) (plain_word o l r);
+        })) → Runs z.code [] c t P
+    plain_step {l} {r} {t} s P ll lr price h k p =
+        let needs = plain_needs o in
+        let f = flags_after (operated (plain_instruction o) Word l r t.flags).flags s.flags in
+        calculate (plain_instruction o) x b c s true P needs.0 needs.1 price h k
+        (subst (λ v. P (record s { pc = t.pc + (2 + source_bytes x); flags = f; work = put s.work (work_number b) v })) (sym (makes o l r t.flags ll lr)) (p f))
 
   -- what forms leave of the values in R4 and R5
   abbrev pub BinaryMiddle : List Form → WorkRegister → ℕ → (ℕ → ℕ → ℕ) → Type 0

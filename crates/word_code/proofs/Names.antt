@@ -24,8 +24,9 @@ pub use Rattle.array_versions.specs.msp_step.msp_isa.declared.operands.Konst.{Ko
 pub use Rattle.array_versions.proofs.machine_effects.Interface.{put_other, put_same}
 pub use Rattle.array_versions.specs.fram_board.Effects.{Effect, Store, Take}
 pub use Rattle.array_versions.specs.machine_effects.Going.{At, stretch, Goes, StepOutcome, Stops, Stretch, Halted, after_effects, continued, going}
-pub use Rattle.array_versions.specs.machine_effects.Machine.{IsFram, IsRam, MachineBoard, exec, Code}
+pub use Rattle.array_versions.specs.machine_effects.Machine.{IsPlace as IsFram, IsRam, MachineBoard, exec, Code}
 pub use Rattle.array_versions.specs.machine_effects.World.{put, IsPrefix}
+pub use Rattle.array_versions.specs.machine_effects.address_space.Limits.{HasStackRoom}
 pub use Rattle.array_versions.specs.machine_effects.Inputs.{Inputs}
 pub use Rattle.array_versions.specs.machine_effects.msp_cycles.Cycles.{CycleRow, cycles_of, source_cycles, to_register, to_memory, push}
 pub use Rattle.array_versions.specs.msp_step.Effect.{word_sum as sum16, distance, is_met, operated, writes_destination}

@@ -1,11 +1,12 @@
 -- Words that wait to be pushed: what the machine stands for where some do, how they are pushed, and how they come to registers.
 use Rattle.word_code.proofs.Names.{◌≡◌, ℕ, suc, ◌+◌, ◌-◌, ◌%◌, ◌<◌, ◌≤◌, nat_le, Bool, true, false, nat_lt, if◌then◌else◌, List, [], ◌∷◌, ◌++◌, length, get_or}
-use Rattle.word_code.proofs.Names.{drop, Option, Some, None, ◌==◌, eqb-true, refl, sym, ap, ap₂, ◌∙◌, subst, arith, append_assoc, append-nil, length-append}
-use Rattle.word_code.proofs.Names.{Flags, unwrap_or, AllByRecursion, put, Goes, IsFram, Konst, constant_value, CycleRow, cycles_of, source_cycles, to_register}
-use Rattle.word_code.proofs.Names.{to_memory, push, put_same, put_other, WorkRegister, R4, R5, work_number, Core, Source, Number, Constant, source_operand}
-use Rattle.word_code.proofs.Names.{source_bytes, source_value, source_read, SourceNeeds, ToRegister, Form, Move, Calculate, Push, HasPushRoom, instruction_of}
-use Rattle.word_code.proofs.Names.{form_bytes, Stands, forms_bytes, Runs, WordState, with_stack, pushed, Waiting, number_source, waiting_source, flushed}
-use Rattle.word_code.proofs.Names.{top_of, source_from, below_top, any_held, cleared, kept, four_from, five_from, top_to_four, top_to_five}
+use Rattle.word_code.proofs.Names.{Inputs, drop, Option, Some, None, ◌==◌, eqb-true, refl, sym, ap, ap₂, ◌∙◌, subst, arith, append_assoc, append-nil}
+use Rattle.word_code.proofs.Names.{length-append, Flags, unwrap_or, AllByRecursion, put, Goes, IsFram, Konst, constant_value, CycleRow, cycles_of}
+use Rattle.word_code.proofs.Names.{source_cycles, to_register, to_memory, push, put_same, put_other, WorkRegister, R4, R5, work_number, Core, Source, Number}
+use Rattle.word_code.proofs.Names.{Constant, source_operand, source_bytes, source_value, source_read, SourceNeeds, ToRegister, Form, Move, Calculate, Push}
+use Rattle.word_code.proofs.Names.{HasPushRoom, instruction_of, form_bytes, Stands, forms_bytes, Runs, WordState, with_stack, pushed, Waiting, number_source}
+use Rattle.word_code.proofs.Names.{waiting_source, flushed, top_of, source_from, below_top, any_held, cleared, kept, four_from, five_from, top_to_four}
+use Rattle.word_code.proofs.Names.{top_to_five}
 use Rattle.array_versions.specs.msp_step.msp_isa.declared.instructions.TwoOp.TheVariants as op
 use Rattle.array_versions.specs.msp_step.msp_isa.declared.operands.Konst.TheVariants as konst
 use Rattle.word_code.specs.declared.waiting.Waiting.TheVariants as waiting
@@ -130,6 +131,10 @@ owed_kept_by : (b : Bool) (n : ℕ) (os : List Waiting) → owed os ≡ n → (i
 owed_kept_by true n os e = omega arith
 owed_kept_by false n os e = omega (arith, e)
 
+pub owed_append : (a b : List Waiting) → owed (a ++ b) ≡ owed a + owed b
+owed_append [] b = omega arith
+owed_append (o ∷ a) b = omega (arith, owed_append a b)
+
 pub owed_kept : (os : List Waiting) → clear_cycles os + owed (kept os) ≡ owed os
 owed_kept os = owed_kept_by (any_held os) (owed os) os refl
 
@@ -227,18 +232,12 @@ module _ (z : Setting) where
   pub dressed : (pc : ℕ) (w : WordState) (u : Core) → StandsFor z pc w u → Describes z [] pc w u
   dressed pc w u i = record { rest = w.stack; is = i; stack = refl; there = tt; fits = i.memory.fits }
 
-  -- the machine elsewhere, with the same words waiting
-  pub describes_elsewhere : (os : List Waiting) (pc pc' : ℕ) (w : WordState) (u t : Core) → Describes z os pc w u → t.pc ≡ pc' → t.sp ≡ u.sp → t.ram ≡ u.ram
-      → local_words t.work ≡ local_words u.work → t.fram ≡ u.fram → t.inputs ≡ u.inputs
-      → waiting_words w.fram w.locals t.work os ≡ waiting_words w.fram w.locals u.work os → Describes z os pc' w t
-  describes_elsewhere os pc pc' w u t d p q r l f e k =
-      record {
-        rest = d.rest;
-        is = stands_elsewhere z pc pc' (with_stack d.rest w) u t d.is p q r l f e;
-        stack = d.stack ∙ ap (λ xs. xs ++ d.rest) (sym k);
-        there = d.there;
-        fits = d.fits;
-      }
+  -- the machine elsewhere, or with other inputs, where the words that wait are the same
+  pub describes_on : (os : List Waiting) (pc end : ℕ) (w : WordState) (n : Inputs) (u t : Core) (d : Describes z os pc w u)
+      → waiting_words w.fram w.locals t.work os ≡ waiting_words w.fram w.locals u.work os → StandsFor z end (record w { stack = d.rest; inputs = n }) t
+      → Describes z os end (record w { inputs = n }) t
+  describes_on os pc end w n u t d same i =
+      record { rest = d.rest; is = i; stack = d.stack ∙ ap (λ xs. xs ++ d.rest) (sym same); there = d.there; fits = d.fits }
 
   -- ---- pushes
 
@@ -404,7 +403,8 @@ module _ (z : Setting) where
       let after : Core = record t { pc = u.pc + (2 + source_bytes x + 0); work = put t.work (work_number b) y } in
       hop z m (load_cycles o) u after [] price _ (ap z.code k.at ∙ h.0) (k.needs, tt) refl (load_price o)
       (record {
-        is = describes_elsewhere os pc _ (with_stack vs w) t after k.left end refl refl (clean t.work y) refl refl (spare t.work y);
+        is = describes_on os pc _ (with_stack vs w) w.inputs t after k.left (spare t.work y)
+            (stands_elsewhere z pc _ (with_stack k.left.rest w) t after k.left.is end refl refl (clean t.work y) refl refl);
         held = record {
           value = put_same t.work (work_number b) y ∙ k.value;
           others = λ n ne. put_other t.work (work_number b) y n ne ∙ ap (λ (g : ℕ → ℕ). g n) k.same;
@@ -487,20 +487,7 @@ module _ (z : Setting) where
       let end = pc + forms_bytes (flushed os) in
       so_runs (flush_under (o ∷ []) os pc w u d h) (λ t k. take_part (o ∷ []) end w v vs t e k.is)
 
-  -- ---- one more word waits
-
-  -- a result in a register, all else that waits being elsewhere
-  pub result_waits : (o : Waiting) (os : List Waiting) (pc : ℕ) (w : WordState) (r : ℕ) (vs rest : List ℕ) (g : ℕ → ℕ) (t : Core)
-      → vs ≡ waiting_words w.fram w.locals g os ++ rest → AllByRecursion (IsThere z.locals w.locals) (o ∷ os) → any_held os ≡ false → length vs < z.room
-      → waiting_word w.fram w.locals t.work o ≡ r → StandsFor z pc (with_stack rest w) t → Describes z (o ∷ os) pc (with_stack (r ∷ vs) w) t
-  result_waits o os pc w r vs rest g t stack there none room word i =
-      record {
-        rest = rest;
-        is = i;
-        stack = ap₂ (λ x xs. x ∷ xs) (sym word) (stack ∙ ap (λ xs. xs ++ rest) (words_kept w.fram w.locals g t.work os none));
-        there = there;
-        fits = omega (arith, room);
-      }
+  -- ---- more words wait
 
   -- a word that no code brings anywhere
   pub waits_more : (o : Waiting) (os : List Waiting) (pc : ℕ) (w : WordState) (v : ℕ) (u : Core) → IsThere z.locals w.locals o
@@ -513,6 +500,17 @@ module _ (z : Setting) where
         there = (there, d.there);
         fits = omega (arith, room);
       }
+
+  -- words that code left in registers
+  pub all_wait : (gives os : List Waiting) (pc : ℕ) (w : WordState) (vs : List ℕ) (u : Core) → AllByRecursion (IsThere z.locals w.locals) gives
+      → length gives + length vs ≤ z.room → Describes z os pc (with_stack vs w) u
+      → Describes z (gives ++ os) pc (with_stack (waiting_words w.fram w.locals u.work gives ++ vs) w) u
+  all_wait [] os pc w vs u there room d = d
+  all_wait (o ∷ gives) os pc w vs u there room d =
+      let words = waiting_words w.fram w.locals u.work gives in
+      waits_more o (gives ++ os) pc (with_stack (words ++ vs) w) (waiting_word w.fram w.locals u.work o) u there.0 refl
+      (omega (arith, room, length-append words vs, waiting_length w.fram w.locals u.work gives))
+      (all_wait gives os pc w vs u there.1 (omega (arith, room)) d)
 
   -- ---- a comparison with a number
 

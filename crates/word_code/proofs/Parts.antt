@@ -6,7 +6,7 @@ use Rattle.word_code.proofs.Names.{Constant, Fram, Ram, ToRegister, ToFram, ToRa
 use Rattle.word_code.proofs.Names.{stands_at, end_of, WordState, behaves, goes_on, Jumps, broken, with_stack, pushed, stored, with_local, is_place, word_stored}
 use Rattle.word_code.proofs.Names.{jumped, Waiting, HasJumped, local_register, local_address, local_target, number_source, source_from, number_code}
 use Rattle.word_code.proofs.Stretches.{Setting, straight, hop}
-use Rattle.word_code.proofs.Memory.{local_words, in_ram, Memory, push_needs, local_needs, push_memory, set_register, set_ram, place_is}
+use Rattle.word_code.proofs.Memory.{local_words, in_ram, Memory, push_needs, local_needs, local_read, push_memory, set_register, set_ram, place_is}
 use Rattle.word_code.proofs.Follows.{StandsFor, Follows, guarded}
 use Rattle.word_code.specs.declared.waiting.Waiting.TheVariants as waiting
 use Rattle.word_code.specs.Code.{any_at}
@@ -35,7 +35,7 @@ module _ (z : Setting) where
       let ms = Push (Ram (local_address n)) ∷ [] in
       let same = in_ram (local_words u.work) u.ram n e ∙ i.memory.vars n v f q in
       straight z ms 5 u (end_of u (forms_run ms u).status) [] 5 _ (tt, tt) (stands_at z.code pc ms u h i.at)
-      ((local_needs z n e f, push_needs z i.memory s), tt) refl (omega arith)
+      ((local_read z n i.memory e f, push_needs z i.memory s), tt) refl (omega arith)
       (record {
         at = omega (arith, i.at);
         memory =

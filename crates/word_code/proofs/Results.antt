@@ -1,29 +1,28 @@
 -- Steps where words wait: values that come to wait in a register, and statements behind which none waits.
-use Rattle.word_code.proofs.Names.{stays, ◌≡◌, ℕ, ◌+◌, ◌*◌, ◌<◌, ◌≤◌, ◌-◌, ◌/◌, ◌%◌, ◌^◌, ◌==◌, ◌&&◌, Bool, true, false, nat_lt, if◌then◌else◌, List, [], ◌∷◌}
-use Rattle.word_code.proofs.Names.{◌++◌, length, Option, Some, None, refl, sym, ap, ◌∙◌, subst, arith, bit_and, w16, ltb-true, eqb-true, ne_eqb, le-leb, Step}
-use Rattle.word_code.proofs.Names.{and_parts, same_Some, and_mask, pow_pos, word_sum, word_product, quotient, remainder, source_cycles, to_register, unwrap_or}
-use Rattle.word_code.proofs.Names.{Take, put, IsFram, WorkRegister, R4, R5, R6, work_number, Core, Source, source_operand, Form, Move, Calculate, Update, Push}
-use Rattle.word_code.proofs.Names.{Ram, ToFram, sensed, instruction_of, Stands, forms_bytes, Runs, stands_front, stands_back, forms_bytes-append, ArrayPlace}
-use Rattle.word_code.proofs.Names.{ListPlace, UnaryOperation, Negate, Complement, BinaryOperation, Multiply, Divide, Remainder, Plain, PlainOperation, And}
-use Rattle.word_code.proofs.Names.{ShiftOperation, Left, Right, unary_word, plain_word, binary_word, shift_word, keep, update, set_local, update_local, unary}
-use Rattle.word_code.proofs.Names.{binary, shift, element, emit_word, versioned_read, versioned_write, sense, WordState, Behaviour, GoesOn, goes_on, with_top}
-use Rattle.word_code.proofs.Names.{with_two, with_stack, with_local, pushed, is_place, at_place, word_stored, word_emitted, element_pushed, own_element}
-use Rattle.word_code.proofs.Names.{versioned_pushed, versioned_stored, reading_pushed, unary_cycles, binary_cycles, Bound, Waiting, local_address, local_target}
-use Rattle.word_code.proofs.Names.{flushed, top_of, source_from, below_top, any_held, cleared, kept, top_to_four, top_to_five, plain_instruction, update_code}
-use Rattle.word_code.proofs.Names.{sides, right_source, power, known_element, two_code, power_code, power_result, two_to_registers, unary_middle, binary_middle}
-use Rattle.word_code.proofs.Names.{binary_result, shift_middle, element_code, emit_code, read_code, write_code, top_number, element_at, is_inside}
-use Rattle.word_code.proofs.Names.{waiting_behind, step_code, Store, stored, with_readings, Inputs}
+use Rattle.word_code.proofs.Names.{AllByRecursion, stays, ◌≡◌, ℕ, ◌+◌, ◌*◌, ◌<◌, ◌≤◌, ◌-◌, ◌/◌, ◌%◌, ◌^◌, ◌==◌, ◌&&◌, Bool, true, false, nat_lt, if◌then◌else◌}
+use Rattle.word_code.proofs.Names.{List, [], ◌∷◌, ◌++◌, length, Option, Some, None, refl, sym, ap, ◌∙◌, subst, arith, bit_and, w16, ltb-true, eqb-true, ne_eqb}
+use Rattle.word_code.proofs.Names.{le-leb, Step, and_parts, same_Some, and_mask, pow_pos, word_sum, word_product, quotient, remainder, unwrap_or, Take, put}
+use Rattle.word_code.proofs.Names.{IsFram, R4, R5, R6, Core, Form, Move, Calculate, Update, Push, Ram, ToFram, sensed, Stands, forms_bytes, Runs, stands_front}
+use Rattle.word_code.proofs.Names.{stands_back, forms_bytes-append, ArrayPlace, ListPlace, UnaryOperation, Negate, Complement, BinaryOperation, Multiply}
+use Rattle.word_code.proofs.Names.{Divide, Remainder, Plain, PlainOperation, And, ShiftOperation, Left, Right, unary_word, plain_word, binary_word, shift_word}
+use Rattle.word_code.proofs.Names.{keep, update, set_local, update_local, unary, binary, shift, element, emit_word, versioned_read, versioned_write, sense}
+use Rattle.word_code.proofs.Names.{WordState, Behaviour, GoesOn, goes_on, with_top, with_two, with_stack, with_local, pushed, is_place, at_place, word_stored}
+use Rattle.word_code.proofs.Names.{word_emitted, element_pushed, own_element, versioned_pushed, versioned_stored, reading_pushed, unary_cycles, binary_cycles}
+use Rattle.word_code.proofs.Names.{Bound, Waiting, local_address, local_target, flushed, top_of, source_from, below_top, any_held, cleared, kept, top_to_four}
+use Rattle.word_code.proofs.Names.{top_to_five, plain_instruction, update_code, sides, right_source, power, known_element, two_code, power_code, power_result}
+use Rattle.word_code.proofs.Names.{two_to_registers, unary_middle, binary_middle, binary_result, shift_middle, element_code, emit_code, read_code, write_code}
+use Rattle.word_code.proofs.Names.{top_number, element_at, is_inside, waiting_behind, step_code, Store, stored, with_readings, Inputs}
 use Rattle.std.specs.Int.{trailing_zeros}
 use Rattle.code_forms.specs.Forms as forms
 use Rattle.word_code.specs.declared.waiting.Waiting.TheVariants as waiting
 use Rattle.word_code.proofs.Memory.{HoldsWords, AreWords, place_is}
 use Rattle.word_code.proofs.Stretches.{two_parts, Setting, hop, dearer_stall, nothing_run, so_runs, starved}
-use Rattle.word_code.proofs.Registers.{With, HasWord, HasSides, Holds, Has}
+use Rattle.word_code.proofs.Registers.{With, HasWord, HasSides, Holds}
 use Rattle.word_code.proofs.Operands.{Waits, IsThere, owed_by, owed, none_held, clear_cycles, owed_kept, load_cycles, load_owed, store_cycles, store_owed}
 use Rattle.word_code.proofs.Operands.{Describes, Top, waiting_word, bare, dressed, flush_under, flush_part, clear_under, below_part, top_to_four_part}
-use Rattle.word_code.proofs.Operands.{top_to_five_part, result_waits, waits_more, drop_part, take_part}
+use Rattle.word_code.proofs.Operands.{top_to_five_part, waits_more, drop_part, take_part, describes_on, all_wait, words_kept, owed_append, waiting_words}
 use Rattle.word_code.proofs.Sides.{Aiming, is_read, side_cycles, reading_cycles, reading_price, side_owed, sides_part, two_to_registers_part}
-use Rattle.word_code.proofs.Middles.{plain_step, UnaryMiddle, BinaryMiddle, negate_middle, complement_middle}
+use Rattle.word_code.proofs.Middles.{plain_step, UnaryMiddle, negate_middle, complement_middle}
 use Rattle.word_code.proofs.Follows.{StandsFor, stands_elsewhere, Follows, Reaches, reach_more, then_reach, reaches, reach_guarded}
 use Rattle.word_code.proofs.LoopBounds.{Bounded, top_inside, under_inside}
 use Rattle.word_code.specs.Code.{any_at}
@@ -72,18 +71,19 @@ module _ (z : Setting) where
   StepDoes bs os s cost pc w u b = Stands z.code pc (step_code bs os s) → Describes z os pc w u
       → Does (waiting_behind os s) (pc + forms_bytes (step_code bs os s)) (cost + owed os) u b
 
-  -- code behind other code
-  pub does_behind : {l : ℕ} {P : Core → Type 0} (front ms : List Form) (os : List Waiting) (c most pc : ℕ) (u : Core) (b : Behaviour) → l + c ≤ most
-      → Stands z.code pc (front ++ ms) → (Stands z.code pc front → Runs z.code [] l u P)
-      → (let mid = pc + forms_bytes front in ((t : Core) → Stands z.code mid ms → P t → Does os (mid + forms_bytes ms) c t b)
-      → Does os (pc + forms_bytes (front ++ ms)) most u b)
-  does_behind {l} {P} front ms os c most pc u b le h come f =
-      let end = pc + forms_bytes front + forms_bytes ms in
-      let there : end ≡ pc + forms_bytes (front ++ ms) = omega (arith, forms_bytes-append front ms) in
-      subst (λ p. Does os p most u b) there
-      (reach_more z (owed os) (Describes z os end) (l + c) most u b.effects b.end le
-      (then_reach z (owed os) (Describes z os end) l c u P [] b.effects b.end (come (stands_front z.code pc front ms h))
-      (λ t k. f t (stands_back z.code pc front ms h) k)))
+  module _ {l : ℕ} {P : Core → Type 0} (front ms : List Form) where
+    -- code behind other code
+    pub does_behind : (os : List Waiting) (c most pc : ℕ) (u : Core) (b : Behaviour) → l + c ≤ most → Stands z.code pc (front ++ ms)
+        → (Stands z.code pc front → Runs z.code [] l u P)
+        → (let mid = pc + forms_bytes front in ((t : Core) → Stands z.code mid ms → P t → Does os (mid + forms_bytes ms) c t b)
+        → Does os (pc + forms_bytes (front ++ ms)) most u b)
+    does_behind os c most pc u b le h come f =
+        let end = pc + forms_bytes front + forms_bytes ms in
+        let there : end ≡ pc + forms_bytes (front ++ ms) = omega (arith, forms_bytes-append front ms) in
+        subst (λ p. Does os p most u b) there
+        (reach_more z (owed os) (Describes z os end) (l + c) most u b.effects b.end le
+        (then_reach z (owed os) (Describes z os end) l c u P [] b.effects b.end (come (stands_front z.code pc front ms h))
+        (λ t k. f t (stands_back z.code pc front ms h) k)))
 
   -- the same where no word waits behind it
   pub alone_behind : {l : ℕ} {P : Core → Type 0} (front ms : List Form) (c most pc : ℕ) (u : Core) (b : Behaviour) → l + c ≤ most
@@ -94,40 +94,108 @@ module _ (z : Setting) where
       let end = pc + forms_bytes front + forms_bytes ms in
       does_behind front ms [] c most pc u b le h come (λ t s k. reaches z (Describes z [] end) end c t b.effects b.end (dressed z end) (f t s k))
 
-  -- ---- values
+  -- ---- templates: from words that wait in registers, or come there, to words that wait in registers
 
-  -- words in registers, what is made of them, and where that waits
-  pub made_waits : (P : (ℕ → ℕ) → Type 0) (b : WorkRegister) (o : Waiting) (front ms : List Form) (ks : List Waiting) (l c most pc : ℕ) (w : WordState) (r : ℕ)
-      (vs : List ℕ) (u : Core) → any_held ks ≡ false → IsThere z.locals w.locals o → length vs < z.room → l + c + (owed ks + owed_by o) ≤ most
-      → ((f : ℕ → ℕ) → waiting_word w.fram w.locals f o ≡ f (work_number b)) → Stands z.code pc (front ++ ms)
-      → (let mid = pc + forms_bytes front in (Stands z.code pc front → Runs z.code [] l u (Waits z ks mid (with_stack vs w) P))
-      → ((xs : List ℕ) (t : Core) → Stands z.code mid ms → Holds z P mid (with_stack xs w) t
-      → Runs z.code [] c t (Has z b (mid + forms_bytes ms) (with_stack xs w) r))
-      → Does (o ∷ ks) (pc + forms_bytes (front ++ ms)) most u (goes_on [] (with_stack (r ∷ vs) w)))
-  made_waits P b o front ms ks l c most pc w r vs u none there room budget word h come middle =
-      let mid = pc + forms_bytes front in
-      let end = mid + forms_bytes ms in
-      does_behind {l = l} front ms (o ∷ ks) (most - l) most pc u (goes_on [] (with_stack (r ∷ vs) w)) (omega (arith, budget)) h
-      come (λ t s k. record {
-        spent = c;
-        within = omega (arith, budget);
-        runs = so_runs (middle k.is.rest t s (record { is = k.is.is; held = k.held })) (λ q j.
-            result_waits z o ks end w r vs k.is.rest t.work q k.is.stack (there, k.is.there) none room (word q.work ∙ j.held) j.is);
+  -- forms make of registers with one fact registers with another, wherever they stand and whatever the stack is
+  abbrev pub Makes : ((ℕ → ℕ) → Type 0) → WordState → List Form → ℕ → ((ℕ → ℕ) → Type 0) → Type 0
+  Makes P w ms c Q = (pc : ℕ) (xs : List ℕ) (t : Core) → Stands z.code pc ms → Holds z P pc (with_stack xs w) t
+      → Runs z.code [] c t (Holds z Q (pc + forms_bytes ms) (with_stack xs w))
+
+  -- words taken from the top come to registers: by which code, with which words below them, which are pushed where one of them waits in a register, and
+  -- within how many cycles besides
+  pub record Fetched (pc : ℕ) (w : WordState) (vs : List ℕ) (u : Core) (P : (ℕ → ℕ) → Type 0) : Type 0 where
+    pub front : List Form
+    pub below : List Waiting
+    pub cycles : ℕ
+    pub taken : ℕ
+    pub room : taken + length vs ≤ z.room
+    pub come : Stands z.code pc front → Runs z.code [] (clear_cycles below + cycles) u (Waits z (kept below) (pc + forms_bytes front) (with_stack vs w) P)
+
+  -- and what is made of them: where the results wait, and which they are
+  pub record Template (w : WordState) (P : (ℕ → ℕ) → Type 0) : Type 0 where
+    pub forms : List Form
+    pub cycles : ℕ
+    pub gives : List Waiting
+    pub words : List ℕ
+    pub there : AllByRecursion (IsThere z.locals w.locals) gives
+    pub makes : Makes P w forms cycles (λ g. waiting_words w.fram w.locals g gives ≡ words)
+
+  pub template : {pc : ℕ} {w : WordState} {vs : List ℕ} {u : Core} {P : (ℕ → ℕ) → Type 0} (f : Fetched pc w vs u P) (m : Template w P) (most : ℕ)
+      → length m.gives ≤ f.taken → f.cycles + m.cycles + (owed f.below + owed m.gives) ≤ most → Stands z.code pc (f.front ++ m.forms)
+      → Does (m.gives ++ kept f.below) (pc + forms_bytes (f.front ++ m.forms)) most u (goes_on [] (with_stack (m.words ++ vs) w))
+  template {pc} {w} {vs} {u} f m most few budget h =
+      let mid = pc + forms_bytes f.front in
+      let end = mid + forms_bytes m.forms in
+      let under = kept f.below in
+      let paid = owed_kept f.below in
+      let l = clear_cycles f.below + f.cycles in
+      does_behind {l = l} f.front m.forms (m.gives ++ under) (most - l) most pc u (goes_on [] (with_stack (m.words ++ vs) w)) (omega (arith, budget, paid)) h
+      f.come (λ t s k. record {
+        spent = m.cycles;
+        within = omega (arith, budget, paid, owed_append m.gives under);
+        runs = so_runs (m.makes mid k.is.rest t s (record { is = k.is.is; held = k.held })) (λ q j.
+            let same = words_kept w.fram w.locals q.work t.work under (none_held f.below) in
+            let still = describes_on z under mid end (with_stack vs w) w.inputs t q k.is same j.is in
+            subst (λ xs. Describes z (m.gives ++ under) end (with_stack (xs ++ vs) w) q) j.held
+            (all_wait z m.gives under end w vs q m.there (omega (arith, few, f.room)) still));
       })
 
-  -- code that brings the top to a register, and what is made of it in R4
-  pub value_part : {os : List Waiting} {pc : ℕ} {w : WordState} {y : ℕ} {rest : List ℕ} {u : Core} (b : WorkRegister) (front ms : List Form) (c most r : ℕ)
-      → 5 + c ≤ most → w.stack ≡ y ∷ rest → Describes z os pc w u → Stands z.code pc (front ++ ms)
-      → (let ks = kept (below_top os) in let mid = pc + forms_bytes front in
-      (Stands z.code pc front → Runs z.code [] (clear_cycles (below_top os) + load_cycles (top_of os)) u (Waits z ks mid (with_stack rest w) (HasWord b y)))
-      → ((xs : List ℕ) (t : Core) → Stands z.code mid ms → Has z b mid (with_stack xs w) y t
-      → Runs z.code [] c t (Has z R4 (mid + forms_bytes ms) (with_stack xs w) r))
-      → Does (waiting.R4 ∷ ks) (pc + forms_bytes (front ++ ms)) (most + owed os) u (goes_on [] (with_stack (r ∷ rest) w)))
-  value_part {os} {pc} {w} {y} {rest} {u} b front ms c most r l e d h come middle =
+  -- forms whose results are what registers hold
+  abbrev pub leaves_words : {w : WordState} {P Q : (ℕ → ℕ) → Type 0} (gives : List Waiting) (words : List ℕ)
+      → AllByRecursion (IsThere z.locals w.locals) gives → ((g : ℕ → ℕ) → Q g → waiting_words w.fram w.locals g gives ≡ words)
+      → (ms : List Form) (c : ℕ) → Makes P w ms c Q → Template w P
+  leaves_words gives words there is ms c f = record {
+    forms = ms;
+    cycles = c;
+    gives = gives;
+    words = words;
+    there = there;
+    makes = λ pc xs t s k. so_runs (f pc xs t s k) (λ q j. record { is = j.is; held = is q.work j.held });
+  }
+
+  -- a word in R4, and one in R6
+  abbrev pub in_four : {w : WordState} {P : (ℕ → ℕ) → Type 0} (ms : List Form) (c r : ℕ) → Makes P w ms c (HasWord R4 r) → Template w P
+  in_four ms c r f = leaves_words (waiting.R4 ∷ []) (r ∷ []) (tt, tt) (λ g q. ap (λ x. x ∷ []) q) ms c f
+
+  abbrev pub in_six : {w : WordState} {P : (ℕ → ℕ) → Type 0} (ms : List Form) (c r : ℕ) → Makes P w ms c (HasWord R6 r) → Template w P
+  in_six ms c r f = leaves_words (waiting.R6 ∷ []) (r ∷ []) (tt, tt) (λ g q. ap (λ x. x ∷ []) q) ms c f
+
+  abbrev pub fetched : {pc : ℕ} {w : WordState} {vs : List ℕ} {u : Core} {P : (ℕ → ℕ) → Type 0} (front : List Form) (below : List Waiting) (c n : ℕ)
+      → n + length vs ≤ z.room
+      → (Stands z.code pc front → Runs z.code [] (clear_cycles below + c) u (Waits z (kept below) (pc + forms_bytes front) (with_stack vs w) P))
+      → Fetched pc w vs u P
+  fetched front below c n room come = record { front = front; below = below; cycles = c; taken = n; room = room; come = come }
+
+  -- the top comes to R4, and to R5
+  abbrev pub four_fetched : (os : List Waiting) (pc : ℕ) (w : WordState) (v : ℕ) (vs : List ℕ) (u : Core) → w.stack ≡ v ∷ vs → Describes z os pc w u
+      → Fetched pc w vs u (HasWord R4 v)
+  four_fetched os pc w v vs u e d =
+      fetched (top_to_four os) (below_top os) (load_cycles (top_of os)) 1 (omega (arith, d.fits, ap (length {A = ℕ}) e))
+      (λ s. top_to_four_part z os pc w v vs u e s d)
+
+  abbrev five_fetched : (os : List Waiting) (pc : ℕ) (w : WordState) (v : ℕ) (vs : List ℕ) (u : Core) → w.stack ≡ v ∷ vs → Describes z os pc w u
+      → Fetched pc w vs u (HasWord R5 v)
+  five_fetched os pc w v vs u e d =
+      fetched (top_to_five os) (below_top os) (load_cycles (top_of os)) 1 (omega (arith, d.fits, ap (length {A = ℕ}) e))
+      (λ s. top_to_five_part z os pc w v vs u e s d)
+
+  -- the two on top come to R4 and R5
+  abbrev two_fetched : (os : List Waiting) (pc : ℕ) (w : WordState) (x y : ℕ) (vs : List ℕ) (u : Core) → w.stack ≡ y ∷ (x ∷ vs) → Describes z os pc w u
+      → Fetched pc w vs u (HasSides x y)
+  two_fetched os pc w x y vs u e d =
       let under = below_top os in
-      let room : length rest < z.room = omega (arith, d.fits, ap (length {A = ℕ}) e) in
-      made_waits (HasWord b y) R4 waiting.R4 front ms (kept under) (clear_cycles under + load_cycles (top_of os)) c (most + owed os) pc w r rest u
-      (none_held under) tt room (omega (arith, l, owed_kept under, load_owed os)) (λ f. refl) h come middle
+      fetched (two_to_registers os) (below_top under) (load_cycles (top_of os) + load_cycles (top_of under)) 2 (omega (arith, d.fits, ap (length {A = ℕ}) e))
+      (λ s. two_to_registers_part z os pc w x y vs u e s d)
+
+  -- the left one comes to R4, and the right one to where it is read
+  abbrev sides_fetched : (os : List Waiting) (pc : ℕ) (w : WordState) (x y : ℕ) (vs : List ℕ) (u : Core) → w.stack ≡ y ∷ (x ∷ vs) → Describes z os pc w u
+      → Fetched pc w vs u (Aiming true (right_source (top_of os)) x y w.fram)
+  sides_fetched os pc w x y vs u e d =
+      let under = below_top os in
+      fetched (sides os) (below_top under) (side_cycles (stays (top_of os)) (top_of os) + load_cycles (top_of under)) 2
+      (omega (arith, d.fits, ap (length {A = ℕ}) e)) (λ s. sides_part z os pc w x y vs u e s d)
+
+  -- ---- values
 
   unary_middles : (o : UnaryOperation) → UnaryMiddle z (unary_middle o) 2 (unary_word o)
   unary_middles Negate = negate_middle z
@@ -137,15 +205,21 @@ module _ (z : Setting) where
       → StepDoes [] os (unary o) (unary_cycles o) pc w u (with_top vs (λ v us. goes_on [] (with_stack (unary_word o v ∷ us) w)))
   unary_part o os pc w [] u e l h d = tt
   unary_part o os pc w (y ∷ rest) u e l h d =
-      value_part R5 (top_to_five os) (unary_middle o) 2 (unary_cycles o) (unary_word o y) (omega (arith, unary_price o)) e d h
-      (λ s. top_to_five_part z os pc w y rest u e s d) (λ xs t s k. unary_middles o (pc + forms_bytes (top_to_five os)) y (with_stack xs w) t l.0 s k)
+      template (five_fetched os pc w y rest u e d)
+      (in_four (unary_middle o) 2 (unary_word o y) (λ p xs t s k. unary_middles o p y (with_stack xs w) t l.0 s k))
+      (unary_cycles o + owed os) (omega arith) (omega (arith, unary_price o, load_owed os)) h
+
+  -- a shift of R4, its result said otherwise
+  abbrev shifted : (o : ShiftOperation) (n r : ℕ) (w : WordState) {v : ℕ} → shift_word o v n ≡ r → v < 0x10000 → Template w (HasWord R4 v)
+  shifted o n r w {v} is l =
+      in_four (shift_middle o n) 10 r (λ p xs t s k. so_runs (shift_part z o n p v (with_stack xs w) t l s k)
+      (λ q j. record { is = j.is; held = j.held ∙ is }))
 
   pub shift_reaches : (o : ShiftOperation) (n : ℕ) (os : List Waiting) (pc : ℕ) (w : WordState) (vs : List ℕ) (u : Core) → w.stack ≡ vs → AreWords vs
       → StepDoes [] os (shift o n) 15 pc w u (with_top vs (λ v us. goes_on [] (with_stack (shift_word o v n ∷ us) w)))
   shift_reaches o n os pc w [] u e l h d = tt
   shift_reaches o n os pc w (y ∷ rest) u e l h d =
-      value_part R4 (top_to_four os) (shift_middle o n) 10 15 (shift_word o y n) (omega arith) e d h (λ s. top_to_four_part z os pc w y rest u e s d)
-      (λ xs t s k. shift_part z o n (pc + forms_bytes (top_to_four os)) y (with_stack xs w) t l.0 s k)
+      template (four_fetched os pc w y rest u e d) (shifted o n (shift_word o y n) w refl l.0) (15 + owed os) (omega arith) (omega (arith, load_owed os)) h
 
   -- ---- words that no code brings anywhere
 
@@ -170,73 +244,67 @@ module _ (z : Setting) where
 
   -- ---- elements
 
-  -- what an element gives: 0 where the index isn't below the length, else a word of FRAM
-  by_length : (b : Bool) (base size : ℕ) (after : List Waiting) (end most : ℕ) (w : WordState) (i : ℕ) (rest : List ℕ) (u : Core) → nat_lt i size ≡ b
-      → (nat_lt i size ≡ false → Does after end most u (goes_on [] (with_stack (0 ∷ rest) w)))
-      → (nat_lt i size ≡ true → IsFram (2 * i + base) → Does after end most u (goes_on [] (with_stack (w.fram (2 * i + base) ∷ rest) w)))
-      → (let a = 2 * i + base in let x : Behaviour = if b then at_place a (goes_on [] (with_stack (w.fram a ∷ rest) w)) else goes_on []
-      (with_stack (0 ∷ rest) w) in Does after end most u x)
-  by_length false base size after end most w i rest u lt none there = none lt
-  by_length true base size after end most w i rest u lt none there =
-      let a = 2 * i + base in
-      reach_guarded z (is_place a) (owed after) (Describes z after end) most u (goes_on [] (with_stack (w.fram a ∷ rest) w)) (λ g. there lt (place_is a g))
+  module _ (base size : ℕ) (small : size < 0x10000) (w : WordState) (i : ℕ) (r : i < 0x10000) (rest : List ℕ) (u : Core) (e : w.stack ≡ i ∷ rest) where
+    -- what an element gives: 0 where the index isn't below the length, else a word of FRAM
+    by_length : (b : Bool) (after : List Waiting) (end most : ℕ) → nat_lt i size ≡ b
+        → (nat_lt i size ≡ false → Does after end most u (goes_on [] (with_stack (0 ∷ rest) w)))
+        → (nat_lt i size ≡ true → IsFram (2 * i + base) → Does after end most u (goes_on [] (with_stack (w.fram (2 * i + base) ∷ rest) w)))
+        → (let a = 2 * i + base in let x : Behaviour = if b then at_place a (goes_on [] (with_stack (w.fram a ∷ rest) w)) else goes_on []
+        (with_stack (0 ∷ rest) w) in Does after end most u x)
+    by_length false after end most lt none there = none lt
+    by_length true after end most lt none there =
+        let a = 2 * i + base in
+        reach_guarded z (is_place a) (owed after) (Describes z after end) most u (goes_on [] (with_stack (w.fram a ∷ rest) w)) (λ g. there lt (place_is a g))
 
-  -- an element, by whether the index is below the length; whether it surely is decides what its code is
-  element_by : (b : Bool) (base size : ℕ) (os : List Waiting) (pc : ℕ) (w : WordState) (i : ℕ) (rest : List ℕ) (u : Core) → size < 0x10000 → i < 0x10000
-      → (b ≡ true → nat_lt i size ≡ true) → w.stack ≡ i ∷ rest → (let ms = top_to_four os ++ element_code b base size in Stands z.code pc ms
-      → Describes z os pc w u → Does (waiting.R4 ∷ kept (below_top os)) (pc + forms_bytes ms) (15 + owed os) u (element_pushed base size i (with_stack rest w)))
-  element_by b base size os pc w i rest u s r sure e h d =
-      let a = 2 * i + base in
-      let front = top_to_four os in
-      let ms = element_code b base size in
-      let mid = pc + forms_bytes front in
-      let after = waiting.R4 ∷ kept (below_top os) in
-      let end = pc + forms_bytes (front ++ ms) in
-      let none : nat_lt i size ≡ false → Does after end (15 + owed os) u (goes_on [] (with_stack (0 ∷ rest) w)) = λ no. value_part R4 front ms 10 15 0
-      (omega arith) e d h (λ s. top_to_four_part z os pc w i rest u e s d) (λ xs t s' k. past_end z b base size mid s s' i (with_stack xs w) t sure no r k) in
-      let there : nat_lt i size ≡ true → IsFram a → Does after end (15 + owed os) u (goes_on [] (with_stack (w.fram a ∷ rest) w)) =
-      λ yes f. value_part R4 front ms 10 15 (w.fram a) (omega arith) e d h (λ s. top_to_four_part z os pc w i rest u e s d)
-      (λ xs t s' k. before_end z b base size mid s s' i (with_stack xs w) t yes r f k) in
-      by_length (nat_lt i size) base size after end (15 + owed os) w i rest u refl none there
+    -- an element, by whether the index is below the length; whether it surely is decides what its code is
+    element_by : (b : Bool) (os : List Waiting) (pc : ℕ) → (b ≡ true → nat_lt i size ≡ true)
+        → (let ms = top_to_four os ++ element_code b base size in Stands z.code pc ms → Describes z os pc w u
+        → Does (waiting.R4 ∷ kept (below_top os)) (pc + forms_bytes ms) (15 + owed os) u (element_pushed base size i (with_stack rest w)))
+    element_by b os pc sure h d =
+        let ms = element_code b base size in
+        let after = waiting.R4 ∷ kept (below_top os) in
+        let end = pc + forms_bytes (top_to_four os ++ ms) in
+        let gives : (v : ℕ) → Makes (HasWord R4 i) w ms 10 (HasWord R4 v) → Does after end (15 + owed os) u (goes_on [] (with_stack (v ∷ rest) w)) =
+        λ v f. template (four_fetched os pc w i rest u e d) (in_four ms 10 v f) (15 + owed os) (omega arith) (omega (arith, load_owed os)) h in
+        by_length (nat_lt i size) after end (15 + owed os) refl
+        (λ no. gives 0 (λ p xs t s k. past_end z b base size p small s i (with_stack xs w) t sure no r k))
+        (λ yes f. gives (w.fram (2 * i + base)) (λ p xs t s k. before_end z b base size p small s i (with_stack xs w) t yes r f k))
 
-  -- an element at a number that waits
-  known_by : (base size k : ℕ) (os : List Waiting) (pc : ℕ) (w : WordState) (i : ℕ) (rest : List ℕ) (u : Core) → w.stack ≡ i ∷ rest
-      → Describes z (waiting.Number k ∷ os) pc w u
-      → Does (known_element base size k ∷ os) (pc + 0) (15 + (owed os + 4)) u (element_pushed base size i (with_stack rest w))
-  known_by base size k os pc w i rest u e d =
-      let at = 2 * i + base in
-      let left = with_stack rest w in
-      let x = drop_part z (waiting.Number k) os pc w i rest u e d in
-      let room : length rest < z.room = omega (arith, d.fits, ap (length {A = ℕ}) e) in
-      let one : (o : Waiting) (v : ℕ) → IsThere z.locals w.locals o → waiting_word w.fram w.locals u.work o ≡ v → owed_by o ≤ 5
-      → Does (o ∷ os) (pc + 0) (15 + (owed os + 4)) u (goes_on [] (pushed v left)) =
-      λ o v there word less. reach_more z (owed (o ∷ os)) (Describes z (o ∷ os) (pc + 0)) (5 + owed os) (15 + (owed os + 4)) u [] (GoesOn (pushed v left))
-      (omega arith) (waits_part o os pc left v 5 u there word less room x.0) in
-      let none : nat_lt i size ≡ false → Does (known_element base size k ∷ os) (pc + 0) (15 + (owed os + 4)) u (goes_on [] (with_stack (0 ∷ rest) w)) =
-      λ no. subst (λ c. Does ((if c then waiting.Fram (word_sum base (word_sum k k)) else (waiting.Number 0)) ∷ os) (pc + 0) (15 + (owed os + 4)) u
-      (goes_on [] (with_stack (0 ∷ rest) w))) (sym (ap (λ n. nat_lt n size) x.1 ∙ no)) (one (waiting.Number 0) 0 tt refl (omega arith)) in
-      let there : nat_lt i size ≡ true → IsFram at
-      → Does (known_element base size k ∷ os) (pc + 0) (15 + (owed os + 4)) u (goes_on [] (with_stack (w.fram at ∷ rest) w)) =
-      λ yes f. let high = f.high in
-      let there : word_sum base (word_sum k k) ≡ at = omega (arith, x.1) in
-      subst (λ c. Does ((if c then waiting.Fram (word_sum base (word_sum k k)) else (waiting.Number 0)) ∷ os) (pc + 0) (15 + (owed os + 4)) u
-      (goes_on [] (with_stack (w.fram at ∷ rest) w))) (sym (ap (λ n. nat_lt n size) x.1 ∙ yes))
-      (one (waiting.Fram (word_sum base (word_sum k k))) (w.fram at) (subst IsFram (sym there) f) (ap w.fram there) (omega arith)) in
-      by_length (nat_lt i size) base size (known_element base size k ∷ os) (pc + 0) (15 + (owed os + 4)) w i rest u refl none there
+    -- an element at a number that waits
+    known_by : (k : ℕ) (os : List Waiting) (pc : ℕ) → Describes z (waiting.Number k ∷ os) pc w u
+        → Does (known_element base size k ∷ os) (pc + 0) (15 + (owed os + 4)) u (element_pushed base size i (with_stack rest w))
+    known_by k os pc d =
+        let at = 2 * i + base in
+        let left = with_stack rest w in
+        let most = 15 + (owed os + 4) in
+        let word = waiting.Fram (word_sum base (word_sum k k)) in
+        let x = drop_part z (waiting.Number k) os pc w i rest u e d in
+        let room : length rest < z.room = omega (arith, d.fits, ap (length {A = ℕ}) e) in
+        -- by whether the number is below the length
+        let one : (b : Bool) (v : ℕ) → nat_lt i size ≡ b → (let o = if b then word else (waiting.Number 0) in IsThere z.locals w.locals o
+        → waiting_word w.fram w.locals u.work o ≡ v → owed_by o ≤ 5 → Does (known_element base size k ∷ os) (pc + 0) most u (goes_on [] (pushed v left))) =
+        λ b v lt there is less. let o = if b then word else (waiting.Number 0) in
+        subst (λ c. Does ((if c then word else (waiting.Number 0)) ∷ os) (pc + 0) most u (goes_on [] (pushed v left)))
+        (sym (ap (λ n. nat_lt n size) x.1 ∙ lt))
+        (reach_more z (owed (o ∷ os)) (Describes z (o ∷ os) (pc + 0)) (5 + owed os) most u [] (GoesOn (pushed v left))
+        (omega arith) (waits_part o os pc left v 5 u there is less room x.0)) in
+        by_length (nat_lt i size) (known_element base size k ∷ os) (pc + 0) most refl (λ no. one false 0 no tt refl (omega arith)) (λ yes f.
+        let high = f.high in
+        let there : word_sum base (word_sum k k) ≡ at = omega (arith, x.1) in
+        one true (w.fram at) yes (subst IsFram (sym there) f) (ap w.fram there) (omega arith))
 
-  element_on : (b : Bool) (base size : ℕ) (os : List Waiting) (pc : ℕ) (w : WordState) (i : ℕ) (rest : List ℕ) (u : Core) → size < 0x10000 → i < 0x10000
-      → (b ≡ true → nat_lt i size ≡ true) → w.stack ≡ i ∷ rest
-      → (let ms = element_at b (top_number (top_of os)) os base size in Stands z.code pc ms → Describes z os pc w u
-      → Does (waiting_behind os (element base size)) (pc + forms_bytes ms) (15 + owed os) u (element_pushed base size i (with_stack rest w)))
-  element_on b base size (waiting.Number k ∷ os) pc w i rest u s r sure e h d = known_by base size k os pc w i rest u e d
-  element_on b base size os pc w i rest u s r sure e h d = element_by b base size os pc w i rest u s r sure e h d
+    element_on : (b : Bool) (os : List Waiting) (pc : ℕ) → (b ≡ true → nat_lt i size ≡ true)
+        → (let ms = element_at b (top_number (top_of os)) os base size in Stands z.code pc ms → Describes z os pc w u
+        → Does (waiting_behind os (element base size)) (pc + forms_bytes ms) (15 + owed os) u (element_pushed base size i (with_stack rest w)))
+    element_on b (waiting.Number k ∷ os) pc sure h d = known_by k os pc d
+    element_on b os pc sure h d = element_by b os pc sure h d
 
   pub element_reaches : (bs : List Bound) (base size : ℕ) (os : List Waiting) (pc : ℕ) (w : WordState) (vs : List ℕ) (u : Core) → size < 0x10000
       → Bounded bs w.locals → w.stack ≡ vs → AreWords vs
       → StepDoes bs os (element base size) 15 pc w u (with_top vs (λ i us. element_pushed base size i (with_stack us w)))
   element_reaches bs base size os pc w [] u s lb e l h d = tt
   element_reaches bs base size os pc w (i ∷ rest) u s lb e l h d =
-      element_on (is_inside bs (top_of os) size) base size os pc w i rest u s l.0 (top_inside z bs pc u size os w i rest lb e d) e h d
+      element_on base size s w i l.0 rest u e (is_inside bs (top_of os) size) os pc (top_inside z bs pc u size os w i rest lb e d) h d
 
   -- ---- versioned reads, where their code stands
 
@@ -250,15 +318,11 @@ module _ (z : Setting) where
     abbrev read_end : ℕ
     read_end = pc + forms_bytes (top_to_four os ++ read_code sure place list)
 
-    abbrev read_mid : ℕ
-    read_mid = pc + forms_bytes (top_to_four os)
-
     -- a word that its code gives
-    read_gives : (v : ℕ) → ((xs : List ℕ) (t : Core) → Stands z.code read_mid (read_code sure place list) → Has z R4 read_mid (with_stack xs w) i t
-        → Runs z.code [] 18 t (Has z R4 (read_mid + forms_bytes (read_code sure place list)) (with_stack xs w) v))
+    read_gives : (v : ℕ) → Makes (HasWord R4 i) w (read_code sure place list) 18 (HasWord R4 v)
         → Does after_read read_end (23 + owed os) u (goes_on [] (with_stack (v ∷ rest) w))
     read_gives v f =
-        value_part R4 (top_to_four os) (read_code sure place list) 18 23 v (omega arith) e d h (λ s. top_to_four_part z os pc w i rest u e s d) f
+        template (four_fetched os pc w i rest u e d) (in_four (read_code sure place list) 18 v f) (23 + owed os) (omega arith) (omega (arith, load_owed os)) h
 
     -- by whether the version word is the attempt's number
     own_by : (b : Bool) → (w.fram list.ver == w.fram (2 * i + place.versions)) ≡ b → nat_lt i place.length ≡ true → IsFram list.ver
@@ -268,16 +332,16 @@ module _ (z : Setting) where
     own_by true q lt f g =
         let c = 2 * i + place.copies in
         reach_guarded z (is_place c) (owed after_read) (Describes z after_read read_end) (23 + owed os) u (goes_on [] (with_stack (w.fram c ∷ rest) w)) (λ p.
-        read_gives (w.fram c) (λ xs t s k. own_copy z sure place list read_mid small s i (with_stack xs w) t wl lt r f g q (place_is c p) k))
+        read_gives (w.fram c) (λ p' xs t s k. own_copy z sure place list p' small s i (with_stack xs w) t wl lt r f g q (place_is c p) k))
     own_by false q lt f g =
         let a = 2 * i + place.elements in
         reach_guarded z (is_place a) (owed after_read) (Describes z after_read read_end) (23 + owed os) u (goes_on [] (with_stack (w.fram a ∷ rest) w)) (λ p.
-        read_gives (w.fram a) (λ xs t s k. own_home z sure place list read_mid small s i (with_stack xs w) t wl lt r f g q (place_is a p) k))
+        read_gives (w.fram a) (λ p' xs t s k. own_home z sure place list p' small s i (with_stack xs w) t wl lt r f g q (place_is a p) k))
 
     -- by whether the index is below the length
     read_by : (b : Bool) → nat_lt i place.length ≡ b → (let x : Behaviour = if b then own_element place list i (with_stack rest w) else goes_on []
         (with_stack (0 ∷ rest) w) in Does after_read read_end (23 + owed os) u x)
-    read_by false lt = read_gives 0 (λ xs t s k. past_read z sure place list read_mid small s i (with_stack xs w) t is lt r k)
+    read_by false lt = read_gives 0 (λ p' xs t s k. past_read z sure place list p' small s i (with_stack xs w) t is lt r k)
     read_by true lt =
         let m = 2 * i + place.versions in
         reach_guarded z (is_place list.ver) (owed after_read) (Describes z after_read read_end) (23 + owed os) u _ (λ f.
@@ -285,140 +349,92 @@ module _ (z : Setting) where
         own_by (w.fram list.ver == w.fram m) refl lt (place_is list.ver f) (place_is m g)))
 
   pub read_reaches : (bs : List Bound) (place : ArrayPlace) (list : ListPlace) (os : List Waiting) (pc : ℕ) (w : WordState) (vs : List ℕ) (u : Core)
-      → place.length < 0x10000 → HoldsWords w.fram → Bounded bs w.locals → w.stack ≡ vs → AreWords vs
+      → place.length < 0x10000 → HoldsWords w.fram → Bounded bs w.locals → (w.stack ≡ vs) × AreWords vs
       → StepDoes bs os (versioned_read place list) 23 pc w u (with_top vs (λ i us. versioned_pushed place list i (with_stack us w)))
-  read_reaches bs place list os pc w [] u s wl lb e l h d = tt
-  read_reaches bs place list os pc w (i ∷ rest) u s wl lb e l h d =
+  read_reaches bs place list os pc w [] u s wl lb e h d = tt
+  read_reaches bs place list os pc w (i ∷ rest) u s wl lb e h d =
       let n = place.length in
-      read_by (is_inside bs (top_of os) n) place list os pc s h w i rest u wl l.0 (top_inside z bs pc u n os w i rest lb e d) e d (nat_lt i n) refl
+      read_by (is_inside bs (top_of os) n) place list os pc s h w i rest u wl e.1.0 (top_inside z bs pc u n os w i rest lb e.0 d) e.0 d (nat_lt i n) refl
 
   -- ---- operations on two words
 
-  binary_by : (o : BinaryOperation) (hand : WorkRegister) (c : ℕ) (os : List Waiting) (pc : ℕ) (w : WordState) (x y : ℕ) (rest : List ℕ) (u : Core)
-      → BinaryMiddle z (binary_middle o) hand c (binary_word o) → IsThere z.locals w.locals (binary_result o) → owed_by (binary_result o) ≡ 3
-      → ((f : ℕ → ℕ) → waiting_word w.fram w.locals f (binary_result o) ≡ f (work_number hand)) → w.stack ≡ y ∷ (x ∷ rest) → x < 0x10000 → y < 0x10000
-      → (let ms = two_to_registers os ++ binary_middle o in Stands z.code pc ms → Describes z os pc w u
-      → Does (binary_result o ∷ kept (below_top (below_top os))) (pc + forms_bytes ms) (7 + c + owed os) u
-      (goes_on [] (with_stack (binary_word o x y ∷ rest) w)))
-  binary_by o hand c os pc w x y rest u m there three word e lx ly h d =
-      let first = top_of os in
-      let under = below_top os in
-      let room : length rest < z.room = omega (arith, d.fits, ap (length {A = ℕ}) e) in
-      let l = clear_cycles (below_top under) + (load_cycles first + load_cycles (top_of under)) in
-      made_waits (HasSides x y) hand (binary_result o) (two_to_registers os) (binary_middle o) (kept (below_top under)) l c (7 + c + owed os) pc w
-      (binary_word o x y) rest u (none_held (below_top under)) there room (omega (arith, three, owed_kept (below_top under), load_owed os, load_owed under))
-      word h (λ s. two_to_registers_part z os pc w x y rest u e s d) (λ xs t s k. m (pc + forms_bytes (two_to_registers os)) x y (with_stack xs w) t lx ly s k)
+  -- the instruction of an operation, on R4 and the right side where that is read, its result said otherwise
+  abbrev plain_made : (o : PlainOperation) (top : Option Waiting) (w : WordState) {x y : ℕ} (r : ℕ) → plain_word o x y ≡ r → x < 0x10000 → y < 0x10000
+      → Template w (Aiming true (right_source top) x y w.fram)
+  plain_made o top w {x} {y} r is lx ly =
+      let s = right_source top in
+      let ms = Calculate (plain_instruction o) s R4 ∷ [] in
+      in_four ms (reading_cycles (stays top)) r (λ p xs t h k.
+      plain_step z o s R4 (reading_cycles (stays top)) t _ lx ly (reading_price (stays top) top) (ap z.code k.is.at ∙ h.0)
+      (is_read true s R4 x y w.fram t k.is.fram k.held.four k.held.gives) (λ f. record {
+        is = stands_elsewhere z p (p + forms_bytes ms) (with_stack xs w) t _ k.is (omega (arith, k.is.at)) refl refl refl refl refl;
+        held = is;
+      }))
 
-  -- the instruction of an operation, on R4 and the right side where that is read
-  plain_form : (o : PlainOperation) (s : Source) (c pc x y : ℕ) (ks : List Waiting) (w : WordState) (vs : List ℕ) (t : Core)
-      → source_cycles to_register (source_operand s) ≤ c → x < 0x10000 → y < 0x10000 → any_held ks ≡ false → length vs < z.room
-      → (let m = Calculate (plain_instruction o) s R4 in z.code pc ≡ Some (instruction_of m)
-      → Waits z ks pc (with_stack vs w) (Aiming true s x y w.fram) t
-      → Runs z.code [] c t (Describes z (waiting.R4 ∷ ks) (pc + forms_bytes (m ∷ [])) (with_stack (plain_word o x y ∷ vs) w)))
-  plain_form o s c pc x y ks w vs t price lx ly none room h k =
-      let end = pc + forms_bytes (Calculate (plain_instruction o) s R4 ∷ []) in
-      let q = k.is in
-      plain_step z o s R4 c t _ lx ly price (ap z.code q.is.at ∙ h) (is_read true s R4 x y w.fram t q.is.fram k.held.four k.held.gives) (λ f.
-      result_waits z waiting.R4 ks end w (plain_word o x y) vs q.rest t.work _ q.stack (tt, q.there) none room refl
-      (stands_elsewhere z pc end (with_stack q.rest w) t _ q.is (omega (arith, q.is.at)) refl refl refl refl refl))
+  module _ (pc : ℕ) (w : WordState) (x y : ℕ) (rest : List ℕ) (u : Core) (e : w.stack ≡ y ∷ (x ∷ rest)) (lx : x < 0x10000) (ly : y < 0x10000) where
+    two_part : (o : BinaryOperation) (os : List Waiting) → Stands z.code pc (two_code os o) → Describes z os pc w u
+        → Does (binary_result o ∷ kept (below_top (below_top os))) (pc + forms_bytes (two_code os o)) (binary_cycles o + owed os) u
+        (goes_on [] (with_stack (binary_word o x y ∷ rest) w))
+    two_part Multiply os h d =
+        template (two_fetched os pc w x y rest u e d)
+        (in_six (binary_middle Multiply) 145 (binary_word Multiply x y) (λ p xs t s k. multiply_middle z p x y (with_stack xs w) t lx ly s k))
+        (152 + owed os) (omega arith) (omega (arith, load_owed os, load_owed (below_top os))) h
+    two_part Divide os h d =
+        template (two_fetched os pc w x y rest u e d)
+        (in_four (binary_middle Divide) 195 (binary_word Divide x y) (λ p xs t s k. divide_part z p x y (with_stack xs w) t lx ly s k))
+        (202 + owed os) (omega arith) (omega (arith, load_owed os, load_owed (below_top os))) h
+    two_part Remainder os h d =
+        template (two_fetched os pc w x y rest u e d)
+        (in_six (binary_middle Remainder) 195 (binary_word Remainder x y) (λ p xs t s k. remainder_part z p x y (with_stack xs w) t lx ly s k))
+        (202 + owed os) (omega arith) (omega (arith, load_owed os, load_owed (below_top os))) h
+    two_part (Plain o) os h d =
+        template (sides_fetched os pc w x y rest u e d) (plain_made o (top_of os) w (plain_word o x y) refl lx ly) (8 + owed os) (omega arith)
+        (omega (arith, side_owed (stays (top_of os)) os, load_owed (below_top os))) h
 
-  plain_by : (o : PlainOperation) (os : List Waiting) (pc : ℕ) (w : WordState) (x y : ℕ) (rest : List ℕ) (u : Core) → w.stack ≡ y ∷ (x ∷ rest) → x < 0x10000
-      → y < 0x10000 → (let ms = sides os ++ Calculate (plain_instruction o) (right_source (top_of os)) R4 ∷ [] in Stands z.code pc ms → Describes z os pc w u
-      → Does (waiting.R4 ∷ kept (below_top (below_top os))) (pc + forms_bytes ms) (8 + owed os) u (goes_on [] (with_stack (plain_word o x y ∷ rest) w)))
-  plain_by o os pc w x y rest u e lx ly h d =
-      let stay = stays (top_of os) in
-      let s = right_source (top_of os) in
-      let m = Calculate (plain_instruction o) s R4 in
-      let under = below_top os in
-      let ks = kept (below_top under) in
-      let mid = pc + forms_bytes (sides os) in
-      let l = clear_cycles (below_top under) + (side_cycles stay (top_of os) + load_cycles (top_of under)) in
-      let c = reading_cycles stay in
-      let room : length rest < z.room = omega (arith, d.fits, ap (length {A = ℕ}) e) in
-      record {
-        spent = l + c;
-        within = omega (arith, owed_kept (below_top under), side_owed stay os, load_owed under);
-        runs =
-            two_parts z (sides os) (m ∷ []) pc (λ p. Describes z (waiting.R4 ∷ ks) p (with_stack (plain_word o x y ∷ rest) w)) h
-            (λ s. sides_part z os pc w x y rest u e s d)
-            (λ t s' k. plain_form o s c mid x y ks w rest t (reading_price stay (top_of os)) lx ly (none_held (below_top under)) room s'.0 k);
-      }
+    -- by whether the number that waits on top, which is no more than known, is a power of two
+    power_by : (p : Option ℕ) (o : BinaryOperation) (n : ℕ) (os : List Waiting) → power n ≡ p → Stands z.code pc (power_code p (waiting.Number n ∷ os) o)
+        → Describes z (waiting.Number n ∷ os) pc w u
+        → Does (power_result p o ∷ kept (below_top os)) (pc + forms_bytes (power_code p (waiting.Number n ∷ os) o)) (binary_cycles o + (owed os + 4)) u
+        (goes_on [] (with_stack (binary_word o x y ∷ rest) w))
+    power_by None o n os q h d = two_part o (waiting.Number n ∷ os) h d
+    power_by (Some k) Multiply n os q h d =
+        let t = drop_part z (waiting.Number n) os pc w y (x ∷ rest) u e d in
+        let of = power_is n k q in
+        let left = with_stack (x ∷ rest) w in
+        let is = shift_left x k of.0 ∙ ap (word_product x) (sym of.1 ∙ t.1) in
+        template (four_fetched os pc left x rest u refl t.0) (shifted Left k (word_product x y) left is lx) (152 + (owed os + 4)) (omega arith)
+        (omega (arith, load_owed os)) h
+    power_by (Some k) Divide n os q h d =
+        let t = drop_part z (waiting.Number n) os pc w y (x ∷ rest) u e d in
+        let of = power_is n k q in
+        let left = with_stack (x ∷ rest) w in
+        let is = shift_right x k of.0 ∙ ap (quotient x) (sym of.1 ∙ t.1) in
+        template (four_fetched os pc left x rest u refl t.0) (shifted Right k (quotient x y) left is lx) (202 + (owed os + 4)) (omega arith)
+        (omega (arith, load_owed os)) h
+    power_by (Some k) Remainder n os q h d =
+        let t = drop_part z (waiting.Number n) os pc w y (x ∷ rest) u e d in
+        let of = power_is n k q in
+        let m = n - 1 in
+        let masked = waiting.Number m ∷ os in
+        let is = ap (λ p. bit_and x (p - 1)) of.1 ∙ mask_rest x k ∙ ap (remainder x) (sym of.1 ∙ t.1) in
+        let lm : m < 0x10000 = omega (arith, t.1, ly) in
+        let room : length (x ∷ rest) < z.room = omega (arith, d.fits, ap (length {A = ℕ}) e) in
+        let left = with_stack (m ∷ (x ∷ rest)) w in
+        let under = waits_more z (waiting.Number m) os pc (with_stack (x ∷ rest) w) m u tt refl room t.0 in
+        template (sides_fetched masked pc left x m rest u refl under) (plain_made And (top_of masked) left (remainder x y) is lx lm) (202 + (owed os + 4))
+        (omega arith) (omega (arith, load_owed os)) h
+    power_by (Some k) (Plain o) n os q h d = two_part (Plain o) (waiting.Number n ∷ os) h d
 
-  two_part : (o : BinaryOperation) (os : List Waiting) (pc : ℕ) (w : WordState) (x y : ℕ) (rest : List ℕ) (u : Core) → w.stack ≡ y ∷ (x ∷ rest)
-      → x < 0x10000 → y < 0x10000 → Stands z.code pc (two_code os o) → Describes z os pc w u
-      → Does (binary_result o ∷ kept (below_top (below_top os))) (pc + forms_bytes (two_code os o)) (binary_cycles o + owed os) u
-      (goes_on [] (with_stack (binary_word o x y ∷ rest) w))
-  two_part Multiply os pc w x y rest u e lx ly h d = binary_by Multiply R6 145 os pc w x y rest u (multiply_middle z) tt refl (λ f. refl) e lx ly h d
-  two_part Divide os pc w x y rest u e lx ly h d = binary_by Divide R4 195 os pc w x y rest u (divide_part z) tt refl (λ f. refl) e lx ly h d
-  two_part Remainder os pc w x y rest u e lx ly h d = binary_by Remainder R6 195 os pc w x y rest u (remainder_part z) tt refl (λ f. refl) e lx ly h d
-  two_part (Plain o) os pc w x y rest u e lx ly h d = plain_by o os pc w x y rest u e lx ly h d
-
-  -- by a power of two: the number that waits on top is no more than known
-  by_shift : (o : ShiftOperation) (n k most v : ℕ) (os : List Waiting) (pc : ℕ) (w : WordState) (x : ℕ) (rest : List ℕ) (u : Core) → 15 ≤ most
-      → shift_word o x k ≡ v → x < 0x10000 → w.stack ≡ n ∷ (x ∷ rest)
-      → (let ms = top_to_four os ++ shift_middle o k in Stands z.code pc ms → Describes z (waiting.Number n ∷ os) pc w u
-      → Does (waiting.R4 ∷ kept (below_top os)) (pc + forms_bytes ms) (most + (owed os + 4)) u (goes_on [] (with_stack (v ∷ rest) w)))
-  by_shift o n k most v os pc w x rest u l is lx e h d =
-      let left = with_stack (x ∷ rest) w in
-      let after = waiting.R4 ∷ kept (below_top os) in
-      let front = top_to_four os in
-      let ms = shift_middle o k in
-      let end = pc + forms_bytes (front ++ ms) in
-      let t = (drop_part z (waiting.Number n) os pc w n (x ∷ rest) u e d).0 in
-      subst (λ r. Does after end (most + (owed os + 4)) u (goes_on [] (with_stack (r ∷ rest) w))) is
-      (reach_more z (owed after) (Describes z after end) (15 + owed os) (most + (owed os + 4)) u [] (GoesOn (with_stack (shift_word o x k ∷ rest) w))
-      (omega (arith, l)) (value_part R4 front ms 10 15 (shift_word o x k) (omega arith) refl t h (λ s. top_to_four_part z os pc left x rest u refl s t)
-      (λ xs q s j. shift_part z o k (pc + forms_bytes front) x (with_stack xs w) q lx s j)))
-
-  by_mask : (n m most v : ℕ) (os : List Waiting) (pc : ℕ) (w : WordState) (x : ℕ) (rest : List ℕ) (u : Core) → 8 ≤ most → m < 0x10000
-      → bit_and x m ≡ v → x < 0x10000 → w.stack ≡ n ∷ (x ∷ rest)
-      → (let ms = two_code (waiting.Number m ∷ os) (Plain And) in Stands z.code pc ms → Describes z (waiting.Number n ∷ os) pc w u
-      → Does (waiting.R4 ∷ kept (below_top os)) (pc + forms_bytes ms) (most + (owed os + 4)) u (goes_on [] (with_stack (v ∷ rest) w)))
-  by_mask n m most v os pc w x rest u l lm is lx e h d =
-      let left = with_stack (x ∷ rest) w in
-      let after = waiting.R4 ∷ kept (below_top os) in
-      let end = pc + forms_bytes (two_code (waiting.Number m ∷ os) (Plain And)) in
-      let room : length (x ∷ rest) < z.room = omega (arith, d.fits, ap (length {A = ℕ}) e) in
-      let t = waits_more z (waiting.Number m) os pc left m u tt refl room (drop_part z (waiting.Number n) os pc w n (x ∷ rest) u e d).0 in
-      subst (λ r. Does after end (most + (owed os + 4)) u (goes_on [] (with_stack (r ∷ rest) w))) is
-      (reach_more z (owed after) (Describes z after end) (8 + (owed os + 4)) (most + (owed os + 4)) u [] (GoesOn (with_stack (bit_and x m ∷ rest) w))
-      (omega (arith, l))
-      (plain_by And (waiting.Number m ∷ os) pc (with_stack (m ∷ (x ∷ rest)) w) x m rest u refl lx lm h t))
-
-  -- by whether the number is a power of two
-  power_by : (p : Option ℕ) (o : BinaryOperation) (n : ℕ) (os : List Waiting) (pc : ℕ) (w : WordState) (x y : ℕ) (rest : List ℕ) (u : Core) → power n ≡ p
-      → w.stack ≡ y ∷ (x ∷ rest) → x < 0x10000 → y < 0x10000 → Stands z.code pc (power_code p (waiting.Number n ∷ os) o)
-      → Describes z (waiting.Number n ∷ os) pc w u → Does (power_result p o ∷ kept (below_top os)) (pc + forms_bytes (power_code p (waiting.Number n ∷ os) o))
-      (binary_cycles o + (owed os + 4)) u (goes_on [] (with_stack (binary_word o x y ∷ rest) w))
-  power_by None o n os pc w x y rest u q e lx ly h d = two_part o (waiting.Number n ∷ os) pc w x y rest u e lx ly h d
-  power_by (Some k) Multiply n os pc w x y rest u q e lx ly h d =
-      let is = (drop_part z (waiting.Number n) os pc w y (x ∷ rest) u e d).1 in
-      let of = power_is n k q in
-      by_shift Left n k 152 (word_product x y) os pc w x rest u (omega arith) (shift_left x k of.0 ∙ ap (word_product x) (sym of.1 ∙ is)) lx
-      (e ∙ ap (λ v. v ∷ (x ∷ rest)) (sym is)) h d
-  power_by (Some k) Divide n os pc w x y rest u q e lx ly h d =
-      let is = (drop_part z (waiting.Number n) os pc w y (x ∷ rest) u e d).1 in
-      let of = power_is n k q in
-      by_shift Right n k 202 (quotient x y) os pc w x rest u (omega arith) (shift_right x k of.0 ∙ ap (quotient x) (sym of.1 ∙ is)) lx
-      (e ∙ ap (λ v. v ∷ (x ∷ rest)) (sym is)) h d
-  power_by (Some k) Remainder n os pc w x y rest u q e lx ly h d =
-      let is = (drop_part z (waiting.Number n) os pc w y (x ∷ rest) u e d).1 in
-      let of = power_is n k q in
-      by_mask n (n - 1) 202 (remainder x y) os pc w x rest u (omega arith) (omega (arith, is, ly))
-      (ap (λ p. bit_and x (p - 1)) of.1 ∙ mask_rest x k ∙ ap (remainder x) (sym of.1 ∙ is)) lx
-      (e ∙ ap (λ v. v ∷ (x ∷ rest)) (sym is)) h d
-  power_by (Some k) (Plain o) n os pc w x y rest u q e lx ly h d = two_part (Plain o) (waiting.Number n ∷ os) pc w x y rest u e lx ly h d
-
-  binary_on : (o : BinaryOperation) (os : List Waiting) (pc : ℕ) (w : WordState) (x y : ℕ) (rest : List ℕ) (u : Core) → w.stack ≡ y ∷ (x ∷ rest)
-      → x < 0x10000 → y < 0x10000 → StepDoes [] os (binary o) (binary_cycles o) pc w u (goes_on [] (with_stack (binary_word o x y ∷ rest) w))
-  binary_on o (waiting.Number n ∷ os) pc w x y rest u e lx ly h d = power_by (power n) o n os pc w x y rest u refl e lx ly h d
-  binary_on o os pc w x y rest u e lx ly h d = two_part o os pc w x y rest u e lx ly h d
+    binary_on : (o : BinaryOperation) (os : List Waiting)
+        → StepDoes [] os (binary o) (binary_cycles o) pc w u (goes_on [] (with_stack (binary_word o x y ∷ rest) w))
+    binary_on o (waiting.Number n ∷ os) h d = power_by (power n) o n os refl h d
+    binary_on o os h d = two_part o os h d
 
   pub binary_part : (o : BinaryOperation) (os : List Waiting) (pc : ℕ) (w : WordState) (vs : List ℕ) (u : Core) → w.stack ≡ vs → AreWords vs
       → StepDoes [] os (binary o) (binary_cycles o) pc w u (with_two vs (λ x y us. goes_on [] (with_stack (binary_word o x y ∷ us) w)))
   binary_part o os pc w [] u e l h d = tt
   binary_part o os pc w (y ∷ []) u e l h d = tt
-  binary_part o os pc w (y ∷ (x ∷ rest)) u e l h d = binary_on o os pc w x y rest u e l.1.0 l.0 h d
+  binary_part o os pc w (y ∷ (x ∷ rest)) u e l h d = binary_on pc w x y rest u e l.1.0 l.0 o os h d
 
   -- ---- statements
 
@@ -429,47 +445,43 @@ module _ (z : Setting) where
   alone_part os ms c pc w u b h d f =
       alone_behind (flushed os) ms c (c + owed os) pc u b (omega arith) h (flush_part z os pc w u d) f
 
-  -- the same where the top is its source
-  pub statement_part : (os : List Waiting) (ms : List Form) (c most pc : ℕ) (w : WordState) (v : ℕ) (vs : List ℕ) (u : Core) (b : Behaviour)
-      → owed (below_top os) + c ≤ most → w.stack ≡ v ∷ vs → Stands z.code pc (flushed (below_top os) ++ ms) → Describes z os pc w u
-      → (let mid = pc + forms_bytes (flushed (below_top os)) in ((t : Core) → Stands z.code mid ms → Top z (source_from (top_of os)) [] mid w v vs t
-      → Follows z (mid + forms_bytes ms) c t b) → Does [] (pc + forms_bytes (flushed (below_top os) ++ ms)) most u b)
-  statement_part os ms c most pc w v vs u b l e h d f =
-      let front = flushed (below_top os) in
-      alone_behind front ms c most pc u b l h (λ s. below_part z os pc w v vs u e s d) f
+  module _ (os : List Waiting) (pc : ℕ) (w : WordState) (v : ℕ) (vs : List ℕ) (u : Core) (e : w.stack ≡ v ∷ vs) (d : Describes z os pc w u) where
+    -- the same where the top is its source
+    statement_part : (ms : List Form) (c most : ℕ) (b : Behaviour) → owed (below_top os) + c ≤ most → Stands z.code pc (flushed (below_top os) ++ ms)
+        → (let mid = pc + forms_bytes (flushed (below_top os)) in ((t : Core) → Stands z.code mid ms → Top z (source_from (top_of os)) [] mid w v vs t
+        → Follows z (mid + forms_bytes ms) c t b) → Does [] (pc + forms_bytes (flushed (below_top os) ++ ms)) most u b)
+    statement_part ms c most b l h f = alone_behind (flushed (below_top os)) ms c most pc u b l h (λ s. below_part z os pc w v vs u e s d) f
 
-  -- a word is stored, the others going on to wait where none of them is that word
-  keep_by : (b : Bool) (a : ℕ) (os : List Waiting) (pc : ℕ) (w : WordState) (v : ℕ) (us : List ℕ) (u : Core) → any_at a (below_top os) ≡ b
-      → w.stack ≡ v ∷ us → (let under = below_top os in
-      let ms = (if b then flushed under else []) ++ Move (source_from (top_of os)) (ToFram a) ∷ [] in
-      Stands z.code pc ms → Describes z os pc w u
-      → Does (if b then [] else under) (pc + forms_bytes ms) (5 + owed os) u (word_stored a v (with_stack us w)))
-  keep_by true a os pc w v us u f e h d =
-      let mid = pc + forms_bytes (flushed (below_top os)) in
-      statement_part os (Move (source_from (top_of os)) (ToFram a) ∷ []) (store_cycles (top_of os)) (5 + owed os) pc w v us u
-      (word_stored a v (with_stack us w)) (omega (arith, store_owed os)) e h d (λ t s k. keep_part z (top_of os) a mid v us w t s k)
-  keep_by false a os pc w v us u f e h d =
-      let under = below_top os in
-      let end = pc + forms_bytes (Move (source_from (top_of os)) (ToFram a) ∷ []) in
-      reach_guarded z (is_place a) (owed under) (Describes z under end) (5 + owed os) u (goes_on (Store a v ∷ []) (stored a v (with_stack us w))) (λ g.
-      record {
-        spent = store_cycles (top_of os);
-        within = store_owed os;
-        runs = keep_beside z (top_of os) a pc v under us w u f g h (take_part z os pc w v us u e d);
-      })
+    -- a word is stored, the others going on to wait where none of them is that word
+    keep_by : (b : Bool) (a : ℕ) → any_at a (below_top os) ≡ b
+        → (let under = below_top os in let ms = (if b then flushed under else []) ++ Move (source_from (top_of os)) (ToFram a) ∷ [] in
+        Stands z.code pc ms → Does (if b then [] else under) (pc + forms_bytes ms) (5 + owed os) u (word_stored a v (with_stack vs w)))
+    keep_by true a f h =
+        let mid = pc + forms_bytes (flushed (below_top os)) in
+        statement_part (Move (source_from (top_of os)) (ToFram a) ∷ []) (store_cycles (top_of os)) (5 + owed os) (word_stored a v (with_stack vs w))
+        (omega (arith, store_owed os)) h (λ t s k. keep_part z (top_of os) a mid v vs w t s k)
+    keep_by false a f h =
+        let under = below_top os in
+        let end = pc + forms_bytes (Move (source_from (top_of os)) (ToFram a) ∷ []) in
+        reach_guarded z (is_place a) (owed under) (Describes z under end) (5 + owed os) u (goes_on (Store a v ∷ []) (stored a v (with_stack vs w))) (λ g.
+        record {
+          spent = store_cycles (top_of os);
+          within = store_owed os;
+          runs = keep_beside z (top_of os) a pc v under vs w u f g h (take_part z os pc w v vs u e d);
+        })
 
   pub keep_reaches : (a : ℕ) (os : List Waiting) (pc : ℕ) (w : WordState) (vs : List ℕ) (u : Core) → w.stack ≡ vs
       → StepDoes [] os (keep a) 5 pc w u (with_top vs (λ v us. word_stored a v (with_stack us w)))
   keep_reaches a os pc w [] u e h d = tt
-  keep_reaches a os pc w (v ∷ us) u e h d = keep_by (any_at a (below_top os)) a os pc w v us u refl e h d
+  keep_reaches a os pc w (v ∷ us) u e h d = keep_by os pc w v us u e d (any_at a (below_top os)) a refl h
 
   pub update_reaches : (o : PlainOperation) (a : ℕ) (os : List Waiting) (pc : ℕ) (w : WordState) (vs : List ℕ) (u : Core) → w.fram a < 0x10000 → w.stack ≡ vs
       → AreWords vs → StepDoes [] os (update o a) 5 pc w u (with_top vs (λ v us. word_stored a (plain_word o (w.fram a) v) (with_stack us w)))
   update_reaches o a os pc w [] u f e l h d = tt
   update_reaches o a os pc w (v ∷ us) u f e l h d =
       let mid = pc + forms_bytes (flushed (below_top os)) in
-      statement_part os (Update (plain_instruction o) (source_from (top_of os)) a ∷ []) (store_cycles (top_of os)) (5 + owed os) pc w v us u
-      (word_stored a (plain_word o (w.fram a) v) (with_stack us w)) (omega (arith, store_owed os)) e h d
+      statement_part os pc w v us u e d (Update (plain_instruction o) (source_from (top_of os)) a ∷ []) (store_cycles (top_of os)) (5 + owed os)
+      (word_stored a (plain_word o (w.fram a) v) (with_stack us w)) (omega (arith, store_owed os)) h
       (λ t s k. update_part z o (top_of os) a mid v us w t f l.0 s k)
 
   pub set_reaches : (n : ℕ) (os : List Waiting) (pc : ℕ) (w : WordState) (vs : List ℕ) (u : Core) → n < z.locals → w.stack ≡ vs
@@ -477,18 +489,18 @@ module _ (z : Setting) where
   set_reaches n os pc w [] u l e h d = tt
   set_reaches n os pc w (v ∷ us) u l e h d =
       let mid = pc + forms_bytes (flushed (below_top os)) in
-      statement_part os (Move (source_from (top_of os)) (local_target n) ∷ []) (store_cycles (top_of os)) (5 + owed os) pc w v us u
-      (goes_on [] (with_local n v (with_stack us w))) (omega (arith, store_owed os)) e h d (λ t s k. set_part z (top_of os) n v mid us w t l s k)
+      statement_part os pc w v us u e d (Move (source_from (top_of os)) (local_target n) ∷ []) (store_cycles (top_of os)) (5 + owed os)
+      (goes_on [] (with_local n v (with_stack us w))) (omega (arith, store_owed os)) h (λ t s k. set_part z (top_of os) n v mid us w t l s k)
 
   pub update_local_reaches : (o : PlainOperation) (n x : ℕ) (os : List Waiting) (pc : ℕ) (w : WordState) (vs : List ℕ) (u : Core) → n < z.locals
-      → w.locals n ≡ Some x → x < 0x10000 → w.stack ≡ vs → AreWords vs
+      → w.locals n ≡ Some x → x < 0x10000 → (w.stack ≡ vs) × AreWords vs
       → StepDoes [] os (update_local o n) 10 pc w u (with_top vs (λ v us. goes_on [] (with_local n (plain_word o x v) (with_stack us w))))
-  update_local_reaches o n x os pc w [] u l q f e k h d = tt
-  update_local_reaches o n x os pc w (v ∷ us) u l q f e k h d =
+  update_local_reaches o n x os pc w [] u l q f e h d = tt
+  update_local_reaches o n x os pc w (v ∷ us) u l q f e h d =
       let mid = pc + forms_bytes (flushed (below_top os)) in
-      statement_part os (update_code o n (source_from (top_of os))) (8 + load_cycles (top_of os)) (10 + owed os) pc w v us u
-      (goes_on [] (with_local n (plain_word o x v) (with_stack us w))) (omega (arith, load_owed os)) e h d
-      (λ t s top. update_local_part z o (top_of os) n x v mid us w t l q f k.0 s top)
+      statement_part os pc w v us u e.0 d (update_code o n (source_from (top_of os))) (8 + load_cycles (top_of os)) (10 + owed os)
+      (goes_on [] (with_local n (plain_word o x v) (with_stack us w))) (omega (arith, load_owed os)) h
+      (λ t s top. update_local_part z o (top_of os) n x v mid us w t l q f e.1.0 s top)
 
   -- a local that is pushed, by where it stands
   pub local_by : (b : Bool) (n v : ℕ) (os : List Waiting) (pc : ℕ) (w : WordState) (u : Core) → nat_lt n 8 ≡ b → length w.stack < z.room → n < z.locals
@@ -524,34 +536,26 @@ module _ (z : Setting) where
       let under = below_top os in
       let left = with_stack rest w in
       let front = top_to_five os ++ flushed (kept under) in
-      let l = clear_cycles under + load_cycles (top_of os) in
       alone_behind front (emit_code count buffer) 14 (16 + owed os) pc u (word_emitted count buffer v left) (omega (arith, owed_kept under, load_owed os)) h
       (λ s. gathered (top_to_five os) (kept under) pc s (λ s. top_to_five_part z os pc w v rest u e s d))
       (λ t s k. emit_part z count buffer (pc + forms_bytes front) v left t s k)
 
   -- a versioned write
-  write_by : (b : Bool) (place : ArrayPlace) (list : ListPlace) (os : List Waiting) (pc : ℕ) (w : WordState) (i v : ℕ) (rest : List ℕ) (u : Core)
-      → place.length < 0x10000 → HoldsWords w.fram → (b ≡ true → nat_lt i place.length ≡ true) → i < 0x10000 → v < 0x10000 → w.stack ≡ v ∷ (i ∷ rest)
-      → (let ms = (two_to_registers os ++ flushed (kept (below_top (below_top os)))) ++ write_code b place list in Stands z.code pc ms → Describes z os pc w u
-      → Does [] (pc + forms_bytes ms) (79 + owed os) u (versioned_stored place list i v (with_stack rest w)))
-  write_by sure place list os pc w i v rest u small wl is r s e h d =
-      let under = below_top os in
-      let ks = kept (below_top under) in
+  pub write_reaches : (bs : List Bound) (place : ArrayPlace) (list : ListPlace) (os : List Waiting) (pc : ℕ) (w : WordState) (vs : List ℕ) (u : Core)
+      → place.length < 0x10000 → HoldsWords w.fram → Bounded bs w.locals → (w.stack ≡ vs) × AreWords vs
+      → StepDoes bs os (versioned_write place list) 79 pc w u (with_two vs (λ i v us. versioned_stored place list i v (with_stack us w)))
+  write_reaches bs place list os pc w [] u s wl lb e h d = tt
+  write_reaches bs place list os pc w (v ∷ []) u s wl lb e h d = tt
+  write_reaches bs place list os pc w (v ∷ (i ∷ rest)) u s wl lb e h d =
+      let ks = kept (below_top (below_top os)) in
       let front = two_to_registers os ++ flushed ks in
       let left = with_stack rest w in
-      let l = clear_cycles (below_top under) + (load_cycles (top_of os) + load_cycles (top_of under)) in
+      let sure = is_inside bs (top_of (below_top os)) place.length in
+      let is = under_inside z bs pc u place.length os w i v rest lb e.0 d in
       alone_behind front (write_code sure place list) 75 (79 + owed os) pc u (versioned_stored place list i v left)
-      (omega (arith, owed_kept (below_top under), load_owed os, load_owed under)) h (λ q. gathered (two_to_registers os) ks pc q
-      (λ q. two_to_registers_part z os pc w i v rest u e q d)) (λ t q k. write_part z sure place list (pc + forms_bytes front) small q i v left t is wl r s k)
-
-  pub write_reaches : (bs : List Bound) (place : ArrayPlace) (list : ListPlace) (os : List Waiting) (pc : ℕ) (w : WordState) (vs : List ℕ) (u : Core)
-      → place.length < 0x10000 → HoldsWords w.fram → Bounded bs w.locals → w.stack ≡ vs → AreWords vs
-      → StepDoes bs os (versioned_write place list) 79 pc w u (with_two vs (λ i v us. versioned_stored place list i v (with_stack us w)))
-  write_reaches bs place list os pc w [] u s wl lb e l h d = tt
-  write_reaches bs place list os pc w (v ∷ []) u s wl lb e l h d = tt
-  write_reaches bs place list os pc w (v ∷ (i ∷ rest)) u s wl lb e l h d =
-      let n = place.length in
-      write_by (is_inside bs (top_of (below_top os)) n) place list os pc w i v rest u s wl (under_inside z bs pc u n os w i v rest lb e d) l.1.0 l.0 e h d
+      (omega (arith, owed_kept (below_top (below_top os)), load_owed os, load_owed (below_top os))) h
+      (λ q. gathered (two_to_registers os) ks pc q (λ q. two_to_registers_part z os pc w i v rest u e.0 q d))
+      (λ t q k. write_part z sure place list (pc + forms_bytes front) s q i v left t is wl e.1.1.0 e.1.0 k)
 
   -- ---- a reading
 
@@ -561,9 +565,14 @@ module _ (z : Setting) where
   taken_part ks pc w r rs t none room e h d =
       let left : WordState = with_readings rs w in
       let after : Core = record t { pc = t.pc + 4; work = put t.work 4 r; inputs = record t.inputs { readings = rs } } in
-      hop z (forms.Sense R4) 3 t after (Take r ∷ []) 3 _ (ap z.code d.is.at ∙ h.0) tt (ap (λ l. sensed l R4 t) (ap (λ x. x.readings) d.is.inputs ∙ e)) (omega arith)
-      (result_waits z waiting.R4 ks (pc + 4) left r w.stack d.rest t.work after d.stack (tt, d.there) none room refl
-      (record { at = omega (arith, d.is.at); memory = d.is.memory; fram = d.is.fram; inputs = ap {A = Inputs} (λ x. record x { readings = rs }) d.is.inputs }))
+      hop z (forms.Sense R4) 3 t after (Take r ∷ []) 3 _ (ap z.code d.is.at ∙ h.0) tt (ap (λ l. sensed l R4 t) (ap (λ x. x.readings) d.is.inputs ∙ e))
+      (omega arith) (waits_more z waiting.R4 ks (pc + 4) left r after tt refl room
+      (describes_on z ks pc (pc + 4) w left.inputs t after d (words_kept w.fram w.locals after.work t.work ks none) (record {
+        at = omega (arith, d.is.at);
+        memory = d.is.memory;
+        fram = d.is.fram;
+        inputs = ap {A = Inputs} (λ x. record x { readings = rs }) d.is.inputs;
+      })))
 
   pub sense_part : (os : List Waiting) (pc : ℕ) (w : WordState) (rs : List ℕ) (u : Core) → length w.stack < z.room → w.inputs.readings ≡ rs
       → StepDoes [] os sense 6 pc w u (reading_pushed rs w)

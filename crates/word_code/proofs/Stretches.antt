@@ -1,7 +1,7 @@
 -- Stretches of code that stays, with room for locals and a stack.
-use Rattle.word_code.proofs.Names.{subst, ◌≡◌, ℕ, ◌+◌, ◌*◌, ◌≤◌, List, [], ◌++◌, Some, arith, forms_bytes, stands_front, stands_back, forms_bytes-append}
+use Rattle.word_code.proofs.Names.{subst, ◌≡◌, ℕ, ◌+◌, ◌≤◌, List, [], ◌++◌, Some, arith, forms_bytes, stands_front, stands_back, forms_bytes-append}
 use Rattle.word_code.proofs.Names.{Effect, Goes, Stops, At, stretch, Code, Core, Form, instruction_of, form_step, FormNeeds, Stands, AreStraight, forms_run}
-use Rattle.word_code.proofs.Names.{FormsNeed, IsTidy, Runs, Starves, stack_base}
+use Rattle.word_code.proofs.Names.{FormsNeed, IsTidy, Runs, Starves, stack_base, HasStackRoom}
 use Rattle.array_versions.specs.msp_step.declared.machine.Stop.TheVariants as stop
 use Rattle.code_forms.proofs.Interface as blocks
 
@@ -11,7 +11,7 @@ pub record Setting : Type 0 where
   pub tidy : IsTidy code
   pub locals : ℕ
   pub room : ℕ
-  pub roomy : 0x1C20 + 2 * room ≤ stack_base locals
+  pub roomy : HasStackRoom (stack_base locals) room
 
 -- straight code comes to where its forms do
 pub straight : (z : Setting) (ms : List Form) (most : ℕ) (u t : Core) (es : List Effect) (c : ℕ) (P : Core → Type 0) → AreStraight ms → Stands z.code u.pc ms
@@ -40,7 +40,13 @@ dearer_stall z = blocks.dearer_starves z.code z.tidy
 -- what it comes to, said otherwise
 pub so_runs : {code : Code} {es : List Effect} {most : ℕ} {u : Core} {P Q : Core → Type 0} → Runs code es most u P → ((t : Core) → P t → Q t)
     → Runs code es most u Q
-so_runs a f = record { steps = a.steps; cycles = a.cycles; end = a.end; within = a.within; leads = a.leads; holds = f a.end a.holds }
+so_runs a f =
+    record {
+      steps = a.steps;
+      cycles = a.cycles;
+      within = a.within;
+      comes = record { end = a.end; leads = a.leads; forms = a.forms; holds = f a.end a.holds };
+    }
 
 pub nothing_run : (z : Setting) {u : Core} {P : Core → Type 0} → P u → Runs z.code [] 0 u P
 nothing_run z {u} {P} = blocks.nothing z.code z.tidy u P

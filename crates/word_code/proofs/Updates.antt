@@ -7,7 +7,7 @@ use Rattle.word_code.proofs.Names.{word_stored, Waiting, plain_instruction, loca
 use Rattle.word_code.proofs.Registers.{Has, HasTwo}
 use Rattle.word_code.proofs.Operands.{Top, bare, load_cycles, load_price, store_cycles, store_price, to_five_part}
 use Rattle.word_code.proofs.Stretches.{Setting, straight, hop, runs_on, dearer}
-use Rattle.word_code.proofs.Memory.{local_words, in_register, in_ram, Memory, local_needs, set_register, set_ram, place_is}
+use Rattle.word_code.proofs.Memory.{local_words, in_register, in_ram, Memory, local_needs, local_read, set_register, set_ram, place_is}
 use Rattle.word_code.proofs.Follows.{StandsFor, Follows, guarded}
 use Rattle.word_code.proofs.Middles.{makes, plain_middle, plain_step, plain_needs}
 
@@ -65,7 +65,7 @@ module _ (z : Setting) where
       runs_on z (to_five_part z x pc w v vs u (h.0, tt) k) (λ t j.
       let i = j.is in
       straight z ms 3 t (end_of t (forms_run ms t).status) [] 3 _ (tt, tt)
-      (stands_at z.code mid ms t h.1 i.at) ((local_needs z n b lt, tt), tt) refl (omega arith)
+      (stands_at z.code mid ms t h.1 i.at) ((local_read z n i.memory b lt, tt), tt) refl (omega arith)
       (record {
         is = record { at = omega (arith, i.at); memory = i.memory; fram = i.fram; inputs = i.inputs };
         held = record { four = in_ram (local_words t.work) t.ram n b ∙ i.memory.vars n y lt q; five = j.held };

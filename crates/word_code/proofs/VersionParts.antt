@@ -8,7 +8,7 @@ use Rattle.word_code.proofs.Names.{first_code, stored_code, write_code}
 use Rattle.array_versions.specs.msp_step.msp_isa.declared.instructions.Condition.TheVariants as condition
 use Rattle.array_versions.specs.msp_step.msp_isa.declared.instructions.TwoOp.TheVariants as op
 use Rattle.array_versions.specs.msp_step.msp_isa.declared.operands.Konst.TheVariants as konst
-use Rattle.word_code.proofs.Memory.{HoldsWords, place_is}
+use Rattle.word_code.proofs.Memory.{HoldsWords, place_is, address_small}
 use Rattle.word_code.proofs.Registers.{HasWord, HasSides, Has, HasTwo, Flagged, IsZero, line, store_line, jump_with, jump_to, equal_flag}
 use Rattle.word_code.proofs.Stretches.{Setting, runs_on, dearer, so_runs}
 use Rattle.word_code.proofs.Follows.{Follows, more_cycles, then_end, ends_at, guarded}
@@ -32,7 +32,7 @@ module _ (z : Setting) where
       → Runs z.code [] 7 t (Flagged z (HasWord R4 (2 * i)) (IsZero (w.fram list.ver == w.fram (2 * i + place.versions))) (pc + 10) w)
   mark_part place list pc i w t l f g h k =
       let ms = marking place list in
-      let gh = g.high in
+      let gh = address_small g in
       let d : (t.work 4 + t.work 4 + 0) % 0x10000 ≡ 2 * i = ap (λ v. (v + v + 0) % 0x10000) k.held ∙ twice i place.versions gh in
       line z ms 7 (pc + 10) _ k.is (tt, (tt, (tt, tt))) h
       ((tt, tt), ((f, tt), ((tt, subst (λ v. IsFram (v + place.versions)) (sym d) g), tt))) refl refl (omega (arith, k.is.at))
@@ -155,7 +155,7 @@ module _ (z : Setting) where
         let c = 2 * i + place.copies in
         let m = 2 * i + place.versions in
         let y = stored c v w in
-        let fh = f.high in
+        let fh = address_small f in
         let d : (t.work 4 + t.work 4 + 0) % 0x10000 ≡ 2 * i = ap (λ q. (q + q + 0) % 0x10000) j.held.four ∙ twice i place.copies fh in
         let a : (t.work 4 + t.work 4 + 0) % 0x10000 + place.copies ≡ c = ap (λ q. q + place.copies) d in
         let fr : put t.fram ((t.work 4 + t.work 4 + 0) % 0x10000 + place.copies) (t.work 5) ≡ y.fram = λ e. put (j.is.fram e) (a e) (j.held.five e) in

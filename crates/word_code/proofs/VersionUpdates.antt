@@ -11,7 +11,7 @@ use Rattle.word_code.proofs.Names.{first_update, by_version, inside_update, chec
 use Rattle.array_versions.specs.msp_step.msp_isa.declared.instructions.Condition.TheVariants as condition
 use Rattle.array_versions.specs.msp_step.msp_isa.declared.instructions.TwoOp.TheVariants as op
 use Rattle.word_code.specs.declared.waiting.Waiting.TheVariants as waiting
-use Rattle.word_code.proofs.Memory.{HoldsWords, AreWords, place_is}
+use Rattle.word_code.proofs.Memory.{HoldsWords, AreWords, place_is, address_small}
 use Rattle.word_code.proofs.Results.{StepDoes, alone_behind, Does}
 use Rattle.word_code.proofs.Sides.{Aiming, GivesOn, Aims, reading_cycles, reading_price, writing_price, side_owed, update_sides_part, right_part, is_read}
 use Rattle.word_code.proofs.VersionParts.{HasNumber}
@@ -190,7 +190,7 @@ module _ (z : Setting) (o : PlainOperation) (x : Source) (r : ℕ) (reads : sour
       → Aims z x pc w i v t → Runs z.code [] 7 t (Looked (pc + 10) w (2 * i) v (w.fram list.ver == w.fram (2 * i + place.versions)))
   look_part pc i v w t wl fv fm h k =
       let m = 2 * i + place.versions in
-      let d : (t.work 4 + t.work 4 + 0) % 0x10000 ≡ 2 * i = ap (λ q. (q + q + 0) % 0x10000) k.held.four ∙ doubled i place.versions fm.high in
+      let d : (t.work 4 + t.work 4 + 0) % 0x10000 ≡ 2 * i = ap (λ q. (q + q + 0) % 0x10000) k.held.four ∙ doubled i place.versions (address_small fm) in
       line z looking 7 (pc + 10) _ k.is (tt, (tt, (tt, tt))) h
       ((tt, tt), ((fv, tt), ((tt, subst (λ q. IsFram (q + place.versions)) (sym d) fm), tt))) refl refl (omega (arith, k.is.at))
       (λ s. record {
@@ -372,7 +372,7 @@ module _ (z : Setting) (o : PlainOperation) (x : Source) (r : ℕ) (reads : sour
     known_looked : (b : Bool) → (w.fram list.ver == w.fram (2 * k + place.versions)) ≡ b → Runs z.code [] 6 t (Looked (pc + 8) w (t.work 4) v b)
     known_looked b e =
         let m = 2 * k + place.versions in
-        let at = known_place k place.versions fm.high in
+        let at = known_place k place.versions (address_small fm) in
         subst (λ c. Runs z.code [] 6 t (Looked (pc + 8) w (t.work 4) v c)) e
         (line z known_looking 6 (pc + 8) (Looked (pc + 8) w (t.work 4) v (w.fram list.ver == w.fram m)) i (tt, (tt, tt))
         (stands_front z.code pc known_looking (by_version one known_first) h) ((fv, tt), ((tt, subst IsFram (sym at) fm), tt)) refl refl (omega (arith, i.at))
@@ -406,7 +406,7 @@ module _ (z : Setting) (o : PlainOperation) (x : Source) (r : ℕ) (reads : sour
         ends_at z (at + 4 + forms_bytes (first_update o x place list)) (at + forms_bytes known_first) (2 + (68 + r)) u b end
         (then_end z (at + 4 + forms_bytes (first_update o x place list)) (68 + r) b.effects b.end
         (line z ms 2 (at + 4) _ a.is (tt, tt) (hs.0, tt) ((tt, tt), tt) refl refl (omega (arith, a.is.at))
-        (λ s. record { is = s; held = record { four = known_offset k place.versions fm.high; gives = a.held.gives } }))
+        (λ s. record { is = s; held = record { four = known_offset k place.versions (address_small fm); gives = a.held.gives } }))
         (λ q n. first_part (at + 4) k v w q wl lv fv fm fe fc hs.1 n))
 
     -- by whether the version word is VER's
@@ -422,7 +422,7 @@ module _ (z : Setting) (o : PlainOperation) (x : Source) (r : ℕ) (reads : sour
         (subst (λ n. Runs z.code (Store c y ∷ []) (6 + (2 + (6 + 2))) t (StandsFor z n s)) known_there
         (runs_on z (known_looked true e) (λ u j.
         again_way (pc + 8) one known_first known_ways one_few known_few c y 6 (t.work 4) v w s u j
-        (λ q hs a. once c q fc (known_place k place.copies fc.high) hs a))))))
+        (λ q hs a. once c q fc (known_place k place.copies (address_small fc)) hs a))))))
     known_by false e =
         let f = 2 * k + place.elements in
         let c = 2 * k + place.copies in

@@ -223,7 +223,7 @@ module _ (z : Setting) where
         let x = r.matches.assigned n r.fit.0 in
         let end = pc + forms_bytes (step_code bs os (update_local op n)) in
         subst (λ v. Does z [] end (10 + owed os) u (with_top w.stack (λ y us. local_updated op n y v (with_stack us w)))) (sym x.is)
-        (update_local_reaches z op n x.word os pc w w.stack u l x.is (r.words_in.locals n x.word x.is) refl r.words_in.stack h d)
+        (update_local_reaches z op n x.word os pc w w.stack u l x.is (r.words_in.locals n x.word x.is) (refl, r.words_in.stack) h d)
     step_follows bs (unary op) next os pc w u r o l c spared h d = unary_part z op os pc w w.stack u refl r.words_in.stack h d
     step_follows bs (binary op) next os pc w u r o l c spared h d = binary_part z op os pc w w.stack u refl r.words_in.stack h d
     step_follows bs (shift op k) next os pc w u r o l c spared h d = shift_reaches z op k os pc w w.stack u refl r.words_in.stack h d
@@ -236,9 +236,9 @@ module _ (z : Setting) where
         alone_part z os (entry_code count list home copy n) 26 pc w u (step_behaviour (list_entry count list home copy n) w) h d
         (λ t s i. entry_part z count list home copy n (pc + forms_bytes (flushed os)) w t s i)
     step_follows bs (versioned_read place list) next os pc w u r o l c spared h d =
-        read_reaches z bs place list os pc w w.stack u o.0.3 r.words_in.fram r.bounded refl r.words_in.stack h d
+        read_reaches z bs place list os pc w w.stack u o.0.3 r.words_in.fram r.bounded (refl, r.words_in.stack) h d
     step_follows bs (versioned_write place list) next os pc w u r o l c spared h d =
-        write_reaches z bs place list os pc w w.stack u o.0.3 r.words_in.fram r.bounded refl r.words_in.stack h d
+        write_reaches z bs place list os pc w w.stack u o.0.3 r.words_in.fram r.bounded (refl, r.words_in.stack) h d
     step_follows bs (versioned_update op place list) next os pc w u r o l c spared h d =
         in_place_reaches z op place list o.0.3 bs os pc w w.stack u r.words_in.fram r.bounded refl r.words_in.stack h d
     step_follows bs sense next os pc w u r o l c spared h d = sense_part z os pc w w.inputs.readings u (omega (arith, r.fit.1, r.matches.depth)) refl h d
@@ -431,7 +431,8 @@ pub code_does_as_program : CodeDoesAsProgram
 code_does_as_program code at p u tidy h whole o entry =
     let locals = locals_of p in
     let few = program_least whole.locals p whole.low_locals in
-    let z : Setting = record { code = code; tidy = tidy; locals = locals; room = whole.room; roomy = omega (arith, whole.fits, few) } in
+    let room = whole.fits.fits in
+    let z : Setting = record { code = code; tidy = tidy; locals = locals; room = whole.room; roomy = record { fits = omega (arith, room, few) } } in
     let s = started u.fram u.inputs in
     let b = behaviour p s in
     let front = stack_set locals in

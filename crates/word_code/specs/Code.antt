@@ -39,6 +39,7 @@ use Rattle.array_versions.specs.Program.{Step, Test, Program, number, load, keep
 use Rattle.array_versions.specs.Program.{emit_word, list_entry, versioned_read, versioned_write, versioned_update, sense, truth, choose, repeat, store_number}
 use Rattle.array_versions.specs.Program.{move_word, jump, holds, compares, both, either, fails, nothing, step}
 use Rattle.array_versions.specs.Form.{locals_of}
+pub use Rattle.array_versions.specs.Form.{stack_base}
 use Rattle.array_versions.specs.Behaviour.{WordState}
 use Rattle.array_versions.specs.Cost.{spent}
 
@@ -54,11 +55,7 @@ local_register n = get_or local_registers n R15
 abbrev pub local_address : ℕ → ℕ
 local_address n = 0x240E - 2 * n
 
--- where the stack of a program begins whose locals are below this number: right below those that stand in RAM
-abbrev pub stack_base : ℕ → ℕ
-stack_base locals = 0x2400 - 2 * (locals - 8)
-
--- SP is set there, where some stand in RAM; else it is at the end of RAM from an attempt's start on
+-- SP is set where the stack begins, below the locals, where some stand in RAM; else it is at the end of RAM from an attempt's start on
 abbrev pub stack_set : ℕ → List Form
 stack_set locals = if nat_lt 8 locals then SetStack (stack_base locals) ∷ [] else []
 

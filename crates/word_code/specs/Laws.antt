@@ -1,5 +1,5 @@
 -- What the code of a word program does.
-use Rattle.std.specs.Prelude.{◌≡◌, ℕ, ◌*◌, ◌<◌, ◌≤◌, List, length}
+use Rattle.std.specs.Prelude.{◌≡◌, ℕ, suc, ◌*◌, ◌<◌, ◌≤◌, List, length}
 use Rattle.array_versions.specs.fram_board.Effects.{Effect}
 use Rattle.array_versions.specs.machine_effects.World.{IsPrefix}
 use Rattle.array_versions.specs.machine_effects.Inputs.{InputsAreWords}
@@ -7,6 +7,7 @@ use Rattle.array_versions.specs.machine_effects.Going.{going}
 use Rattle.array_versions.specs.machine_effects.Machine.{Code, MachineStretch, exec}
 use Rattle.code_forms.specs.Forms.{Core, board_of}
 use Rattle.code_forms.specs.Code.{Stands, IsTidy, Runs, Starves, forms_bytes}
+use Rattle.code_forms.specs.Laws.{StepsReadFromSp}
 use Rattle.code_forms.specs.Placed.{words_of as instruction_words, instructions, AreInstructions}
 use Rattle.array_versions.specs.Program.{Program}
 use Rattle.array_versions.specs.Behaviour.{WordState, started, End, GoesOn, Jumps, Short, Strays, Broken, behaviour}
@@ -55,6 +56,15 @@ RunsStayWithin = (code : Code) (es : List Effect) (most : ℕ) (u : Core) (to : 
 abbrev pub StarvingStaysWithin : Type 0
 StarvingStaysWithin = (code : Code) (es : List Effect) (most : ℕ) (u : Core) → Starves code es most u → (n : ℕ)
     → IsWithin most es (going (exec code) n (board_of u))
+
+-- in front of each instruction on the way to a jump no word of RAM below SP is read
+abbrev pub RunsReadFromSp : Type 0
+RunsReadFromSp = (code : Code) (es : List Effect) (most : ℕ) (u : Core) (to : ℕ) (s : WordState) (a : Runs code es most u (HasJumped to s))
+    → StepsReadFromSp code a.steps u
+
+-- nor on the way to where a reading is wanted, and there
+abbrev pub StarvingReadsFromSp : Type 0
+StarvingReadsFromSp = (code : Code) (es : List Effect) (most : ℕ) (u : Core) (a : Starves code es most u) → StepsReadFromSp code (suc a.steps) u
 
 -- the code is at most as long as the program's words say
 abbrev pub CodeHasItsBytes : Type 0

@@ -1,6 +1,7 @@
 //! Laws of the code of word programs. The functions do nothing: their contracts are the laws.
 
-ghost use Rattle.word_code.specs.Laws.{CodeDoesAsProgram, RunsStayWithin, StarvingStaysWithin, CodeHasItsBytes, CodeHasItsWords, CodeIsInstructions};
+ghost use Rattle.word_code.specs.Laws.{CodeDoesAsProgram, RunsStayWithin, StarvingStaysWithin, RunsReadFromSp, StarvingReadsFromSp, CodeHasItsBytes};
+ghost use Rattle.word_code.specs.Laws.{CodeHasItsWords, CodeIsInstructions};
 ghost use Rattle.word_code.specs.TaskForms.{CodeIsOfTaskForms, CodeNamesRamFrom};
 
 /// The code of a whole program makes the program's effects within the cycles of the way that it takes, and comes to the program's end: behind its
@@ -16,8 +17,14 @@ pub fn effects_so_far_are_a_prefix()
     ensures starves { StarvingStaysWithin }
 {}
 
+/// In front of each instruction on the way no word of RAM below SP is read: what stands there makes no difference.
+pub fn runs_read_from_sp()
+    ensures runs { RunsReadFromSp }
+    ensures starves { StarvingReadsFromSp }
+{}
+
 /// The code of a program is no longer than the program's words say, and each of its instructions has its words.
-#[tactic(auto, using(crate::proofs::Lengths::code_has_its_bytes, crate::proofs::Lengths::code_has_its_words, crate::proofs::Lengths::code_is_instructions))]
+#[tactic(auto, using(crate::proofs::Lengths::code_has_its_bytes, crate::proofs::Lengths::code_has_its_words, crate::proofs::TaskForms::code_is_instructions))]
 pub fn code_has_its_words()
     ensures bytes { CodeHasItsBytes }
     ensures words { CodeHasItsWords }

@@ -9,5 +9,5 @@ steps_locals-loop-step-preserved t c =
     let known = c.loop-step.invariant in
     record {
       counted = omega (arith, ap locals_of e, known.counted, c.step_locals.ensures, c.greater-most.ensures);
-      locals = (subst (LocalsBelow 1008) e known.locals).1;
+      locals = (subst (LocalsBelow 1016) e known.locals).1;
     }

@@ -6,5 +6,5 @@ invariant-steps_locals-loop-step l =
     let left = steps_of (drop l.step-index l.steps) in
     record {
       counted : max l.most (locals_of left) ≡ locals_of (steps_of l.steps);
-      locals : LocalsBelow 1008 left;
+      locals : LocalsBelow 1016 left;
     }

@@ -22,7 +22,7 @@ emit_steps-loop-step-preserved t c =
           (ap (λ p. code ++ steps_code bs os p) (sym e) ∙ known.owed);
       after = ap (λ ws. waiting_after ws more) waits ∙ ap (λ p. waiting_after os p) (sym e) ∙ known.after;
       room = omega (arith, ap words_of e, known.room);
-      locals = (subst (LocalsBelow 1008) e known.locals).1;
+      locals = (subst (LocalsBelow 1016) e known.locals).1;
       in_words = λ h. known.in_words (subst OfWords (sym e) (c.in_ok-emit_step.ensures.of_words, h));
     }
 
@@ -118,7 +118,7 @@ emit_test-emit_test-requires-in-Both t c =
       search (rules, word_step.the_lemmas),
       (
         omega (arith, few, first, ap test_words is, c.requires.room, c.code_words.ensures, c.words_if.ensures, words_at_most (not c.args.when) c.args.over),
-        subst (λ x. TestLocalsBelow 1008 (test_of x)) (sym c.deref-in-Both-3.ensures) (subst (TestLocalsBelow 1008) is c.requires.locals).0,
+        subst (λ x. TestLocalsBelow 1016 (test_of x)) (sym c.deref-in-Both-3.ensures) (subst (TestLocalsBelow 1016) is c.requires.locals).0,
       ),
     )
 
@@ -158,7 +158,7 @@ emit_test-emit_test-requires-in-Either-2 t c =
       search (rules, word_step.the_lemmas),
       (
         omega (arith, few, first, ap test_words is, c.requires.room, c.code_words-in-Either.ensures, c.words_if-in-Either.ensures, words_at_most c.args.when c.args.over),
-        subst (λ x. TestLocalsBelow 1008 (test_of x)) (sym c.deref-in-Either-3.ensures) (subst (TestLocalsBelow 1008) is c.requires.locals).0,
+        subst (λ x. TestLocalsBelow 1016 (test_of x)) (sym c.deref-in-Either-3.ensures) (subst (TestLocalsBelow 1016) is c.requires.locals).0,
       ),
     )
 
@@ -265,7 +265,7 @@ emit_step-emit_test-requires t c =
       search (rules, word_step.the_lemmas),
       (
         omega (arith, words, all, forms_bytes-append block (pass_over passed), short, (pass_takes passed).bytes, ap step_words is, c.requires.room),
-        (subst (StepLocalsBelow 1008) is c.requires.locals).0,
+        (subst (StepLocalsBelow 1016) is c.requires.locals).0,
       ),
     )
 

@@ -9,6 +9,6 @@ invariant-emit_steps-loop-step l =
           ≡ l.initial.code.items ++ steps_code l.bounds l.initial.waiting.items (steps_of l.steps);
       after : waiting_after l.waiting.items left ≡ waiting_after l.initial.waiting.items (steps_of l.steps);
       room : words_of left ≤ 0x7FFF;
-      locals : LocalsBelow 1008 left;
+      locals : LocalsBelow 1016 left;
       in_words : OfWords left → OfWords (steps_of l.steps);
     }

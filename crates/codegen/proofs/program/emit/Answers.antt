@@ -6,7 +6,7 @@ use Rattle.codegen.proofs.program.emit.Goals as goal
 pub steps_locals-requires : goal.steps_locals-requires
 steps_locals-requires c =
     let p = steps_of c.args.program.now.steps.items in
-    subst (λ s. LocalsBelow 1008 (steps_of s)) (sym c.deref.ensures.value) (program_below 1008 p (whole_locals p c.requires.whole))
+    subst (λ s. LocalsBelow 1016 (steps_of s)) (sym c.deref.ensures.value) (program_below 1016 p (whole_locals p c.requires.whole))
 
 pub emit_stack_set-requires : goal.emit_stack_set-requires
 emit_stack_set-requires c =
@@ -16,4 +16,4 @@ emit_stack_set-requires c =
 pub emit_block-requires-clause-locals : goal.emit_block-requires-clause-locals
 emit_block-requires-clause-locals c =
     let p = steps_of c.args.program.now.steps.items in
-    subst (λ s. LocalsBelow 1008 (steps_of s)) (sym c.deref-2.ensures.value) (program_below 1008 p (whole_locals p c.requires.whole))
+    subst (λ s. LocalsBelow 1016 (steps_of s)) (sym c.deref-2.ensures.value) (program_below 1016 p (whole_locals p c.requires.whole))

@@ -1,5 +1,5 @@
-use Rattle.compiled_states.proofs.States.{states_are_worlds}
 use Rattle.compiled_states.proofs.laws.states_are_worlds.Goals as goal
+use Rattle.compiled_states.proofs.States.{states_are_worlds}
 
 pub returns : goal.returns
 returns c = states_are_worlds

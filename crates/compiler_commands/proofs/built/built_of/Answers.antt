@@ -1,6 +1,6 @@
 use Rattle.std.proofs.Common.{refl}
-use Rattle.image_reports.specs.task_ast.View.{program_of}
-use Rattle.image_reports.specs.source_maps.Maps.{map_of}
+use Rattle.task_ast.specs.View.{program_of}
+use Rattle.source_maps.specs.Maps.{map_of}
 use Rattle.plain_commands.proofs.command_answers.Interface.{handed_on}
 use Rattle.compiler_commands.proofs.built.built_of.Goals as goal
 

@@ -1,5 +1,5 @@
-use Rattle.image_reports.proofs.ImageLaw.{images_keep_the_laws}
 use Rattle.image_reports.proofs.image_law.images_keep_the_laws.Goals as goal
+use Rattle.image_reports.proofs.ImageLaw.{images_keep_the_laws}
 
 pub returns : goal.returns
 returns c = images_keep_the_laws

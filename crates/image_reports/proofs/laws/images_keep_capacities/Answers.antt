@@ -1,5 +1,5 @@
-use Rattle.image_reports.proofs.Capacities.{images_keep_capacities}
 use Rattle.image_reports.proofs.laws.images_keep_capacities.Goals as goal
+use Rattle.image_reports.proofs.ImageLaw.{images_keep_capacities}
 
 pub returns : goal.returns
 returns c = images_keep_capacities

@@ -1,5 +1,5 @@
-use Rattle.layout_facts.proofs.Privates.{privates_are_theirs}
 use Rattle.layout_facts.proofs.laws.privates_are_theirs.Goals as goal
+use Rattle.layout_facts.proofs.Privates.{privates_are_theirs}
 
 pub returns : goal.returns
 returns c = privates_are_theirs

@@ -1,14 +1,9 @@
-use Rattle.std.proofs.Common.{◌≡◌, ◌∙◌, ◌+◌, ◌*◌, ◌++◌, ap, sym, subst, length, map, arith}
-use Rattle.std.proofs.lemmas.List.{length-map}
-use Rattle.memory_map.specs.address_space.Limits.{reset_vector}
-use Rattle.memory_map.specs.Places.{end_of}
+use Rattle.link_image.proofs.Names.{◌≡◌, ◌∙◌, ◌+◌, ◌*◌, ◌++◌, ap, sym, subst, length, map, arith, length-map, reset_vector, end_of, instructions, program_of}
+use Rattle.link_image.proofs.Names.{chained, PartsInOrder, task_parts}
+use Rattle.link_image.proofs.code.code_words.Goals as goal
 use Rattle.boot_runtime.specs.Entries.{task_entries}
 use Rattle.boot_runtime.specs.Listing.{boot_forms}
-use Rattle.codegen.specs.array_versions.View.{program_of}
-use Rattle.linked_code.specs.Parts.{chained, PartsInOrder}
-use Rattle.linked_code.specs.Linked.{task_parts}
 use Rattle.link_image.proofs.Written.{words_in, after_boot, commit_behind, after_commit, tasks_behind, same_count, each_short}
-use Rattle.link_image.proofs.code.code_words.Goals as goal
 
 pub push_part-requires-2 : goal.push_part-requires-2
 push_part-requires-2 c =

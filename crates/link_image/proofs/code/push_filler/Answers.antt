@@ -1,8 +1,6 @@
-use Rattle.std.proofs.Common.{◌∙◌, ◌++◌, ◌∷◌, [], ◌-◌, ◌+◌, ap, sym, append_assoc}
-use Rattle.linked_code.specs.Parts.{filler}
-use Rattle.codegen.specs.word_code.Code.{repeated}
-use Rattle.link_image.proofs.Written.{words_in, filler_more}
+use Rattle.link_image.proofs.Names.{◌∙◌, ◌++◌, ◌∷◌, [], ◌-◌, ◌+◌, ap, sym, append_assoc, filler, repeated}
 use Rattle.link_image.proofs.code.push_filler.Goals as goal
+use Rattle.link_image.proofs.Written.{words_in, filler_more}
 
 pub loop-i-preserved : goal.loop-i-preserved
 loop-i-preserved c =

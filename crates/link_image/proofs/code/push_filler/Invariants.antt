@@ -1,7 +1,4 @@
-use Rattle.std.proofs.Common.{◌≡◌, ◌++◌, ◌-◌}
-use Rattle.linked_code.specs.code_forms.Placed.{instructions, words_of}
-use Rattle.codegen.specs.word_code.Code.{repeated}
-use Rattle.linked_code.specs.Parts.{filler}
+use Rattle.link_image.proofs.Names.{◌≡◌, ◌++◌, ◌-◌, instructions, words_of, repeated, filler}
 use Rattle.link_image.proofs.code.push_filler.Given as goal
 
 abbrev pub invariant-loop-i : goal.invariant-loop-i

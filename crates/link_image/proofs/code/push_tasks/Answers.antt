@@ -1,12 +1,7 @@
-use Rattle.std.proofs.Common.{◌∙◌, ◌+◌, ◌*◌, ◌++◌, ap, sym, subst, length, drop, map, arith}
-use Rattle.memory_map.specs.address_space.Limits.{reset_vector}
-use Rattle.codegen.specs.array_versions.View.{program_of}
-use Rattle.codegen.specs.array_versions.Form.{IsWhole}
-use Rattle.linked_code.specs.Parts.{chained, PartsInOrder}
-use Rattle.linked_code.specs.Linked.{task_part, task_parts}
-use Rattle.link_image.proofs.Written.{words_in, part_words, parts_more, next_order, next_each, order_end}
-use Rattle.link_image.specs.Needs.{IsShort}
+use Rattle.link_image.proofs.Names.{◌∙◌, ◌+◌, ◌*◌, ◌++◌, ap, sym, subst, length, drop, map, arith, reset_vector, program_of, IsWhole, chained, PartsInOrder}
+use Rattle.link_image.proofs.Names.{task_part, task_parts, IsShort}
 use Rattle.link_image.proofs.code.push_tasks.Goals as goal
+use Rattle.link_image.proofs.Written.{words_in, part_words, parts_more, next_order, next_each, order_end}
 
 pub push_task-requires-clause-order : goal.push_task-requires-clause-order
 push_task-requires-clause-order c =

@@ -1,12 +1,5 @@
-use Rattle.std.proofs.Common.{◌≡◌, ◌++◌, ◌+◌, ◌*◌, drop, map, length}
-use Rattle.std.specs.Prelude.{All}
-use Rattle.memory_map.specs.address_space.Limits.{reset_vector}
-use Rattle.linked_code.specs.code_forms.Placed.{instructions, words_of}
-use Rattle.codegen.specs.array_versions.View.{program_of}
-use Rattle.codegen.specs.array_versions.Form.{IsWhole}
-use Rattle.linked_code.specs.Parts.{chained, PartsInOrder}
-use Rattle.linked_code.specs.Linked.{task_parts}
-use Rattle.link_image.specs.Needs.{IsShort}
+use Rattle.link_image.proofs.Names.{◌≡◌, ◌++◌, ◌+◌, ◌*◌, drop, map, length, All, reset_vector, instructions, words_of, program_of, IsWhole, chained}
+use Rattle.link_image.proofs.Names.{PartsInOrder, task_parts, IsShort}
 use Rattle.link_image.proofs.code.push_tasks.Given as goal
 
 abbrev pub invariant-loop-k : goal.invariant-loop-k

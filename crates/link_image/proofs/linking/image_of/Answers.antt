@@ -1,19 +1,11 @@
-use Rattle.std.proofs.Common.{◌≡◌, ◌∙◌, ◌-◌, ◌/◌, ◌==◌, ℕ, List, if◌then◌else◌, ap, sym, subst, length, map, arith, slice_index}
-use Rattle.memory_map.specs.address_space.Limits.{reset_vector}
+use Rattle.link_image.proofs.Names.{◌≡◌, ◌∙◌, ◌-◌, ◌/◌, ◌==◌, ℕ, List, if◌then◌else◌, ap, sym, subst, length, map, arith, slice_index, reset_vector}
+use Rattle.link_image.proofs.Names.{SharedDeclaration, program_of, words_of, initial_words, MemoryMap, word_place, apart_of, linked, is_within, shared_word}
+use Rattle.link_image.proofs.Names.{code_words, AreWords}
 use Rattle.task_ast.specs.View as tree
-use Rattle.task_ast.specs.declared.SharedDeclaration.{SharedDeclaration}
-use Rattle.codegen.specs.array_versions.View.{program_of}
-use Rattle.linked_code.specs.code_forms.Placed.{words_of}
-use Rattle.whole_programs.specs.source_values.Runs.{initial_words}
-use Rattle.memory_map.specs.declared.words.RuntimeWord.TheVariants.{CurrentTask}
-use Rattle.memory_map.specs.MemoryMap.{MemoryMap, word_place}
-use Rattle.memory_map.proofs.Interface.{apart_of}
-use Rattle.lower.specs.Lowered.{lowered}
-use Rattle.linked_code.specs.Linked.{linked}
-use Rattle.image_laws.specs.compiled_model.View.{is_within, shared_word}
-use Rattle.image_laws.specs.Words.{code_words, AreWords}
-use Rattle.link_image.proofs.Placing.{zeros_are_words}
 use Rattle.link_image.proofs.linking.image_of.Goals as goal
+use Rattle.lower.specs.Lowered.{lowered}
+use Rattle.memory_map.specs.declared.words.RuntimeWord.TheVariants.{CurrentTask}
+use Rattle.link_image.proofs.Placing.{zeros_are_words}
 
 -- the word at an address, by the code, the declarations and the entry task
 abbrev word_by : MemoryMap → List ℕ → List SharedDeclaration → ℕ → ℕ → ℕ

@@ -1,10 +1,9 @@
+use Rattle.link_image.proofs.linking.is_ready.Goals as goal
 use Rattle.task_ast.specs.View.{program_of}
 use Rattle.link_image.proofs.Ready.{ready}
-use Rattle.link_image.proofs.linking.is_ready.Goals as goal
 
 pub returns : goal.returns
 returns c =
-    ready c.layouts_have_room.ensures c.statements_keep_to_words.ensures c.privates_are_few.ensures c.programs_are_whole.ensures c.names_are_names.ensures
-    c.maps_are_of_sources.ensures
-    c.args.accepted.now.text.items (program_of c.args.accepted.now.checked.source) c.args.accepted.now.allow c.args.plan.now c.args.layout.now
+    ready c.programs_are_whole.ensures c.args.accepted.now.text.items (program_of c.args.accepted.now.checked.source) c.args.accepted.now.allow
+    c.args.plan.now c.args.layout.now
     c.requires.accepted c.args.accepted.now.runnable c.requires.planned c.requires.laid_out

@@ -1,9 +1,7 @@
-use Rattle.std.proofs.Common.{◌∙◌, ◌-◌, ◌/◌, ◌==◌, if◌then◌else◌, ap, ap₂, sym, subst, map, length, slice_index}
-use Rattle.memory_map.specs.address_space.Limits.{fram_first, reset_vector}
-use Rattle.memory_map.specs.Places.{home_region, AreInOrder}
-use Rattle.image_laws.specs.compiled_model.View.{is_within, shared_word}
-use Rattle.link_image.proofs.Placing.{rows_of, wider_order}
+use Rattle.link_image.proofs.Names.{◌∙◌, ◌-◌, ◌/◌, ◌==◌, if◌then◌else◌, ap, ap₂, sym, subst, map, length, slice_index, fram_first, reset_vector, home_region}
+use Rattle.link_image.proofs.Names.{AreInOrder, is_within, shared_word}
 use Rattle.link_image.proofs.words.put_image.Goals as goal
+use Rattle.link_image.proofs.Placing.{rows_of, wider_order}
 
 pub put_scalars-requires-clause-order : goal.put_scalars-requires-clause-order
 put_scalars-requires-clause-order c =

@@ -1,12 +1,7 @@
-use Rattle.std.proofs.Common.{◌≡◌, ◌∙◌, ◌+◌, ◌-◌, ◌<◌, ap, sym, refl, length, drop, arith, get_or}
-use Rattle.std.proofs.lemmas.List.{at_drop_all, get_or_default}
-use Rattle.linked_code.specs.machine_effects.Machine.{fram_of}
-use Rattle.image_laws.specs.compiled_model.View.{shared_word}
-use Rattle.link_image.proofs.Placing.{rows_of, blank_at, same_length, region_at, next_of, next_put}
+use Rattle.link_image.proofs.Names.{◌≡◌, ◌∙◌, ◌+◌, ◌-◌, ◌<◌, ap, sym, refl, length, drop, arith, get_or, at_drop_all, get_or_default, fram_of, shared_word}
+use Rattle.link_image.proofs.Names.{fram_first, reset_vector, OneWord, Scalar}
 use Rattle.link_image.proofs.words.put_scalars.Goals as goal
-use Rattle.memory_map.specs.address_space.Limits.{fram_first, reset_vector}
-use Rattle.memory_map.specs.declared.place.ScalarWidth.TheVariants.{OneWord}
-use Rattle.memory_map.specs.declared.place.VariablePlace.TheVariants.{Scalar}
+use Rattle.link_image.proofs.Placing.{rows_of, blank_at, same_length, region_at, next_of, next_put}
 
 pub loop-i-init : goal.loop-i-init
 loop-i-init c =

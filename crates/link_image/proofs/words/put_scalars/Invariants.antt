@@ -1,8 +1,4 @@
-use Rattle.std.proofs.Common.{◌≡◌, ℕ, drop, map}
-use Rattle.linked_code.specs.machine_effects.Machine.{IsFram, fram_of}
-use Rattle.whole_programs.specs.source_values.Runs.{initial_words}
-use Rattle.image_laws.specs.compiled_model.View.{shared_word}
-use Rattle.image_laws.specs.Words.{AreWords}
+use Rattle.link_image.proofs.Names.{◌≡◌, ℕ, drop, map, IsFram, fram_of, initial_words, shared_word, AreWords}
 use Rattle.link_image.proofs.words.put_scalars.Given as goal
 
 abbrev pub invariant-loop-i : goal.invariant-loop-i

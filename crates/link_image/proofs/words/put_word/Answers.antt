@@ -1,10 +1,6 @@
-use Rattle.std.proofs.Common.{◌∙◌, ◌<◌, ap, sym, subst, length, arith}
-use Rattle.linked_code.specs.machine_effects.Machine.{fram_of}
-use Rattle.std.proofs.lemmas.List.Elements.{All-set}
-use Rattle.image_text.specs.ImageValue.{place_of}
-use Rattle.image_laws.specs.Words.{AreWords}
-use Rattle.link_image.proofs.Placing.{fram_set}
+use Rattle.link_image.proofs.Names.{◌∙◌, ◌<◌, ap, sym, subst, length, arith, fram_of, All-set, place_of, AreWords}
 use Rattle.link_image.proofs.words.put_word.Goals as goal
+use Rattle.link_image.proofs.Placing.{fram_set}
 
 pub returns-clause-each : goal.returns-clause-each
 returns-clause-each c = λ a is. ap (λ i. fram_of i.words a) c.set.ensures

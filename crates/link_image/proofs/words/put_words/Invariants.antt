@@ -1,7 +1,4 @@
-use Rattle.std.proofs.Common.{◌≡◌, ◌-◌, ◌/◌, ℕ, if◌then◌else◌, slice_index}
-use Rattle.linked_code.specs.machine_effects.Machine.{IsFram, fram_of}
-use Rattle.image_laws.specs.compiled_model.View.{is_within}
-use Rattle.image_laws.specs.Words.{AreWords}
+use Rattle.link_image.proofs.Names.{◌≡◌, ◌-◌, ◌/◌, ℕ, if◌then◌else◌, slice_index, IsFram, fram_of, is_within, AreWords}
 use Rattle.link_image.proofs.words.put_words.Given as goal
 
 abbrev pub invariant-loop-i : goal.invariant-loop-i

@@ -1,4 +1,4 @@
-use Rattle.std.proofs.Common.{sym, subst, take, arith}
+use Rattle.std.proofs.Common.{sym, subst, take, ◌∙◌, arith}
 use Rattle.std.proofs.lemmas.List.{get_or_default}
 use Rattle.privatise.specs.Placing.{ArePrivates}
 use Rattle.privatise.proofs.TasksPlaced.{no_privates, next_private, all_privates}
@@ -14,8 +14,9 @@ private_scalar-requires c = c.requires c.loop-number.number-index _ c.loop-numbe
 
 pub loop-number-preserved : goal.loop-number-preserved
 loop-number-preserved c =
-    next_private c.args.variables.now c.args.numbers.now c.loop-number.number-index _ c.private_scalar.result c.loop-number.privates.items c.push.new.self.items
-    c.loop-number-test.true (get_or_default c.args.numbers.now c.loop-number.number-index _ _ c.loop-number-test.true) c.private_scalar.ensures.number
+    next_private c.args.variables.now c.args.numbers.now c.loop-number.number-index c.private_scalar.result c.loop-number.privates.items c.push.new.self.items
+    c.loop-number-test.true
+    (c.private_scalar.ensures.number ∙ get_or_default c.args.numbers.now c.loop-number.number-index _ _ c.loop-number-test.true)
     c.private_scalar.ensures.place c.in_ok-push.ensures.items c.loop-number.invariant
 
 pub returns : goal.returns

@@ -1,0 +1,44 @@
+-- No form that has what it needs reads a word of RAM below SP.
+use Rattle.std.proofs.Common.{◌≡◌, ℕ, ◌≤◌, Some, arith, subst}
+use Rattle.std.proofs.lemmas.Option.{same_Some}
+use Rattle.machine_effects.specs.msp_step.declared.machine.Stop.{Stop}
+use Rattle.machine_effects.specs.Going.{Status, At, Halted}
+use Rattle.machine_effects.specs.Machine.{Code, MachineBoard}
+use Rattle.code_forms.specs.Forms.{Core, Source, Register, Number, Constant, Fram, Ram, Pointed, PointedNext, Indexed, Popped, SourceNeeds, source_ram}
+use Rattle.code_forms.specs.Forms.{Form, Move, Calculate, Compare, Update, Push, Modify, SetStack, Sense, Jump, Skip, Branch, BranchIndexed, SkipBy, FormNeeds}
+use Rattle.code_forms.specs.Forms.{ram_read}
+use Rattle.code_forms.specs.Code.{IsAtForm, OfState}
+use Rattle.code_forms.specs.Laws.{ReadsFromSp, FormsReadFromSp}
+
+source_from_sp : (x : Source) (u : Core) (a : ℕ) → SourceNeeds x u → source_ram x u ≡ Some a → u.sp ≤ a
+source_from_sp (Ram b) u a h e = subst (λ n. u.sp ≤ n) (same_Some b a e) h.1
+source_from_sp Popped u a h e = let same = same_Some u.sp a e in omega (arith, same)
+source_from_sp (Register b) u a h e = absurd (cc)
+source_from_sp (Number n) u a h e = absurd (cc)
+source_from_sp (Constant k) u a h e = absurd (cc)
+source_from_sp (Fram b) u a h e = absurd (cc)
+source_from_sp (Pointed b) u a h e = absurd (cc)
+source_from_sp (PointedNext b) u a h e = absurd (cc)
+source_from_sp (Indexed b x) u a h e = absurd (cc)
+
+form_from_sp : (m : Form) (u : Core) (a : ℕ) → FormNeeds m u → ram_read m u ≡ Some a → u.sp ≤ a
+form_from_sp (Move x y) u a h e = source_from_sp x u a h.0 e
+form_from_sp (Calculate op x b) u a h e = source_from_sp x u a h.1 e
+form_from_sp (Compare x b) u a h e = source_from_sp x u a h.0 e
+form_from_sp (Update op x b) u a h e = source_from_sp x u a h.2 e
+form_from_sp (Push x) u a h e = source_from_sp x u a h.0 e
+form_from_sp (Modify m b) u a h e = absurd (cc)
+form_from_sp (SetStack n) u a h e = absurd (cc)
+form_from_sp (Sense b) u a h e = absurd (cc)
+form_from_sp (Jump c o) u a h e = absurd (cc)
+form_from_sp (Skip n) u a h e = absurd (cc)
+form_from_sp (Branch b) u a h e = absurd (cc)
+form_from_sp (BranchIndexed b x) u a h e = absurd (cc)
+form_from_sp (SkipBy b) u a h e = absurd (cc)
+
+reads_at : (code : Code) (x : Status MachineBoard Stop) → OfState x (IsAtForm code) → OfState x (ReadsFromSp code)
+reads_at code (At s) h = record { at = h; from = λ a e. form_from_sp h.form h.core a h.needs e }
+reads_at code (Halted price x) h = tt
+
+pub forms_read_from_sp : FormsReadFromSp
+forms_read_from_sp code steps u h n l = reads_at code _ (h n l)
