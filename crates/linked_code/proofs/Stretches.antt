@@ -18,7 +18,7 @@ use Rattle.boot_runtime.specs.runtime_effects.Stages.{is_at_end, start_effects, 
 use Rattle.boot_runtime.specs.runtime_effects.Needs.{CanCommit}
 use Rattle.boot_runtime.specs.runtime_code.Addresses.{start_address}
 use Rattle.boot_runtime.specs.runtime_code.Comes.{Comes, IsAt, Enters}
-use Rattle.boot_runtime.proofs.runtime_code.Interface.{comes_on, known_at, places_are_in_fram, opening_keeps_task}
+use Rattle.boot_runtime.proofs.runtime_code.Interface.{comes_on, core_at, from_there, places_are_in_fram, opening_keeps_task}
 use Rattle.boot_runtime.specs.Entries.{entry_of, task_entries}
 use Rattle.boot_runtime.specs.Listing.{TaskEntry, entry_at, privates_in, start_steps, start_cycles}
 use Rattle.boot_runtime.specs.Laws.{IsBoot}
@@ -109,10 +109,7 @@ module _ (l : MemoryMap) (programs : List Program) (fits : CodeFits l programs) 
   start_there : (v : Core) (f : ℕ → ℕ) (inputs : Inputs) → IsAt start_at f inputs v → f (word_place l CurrentTask) < length tasks
       → f (word_place l Version) < 0x10000 → FromStart v f inputs
   start_there v f inputs h named word =
-      let k : v.fram (word_place l CurrentTask) < length tasks = subst (λ g. g (word_place l CurrentTask) < length tasks) (sym h.fram) named in
-      let a : FromStart v v.fram v.inputs = start_is_made code l l.commit.address tasks l.boot.address v is_boot h.pc k
-      (subst (λ g. g (word_place l Version) < 0x10000) (sym h.fram) word) in
-      known_at (FromStart v) h a
+      from_there v h (start_is_made code l l.commit.address tasks l.boot.address (core_at start_at f inputs v) is_boot refl named word)
 
   -- from where a board enters to the code of the task that CUR names
   pub to_task : (u : Core) (steps cycles : ℕ) → Comes code [] steps cycles u (IsAt start_at u.fram u.inputs)
@@ -125,12 +122,7 @@ module _ (l : MemoryMap) (programs : List Program) (fits : CodeFits l programs) 
   to_task u steps cycles a named word =
       let count = programs_count l.tasks programs fits.tasks in
       let e = entries_count l.tasks in
-      let t = entry_at tasks (u.fram (word_place l CurrentTask)) in
-      let clears = is_at_end l u.fram in
-      let es = start_effects l (privates_in tasks) u.fram in
-      comes_on code steps (start_steps clears l.versions.words (length t.privates)) cycles (start_cycles clears l.versions.words (length t.privates)) u
-      (IsAt start_at u.fram u.inputs) (Enters t.code stack_top (fram_after es u.fram) u.inputs) [] es a
-      (λ v h. start_there v u.fram u.inputs h (omega (arith, named, count, e)) word)
+      comes_on a (λ v h. start_there v u.fram u.inputs h (omega (arith, named, count, e)) word)
 
   -- the code of a task stands where the boot comes to it
   task_stands : (k : ℕ) → k < length programs → Stands code (entry_at tasks k).code (code_of (program k))
@@ -176,10 +168,8 @@ module _ (l : MemoryMap) (programs : List Program) (fits : CodeFits l programs) 
   commit_there v f inputs h can word =
       let c = fits.commit in let d = (apart_of l fits.rules).code in let k = (apart_of l fits.rules).high in
       let even = (even_of l fits.rules).boot in
-      let a : DoesCommit v v.fram v.inputs = commit_is_made code l l.commit.address start_at v is_linked.tidy is_boot.places
-      (omega (arith, c, d, k)) (omega (arith, even)) parts.commit h.pc (subst (CanCommit l) (sym h.fram) can)
-      (subst (λ g. g (word_place l SentBase) < 0x10000) (sym h.fram) word) in
-      known_at (DoesCommit v) h a
+      from_there v h (commit_is_made code l l.commit.address start_at (core_at l.commit.address f inputs v) is_linked.tidy is_boot.places
+      (omega (arith, c, d, k)) (omega (arith, even)) parts.commit refl can word)
 
   -- from the boot to the commit, where GATE is 1
   pub to_commit : (u : Core) → u.pc ≡ l.boot.address → u.fram (word_place l Gate) ≡ 1 → CanCommit l u.fram
@@ -188,9 +178,5 @@ module _ (l : MemoryMap) (programs : List Program) (fits : CodeFits l programs) 
       let n = u.fram (word_place l ListLength) in let ws = length (listed l u.fram) in let k = u.fram (word_place l EmitCount) in
       Comes code es (3 + commit_steps n ws k) (9 + commit_cycles n ws k) u (IsAt start_at (fram_after es u.fram) u.inputs)
   to_commit u e one can word =
-      let es = commit_effects l u.fram in
-      let n = u.fram (word_place l ListLength) in let ws = length (listed l u.fram) in let k = u.fram (word_place l EmitCount) in
-      comes_on code 3 (commit_steps n ws k) 9 (commit_cycles n ws k) u (IsAt l.commit.address u.fram u.inputs)
-      (IsAt start_at (fram_after es u.fram) u.inputs) [] es
-      (pending_commit_is_found code l l.commit.address tasks l.boot.address u is_boot e one)
+      comes_on (pending_commit_is_found code l l.commit.address tasks l.boot.address u is_boot e one)
       (λ v h. commit_there v u.fram u.inputs h can word)
