@@ -92,8 +92,8 @@ module _ (code : Code) (tidy : IsTidy code) (m : MemoryMap) (places : AreInFram 
       let high' : p + 4 + 22 < 0x10000 = omega (arith, high) in
       let stands = forms_at code p 1 7 (clearing m) h in
       let all = loops code tidy (clears_loop (p + 4) high' stands l) (turning (p + 4) high' stands l) (one_cleared (p + 4) high' stands l)
-          (all_cleared (p + 4) high' stands l) n (record { place = m.versions.address; memory = f }) begun (omega (arith, last))
-          (record { pc = refl; fram = refl; inputs = refl }) refl refl (all_left (2 * n) places.versions (omega arith)) in
+      (all_cleared (p + 4) high' stands l) n (record { place = m.versions.address; memory = f }) begun (omega (arith, last))
+      (record { pc = refl; fram = refl; inputs = refl }) refl refl (all_left (2 * n) places.versions (omega arith)) in
       let end : (v : Core) → IsAt (p + 22) g l v → Comes code (Store (word_place m Version) 0 ∷ []) 1 4 v (IsAt (p + 26) (put g (word_place m Version) 0) l) =
       λ v k. from_there v k (ends (straight code tidy (version_cleared m) (core_at (p + 22) g l v) (tt, tt) (forms_behind code p 8 (clearing m) h)
       ((tt, places.words Version), tt) refl) (record { pc = omega arith; fram = refl; inputs = refl })) in

@@ -15,14 +15,14 @@ pub use laws::{
     tasks_are_entered, version_is_raised,
 };
 use memory_map::{Layout, RuntimeWord, STACK_TOP};
-use runtime_code::{loop_begin, loop_end};
-use std::alloc::{AllocError, Global};
-use stubs::{push_ladder, push_stubs};
 use runtime_code::forms::Form::{Branch, Calculate, Compare, Move, SetStack, SkipBy, Update};
 use runtime_code::forms::Source::{Constant, Fram, Number, Register};
 use runtime_code::forms::Target::{ToFram, ToPointed, ToRegister};
 use runtime_code::forms::WorkRegister::{R4, R5};
 use runtime_code::forms::{Condition, Form, Konst, TwoOp, jump};
+use runtime_code::{loop_begin, loop_end};
+use std::alloc::{AllocError, Global};
+use stubs::{push_ladder, push_stubs};
 
 /// The bytes of the code before the ladder.
 const LADDER: u16 = 68;

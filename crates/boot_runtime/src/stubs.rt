@@ -9,11 +9,11 @@ ghost use Rattle.boot_runtime.specs.Entries.{entry_of, EndsInMemory};
 ghost use Rattle.boot_runtime.specs.Listing.{copies_in, stub, stub_bytes, stubs, stubs_bytes, rung_to, ladder_to};
 
 use memory_map::{PrivateScalar, ScalarWidth, TaskLayout};
-use std::alloc::AllocError;
+use runtime_code::forms::Form;
 use runtime_code::forms::Form::{Branch, Move};
 use runtime_code::forms::Source::Fram;
 use runtime_code::forms::Target::ToFram;
-use runtime_code::forms::Form;
+use std::alloc::AllocError;
 
 /// The bytes of a word's copy, and of a branch.
 const COPY: u16 = 6;

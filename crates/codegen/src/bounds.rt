@@ -5,12 +5,12 @@ ghost use Rattle.word_code.specs.Code.{check_code, zero_code, is_bounded, is_ins
 
 use crate::forms::number_source;
 use std::alloc::{AllocError, Global};
-use word_code::{Bound, Waiting};
 use word_code::forms::Form::{Calculate, Move};
 use word_code::forms::Source::Constant;
 use word_code::forms::Target::ToRegister;
 use word_code::forms::WorkRegister::R4;
 use word_code::forms::{Condition, Form, Konst, TwoOp, jump};
+use word_code::{Bound, Waiting};
 
 /// The bounds in a loop's body: its own in front of those around it.
 pub fn bounds_within(alloc: Global, own: Bound, around: &[Bound]) -> Result<Vec<Bound>, AllocError>

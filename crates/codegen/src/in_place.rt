@@ -15,12 +15,12 @@ use crate::waiting::{
 };
 use array_versions::{ArrayPlace, ListPlace, PlainOperation};
 use std::alloc::{AllocError, Global};
-use word_code::{Bound, Waiting};
 use word_code::forms::Form::{Calculate, Move, Update};
 use word_code::forms::Source::{Fram, Indexed, Number, Register};
 use word_code::forms::Target::{ToIndexed, ToRegister};
 use word_code::forms::WorkRegister::{R4, R6, R7};
 use word_code::forms::{Condition, Form, TwoOp, jump};
+use word_code::{Bound, Waiting};
 
 // What an element of an array becomes.
 #[derive(Clone, Copy)]
@@ -39,7 +39,11 @@ fn emit_made(update: ElementUpdate, from: u16, code: &mut Vec<Form>) -> Result<(
 {
     code.extend_from_slice(&[
         Move(Indexed(R4, from), ToRegister(R7)),
-        Calculate(plain_instruction(update.operation), rest_source(update.right), R7),
+        Calculate(
+            plain_instruction(update.operation),
+            rest_source(update.right),
+            R7,
+        ),
         Move(Register(R7), ToIndexed(R4, update.place.copies)),
     ])
 }
@@ -62,11 +66,7 @@ fn emit_first_update(update: ElementUpdate, code: &mut Vec<Form>) -> Result<(), 
 }
 
 // Behind a comparison of the version word with VER's: one way where they are equal, else the other.
-fn emit_by_version(
-    again: &[Form],
-    first: &[Form],
-    code: &mut Vec<Form>,
-) -> Result<(), AllocError>
+fn emit_by_version(again: &[Form], first: &[Form], code: &mut Vec<Form>) -> Result<(), AllocError>
     requires again { size again.now + 1 < 0x400 }
     requires first { size first.now < 0x400 }
     ensures { OnOk result (code.new.items ≡ code.old.items ++ by_version again.now first.now) }
@@ -79,11 +79,7 @@ fn emit_by_version(
 
 // An update at the index in R4, which is below the length.
 #[tactic(auto, using(std::proofs::Common::append_assoc))]
-fn emit_inside(
-    alloc: Global,
-    update: ElementUpdate,
-    code: &mut Vec<Form>,
-) -> Result<(), AllocError>
+fn emit_inside(alloc: Global, update: ElementUpdate, code: &mut Vec<Form>) -> Result<(), AllocError>
     ensures { OnOk result (code.new.items ≡ code.old.items ++ inside_update update.operation (rest_source update.right) update.place update.list) }
 {
     let mut again = Vec::new(alloc);
@@ -145,7 +141,11 @@ fn emit_known(
     let offset = index.wrapping_add(index);
     let copy = update.place.copies.wrapping_add(offset);
     let version = update.place.versions.wrapping_add(offset);
-    let again = [Update(plain_instruction(update.operation), rest_source(update.right), copy)];
+    let again = [Update(
+        plain_instruction(update.operation),
+        rest_source(update.right),
+        copy,
+    )];
     let mut first = Vec::new(alloc);
     first.extend_from_slice(&[Move(Number(offset), ToRegister(R4))])?;
     emit_first_update(update, &mut first)?;

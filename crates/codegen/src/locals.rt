@@ -7,8 +7,8 @@ ghost use Rattle.word_code.specs.Code.{stack_set};
 
 use array_versions::{WordStep, WordTest};
 use std::alloc::AllocError;
-use word_code::forms::Form::SetStack;
 use word_code::forms::Form;
+use word_code::forms::Form::SetStack;
 
 // The greater of two numbers.
 fn greater(a: u16, b: u16) -> u16

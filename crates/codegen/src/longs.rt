@@ -256,7 +256,11 @@ fn emit_long_doubles(count: u16, code: &mut Vec<Form>) -> Result<(), AllocError>
     ensures { OnOk result (code.new.items ≡ code.old.items ++ times_code count long_double) }
 {
     let low = Calculate(TwoOp::Add, Register(R4), R4);
-    emit_times(count, &[low, Calculate(TwoOp::Addc, Register(R6), R6)], code)
+    emit_times(
+        count,
+        &[low, Calculate(TwoOp::Addc, Register(R6), R6)],
+        code,
+    )
 }
 
 // Halved so many times, its top bit being 0.

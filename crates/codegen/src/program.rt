@@ -23,10 +23,10 @@ use crate::versioned::{emit_versioned_read, emit_versioned_write};
 use crate::waiting::{emit_all, emit_flushed, wait};
 use array_versions::{WordProgram, WordStep, WordTest};
 use std::alloc::{AllocError, Global};
-use word_code::{Bound, Waiting};
 use word_code::forms::Form::Push;
 use word_code::forms::Source::Constant;
 use word_code::forms::{Condition, Form, Konst, jump};
+use word_code::{Bound, Waiting};
 
 // Behind a test: 1 where it holds, else 0.
 fn emit_truth_code(code: &mut Vec<Form>) -> Result<(), AllocError>

@@ -16,12 +16,12 @@ use crate::waiting::{
 };
 use array_versions::PlainOperation;
 use std::alloc::AllocError;
-use word_code::{Bound, Waiting};
 use word_code::forms::Form::{Branch, Calculate, Move, Push, Sense, Update};
 use word_code::forms::Source::{Constant, Fram, Indexed, Number, Ram, Register};
 use word_code::forms::Target::{ToFram, ToIndexed, ToRam, ToRegister};
 use word_code::forms::WorkRegister::{R4, R5, R6};
 use word_code::forms::{Form, Konst, Source, TwoOp};
+use word_code::{Bound, Waiting};
 
 // The element at the index in R4, which is below the length.
 fn emit_fetch(base: u16, code: &mut Vec<Form>) -> Result<(), AllocError>

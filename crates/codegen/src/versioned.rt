@@ -12,12 +12,12 @@ use crate::bounds::{emit_check, emit_zero, is_inside};
 use crate::waiting::{emit_all, emit_top_to_four, emit_two_to_registers, top, under_top, wait};
 use array_versions::{ArrayPlace, ListPlace};
 use std::alloc::AllocError;
-use word_code::{Bound, Waiting};
 use word_code::forms::Form::{Calculate, Move, Update};
 use word_code::forms::Source::{Constant, Fram, Indexed, Number, Register};
 use word_code::forms::Target::{ToIndexed, ToRegister};
 use word_code::forms::WorkRegister::{R4, R5, R6, R7};
 use word_code::forms::{Condition, Form, Konst, TwoOp, jump};
+use word_code::{Bound, Waiting};
 
 // A versioned read at the index in R4, which is below the length; from the copy it goes over so many words.
 fn emit_own(

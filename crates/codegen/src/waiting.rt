@@ -211,7 +211,11 @@ pub fn rests(right: Option<Waiting>) -> bool
 pub fn rest_source(right: Option<Waiting>) -> Source
     ensures { result ≡ rest_source right }
 {
-    if rests(right) { source_from(right) } else { Register(R5) }
+    if rests(right) {
+        source_from(right)
+    } else {
+        Register(R5)
+    }
 }
 
 /// Appends what brings it there.

@@ -71,7 +71,7 @@ module _ (code : Code) (tidy : IsTidy code) (m : MemoryMap) (places : AreInFram 
         let here = all_front (IsCopied m) run rest r.copied in
         let low = r.entries.low in let top = r.entries.high in let few = r.few in
         let same : named n to ≡ rest = entries_alike n (q + 6) f to.memory
-            (λ a from end. list_stays m run f here a (omega (arith, low, from)) (omega (arith, top, end))) in
+        (λ a from end. list_stays m run f here a (omega (arith, low, from)) (omega (arith, top, end))) in
         let long = run_length k (f q) (f (q + 2)) in
         let both = length-append run rest in
         let left = ap length same in
@@ -84,14 +84,13 @@ module _ (code : Code) (tidy : IsTidy code) (m : MemoryMap) (places : AreInFram 
           effects = es;
           steps = 3 + (1 + (2 + k * 4));
           cycles = 6 + (2 + (3 + k * 9));
-          comes = then_on (straight code tidy entry_begin s (tt, (tt, (tt, tt))) (stands_front code (p + 8) entry_begin word_loop (turn_there code tidy copies_loop))
-              (
-                (first_left places.list r.entries (omega arith), tt),
-                (
-                  (first_left places.list (left_from 2 4 r.entries refl (omega arith)) (omega arith), tt),
-                  ((subst IsPlace (sym third) (first_left places.list (left_from 4 2 r.entries refl (omega arith)) (omega arith)), tt), tt),
-                ),
-              ) refl)
+          comes = then_on (straight code tidy entry_begin s (tt, (tt, (tt, tt))) (stands_front code (p + 8) entry_begin word_loop (turn_there code tidy copies_loop)) (
+            (first_left places.list r.entries (omega arith), tt),
+            (
+              (first_left places.list (left_from 2 4 r.entries refl (omega arith)) (omega arith), tt),
+              ((subst IsPlace (sym third) (first_left places.list (left_from 4 2 r.entries refl (omega arith)) (omega arith)), tt), tt),
+            ),
+          ) refl)
               (then_on (jumps code tidy Always (over word_moved) (p + 22) (p + 16) true read (ap code (omega arith) ∙ words.0) (omega arith) (omega arith) refl)
               (so_ends (words_home code tidy m (p + 14) (omega (arith, high)) words k (f q) (f (q + 2)) f l (record read { pc = p + 22 })
               (omega (arith, few, long, both)) (record { pc = omega arith; fram = refl; inputs = refl }) (ap f third) refl refl here)
@@ -167,10 +166,10 @@ module _ (code : Code) (tidy : IsTidy code) (m : MemoryMap) (places : AreInFram 
       let en : g (word_place m EmitCount) ≡ k = emit_count_stays m xs f can.copies in
       let nx : g (word_place m NextTask) ≡ f (word_place m NextTask) = next_task_stays m xs f can.copies in
       let same : emits_sent m g ≡ emits_sent m f =
-          ap (λ x. sends x (g (word_place m SentBase)) m.emits.address g) en ∙ ap (λ x. sends k x m.emits.address g) sb
-          ∙ sends_alike k base m.emits.address f g (λ a from end. emits_stay m xs f can.copies a from (omega (arith, end, few))) in
+      ap (λ x. sends x (g (word_place m SentBase)) m.emits.address g) en ∙ ap (λ x. sends k x m.emits.address g) sb
+      ∙ sends_alike k base m.emits.address f g (λ a from end. emits_stay m xs f can.copies a from (omega (arith, end, few))) in
       let Sent : List Effect → ℕ → ℕ → Core → Type 0 = λ es b n v.
-          Comes code es (2 + (2 + if_any n 1 + 5 * n)) (6 + (3 + if_any n 2 + 13 * n)) v (BehindSends (p + 34 + 30) ((b + n) % 0x10000) g l) in
+      Comes code es (2 + (2 + if_any n 1 + 5 * n)) (6 + (3 + if_any n 2 + 13 * n)) v (BehindSends (p + 34 + 30) ((b + n) % 0x10000) g l) in
       let sent : (v : Core) → IsAt (p + 4 + 30) g l v → Sent (emits_sent m f) base k v = λ v j.
       subst (λ es. Sent es base k v) same (subst (λ n. Sent (emits_sent m g) base n v) en (subst (λ b. Sent (emits_sent m g) b (g (word_place m EmitCount)) v) sb
       (sends_are_made code tidy m places (p + 34) g l v (omega (arith, high)) (forms_at code p 14 10 (commit_forms m start) h) (omega (arith, en, few))
@@ -182,7 +181,7 @@ module _ (code : Code) (tidy : IsTidy code) (m : MemoryMap) (places : AreInFram 
       (close_part (p + 64) start ((base + k) % 0x10000) g l v even (forms_behind code p 24 (commit_forms m start) h)
       (subst (λ x. BehindSends x ((base + k) % 0x10000) g l v) there j)) in
       let all : fram_after ls g ≡ fram_after (commit_effects m f) f =
-          sym (fram_after-append cs (emits_sent m f ++ ls) f ∙ fram_after-append (emits_sent m f) ls g ∙ ap (fram_after ls) (sends_keep k base m.emits.address f g)) in
+      sym (fram_after-append cs (emits_sent m f ++ ls) f ∙ fram_after-append (emits_sent m f) ls g ∙ ap (fram_after ls) (sends_keep k base m.emits.address f g)) in
       recounted (omega arith) (omega arith)
       (so_ends (comes_on (copy_part p f l u (omega (arith, high)) (h.0, tt) (forms_at code p 1 13 (commit_forms m start) h) can at)
       (λ v j. comes_on (sent v j) closed)) (λ v j. record { pc = j.pc; fram = j.fram ∙ all; inputs = j.inputs }))

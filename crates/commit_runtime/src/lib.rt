@@ -11,13 +11,13 @@ ghost use Rattle.commit_runtime.specs.Listing.{commit_forms};
 
 pub use laws::{commit_is_made, commit_is_short, commit_stores_in_fram};
 use memory_map::{Layout, RuntimeWord};
-use runtime_code::{loop_begin, loop_end, start_address};
-use std::alloc::{AllocError, Global};
 use runtime_code::forms::Form::{Branch, Calculate, Move};
 use runtime_code::forms::Source::{Constant, Fram, PointedNext, Register};
 use runtime_code::forms::Target::{ToFram, ToOutdata, ToOutnum, ToPointed, ToRegister};
 use runtime_code::forms::WorkRegister::{R4, R5, R6, R7, R8};
 use runtime_code::forms::{Condition, Form, Konst, TwoOp, jump};
+use runtime_code::{loop_begin, loop_end, start_address};
+use std::alloc::{AllocError, Global};
 
 // R4 := CLN.
 fn copies_begin(layout: &Layout) -> [Form; 1]
@@ -32,7 +32,11 @@ fn entry_begin() -> [Form; 3]
     ensures { result ≡ entry_begin }
 {
     let next = PointedNext(R5);
-    [Move(next, ToRegister(R6)), Move(next, ToRegister(R7)), Move(next, ToRegister(R8))]
+    [
+        Move(next, ToRegister(R6)),
+        Move(next, ToRegister(R7)),
+        Move(next, ToRegister(R8)),
+    ]
 }
 
 // One word after another goes home. R8 is counted down before each; where nothing was left of it there is no carry.
@@ -65,7 +69,10 @@ fn sends_begin(layout: &Layout) -> [Form; 2]
 {
     let sent_base = Fram(layout.word_place(RuntimeWord::SentBase));
     let emit_count = Fram(layout.word_place(RuntimeWord::EmitCount));
-    [Move(sent_base, ToRegister(R7)), Move(emit_count, ToRegister(R4))]
+    [
+        Move(sent_base, ToRegister(R7)),
+        Move(emit_count, ToRegister(R4)),
+    ]
 }
 
 // A word is sent: its number, then the word; the next number.

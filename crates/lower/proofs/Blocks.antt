@@ -90,20 +90,20 @@ module _ (z : Scene) where
       let after = word_set i j here v is in
       word_kept_then i j a here v here.w.stack (behaviour nothing) (goes_on after.m) e is ok (nothing_does after)
 
+  -- a local is set, and what is known else stays
+  local_stands : {n : ℕ} {count : ℕ → ℕ} (i k : ℕ) → i < 256 → (here : Start z n count)
+      → StandsFor z.p (source.assigned here.m (Local i) 0 k) here.listed (with_local (i % 65536) k here.w)
+  local_stands i k low here = record {
+    variables = local_holds z.p i k here.m.variables here.w.fram here.w.locals low here.stands.variables;
+    emitted = here.stands.emitted;
+    list = here.stands.list;
+    readings = here.stands.readings;
+  }
+
   write_does : (x : Variable) {n : ℕ} {count : ℕ → ℕ} (here : Start z n count) (v : ℕ) → IsTarget z.p z.written x
       → DoesFrom here (behaviour (one (write_step z.p x)) (pushed v here.w)) (goes_on (source.assigned here.m x 0 v))
-  write_does (Local i) here v k = record {
-    stores = tt;
-    stack_kept = refl;
-    listed = here.listed;
-    stands = record {
-      variables = local_holds z.p i v here.m.variables here.w.fram here.w.locals k here.stands.variables;
-      emitted = here.stands.emitted;
-      list = here.stands.list;
-      readings = here.stands.readings;
-    };
-    few = few_listed here;
-  }
+  write_does (Local i) here v k =
+      record { stores = tt; stack_kept = refl; listed = here.listed; stands = local_stands i v k here; few = few_listed here }
   write_does (Shared i) here v k =
       word_kept_does i 0 (address_of z.p i) here v (sym (first_address z.p i)) (first_word z.p i k.0) k.1
 
@@ -488,16 +488,6 @@ module _ (z : Scene) where
 
   -- ---- loops
 
-  -- a local is set, and what is known else stays
-  with_loop_local : {n : ℕ} {count : ℕ → ℕ} (i k : ℕ) → i < 256 → (here : Start z n count)
-      → StandsFor z.p (source.assigned here.m (Local i) 0 k) here.listed (with_local (i % 65536) k here.w)
-  with_loop_local i k low here = record {
-    variables = local_holds z.p i k here.m.variables here.w.fram here.w.locals low here.stands.variables;
-    emitted = here.stands.emitted;
-    list = here.stands.list;
-    readings = here.stands.readings;
-  }
-
   -- a turn of a loop: what its program does, and that it emits so much at most
   record Turn (q : Program) (run : Attempt → Outcome) (e : ℕ) (c : ℕ → ℕ) : Type 0 where
     does : (here : Start z e c) → DoesFrom here (behaviour q here.w) (run here.m)
@@ -511,7 +501,7 @@ module _ (z : Scene) where
   no_turns : (i : ℕ) (q : Program) (run : Attempt → Outcome) (k : ℕ) (stack : List ℕ) {n : ℕ} {count : ℕ → ℕ} (here : Start z n count) → i < 256
       → here.w.stack ≡ stack → TurnsDo i q run 0 k stack here
   no_turns i q run k stack here low same =
-      record { stores = tt; stack_kept = same; listed = here.listed; stands = with_loop_local i k low here; few = few_listed here }
+      record { stores = tt; stack_kept = same; listed = here.listed; stands = local_stands i k low here; few = few_listed here }
 
   turns_do : (i : ℕ) (q : Program) (run : Attempt → Outcome) (e : ℕ) (c : ℕ → ℕ) → i < 256 → Turn q run e c → (j k : ℕ) (stack : List ℕ)
       (here : Start z (j * e) (λ v. j * c v)) → here.w.stack ≡ stack → TurnsDo i q run j k stack here
@@ -528,7 +518,7 @@ module _ (z : Scene) where
         listed = here.listed;
         w = with_local (i % 65536) k here.w;
         most = once;
-        stands = with_loop_local i k low here;
+        stands = local_stands i k low here;
         number = here.number;
         emits = omega (arith, fits);
         lists = λ v. omega arith;

@@ -1,5 +1,5 @@
 -- The names of a well-formed tree stand for variables that have their places.
-use Rattle.lower.proofs.Names.{◌≡◌, ◌<◌, ℕ, Bool, true, List, refl, SharedDeclaration, WordType, Unsigned, Int, Long, Variable, Shared, Local, is_shared}
+use Rattle.lower.proofs.Names.{◌≡◌, ◌<◌, ℕ, Bool, true, List, refl, SharedDeclaration, WordType, Long, Variable, Shared, Local, is_shared}
 use Rattle.lower.proofs.Names.{Places, IsScalarAt, IsScalarWord, IsOfType, IsLocal, IsWordName, IsArrayName, IsArray, IsWrittenArray, AsDeclared, HasCopies}
 use Rattle.std.proofs.lemmas.Bool.{eq-eqb}
 

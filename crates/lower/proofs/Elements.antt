@@ -125,12 +125,7 @@ module _ (z : Scene) (n i v elements len : ℕ) (c : ArrayCopies) (at : IsArrayA
         stores = tt;
         stack_kept = refl;
         listed = listed;
-        stands = record {
-          variables = past_set l;
-          emitted = h.stands.emitted;
-          list = h.stands.list;
-          readings = h.stands.readings;
-        };
+        stands = record { variables = past_set l; emitted = h.stands.emitted; list = h.stands.list; readings = h.stands.readings };
         few = few_listed h;
       })
 

@@ -2,7 +2,7 @@
 use Rattle.lower.proofs.Names.{◌≡◌, ℕ, ◌<◌, ◌≤◌, List, [], ◌∷◌, ◌++◌, length, Option, Some, None, Bool, refl, sym, ap, ◌∙◌, subst, arith, append_assoc}
 use Rattle.lower.proofs.Names.{append-nil, word_place, ListLength, EmitCount, Version, Effect, Store, Take, Outside, put, fram_after, fram_after-append}
 use Rattle.lower.proofs.Names.{put_other, Evaluated, Outcome, to_task, short, and_then, if_value, Program, nothing, WordState, End, GoesOn, Jumps, Short}
-use Rattle.lower.proofs.Names.{Strays, Broken, Behaviour, behind_effects, on_end, then_on, behaviour, EndsByEffects, behaves_by_effects, Places, Element}
+use Rattle.lower.proofs.Names.{Broken, Behaviour, behind_effects, on_end, then_on, behaviour, EndsByEffects, behaves_by_effects, Places, Element}
 use Rattle.lower.proofs.Names.{scalar, copy, version, Room, AreApart, listed_of, TakesAndStores, OnlyTakes, IsTaskStore, at_variable, at_copy, at_version}
 use Rattle.lower.proofs.Names.{in_list, at_list_length, at_emit_count, in_buffer, StandsFor, EndsAt, AgreesAt, Scene, bounds, Left, EndsAs, Agrees}
 use Rattle.source_values.specs.Values.{Attempt}

@@ -8,7 +8,7 @@ use Rattle.lower.proofs.Names.{at_list_length}
 use Rattle.std.proofs.Common.{All}
 use Rattle.array_versions.specs.Behaviour.{goes_on}
 use Rattle.lower.proofs.Addresses.{placed}
-use Rattle.lower.proofs.Transitions.{after_entry, HaveRoom, count_place, home_place, copy_place, words_place, entry_behaves}
+use Rattle.lower.proofs.Transitions.{after_entry, HaveRoom, room_for, count_place, home_place, copy_place, words_place, entry_behaves}
 
 -- no run in the list is without a word
 abbrev pub HaveWords : ℕ → ℕ → (ℕ → ℕ) → Type 0
@@ -176,15 +176,6 @@ module _ (p : Places) (written : ℕ → Bool) (room : Room) (ver home copy : �
   abbrev Lists : Type 0
   Lists = ListsWord p written room ver home copy w
 
-  has_room : (n : ℕ) → n < room.list → HaveRoom count list n 1
-  has_room n l = record {
-    low = omega (arith, apart);
-    above = omega (arith, apart);
-    high = omega (arith, apart, l);
-    even_count = word_even p.map ListLength even.row;
-    even_list = even.list;
-  }
-
   above : count + 2 ≤ list
   above = omega (arith, apart)
 
@@ -198,7 +189,7 @@ module _ (p : Places) (written : ℕ → Bool) (room : Room) (ver home copy : �
       record {
         effects = Store (6 * n + list) home ∷ Store (6 * n + list + 2) copy ∷ Store (6 * n + list + 4) 1 ∷ Store count (n + 1) ∷ [];
         memory = memory;
-        does = same ∙ entry_behaves count list n home copy 1 w e (has_room n l);
+        does = same ∙ entry_behaves count list n home copy 1 w e (room_for p room n 1 apart even (omega (arith, l)));
         stores = (
           in_list (omega arith) (omega (arith, l)),
           (in_list (omega arith) (omega (arith, l)), (in_list (omega arith) (omega (arith, l)), (at_list_length refl (omega (arith, l)), tt))),
@@ -233,7 +224,8 @@ module _ (p : Places) (written : ℕ → Bool) (room : Room) (ver home copy : �
   by_count : (n : ℕ) → w.fram count ≡ n → n < room.list → HaveWords list n w.fram → All HasNext (entries_from n list w.fram)
       → length (entries_from n list w.fram) + 1 < 0x10000 → Lists
   by_count zero e l have next short =
-      let placed_count = placed count (listed_behind (w.fram count) (list_place p) home copy w) (count_place count list 0 (has_room 0 l)) in
+      let placed_count = placed count (listed_behind (w.fram count) (list_place p) home copy w)
+      (count_place count list 0 (room_for p room 0 1 apart even (omega (arith, l)))) in
       enters 0 e l have (placed_count ∙ ap (λ k. listed_behind k (list_place p) home copy w) e)
   by_count (suc n) e l have next short = by (ends_before w.fram (6 * n + list) home copy) refl
     where
@@ -244,7 +236,7 @@ module _ (p : Places) (written : ℕ → Bool) (room : Room) (ver home copy : �
       either b = if b then raised (a + 4) w else entry_stored count list home copy 1 w
 
       last_room : HaveRoom count list n 1
-      last_room = has_room n (omega (arith, l))
+      last_room = room_for p room n 1 apart even (omega (arith, l))
 
       opened : word_listed (list_place p) home copy w ≡ either (ends_before w.fram a home copy)
       opened =

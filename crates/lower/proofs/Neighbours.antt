@@ -30,47 +30,38 @@ longer_pairs r s e =
     let n = scalar_words s.width in
     run_behind r.words n r.home r.copy ∙ (λ k. pairs_of_run r ++ run_pairs n (meets.0 k) (meets.1 k))
 
--- the words of a run and of those behind it
-abbrev FromPairs : Run → List PrivateScalar → Type 0
-FromPairs r privates = pairs_of_runs (runs_from r privates) ≡ pairs_of_run r ++ flat_map scalar_pairs privates
+-- what is said of a run, of the scalars behind it and of the runs of all: of none behind it, of one that belongs to it, and of one that begins another
+module _ (P : Run → List PrivateScalar → List Run → Type 0) (last : (r : Run) → P r [] (r ∷ []))
+    (follows : (r : Run) (s : PrivateScalar) (more : List PrivateScalar) (rs : List Run) → is_followed_by r s ≡ true → P (longer r s) more rs
+    → P r (s ∷ more) rs)
+    (begins : (r : Run) (s : PrivateScalar) (more : List PrivateScalar) (rs : List Run) → P (run_at s) more rs → P r (s ∷ more) (r ∷ rs)) where
+  either_way : (b : Bool) (r : Run) (s : PrivateScalar) (more : List PrivateScalar) → is_followed_by r s ≡ b
+      → P (longer r s) more (runs_from (longer r s) more) → P (run_at s) more (runs_from (run_at s) more)
+      → P r (s ∷ more) (if b then runs_from (longer r s) more else r ∷ runs_from (run_at s) more)
+  either_way true r s more e joined apart = follows r s more (runs_from (longer r s) more) e joined
+  either_way false r s more e joined apart = begins r s more (runs_from (run_at s) more) apart
 
-one_more : (b : Bool) (r : Run) (s : PrivateScalar) (more : List PrivateScalar) → is_followed_by r s ≡ b → FromPairs (longer r s) more
-    → FromPairs (run_at s) more
-    → pairs_of_runs (if b then runs_from (longer r s) more else r ∷ runs_from (run_at s) more)
-    ≡ pairs_of_run r ++ (scalar_pairs s ++ flat_map scalar_pairs more)
-one_more true r s more e joined apart =
-    let rest = flat_map scalar_pairs more in
-    joined ∙ ap (λ l. l ++ rest) (longer_pairs r s e) ∙ append_assoc (pairs_of_run r) (scalar_pairs s) rest
-one_more false r s more e joined apart = ap (λ l. pairs_of_run r ++ l) apart
-
-from_pairs : (r : Run) (privates : List PrivateScalar) → FromPairs r privates
-from_pairs r [] = refl
-from_pairs r (s ∷ more) = one_more (is_followed_by r s) r s more refl (from_pairs (longer r s) more) (from_pairs (run_at s) more)
+  pub of_runs : (r : Run) (privates : List PrivateScalar) → P r privates (runs_from r privates)
+  of_runs r [] = last r
+  of_runs r (s ∷ more) = either_way (is_followed_by r s) r s more refl (of_runs (longer r s) more) (of_runs (run_at s) more)
 
 -- the words of the runs are the scalars' words, in the same order
 pub runs_pairs : (privates : List PrivateScalar) → pairs_of_runs (runs_of privates) ≡ flat_map scalar_pairs privates
 runs_pairs [] = refl
-runs_pairs (s ∷ more) = from_pairs (run_at s) more
+runs_pairs (s ∷ more) =
+    of_runs (λ r privates rs. pairs_of_runs rs ≡ pairs_of_run r ++ flat_map scalar_pairs privates) (λ r. refl)
+    (λ r s more rs e h. h ∙ ap (λ l. l ++ flat_map scalar_pairs more) (longer_pairs r s e)
+    ∙ append_assoc (pairs_of_run r) (scalar_pairs s) (flat_map scalar_pairs more))
+    (λ r s more rs h. ap (λ l. pairs_of_run r ++ l) h) (run_at s) more
 
 -- what holds of runs, from their scalars on
 module _ (Q : PrivateScalar → Type 0) (P : Run → Type 0) (one : (s : PrivateScalar) → Q s → P (run_at s))
     (more_words : (r : Run) (s : PrivateScalar) → Q s → is_followed_by r s ≡ true → P r → P (longer r s)) where
-  either_holds : (b : Bool) (r : Run) (s : PrivateScalar) (more : List PrivateScalar) → is_followed_by r s ≡ b → Q s → P r
-      → (P (longer r s) → AllByRecursion P (runs_from (longer r s) more))
-      → AllByRecursion P (runs_from (run_at s) more)
-      → AllByRecursion P (if b then runs_from (longer r s) more else r ∷ runs_from (run_at s) more)
-  either_holds true r s more e q k joined apart = joined (more_words r s q e k)
-  either_holds false r s more e q k joined apart = (k, apart)
-
-  from_hold : (r : Run) (privates : List PrivateScalar) → AllByRecursion Q privates → P r → AllByRecursion P (runs_from r privates)
-  from_hold r [] h k = (k, tt)
-  from_hold r (s ∷ more) h k =
-      either_holds (is_followed_by r s) r s more refl h.0 k (λ j. from_hold (longer r s) more h.1 j)
-      (from_hold (run_at s) more h.1 (one s h.0))
-
   pub runs_hold : (privates : List PrivateScalar) → AllByRecursion Q privates → AllByRecursion P (runs_of privates)
   runs_hold [] h = tt
-  runs_hold (s ∷ more) h = from_hold (run_at s) more h.1 (one s h.0)
+  runs_hold (s ∷ more) h =
+      of_runs (λ r privates rs. AllByRecursion Q privates → P r → AllByRecursion P rs) (λ r h k. (k, tt))
+      (λ r s more rs e f h k. f h.1 (more_words r s h.0 e k)) (λ r s more rs f h k. (k, f h.1 (one s h.0))) (run_at s) more h.1 (one s h.0)
 
 any : (privates : List PrivateScalar) → AllByRecursion (λ s. Unit {0}) privates
 any [] = tt
@@ -93,18 +84,8 @@ runs_of_words = runs_hold (λ s. (s.home < 65536) × (s.copy < 65536)) RunOfWord
     (λ s h. record { home = h.0; copy = h.1; words = let few = few_words s.width in omega (arith, few) })
     (λ r s h e k. record { home = k.home; copy = k.copy; words = followed_has_room r s h.0 e })
 
--- a run and those behind it are no more than it and the scalars
-one_run_more : (b : Bool) (r : Run) (s : PrivateScalar) (more : List PrivateScalar) → length (runs_from (longer r s) more) ≤ suc (length more)
-    → length (runs_from (run_at s) more) ≤ suc (length more)
-    → length (if b then runs_from (longer r s) more else r ∷ runs_from (run_at s) more) ≤ suc (suc (length more))
-one_run_more true r s more joined apart = omega (arith, joined)
-one_run_more false r s more joined apart = omega (arith, apart)
-
-few_from : (r : Run) (privates : List PrivateScalar) → length (runs_from r privates) ≤ suc (length privates)
-few_from r [] = omega arith
-few_from r (s ∷ more) = one_run_more (is_followed_by r s) r s more (few_from (longer r s) more) (few_from (run_at s) more)
-
 -- no more runs than scalars
 pub runs_are_few : (privates : List PrivateScalar) → length (runs_of privates) ≤ length privates
 runs_are_few [] = omega arith
-runs_are_few (s ∷ more) = few_from (run_at s) more
+runs_are_few (s ∷ more) = of_runs (λ r privates rs. length rs ≤ suc (length privates)) (λ r. omega arith) (λ r s more rs e h. omega (arith, h))
+    (λ r s more rs h. omega (arith, h)) (run_at s) more

@@ -1,7 +1,7 @@
 -- A memory map as a task sees it keeps the rules of memory maps, and what stands there stands in the whole map at the same address.
 use Rattle.lower.proofs.Names.{◌≡◌, ℕ, zero, suc, ◌+◌, Bool, true, false, List, [], ◌∷◌, ◌++◌, length, map, Option, Some, None, refl, sym, ap, ◌∙◌, subst}
 use Rattle.lower.proofs.Names.{arith, inl, inr, ◌⊎◌, ⊎_elim, option_map, flat_map, All-weaker, Region, ArrayCopies, ScalarWidth, VariablePlace, Scalar, Array}
-use Rattle.lower.proofs.Names.{PrivateScalar, MemoryMap, TaskPlace, end_of, scalar_words, AreInOrder, home_region, copy_regions, version_regions, HasItsPlace}
+use Rattle.lower.proofs.Names.{PrivateScalar, MemoryMap, TaskPlace, end_of, AreInOrder, home_region, copy_regions, version_regions, HasItsPlace}
 use Rattle.lower.proofs.Names.{IsLaidOut, in_order_append, place_seen, places_seen}
 use Rattle.std.proofs.Common.{slice_get}
 use Rattle.std.specs.Prelude.{All}

@@ -7,7 +7,7 @@ use Rattle.lower.proofs.Names.{expression_price, statement_price, conditions_pri
 use Rattle.lower.proofs.Names.{Subtract, And, Xor, Or, Step, Test, Program, number, truth, unary, binary, shift, long, emit_word, store_number, move_word}
 use Rattle.lower.proofs.Names.{jump, step, joined, binary_cycles, step_cycles, test_cycles, cycles_of, entry_words, step_words, test_words, words_of}
 use Rattle.lower.proofs.Names.{joined_cycles, steps_keep_to_words, word_place, Gate, ListLength, EmitCount, Base, SentBase, VariablePlace, Scalar, Array}
-use Rattle.lower.proofs.Names.{PrivateScalar, scalar_words, Places, private_words, some_words, Run, run_at, is_followed_by, longer, runs_from, runs_of}
+use Rattle.lower.proofs.Names.{PrivateScalar, Places, private_words, some_words, run_at, runs_of}
 use Rattle.lower.proofs.Names.{BinaryMeaning, Calculates, CommonBits, Holds, Fails, LongQuestion, LongMeaning, binary_meaning, shift_operation, operand_type}
 use Rattle.lower.proofs.Names.{long_meaning, long_shift, BlocksKeepToWords, one, read_step, write_step, read_long, write_long, element_read, element_step}
 use Rattle.lower.proofs.Names.{store_step, Lowering, as_word, as_test, as_bits, as_long, word_program, value_test, widening, long_words, long_program}
@@ -20,6 +20,7 @@ use Rattle.std.proofs.Common.{slice_get}
 use Rattle.source_values.specs.Values.{by_width, joined_type, type_of}
 use Rattle.array_versions.proofs.Interface.{joined_words}
 use Rattle.task_ast.specs.Tree as t
+use Rattle.lower.proofs.Neighbours.{of_runs}
 use Rattle.task_ast.specs.declared.UnaryOperator.TheVariants as unary_operator
 use Rattle.task_ast.specs.declared.BinaryOperator.TheVariants as operator
 use Rattle.task_ast.specs.declared.ShiftOperator.TheVariants as shift_operator
@@ -356,26 +357,15 @@ one_entry words some = by (words == 1) refl
     by true e = omega (arith, some)
     by false e = let more : 2 ≤ words = grind (arith, nat_tests) in omega (arith, more)
 
--- the entries of a run and of those behind it
-abbrev FromRun : ℕ → ℕ → Run → List PrivateScalar → Type 0
-FromRun count list r privates = words_of (entries count list (runs_from r privates)) ≤ 16 * (r.words + private_words privates)
-
-either_entry : (count list : ℕ) (b : Bool) (r : Run) (s : PrivateScalar) (more : List PrivateScalar) → 0 < r.words
-    → FromRun count list (longer r s) more → FromRun count list (run_at s) more
-    → words_of (entries count list (if b then runs_from (longer r s) more else r ∷ runs_from (run_at s) more))
-    ≤ 16 * (r.words + (scalar_words s.width + private_words more))
-either_entry count list true r s more some joined apart = omega (arith, joined)
-either_entry count list false r s more some joined apart = let one = one_entry r.words some in omega (arith, one, apart)
-
-entries_from_run : (count list : ℕ) (r : Run) (privates : List PrivateScalar) → 0 < r.words → FromRun count list r privates
-entries_from_run count list r [] some = let one = one_entry r.words some in omega (arith, one)
-entries_from_run count list r (s ∷ more) some =
-    either_entry count list (is_followed_by r s) r s more some (entries_from_run count list (longer r s) more (omega (arith, some)))
-    (entries_from_run count list (run_at s) more (some_words s.width))
-
 entries_words : (count list : ℕ) (privates : List PrivateScalar) → words_of (entries count list (runs_of privates)) ≤ 16 * private_words privates
 entries_words count list [] = omega arith
-entries_words count list (s ∷ more) = let rest = entries_from_run count list (run_at s) more (some_words s.width) in omega (arith, rest)
+entries_words count list (s ∷ more) =
+    let rest = of_runs (λ r privates rs. 0 < r.words → words_of (entries count list rs) ≤ 16 * (r.words + private_words privates))
+    (λ r some. let one = one_entry r.words some in omega (arith, one))
+    (λ r s more rs e h some. let joined = h (omega (arith, some)) in omega (arith, joined))
+    (λ r s more rs h some. let one = one_entry r.words some in let apart = h (some_words s.width) in omega (arith, one, apart))
+    (run_at s) more (some_words s.width) in
+    omega (arith, rest)
 
 transition_words : (p : Places) (s task : ℕ) → private_words p.privates ≤ s → words_of (lowered_transition p task) ≤ 40 + 16 * s
 transition_words p s task few =

@@ -21,11 +21,16 @@ pub record HaveRoom (count list i n : ℕ) : Type 0 where
   pub even_count : count % 2 ≡ 0
   pub even_list : list % 2 ≡ 0
 
-even_at : (i list k : ℕ) → list % 2 ≡ 0 → k % 2 ≡ 0 → (6 * i + list + k) % 2 ≡ 0
-even_at i list k h e = omega (arith, h, e)
-
-even_first : (i list : ℕ) → list % 2 ≡ 0 → (6 * i + list) % 2 ≡ 0
-even_first i list h = omega (arith, h)
+-- the list has room for so many entries behind the first ones
+pub room_for : (p : Places) (room : Room) (n k : ℕ) → AreApart p room → AreEven p → n + k ≤ room.list
+    → HaveRoom (word_place p.map ListLength) p.map.list.address n k
+room_for p room n k apart even fits = record {
+  low = omega (arith, apart);
+  above = omega (arith, apart);
+  high = omega (arith, apart, fits);
+  even_count = word_even p.map ListLength even.row;
+  even_list = even.list;
+}
 
 -- the words of the i-th entry are places
 module _ (count list i : ℕ) (room : HaveRoom count list i 1) where
@@ -33,13 +38,13 @@ module _ (count list i : ℕ) (room : HaveRoom count list i 1) where
   count_place = fram_place count room.even_count room.low (omega (arith, room))
 
   pub home_place : is_place (6 * i + list) ≡ true
-  home_place = fram_place (6 * i + list) (even_first i list room.even_list) (omega (arith, room)) (omega (arith, room))
+  home_place = let e = room.even_list in fram_place (6 * i + list) (omega (arith, e)) (omega (arith, room)) (omega (arith, room))
 
   pub copy_place : is_place (6 * i + list + 2) ≡ true
-  copy_place = fram_place (6 * i + list + 2) (even_at i list 2 room.even_list refl) (omega (arith, room)) (omega (arith, room))
+  copy_place = let e = room.even_list in fram_place (6 * i + list + 2) (omega (arith, e)) (omega (arith, room)) (omega (arith, room))
 
   pub words_place : is_place (6 * i + list + 4) ≡ true
-  words_place = fram_place (6 * i + list + 4) (even_at i list 4 room.even_list refl) (omega (arith, room)) (omega (arith, room))
+  words_place = let e = room.even_list in fram_place (6 * i + list + 4) (omega (arith, e)) (omega (arith, room)) (omega (arith, room))
 
 -- one entry, the i-th
 pub entry_behaves : (count list i home copy words : ℕ) (w : WordState) → w.fram count ≡ i → HaveRoom count list i 1
@@ -137,15 +142,7 @@ transition_behaves p room task n w apart even listed fits =
     placed (word_place p.map NextTask) (goes_on (Store (word_place p.map NextTask) k ∷ []) w1)
     (fram_place (word_place p.map NextTask) (word_even p.map NextTask even.row) (omega (arith, apart)) (omega (arith, apart))) in
     let counted : w1.fram count ≡ n = put_other w.fram (word_place p.map NextTask) k count (λ e. omega (arith, e, apart)) ∙ listed in
-    let made = entries_behave count p.map.list.address (runs_of p.privates) n w1 counted
-    (record {
-      low = omega (arith, apart);
-      above = omega (arith, apart);
-      high = omega
-          (arith, apart, fits);
-      even_count = word_even p.map ListLength even.row;
-      even_list = even.list;
-    }) in
+    let made = entries_behave count p.map.list.address (runs_of p.privates) n w1 counted (room_for p room n (length (runs_of p.privates)) apart even fits) in
     let closed = close_behaves p w2 (fram_place (word_place p.map Base) (word_even p.map Base even.row) (omega (arith, apart)) (omega (arith, apart)))
     (fram_place (word_place p.map SentBase) (word_even p.map SentBase even.row) (omega (arith, apart)) (omega (arith, apart)))
     (fram_place (word_place p.map Gate) (word_even p.map Gate even.row) (omega (arith, apart)) (omega (arith, apart))) even.commit in

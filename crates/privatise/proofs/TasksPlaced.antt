@@ -55,12 +55,12 @@ no_array places i place h at other =
 pub no_privates : (places : List VariablePlace) (numbers : List ℕ) → ArePrivates places (take 0 numbers) []
 no_privates places numbers = record { numbers = refl; places = All-nil (HasItsPlace places) }
 
-pub next_private : (places : List VariablePlace) (numbers : List ℕ) (i : ℕ) (number : ℕ) (s : PrivateScalar) (xs ys : List PrivateScalar)
-    → i < length numbers → s.number ≡ get_or numbers i number → HasItsPlace places s
+pub next_private : (places : List VariablePlace) (numbers : List ℕ) (i : ℕ) (s : PrivateScalar) (xs ys : List PrivateScalar)
+    → i < length numbers → s.number ≡ get_or numbers i 0 → HasItsPlace places s
     → ys ≡ xs ++ s ∷ [] → ArePrivates places (take i numbers) xs → ArePrivates places (take (i + 1) numbers) ys
-next_private places numbers i number s xs ys l at has e h = subst (λ zs. ArePrivates places (take (i + 1) numbers) zs) (sym e) (record {
+next_private places numbers i s xs ys l at has e h = subst (λ zs. ArePrivates places (take (i + 1) numbers) zs) (sym e) (record {
   numbers = map-append (λ s. s.number) xs (s ∷ []) ∙ ap (λ ns. ns ++ s.number ∷ []) h.numbers ∙ ap (λ n. take i numbers ++ n ∷ []) at
-      ∙ sym (take_more numbers i number l);
+      ∙ sym (take_more numbers i 0 l);
   places = All-push (HasItsPlace places) xs s h.places has;
 })
 

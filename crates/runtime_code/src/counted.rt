@@ -9,7 +9,6 @@ use code_forms::Target::ToRegister;
 use code_forms::WorkRegister::{R4, R5};
 use code_forms::{Condition, Form, Konst, TwoOp, jump};
 
-
 /// The beginning of a loop: where R4 is 0 it leads over so many words, else R5 becomes the address.
 pub fn loop_begin(address: u16, over: u16) -> [Form; 3]
     requires { over < 0x400 }

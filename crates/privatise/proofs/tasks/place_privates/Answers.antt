@@ -14,7 +14,7 @@ private_scalar-requires c = c.requires c.loop-number.number-index _ c.loop-numbe
 
 pub loop-number-preserved : goal.loop-number-preserved
 loop-number-preserved c =
-    next_private c.args.variables.now c.args.numbers.now c.loop-number.number-index _ c.private_scalar.result c.loop-number.privates.items c.push.new.self.items
+    next_private c.args.variables.now c.args.numbers.now c.loop-number.number-index c.private_scalar.result c.loop-number.privates.items c.push.new.self.items
     c.loop-number-test.true
     (c.private_scalar.ensures.number ∙ get_or_default c.args.numbers.now c.loop-number.number-index _ _ c.loop-number-test.true)
     c.private_scalar.ensures.place c.in_ok-push.ensures.items c.loop-number.invariant
