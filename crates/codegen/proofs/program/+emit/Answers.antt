@@ -1,6 +1,6 @@
-use Rattle.codegen.proofs.Names.{◌+◌, ◌∷◌, ◌++◌, [], drop, not, sym, ap, ◌∙◌, subst, arith, rules, append-nil, lt-ltb, le-ltb, step_of, steps_of, test_of}
+use Rattle.codegen.proofs.Names.{◌+◌, ◌∷◌, ◌++◌, [], drop, not, sym, ap, ◌∙◌, subst, arith, rules, append_assoc, lt-ltb, le-ltb, step_of, steps_of, test_of}
 use Rattle.codegen.proofs.Names.{StepLocalsBelow, TestLocalsBelow, LocalsBelow, OfWords, words_of, step_words, test_words, forms_bytes-append, size}
-use Rattle.codegen.proofs.Names.{pass_over, turn_end, turns_code, waiting_after, steps_code, block_code, number_code}
+use Rattle.codegen.proofs.Names.{pass_over, turn_end, turns_code, waiting_after, steps_code, block_code}
 use Rattle.word_code.specs.array_versions.declared.program.WordStep as word_step
 use Rattle.codegen.proofs.Emitted.{behind, on_ok_items, test_size, step_of-choose, step_of-read, step_of-write, step_of-update, test_of-holds}
 use Rattle.codegen.proofs.Emitted.{test_of-compares, test_of-both, test_of-either, words_at_most, step_owed, left_front}
@@ -288,5 +288,4 @@ emit_step-returns-in_ok-extend_from_slice-in-Choose-clause-code t c =
 
 pub emit_loop-returns-clause-code : goal.emit_loop-returns-clause-code
 emit_loop-returns-clause-code t c =
-    let pushes = c.in_ok-emit_all.ensures.code in
-    rw (le-ltb c.args.from c.args.own.below c.if-from-own.false) (c.in_ok-emit_number.ensures ∙ rw pushes (search rules))
+    rw (le-ltb c.args.from c.args.own.below c.if-from-own.false) (rw (c.in_ok-emit_all.ensures.code, append_assoc) at c.in_ok-emit_number.ensures)
