@@ -1,5 +1,5 @@
 -- The boot and the start of an attempt.
-use Rattle.std.proofs.Common.{◌≡◌, ◌≢◌, ℕ, ◌+◌, ◌*◌, ◌%◌, ◌<◌, ◌==◌, List, [], ◌∷◌, ◌++◌, length, map, refl, sym, ap, ◌∙◌, subst, arith, true, false}
+use Rattle.std.proofs.Common.{◌≡◌, ◌≢◌, ℕ, ◌+◌, ◌*◌, ◌%◌, ◌<◌, ◌==◌, Bool, not, if◌then◌else◌, List, [], ◌∷◌, ◌++◌, length, map, refl, sym, ap, ◌∙◌, subst, arith, true, false}
 use Rattle.std.proofs.lemmas.Bool.Decides.{nat_tests}
 use Rattle.std.proofs.lemmas.List.{length-map}
 use Rattle.std.proofs.lemmas.List.Elements.{All-get_or}
@@ -14,14 +14,14 @@ use Rattle.runtime_code.proofs.code_forms.Interface.{stands_front, stands_back, 
 use Rattle.runtime_code.specs.runtime_effects.Stages.{opening_effects, copied_in}
 use Rattle.runtime_code.specs.Addresses.{start_address}
 use Rattle.runtime_code.specs.Comes.{Comes, IsAt}
-use Rattle.runtime_code.specs.Counted.{over, if_any}
+use Rattle.runtime_code.specs.Counted.{if_any}
 use Rattle.runtime_code.specs.Ladder.{ladder, all_stubs}
 use Rattle.runtime_code.proofs.Interface.{last_flag, comes_on, form_comes, so_ends, recounted, moved_to, compares, rung_in, HasLadder, ladder_bytes, to_task}
 use Rattle.boot_runtime.specs.Listing.{TaskEntry, entry_at, rung_for, stubs_address, boot_forms}
 use Rattle.boot_runtime.specs.Laws.{IsEntered, IsBoot, PendingCommitIsFound, AttemptIsFound, StartIsMade, VersionIsRaised}
 use Rattle.boot_runtime.proofs.Stores.{task_stays}
 use Rattle.boot_runtime.proofs.Opening.{looks_at_version, raises, opens}
-use Rattle.boot_runtime.proofs.Entering.{copies_count, are_rungs, rung_is, copies_done}
+use Rattle.boot_runtime.proofs.Entering.{copies_count, are_rungs, rung_is, copying, copies_done}
 use Rattle.memory_map.specs.declared.words.RuntimeWord.TheVariants.{CurrentTask, Gate, Version}
 use Rattle.memory_map.specs.MemoryMap.{MemoryMap, word_place}
 
@@ -43,21 +43,24 @@ module _ (code : Code) (m : MemoryMap) (commit : ℕ) (tasks : List TaskEntry) (
   abbrev all : List Form
   all = boot_forms m commit tasks at
 
+  -- the look at GATE
+  looked : {b : Bool} → ((fram (word_place m Gate) + 65534 + 1) % 65536 == 0) ≡ b → IsAt at fram inputs u
+      → Comes code [] 2 6 u (IsAt (if not b then at + 10 else at + 6) fram inputs)
+  looked {b} flag here =
+      let room = boot.room in
+      compares code boot.tidy One (word_place m Gate) at (Branch commit ∷ []) (boot.places.words Gate) (boot.stands.0, (boot.stands.1.0, tt)) (omega (arith, room))
+      b fram inputs u flag here
+
   -- from the boot on to the commit, or past it
   commits : u.pc ≡ at → ((fram (word_place m Gate) + 65534 + 1) % 65536 == 0) ≡ true → Comes code [] 3 9 u (IsAt commit fram inputs)
   commits e one =
-      let room = boot.room in
-      comes_on (compares code boot.tidy One (word_place m Gate) (over (Branch commit ∷ [])) at (at + 10) true fram inputs u (boot.places.words Gate)
-      (boot.stands.0, (boot.stands.1.0, tt)) (omega (arith, room)) one (record { pc = e; fram = refl; inputs = refl }))
+      comes_on (looked one (record { pc = e; fram = refl; inputs = refl }))
       (λ v k. form_comes code boot.tidy (Branch commit) v (record v { pc = commit }) [] 3 (IsAt commit fram inputs)
       (ap code (k.pc ∙ omega arith) ∙ boot.stands.1.1.0) boot.even_commit refl (record { pc = refl; fram = k.fram; inputs = k.inputs }))
 
   attempts : u.pc ≡ at → fram (word_place m Gate) < 0x10000 → fram (word_place m Gate) ≢ 1 → Comes code [] 2 6 u (IsAt (at + 10) fram inputs)
   attempts e word gate =
-      let room = boot.room in
-      compares code boot.tidy One (word_place m Gate) (over (Branch commit ∷ [])) at (at + 10) false fram inputs u (boot.places.words Gate)
-      (boot.stands.0, (boot.stands.1.0, tt)) (omega (arith, room)) (gate_is_not_one (fram (word_place m Gate)) word gate)
-      (record { pc = e; fram = refl; inputs = refl })
+      looked (gate_is_not_one (fram (word_place m Gate)) word gate) (record { pc = e; fram = refl; inputs = refl })
 
   -- the dispatch has its ladder and the stubs
   laddered : HasLadder code m (at + 54) (stubs_address tasks at) (map rung_for tasks)
@@ -105,7 +108,8 @@ start_is_made code m commit tasks at u boot e named word =
     recounted (omega (arith, once)) (omega (arith, dear)) (so_ends (comes_on
     (moved_to (omega arith) (opens code boot.tidy m boot.places (at + 10) f u.inputs u (omega (arith, room)) word
     (forms_at code at 3 14 (boot_forms m commit tasks at) boot.stands) (record { pc = e; fram = refl; inputs = refl })))
-    (λ v j. to_task code boot.tidy m (at + 54) (stubs_address tasks at) (map rung_for tasks) (rung_for t) v (laddered code m commit tasks at boot u) j
+    (λ v j. to_task code boot.tidy m (at + 54) (stubs_address tasks at) (map rung_for tasks) (rung_for t) (copying t.privates g u.inputs) v
+    (laddered code m commit tasks at boot u) j
     (omega (arith, named, stays, count)) is (copies_done code boot.tidy t.privates g u.inputs entered.privates)))
     (λ v h. record { pc = h.pc; sp = h.sp; fram = h.fram ∙ sym (fram_after-append os cs f); inputs = h.inputs }))
 

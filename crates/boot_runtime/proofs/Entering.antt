@@ -3,7 +3,7 @@ use Rattle.std.proofs.Common.{◌≡◌, ℕ, zero, suc, ◌+◌, ◌*◌, List,
 use Rattle.std.specs.List.{All}
 use Rattle.std.proofs.lemmas.List.Elements.{All-nil, All-cons, All-head, All-tail}
 use Rattle.runtime_code.specs.fram_board.Effects.{Store}
-use Rattle.runtime_code.specs.machine_effects.World.{put, fram_after}
+use Rattle.runtime_code.specs.machine_effects.World.{put}
 use Rattle.runtime_code.specs.machine_effects.Inputs.{Inputs}
 use Rattle.runtime_code.specs.machine_effects.Machine.{Code}
 use Rattle.runtime_code.specs.code_forms.Forms.{Core, Move, Branch, Fram, ToFram}
@@ -13,7 +13,7 @@ use Rattle.runtime_code.specs.runtime_effects.Places.{CopyPair}
 use Rattle.runtime_code.specs.runtime_effects.Stages.{copied_in}
 use Rattle.runtime_code.specs.runtime_effects.Needs.{ArePairWords}
 use Rattle.runtime_code.specs.Counted.{if_any}
-use Rattle.runtime_code.proofs.Interface.{core_at, from_there, then_on, so_ends, recounted, nothing, form_comes, rung_in, IsRung, Does}
+use Rattle.runtime_code.proofs.Interface.{core_at, from_there, then_on, so_ends, recounted, nothing, form_comes, rung_in, IsRung, Deed, Does}
 use Rattle.boot_runtime.specs.Listing.{TaskEntry, entry_at, copies_in, stub_to, stub, stub_bytes, rung_for}
 use Rattle.boot_runtime.specs.Laws.{IsEntered}
 
@@ -44,8 +44,11 @@ rung_is (t ∷ ts) zero = refl
 rung_is (t ∷ ts) (suc k) = rung_is ts k
 
 -- the private scalars are copied
+abbrev pub copying : List CopyPair → (ℕ → ℕ) → Inputs → Deed
+copying xs f l = record { memory = f; inputs = l; effects = copied_in xs f; steps = length xs; cycles = 6 * length xs }
+
 pub copies_done : (code : Code) (tidy : IsTidy code) (xs : List CopyPair) (f : ℕ → ℕ) (l : Inputs) → All ArePairWords xs
-    → let es = copied_in xs f in Does code (copies_in xs) f (fram_after es f) l es (length xs) (6 * length xs)
+    → Does code (copies_in xs) (copying xs f l)
 copies_done code tidy [] f l ok p u h at = nothing code u _ (record { pc = at.pc ∙ omega arith; sp = at.sp; fram = at.fram; inputs = at.inputs })
 copies_done code tidy (x ∷ xs) f l ok p u h at =
     let g = put f x.copy (f x.home) in

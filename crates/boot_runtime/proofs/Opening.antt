@@ -14,7 +14,7 @@ use Rattle.runtime_code.proofs.code_forms.Interface.{forms_at, forms_behind}
 use Rattle.runtime_code.specs.runtime_effects.Stages.{is_at_end, clearing_if, cleared, counting_effects, opening_effects}
 use Rattle.runtime_code.specs.runtime_effects.Needs.{AreInFram}
 use Rattle.runtime_code.specs.Comes.{Comes, IsAt}
-use Rattle.runtime_code.specs.Counted.{over, if_any}
+use Rattle.runtime_code.specs.Counted.{if_any}
 use Rattle.runtime_code.proofs.Interface.{behind, core_at, from_there, ends, then_on, recounted, on_fram, moved_to, nothing, comes_on, straight, compares}
 use Rattle.runtime_code.proofs.Interface.{Loop, Turning, Point, Turn, Makes, loop_ends, in_front, turn_there, loops}
 use Rattle.runtime_code.proofs.Interface.{IsLeft, all_left, left_from, first_left}
@@ -77,7 +77,7 @@ module _ (code : Code) (tidy : IsTidy code) (m : MemoryMap) (places : AreInFram 
   pub looks_at_version : (p : ℕ) (b : Bool) (f : ℕ → ℕ) (l : Inputs) (u : Core) → p + 32 < 0x10000 → Stands code p (end_tested m)
       → f (word_place m Version) < 0x10000 → is_at_end m f ≡ b → IsAt p f l u → Comes code [] 2 6 u (IsAt (if not b then p + 32 else p + 6) f l)
   looks_at_version p b f l u high h word z at =
-      compares code tidy MinusOne (word_place m Version) (over (clearing m)) p (p + 32) b f l u (places.words Version) h (omega (arith, high))
+      compares code tidy MinusOne (word_place m Version) p (clearing m) (places.words Version) h (omega (arith, high)) b f l u
       (end_flag (f (word_place m Version)) word ∙ z) at
 
   -- the clearing, of 26 bytes

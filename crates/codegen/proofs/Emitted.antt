@@ -95,14 +95,14 @@ times_one zero m = refl
 times_one (suc k) m = ap (λ l. m ∷ l) (times_one k m)
 
 -- a part behind another one, where there was memory for it
-pub behind : {T E : Type 0} (r : Result T E) {code first new a b : List Form} → first ≡ code ++ a → OnOk r (new ≡ first ++ b)
+pub behind : {T E : Type 0} (r : Result T E) (code first new a b : List Form) → first ≡ code ++ a → OnOk r (new ≡ first ++ b)
     → OnOk r (new ≡ code ++ (a ++ b))
-behind r {code} {first} {new} {a} {b} f h = on_ok_weaker r (λ (n : new ≡ first ++ b). n ∙ ap (λ l. l ++ b) f ∙ append_assoc code a b) h
+behind r code first new a b f h = on_ok_weaker r (λ (n : new ≡ first ++ b). n ∙ ap (λ l. l ++ b) f ∙ append_assoc code a b) h
 
 -- what is appended where there is memory for it
-pub on_ok_items : {T E : Type 0} (r : Result T E) {new x y : List Form} → new ≡ (if is_ok r then x else y) → OnOk r (new ≡ x)
-on_ok_items (Ok v) e = e
-on_ok_items (Err v) e = tt
+pub on_ok_items : {T E : Type 0} (r : Result T E) (new x y : List Form) → new ≡ (if is_ok r then x else y) → OnOk r (new ≡ x)
+on_ok_items (Ok v) new x y e = e
+on_ok_items (Err v) new x y e = tt
 
 -- so many words where a flag is set are no more than these
 pub words_at_most : (b : Bool) (n : ℕ) → (if b then n else 0) ≤ n

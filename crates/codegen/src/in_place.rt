@@ -56,7 +56,6 @@ fn attempt_number(list: ListPlace) -> Form
 }
 
 // The first update of an element in an attempt.
-#[tactic(auto, using(std::proofs::Common::append_assoc))]
 fn emit_first_update(update: ElementUpdate, code: &mut Vec<Form>) -> Result<(), AllocError>
     ensures { OnOk result (code.new.items ≡ code.old.items ++ first_update update.operation (rest_source update.right) update.place update.list) }
 {
@@ -78,7 +77,6 @@ fn emit_by_version(again: &[Form], first: &[Form], code: &mut Vec<Form>) -> Resu
 }
 
 // An update at the index in R4, which is below the length.
-#[tactic(auto, using(std::proofs::Common::append_assoc))]
 fn emit_inside(alloc: Global, update: ElementUpdate, code: &mut Vec<Form>) -> Result<(), AllocError>
     ensures { OnOk result (code.new.items ≡ code.old.items ++ inside_update update.operation (rest_source update.right) update.place update.list) }
 {
@@ -112,7 +110,6 @@ fn emit_checked(
 }
 
 // At any index in R4, which may be surely below the length.
-#[tactic(auto, using(std::proofs::Common::append_assoc))]
 fn emit_indexed_update(
     alloc: Global,
     sure: bool,

@@ -195,7 +195,6 @@ fn emit_copy(place: ArrayPlace, list: ListPlace, code: &mut Vec<Form>) -> Result
 }
 
 // A versioned write of the word in R5 at the index in R4, which is below the length.
-#[tactic(auto, using(std::proofs::Common::append_assoc))]
 fn emit_stored(place: ArrayPlace, list: ListPlace, code: &mut Vec<Form>) -> Result<(), AllocError>
     ensures { OnOk result (code.new.items ≡ code.old.items ++ stored_code place list) }
 {

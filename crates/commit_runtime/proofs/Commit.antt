@@ -1,5 +1,5 @@
 -- The commit's code makes the commit.
-use Rattle.std.proofs.Common.{◌≡◌, ℕ, zero, suc, ◌+◌, ◌*◌, ◌%◌, ◌<◌, ◌≤◌, List, [], ◌∷◌, ◌++◌, length, length-append, refl, sym, ap, ◌∙◌, subst, arith, true}
+use Rattle.std.proofs.Common.{◌≡◌, ℕ, zero, suc, ◌+◌, ◌*◌, ◌/◌, ◌%◌, ◌<◌, ◌≤◌, List, [], ◌∷◌, ◌++◌, length, length-append, refl, sym, ap, ◌∙◌, subst, arith, true}
 use Rattle.std.specs.List.{All}
 use Rattle.std.proofs.lemmas.List.Elements.{All-same}
 use Rattle.runtime_code.specs.msp_isa.declared.instructions.Condition.TheVariants.{Always}
@@ -9,14 +9,14 @@ use Rattle.runtime_code.specs.machine_effects.Inputs.{Inputs}
 use Rattle.runtime_code.specs.machine_effects.Machine.{Code, IsPlace}
 use Rattle.runtime_code.proofs.machine_effects.Interface.{fram_after-append}
 use Rattle.runtime_code.specs.code_forms.Forms.{Core, Branch}
-use Rattle.runtime_code.specs.code_forms.Code.{Stands, IsTidy}
+use Rattle.runtime_code.specs.code_forms.Code.{Stands, IsTidy, forms_bytes}
 use Rattle.runtime_code.proofs.code_forms.Interface.{stands_front, forms_at, forms_behind}
 use Rattle.runtime_code.specs.runtime_effects.Places.{CopyPair, run_pairs, entries_from, listed}
 use Rattle.runtime_code.specs.runtime_effects.Stages.{copied_home, sends, emits_sent, commit_closed, commit_effects}
 use Rattle.runtime_code.specs.runtime_effects.Needs.{AreInFram, CanCommit, IsCopied}
 use Rattle.runtime_code.proofs.runtime_effects.Interface.{run_length, entries_alike}
 use Rattle.runtime_code.specs.Comes.{Comes, IsAt}
-use Rattle.runtime_code.specs.Counted.{over, if_any}
+use Rattle.runtime_code.specs.Counted.{if_any}
 use Rattle.runtime_code.proofs.Interface.{behind, core_at, from_there, then_on, so_ends, recounted, nothing, comes_on, form_comes, straight, jumps}
 use Rattle.runtime_code.proofs.Interface.{if_any_grows, Loop, Turning, Point, Turn, Makes, loop_ends, in_front, turn_there, loops}
 use Rattle.runtime_code.proofs.Interface.{IsLeft, all_left, left_from, first_left, BehindSends, sends_are_made}
@@ -91,7 +91,7 @@ module _ (code : Code) (tidy : IsTidy code) (m : MemoryMap) (places : AreInFram 
               ((subst IsPlace (sym third) (first_left places.list (left_from 4 2 r.entries refl (omega arith)) (omega arith)), tt), tt),
             ),
           ) refl)
-              (then_on (jumps code tidy Always (over word_moved) (p + 22) (p + 16) true read (ap code (omega arith) ∙ words.0) (omega arith) (omega arith) refl)
+              (then_on (jumps code tidy Always (forms_bytes word_moved / 2) (p + 22) (p + 16) true read (ap code (omega arith) ∙ words.0) (omega arith) (omega arith) refl)
               (so_ends (words_home code tidy m (p + 14) (omega (arith, high)) words k (f q) (f (q + 2)) f l (record read { pc = p + 22 })
               (omega (arith, few, long, both)) (record { pc = omega arith; fram = refl; inputs = refl }) (ap f third) refl refl here)
               (λ v h. record {

@@ -1,11 +1,15 @@
 -- The words of an image by their addresses.
 use Rattle.image_laws.proofs.Names.{◌≡◌, ◌∙◌, ◌+◌, ◌*◌, ◌%◌, ◌<◌, ◌≤◌, ◌==◌, ◌&&◌, ℕ, suc, true, false, cond, nat_lt, nat_le, List, [], ◌∷◌, map, length, refl}
-use Rattle.image_laws.proofs.Names.{ap, arith, slice_index, nat_tests, fram_first, place_of, is_fram, IsFram, fram_of, VariablePlace, end_of, home_region}
+use Rattle.image_laws.proofs.Names.{ap, arith, slice_index, nat_tests, fram_first, place_of, is_fram, IsFram, IsPlace, fram_of, VariablePlace, end_of, home_region}
 use Rattle.image_laws.proofs.Names.{AreInOrder, is_within, word_of_row, shared_word}
 use Rattle.code_forms.specs.Placed.{Holds}
 use Rattle.memory_map.specs.declared.place.Region.{Region}
 
 -- ---- words by addresses
+
+-- a place of a program is a word of the FRAM
+pub place_in_fram : (a : ℕ) → IsPlace a → IsFram a
+place_in_fram a is = record { even = is.even; low = is.low; high = omega (arith, is.high) }
 
 in_fram : (a : ℕ) → IsFram a → ((a % 2 == 0) && is_fram a) ≡ true
 in_fram a h =

@@ -14,8 +14,9 @@ use Rattle.linked_code.specs.Linked.{CodeFits}
 use Rattle.linked_code.proofs.Interface.{linked_is_code}
 use Rattle.compiled_runs.proofs.Interface.{sources_have_room}
 use Rattle.memory_map.specs.declared.words.RuntimeWord.{RuntimeWord}
-use Rattle.memory_map.proofs.Interface.{apart_of, even_of, words_stand}
-use Rattle.image_laws.proofs.Fram.{within, outside_before, none_before, holds_by}
+use Rattle.memory_map.proofs.Interface.{apart_of, even_of}
+use Rattle.runtime_code.proofs.Interface.{places_are_in_fram}
+use Rattle.image_laws.proofs.Fram.{place_in_fram, within, outside_before, none_before, holds_by}
 use Rattle.image_laws.proofs.Initial.{initial_rows_are}
 use Rattle.image_laws.proofs.States.{finds_state}
 use Rattle.image_laws.proofs.Laid.{laid_out}
@@ -86,7 +87,7 @@ module _ (text : List ℕ) (p : CheckedProgram) (allow : Allow) (image : ImageVa
 
   -- the runtime's words are words of FRAM
   words_are : (w : RuntimeWord) → IsFram (word_place l w)
-  words_are w = (words_stand l w rules).is_fram
+  words_are w = place_in_fram (word_place l w) ((places_are_in_fram l rules).words w)
 
   -- the runtime's words but CUR are 0
   pub zero_at : (a : ℕ) → IsFram a → a ≢ word_place l CurrentTask → a < l.homes.address → f a ≡ 0

@@ -7,4 +7,4 @@ pub use Rattle.image_laws.proofs.Fresh.{zero_at, version, half, images_are_fresh
 -- The text of an image, with its layout.
 pub use Rattle.image_laws.proofs.Laid.{laid_out}
 -- The words of an image by their addresses.
-pub use Rattle.image_laws.proofs.Fram.{fram_at, within, none_before}
+pub use Rattle.image_laws.proofs.Fram.{place_in_fram, fram_at, within, none_before}

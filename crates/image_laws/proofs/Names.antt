@@ -16,7 +16,7 @@ pub use Rattle.memory_map.specs.declared.words.RuntimeWord.TheVariants.{Base, Cu
 pub use Rattle.image_text.specs.ImageValue.{ImageValue, place_of}
 -- the board
 pub use Rattle.fram_board.specs.Bus.{is_fram}
-pub use Rattle.machine_effects.specs.Machine.{IsFram, fram_of}
+pub use Rattle.machine_effects.specs.Machine.{IsFram, IsPlace, fram_of}
 pub use Rattle.machine_effects.specs.World.{World}
 pub use Rattle.crash_rules.specs.Model.{Model}
 pub use Rattle.stands_for.specs.Layout.{IsSharedWord}

@@ -1,8 +1,9 @@
 -- An image and its attempts keep to the capacities of the runtime's buffers.
 use Rattle.image_reports.proofs.Names.{◌≡◌, ◌≤◌, ℕ, arith, List, Allow, ImageValue, IsFram, fram_of, CheckedProgram, IsRunnable, IsAcceptedText}
 use Rattle.image_reports.proofs.Names.{accepted_texts_run, Gate, ListLength, EmitCount, MemoryMap, word_place, each_weaker, KeepsCapacities, CountsFit}
-use Rattle.image_reports.proofs.Names.{AttemptsFit, IsCompiled, laid_out, zero_at, version}
-use Rattle.memory_map.proofs.Interface.{apart_of, words_stand}
+use Rattle.image_reports.proofs.Names.{AttemptsFit, IsCompiled, laid_out, place_in_fram, zero_at, version}
+use Rattle.memory_map.proofs.Interface.{apart_of}
+use Rattle.runtime_code.proofs.Interface.{places_are_in_fram}
 use Rattle.task_attempts.specs.Laws.{IsBelowCode}
 use Rattle.task_attempts.proofs.Interface.{stores_below_code}
 use Rattle.whole_programs.specs.Laws.{IsLaidOutText}
@@ -31,8 +32,9 @@ module _ (text : List ℕ) (p : CheckedProgram) (allow : Allow) (image : ImageVa
 
   pub fresh_capacities : KeepsCapacities l (fram_of image.words)
   fresh_capacities =
-      let list = nothing_at (word_place l ListLength) (words_stand l ListLength c.is_layout.rules).is_fram (omega arith) (omega arith) in
-      let emits = nothing_at (word_place l EmitCount) (words_stand l EmitCount c.is_layout.rules).is_fram (omega arith) (omega arith) in
+      let words = (places_are_in_fram l c.is_layout.rules).words in
+      let list = nothing_at (word_place l ListLength) (place_in_fram _ (words ListLength)) (omega arith) (omega arith) in
+      let emits = nothing_at (word_place l EmitCount) (place_in_fram _ (words EmitCount)) (omega arith) (omega arith) in
       record {
         list = omega (arith, list);
         emits = omega (arith, emits);

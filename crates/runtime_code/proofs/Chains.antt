@@ -1,5 +1,5 @@
 -- Stretches of code one after another.
-use Rattle.std.proofs.Common.{◌≡◌, ℕ, ◌+◌, List, [], ◌∷◌, ◌++◌, length, Some, Bool, not, true, if◌then◌else◌, refl, sym, ap, ◌∙◌, subst, arith}
+use Rattle.std.proofs.Common.{◌≡◌, ℕ, ◌+◌, ◌/◌, List, [], ◌∷◌, ◌++◌, length, Some, Bool, not, true, if◌then◌else◌, refl, sym, ap, ◌∙◌, subst, arith}
 use Rattle.code_forms.specs.alp_words.declared.Width.TheVariants.{Word}
 use Rattle.code_forms.specs.alp_words.Words.{difference_of}
 use Rattle.code_forms.specs.msp_isa.declared.operands.Konst.{Konst}
@@ -14,8 +14,9 @@ use Rattle.runtime_effects.specs.machine_effects.Going.{Goes, At, stretch}
 use Rattle.runtime_effects.specs.machine_effects.Machine.{Code, IsPlace}
 use Rattle.runtime_effects.proofs.machine_effects.Interface.{fram_after-append}
 use Rattle.code_forms.specs.Forms.{Core, Form, Compare, Jump, Constant, instruction_of}
-use Rattle.code_forms.specs.Code.{Stands, AreStraight, forms_run, FormsNeed, IsTidy}
+use Rattle.code_forms.specs.Code.{Stands, AreStraight, forms_run, forms_bytes, FormsNeed, IsTidy}
 use Rattle.code_forms.proofs.Interface.{end_of, comes_on, straight_comes, form_comes}
+use Rattle.runtime_code.specs.Counted.{jump_over}
 use Rattle.runtime_code.specs.Comes.{Comes, IsAt}
 
 -- the state behind straight code
@@ -52,11 +53,12 @@ pub recounted : {code : Code} {es : List Effect} {n k c d : ℕ} {u : Core} {P :
 recounted {code} {es} {k = k} {c = c} {u = u} {P = P} e i a = subst (λ x. Comes code es k x u P) i (subst (λ x. Comes code es x c u P) e a)
 
 -- two stretches on a FRAM
-pub on_fram : {code : Code} {es fs : List Effect} {n k c d p q : ℕ} {l j : Inputs} {u : Core} (f : ℕ → ℕ) → Comes code es n c u (IsAt p (fram_after es f) l)
-    → ((v : Core) → IsAt p (fram_after es f) l v → Comes code fs k d v (IsAt q (fram_after fs (fram_after es f)) j))
-    → Comes code (es ++ fs) (n + k) (c + d) u (IsAt q (fram_after (es ++ fs) f) j)
-on_fram {es = es} {fs = fs} f a b =
-    so_ends (comes_on a b) (λ v h. record { pc = h.pc; fram = h.fram ∙ sym (fram_after-append es fs f); inputs = h.inputs })
+module _ {code : Code} {u : Core} {l : Inputs} where
+  pub on_fram : {es fs : List Effect} {n k c d p q : ℕ} (f : ℕ → ℕ) → Comes code es n c u (IsAt p (fram_after es f) l)
+      → ((v : Core) → IsAt p (fram_after es f) l v → Comes code fs k d v (IsAt q (fram_after fs (fram_after es f)) l))
+      → Comes code (es ++ fs) (n + k) (c + d) u (IsAt q (fram_after (es ++ fs) f) l)
+  on_fram {es} {fs} f a b =
+      so_ends (comes_on a b) (λ v h. record { pc = h.pc; fram = h.fram ∙ sym (fram_after-append es fs f); inputs = h.inputs })
 
 -- the same address by another sum
 pub moved_to : {code : Code} {es : List Effect} {n c p q : ℕ} {f : ℕ → ℕ} {l : Inputs} {u : Core} → p ≡ q → Comes code es n c u (IsAt p f l)
@@ -81,14 +83,14 @@ module _ (code : Code) (tidy : IsTidy code) where
       ∙ ap (λ x. Goes [] 2 (record u { pc = if b then to else x })) here)
       refl
 
-  -- a word of FRAM is compared with a constant, and where it is another it goes on elsewhere
-  pub compares : (k : Konst) (a o p to : ℕ) (b : Bool) (f : ℕ → ℕ) (l : Inputs) (u : Core) → IsPlace a
-      → Stands code p (Compare (Constant k) a ∷ Jump NotEqual o ∷ []) → word_sum (p + 4 + 2) (distance o) ≡ to
-      → (difference_of Word (f a) (constant_value k) true).1.z ≡ b → IsAt p f l u
-      → Comes code [] 2 6 u (IsAt (if not b then to else p + 6) f l)
-  compares k a o p to b f l u word h there flag at =
-      let s = core_at p f l u in
-      let looked : List Form = Compare (Constant k) a ∷ [] in
-      from_there u at (then_on (straight looked s (tt, tt) (h.0, tt) ((tt, word), tt) refl)
-      (ends (jumps NotEqual o to (p + 6) (not b) (behind looked s) h.1.0 there (omega arith) (ap not flag))
-      (record { pc = refl; fram = refl; inputs = refl })))
+  -- a word of FRAM is compared with a constant, and where it is another it goes on behind some forms
+  module _ (k : Konst) (a p : ℕ) (ms : List Form) (word : IsPlace a) (h : Stands code p (Compare (Constant k) a ∷ jump_over NotEqual ms ∷ []))
+      (there : word_sum (p + 4 + 2) (distance (forms_bytes ms / 2)) ≡ p + (6 + forms_bytes ms)) where
+    pub compares : (b : Bool) (f : ℕ → ℕ) (l : Inputs) (u : Core) → (difference_of Word (f a) (constant_value k) true).1.z ≡ b → IsAt p f l u
+        → Comes code [] 2 6 u (IsAt (if not b then p + (6 + forms_bytes ms) else p + 6) f l)
+    compares b f l u flag at =
+        let s = core_at p f l u in
+        let looked : List Form = Compare (Constant k) a ∷ [] in
+        from_there u at (then_on (straight looked s (tt, tt) (h.0, tt) ((tt, word), tt) refl)
+        (ends (jumps NotEqual (forms_bytes ms / 2) (p + (6 + forms_bytes ms)) (p + 6) (not b) (behind looked s) h.1.0 there (omega arith) (ap not flag))
+        (record { pc = refl; fram = refl; inputs = refl })))

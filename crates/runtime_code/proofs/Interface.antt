@@ -9,7 +9,7 @@ pub use Rattle.runtime_code.proofs.Loops.{turn_there, loops}
 -- What is left of a region as a loop goes over it.
 pub use Rattle.runtime_code.proofs.Regions.{IsLeft, all_left, left_from, first_left}
 -- The way to the task that CUR names, whatever is done in its stub; the sends.
-pub use Rattle.runtime_code.proofs.Ladder.{rung_in, IsRung, Does, HasLadder, ladder_bytes, to_task}
+pub use Rattle.runtime_code.proofs.Ladder.{rung_in, IsRung, Deed, Does, HasLadder, ladder_bytes, to_task}
 pub use Rattle.runtime_code.proofs.Sending.{BehindSends, sends_are_made}
 -- The length of code.
 pub use Rattle.runtime_code.proofs.Sizes.{code_bytes, are_instructions-append}

@@ -7,6 +7,7 @@ use Rattle.code_forms.specs.alp_words.declared.Width.TheVariants.{Word}
 use Rattle.code_forms.specs.alp_words.Words.{sum_of}
 use Rattle.runtime_effects.specs.fram_board.Effects.{Effect}
 use Rattle.runtime_effects.specs.machine_effects.Inputs.{Inputs}
+use Rattle.runtime_effects.specs.machine_effects.World.{fram_after}
 use Rattle.runtime_effects.specs.machine_effects.Machine.{Code, IsPlace}
 use Rattle.runtime_effects.specs.memory_map.declared.words.RuntimeWord.TheVariants.{CurrentTask}
 use Rattle.runtime_effects.specs.memory_map.MemoryMap.{MemoryMap, word_place}
@@ -74,10 +75,22 @@ pub ladder_bytes : (q : ℕ) (ss : List Rung) → forms_bytes (ladder q ss) ≡ 
 ladder_bytes q [] = refl
 ladder_bytes q (s ∷ ss) = let e = ladder_bytes (q + s.bytes) ss in omega (arith, e)
 
--- what is done in a stub: from one FRAM to another, with these effects, in so many steps and cycles, and with nothing on the stack
-abbrev pub Does : Code → List Form → (ℕ → ℕ) → (ℕ → ℕ) → Inputs → List Effect → ℕ → ℕ → Type 0
-Does code body f g l es n c =
-    (p : ℕ) (u : Core) → Stands code p body → Enters p stack_top f l u → Comes code es n c u (Enters (p + forms_bytes body) stack_top g l)
+-- what is done in front of a task: on which FRAM and inputs, with what effects, in so many steps and cycles
+pub record Deed : Type 0 where
+  pub memory : ℕ → ℕ
+  pub inputs : Inputs
+  pub effects : List Effect
+  pub steps : ℕ
+  pub cycles : ℕ
+
+-- code does it, wherever it stands, with nothing on the stack
+abbrev pub Does : Code → List Form → Deed → Type 0
+Does code body d = (p : ℕ) (u : Core) → Stands code p body → Enters p stack_top d.memory d.inputs u
+    → Comes code d.effects d.steps d.cycles u (Enters (p + forms_bytes body) stack_top (fram_after d.effects d.memory) d.inputs)
+
+-- and the task is entered behind it
+abbrev pub Entered : Deed → ℕ → Core → Type 0
+Entered d code u = Enters code stack_top (fram_after d.effects d.memory) d.inputs u
 
 -- the dispatch stands at an address with the ladder right behind it, and the stubs at another
 pub record HasLadder (code : Code) (m : MemoryMap) (p q : ℕ) (ss : List Rung) : Type 0 where
@@ -114,28 +127,27 @@ module _ (code : Code) (tidy : IsTidy code) where
       (ap code there ∙ rung_stands code ss (p + 14) q k h.rungs named) even refl (record { pc = refl; sp = refl; fram = refl; inputs = refl }))))
 
   -- from where a rung leads to the task's code, through its stub where it has one
-  entered : (body : List Form) (stub to : ℕ) {f g : ℕ → ℕ} {l : Inputs} {es : List Effect} {n c : ℕ} (u : Core) → to % 2 ≡ 0 → Stands code stub (stub_with to body)
-      → Does code body f g l es n c → Enters (rung_with stub to body) stack_top f l u
-      → Comes code es (n + if_any (length body) 1) (c + if_any (length body) 3) u (Enters to stack_top g l)
-  entered [] stub to u even h does at =
+  entered : (body : List Form) (stub to : ℕ) (d : Deed) (u : Core) → to % 2 ≡ 0 → Stands code stub (stub_with to body) → Does code body d
+      → Enters (rung_with stub to body) stack_top d.memory d.inputs u
+      → Comes code d.effects (d.steps + if_any (length body) 1) (d.cycles + if_any (length body) 3) u (Entered d to)
+  entered [] stub to d u even h does at =
       recounted (omega arith) (omega arith) (so_ends (does to u tt at) (λ v k. record { pc = k.pc ∙ omega arith; sp = k.sp; fram = k.fram; inputs = k.inputs }))
-  entered (m ∷ ms) stub to {f} {g} {l} {es} {n} {c} u even h does at =
-      let leaves : (v : Core) → Enters (stub + forms_bytes (m ∷ ms)) stack_top g l v → Comes code [] 1 3 v (Enters to stack_top g l) = λ v k.
-      form_comes code tidy (Branch to) v (record v { pc = to }) [] 3 (Enters to stack_top g l)
+  entered (m ∷ ms) stub to d u even h does at =
+      let leaves : (v : Core) → Entered d (stub + forms_bytes (m ∷ ms)) v → Comes code [] 1 3 v (Entered d to) = λ v k.
+      form_comes code tidy (Branch to) v (record v { pc = to }) [] 3 (Entered d to)
       (ap code k.pc ∙ (stands_back code stub (m ∷ ms) (Branch to ∷ []) h).0) even refl (record { pc = refl; sp = k.sp; fram = k.fram; inputs = k.inputs }) in
-      subst (λ x. Comes code x (n + 1) (c + 3) u (Enters to stack_top g l)) (append-nil es)
+      subst (λ x. Comes code x (d.steps + 1) (d.cycles + 3) u (Entered d to)) (append-nil d.effects)
       (comes_on (does stub u (stands_front code stub (m ∷ ms) (Branch to ∷ []) h) at) leaves)
 
   -- from the dispatch to the code of the task that CUR names
-  pub to_task : (m : MemoryMap) (p q : ℕ) (ss : List Rung) (s : Rung) {f g : ℕ → ℕ} {l : Inputs} {es : List Effect} {n c : ℕ} (u : Core)
-      → HasLadder code m p q ss → IsAt p f l u → f (word_place m CurrentTask) < length ss → rung_in ss (f (word_place m CurrentTask)) ≡ s
-      → Does code s.body f g l es n c
-      → Comes code es (6 + (n + if_any (length s.body) 1)) (12 + (c + if_any (length s.body) 3)) u (Enters s.code stack_top g l)
-  to_task m p q ss s {f} {g} {l} {es} {n} {c} u h at named is does =
-      let k = f (word_place m CurrentTask) in
+  pub to_task : (m : MemoryMap) (p q : ℕ) (ss : List Rung) (s : Rung) (d : Deed) (u : Core) → HasLadder code m p q ss → IsAt p d.memory d.inputs u
+      → d.memory (word_place m CurrentTask) < length ss → rung_in ss (d.memory (word_place m CurrentTask)) ≡ s → Does code s.body d
+      → Comes code d.effects (6 + (d.steps + if_any (length s.body) 1)) (12 + (d.cycles + if_any (length s.body) 3)) u (Entered d s.code)
+  to_task m p q ss s d u h at named is does =
+      let k = d.memory (word_place m CurrentTask) in
       let t = rung_in ss k in
       let even = (All-get_or IsRung ss k (record { body = []; bytes = 0; code = 0 }) named h.each).even in
-      subst (λ r. Comes code es (6 + (n + if_any (length r.body) 1)) (12 + (c + if_any (length r.body) 3)) u (Enters r.code stack_top g l)) is
-      (comes_on (dispatched m p q ss f l u h at named)
-      (λ v e. entered t.body (stub_at q ss k) t.code v even (stub_stands code ss q k h.each h.stubs named)
-      (subst (λ r. Does code r.body f g l es n c) (sym is) does) e))
+      subst (λ r. Comes code d.effects (6 + (d.steps + if_any (length r.body) 1)) (12 + (d.cycles + if_any (length r.body) 3)) u (Entered d r.code)) is
+      (comes_on (dispatched m p q ss d.memory d.inputs u h at named)
+      (λ v e. entered t.body (stub_at q ss k) t.code d v even (stub_stands code ss q k h.each h.stubs named)
+      (subst (λ r. Does code r.body d) (sym is) does) e))

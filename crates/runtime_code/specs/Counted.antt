@@ -2,14 +2,16 @@
 use Rattle.std.specs.Prelude.{ℕ, zero, suc, ◌+◌, ◌-◌, ◌/◌, List, [], ◌∷◌, ◌++◌}
 use Rattle.code_forms.specs.msp_isa.declared.instructions.TwoOp.TheVariants.{Sub, Cmp}
 use Rattle.code_forms.specs.msp_isa.declared.operands.Konst.TheVariants.{Zero, One}
+use Rattle.code_forms.specs.msp_isa.declared.instructions.Condition.{Condition}
 use Rattle.code_forms.specs.msp_isa.declared.instructions.Condition.TheVariants.{Equal, NotEqual}
 use Rattle.code_forms.specs.Forms.{Form, Move, Calculate, Jump, Constant, Number, ToRegister, R4, R5}
 use Rattle.code_forms.specs.Code.{forms_bytes}
 
--- the offset of a jump over these forms, and of one from behind them back to the first
-abbrev pub over : List Form → ℕ
-over ms = forms_bytes ms / 2
+-- a jump over these forms, where a condition is met
+abbrev pub jump_over : Condition → List Form → Form
+jump_over c ms = Jump c (forms_bytes ms / 2)
 
+-- the offset of a jump from behind these forms back to the first
 abbrev pub back_over : List Form → ℕ
 back_over ms = 0x400 - (forms_bytes ms + 2) / 2
 
@@ -23,7 +25,7 @@ loop_end back = Calculate Sub (Constant One) R4 ∷ Jump NotEqual back ∷ []
 
 -- how far it is over a loop behind its test, and back to its turn from its last jump
 abbrev pub over_loop : List Form → ℕ
-over_loop turn = over (Move (Number 0) (ToRegister R5) ∷ (turn ++ loop_end 0))
+over_loop turn = forms_bytes (Move (Number 0) (ToRegister R5) ∷ (turn ++ loop_end 0)) / 2
 
 abbrev pub back_to_turn : List Form → ℕ
 back_to_turn turn = back_over (turn ++ (Calculate Sub (Constant One) R4 ∷ []))

@@ -14,4 +14,6 @@ mod numbers;
 #[cfg(test)]
 mod parts;
 #[cfg(test)]
+mod schedules;
+#[cfg(test)]
 mod words;

@@ -34,17 +34,18 @@ module _ (z : Setting) where
   le_of_lt i size false e = grind (arith, nat_tests)
 
   -- it goes on where the index in R4 is below the length, else over so many words
-  pub check_part : (b : Bool) (size over pc to i : ℕ) (w : WordState) (t : Core) → nat_lt i size ≡ b → size < 0x10000 → i < 0x10000
-      → Stands z.code pc (check_code size over) → (let behind = pc + forms_bytes (check_code size over) in
-      (if b then behind else sum16 behind (distance over)) ≡ to) → t.work 4 ≡ i → StandsFor z pc w t → Runs z.code [] 4 t (Holds z (AreThese t.work) to w)
-  check_part b size over pc to i w t lt l r h e v k =
-      let m = Calculate op.Cmp (number_source size) R4 in
-      let mid = pc + form_bytes m in
-      let behind = pc + forms_bytes (check_code size over) in
-      let same : mid + 2 ≡ behind = omega arith in
-      runs_on z (compare_number z R4 pc i size w t r l v k h.0) (λ u j.
-      jump_with z condition.Carry over mid to (not b) h.1.0 (j.flag.carry ∙ le_of_lt i size b lt)
-      (ap (λ n. if not b then sum16 n (distance over) else n) same ∙ turned b (sum16 behind (distance over)) behind ∙ e) j.all)
+  module _ (size over pc : ℕ) (l : size < 0x10000) (h : Stands z.code pc (check_code size over)) where
+    pub check_part : (b : Bool) (to i : ℕ) (w : WordState) (t : Core) → nat_lt i size ≡ b → i < 0x10000
+        → (let behind = pc + forms_bytes (check_code size over) in (if b then behind else sum16 behind (distance over)) ≡ to) → t.work 4 ≡ i
+        → StandsFor z pc w t → Runs z.code [] 4 t (Holds z (AreThese t.work) to w)
+    check_part b to i w t lt r e v k =
+        let m = Calculate op.Cmp (number_source size) R4 in
+        let mid = pc + form_bytes m in
+        let behind = pc + forms_bytes (check_code size over) in
+        let same : mid + 2 ≡ behind = omega arith in
+        runs_on z (compare_number z R4 pc i size w t r l v k h.0) (λ u j.
+        jump_with z condition.Carry over mid to (not b) h.1.0 (j.flag.carry ∙ le_of_lt i size b lt)
+        (ap (λ n. if not b then sum16 n (distance over) else n) same ∙ turned b (sum16 behind (distance over)) behind ∙ e) j.all)
 
   -- ---- code behind the check, and what gives 0 where the index isn't below the length
 
@@ -77,14 +78,14 @@ module _ (z : Setting) where
         let high = (z.tidy (beyond + 2) _ zero_stands.1.0).high in
         let to : sum16 within (distance over) ≡ beyond + 2 = ap (sum16 within) (near_distance over near) ∙ omega (arith, far) in
         let zeroed = Move (Constant konst.Zero) (ToRegister R4) ∷ [] in
-        runs_on z (check_part false size over pc (beyond + 2) i w t lt l r check_stands to k.held k.is)
+        runs_on z (check_part size over pc l check_stands false (beyond + 2) i w t lt r to k.held k.is)
         (λ u j. line z zeroed 1 (beyond + 4) _ j.is (tt, tt) zero_stands.1 ((tt, tt), tt) refl refl (omega (arith, j.is.at))
         (λ s. record { is = s; held = refl }))
 
     -- it is
     pub checked_within : (i : ℕ) (w : WordState) (t : Core) → nat_lt i size ≡ true → i < 0x10000 → Has z R4 pc w i t → Runs z.code [] 4 t (Has z R4 within w i)
     checked_within i w t lt r k =
-        so_runs (check_part true size over pc within i w t lt l r check_stands refl k.held k.is)
+        so_runs (check_part size over pc l check_stands true within i w t lt r refl k.held k.is)
         (λ u j. record { is = j.is; held = ap (λ (f : ℕ → ℕ). f 4) j.held ∙ k.held })
 
     -- what the code has made goes over the 0
@@ -108,26 +109,34 @@ module _ (z : Setting) where
       line z ms 4 (pc + 6) _ k.is (tt, (tt, tt)) h ((tt, tt), ((subst (λ v. IsFram (v + base)) (sym q) f, tt), tt)) refl refl (omega (arith, k.is.at))
       (λ s. record { is = s; held = ap (λ v. t.fram (v + base)) q ∙ ap (λ y. y a) k.is.fram })
 
+  -- R4 holds an index of an array of so many words
+  pub record Indexed (size pc i : ℕ) (w : WordState) (t : Core) : Type 0 where
+    pub small : size < 0x10000
+    pub index : i < 0x10000
+    pub held : Has z R4 pc w i t
+
   -- by whether the index is surely below the length
-  pub past_end : (b : Bool) (base size pc : ℕ) → size < 0x10000 → Stands z.code pc (element_code b base size) → (i : ℕ) (w : WordState) (t : Core)
-      → (b ≡ true → nat_lt i size ≡ true) → nat_lt i size ≡ false → i < 0x10000 → Has z R4 pc w i t
+  pub past_end : (b : Bool) (base size pc i : ℕ) (w : WordState) (t : Core) → Indexed size pc i w t → Stands z.code pc (element_code b base size)
+      → (b ≡ true → nat_lt i size ≡ true) → nat_lt i size ≡ false
       → Runs z.code [] 10 t (Has z R4 (pc + forms_bytes (element_code b base size)) w 0)
-  past_end true base size pc l h i w t sure below r k = absurd (both_ways (nat_lt i size) below (sure refl))
-  past_end false base size pc l h i w t sure below r k =
+  past_end true base size pc i w t k h sure below = absurd (both_ways (nat_lt i size) below (sure refl))
+  past_end false base size pc i w t k h sure below =
       let ms = fetch_code base in
       dearer z (omega arith)
-      (subst (λ p. Runs z.code [] 5 t (Has z R4 p w 0)) (checked_end size 4 pc ms l h) (checked_past size 4 pc ms l h i w t refl (omega arith) below r k))
+      (subst (λ p. Runs z.code [] 5 t (Has z R4 p w 0)) (checked_end size 4 pc ms k.small h)
+      (checked_past size 4 pc ms k.small h i w t refl (omega arith) below k.index k.held))
 
-  pub before_end : (b : Bool) (base size pc : ℕ) → size < 0x10000 → Stands z.code pc (element_code b base size) → (i : ℕ) (w : WordState) (t : Core)
-      → nat_lt i size ≡ true → i < 0x10000 → IsFram (2 * i + base) → Has z R4 pc w i t
+  pub before_end : (b : Bool) (base size pc i : ℕ) (w : WordState) (t : Core) → Indexed size pc i w t → Stands z.code pc (element_code b base size)
+      → nat_lt i size ≡ true → IsFram (2 * i + base)
       → Runs z.code [] 10 t (Has z R4 (pc + forms_bytes (element_code b base size)) w (w.fram (2 * i + base)))
-  before_end true base size pc l h i w t lt r f k = dearer z (omega arith) (fetch_part base pc i w t f h k)
-  before_end false base size pc l h i w t lt r f k =
+  before_end true base size pc i w t k h lt f = dearer z (omega arith) (fetch_part base pc i w t f h k.held)
+  before_end false base size pc i w t k h lt f =
+      let l = k.small in
       let v = w.fram (2 * i + base) in
       let ms = fetch_code base in
       let at = within size 4 pc ms l h in
       subst (λ p. Runs z.code [] 10 t (Has z R4 p w v)) (checked_end size 4 pc ms l h)
-      (runs_on z (checked_within size 4 pc ms l h i w t lt r k) (λ u j. runs_on z (fetch_part base at i w u f (within_stands size 4 pc ms l h) j)
+      (runs_on z (checked_within size 4 pc ms l h i w t lt k.index k.held) (λ u j. runs_on z (fetch_part base at i w u f (within_stands size 4 pc ms l h) j)
       (λ q n. over_zero size 4 pc ms l h v w q n)))
 
   -- the word in R5

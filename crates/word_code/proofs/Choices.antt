@@ -43,34 +43,39 @@ fork_either true d n holds_at fails_at middle l k = record { holds = omega (arit
 fork_either false d n holds_at fails_at middle l k = record { holds = omega (arith, k.holds); fails = refl; room = λ h. omega (arith, l h) }
 
 module _ (z : Setting) where
-  -- the jump to the one way or the other
+  -- a decision's jump stands here, and leads to the one way or the other
+  pub record Deciding (when : Bool) (pc d holds_at fails_at : ℕ) (met opposite : Condition) : Type 0 where
+    pub stands : Stands z.code pc (decision when d met opposite)
+    pub fork : Fork when d holds_at fails_at (pc + forms_bytes (decision when d met opposite))
+    pub low : pc < 0x10000
+
   decision_part : (when b : Bool) (pc d holds_at fails_at : ℕ) (met opposite : Condition) (w : WordState) (t : Core)
-      → Stands z.code pc (decision when d met opposite) → Fork when d holds_at fails_at (pc + forms_bytes (decision when d met opposite)) → pc < 0x10000
-      → Decided z pc w b met opposite t → Runs z.code [] 5 t (StandsFor z (if b then holds_at else fails_at) w)
-  decision_part true true pc d holds_at fails_at met opposite w t h k l i =
-      let low = stands_low z pc (jump_over met opposite d) h l in
-      over_part z true pc d holds_at met opposite w t h k.holds (omega (arith, k.room low, k.holds)) i
-  decision_part true false pc d holds_at fails_at met opposite w t h k l i =
-      let low = stands_low z pc (jump_over met opposite d) h l in
-      over_part z false pc d fails_at met opposite w t h k.fails (omega (arith, low, k.fails)) i
-  decision_part false true pc d holds_at fails_at met opposite w t h k l i =
-      let low = stands_low z pc (jump_over opposite met d) h l in
-      over_part z false pc d holds_at opposite met w t h k.holds (omega (arith, low, k.holds)) (record { is = i.is; holds = i.fails; fails = i.holds })
-  decision_part false false pc d holds_at fails_at met opposite w t h k l i =
-      let low = stands_low z pc (jump_over opposite met d) h l in
-      over_part z true pc d fails_at opposite met w t h k.fails (omega (arith, k.room low, k.fails)) (record { is = i.is; holds = i.fails; fails = i.holds })
+      → Deciding when pc d holds_at fails_at met opposite → Decided z pc w b met opposite t
+      → Runs z.code [] 5 t (StandsFor z (if b then holds_at else fails_at) w)
+  decision_part true true pc d holds_at fails_at met opposite w t k i =
+      let low = stands_low z pc (jump_over met opposite d) k.stands k.low in
+      over_part z true pc d holds_at met opposite w t k.stands k.fork.holds (omega (arith, k.fork.room low, k.fork.holds)) i
+  decision_part true false pc d holds_at fails_at met opposite w t k i =
+      let low = stands_low z pc (jump_over met opposite d) k.stands k.low in
+      over_part z false pc d fails_at met opposite w t k.stands k.fork.fails (omega (arith, low, k.fork.fails)) i
+  decision_part false true pc d holds_at fails_at met opposite w t k i =
+      let low = stands_low z pc (jump_over opposite met d) k.stands k.low in
+      over_part z false pc d holds_at opposite met w t k.stands k.fork.holds (omega (arith, low, k.fork.holds))
+      (record { is = i.is; holds = i.fails; fails = i.holds })
+  decision_part false false pc d holds_at fails_at met opposite w t k i =
+      let low = stands_low z pc (jump_over opposite met d) k.stands k.low in
+      over_part z true pc d fails_at opposite met w t k.stands k.fork.fails (omega (arith, k.fork.room low, k.fork.fails))
+      (record { is = i.is; holds = i.fails; fails = i.holds })
 
   -- the code that follows where it is decided, and the way that is taken
-  pub decided_follows : (when b : Bool) (pc d holds_at fails_at n end m k : ℕ) (met opposite : Condition) (w : WordState) (u : Core) (x y : Behaviour)
-      → Stands z.code pc (decision when d met opposite) → Fork when d holds_at fails_at (pc + forms_bytes (decision when d met opposite)) → pc < 0x10000
-      → Runs z.code [] n u (Decided z pc w b met opposite) → ((t : Core) → StandsFor z holds_at w t → Follows z end m t x)
-      → ((t : Core) → StandsFor z fails_at w t → Follows z end k t y) → Follows z end (n + 5 + (if b then m else k)) u (if b then x else y)
-  decided_follows when true pc d holds_at fails_at n end m k met opposite w u x y h fork l r f g =
-      let come = runs_on z r (λ t i. decision_part when true pc d holds_at fails_at met opposite w t h fork l i) in
-      then_end z end m x.effects x.end come f
-  decided_follows when false pc d holds_at fails_at n end m k met opposite w u x y h fork l r f g =
-      let come = runs_on z r (λ t i. decision_part when false pc d holds_at fails_at met opposite w t h fork l i) in
-      then_end z end k y.effects y.end come g
+  module _ {when : Bool} {pc d holds_at fails_at : ℕ} {met opposite : Condition} (k : Deciding when pc d holds_at fails_at met opposite) where
+    pub decided_follows : (b : Bool) (n end m o : ℕ) (w : WordState) (u : Core) (x y : Behaviour) → Runs z.code [] n u (Decided z pc w b met opposite)
+        → ((t : Core) → StandsFor z holds_at w t → Follows z end m t x) → ((t : Core) → StandsFor z fails_at w t → Follows z end o t y)
+        → Follows z end (n + 5 + (if b then m else o)) u (if b then x else y)
+    decided_follows true n end m o w u x y r f g =
+        then_end z end m x.effects x.end (runs_on z r (λ t i. decision_part when true pc d holds_at fails_at met opposite w t k i)) f
+    decided_follows false n end m o w u x y r f g =
+        then_end z end o y.effects y.end (runs_on z r (λ t i. decision_part when false pc d holds_at fails_at met opposite w t k i)) g
 
   -- ---- whether the top isn't 0
 
@@ -92,12 +97,12 @@ module _ (z : Setting) where
     flags : t.flags ≡ f
 
   -- an operation that writes no register leaves these flags
-  flags_part : (o : TwoOp) (x : Source) (b : WorkRegister) (c pc : ℕ) {l r : ℕ} {w : WordState} {t : Core} (f : Flags) → IsNotMov o
-      → writes_destination o ≡ false → source_cycles to_register (source_operand x) ≤ c
+  flags_part : (o : TwoOp) (x : Source) (b : WorkRegister) (c pc : ℕ) {l r : ℕ} {w : WordState} {t : Core} (f : Flags) → IsNotMov o × (writes_destination o ≡ false)
+      → source_cycles to_register (source_operand x) ≤ c
       → (let m = Calculate o x b in z.code pc ≡ Some (instruction_of m) → StandsFor z pc w t → IsRead x b l r t t
       → flags_after (operated o Word l r t.flags).flags t.flags ≡ f → Runs z.code [] c t (HasFlags (pc + form_bytes m) w f))
-  flags_part o x b c pc {l} {r} {w} {t} f reads writes price h i k made =
-      calculate z o x b c t false _ reads writes price (ap z.code i.at ∙ h) k (record {
+  flags_part o x b c pc {l} {r} {w} {t} f reads price h i k made =
+      calculate z o x b c t false _ reads.0 reads.1 price (ap z.code i.at ∙ h) k (record {
         is = stands_elsewhere z pc (pc + form_bytes (Calculate o x b)) w t _ i (ap (λ n. n + (2 + source_bytes x)) i.at) refl refl refl refl refl;
         flags = made;
       })
@@ -114,13 +119,13 @@ module _ (z : Setting) where
       → Runs z.code [] (reading_cycles (compare_stays (is_turned c) o)) t (HasFlags (pc + form_bytes m) w (compared_flags c x y)))
   compare_part CommonBit o pc x y w t h k =
       let s = right_source o in
-      flags_part op.Bit s R4 (reading_cycles (stays o)) pc _ tt refl (reading_price (stays o) o) h k.is
+      flags_part op.Bit s R4 (reading_cycles (stays o)) pc _ (tt, refl) (reading_price (stays o) o) h k.is
       (is_read true s R4 x y w.fram t k.is.fram k.held.four k.held.gives) refl
   compare_part Above o pc x y w t h k = turned_part pc x y w t h k
   compare_part SignedAbove o pc x y w t h k = turned_part pc x y w t h k
   compare_part c o pc x y w t h k =
       let s = right_source o in
-      flags_part op.Cmp s R4 (reading_cycles (stays o)) pc _ tt refl (reading_price (stays o) o) h k.is
+      flags_part op.Cmp s R4 (reading_cycles (stays o)) pc _ (tt, refl) (reading_price (stays o) o) h k.is
       (is_read true s R4 x y w.fram t k.is.fram k.held.four k.held.gives) refl
 
   pub compares_part : (c : Comparison) (o : Option Waiting) (pc x y : ℕ) (w : WordState) (t : Core) → x < 0x10000 → y < 0x10000

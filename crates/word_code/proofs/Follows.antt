@@ -47,17 +47,18 @@ then_end z pc more fs (Jumps to w) a b = runs_on z a b
 then_end z pc {most} more {u} {P} {es} fs Short a b = starves_on z most more u P es fs a b
 then_end z pc more fs _ a b = tt
 
--- a part, and then what it goes on with, which costs by the state there
-pub then_way : (z : Setting) (pc pc' most : ℕ) (more : WordState → ℕ) (u : Core) (P : WordState → Type 0) (es : List Effect) (e : End)
-    (go : WordState → Behaviour) → FollowsEnd z pc most u es e → OnGoesOn P e
-    → ((t : Core) (w : WordState) → P w → StandsFor z pc w t → Follows z pc' (more w) t (go w))
-    → Follows z pc' (most + spent_on e more) u (behind_effects es (on_end e go))
-then_way z pc pc' most more u P es (GoesOn w) go a p b = then_end z pc' (more w) (go w).effects (go w).end a (λ t h. b t w p h)
-then_way z pc pc' most more u P es (Jumps to w) go a p b =
-    subst (λ l. Runs z.code l (most + 0) u (HasJumped to w)) (sym (append-nil es)) (dearer z (omega arith) a)
-then_way z pc pc' most more u P es Short go a p b =
-    subst (λ l. Starves z.code l (most + 0) u) (sym (append-nil es)) (dearer_stall z es most (most + 0) u (omega arith) a)
-then_way z pc pc' most more u P es _ go a p b = tt
+module _ (z : Setting) (pc pc' most : ℕ) (more : WordState → ℕ) where
+  -- a part, and then what it goes on with, which costs by the state there
+  pub then_way : (u : Core) (P : WordState → Type 0) (es : List Effect) (e : End)
+      (go : WordState → Behaviour) → FollowsEnd z pc most u es e → OnGoesOn P e
+      → ((t : Core) (w : WordState) → P w → StandsFor z pc w t → Follows z pc' (more w) t (go w))
+      → Follows z pc' (most + spent_on e more) u (behind_effects es (on_end e go))
+  then_way u P es (GoesOn w) go a p b = then_end z pc' (more w) (go w).effects (go w).end a (λ t h. b t w p h)
+  then_way u P es (Jumps to w) go a p b =
+      subst (λ l. Runs z.code l (most + 0) u (HasJumped to w)) (sym (append-nil es)) (dearer z (omega arith) a)
+  then_way u P es Short go a p b =
+      subst (λ l. Starves z.code l (most + 0) u) (sym (append-nil es)) (dearer_stall z es most (most + 0) u (omega arith) a)
+  then_way u P es _ go a p b = tt
 
 -- one more stretch where the program goes on
 pub then_hop : (z : Setting) (pc pc' most more : ℕ) (u : Core) (es : List Effect) (e : End) → FollowsEnd z pc most u es e
@@ -78,16 +79,17 @@ pub guarded : (z : Setting) (c : Bool) (pc most : ℕ) (u : Core) (b : Behaviour
 guarded z true pc most u b h = h refl
 guarded z false pc most u b h = tt
 
--- the machine elsewhere, with other words in R4 to R7
-pub stands_elsewhere : (z : Setting) (pc pc' : ℕ) (w : WordState) (u t : Core) → StandsFor z pc w u → t.pc ≡ pc' → t.sp ≡ u.sp → t.ram ≡ u.ram
-    → local_words t.work ≡ local_words u.work → t.fram ≡ u.fram → t.inputs ≡ u.inputs → StandsFor z pc' w t
-stands_elsewhere z pc pc' w u t i p q r k f d =
-    record {
-      at = p;
-      memory = subst (λ l. Memory z t.sp t.ram l w.stack w.locals) (sym k) (rw (q, r) i.memory);
-      fram = f ∙ i.fram;
-      inputs = d ∙ i.inputs;
-    }
+module _ (z : Setting) (pc pc' : ℕ) where
+  -- the machine elsewhere, with other words in R4 to R7
+  pub stands_elsewhere : (w : WordState) (u t : Core) → StandsFor z pc w u → t.pc ≡ pc' → t.sp ≡ u.sp → t.ram ≡ u.ram
+      → local_words t.work ≡ local_words u.work → t.fram ≡ u.fram → t.inputs ≡ u.inputs → StandsFor z pc' w t
+  stands_elsewhere w u t i p q r k f d =
+      record {
+        at = p;
+        memory = subst (λ l. Memory z t.sp t.ram l w.stack w.locals) (sym k) (rw (q, r) i.memory);
+        fram = f ∙ i.fram;
+        inputs = d ∙ i.inputs;
+      }
 
 -- the stack under a name
 pub memory_as : (z : Setting) (pc : ℕ) (w : WordState) (u : Core) (vs : List ℕ) → w.stack ≡ vs → StandsFor z pc w u
@@ -146,19 +148,20 @@ then_reach z owed Q most more u P es fs (Jumps to w) a b = runs_on z a b
 then_reach z owed Q most more u P es fs Short a b = starves_on z most more u P es fs a b
 then_reach z owed Q most more u P es fs _ a b = tt
 
--- a part, and then what it goes on with, which costs by the state there; what the part has left is spent there
-pub reach_way : (z : Setting) (owed owed' : ℕ) (Q Q' : WordState → Core → Type 0) (most : ℕ) (more : WordState → ℕ) (u : Core) (P : WordState → Type 0)
-    (es : List Effect) (e : End) (go : WordState → Behaviour) → Reaches z owed Q most u es e → OnGoesOn P e
-    → ((t : Core) (w : WordState) → P w → Q w t → Reaches z owed' Q' (owed + more w) t (go w).effects (go w).end)
-    → (let b = behind_effects es (on_end e go) in Reaches z owed' Q' (most + spent_on e more) u b.effects b.end)
-reach_way z owed owed' Q Q' most more u P es (GoesOn w) go a p b =
-    reach_more z owed' Q' (a.spent + (owed + more w)) (most + more w) u (es ++ (go w).effects) (go w).end (omega (arith, a.within))
-    (then_reach z owed' Q' a.spent (owed + more w) u (Q w) es (go w).effects (go w).end a.runs (λ t h. b t w p h))
-reach_way z owed owed' Q Q' most more u P es (Jumps to w) go a p b =
-    subst (λ l. Runs z.code l (most + 0) u (HasJumped to w)) (sym (append-nil es)) (dearer z (omega arith) a)
-reach_way z owed owed' Q Q' most more u P es Short go a p b =
-    subst (λ l. Starves z.code l (most + 0) u) (sym (append-nil es)) (dearer_stall z es most (most + 0) u (omega arith) a)
-reach_way z owed owed' Q Q' most more u P es _ go a p b = tt
+module _ (z : Setting) (owed owed' : ℕ) (Q Q' : WordState → Core → Type 0) where
+  -- a part, and then what it goes on with, which costs by the state there; what the part has left is spent there
+  pub reach_way : (most : ℕ) (more : WordState → ℕ) (u : Core) (P : WordState → Type 0)
+      (es : List Effect) (e : End) (go : WordState → Behaviour) → Reaches z owed Q most u es e → OnGoesOn P e
+      → ((t : Core) (w : WordState) → P w → Q w t → Reaches z owed' Q' (owed + more w) t (go w).effects (go w).end)
+      → (let b = behind_effects es (on_end e go) in Reaches z owed' Q' (most + spent_on e more) u b.effects b.end)
+  reach_way most more u P es (GoesOn w) go a p b =
+      reach_more z owed' Q' (a.spent + (owed + more w)) (most + more w) u (es ++ (go w).effects) (go w).end (omega (arith, a.within))
+      (then_reach z owed' Q' a.spent (owed + more w) u (Q w) es (go w).effects (go w).end a.runs (λ t h. b t w p h))
+  reach_way most more u P es (Jumps to w) go a p b =
+      subst (λ l. Runs z.code l (most + 0) u (HasJumped to w)) (sym (append-nil es)) (dearer z (omega arith) a)
+  reach_way most more u P es Short go a p b =
+      subst (λ l. Starves z.code l (most + 0) u) (sym (append-nil es)) (dearer_stall z es most (most + 0) u (omega arith) a)
+  reach_way most more u P es _ go a p b = tt
 
 -- where no word waits it is the same
 pub reaches : (z : Setting) (Q : WordState → Core → Type 0) (pc most : ℕ) (u : Core) (es : List Effect) (e : End)

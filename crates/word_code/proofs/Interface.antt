@@ -5,7 +5,7 @@ pub use Rattle.word_code.proofs.Registers.{bytes_even}
 pub use Rattle.word_code.proofs.Jumps.{whole_size}
 -- The code of a program, and of its parts, is no longer than its words say, and is made of forms of tasks' code: their jumps reach no further
 -- than ten bits say.
-pub use Rattle.word_code.proofs.Lengths.{code_short, inner_takes, pass_takes, size_words, test_takes, turn_end_takes}
+pub use Rattle.word_code.proofs.Lengths.{code_short, inner_takes, pass_takes, test_takes, turn_end_takes}
 pub use Rattle.word_code.proofs.UpdateBytes.{inside_bytes, reads_bytes}
 -- The code of a word program does what the program does, within the cycles of the way that it takes.
 pub use Rattle.word_code.proofs.Whole.{code_does_as_program}

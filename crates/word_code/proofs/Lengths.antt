@@ -388,14 +388,10 @@ whole_takes p = joined set_takes (block_fits [] p) (omega arith)
 pub code_short : (p : Program) → forms_bytes (code_of p) ≤ 2 * words_of p
 code_short p = omega (arith, (whole_takes p).bytes)
 
-pub instructions_length : (ms : List Form) → 2 * length (instruction_words (instructions ms)) ≡ forms_bytes ms
+instructions_length : (ms : List Form) → 2 * length (instruction_words (instructions ms)) ≡ forms_bytes ms
 instructions_length [] = refl
 instructions_length (m ∷ ms) =
     omega (arith, bytes_are m, instructions_length ms, length-append (encoding (instruction_of m)) (instruction_words (instructions ms)))
-
--- its words are as many as its instructions have
-pub size_words : (ms : List Form) → size ms ≡ length (instruction_words (instructions ms))
-size_words ms = let e = instructions_length ms in omega arith
 
 pub code_has_its_bytes : CodeHasItsBytes
 code_has_its_bytes p = code_short p

@@ -9,6 +9,7 @@ mod Operands
 mod LoopBounds
 mod Results
 mod Jumps
+mod Routes
 mod Choices
 mod Loops
 mod Values

@@ -1,8 +1,8 @@
 -- The locals that a program names, by the greatest of them; and the place of the stack below them.
-use Rattle.word_code.proofs.Names.{◌≡◌, ℕ, ◌+◌, ◌≤◌, Bool, true, false, nat_lt, if◌then◌else◌, nat_tests, List, [], ◌∷◌, refl, arith}
-use Rattle.word_code.proofs.Names.{Step, Test, Program, local, set_local, update_local, truth, choose, repeat, holds, compares, both, either, fails, nothing, step}
-use Rattle.word_code.proofs.Names.{StepLocalsBelow, TestLocalsBelow, LocalsBelow, step_locals, test_locals, locals_of}
-use Rattle.word_code.proofs.Names.{Core, Form, SetStack, forms_bytes, Stands, Runs, stack_base, stack_set, stack_cycles}
+use Rattle.word_code.proofs.Names.{◌≡◌, ℕ, ◌+◌, ◌≤◌, Bool, true, false, nat_lt, if◌then◌else◌, nat_tests, List, [], ◌∷◌, refl, arith, Step, Test, Program}
+use Rattle.word_code.proofs.Names.{local, set_local, update_local, truth, choose, repeat, holds, compares, both, either, fails, nothing, step, StepLocalsBelow}
+use Rattle.word_code.proofs.Names.{TestLocalsBelow, LocalsBelow, step_locals, test_locals, locals_of, Core, Form, SetStack, forms_bytes, Stands, Runs}
+use Rattle.word_code.proofs.Names.{stack_base, stack_set, stack_cycles}
 use Rattle.word_code.proofs.Stretches.{Setting, hop, nothing_run, dearer}
 
 -- ---- each local is below a number where the greatest is

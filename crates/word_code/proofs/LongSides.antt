@@ -1,16 +1,15 @@
 -- Longs to registers: the left one to R6 and R4, the right one to where its words are read.
-use Rattle.word_code.proofs.Names.{◌≡◌, ℕ, ◌+◌, ◌≤◌, Bool, true, false, if◌then◌else◌, List, [], ◌∷◌, ◌++◌, Option, Some, None, refl, sym, ap, ◌∙◌, subst}
-use Rattle.word_code.proofs.Names.{arith, drop, get_or, put, Core, Form, Move, ToRegister, Register, WorkRegister, R5, R6, R7, work_number, Runs, Source}
-use Rattle.word_code.proofs.Names.{SourceNeeds, source_value, source_read, source_operand, source_cycles, to_register, Stands, forms_bytes, Waiting, WordState}
-use Rattle.word_code.proofs.Names.{with_stack, top_of, below_top, any_held, cleared, kept, four_from, rests, source_from, waiting_source}
+use Rattle.word_code.proofs.Names.{◌≡◌, ℕ, ◌+◌, ◌≤◌, Bool, true, false, if◌then◌else◌, List, [], ◌∷◌, ◌++◌, Option, Some, None, refl, ap, ◌∙◌, subst, arith}
+use Rattle.word_code.proofs.Names.{drop, get_or, put, Core, Form, Move, ToRegister, Register, WorkRegister, R5, R6, R7, work_number, Runs, Source}
+use Rattle.word_code.proofs.Names.{source_operand, source_cycles, to_register, Stands, forms_bytes, Waiting, WordState, with_stack, top_of, below_top, any_held}
+use Rattle.word_code.proofs.Names.{cleared, kept, four_from, rests, source_from, waiting_source}
 use Rattle.word_code.specs.declared.waiting.Waiting.TheVariants as waiting
 use Rattle.word_code.specs.Code.{below_two, in_six, six_from, pair_from, pair_to_registers, side_from, long_sides, high_source, low_source}
-use Rattle.word_code.proofs.Memory.{local_words, local_word, in_register}
+use Rattle.word_code.proofs.Memory.{local_words}
 use Rattle.word_code.proofs.Stretches.{two_parts, Setting, dearer, nothing_run, so_runs}
-use Rattle.word_code.proofs.Operands.{IsThere, owed, load_cycles, load_price, load_owed, number_cases, source_still, source_needs, source_word, Describes}
-use Rattle.word_code.proofs.Operands.{Waits, IsLoaded, words_same, words_kept, move_part, take_part, drop_part, four_part, clear_cycles, none_held}
-use Rattle.word_code.proofs.Operands.{waiting_word, waiting_words, behind_cleared}
-use Rattle.word_code.proofs.Sides.{side_cycles, reading_cycles, side_owed}
+use Rattle.word_code.proofs.Operands.{owed, load_cycles, load_price, load_owed, source_word, Describes, Waits, IsLoaded, words_same, words_kept, move_part}
+use Rattle.word_code.proofs.Operands.{take_part, drop_part, four_part, clear_cycles, none_held, waiting_word, waiting_words, behind_cleared}
+use Rattle.word_code.proofs.Sides.{side_cycles, reading_cycles, side_owed, Gives, waiting_gives, gives_on}
 use Rattle.word_code.proofs.LongWords.{Pair}
 
 -- ---- a source that gives a word of the right side
@@ -20,13 +19,8 @@ abbrev pub side_words : WorkRegister → (ℕ → ℕ) → List ℕ
 side_words b g = g (work_number b) ∷ local_words g
 
 -- on each machine with this FRAM and such words in its registers it gives this word
-pub record Shows (b : WorkRegister) (x : Source) (v : ℕ) (f : ℕ → ℕ) (ws : List ℕ) : Type 0 where
-  pub word : (s : Core) → s.fram ≡ f → side_words b s.work ≡ ws → source_value x s ≡ v
-  pub needs : (s : Core) → SourceNeeds x s
-  pub still : (s : Core) → source_read x s ≡ s
-
 abbrev pub ShowsOn : WorkRegister → Source → ℕ → (ℕ → ℕ) → (ℕ → ℕ) → Type 0
-ShowsOn b x v f g = Shows b x v f (side_words b g)
+ShowsOn b x v f g = Gives (side_words b) x v f (side_words b g)
 
 -- a register for the right side: no word waits there
 pub record IsSpare (b : WorkRegister) : Type 0 where
@@ -43,31 +37,7 @@ seven_spare = record { locals = λ f y. refl; four = λ f y. refl; six = λ f y.
 register_shows : (b : WorkRegister) (v : ℕ) (f g : ℕ → ℕ) → g (work_number b) ≡ v → ShowsOn b (Register b) v f g
 register_shows b v f g e = record { word = λ s a l. ap (λ ws. get_or ws 0 0) l ∙ e; needs = λ s. tt; still = λ s. refl }
 
--- a word that stays where it waits is the same where FRAM and the locals are
-rest_same : (most : ℕ) (locals : ℕ → Option ℕ) (o : Waiting) (s t : Core) → rests (Some o) ≡ true → IsThere most locals o → s.fram ≡ t.fram
-    → local_words s.work ≡ local_words t.work → source_value (waiting_source o) s ≡ source_value (waiting_source o) t
-rest_same most locals (waiting.Number n) s t b h f l = number_cases (λ x. source_value x s ≡ source_value x t) n refl (λ k e. refl)
-rest_same most locals (waiting.Fram a) s t b h f l = ap (λ (g : ℕ → ℕ). g a) f
-rest_same most locals (waiting.Local n) s t b h f l =
-    let e = h.in_register in
-    in_register s.work t.ram n e ∙ ap (λ ws. local_word ws t.ram n) l ∙ sym (in_register t.work t.ram n e)
-rest_same most locals waiting.R4 s t b h f l = absurd (let q = b in (cc))
-rest_same most locals waiting.R6 s t b h f l = absurd (let q = b in (cc))
-
-waiting_shows : (b : WorkRegister) (most : ℕ) (locals : ℕ → Option ℕ) (o : Waiting) (v : ℕ) (f : ℕ → ℕ) (t : Core) → rests (Some o) ≡ true
-    → IsThere most locals o → t.fram ≡ f → source_value (waiting_source o) t ≡ v → ShowsOn b (waiting_source o) v f t.work
-waiting_shows b most locals o v f t r h e q =
-    record {
-      word = λ s a l. rest_same most locals o s t r h (a ∙ sym e) (ap (λ (ws : List ℕ). drop 1 ws) l) ∙ q;
-      needs = λ s. source_needs most locals o s h;
-      still = λ s. source_still o s;
-    }
-
--- with other registers, where those words are the same
-shows_on : (b : WorkRegister) (x : Source) (v : ℕ) (f g h : ℕ → ℕ) → ShowsOn b x v f g → side_words b h ≡ side_words b g → ShowsOn b x v f h
-shows_on b x v f g h k e = record { word = λ s a l. k.word s a (l ∙ e); needs = k.needs; still = k.still }
-
--- and they are where that register and those of the locals are
+-- those words are the same where that register and those of the locals are
 side_same : (b : WorkRegister) (f g : ℕ → ℕ) → f (work_number b) ≡ g (work_number b) → ((n : ℕ) → 8 ≤ n → f n ≡ g n) → side_words b f ≡ side_words b g
 side_same b f g e h =
     λ k. e k ∷ (h 8 (omega arith) k ∷ h 9 (omega arith) k ∷ h 10 (omega arith) k ∷ h 11 (omega arith) k ∷ h 12 (omega arith) k ∷ h 13 (omega arith) k
@@ -167,8 +137,8 @@ module _ (z : Setting) where
       nothing_run z (record {
         is = subst (λ n. Describes z os n (with_stack vs w) u) same k.0;
         held = record {
-          gives = waiting_shows b z.locals w.locals o v w.fram u r d.there.0 d.is.fram
-              (source_word z o pc (with_stack d.rest w) u d.is d.there.0 ∙ k.1);
+          gives = subst (λ f. ShowsOn b (waiting_source o) v f u.work) d.is.fram (waiting_gives (side_words b) false z.locals w.locals o v u r d.there.0
+              (source_word z o pc (with_stack d.rest w) u d.is d.there.0 ∙ k.1) (λ s l. (refl, ap (λ (ws : List ℕ). drop 1 ws) l)));
           others = λ n ne. refl;
         };
       })
@@ -197,7 +167,7 @@ module _ (z : Setting) where
         is = j.is;
         held = record {
           low = j.held.gives;
-          high = shows_on R7 (high_source os) b.high w.fram t.work q.work k.held.gives
+          high = gives_on (side_words R7) t.work q.work k.held.gives
               (side_same R7 q.work t.work (j.held.others 7 (λ n. omega (arith, n))) (λ n l. j.held.others n (λ q. omega (arith, q, l))));
         };
       }))
@@ -283,9 +253,9 @@ module _ (z : Setting) where
         held = record {
           four = j.held.held.four;
           six = j.held.held.six;
-          low = shows_on R5 (low_source os) b.low w.fram t.work q.work k.held.low
+          low = gives_on (side_words R5) t.work q.work k.held.low
               (side_same R5 q.work t.work (other 5 (λ n. omega (arith, n)) (λ n. omega (arith, n))) high);
-          high = shows_on R7 (high_source os) b.high w.fram t.work q.work k.held.high
+          high = gives_on (side_words R7) t.work q.work k.held.high
               (side_same R7 q.work t.work (other 7 (λ n. omega (arith, n)) (λ n. omega (arith, n))) high);
         };
       }))

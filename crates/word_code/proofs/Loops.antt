@@ -166,34 +166,34 @@ module _ (z : Setting) where
         (turns (suc m) n (k + 1) run v).end (next_turn k v t q (omega arith) j) (λ c l. turns_part m (k + 1) v c f (omega arith) l))
 
   -- a loop, where its code stands; by whether it makes a turn
-  pub loop_by : (any : Bool) (body : List Form) (pc n from below : ℕ) (cost : WordState → ℕ) (run : WordState → Behaviour) (fit : ℕ → WordState → Type 0)
-      (s : WordState) (u : Core) → nat_lt from below ≡ any → n < z.locals → below < 0x10000
-      → (let start = number_code n from in let rest : List Form = if any then turns_code n below body else [] in Stands z.code pc (start ++ rest)
-      → StandsFor z pc s u → fit (below - from) s → (Stands z.code (pc + forms_bytes start) body → (m k : ℕ) (s : WordState) (t : Core) → fit (suc m) s
-      → k < below → StandsFor z (pc + forms_bytes start) (with_local n k s) t
-      → Follows z (pc + forms_bytes start + forms_bytes body) (cost (with_local n k s)) t (run (with_local n k s)))
-      → ((m k : ℕ) (s : WordState) → fit (suc m) s → k < below → OnGoesOn (λ v. fit m v × (v.locals n ≡ Some k)) (run (with_local n k s)).end)
-      → Follows z (pc + forms_bytes (start ++ rest)) (5 + turns_spent (below - from) n from run cost s) u (turns (below - from) n from run s))
-  loop_by false body pc n from below cost run fit s u c lt lb h i g doing keeps =
-      let start = number_code n from in
-      let none : below - from ≡ 0 = let l : below ≤ from = grind (arith, nat_tests) in omega arith in
-      let e : pc + forms_bytes start ≡ pc + forms_bytes (start ++ []) = omega (arith, forms_bytes-append start []) in
-      let set = local_number z n from pc s u lt (stands_front z.code pc start [] h) i in
-      subst (λ m. Follows z (pc + forms_bytes (start ++ [])) (5 + turns_spent m n from run cost s) u (turns m n from run s)) (sym none)
-      (ends_at z (pc + forms_bytes start) _ 5 u (turns 0 n from run s) e set)
-  loop_by true body pc n from below cost run fit s u c lt lb h i g doing keeps =
-      let start = number_code n from in
-      let rest = turns_code n below body in
-      let m = below - from - 1 in
-      let count : suc m ≡ below - from = let l : from < below = grind (arith, nat_tests) in omega arith in
-      let e : pc + forms_bytes start + forms_bytes rest ≡ pc + forms_bytes (start ++ rest) = omega (arith, forms_bytes-append start rest) in
-      let set = local_number z n from pc s u lt (stands_front z.code pc start rest h) i in
-      let top = pc + forms_bytes start in
-      let turn = body ++ turn_end n below in
-      let stand = stands_back z.code pc start rest h in
-      let there = stands_front z.code top turn (jump_back condition.NotEqual condition.Equal (size turn)) stand in
-      let inside = stands_front z.code top body (turn_end n below) there in
-      subst (λ q. Follows z (pc + forms_bytes (start ++ rest)) (5 + turns_spent q n from run cost s) u (turns q n from run s)) count
-      (ends_at z (pc + forms_bytes start + forms_bytes rest) _ (5 + turns_spent (suc m) n from run cost s) u (turns (suc m) n from run s) e
-      (then_end z _ (turns_spent (suc m) n from run cost s) (turns (suc m) n from run s).effects (turns (suc m) n from run s).end set (λ t j.
-      turns_part body top n below cost run fit lt lb stand (doing inside) keeps m from s t (subst (λ q. fit q s) (sym count) g) count j)))
+  module _ (body : List Form) (pc n from below : ℕ) (cost : WordState → ℕ) (run : WordState → Behaviour) (fit : ℕ → WordState → Type 0) where
+    pub loop_by : (any : Bool) (s : WordState) (u : Core) → nat_lt from below ≡ any → n < z.locals → below < 0x10000
+        → (let start = number_code n from in let rest : List Form = if any then turns_code n below body else [] in Stands z.code pc (start ++ rest)
+        → StandsFor z pc s u → fit (below - from) s → (Stands z.code (pc + forms_bytes start) body → (m k : ℕ) (s : WordState) (t : Core) → fit (suc m) s
+        → k < below → StandsFor z (pc + forms_bytes start) (with_local n k s) t
+        → Follows z (pc + forms_bytes start + forms_bytes body) (cost (with_local n k s)) t (run (with_local n k s)))
+        → ((m k : ℕ) (s : WordState) → fit (suc m) s → k < below → OnGoesOn (λ v. fit m v × (v.locals n ≡ Some k)) (run (with_local n k s)).end)
+        → Follows z (pc + forms_bytes (start ++ rest)) (5 + turns_spent (below - from) n from run cost s) u (turns (below - from) n from run s))
+    loop_by false s u c lt lb h i g doing keeps =
+        let start = number_code n from in
+        let none : below - from ≡ 0 = let l : below ≤ from = grind (arith, nat_tests) in omega arith in
+        let e : pc + forms_bytes start ≡ pc + forms_bytes (start ++ []) = omega (arith, forms_bytes-append start []) in
+        let set = local_number z n from pc s u lt (stands_front z.code pc start [] h) i in
+        subst (λ m. Follows z (pc + forms_bytes (start ++ [])) (5 + turns_spent m n from run cost s) u (turns m n from run s)) (sym none)
+        (ends_at z (pc + forms_bytes start) _ 5 u (turns 0 n from run s) e set)
+    loop_by true s u c lt lb h i g doing keeps =
+        let start = number_code n from in
+        let rest = turns_code n below body in
+        let m = below - from - 1 in
+        let count : suc m ≡ below - from = let l : from < below = grind (arith, nat_tests) in omega arith in
+        let e : pc + forms_bytes start + forms_bytes rest ≡ pc + forms_bytes (start ++ rest) = omega (arith, forms_bytes-append start rest) in
+        let set = local_number z n from pc s u lt (stands_front z.code pc start rest h) i in
+        let top = pc + forms_bytes start in
+        let turn = body ++ turn_end n below in
+        let stand = stands_back z.code pc start rest h in
+        let there = stands_front z.code top turn (jump_back condition.NotEqual condition.Equal (size turn)) stand in
+        let inside = stands_front z.code top body (turn_end n below) there in
+        subst (λ q. Follows z (pc + forms_bytes (start ++ rest)) (5 + turns_spent q n from run cost s) u (turns q n from run s)) count
+        (ends_at z (pc + forms_bytes start + forms_bytes rest) _ (5 + turns_spent (suc m) n from run cost s) u (turns (suc m) n from run s) e
+        (then_end z _ (turns_spent (suc m) n from run cost s) (turns (suc m) n from run s).effects (turns (suc m) n from run s).end set (λ t j.
+        turns_part body top n below cost run fit lt lb stand (doing inside) keeps m from s t (subst (λ q. fit q s) (sym count) g) count j)))

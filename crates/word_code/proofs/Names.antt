@@ -45,7 +45,8 @@ pub use Rattle.array_versions.proofs.Interface.{whole_ends_soundly, local_words,
 pub use Rattle.array_versions.specs.Behaviour.{WordState, is_place, stored, word_emitted, entry_stored, Behaviour, End, GoesOn, Jumps, Short, Strays, Broken}
 pub use Rattle.array_versions.specs.Behaviour.{behind_effects, on_end, strays, raised, ends_before, listed_behind, first_stored, with_stack, assigned}
 pub use Rattle.array_versions.specs.Behaviour.{step_behaviour, behaviour, with_local, turns, pushed, behaves, goes_on, broken, word_stored, jumped, with_top}
-pub use Rattle.array_versions.specs.Behaviour.{with_two, at_place, element_pushed, own_element, versioned_pushed, versioned_stored, with_readings, reading_pushed, own_stored}
+pub use Rattle.array_versions.specs.Behaviour.{with_two, at_place, element_pushed, own_element, versioned_pushed, versioned_stored, with_readings}
+pub use Rattle.array_versions.specs.Behaviour.{reading_pushed, own_stored}
 pub use Rattle.array_versions.specs.Behaviour.{own_place, own_kept, own_updated, versioned_updated, started, local_pushed, local_updated, number_pushed}
 pub use Rattle.array_versions.specs.Behaviour.{way_by_top, way_by_two, then_on, tested}
 pub use Rattle.array_versions.specs.Cost.{spent_on, unary_words, binary_words, right_words, shift_words, step_words, test_words, words_of, turns_spent}

@@ -106,10 +106,10 @@ module _ (z : Setting) where
 
   -- a local becomes a word that a source gives, by where it stands
   set_by : (b : Bool) (s : Source) (most n v pc : ℕ) (vs : List ℕ) (w : WordState) (u : Core) → nat_lt n 8 ≡ b → n < z.locals
-      → source_cycles to_register (source_operand s) ≤ most → source_cycles to_memory (source_operand s) ≤ most
+      → (source_cycles to_register (source_operand s) ≤ most) × (source_cycles to_memory (source_operand s) ≤ most)
       → (let ms = Move s (if b then ToRegister (local_register n) else ToRam (local_address n)) ∷ [] in Stands z.code pc ms → Top z s [] pc w v vs u
       → Runs z.code [] most u (StandsFor z (pc + forms_bytes ms) (with_local n v (with_stack vs w))))
-  set_by true s most n v pc vs w u e lt p q h k =
+  set_by true s most n v pc vs w u e lt price_is h k =
       let m = Move s (ToRegister (local_register n)) in
       let t = source_read s u in
       let i = bare z pc (with_stack vs w) t k.left in
@@ -117,30 +117,30 @@ module _ (z : Setting) where
       let price = cycles_of (instruction_of m) in
       let to : u.pc + (2 + source_bytes s + 0) ≡ pc + forms_bytes (m ∷ []) = omega (arith, k.at) in
       let after : ℕ → Core = λ y. record t { pc = u.pc + (2 + source_bytes s + 0); work = put t.work r y } in
-      hop z m most u (after v) [] price _ (ap z.code k.at ∙ h.0) (k.needs, tt) (ap (λ y. Goes [] price (after y)) k.value) p
+      hop z m most u (after v) [] price _ (ap z.code k.at ∙ h.0) (k.needs, tt) (ap (λ y. Goes [] price (after y)) k.value) price_is.0
       (record { at = to; memory = set_register z t.sp n v t.ram t.work vs w.locals e i.memory; fram = i.fram; inputs = i.inputs })
-  set_by false s most n v pc vs w u e lt p q h k =
+  set_by false s most n v pc vs w u e lt price_is h k =
       let m = Move s (ToRam (local_address n)) in
       let t = source_read s u in
       let i = bare z pc (with_stack vs w) t k.left in
       let price = cycles_of (instruction_of m) in
       let to : u.pc + (2 + source_bytes s + 2) ≡ pc + forms_bytes (m ∷ []) = omega (arith, k.at) in
       let after : ℕ → Core = λ y. record t { pc = u.pc + (2 + source_bytes s + 2); ram = put t.ram (local_address n) y } in
-      hop z m most u (after v) [] price _ (ap z.code k.at ∙ h.0) (k.needs, local_needs z n e lt) (ap (λ y. Goes [] price (after y)) k.value) q
+      hop z m most u (after v) [] price _ (ap z.code k.at ∙ h.0) (k.needs, local_needs z n e lt) (ap (λ y. Goes [] price (after y)) k.value) price_is.1
       (record { at = to; memory = set_ram z t.sp n v t.ram (local_words t.work) vs w.locals e lt i.memory; fram = i.fram; inputs = i.inputs })
 
   pub set_part : (x : Option Waiting) (n v pc : ℕ) (vs : List ℕ) (w : WordState) (u : Core) → n < z.locals
       → (let ms = Move (source_from x) (local_target n) ∷ [] in Stands z.code pc ms → Top z (source_from x) [] pc w v vs u
       → Runs z.code [] (store_cycles x) u (StandsFor z (pc + forms_bytes ms) (with_local n v (with_stack vs w))))
   set_part x n v pc vs w u lt h k =
-      set_by (nat_lt n 8) (source_from x) (store_cycles x) n v pc vs w u refl lt (omega (arith, load_price x, load_less x)) (store_price x) h k
+      set_by (nat_lt n 8) (source_from x) (store_cycles x) n v pc vs w u refl lt (omega (arith, load_price x, load_less x), store_price x) h k
 
   -- a local's first number
   pub local_number : (n k pc : ℕ) (w : WordState) (u : Core) → n < z.locals → Stands z.code pc (number_code n k) → StandsFor z pc w u
       → Runs z.code [] 5 u (StandsFor z (pc + forms_bytes (number_code n k)) (with_local n k w))
   local_number n k pc w u lt h i =
-      set_by (nat_lt n 8) (number_source k) 5 n k pc w.stack w u refl lt (number_price to_register k 5 (omega arith) (omega arith))
-      (number_price to_memory k 5 (omega arith) (omega arith)) h (number_top z k pc w u i)
+      set_by (nat_lt n 8) (number_source k) 5 n k pc w.stack w u refl lt
+      (number_price to_register k 5 (omega arith) (omega arith), number_price to_memory k 5 (omega arith) (omega arith)) h (number_top z k pc w u i)
 
   pub move_part : (from to pc : ℕ) (w : WordState) (u : Core) → IsFram from → Stands z.code pc (Move (Fram from) (ToFram to) ∷ []) → StandsFor z pc w u
       → Follows z (pc + 6) 6 u (word_stored to (w.fram from) w)

@@ -69,26 +69,27 @@ module _ (z : Setting) where
     pub all : With (StandsFor z pc w) P t
     pub flag : F t.flags
 
-  -- straight code that writes R4 to R7 and words of FRAM
-  pub store_line : {pc : ℕ} {w : WordState} {t : Core} (ms : List Form) (es : List Effect) (f : ℕ → ℕ) (c pc' : ℕ) (Q : Core → Type 0) → StandsFor z pc w t
-      → AreStraight ms → Stands z.code pc ms → FormsNeed ms t → (let r = forms_run ms t in let v = end_of t r.status in r ≡ stretch r.effects c (At v)
-      → kept_by (record v { fram = t.fram }) ≡ kept_by t → v.pc ≡ pc' → r.effects ≡ es → v.fram ≡ f → (StandsFor z pc' (record w { fram = f }) v → Q v)
-      → Runs z.code es c t Q)
-  store_line {pc} {w} {t} ms es f c pc' Q i st h ok e k p made fram q =
-      let r = forms_run ms t in
-      let words = subst (λ x. Memory z x.sp x.ram x.locals w.stack w.locals) (sym k) i.memory in
-      subst (λ l. Runs z.code l c t Q) made
-      (straight z ms c t (end_of t r.status) r.effects c Q st (stands_at z.code pc ms t h i.at) ok e (omega arith)
-      (q (record { at = p; memory = words; fram = fram; inputs = ap (λ x. x.inputs) k ∙ i.inputs })))
+  module _ {pc : ℕ} {w : WordState} {t : Core} where
+    -- straight code that writes R4 to R7 and words of FRAM
+    pub store_line : (ms : List Form) (es : List Effect) (f : ℕ → ℕ) (c pc' : ℕ) (Q : Core → Type 0) → StandsFor z pc w t → AreStraight ms
+        → Stands z.code pc ms → FormsNeed ms t → (let r = forms_run ms t in let v = end_of t r.status in r ≡ stretch r.effects c (At v)
+        → kept_by (record v { fram = t.fram }) ≡ kept_by t → v.pc ≡ pc' → r.effects ≡ es → v.fram ≡ f
+        → (StandsFor z pc' (record w { fram = f }) v → Q v) → Runs z.code es c t Q)
+    store_line ms es f c pc' Q i st h ok e k p made fram q =
+        let r = forms_run ms t in
+        let words = subst (λ x. Memory z x.sp x.ram x.locals w.stack w.locals) (sym k) i.memory in
+        subst (λ l. Runs z.code l c t Q) made
+        (straight z ms c t (end_of t r.status) r.effects c Q st (stands_at z.code pc ms t h i.at) ok e (omega arith)
+        (q (record { at = p; memory = words; fram = fram; inputs = ap (λ x. x.inputs) k ∙ i.inputs })))
 
-  -- straight code that writes R4 to R7 alone
-  pub line : {pc : ℕ} {w : WordState} {t : Core} (ms : List Form) (c pc' : ℕ) (Q : Core → Type 0) → StandsFor z pc w t → AreStraight ms → Stands z.code pc ms
-      → FormsNeed ms t → (let v = end_of t (forms_run ms t).status in forms_run ms t ≡ stretch [] c (At v) → kept_by v ≡ kept_by t → v.pc ≡ pc'
-      → (StandsFor z pc' w v → Q v) → Runs z.code [] c t Q)
-  line {pc} {w} {t} ms c pc' Q i st h ok e k p q =
-      let words = subst (λ x. Memory z x.sp x.ram x.locals w.stack w.locals) (sym k) i.memory in
-      straight z ms c t (end_of t (forms_run ms t).status) [] c Q st (stands_at z.code pc ms t h i.at) ok e (omega arith)
-      (q (record { at = p; memory = words; fram = ap (λ x. x.fram) k ∙ i.fram; inputs = ap (λ x. x.inputs) k ∙ i.inputs }))
+    -- straight code that writes R4 to R7 alone
+    pub line : (ms : List Form) (c pc' : ℕ) (Q : Core → Type 0) → StandsFor z pc w t → AreStraight ms → Stands z.code pc ms → FormsNeed ms t
+        → (let v = end_of t (forms_run ms t).status in forms_run ms t ≡ stretch [] c (At v) → kept_by v ≡ kept_by t → v.pc ≡ pc'
+        → (StandsFor z pc' w v → Q v) → Runs z.code [] c t Q)
+    line ms c pc' Q i st h ok e k p q =
+        let words = subst (λ x. Memory z x.sp x.ram x.locals w.stack w.locals) (sym k) i.memory in
+        straight z ms c t (end_of t (forms_run ms t).status) [] c Q st (stands_at z.code pc ms t h i.at) ok e (omega arith)
+        (q (record { at = p; memory = words; fram = ap (λ x. x.fram) k ∙ i.fram; inputs = ap (λ x. x.inputs) k ∙ i.inputs }))
 
   -- ---- jumps
 

@@ -267,8 +267,8 @@ module _ (z : Setting) where
         let gives : (v : ℕ) → Makes (HasWord R4 i) w ms 10 (HasWord R4 v) → Does after end (15 + owed os) u (goes_on [] (with_stack (v ∷ rest) w)) =
         λ v f. template (four_fetched os pc w i rest u e d) (in_four ms 10 v f) (15 + owed os) (omega arith) (omega (arith, load_owed os)) h in
         by_length (nat_lt i size) after end (15 + owed os) refl
-        (λ no. gives 0 (λ p xs t s k. past_end z b base size p small s i (with_stack xs w) t sure no r k))
-        (λ yes f. gives (w.fram (2 * i + base)) (λ p xs t s k. before_end z b base size p small s i (with_stack xs w) t yes r f k))
+        (λ no. gives 0 (λ p xs t s k. past_end z b base size p i (with_stack xs w) t (record { small = small; index = r; held = k }) s sure no))
+        (λ yes f. gives (w.fram (2 * i + base)) (λ p xs t s k. before_end z b base size p i (with_stack xs w) t (record { small = small; index = r; held = k }) s yes f))
 
     -- an element at a number that waits
     known_by : (k : ℕ) (os : List Waiting) (pc : ℕ) → Describes z (waiting.Number k ∷ os) pc w u
@@ -332,16 +332,18 @@ module _ (z : Setting) where
     own_by true q lt f g =
         let c = 2 * i + place.copies in
         reach_guarded z (is_place c) (owed after_read) (Describes z after_read read_end) (23 + owed os) u (goes_on [] (with_stack (w.fram c ∷ rest) w)) (λ p.
-        read_gives (w.fram c) (λ p' xs t s k. own_copy z sure place list p' small s i (with_stack xs w) t wl lt r f g q (place_is c p) k))
+        read_gives (w.fram c) (λ p' xs t s k. own_copy z sure place list p' i (with_stack xs w) t (record { small = small; stands = s; index = r; held = k }) lt
+        (record { words = wl; number = f; version = g }) q (place_is c p)))
     own_by false q lt f g =
         let a = 2 * i + place.elements in
         reach_guarded z (is_place a) (owed after_read) (Describes z after_read read_end) (23 + owed os) u (goes_on [] (with_stack (w.fram a ∷ rest) w)) (λ p.
-        read_gives (w.fram a) (λ p' xs t s k. own_home z sure place list p' small s i (with_stack xs w) t wl lt r f g q (place_is a p) k))
+        read_gives (w.fram a) (λ p' xs t s k. own_home z sure place list p' i (with_stack xs w) t (record { small = small; stands = s; index = r; held = k }) lt
+        (record { words = wl; number = f; version = g }) q (place_is a p)))
 
     -- by whether the index is below the length
     read_by : (b : Bool) → nat_lt i place.length ≡ b → (let x : Behaviour = if b then own_element place list i (with_stack rest w) else goes_on []
         (with_stack (0 ∷ rest) w) in Does after_read read_end (23 + owed os) u x)
-    read_by false lt = read_gives 0 (λ p' xs t s k. past_read z sure place list p' small s i (with_stack xs w) t is lt r k)
+    read_by false lt = read_gives 0 (λ p' xs t s k. past_read z sure place list p' i (with_stack xs w) t (record { small = small; stands = s; index = r; held = k }) is lt)
     read_by true lt =
         let m = 2 * i + place.versions in
         reach_guarded z (is_place list.ver) (owed after_read) (Describes z after_read read_end) (23 + owed os) u _ (λ f.
@@ -555,7 +557,8 @@ module _ (z : Setting) where
       alone_behind front (write_code sure place list) 75 (79 + owed os) pc u (versioned_stored place list i v left)
       (omega (arith, owed_kept (below_top (below_top os)), load_owed os, load_owed (below_top os))) h
       (λ q. gathered (two_to_registers os) ks pc q (λ q. two_to_registers_part z os pc w i v rest u e.0 q d))
-      (λ t q k. write_part z sure place list (pc + forms_bytes front) s q i v left t is wl e.1.1.0 e.1.0 k)
+      (λ t q k.
+      write_part z sure place list (pc + forms_bytes front) i v left t is q (record { small = s; index = e.1.1.0; word = e.1.0; words = wl; held = k }))
 
   -- ---- a reading
 

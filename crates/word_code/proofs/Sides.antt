@@ -52,14 +52,14 @@ compare_stays turned o = if turned then false else (stays o)
 abbrev pub kept_words : Bool → (ℕ → ℕ) → List ℕ
 kept_words six g = g 5 ∷ ((if six then g 6 else 0) ∷ local_words g)
 
--- on each machine with this FRAM and such words in its registers a source gives this word
-pub record Gives (six : Bool) (x : Source) (v : ℕ) (f : ℕ → ℕ) (ws : List ℕ) : Type 0 where
-  pub word : (s : Core) → s.fram ≡ f → kept_words six s.work ≡ ws → source_value x s ≡ v
+-- on each machine with this FRAM and these of its registers' words a source gives this word
+pub record Gives (keeps : (ℕ → ℕ) → List ℕ) (x : Source) (v : ℕ) (f : ℕ → ℕ) (ws : List ℕ) : Type 0 where
+  pub word : (s : Core) → s.fram ≡ f → keeps s.work ≡ ws → source_value x s ≡ v
   pub needs : (s : Core) → SourceNeeds x s
   pub still : (s : Core) → source_read x s ≡ s
 
 abbrev pub GivesOn : Bool → Source → ℕ → (ℕ → ℕ) → (ℕ → ℕ) → Type 0
-GivesOn six x v f g = Gives six x v f (kept_words six g)
+GivesOn six x v f g = Gives (kept_words six) x v f (kept_words six g)
 
 -- R4 holds a word, and a source gives another
 pub record Aiming (six : Bool) (x : Source) (k v : ℕ) (f g : ℕ → ℕ) : Type 0 where
@@ -70,36 +70,41 @@ five_gives : (six : Bool) (v : ℕ) (f g : ℕ → ℕ) → g 5 ≡ v → GivesO
 five_gives six v f g e = record { word = λ s a l. ap (λ ws. get_or ws 0 0) l ∙ e; needs = λ s. tt; still = λ s. refl }
 
 -- it stays where it waits, in R6 too where this is said
-abbrev lies : Bool → Option Waiting → Bool
+abbrev pub lies : Bool → Option Waiting → Bool
 lies six None = false
 lies true (Some o) = stays (Some o)
 lies false (Some o) = rests (Some o)
 
--- a word that stays is the same where FRAM and those words are
+-- a word that stays is the same where FRAM, R6 where this is said and the locals are
 word_same : (six : Bool) (most : ℕ) (locals : ℕ → Option ℕ) (o : Waiting) (s t : Core) → lies six (Some o) ≡ true → IsThere most locals o → s.fram ≡ t.fram
-    → kept_words six s.work ≡ kept_words six t.work → source_value (waiting_source o) s ≡ source_value (waiting_source o) t
-word_same six most locals (waiting.Number n) s t b h f l = number_cases (λ x. source_value x s ≡ source_value x t) n refl (λ k e. refl)
-word_same six most locals (waiting.Fram a) s t b h f l = ap (λ (g : ℕ → ℕ). g a) f
-word_same six most locals (waiting.Local n) s t b h f l =
+    → (if six then s.work 6 else 0) ≡ (if six then t.work 6 else 0) → local_words s.work ≡ local_words t.work
+    → source_value (waiting_source o) s ≡ source_value (waiting_source o) t
+word_same six most locals (waiting.Number n) s t b h f k l = number_cases (λ x. source_value x s ≡ source_value x t) n refl (λ c e. refl)
+word_same six most locals (waiting.Fram a) s t b h f k l = ap (λ (g : ℕ → ℕ). g a) f
+word_same six most locals (waiting.Local n) s t b h f k l =
     let e = h.in_register in
-    in_register s.work t.ram n e ∙ ap (λ ws. local_word (drop 2 ws) t.ram n) l ∙ sym (in_register t.work t.ram n e)
-word_same true most locals waiting.R6 s t b h f l = ap (λ ws. get_or ws 1 0) l
-word_same false most locals waiting.R6 s t b h f l = absurd (let q = b in (cc))
-word_same true most locals waiting.R4 s t b h f l = absurd (let q = b in (cc))
-word_same false most locals waiting.R4 s t b h f l = absurd (let q = b in (cc))
+    in_register s.work t.ram n e ∙ ap (λ ws. local_word ws t.ram n) l ∙ sym (in_register t.work t.ram n e)
+word_same true most locals waiting.R6 s t b h f k l = k
+word_same false most locals waiting.R6 s t b h f k l = absurd (let q = b in (cc))
+word_same true most locals waiting.R4 s t b h f k l = absurd (let q = b in (cc))
+word_same false most locals waiting.R4 s t b h f k l = absurd (let q = b in (cc))
 
-waiting_gives : (six : Bool) (most : ℕ) (locals : ℕ → Option ℕ) (o : Waiting) (v : ℕ) (f : ℕ → ℕ) (t : Core) → lies six (Some o) ≡ true
-    → IsThere most locals o → t.fram ≡ f → source_value (waiting_source o) t ≡ v → GivesOn six (waiting_source o) v f t.work
-waiting_gives six most locals o v f t b h e q =
+-- it gives its word wherever those that are looked at tell R6 and the locals
+pub waiting_gives : (keeps : (ℕ → ℕ) → List ℕ) (six : Bool) (most : ℕ) (locals : ℕ → Option ℕ) (o : Waiting) (v : ℕ) (t : Core) → lies six (Some o) ≡ true
+    → IsThere most locals o → source_value (waiting_source o) t ≡ v
+    → ((s : Core) → keeps s.work ≡ keeps t.work → ((if six then s.work 6 else 0) ≡ (if six then t.work 6 else 0)) × (local_words s.work ≡ local_words t.work))
+    → Gives keeps (waiting_source o) v t.fram (keeps t.work)
+waiting_gives keeps six most locals o v t b h q same =
     record {
-      word = λ s a l. word_same six most locals o s t b h (a ∙ sym e) l ∙ q;
+      word = λ s a l. let k = same s l in word_same six most locals o s t b h a k.0 k.1 ∙ q;
       needs = λ s. source_needs most locals o s h;
       still = λ s. source_still o s;
     }
 
 -- with other registers, where those words are the same
-gives_on : (six : Bool) (x : Source) (v : ℕ) (f g h : ℕ → ℕ) → GivesOn six x v f g → kept_words six h ≡ kept_words six g → GivesOn six x v f h
-gives_on six x v f g h k e = record { word = λ s a b. k.word s a (b ∙ e); needs = k.needs; still = k.still }
+pub gives_on : (keeps : (ℕ → ℕ) → List ℕ) {x : Source} {v : ℕ} {f : ℕ → ℕ} (g h : ℕ → ℕ) → Gives keeps x v f (keeps g) → keeps h ≡ keeps g
+    → Gives keeps x v f (keeps h)
+gives_on keeps g h k e = record { word = λ s a b. k.word s a (b ∙ e); needs = k.needs; still = k.still }
 
 -- and they are where but R4 is the same
 kept_same : (six : Bool) (f g : ℕ → ℕ) → ((n : ℕ) → (n ≡ 4 → ⊥) → f n ≡ g n) → kept_words six f ≡ kept_words six g
@@ -126,8 +131,9 @@ module _ (z : Setting) where
       let same : pc ≡ pc + 0 = omega arith in
       nothing_run z (record {
         is = subst (λ n. Describes z os n (with_stack vs w) u) same k.0;
-        held = waiting_gives six z.locals w.locals o v w.fram u b d.there.0 d.is.fram
-            (source_word z o pc (with_stack d.rest w) u d.is d.there.0 ∙ k.1);
+        held = subst (λ f. GivesOn six (waiting_source o) v f u.work) d.is.fram (waiting_gives (kept_words six) six z.locals w.locals o v u b d.there.0
+            (source_word z o pc (with_stack d.rest w) u d.is d.there.0 ∙ k.1)
+            (λ s l. (ap (λ ws. get_or ws 1 0) l, ap (λ (ws : List ℕ). drop 2 ws) l)));
       })
   side_by false six os pc w v vs u b e h d =
       so_runs (five_part z os pc w v vs u e h d) (λ t j. record { is = j.is; held = five_gives six v w.fram t.work j.held.value })
@@ -150,7 +156,7 @@ module _ (z : Setting) where
       (λ q. side_by stay six os pc w y (x ∷ vs) u refl e q d) (λ t q k.
       so_runs (four_part z under mid left x vs t refl none q k.is) (λ r j. record {
         is = j.is;
-        held = record { four = j.held.value; gives = gives_on six s y w.fram t.work r.work k.held (kept_same six r.work t.work j.held.others) };
+        held = record { four = j.held.value; gives = gives_on (kept_words six) t.work r.work k.held (kept_same six r.work t.work j.held.others) };
       }))
 
   -- the same, words below the two being pushed where one of them waits in a register

@@ -14,14 +14,14 @@ pub record Setting : Type 0 where
   pub roomy : HasStackRoom (stack_base locals) room
 
 -- straight code comes to where its forms do
-pub straight : (z : Setting) (ms : List Form) (most : ℕ) (u t : Core) (es : List Effect) (c : ℕ) (P : Core → Type 0) → AreStraight ms → Stands z.code u.pc ms
-    → FormsNeed ms u → forms_run ms u ≡ stretch es c (At t) → c ≤ most → P t → Runs z.code es most u P
-straight z = blocks.straight z.code z.tidy
+module _ (z : Setting) (ms : List Form) (most : ℕ) (u t : Core) (es : List Effect) (c : ℕ) (P : Core → Type 0) where
+  pub straight : AreStraight ms → Stands z.code u.pc ms → FormsNeed ms u → forms_run ms u ≡ stretch es c (At t) → c ≤ most → P t → Runs z.code es most u P
+  straight = blocks.straight z.code z.tidy ms most u t es c P
 
 -- one form, a jump too
-pub hop : (z : Setting) (m : Form) (most : ℕ) (u t : Core) (es : List Effect) (c : ℕ) (P : Core → Type 0) → z.code u.pc ≡ Some (instruction_of m)
-    → FormNeeds m u → form_step m u ≡ Goes es c t → c ≤ most → P t → Runs z.code es most u P
-hop z = blocks.hop z.code z.tidy
+module _ (z : Setting) (m : Form) (most : ℕ) (u t : Core) (es : List Effect) (c : ℕ) (P : Core → Type 0) where
+  pub hop : z.code u.pc ≡ Some (instruction_of m) → FormNeeds m u → form_step m u ≡ Goes es c t → c ≤ most → P t → Runs z.code es most u P
+  hop = blocks.hop z.code z.tidy m most u t es c P
 
 pub runs_on : (z : Setting) {most more : ℕ} {u : Core} {P Q : Core → Type 0} {es fs : List Effect} → Runs z.code es most u P
     → ((t : Core) → P t → Runs z.code fs more t Q) → Runs z.code (es ++ fs) (most + more) u Q

@@ -3,7 +3,7 @@ use Rattle.word_code.proofs.Names.{◌≡◌, ℕ, ◌+◌, ◌<◌, Bool, true,
 use Rattle.word_code.proofs.Names.{arith, Word, operated, cycles_of, Store, put, Goes, R4, R5, Core, Register, Ram, source_bytes, source_value, source_read}
 use Rattle.word_code.proofs.Names.{ToRegister, ToRam, Move, Calculate, Update, Form, flags_after, instruction_of, form_bytes, Stands, forms_bytes, forms_run}
 use Rattle.word_code.proofs.Names.{Runs, stands_at, end_of, PlainOperation, plain_word, WordState, goes_on, with_stack, stored, assigned, with_local, is_place}
-use Rattle.word_code.proofs.Names.{word_stored, Waiting, plain_instruction, local_register, local_address, source_from, ram_update, update_code}
+use Rattle.word_code.proofs.Names.{Source, word_stored, Waiting, plain_instruction, local_register, local_address, source_from, ram_update, update_code}
 use Rattle.word_code.proofs.Registers.{Has, HasTwo}
 use Rattle.word_code.proofs.Operands.{Top, bare, load_cycles, load_price, store_cycles, store_price, to_five_part}
 use Rattle.word_code.proofs.Stretches.{Setting, straight, hop, runs_on, dearer}
@@ -35,42 +35,6 @@ module _ (z : Setting) where
       (needs.0, needs.1, k.needs, place_is a g) (ap (λ q. Goes (Store a q ∷ []) price (after q)) is) (store_price x)
       (record { at = to; memory = i.memory; fram = ap (λ q. put q a y) k.fram; inputs = i.inputs }))
 
-  -- a local in a register
-  update_register : (o : PlainOperation) (x : Option Waiting) (n y v pc : ℕ) (vs : List ℕ) (w : WordState) (u : Core) → nat_lt n 8 ≡ true → n < z.locals
-      → w.locals n ≡ Some y → y < 0x10000 → v < 0x10000
-      → (let ms = Calculate (plain_instruction o) (source_from x) (local_register n) ∷ [] in Stands z.code pc ms → Top z (source_from x) [] pc w v vs u
-      → Runs z.code [] (8 + load_cycles x) u (StandsFor z (pc + forms_bytes ms) (with_local n (plain_word o y v) (with_stack vs w))))
-  update_register o x n y v pc vs w u b lt q l r h k =
-      let s = source_from x in
-      let t = source_read s u in
-      let i = bare z pc (with_stack vs w) t k.left in
-      let made = plain_word o y v in
-      let word = in_register t.work t.ram n b ∙ i.memory.vars n y lt q in
-      plain_step z o s (local_register n) (8 + load_cycles x) t _ l r (omega (arith, load_price x)) (ap z.code k.at ∙ h.0)
-      (record { needs = k.needs; still = refl; left = word; right = k.value }) (λ f. record {
-        at = omega (arith, k.at);
-        memory = set_register z t.sp n made t.ram t.work vs w.locals b i.memory;
-        fram = i.fram;
-        inputs = i.inputs;
-      })
-
-  -- the top to R5, and a local in RAM to R4
-  take_two : (x : Option Waiting) (n y v pc : ℕ) (vs : List ℕ) (w : WordState) (u : Core) → nat_lt n 8 ≡ false → n < z.locals → w.locals n ≡ Some y
-      → Stands z.code pc (Move (source_from x) (ToRegister R5) ∷ Move (Ram (local_address n)) (ToRegister R4) ∷ []) → Top z (source_from x) [] pc w v vs u
-      → Runs z.code [] (load_cycles x + 3) u (HasTwo z (pc + form_bytes (Move (source_from x) (ToRegister R5)) + 4) (with_stack vs w) y v)
-  take_two x n y v pc vs w u b lt q h k =
-      let first = Move (source_from x) (ToRegister R5) in
-      let ms = Move (Ram (local_address n)) (ToRegister R4) ∷ [] in
-      let mid = pc + form_bytes first in
-      runs_on z (to_five_part z x pc w v vs u (h.0, tt) k) (λ t j.
-      let i = j.is in
-      straight z ms 3 t (end_of t (forms_run ms t).status) [] 3 _ (tt, tt)
-      (stands_at z.code mid ms t h.1 i.at) ((local_read z n i.memory b lt, tt), tt) refl (omega arith)
-      (record {
-        is = record { at = omega (arith, i.at); memory = i.memory; fram = i.fram; inputs = i.inputs };
-        held = record { four = in_ram (local_words t.work) t.ram n b ∙ i.memory.vars n y lt q; five = j.held };
-      }))
-
   -- R4 to a local in RAM
   set_from : (n v pc : ℕ) (w : WordState) (t : Core) → nat_lt n 8 ≡ false → n < z.locals
       → z.code pc ≡ Some (instruction_of (Move (Register R4) (ToRam (local_address n))))
@@ -89,25 +53,65 @@ module _ (z : Setting) where
         inputs = i.inputs;
       })
 
-  -- by where the local stands
-  update_by : (b : Bool) (o : PlainOperation) (x : Option Waiting) (n y v pc : ℕ) (vs : List ℕ) (w : WordState) (u : Core) → nat_lt n 8 ≡ b → n < z.locals
-      → w.locals n ≡ Some y → y < 0x10000 → v < 0x10000 → (let ms : List Form = if b then Calculate (plain_instruction o) (source_from x)
-      (local_register n) ∷ [] else (ram_update o n (source_from x)) in Stands z.code pc ms → Top z (source_from x) [] pc w v vs u
-      → Runs z.code [] (8 + load_cycles x) u (StandsFor z (pc + forms_bytes ms) (with_local n (plain_word o y v) (with_stack vs w))))
-  update_by true o x n y v pc vs w u b lt q k l h top = update_register o x n y v pc vs w u b lt q k l h top
-  update_by false o x n y v pc vs w u b lt q k l h top =
-      let popped = with_stack vs w in
-      let made = plain_word o y v in
-      let mid = pc + form_bytes (Move (source_from x) (ToRegister R5)) + 4 in
-      let ms = ram_update o n (source_from x) in
-      let end : mid + 2 + 4 ≡ pc + forms_bytes ms = omega arith in
-      let last = h.1.1 in
-      subst (λ p. Runs z.code [] (8 + load_cycles x) u (StandsFor z p (with_local n made popped))) end
-      (dearer z (omega arith) (runs_on z (take_two x n y v pc vs w u b lt q (h.0, (h.1.0, tt)) top)
-      (λ t j. runs_on z (plain_middle z o mid y v popped t k l (last.0, tt) j) (λ s r. set_from n made (mid + 2) popped s b lt last.1.0 r))))
+  -- a local and the top
+  module _ (o : PlainOperation) (x : Option Waiting) (n y v pc : ℕ) (vs : List ℕ) (w : WordState) (u : Core) (lt : n < z.locals)
+      (q : w.locals n ≡ Some y) (l : y < 0x10000) (r : v < 0x10000) where
+    abbrev made : ℕ
+    made = plain_word o y v
 
-  -- what the instruction makes of a local and of the top is assigned
-  pub update_local_part : (o : PlainOperation) (x : Option Waiting) (n y v pc : ℕ) (vs : List ℕ) (w : WordState) (u : Core) → n < z.locals → w.locals n ≡ Some y
-      → y < 0x10000 → v < 0x10000 → (let ms = update_code o n (source_from x) in Stands z.code pc ms → Top z (source_from x) [] pc w v vs u
-      → Runs z.code [] (8 + load_cycles x) u (StandsFor z (pc + forms_bytes ms) (with_local n (plain_word o y v) (with_stack vs w))))
-  update_local_part o x n y v pc vs w u lt q k l h top = update_by (nat_lt n 8) o x n y v pc vs w u refl lt q k l h top
+    abbrev popped : WordState
+    popped = with_stack vs w
+
+    abbrev source : Source
+    source = source_from x
+
+    -- a local in a register
+    update_register : nat_lt n 8 ≡ true
+        → (let ms = Calculate (plain_instruction o) source (local_register n) ∷ [] in Stands z.code pc ms → Top z source [] pc w v vs u
+        → Runs z.code [] (8 + load_cycles x) u (StandsFor z (pc + forms_bytes ms) (with_local n made popped)))
+    update_register b h k =
+        let t = source_read source u in
+        let i = bare z pc popped t k.left in
+        let word = in_register t.work t.ram n b ∙ i.memory.vars n y lt q in
+        plain_step z o source (local_register n) (8 + load_cycles x) t _ l r (omega (arith, load_price x)) (ap z.code k.at ∙ h.0)
+        (record { needs = k.needs; still = refl; left = word; right = k.value }) (λ f. record {
+          at = omega (arith, k.at);
+          memory = set_register z t.sp n made t.ram t.work vs w.locals b i.memory;
+          fram = i.fram;
+          inputs = i.inputs;
+        })
+
+    -- the top to R5, and a local in RAM to R4
+    take_two : nat_lt n 8 ≡ false → Stands z.code pc (Move source (ToRegister R5) ∷ Move (Ram (local_address n)) (ToRegister R4) ∷ [])
+        → Top z source [] pc w v vs u
+        → Runs z.code [] (load_cycles x + 3) u (HasTwo z (pc + form_bytes (Move source (ToRegister R5)) + 4) popped y v)
+    take_two b h k =
+        let ms = Move (Ram (local_address n)) (ToRegister R4) ∷ [] in
+        let mid = pc + form_bytes (Move source (ToRegister R5)) in
+        runs_on z (to_five_part z x pc w v vs u (h.0, tt) k) (λ t j.
+        let i = j.is in
+        straight z ms 3 t (end_of t (forms_run ms t).status) [] 3 _ (tt, tt)
+        (stands_at z.code mid ms t h.1 i.at) ((local_read z n i.memory b lt, tt), tt) refl (omega arith)
+        (record {
+          is = record { at = omega (arith, i.at); memory = i.memory; fram = i.fram; inputs = i.inputs };
+          held = record { four = in_ram (local_words t.work) t.ram n b ∙ i.memory.vars n y lt q; five = j.held };
+        }))
+
+    -- by where the local stands
+    update_by : (b : Bool) → nat_lt n 8 ≡ b
+        → (let ms : List Form = if b then Calculate (plain_instruction o) source (local_register n) ∷ [] else (ram_update o n source) in
+        Stands z.code pc ms → Top z source [] pc w v vs u
+        → Runs z.code [] (8 + load_cycles x) u (StandsFor z (pc + forms_bytes ms) (with_local n made popped)))
+    update_by true b h top = update_register b h top
+    update_by false b h top =
+        let mid = pc + form_bytes (Move source (ToRegister R5)) + 4 in
+        let end : mid + 2 + 4 ≡ pc + forms_bytes (ram_update o n source) = omega arith in
+        let last = h.1.1 in
+        subst (λ p. Runs z.code [] (8 + load_cycles x) u (StandsFor z p (with_local n made popped))) end
+        (dearer z (omega arith) (runs_on z (take_two b (h.0, (h.1.0, tt)) top)
+        (λ t j. runs_on z (plain_middle z o mid y v popped t l r (last.0, tt) j) (λ s k. set_from n made (mid + 2) popped s b lt last.1.0 k))))
+
+    -- what the instruction makes of a local and of the top is assigned
+    pub update_local_part : (let ms = update_code o n source in Stands z.code pc ms → Top z source [] pc w v vs u
+        → Runs z.code [] (8 + load_cycles x) u (StandsFor z (pc + forms_bytes ms) (with_local n made popped)))
+    update_local_part h top = update_by (nat_lt n 8) refl h top

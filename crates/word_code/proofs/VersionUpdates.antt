@@ -14,7 +14,7 @@ use Rattle.word_code.specs.declared.waiting.Waiting.TheVariants as waiting
 use Rattle.word_code.proofs.Memory.{HoldsWords, AreWords, place_is, address_small}
 use Rattle.word_code.proofs.Results.{StepDoes, alone_behind, Does}
 use Rattle.word_code.proofs.Sides.{Aiming, GivesOn, Aims, reading_cycles, reading_price, writing_price, side_owed, update_sides_part, right_part, is_read}
-use Rattle.word_code.proofs.VersionParts.{HasNumber}
+use Rattle.word_code.proofs.VersionParts.{HasNumber, Versioned}
 use Rattle.word_code.proofs.Registers.{Holds, Has, Flagged, IsZero, IsCarry, line, store_line, jump_with, jump_to, equal_flag, no_borrow}
 use Rattle.word_code.proofs.Operands.{owed, load_owed, Describes, bare, drop_part}
 use Rattle.word_code.proofs.Stretches.{Setting, hop, runs_on, dearer, so_runs}
@@ -41,6 +41,12 @@ known_place k base h = omega arith
 
 known_offset : (k base : ℕ) → 2 * k + base < 0x10000 → word_sum k k ≡ 2 * k
 known_offset k base h = omega arith
+
+-- what an update works on is words
+pub record Updates (i v : ℕ) (w : WordState) : Type 0 where
+  pub words : HoldsWords w.fram
+  pub index : i < 0x10000
+  pub word : v < 0x10000
 
 module _ (z : Setting) (o : PlainOperation) (x : Source) (r : ℕ) (reads : source_cycles to_register (source_operand x) ≤ r) (place : ArrayPlace)
     (list : ListPlace) where
@@ -113,11 +119,12 @@ module _ (z : Setting) (o : PlainOperation) (x : Source) (r : ℕ) (reads : sour
       (λ s. record { is = s; held = record { four = j.held; six = ap (λ f. f list.ver) j.is.fram } })
 
   -- the first update of an element in an attempt
-  first_part : (pc i v : ℕ) (w : WordState) (t : Core) → HoldsWords w.fram → v < 0x10000 → IsFram list.ver → IsFram (2 * i + place.versions)
-      → IsFram (2 * i + place.elements) → IsFram (2 * i + place.copies) → Stands z.code pc (first_update o x place list) → Aims z x pc w (2 * i) v t
+  first_part : (pc i v : ℕ) (w : WordState) (t : Core) → Versioned place list i w → v < 0x10000 → IsFram (2 * i + place.elements)
+      → IsFram (2 * i + place.copies) → Stands z.code pc (first_update o x place list) → Aims z x pc w (2 * i) v t
       → (let c = 2 * i + place.copies in let y = plain_word o (w.fram (2 * i + place.elements)) v in
       Follows z (pc + forms_bytes (first_update o x place list)) (68 + r) t (behind_effects (Store c y ∷ []) (first_stored place list i (stored c y w))))
-  first_part pc i v w t wl lv fv fm fe fc h k =
+  first_part pc i v w t m lv fe fc h k =
+      let wl = m.words in
       let c = 2 * i + place.copies in
       let y = plain_word o (w.fram (2 * i + place.elements)) v in
       let s = stored c y w in
@@ -131,8 +138,8 @@ module _ (z : Setting) (o : PlainOperation) (x : Source) (r : ℕ) (reads : sour
       ends_at z (mid + 4 + 92) (pc + forms_bytes (first_update o x place list)) (68 + r) t (behind_effects (Store c y ∷ []) b) end
       (more_cycles z (mid + 4 + 92) (7 + r + (3 + 58)) (68 + r) t (Store c y ∷ b.effects) b.end (omega arith)
       (then_end z (mid + 4 + 92) (3 + 58) b.effects b.end (made_part place.elements pc i v w t wl lv fe fc (stands_front z.code pc ms rest h) k)
-      (λ u j. then_end z (mid + 4 + 92) 58 b.effects b.end (number_part mid (2 * i) s u fv back.0 j)
-      (λ q n. first_follows z place list (mid + 4) back.1 i s q sl fc fm n.is n.held.four n.held.six))))
+      (λ u j. then_end z (mid + 4 + 92) 58 b.effects b.end (number_part mid (2 * i) s u m.number back.0 j)
+      (λ q n. first_follows z place list (mid + 4) back.1 i s q sl fc m.version n.is n.held.four n.held.six))))
 
   -- ---- one way or the other
 
@@ -252,7 +259,7 @@ module _ (z : Setting) (o : PlainOperation) (x : Source) (r : ℕ) (reads : sour
         ends_at z mid inside_end (77 + r) t b there (more_cycles z mid (7 + (2 + (68 + r))) (77 + r) t b.effects b.end (omega arith)
         (then_end z mid (2 + (68 + r)) b.effects b.end (looked false e) (λ u j.
         first_way (pc + 10) made afresh ways made_few first_few (68 + r) (2 * i) v w u b j (λ q hs a.
-        first_part (pc + 10 + 2 + forms_bytes (made ++ Jump condition.Always (size afresh) ∷ [])) i v w q wl lv fv fm (place_is f g) (place_is c g') hs a))))))
+        first_part (pc + 10 + 2 + forms_bytes (made ++ Jump condition.Always (size afresh) ∷ [])) i v w q (record { words = wl; number = fv; version = fm }) lv (place_is f g) (place_is c g') hs a))))))
 
   -- where the index is below the length
   pub inside_part : (pc i v : ℕ) (w : WordState) (t : Core) → HoldsWords w.fram → v < 0x10000 → Stands z.code pc (inside_update o x place list)
@@ -274,45 +281,39 @@ module _ (z : Setting) (o : PlainOperation) (x : Source) (r : ℕ) (reads : sour
       (λ s. record { all = record { is = s; held = record { four = k.held.four; gives = k.held.gives } }; flag = carry })
 
   -- by whether the index is below the length
-  checked_by : (b : Bool) (pc i v : ℕ) (w : WordState) (t : Core) → HoldsWords w.fram → i < 0x10000 → v < 0x10000 → place.length < 0x10000
+  checked_by : (b : Bool) (pc i v : ℕ) (w : WordState) (t : Core) → Updates i v w → place.length < 0x10000
       → nat_lt i place.length ≡ b → Stands z.code pc (checked_update o x place list) → Aims z x pc w i v t
       → Follows z (pc + forms_bytes (checked_update o x place list)) (81 + r) t (if b then own_updated o place list i v w else goes_on [] w)
-  checked_by false pc i v w t wl li lv ln e h k =
+  checked_by false pc i v w t g ln e h k =
       let ms = inside_update o x place list in
       let front = Calculate op.Cmp (Number place.length) R4 ∷ Jump condition.Carry (size ms) ∷ [] in
       let high = (z.tidy (pc + 4) _ h.1.0).high in
       let low = stands_low z (pc + 6) ms (stands_back z.code pc front ms h) (omega arith) in
       let to : sum16 (pc + 4 + 2) (distance (size ms)) ≡ pc + forms_bytes (checked_update o x place list) =
       lands (pc + 4) ms (near_size ms 200 (omega (arith, inside_bytes o x place list, reads_bytes o x)) (omega arith)) (omega (arith, low)) ∙ omega arith in
-      dearer z (omega arith) (runs_on z (compared_part pc i v w t li ln h.0 k) (λ u j. jump_to z condition.Carry (size ms) (pc + 4)
+      dearer z (omega arith) (runs_on z (compared_part pc i v w t g.index ln h.0 k) (λ u j. jump_to z condition.Carry (size ms) (pc + 4)
       (pc + forms_bytes (checked_update o x place list)) true w u h.1.0 (j.flag ∙ le_of_lt z i place.length false e) to j.all.is))
-  checked_by true pc i v w t wl li lv ln e h k =
+  checked_by true pc i v w t g ln e h k =
       let ms = inside_update o x place list in
       let front = Calculate op.Cmp (Number place.length) R4 ∷ Jump condition.Carry (size ms) ∷ [] in
       let b = own_updated o place list i v w in
       let end : pc + 6 + forms_bytes ms ≡ pc + forms_bytes (checked_update o x place list) = omega arith in
       ends_at z (pc + 6 + forms_bytes ms) (pc + forms_bytes (checked_update o x place list)) (81 + r) t b end
       (more_cycles z (pc + 6 + forms_bytes ms) (4 + (77 + r)) (81 + r) t b.effects b.end (omega arith)
-      (then_end z (pc + 6 + forms_bytes ms) (77 + r) b.effects b.end (runs_on z (compared_part pc i v w t li ln h.0 k)
+      (then_end z (pc + 6 + forms_bytes ms) (77 + r) b.effects b.end (runs_on z (compared_part pc i v w t g.index ln h.0 k)
       (λ u j. jump_with z condition.Carry (size ms) (pc + 4) (pc + 6) false h.1.0 (j.flag ∙ le_of_lt z i place.length true e) (omega arith) j.all))
-      (λ u a. inside_part (pc + 6) i v w u wl lv (stands_back z.code pc front ms h) a)))
+      (λ u a. inside_part (pc + 6) i v w u g.words g.word (stands_back z.code pc front ms h) a)))
 
-  -- an update at the index in R4
-  pub checked_part : (pc i v : ℕ) (w : WordState) (t : Core) → HoldsWords w.fram → i < 0x10000 → v < 0x10000 → place.length < 0x10000
-      → Stands z.code pc (checked_update o x place list) → Aims z x pc w i v t
-      → Follows z (pc + forms_bytes (checked_update o x place list)) (81 + r) t (versioned_updated o place list i v w)
-  checked_part pc i v w t wl li lv ln h k = checked_by (nat_lt i place.length) pc i v w t wl li lv ln refl h k
-
-  -- the same where the check may be left out
-  pub indexed_part : (sure : Bool) (pc i v : ℕ) (w : WordState) (t : Core) → HoldsWords w.fram → i < 0x10000 → v < 0x10000
-      → place.length < 0x10000 → (sure ≡ true → nat_lt i place.length ≡ true) → Stands z.code pc (indexed_update sure o x place list) → Aims z x pc w i v t
+  -- an update at the index in R4; the check may be left out where the index is surely below the length
+  pub indexed_part : (sure : Bool) (pc i v : ℕ) (w : WordState) (t : Core) → Updates i v w → place.length < 0x10000
+      → (sure ≡ true → nat_lt i place.length ≡ true) → Stands z.code pc (indexed_update sure o x place list) → Aims z x pc w i v t
       → Follows z (pc + forms_bytes (indexed_update sure o x place list)) (81 + r) t (versioned_updated o place list i v w)
-  indexed_part false pc i v w t wl li lv ln inside h k = checked_part pc i v w t wl li lv ln h k
-  indexed_part true pc i v w t wl li lv ln inside h k =
+  indexed_part false pc i v w t g ln inside h k = checked_by (nat_lt i place.length) pc i v w t g ln refl h k
+  indexed_part true pc i v w t g ln inside h k =
       let end = pc + forms_bytes (inside_update o x place list) in
       let b = own_updated o place list i v w in
       subst (λ y. Follows z end (81 + r) t (if y then b else goes_on [] w)) (sym (inside refl))
-      (more_cycles z end (77 + r) (81 + r) t b.effects b.end (omega arith) (inside_part pc i v w t wl lv h k))
+      (more_cycles z end (77 + r) (81 + r) t b.effects b.end (omega arith) (inside_part pc i v w t g.words g.word h k))
 
   -- ---- at a number that is known
 
@@ -407,7 +408,7 @@ module _ (z : Setting) (o : PlainOperation) (x : Source) (r : ℕ) (reads : sour
         (then_end z (at + 4 + forms_bytes (first_update o x place list)) (68 + r) b.effects b.end
         (line z ms 2 (at + 4) _ a.is (tt, tt) (hs.0, tt) ((tt, tt), tt) refl refl (omega (arith, a.is.at))
         (λ s. record { is = s; held = record { four = known_offset k place.versions (address_small fm); gives = a.held.gives } }))
-        (λ q n. first_part (at + 4) k v w q wl lv fv fm fe fc hs.1 n))
+        (λ q n. first_part (at + 4) k v w q (record { words = wl; number = fv; version = fm }) lv fe fc hs.1 n))
 
     -- by whether the version word is VER's
     known_by : (b : Bool) → (w.fram list.ver == w.fram (2 * k + place.versions)) ≡ b
@@ -448,54 +449,53 @@ module _ (z : Setting) (o : PlainOperation) (x : Source) (r : ℕ) (reads : sour
 -- ---- the step
 
 module _ (z : Setting) (o : PlainOperation) (place : ArrayPlace) (list : ListPlace) (small : place.length < 0x10000) where
-  -- the index in R4, where it may be surely below the length
-  update_by : (sure : Bool) (os : List Waiting) (pc : ℕ) (w : WordState) (i v : ℕ) (rest : List ℕ) (u : Core) → HoldsWords w.fram → i < 0x10000
-      → v < 0x10000 → w.stack ≡ v ∷ (i ∷ rest) → (sure ≡ true → nat_lt i place.length ≡ true)
-      → (let ms = update_sides os ++ indexed_update sure o (rest_source (top_of os)) place list in Stands z.code pc ms → Describes z os pc w u
-      → Does z [] (pc + forms_bytes ms) (86 + owed os) u (versioned_updated o place list i v (with_stack rest w)))
-  update_by sure os pc w i v rest u wl li lv e inside h d =
-      let under = below_top os in
-      let front = update_sides os in
-      let x = rest_source (top_of os) in
-      let c = reading_cycles (rests (top_of os)) in
-      let mid = pc + forms_bytes front in
-      let left = with_stack rest w in
-      alone_behind z front (indexed_update sure o x place list) (81 + c) (86 + owed os) pc u (versioned_updated o place list i v left)
-      (omega (arith, load_owed under, side_owed (rests (top_of os)) os)) h (λ s. update_sides_part z os pc w i v rest u e s d)
-      (λ t s k. indexed_part z o x c (reading_price (rests (top_of os)) (top_of os)) place list sure mid i v left t wl li lv small inside s k)
+  -- from this state, its index and its word being the stack's top
+  module _ (w : WordState) (i v : ℕ) (rest : List ℕ) (updates : Updates i v w) (e : w.stack ≡ v ∷ (i ∷ rest)) (pc : ℕ) (u : Core) where
+    abbrev left : WordState
+    left = with_stack rest w
 
-  -- the index a number that waits, by whether it is below the length
-  number_by : (b sure : Bool) (k : ℕ) (p : Waiting) (os : List Waiting) (pc : ℕ) (w : WordState) (i v : ℕ) (rest : List ℕ) (u : Core)
-      → nat_lt k place.length ≡ b → HoldsWords w.fram → i < 0x10000 → v < 0x10000 → w.stack ≡ v ∷ (i ∷ rest) → (sure ≡ true → nat_lt i place.length ≡ true)
-      → (let ws = p ∷ (waiting.Number k ∷ os) in let ms = update_at (if b then Some k else None) sure ws o place list in Stands z.code pc ms
-      → Describes z ws pc w u → Does z [] (pc + forms_bytes ms) (86 + owed ws) u (versioned_updated o place list i v (with_stack rest w)))
-  number_by false sure k p os pc w i v rest u lt wl li lv e inside h d = update_by sure (p ∷ (waiting.Number k ∷ os)) pc w i v rest u wl li lv e inside h d
-  number_by true sure k p os pc w i v rest u lt wl li lv e inside h d =
-      let ws = p ∷ (waiting.Number k ∷ os) in
-      let front = right_to_rest ws in
-      let x = rest_source (Some p) in
-      let c = reading_cycles (rests (Some p)) in
-      let mid = pc + forms_bytes front in
-      let end = mid + forms_bytes (known_update o x place list k) in
-      let above = with_stack (i ∷ rest) w in
-      let left = with_stack rest w in
-      alone_behind z front (known_update o x place list k) (78 + c) (86 + owed ws) pc u (versioned_updated o place list i v left)
-      (omega (arith, side_owed (rests (Some p)) (p ∷ []))) h
-      (λ s. right_part z p (waiting.Number k) os pc w v (i ∷ rest) u e s d)
-      (λ t s j.
-      let q = drop_part z (waiting.Number k) [] mid above i rest t refl j.is in
-      subst (λ n. Follows z end (78 + c) t (versioned_updated o place list n v left)) q.1
-      (subst (λ y. Follows z end (78 + c) t (if y then own_updated o place list k v left else goes_on [] left)) (sym lt)
-      (known_part z o x c (reading_price (rests (Some p)) (Some p)) place list k mid v left t (writing_price (rests (Some p)) (Some p)) wl lv s
-      (bare z mid left t q.0) j.held)))
+    -- the index in R4, where it may be surely below the length
+    update_by : (sure : Bool) (os : List Waiting) → (sure ≡ true → nat_lt i place.length ≡ true)
+        → (let ms = update_sides os ++ indexed_update sure o (rest_source (top_of os)) place list in Stands z.code pc ms → Describes z os pc w u
+        → Does z [] (pc + forms_bytes ms) (86 + owed os) u (versioned_updated o place list i v left))
+    update_by sure os inside h d =
+        let under = below_top os in
+        let front = update_sides os in
+        let x = rest_source (top_of os) in
+        let c = reading_cycles (rests (top_of os)) in
+        let mid = pc + forms_bytes front in
+        alone_behind z front (indexed_update sure o x place list) (81 + c) (86 + owed os) pc u (versioned_updated o place list i v left)
+        (omega (arith, load_owed under, side_owed (rests (top_of os)) os)) h (λ s. update_sides_part z os pc w i v rest u e s d)
+        (λ t s k. indexed_part z o x c (reading_price (rests (top_of os)) (top_of os)) place list sure mid i v left t
+        (record { words = updates.words; index = updates.index; word = updates.word }) small inside s k)
 
-  update_on : (bs : List Bound) (os : List Waiting) (pc : ℕ) (w : WordState) (i v : ℕ) (rest : List ℕ) (u : Core) → HoldsWords w.fram
-      → i < 0x10000 → v < 0x10000 → w.stack ≡ v ∷ (i ∷ rest) → (is_inside bs (top_of (below_top os)) place.length ≡ true → nat_lt i place.length ≡ true)
-      → StepDoes z bs os (versioned_update o place list) 86 pc w u (versioned_updated o place list i v (with_stack rest w))
-  update_on bs (p ∷ (waiting.Number k ∷ os)) pc w i v rest u wl li lv e inside h d =
-      number_by (nat_lt k place.length) (nat_lt k place.length) k p os pc w i v rest u refl wl li lv e inside h d
-  update_on bs os pc w i v rest u wl li lv e inside h d =
-      update_by (is_inside bs (top_of (below_top os)) place.length) os pc w i v rest u wl li lv e inside h d
+    -- the index a number that waits, by whether it is below the length
+    number_by : (b sure : Bool) (k : ℕ) (p : Waiting) (os : List Waiting) → nat_lt k place.length ≡ b → (sure ≡ true → nat_lt i place.length ≡ true)
+        → (let ws = p ∷ (waiting.Number k ∷ os) in let ms = update_at (if b then Some k else None) sure ws o place list in Stands z.code pc ms
+        → Describes z ws pc w u → Does z [] (pc + forms_bytes ms) (86 + owed ws) u (versioned_updated o place list i v left))
+    number_by false sure k p os lt inside h d = update_by sure (p ∷ (waiting.Number k ∷ os)) inside h d
+    number_by true sure k p os lt inside h d =
+        let ws = p ∷ (waiting.Number k ∷ os) in
+        let front = right_to_rest ws in
+        let x = rest_source (Some p) in
+        let c = reading_cycles (rests (Some p)) in
+        let mid = pc + forms_bytes front in
+        let end = mid + forms_bytes (known_update o x place list k) in
+        let above = with_stack (i ∷ rest) w in
+        alone_behind z front (known_update o x place list k) (78 + c) (86 + owed ws) pc u (versioned_updated o place list i v left)
+        (omega (arith, side_owed (rests (Some p)) (p ∷ []))) h
+        (λ s. right_part z p (waiting.Number k) os pc w v (i ∷ rest) u e s d)
+        (λ t s j.
+        let q = drop_part z (waiting.Number k) [] mid above i rest t refl j.is in
+        subst (λ n. Follows z end (78 + c) t (versioned_updated o place list n v left)) q.1
+        (subst (λ y. Follows z end (78 + c) t (if y then own_updated o place list k v left else goes_on [] left)) (sym lt)
+        (known_part z o x c (reading_price (rests (Some p)) (Some p)) place list k mid v left t (writing_price (rests (Some p)) (Some p)) updates.words
+        updates.word s (bare z mid left t q.0) j.held)))
+
+    update_on : (bs : List Bound) (os : List Waiting) → (is_inside bs (top_of (below_top os)) place.length ≡ true → nat_lt i place.length ≡ true)
+        → StepDoes z bs os (versioned_update o place list) 86 pc w u (versioned_updated o place list i v left)
+    update_on bs (p ∷ (waiting.Number k ∷ os)) inside h d = number_by (nat_lt k place.length) (nat_lt k place.length) k p os refl inside h d
+    update_on bs os inside h d = update_by (is_inside bs (top_of (below_top os)) place.length) os inside h d
 
   -- an element that is updated in place
   pub in_place_reaches : (bs : List Bound) (os : List Waiting) (pc : ℕ) (w : WordState) (vs : List ℕ) (u : Core) → HoldsWords w.fram
@@ -504,4 +504,4 @@ module _ (z : Setting) (o : PlainOperation) (place : ArrayPlace) (list : ListPla
   in_place_reaches bs os pc w [] u wl lb e l h d = tt
   in_place_reaches bs os pc w (v ∷ []) u wl lb e l h d = tt
   in_place_reaches bs os pc w (v ∷ (i ∷ rest)) u wl lb e l h d =
-      update_on bs os pc w i v rest u wl l.1.0 l.0 e (under_inside z bs pc u place.length os w i v rest lb e d) h d
+      update_on w i v rest (record { words = wl; index = l.1.0; word = l.0 }) e pc u bs os (under_inside z bs pc u place.length os w i v rest lb e d) h d

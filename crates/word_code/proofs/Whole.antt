@@ -31,7 +31,7 @@ use Rattle.word_code.proofs.Locals.{program_below, program_least, HasStack, stac
 use Rattle.word_code.proofs.Follows.{StandsFor, Follows, FollowsEnd, OnGoesOn, more_cycles, then_hop, ends_at, guarded, reach_more, reach_way, reaches}
 use Rattle.word_code.proofs.Follows.{then_end, then_follows, reach_guarded}
 use Rattle.word_code.proofs.Parts.{constant_part, store_part, move_part, jump_part}
-use Rattle.word_code.proofs.Choices.{Fork, fork_at, fork_turned, fork_both, fork_either, decided_follows, zero_test, holds_part, compares_part}
+use Rattle.word_code.proofs.Choices.{Fork, fork_at, fork_turned, fork_both, fork_either, Deciding, decided_follows, zero_test, holds_part, compares_part}
 use Rattle.word_code.proofs.Loops.{loop_by}
 use Rattle.word_code.proofs.Access.{entry_part}
 use Rattle.word_code.proofs.LoopBounds.{Bounded, Spared, spared_so, bounded_with, bounded_on, step_bounded}
@@ -70,16 +70,30 @@ ready_popped bs next q n w us f m h b e l =
     }
 
 -- a turn of a loop begins: its local has this word, which is below its number
-turn_ready : (bs : List Bound) (next : Place → Type 0) (n k below : ℕ) (w : WordState) (q : Place) → next (assigning n q) → Matches q w → IsStateOfWords w
-    → Bounded bs w.locals → Spared bs (λ m. n ≢ m) → k < 0x10000 → k < below → Ready (bound_of n below ∷ bs) next (with_local n k w)
-turn_ready bs next n k below w q f m h b spared small less =
+turn_ready : (bs : List Bound) (next : Place → Type 0) (n k below : ℕ) (w : WordState) → Ready bs (λ q. next (assigning n q)) w → Spared bs (λ m. n ≢ m)
+    → k < 0x10000 → k < below → Ready (bound_of n below ∷ bs) next (with_local n k w)
+turn_ready bs next n k below w r spared small less =
     record {
-      place = assigning n q;
-      fit = f;
-      matches = matches_local q w n k m;
-      words_in = local_words w n k h small;
-      bounded = (record { word = k; has = assigned_same w.locals n k; less = less }, bounded_with bs w.locals n k spared b);
+      place = assigning n r.place;
+      fit = r.fit;
+      matches = matches_local r.place w n k r.matches;
+      words_in = local_words w n k r.words_in small;
+      bounded = (record { word = k; has = assigned_same w.locals n k; less = less }, bounded_with bs w.locals n k spared r.bounded);
     }
+
+-- one way on from a test: where it leads to, the places that it fits, what is spent there and what is done
+record Way : Type 1 where
+  at : ℕ
+  fits : Place → Type 0
+  cost : WordState → ℕ
+  does : WordState → Behaviour
+
+-- what is known beforehand of a part of a program: its numbers are words, its locals are there, its loops count, and it spares the numbers of the loops around
+record Known (words locals loops spared : Type 0) : Type 0 where
+  of_words : words
+  below : locals
+  count : loops
+  spares : spared
 
 module _ (z : Setting) where
   -- 1 is pushed, and the jump leads past the other number
@@ -96,38 +110,75 @@ module _ (z : Setting) where
       ends_at z (pc + 4 + 2) (pc + 6) 3 u (number_pushed 0 w) (omega arith)
       (constant_part z konst.Zero (pc + 4) w u l (forms_behind z.code pc 2 truth_code h) i)
 
-  -- from states from which what follows is fit, code follows a way
-  abbrev WayFollows : List Bound → (Place → Type 0) → ℕ → ℕ → (WordState → ℕ) → (WordState → Behaviour) → Type 0
-  WayFollows bs next at end cost run = (v : WordState) (x : Core) → Ready bs next v → StandsFor z at v x → Follows z end (cost v) x (run v)
+  -- from states that it fits, code follows a way
+  abbrev Continues : List Bound → ℕ → Way → Type 0
+  Continues bs end way = (v : WordState) (x : Core) → Ready bs way.fits v → StandsFor z way.at v x → Follows z end (way.cost v) x (way.does v)
+
+  -- both ways on from a test, to one end
+  record Ways (bs : List Bound) : Type 1 where
+    end : ℕ
+    held : Way
+    failed : Way
+    if_held : Continues bs end held
+    if_failed : Continues bs end failed
+
+  -- code that ends with a jump to the one way or the other stands here
+  record Forked (when : Bool) (d pc : ℕ) (all : List Form) (held failed : ℕ) : Type 0 where
+    stands : Stands z.code pc all
+    fork : Fork when d held failed (pc + forms_bytes all)
+
+  -- the code behind its first part
+  forked_behind : (when : Bool) (d pc : ℕ) (a last : List Form) (held failed : ℕ) → Forked when d pc (a ++ last) held failed
+      → Forked when d (pc + forms_bytes a) last held failed
+  forked_behind when d pc a last held failed k =
+      record {
+        stands = stands_back z.code pc a last k.stands;
+        fork = fork_at when d held failed (pc + forms_bytes (a ++ last)) (pc + forms_bytes a + forms_bytes last) (omega (arith, forms_bytes-append a last)) k.fork;
+      }
+
+  -- an instruction that asks words in registers, and the flags of its answer
+  record Asking : Type 0 where
+    form : Form
+    answer : Bool
+    reads : ℕ
+    met : Condition
+    opposite : Condition
 
   -- behind a program whose word or words decide
-  module _ (bs : List Bound) (when : Bool) (d holds_at fails_at end : ℕ) (held failed : Place → Type 0) (ch cf : WordState → ℕ) (rh rf : WordState → Behaviour)
-      (fh : WayFollows bs held holds_at end ch rh) (ff : WayFollows bs failed fails_at end cf rf) where
+  module _ (bs : List Bound) (when : Bool) (d : ℕ) (ways : Ways bs) where
     -- words in registers, an instruction that asks them, and the jump by its answer
-    by_form : {l : ℕ} (P : ℕ → Core → Type 0) (front : List Form) (form : Form) (b : Bool) (reads most pc : ℕ) (met opposite : Condition) (t : WordState)
-        (u : Core) → l + reads + 5 + (if b then ch t else cf t) ≤ most → Ready bs held t → Ready bs failed t
-        → (let all = front ++ (form ∷ decision when d met opposite) in let mid = pc + forms_bytes front in
-        Stands z.code pc all → Fork when d holds_at fails_at (pc + forms_bytes all) → (Stands z.code pc front → Runs z.code [] l u (P mid))
-        → ((q : Core) → z.code mid ≡ Some (instruction_of form) → P mid q → Runs z.code [] reads q (Decided z (mid + form_bytes form) t b met opposite))
-        → Follows z end most u (if b then rh t else rf t))
-    by_form {l} P front form b reads most pc met opposite t u le on off h fork come asks =
-        let last = decision when d met opposite in
-        let mid = pc + forms_bytes front in
-        let next = mid + form_bytes form in
-        let back = stands_back z.code pc front (form ∷ last) h in
-        let high = (z.tidy mid _ back.0).high in
-        let behind : pc + forms_bytes (front ++ (form ∷ last)) ≡ next + forms_bytes last = omega (arith, forms_bytes-append front (form ∷ last)) in
-        more_cycles z end (l + reads + 5 + (if b then ch t else cf t)) most u (if b then rh t else rf t).effects (if b then rh t else rf t).end le
-        (decided_follows z when b next d holds_at fails_at (l + reads) end (ch t) (cf t) met opposite t u (rh t) (rf t) back.1
-        (fork_at when d holds_at fails_at (pc + forms_bytes (front ++ (form ∷ last))) (next + forms_bytes last) behind fork) (omega (arith, form_small form))
-        (runs_on z (come (stands_front z.code pc front (form ∷ last) h)) (λ q k. asks q back.0 k)) (λ x j. fh t x on j) (λ x j. ff t x off j))
+    module _ (front : List Form) (k : Asking) (pc : ℕ)
+        (s : Forked when d pc (front ++ (k.form ∷ decision when d k.met k.opposite)) ways.held.at ways.failed.at) where
+      by_form : {l : ℕ} (P : ℕ → Core → Type 0) (most : ℕ) (t : WordState) (u : Core)
+          → l + k.reads + 5 + (if k.answer then ways.held.cost t else ways.failed.cost t) ≤ most → Ready bs ways.held.fits t → Ready bs ways.failed.fits t
+          → (let mid = pc + forms_bytes front in (Stands z.code pc front → Runs z.code [] l u (P mid))
+          → ((q : Core) → z.code mid ≡ Some (instruction_of k.form) → P mid q
+          → Runs z.code [] k.reads q (Decided z (mid + form_bytes k.form) t k.answer k.met k.opposite))
+          → Follows z ways.end most u (if k.answer then ways.held.does t else ways.failed.does t))
+      by_form {l} P most t u le on off come asks =
+          let last = decision when d k.met k.opposite in
+          let mid = pc + forms_bytes front in
+          let b : Behaviour = if k.answer then ways.held.does t else ways.failed.does t in
+          let back = forked_behind when d pc front (k.form ∷ last) ways.held.at ways.failed.at s in
+          let high = (z.tidy mid _ back.stands.0).high in
+          let behind : mid + forms_bytes (k.form ∷ last) ≡ mid + form_bytes k.form + forms_bytes last = omega arith in
+          let deciding : Deciding z when (mid + form_bytes k.form) d ways.held.at ways.failed.at k.met k.opposite = record {
+            stands = back.stands.1;
+            fork = fork_at when d ways.held.at ways.failed.at (mid + forms_bytes (k.form ∷ last)) (mid + form_bytes k.form + forms_bytes last) behind back.fork;
+            low = omega (arith, form_small k.form);
+          } in
+          more_cycles z ways.end (l + k.reads + 5 + (if k.answer then ways.held.cost t else ways.failed.cost t)) most u b.effects b.end le
+          (decided_follows z deciding k.answer (l + k.reads) ways.end (ways.held.cost t) (ways.failed.cost t) t u (ways.held.does t) (ways.failed.does t)
+          (runs_on z (come (stands_front z.code pc front (k.form ∷ last) s.stands)) (λ q j. asks q back.stands.0 j))
+          (λ x j. ways.if_held t x on j) (λ x j. ways.if_failed t x off j))
 
-    by_top : (os : List Waiting) (pc : ℕ) (w : WordState) (u : Core) (vs : List ℕ) → Stands z.code pc (holds_code os when d)
-        → Fork when d holds_at fails_at (pc + forms_bytes (holds_code os when d)) → Ready bs (Moves z.room 1 0 (λ r. held r × failed r)) w → w.stack ≡ vs
-        → Describes z os pc w u → Follows z end (owed os + (8 + top_spent vs (λ v us. if is_true v then ch (with_stack us w) else cf (with_stack us w)))) u
-        (with_top vs (λ v us. if is_true v then rh (with_stack us w) else rf (with_stack us w)))
-    by_top os pc w u [] h fork r e i = tt
-    by_top os pc w u (v ∷ us) h fork r e i =
+    by_top : (os : List Waiting) (pc : ℕ) (w : WordState) (u : Core) (vs : List ℕ)
+        → Forked when d pc (holds_code os when d) ways.held.at ways.failed.at → Ready bs (Moves z.room 1 0 (λ r. ways.held.fits r × ways.failed.fits r)) w
+        → w.stack ≡ vs
+        → Describes z os pc w u → Follows z ways.end (owed os + (8 + top_spent vs (λ v us. if is_true v then ways.held.cost (with_stack us w) else ways.failed.cost (with_stack us w)))) u
+        (with_top vs (λ v us. if is_true v then ways.held.does (with_stack us w) else ways.failed.does (with_stack us w)))
+    by_top os pc w u [] k r e i = tt
+    by_top os pc w u (v ∷ us) k r e i =
         let t = with_stack us w in
         let words = subst (AreWords) e r.words_in.stack in
         let left : length us + 1 ≡ length w.stack = omega (arith, ap (length {A = ℕ}) e) in
@@ -136,20 +187,21 @@ module _ (z : Setting) where
         let ks = kept (below_top os) in
         let front = top_to_four os ++ flushed ks in
         let mid = pc + forms_bytes front in
-        let most = owed os + (8 + (if is_true v then ch t else cf t)) in
-        by_form (λ p. Has z R4 p t v) front (zero_test z) (is_true v) 1 most pc condition.NotEqual condition.Equal t u
-        (omega (arith, owed_kept (below_top os), load_owed os)) (popped held r.fit.2.0)
-        (popped failed r.fit.2.1) h fork
-        (λ s. gathered z (top_to_four os) ks pc s (λ s. top_to_four_part z os pc w v us u e s i)) (λ q s k. holds_part z mid v t q words.0 s k)
+        let most = owed os + (8 + (if is_true v then ways.held.cost t else ways.failed.cost t)) in
+        let ask : Asking = record { form = zero_test z; answer = is_true v; reads = 1; met = condition.NotEqual; opposite = condition.Equal } in
+        by_form front ask pc k (λ p. Has z R4 p t v) most t u (omega (arith, owed_kept (below_top os), load_owed os)) (popped ways.held.fits r.fit.2.0)
+        (popped ways.failed.fits r.fit.2.1) (λ s. gathered z (top_to_four os) ks pc s (λ s. top_to_four_part z os pc w v us u e s i))
+        (λ q s j. holds_part z mid v t q words.0 s j)
 
-    by_two : (os : List Waiting) (c : Comparison) (pc : ℕ) (w : WordState) (u : Core) (vs : List ℕ) → Stands z.code pc (compares_code os c when d)
-        → Fork when d holds_at fails_at (pc + forms_bytes (compares_code os c when d)) → Ready bs (Moves z.room 2 0 (λ r. held r × failed r)) w → w.stack ≡ vs
-        → Describes z os pc w u → Follows z end (owed os + (10 + top_spent vs
-        (λ y xs. top_spent xs (λ x us. if compare_words c x y then ch (with_stack us w) else cf (with_stack us w))))) u
-        (with_two vs (λ x y us. if compare_words c x y then rh (with_stack us w) else rf (with_stack us w)))
-    by_two os c pc w u [] h fork r e i = tt
-    by_two os c pc w u (y ∷ []) h fork r e i = tt
-    by_two os c pc w u (y ∷ (x ∷ us)) h fork r e i =
+    by_two : (os : List Waiting) (c : Comparison) (pc : ℕ) (w : WordState) (u : Core) (vs : List ℕ)
+        → Forked when d pc (compares_code os c when d) ways.held.at ways.failed.at
+        → Ready bs (Moves z.room 2 0 (λ r. ways.held.fits r × ways.failed.fits r)) w → w.stack ≡ vs
+        → Describes z os pc w u → Follows z ways.end (owed os + (10 + top_spent vs
+        (λ y xs. top_spent xs (λ x us. if compare_words c x y then ways.held.cost (with_stack us w) else ways.failed.cost (with_stack us w))))) u
+        (with_two vs (λ x y us. if compare_words c x y then ways.held.does (with_stack us w) else ways.failed.does (with_stack us w)))
+    by_two os c pc w u [] k r e i = tt
+    by_two os c pc w u (y ∷ []) k r e i = tt
+    by_two os c pc w u (y ∷ (x ∷ us)) k r e i =
         let t = with_stack us w in
         let words = subst (AreWords) e r.words_in.stack in
         let left : length us + 2 ≡ length w.stack = omega (arith, ap (length {A = ℕ}) e) in
@@ -161,12 +213,18 @@ module _ (z : Setting) where
         let from = compare_source c (top_of os) in
         let front = compare_sides c os ++ flushed ks in
         let mid = pc + forms_bytes front in
-        let most = owed os + (10 + (if compare_words c x y then ch t else cf t)) in
-        by_form (λ p. Holds z (Aiming true from x y w.fram) p t) front (compare_form c from) (compare_words c x y) (reading_cycles stay) most pc (holding c)
-        (failing c) t u (omega (arith, owed_kept (below_top under), side_owed stay os, load_owed under)) (popped held r.fit.2.0) (popped failed r.fit.2.1) h
-        fork
+        let most = owed os + (10 + (if compare_words c x y then ways.held.cost t else ways.failed.cost t)) in
+        let ask : Asking = record {
+          form = compare_form c from;
+          answer = compare_words c x y;
+          reads = reading_cycles stay;
+          met = holding c;
+          opposite = failing c;
+        } in
+        by_form front ask pc k (λ p. Holds z (Aiming true from x y w.fram) p t) most t u
+        (omega (arith, owed_kept (below_top under), side_owed stay os, load_owed under)) (popped ways.held.fits r.fit.2.0) (popped ways.failed.fits r.fit.2.1)
         (λ s. gathered z (compare_sides c os) ks pc s (λ s. compare_sides_part z c os pc w x y us u e s i))
-        (λ q s k. compares_part z c (top_of os) mid x y t q words.1.0 words.0 s k)
+        (λ q s j. compares_part z c (top_of os) mid x y t q words.1.0 words.0 s j)
 
   -- behind steps with no word waiting in front of them, code that takes those that wait behind them
   leaf_follows : (bs : List Bound) (p : Program) (next : Place → Type 0) (pc end : ℕ) (cost : WordState → ℕ) (go : WordState → Behaviour) (w : WordState)
@@ -199,50 +257,58 @@ module _ (z : Setting) where
       (f (stands_front z.code pc a (flushed os) h)))
       (λ t v d. flush_part z os mid v t d (stands_back z.code pc a (flushed os) h)))
 
+  abbrev KnownStep : List Bound → Step → Type 0
+  KnownStep bs first = Known (StepOfWords first) (StepLocalsBelow z.locals first) (StepLoopsCount first) (Spared bs (λ n. StepSpares n first))
+
+  abbrev KnownTest : List Bound → Test → Type 0
+  KnownTest bs t = Known (TestOfWords t) (TestLocalsBelow z.locals t) (TestLoopsCount t) (Spared bs (λ n. TestSpares n t))
+
+  abbrev KnownProgram : List Bound → Program → Type 0
+  KnownProgram bs p = Known (OfWords p) (LocalsBelow z.locals p) (LoopsCount p) (Spared bs (λ n. Spares n p))
+
   mutual
     step_follows : (bs : List Bound) (first : Step) (next : Place → Type 0) (os : List Waiting) (pc : ℕ) (w : WordState) (u : Core)
-        → Ready bs (EachStepWay z.room first next) w → StepOfWords first → StepLocalsBelow z.locals first → StepLoopsCount first
-        → Spared bs (λ n. StepSpares n first) → Stands z.code pc (step_code bs os first) → Describes z os pc w u
+        → Ready bs (EachStepWay z.room first next) w → KnownStep bs first → Stands z.code pc (step_code bs os first) → Describes z os pc w u
         → Does z (waiting_behind os first) (pc + forms_bytes (step_code bs os first)) (step_spent first w + owed os) u (step_behaviour first w)
-    step_follows bs (number v) next os pc w u r o l c spared h d = number_part z v os pc w u (omega (arith, r.fit.1, r.matches.depth)) d
-    step_follows bs (load a) next os pc w u r o l c spared h d =
+    step_follows bs (number v) next os pc w u r known h d = number_part z v os pc w u (omega (arith, r.fit.1, r.matches.depth)) d
+    step_follows bs (load a) next os pc w u r known h d =
         let after = waiting.Fram a ∷ os in
         reach_guarded z (is_place a) (owed after) (Describes z after (pc + 0)) (5 + owed os) u _
         (λ e. load_part z a os pc w u (omega (arith, r.fit.1, r.matches.depth)) (place_is a e) d)
-    step_follows bs (keep a) next os pc w u r o l c spared h d = keep_reaches z a os pc w w.stack u refl h d
-    step_follows bs (update op a) next os pc w u r o l c spared h d = update_reaches z op a os pc w w.stack u (r.words_in.fram a) refl r.words_in.stack h d
-    step_follows bs (local n) next os pc w u r o l c spared h d =
+    step_follows bs (keep a) next os pc w u r known h d = keep_reaches z a os pc w w.stack u refl h d
+    step_follows bs (update op a) next os pc w u r known h d = update_reaches z op a os pc w w.stack u (r.words_in.fram a) refl r.words_in.stack h d
+    step_follows bs (local n) next os pc w u r known h d =
         let x = r.matches.assigned n r.fit.0 in
         let f = r.fit.1 in
         let after = waiting_behind os (local n) in
         let end = pc + forms_bytes (step_code bs os (local n)) in
         subst (λ v. Does z after end (5 + owed os) u (local_pushed v w)) (sym x.is)
-        (local_by z (nat_lt n 8) n x.word os pc w u refl (omega (arith, f.1, r.matches.depth)) l x.is h d)
-    step_follows bs (set_local n) next os pc w u r o l c spared h d = set_reaches z n os pc w w.stack u l refl h d
-    step_follows bs (update_local op n) next os pc w u r o l c spared h d =
+        (local_by z (nat_lt n 8) n x.word os pc w u refl (omega (arith, f.1, r.matches.depth)) known.below x.is h d)
+    step_follows bs (set_local n) next os pc w u r known h d = set_reaches z n os pc w w.stack u known.below refl h d
+    step_follows bs (update_local op n) next os pc w u r known h d =
         let x = r.matches.assigned n r.fit.0 in
         let end = pc + forms_bytes (step_code bs os (update_local op n)) in
         subst (λ v. Does z [] end (10 + owed os) u (with_top w.stack (λ y us. local_updated op n y v (with_stack us w)))) (sym x.is)
-        (update_local_reaches z op n x.word os pc w w.stack u l x.is (r.words_in.locals n x.word x.is) (refl, r.words_in.stack) h d)
-    step_follows bs (unary op) next os pc w u r o l c spared h d = unary_part z op os pc w w.stack u refl r.words_in.stack h d
-    step_follows bs (binary op) next os pc w u r o l c spared h d = binary_part z op os pc w w.stack u refl r.words_in.stack h d
-    step_follows bs (shift op k) next os pc w u r o l c spared h d = shift_reaches z op k os pc w w.stack u refl r.words_in.stack h d
-    step_follows bs (long op) next os pc w u r o l c spared h d =
+        (update_local_reaches z op n x.word os pc w w.stack u known.below x.is (r.words_in.locals n x.word x.is) (refl, r.words_in.stack) h d)
+    step_follows bs (unary op) next os pc w u r known h d = unary_part z op os pc w w.stack u refl r.words_in.stack h d
+    step_follows bs (binary op) next os pc w u r known h d = binary_part z op os pc w w.stack u refl r.words_in.stack h d
+    step_follows bs (shift op k) next os pc w u r known h d = shift_reaches z op k os pc w w.stack u refl r.words_in.stack h d
+    step_follows bs (long op) next os pc w u r known h d =
         long_reaches z op os pc w w.stack u refl r.words_in.stack (omega (arith, r.fit.1, r.matches.depth)) h d
-    step_follows bs (element base size) next os pc w u r o l c spared h d =
-        element_reaches z bs base size os pc w w.stack u o.1 r.bounded refl r.words_in.stack h d
-    step_follows bs (emit_word count buffer) next os pc w u r o l c spared h d = emit_reaches z count buffer os pc w w.stack u refl h d
-    step_follows bs (list_entry count list home copy n) next os pc w u r o l c spared h d =
+    step_follows bs (element base size) next os pc w u r known h d =
+        element_reaches z bs base size os pc w w.stack u known.of_words.1 r.bounded refl r.words_in.stack h d
+    step_follows bs (emit_word count buffer) next os pc w u r known h d = emit_reaches z count buffer os pc w w.stack u refl h d
+    step_follows bs (list_entry count list home copy n) next os pc w u r known h d =
         alone_part z os (entry_code count list home copy n) 26 pc w u (step_behaviour (list_entry count list home copy n) w) h d
         (λ t s i. entry_part z count list home copy n (pc + forms_bytes (flushed os)) w t s i)
-    step_follows bs (versioned_read place list) next os pc w u r o l c spared h d =
-        read_reaches z bs place list os pc w w.stack u o.0.3 r.words_in.fram r.bounded (refl, r.words_in.stack) h d
-    step_follows bs (versioned_write place list) next os pc w u r o l c spared h d =
-        write_reaches z bs place list os pc w w.stack u o.0.3 r.words_in.fram r.bounded (refl, r.words_in.stack) h d
-    step_follows bs (versioned_update op place list) next os pc w u r o l c spared h d =
-        in_place_reaches z op place list o.0.3 bs os pc w w.stack u r.words_in.fram r.bounded refl r.words_in.stack h d
-    step_follows bs sense next os pc w u r o l c spared h d = sense_part z os pc w w.inputs.readings u (omega (arith, r.fit.1, r.matches.depth)) refl h d
-    step_follows bs (truth t) next os pc w u r o l c spared h d =
+    step_follows bs (versioned_read place list) next os pc w u r known h d =
+        read_reaches z bs place list os pc w w.stack u known.of_words.0.3 r.words_in.fram r.bounded (refl, r.words_in.stack) h d
+    step_follows bs (versioned_write place list) next os pc w u r known h d =
+        write_reaches z bs place list os pc w w.stack u known.of_words.0.3 r.words_in.fram r.bounded (refl, r.words_in.stack) h d
+    step_follows bs (versioned_update op place list) next os pc w u r known h d =
+        in_place_reaches z op place list known.of_words.0.3 bs os pc w w.stack u r.words_in.fram r.bounded refl r.words_in.stack h d
+    step_follows bs sense next os pc w u r known h d = sense_part z os pc w w.inputs.readings u (omega (arith, r.fit.1, r.matches.depth)) refl h d
+    step_follows bs (truth t) next os pc w u r known h d =
         let a = test_code bs t false 2 in
         let at = pc + forms_bytes (flushed os) in
         let inside = at + forms_bytes a in
@@ -250,14 +316,22 @@ module _ (z : Setting) where
         alone_part z os (a ++ truth_code) (step_spent (truth t) w) pc w u (step_behaviour (truth t) w) h d (λ x s i.
         let ha = stands_back z.code at a truth_code s in
         let high = (z.tidy (inside + 2) _ ha.1.0).high in
+        let ways : Ways bs = record {
+          end = inside + 6;
+          held = record { at = inside; fits = pushes; cost = λ v. 5; does = number_pushed 1 };
+          failed = record { at = inside + 4; fits = pushes; cost = λ v. 3; does = number_pushed 0 };
+          if_held = λ v y q j. one_pushed inside v y ha (omega (arith, q.fit.1, q.matches.depth)) j;
+          if_failed = λ v y q j. zero_pushed inside v y ha (omega (arith, q.fit.1, q.matches.depth)) j;
+        } in
         let fork : Fork false 2 inside (inside + 4) inside = record { holds = refl; fails = refl; room = λ low. omega arith } in
         ends_at z (inside + 6) (at + forms_bytes (a ++ truth_code)) (step_spent (truth t) w) x (step_behaviour (truth t) w)
         (omega (arith, forms_bytes-append a truth_code))
-        (test_follows bs t false 2 inside (inside + 4) at (inside + 6) pushes pushes (λ v. 5) (λ v. 3) (number_pushed 1) (number_pushed 0) w x r o l c spared
-        (stands_front z.code at a truth_code s) fork
-        (λ v y q j. one_pushed inside v y ha (omega (arith, q.fit.1, q.matches.depth)) j)
-        (λ v y q j. zero_pushed inside v y ha (omega (arith, q.fit.1, q.matches.depth)) j) i))
-    step_follows bs (choose t taken otherwise) next os pc w u r o l c spared h d =
+        (test_follows bs t false 2 at ways w x r known (record { stands = stands_front z.code at a truth_code s; fork = fork }) i))
+    step_follows bs (choose t taken otherwise) next os pc w u r known h d =
+        let taken_spares = spared_so bs (λ m. StepSpares m (choose t taken otherwise)) (λ m. Spares m taken) (λ m k. k.1) known.spares in
+        let taken_known : KnownProgram bs taken = record { of_words = known.of_words.1; below = known.below.1; count = known.count.1; spares = taken_spares } in
+        let other_spares = spared_so bs (λ m. StepSpares m (choose t taken otherwise)) (λ m. Spares m otherwise) (λ m k. k.2) known.spares in
+        let other_known : KnownProgram bs otherwise = record { of_words = known.of_words.2; below = known.below.2; count = known.count.2; spares = other_spares } in
         let b = block_code bs taken in
         let other = block_code bs otherwise in
         let over = pass_over (size other) in
@@ -276,22 +350,24 @@ module _ (z : Setting) where
           fails = omega (arith, whole_size first);
           room = λ low. omega (arith, stands_low z inside first hf low, whole_size first);
         } in
+        let ways : Ways bs = record {
+          end = end;
+          held = record { at = inside; fits = EachWay z.room taken next; cost = λ v. spent taken v + 3; does = behaviour taken };
+          failed = record { at = middle; fits = EachWay z.room otherwise next; cost = spent otherwise; does = behaviour otherwise };
+          if_held = λ v y q j. then_hop z (inside + forms_bytes b) end (spent taken v) 3 y (behaviour taken v).effects (behaviour taken v).end
+              (block_follows bs taken inside v y (stands_front z.code inside b over hf)
+              (λ hs. steps_follow bs taken next [] inside v y q taken_known hs (dressed z inside v y j)))
+              (λ s' y' k. pass_part z (inside + forms_bytes b) (size other) end y' s' (stands_back z.code inside b over hf)
+              (omega (arith, whole_size other, forms_bytes-append b over))
+              (λ low. stands_low z middle other ho (omega (arith, low, forms_bytes-append b over))) k);
+          if_failed = λ v y q j. block_follows bs otherwise middle v y ho (λ hs. steps_follow bs otherwise next [] middle v y q other_known hs (dressed z middle v y j));
+        } in
+        let test_spares = spared_so bs (λ m. StepSpares m (choose t taken otherwise)) (λ m. TestSpares m t) (λ m q. q.0) known.spares in
+        let test_known : KnownTest bs t = record { of_words = known.of_words.0; below = known.below.0; count = known.count.0; spares = test_spares } in
         ends_at z end (at + forms_bytes (a ++ (first ++ other))) (step_spent (choose t taken otherwise) w) x
         (step_behaviour (choose t taken otherwise) w) (omega (arith, forms_bytes-append a (first ++ other), forms_bytes-append first other))
-        (test_follows bs t false (size first) inside middle at end (EachWay z.room taken next) (EachWay z.room otherwise next) (λ v. spent taken v + 3)
-        (spent otherwise) (behaviour taken) (behaviour otherwise) w x r o.0 l.0 c.0
-        (spared_so bs (λ m. StepSpares m (choose t taken otherwise)) (λ m. TestSpares m t) (λ m q. q.0) spared)
-        (stands_front z.code at a (first ++ other) s) fork
-        (λ v y q j. then_hop z (inside + forms_bytes b) end (spent taken v) 3 y (behaviour taken v).effects (behaviour taken v).end
-        (block_follows bs taken inside v y (stands_front z.code inside b over hf)
-        (λ hs. steps_follow bs taken next [] inside v y q o.1 l.1 c.1
-        (spared_so bs (λ m. StepSpares m (choose t taken otherwise)) (λ m. Spares m taken) (λ m k. k.1) spared) hs (dressed z inside v y j)))
-        (λ s' y' k. pass_part z (inside + forms_bytes b) (size other) end y' s' (stands_back z.code inside b over hf)
-        (omega (arith, whole_size other, forms_bytes-append b over))
-        (λ low. stands_low z middle other ho (omega (arith, low, forms_bytes-append b over))) k))
-        (λ v y q j. block_follows bs otherwise middle v y ho (λ hs. steps_follow bs otherwise next [] middle v y q o.2 l.2 c.2
-        (spared_so bs (λ m. StepSpares m (choose t taken otherwise)) (λ m. Spares m otherwise) (λ m k. k.2) spared) hs (dressed z middle v y j))) i))
-    step_follows bs (repeat n from below body) next os pc w u r o l c spared h d =
+        (test_follows bs t false (size first) at ways w x r test_known (record { stands = stands_front z.code at a (first ++ other) s; fork = fork }) i))
+    step_follows bs (repeat n from below body) next os pc w u r known h d =
         let inner = bound_of n below ∷ bs in
         let start = number_code n from in
         let made = block_code inner body in
@@ -299,107 +375,110 @@ module _ (z : Setting) where
         let top = at + forms_bytes start in
         let turn : ℕ → Place → Type 0 = λ m. EachTurn m n (EachWay z.room body) next in
         let rest : List Form = if nat_lt from below then turns_code n below made else [] in
-        let others = spared_so bs (λ m. StepSpares m (repeat n from below body)) (λ m. n ≢ m) (λ m q. q.0) spared in
-        let around = spared_so bs (λ m. StepSpares m (repeat n from below body)) (λ m. Spares m body) (λ m q. q.1) spared in
+        let others = spared_so bs (λ m. StepSpares m (repeat n from below body)) (λ m. n ≢ m) (λ m q. q.0) known.spares in
+        let around = spared_so bs (λ m. StepSpares m (repeat n from below body)) (λ m. Spares m body) (λ m q. q.1) known.spares in
         alone_part z os (start ++ rest) (step_spent (repeat n from below body) w) pc w u (step_behaviour (repeat n from below body) w) h d (λ x hs i.
-        loop_by z (nat_lt from below) made at n from below (spent body) (behaviour body) (λ m s. Ready bs (turn m) s) w x refl l.0 o.2 hs i r
+        loop_by z made at n from below (spent body) (behaviour body) (λ m s. Ready bs (turn m) s) (nat_lt from below) w x refl known.below.0 known.of_words.2 hs i r
         (λ stands m k s t p less j. block_follows inner body top (with_local n k s) t stands (λ hb.
         steps_follow inner body (turn m) [] top (with_local n k s) t
-        (turn_ready bs (EachWay z.room body (turn m)) n k below s p.place p.fit p.matches p.words_in p.bounded others (let x = o.2 in omega arith) less)
-        o.3 l.1 c.1 (c.0, around) hb (dressed z top (with_local n k s) t j)))
+        (turn_ready bs (EachWay z.room body (turn m)) n k below s p others (let x = known.of_words.2 in omega arith) less)
+        (record { of_words = known.of_words.3; below = known.below.1; count = known.count.1; spares = (known.count.0, around) }) hb (dressed z top (with_local n k s) t j)))
         (λ m k s p less. ready_with bs (turn m) n k (behaviour body (with_local n k s)).end
         (well z.room body (turn m) (assigning n p.place) (with_local n k s) p.fit (matches_local p.place s n k p.matches))
-        (words body (with_local n k s) o.3 (local_words s n k p.words_in (let x = o.2 in omega arith)))
+        (words body (with_local n k s) known.of_words.3 (local_words s n k p.words_in (let x = known.of_words.2 in omega arith)))
         (bounded_on bs body (with_local n k s) around (bounded_with bs s.locals n k others p.bounded))
-        (leaves n (Some k) body (with_local n k s) c.0 (assigned_same s.locals n k))))
-    step_follows bs (store_number a v) next os pc w u r o l c spared h d =
+        (leaves n (Some k) body (with_local n k s) known.count.0 (assigned_same s.locals n k))))
+    step_follows bs (store_number a v) next os pc w u r known h d =
         alone_part z os (Move (number_source v) (ToFram a) ∷ []) 5 pc w u (step_behaviour (store_number a v) w) h d
         (λ t s i. store_part z a v (pc + forms_bytes (flushed os)) w t s i)
-    step_follows bs (move_word from to) next os pc w u r o l c spared h d =
+    step_follows bs (move_word from to) next os pc w u r known h d =
         let at = pc + forms_bytes (flushed os) in
         alone_part z os (Move (Fram from) (ToFram to) ∷ []) 6 pc w u (step_behaviour (move_word from to) w) h d
         (λ t s i. guarded z (is_place from) (at + 6) 6 t _ (λ e. move_part z from to at w t (place_is from e) s i))
-    step_follows bs (jump to) next os pc w u r o l c spared h d =
+    step_follows bs (jump to) next os pc w u r known h d =
         alone_part z os (Branch to ∷ []) 3 pc w u (step_behaviour (jump to) w) h d
         (λ t s i. jump_part z to (pc + forms_bytes (flushed os)) w t r.fit s i)
 
-    test_follows : (bs : List Bound) (t : Test) (when : Bool) (d holds_at fails_at pc end : ℕ) (held failed : Place → Type 0) (ch cf : WordState → ℕ)
-        (rh rf : WordState → Behaviour) (w : WordState) (u : Core) → Ready bs (EachTestWay z.room t held failed) w → TestOfWords t → TestLocalsBelow z.locals t
-        → TestLoopsCount t → Spared bs (λ n. TestSpares n t) → Stands z.code pc (test_code bs t when d)
-        → Fork when d holds_at fails_at (pc + forms_bytes (test_code bs t when d)) → WayFollows bs held holds_at end ch rh
-        → WayFollows bs failed fails_at end cf rf → StandsFor z pc w u → Follows z end (test_spent t ch cf w) u (tested t rh rf w)
-    test_follows bs (holds p) when d holds_at fails_at pc end held failed ch cf rh rf w u r o l c spared h fork fh ff i =
+    test_follows : (bs : List Bound) (t : Test) (when : Bool) (d pc : ℕ) (ways : Ways bs) (w : WordState) (u : Core)
+        → Ready bs (EachTestWay z.room t ways.held.fits ways.failed.fits) w
+        → KnownTest bs t → Forked when d pc (test_code bs t when d) ways.held.at ways.failed.at → StandsFor z pc w u
+        → Follows z ways.end (test_spent t ways.held.cost ways.failed.cost w) u (tested t ways.held.does ways.failed.does w)
+    test_follows bs (holds p) when d pc ways w u r known k i =
         let a = steps_code bs [] p in
         let os = waiting_after [] p in
-        let at = pc + forms_bytes a in
         let last = holds_code os when d in
-        let next = Moves z.room 1 0 (λ s. held s × failed s) in
-        leaf_follows bs p next pc end (λ v. 8 + spent_by_top ch cf v) (way_by_top rh rf) w u
-        (steps_follow bs p next [] pc w u r o l c spared (stands_front z.code pc a last h) (dressed z pc w u i))
-        (ready_on bs next (behaviour p w).end (well z.room p next r.place w r.fit r.matches) (words p w o r.words_in)
-        (bounded_on bs p w spared r.bounded))
-        (λ x v q j. by_top bs when d holds_at fails_at end held failed ch cf rh rf fh ff os at v x v.stack (stands_back z.code pc a last h)
-        (fork_at when d holds_at fails_at (pc + forms_bytes (a ++ last)) (at + forms_bytes last) (omega (arith, forms_bytes-append a last)) fork) q refl j)
-    test_follows bs (compares e p) when d holds_at fails_at pc end held failed ch cf rh rf w u r o l c spared h fork fh ff i =
+        let next = Moves z.room 1 0 (λ s. ways.held.fits s × ways.failed.fits s) in
+        leaf_follows bs p next pc ways.end (λ v. 8 + spent_by_top ways.held.cost ways.failed.cost v) (way_by_top ways.held.does ways.failed.does) w u
+        (steps_follow bs p next [] pc w u r known (stands_front z.code pc a last k.stands) (dressed z pc w u i))
+        (ready_on bs next (behaviour p w).end (well z.room p next r.place w r.fit r.matches) (words p w known.of_words r.words_in)
+        (bounded_on bs p w known.spares r.bounded))
+        (λ x v q j. by_top bs when d ways os (pc + forms_bytes a) v x v.stack (forked_behind when d pc a last ways.held.at ways.failed.at k) q refl j)
+    test_follows bs (compares e p) when d pc ways w u r known k i =
         let a = steps_code bs [] p in
         let os = waiting_after [] p in
-        let at = pc + forms_bytes a in
         let last = compares_code os e when d in
-        let next = Moves z.room 2 0 (λ s. held s × failed s) in
-        leaf_follows bs p next pc end (λ v. 10 + spent_by_two e ch cf v) (way_by_two e rh rf) w u
-        (steps_follow bs p next [] pc w u r o l c spared (stands_front z.code pc a last h) (dressed z pc w u i))
-        (ready_on bs next (behaviour p w).end (well z.room p next r.place w r.fit r.matches) (words p w o r.words_in)
-        (bounded_on bs p w spared r.bounded))
-        (λ x v q j. by_two bs when d holds_at fails_at end held failed ch cf rh rf fh ff os e at v x v.stack (stands_back z.code pc a last h)
-        (fork_at when d holds_at fails_at (pc + forms_bytes (a ++ last)) (at + forms_bytes last) (omega (arith, forms_bytes-append a last)) fork) q refl j)
-    test_follows bs (both t e) when d holds_at fails_at pc end held failed ch cf rh rf w u r o l c spared h fork fh ff i =
+        let next = Moves z.room 2 0 (λ s. ways.held.fits s × ways.failed.fits s) in
+        leaf_follows bs p next pc ways.end (λ v. 10 + spent_by_two e ways.held.cost ways.failed.cost v) (way_by_two e ways.held.does ways.failed.does) w u
+        (steps_follow bs p next [] pc w u r known (stands_front z.code pc a last k.stands) (dressed z pc w u i))
+        (ready_on bs next (behaviour p w).end (well z.room p next r.place w r.fit r.matches) (words p w known.of_words r.words_in)
+        (bounded_on bs p w known.spares r.bounded))
+        (λ x v q j. by_two bs when d ways os e (pc + forms_bytes a) v x v.stack (forked_behind when d pc a last ways.held.at ways.failed.at k) q refl j)
+    test_follows bs (both t e) when d pc ways w u r known k i =
         let second = test_code bs e when d in
-        let over = size second + (if not when then d else 0) in
-        let first = test_code bs t false over in
+        let first = test_code bs t false (size second + (if not when then d else 0)) in
         let middle = pc + forms_bytes first in
-        let behind = pc + forms_bytes (first ++ second) in
-        let front = stands_front z.code pc first second h in
-        let back = stands_back z.code pc first second h in
-        let counted = fork_at when d holds_at fails_at behind (middle + 2 * size second)
-        (omega (arith, forms_bytes-append first second, whole_size second)) fork in
-        let last = fork_at when d holds_at fails_at behind (middle + forms_bytes second) (omega (arith, forms_bytes-append first second)) fork in
+        let back = forked_behind when d pc first second ways.held.at ways.failed.at k in
+        let counted = fork_at when d ways.held.at ways.failed.at (middle + forms_bytes second) (middle + 2 * size second) (omega (arith, whole_size second)) back.fork in
         let low : middle < 0x10000 → middle + 2 * size second < 0x10000 =
-        λ less. omega (arith, stands_low z middle second back less, whole_size second) in
-        test_follows bs t false over middle fails_at pc end (EachTestWay z.room e held failed) failed (test_spent e ch cf) cf (tested e rh rf) rf w u
-        r o.0 l.0 c.0 (spared_so bs (λ n. TestSpares n (both t e)) (λ n. TestSpares n t) (λ n q. q.0) spared) front
-        (fork_both when d (size second) holds_at fails_at middle low counted)
-        (λ v x q j. test_follows bs e when d holds_at fails_at middle end held failed ch cf rh rf v x q o.1 l.1 c.1
-        (spared_so bs (λ n. TestSpares n (both t e)) (λ n. TestSpares n e) (λ n k. k.1) spared) back last fh ff j) ff i
-    test_follows bs (either t e) when d holds_at fails_at pc end held failed ch cf rh rf w u r o l c spared h fork fh ff i =
+        λ less. omega (arith, stands_low z middle second back.stands less, whole_size second) in
+        let cost = test_spent e ways.held.cost ways.failed.cost in
+        let inner : Way = record { at = middle; fits = EachTestWay z.room e ways.held.fits ways.failed.fits; cost = cost; does = tested e ways.held.does ways.failed.does } in
+        let inner_spares = spared_so bs (λ n. TestSpares n (both t e)) (λ n. TestSpares n e) (λ n q. q.1) known.spares in
+        let inner_known : KnownTest bs e = record { of_words = known.of_words.1; below = known.below.1; count = known.count.1; spares = inner_spares } in
+        let first_spares = spared_so bs (λ n. TestSpares n (both t e)) (λ n. TestSpares n t) (λ n q. q.0) known.spares in
+        let first_known : KnownTest bs t = record { of_words = known.of_words.0; below = known.below.0; count = known.count.0; spares = first_spares } in
+        test_follows bs t false (size second + (if not when then d else 0)) pc (record {
+          end = ways.end;
+          held = inner;
+          failed = ways.failed;
+          if_held = λ v x q j. test_follows bs e when d middle ways v x q inner_known back j;
+          if_failed = ways.if_failed;
+        }) w u r first_known
+        (record { stands = stands_front z.code pc first second k.stands; fork = fork_both when d (size second) ways.held.at ways.failed.at middle low counted }) i
+    test_follows bs (either t e) when d pc ways w u r known k i =
         let second = test_code bs e when d in
-        let over = size second + (if when then d else 0) in
-        let first = test_code bs t true over in
+        let first = test_code bs t true (size second + (if when then d else 0)) in
         let middle = pc + forms_bytes first in
-        let behind = pc + forms_bytes (first ++ second) in
-        let front = stands_front z.code pc first second h in
-        let back = stands_back z.code pc first second h in
-        let counted = fork_at when d holds_at fails_at behind (middle + 2 * size second)
-        (omega (arith, forms_bytes-append first second, whole_size second)) fork in
-        let last = fork_at when d holds_at fails_at behind (middle + forms_bytes second) (omega (arith, forms_bytes-append first second)) fork in
+        let back = forked_behind when d pc first second ways.held.at ways.failed.at k in
+        let counted = fork_at when d ways.held.at ways.failed.at (middle + forms_bytes second) (middle + 2 * size second) (omega (arith, whole_size second)) back.fork in
         let low : middle < 0x10000 → middle + 2 * size second < 0x10000 =
-        λ less. omega (arith, stands_low z middle second back less, whole_size second) in
-        test_follows bs t true over holds_at middle pc end held (EachTestWay z.room e held failed) ch (test_spent e ch cf) rh (tested e rh rf) w u
-        r o.0 l.0 c.0 (spared_so bs (λ n. TestSpares n (either t e)) (λ n. TestSpares n t) (λ n q. q.0) spared) front
-        (fork_either when d (size second) holds_at fails_at middle low counted) fh
-        (λ v x q j. test_follows bs e when d holds_at fails_at middle end held failed ch cf rh rf v x q o.1 l.1 c.1
-        (spared_so bs (λ n. TestSpares n (either t e)) (λ n. TestSpares n e) (λ n k. k.1) spared) back last fh ff j) i
-    test_follows bs (fails t) when d holds_at fails_at pc end held failed ch cf rh rf w u r o l c spared h fork fh ff i =
-        test_follows bs t (not when) d fails_at holds_at pc end failed held cf ch rf rh w u r o l c spared h
-        (fork_turned when d holds_at fails_at _ fork) ff fh i
+        λ less. omega (arith, stands_low z middle second back.stands less, whole_size second) in
+        let cost = test_spent e ways.held.cost ways.failed.cost in
+        let inner : Way = record { at = middle; fits = EachTestWay z.room e ways.held.fits ways.failed.fits; cost = cost; does = tested e ways.held.does ways.failed.does } in
+        let inner_spares = spared_so bs (λ n. TestSpares n (either t e)) (λ n. TestSpares n e) (λ n q. q.1) known.spares in
+        let inner_known : KnownTest bs e = record { of_words = known.of_words.1; below = known.below.1; count = known.count.1; spares = inner_spares } in
+        let first_spares = spared_so bs (λ n. TestSpares n (either t e)) (λ n. TestSpares n t) (λ n q. q.0) known.spares in
+        let first_known : KnownTest bs t = record { of_words = known.of_words.0; below = known.below.0; count = known.count.0; spares = first_spares } in
+        test_follows bs t true (size second + (if when then d else 0)) pc (record {
+          end = ways.end;
+          held = ways.held;
+          failed = inner;
+          if_held = ways.if_held;
+          if_failed = λ v x q j. test_follows bs e when d middle ways v x q inner_known back j;
+        }) w u r first_known
+        (record { stands = stands_front z.code pc first second k.stands; fork = fork_either when d (size second) ways.held.at ways.failed.at middle low counted }) i
+    test_follows bs (fails t) when d pc ways w u r known k i =
+        test_follows bs t (not when) d pc
+        (record { end = ways.end; held = ways.failed; failed = ways.held; if_held = ways.if_failed; if_failed = ways.if_held }) w u r known
+        (record { stands = k.stands; fork = fork_turned when d ways.held.at ways.failed.at _ k.fork }) i
 
     steps_follow : (bs : List Bound) (p : Program) (next : Place → Type 0) (os : List Waiting) (pc : ℕ) (w : WordState) (u : Core)
-        → Ready bs (EachWay z.room p next) w → OfWords p → LocalsBelow z.locals p → LoopsCount p → Spared bs (λ n. Spares n p)
-        → Stands z.code pc (steps_code bs os p) → Describes z os pc w u
+        → Ready bs (EachWay z.room p next) w → KnownProgram bs p → Stands z.code pc (steps_code bs os p) → Describes z os pc w u
         → Does z (waiting_after os p) (pc + forms_bytes (steps_code bs os p)) (spent p w + owed os) u (behaviour p w)
-    steps_follow bs nothing next os pc w u r o l c spared h d =
+    steps_follow bs nothing next os pc w u r known h d =
         let e : pc ≡ pc + 0 = omega arith in
         record { spent = 0; within = omega arith; runs = nothing_run z (subst (λ n. Describes z os n w u) e d) }
-    steps_follow bs (step first more) next os pc w u r o l c spared h d =
+    steps_follow bs (step first more) next os pc w u r known h d =
         let a = step_code bs os first in
         let mid = waiting_behind os first in
         let rest = steps_code bs mid more in
@@ -408,19 +487,22 @@ module _ (z : Setting) where
         let end = pc' + forms_bytes rest in
         let after = waiting_after mid more in
         let all = behaviour (step first more) w in
-        let first_spared = spared_so bs (λ n. Spares n (step first more)) (λ n. StepSpares n first) (λ n k. k.0) spared in
+        let first_spares = spared_so bs (λ n. Spares n (step first more)) (λ n. StepSpares n first) (λ n k. k.0) known.spares in
+        let first_known : KnownStep bs first = record { of_words = known.of_words.0; below = known.below.0; count = known.count.0; spares = first_spares } in
+        let more_spares = spared_so bs (λ n. Spares n (step first more)) (λ n. Spares n more) (λ n k. k.1) known.spares in
+        let more_known : KnownProgram bs more = record { of_words = known.of_words.1; below = known.below.1; count = known.count.1; spares = more_spares } in
         let there : end ≡ pc + forms_bytes (a ++ rest) = omega (arith, forms_bytes-append a rest) in
         subst (λ p. Does z after p (spent (step first more) w + owed os) u all) there
         (reach_more z (owed after) (Describes z after end) (step_spent first w + owed os + spent_on b.end (spent more)) (spent (step first more) w + owed os) u
         all.effects all.end (omega arith)
         (reach_way z (owed mid) (owed after) (Describes z mid pc') (Describes z after end) (step_spent first w + owed os) (spent more) u
         (Ready bs (EachWay z.room more next)) b.effects b.end (behaviour more)
-        (step_follows bs first (EachWay z.room more next) os pc w u r o.0 l.0 c.0 first_spared (stands_front z.code pc a rest h) d)
+        (step_follows bs first (EachWay z.room more next) os pc w u r first_known (stands_front z.code pc a rest h) d)
         (ready_on bs (EachWay z.room more next) b.end (step_well z.room first (EachWay z.room more next) r.place w r.fit r.matches)
-        (words_step first w o.0 r.words_in) (step_bounded bs first w first_spared r.bounded))
+        (words_step first w first_known.of_words r.words_in) (step_bounded bs first w first_known.spares r.bounded))
         (λ t v q j. reach_more z (owed after) (Describes z after end) (spent more v + owed mid) (owed mid + spent more v) t (behaviour more v).effects
         (behaviour more v).end (omega arith)
-        (steps_follow bs more next mid pc' v t q o.1 l.1 c.1 (spared_so bs (λ n. Spares n (step first more)) (λ n. Spares n more) (λ n k. k.1) spared)
+        (steps_follow bs more next mid pc' v t q more_known
         (stands_back z.code pc a rest h) j))))
 
 none_has_no_word : (v w : ℕ) → None ≡ Some v → w ≡ v
@@ -456,7 +538,8 @@ code_does_as_program code at p u tidy h whole o entry =
     let body = stands_back code at front (block_code [] p) h in
     by_end z (code_spent p s) b.effects b.end
     (then_end z (mid + forms_bytes (block_code [] p)) (spent p s) b.effects b.end set (λ t k. block_follows z [] p mid s t body
-    (λ hs. steps_follow z [] p (λ q. ⊥) [] mid s t r o (program_below locals p (omega arith)) whole.loops_count tt hs (dressed z mid s t (there t k)))))
+    (λ hs. steps_follow z [] p (λ q. ⊥) [] mid s t r
+    (record { of_words = o; below = program_below locals p (omega arith); count = whole.loops_count; spares = tt }) hs (dressed z mid s t (there t k)))))
     (whole_ends_soundly p u.fram u.inputs whole)
   where
     by_end : (z : Setting) (most : ℕ) (es : List Effect) (e : End)

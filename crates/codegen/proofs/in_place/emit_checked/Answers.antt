@@ -22,5 +22,5 @@ returns c =
     let own = rw c.new-inside.ensures.items at c.in_ok-emit_inside.ensures in
     let words = c.code_words.ensures ∙ ap size (c.deref.ensures.value ∙ own) in
     let front = rw (c.jump.ensures, words) at c.in_ok-extend_from_slice.ensures.items in
-    let ended = on_ok_items c.extend_from_slice-2.result c.extend_from_slice-2.ensures.items in
-    behind c.extend_from_slice-2.result front (rw (c.deref-2.ensures.value ∙ own) at ended)
+    let ended = on_ok_items c.extend_from_slice-2.result _ _ _ c.extend_from_slice-2.ensures.items in
+    behind c.extend_from_slice-2.result _ _ _ _ _ front (rw (c.deref-2.ensures.value ∙ own) at ended)

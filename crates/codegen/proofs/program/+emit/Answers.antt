@@ -1,6 +1,7 @@
-use Rattle.codegen.proofs.Names.{◌+◌, ◌∷◌, ◌++◌, [], drop, not, sym, ap, ◌∙◌, subst, arith, rules, append-nil, lt-ltb, le-ltb, step_of, steps_of, test_of}
+use Rattle.codegen.proofs.Names.{◌+◌, ◌∷◌, ◌++◌, [], drop, not, sym, ap, ◌∙◌, subst, arith, rules, append_assoc, lt-ltb, le-ltb, step_of, steps_of, test_of}
 use Rattle.codegen.proofs.Names.{StepLocalsBelow, TestLocalsBelow, LocalsBelow, OfWords, words_of, step_words, test_words, forms_bytes-append, size}
-use Rattle.codegen.proofs.Names.{pass_over, turn_end, turns_code, waiting_after, steps_code, block_code, number_code}
+use Rattle.codegen.proofs.Names.{flushed, false, pass_over, jump_back, number_code, truth_code, turn_end, waiting_after, steps_code, test_code, block_code}
+use Rattle.word_code.specs.msp_isa.declared.instructions.Condition.TheVariants as condition
 use Rattle.word_code.specs.array_versions.declared.program.WordStep as word_step
 use Rattle.codegen.proofs.Emitted.{behind, on_ok_items, test_size, step_of-choose, step_of-read, step_of-write, step_of-update, test_of-holds}
 use Rattle.codegen.proofs.Emitted.{test_of-compares, test_of-both, test_of-either, words_at_most, step_owed, left_front}
@@ -30,7 +31,7 @@ pub emit_block-returns-clause-code : goal.emit_block-returns-clause-code
 emit_block-returns-clause-code t c =
     let first = rw c.new-waiting.ensures.items at c.in_ok-emit_steps.ensures.code in
     let after = c.deref.ensures.value ∙ (rw c.new-waiting.ensures.items at c.in_ok-emit_steps.ensures.waiting) in
-    behind c.emit_flushed.result first (rw after at c.emit_flushed.ensures)
+    behind c.emit_flushed.result _ _ _ _ _ first (rw after at c.emit_flushed.ensures)
 
 pub emit_test-returns-in_ok-emit_steps-in-Holds-clause-code : goal.emit_test-returns-in_ok-emit_steps-in-Holds-clause-code
 emit_test-returns-in_ok-emit_steps-in-Holds-clause-code t c =
@@ -38,7 +39,7 @@ emit_test-returns-in_ok-emit_steps-in-Holds-clause-code t c =
     let same = c.deref.ensures.value in
     let first = rw (none, same) at c.in_ok-emit_steps-in-Holds.ensures.code in
     let after = rw (none, same) at c.in_ok-emit_steps-in-Holds.ensures.waiting in
-    rw (ap test_of c.in-Holds.is ∙ test_of-holds c.in-Holds.steps) (behind c.emit_holds.result first (rw after at c.emit_holds.ensures))
+    rw (ap test_of c.in-Holds.is ∙ test_of-holds c.in-Holds.steps) (behind c.emit_holds.result _ _ _ _ _ first (rw after at c.emit_holds.ensures))
 
 pub emit_test-returns-in_ok-emit_steps-in-Compares-clause-code : goal.emit_test-returns-in_ok-emit_steps-in-Compares-clause-code
 emit_test-returns-in_ok-emit_steps-in-Compares-clause-code t c =
@@ -46,12 +47,15 @@ emit_test-returns-in_ok-emit_steps-in-Compares-clause-code t c =
     let same = c.deref-in-Compares.ensures.value in
     let first = rw (none, same) at c.in_ok-emit_steps-in-Compares.ensures.code in
     let after = rw (none, same) at c.in_ok-emit_steps-in-Compares.ensures.waiting in
-    rw (ap test_of c.in-Compares.is ∙ test_of-compares c.in-Compares.comparison c.in-Compares.steps) (behind c.emit_compares.result first (rw after at c.emit_compares.ensures))
+    rw (ap test_of c.in-Compares.is ∙ test_of-compares c.in-Compares.comparison c.in-Compares.steps) (behind c.emit_compares.result _ _ _ _ _ first (rw after at c.emit_compares.ensures))
 
 pub emit_truth-returns-clause-code : goal.emit_truth-returns-clause-code
 emit_truth-returns-clause-code t c =
-    behind c.emit_truth_code.result c.in_ok-emit_all.ensures.code
-    (behind c.emit_truth_code.result c.in_ok-emit_test.ensures.code c.emit_truth_code.ensures)
+    let r = c.emit_truth_code.result in
+    let pushes = flushed c.args.waiting.now.items in
+    let test = test_code c.args.bounds.now (test_of c.args.test.now) false 2 in
+    behind r c.args.code.now.items _ _ pushes (test ++ truth_code) c.in_ok-emit_all.ensures.code
+    (behind r c.emit_all.new.code.items _ _ test truth_code c.in_ok-emit_test.ensures.code c.emit_truth_code.ensures)
 
 pub emit_step-returns-in-VersionedRead-clause-code : goal.emit_step-returns-in-VersionedRead-clause-code
 emit_step-returns-in-VersionedRead-clause-code t c =
@@ -129,8 +133,8 @@ emit_test-returns-in_ok-emit_test-in-Both-2-clause-code t c =
     let own = rw (c.new-behind.ensures.items, c.deref-in-Both.ensures) at c.in_ok-emit_test-in-Both.ensures.code in
     let further = c.code_words.ensures ∙ ap size (c.deref-in-Both-2.ensures.value ∙ own) in
     let tested = rw (c.deref-in-Both-3.ensures, further, c.words_if.ensures) at c.in_ok-emit_test-in-Both-2.ensures.code in
-    let added = on_ok_items c.extend_from_slice.result c.extend_from_slice.ensures.items in
-    rw is (behind c.extend_from_slice.result tested (rw (c.deref-in-Both-4.ensures.value ∙ own) at added))
+    let added = on_ok_items c.extend_from_slice.result _ _ _ c.extend_from_slice.ensures.items in
+    rw is (behind c.extend_from_slice.result _ _ _ _ _ tested (rw (c.deref-in-Both-4.ensures.value ∙ own) at added))
 
 pub emit_test-code_words-requires-in-Either : goal.emit_test-code_words-requires-in-Either
 emit_test-code_words-requires-in-Either t c =
@@ -169,8 +173,8 @@ emit_test-returns-in_ok-emit_test-in-Either-2-clause-code t c =
     let own = rw (c.new-behind-in-Either.ensures.items, c.deref-in-Either.ensures) at c.in_ok-emit_test-in-Either.ensures.code in
     let further = c.code_words-in-Either.ensures ∙ ap size (c.deref-in-Either-2.ensures.value ∙ own) in
     let tested = rw (c.deref-in-Either-3.ensures, further, c.words_if-in-Either.ensures) at c.in_ok-emit_test-in-Either-2.ensures.code in
-    let added = on_ok_items c.extend_from_slice-in-Either.result c.extend_from_slice-in-Either.ensures.items in
-    rw is (behind c.extend_from_slice-in-Either.result tested (rw (c.deref-in-Either-4.ensures.value ∙ own) at added))
+    let added = on_ok_items c.extend_from_slice-in-Either.result _ _ _ c.extend_from_slice-in-Either.ensures.items in
+    rw is (behind c.extend_from_slice-in-Either.result _ _ _ _ _ tested (rw (c.deref-in-Either-4.ensures.value ∙ own) at added))
 
 pub emit_loop-code_words-over-requires : goal.emit_loop-code_words-over-requires
 emit_loop-code_words-over-requires t c =
@@ -212,8 +216,14 @@ emit_loop-returns-then-from-own-clause-code t c =
     let turned = rw (c.deref-then-from-own.ensures.value ∙ own) at c.in_ok-extend_from_slice.ensures.items in
     let over = c.code_words-over.ensures ∙ ap size (c.deref-then-from-own-2.ensures.value ∙ own) in
     let r = c.emit_jump_back.result in
+    let pushes = flushed c.args.waiting.now.items in
+    let start = number_code c.args.own.local c.args.from in
+    let turn = block_code (c.args.own ∷ c.args.bounds.now) (steps_of c.args.body.now) ++ turn_end c.args.own.local c.args.own.below in
+    let back = jump_back condition.NotEqual condition.Equal (size turn) in
     rw (lt-ltb c.args.from c.args.own.below c.if-from-own.true)
-    (behind r c.in_ok-emit_all.ensures.code (behind r c.in_ok-emit_number.ensures (behind r turned (rw over at c.emit_jump_back.ensures))))
+    (behind r c.args.code.now.items _ _ pushes (start ++ (turn ++ back)) c.in_ok-emit_all.ensures.code
+    (behind r c.emit_all.new.code.items _ _ start (turn ++ back) c.in_ok-emit_number.ensures
+    (behind r c.emit_number.new.code.items _ _ turn back turned (rw over at c.emit_jump_back.ensures))))
 
 pub emit_step-code_words-requires : goal.emit_step-code_words-requires
 emit_step-code_words-requires t c =
@@ -282,11 +292,14 @@ emit_step-returns-in_ok-extend_from_slice-in-Choose-clause-code t c =
     let further = c.code_words-in-Choose.ensures ∙ ap size (c.deref-in-Choose-3.ensures.value ∙ first) in
     let tested = rw further at c.in_ok-emit_test-in-Choose.ensures.code in
     let added = rw (c.deref-in-Choose-4.ensures.value ∙ first) at c.in_ok-extend_from_slice-in-Choose.ensures.items in
-    let ended = on_ok_items r c.extend_from_slice-in-Choose.ensures.items in
-    rw is (behind r c.in_ok-emit_all-in-Choose.ensures.code
-    (behind r tested (behind r added (rw (c.deref-in-Choose-5.ensures.value ∙ other) at ended))))
+    let ended = rw (c.deref-in-Choose-5.ensures.value ∙ other) at (on_ok_items r _ _ _ c.extend_from_slice-in-Choose.ensures.items) in
+    let pushes = flushed c.args.waiting.now.items in
+    let last = block_code bs (steps_of of.otherwise.items) in
+    let passed = block_code bs (steps_of of.taken.items) ++ pass_over (size last) in
+    let test = test_code bs (test_of of.test) false (size passed) in
+    rw is (behind r c.args.code.now.items _ _ pushes (test ++ (passed ++ last)) c.in_ok-emit_all-in-Choose.ensures.code
+    (behind r c.emit_all.new.code.items _ _ test (passed ++ last) tested (behind r c.emit_test.new.code.items _ _ passed last added ended)))
 
 pub emit_loop-returns-clause-code : goal.emit_loop-returns-clause-code
 emit_loop-returns-clause-code t c =
-    let pushes = c.in_ok-emit_all.ensures.code in
-    rw (le-ltb c.args.from c.args.own.below c.if-from-own.false) (rw append-nil (c.in_ok-emit_number.ensures ∙ rw pushes (search rules)))
+    rw (le-ltb c.args.from c.args.own.below c.if-from-own.false) (rw (c.in_ok-emit_all.ensures.code, append_assoc) at c.in_ok-emit_number.ensures)
