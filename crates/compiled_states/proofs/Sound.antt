@@ -1,6 +1,6 @@
 -- A state that keeps the rules is a sound world; and a sound world within its capacities, as a state of the map, keeps the rules.
 use Rattle.compiled_states.proofs.Names.{place_words, list_words, copies_words, word_in, words_from, runtime_of, entries_of, is_entry, words_of, are_entries}
-use Rattle.compiled_states.proofs.Names.{is_pending, is_base, are_at_most, are_versions, is_list, keeps, fits_fram, Entry, parts_in_fram, words_stand, MapValue}
+use Rattle.compiled_states.proofs.Names.{is_pending, is_base, are_at_most, are_versions, is_list, fits_fram, Entry, parts_in_fram, words_stand, MapValue}
 use Rattle.compiled_states.proofs.Names.{fram_of, World, program_places, PartsInFram, word_place, end_of, CurrentTask, NextTask, Gate, ListLength, EmitCount}
 use Rattle.compiled_states.proofs.Names.{Base, SentBase, Version, RuntimeWord, CopyPair, listed, ProgramPlaces, IsSharedWord, IsCopyWord, IsAmong, IsAtRest}
 use Rattle.compiled_states.proofs.Names.{IsPendingCommit, IsSound, SoundAtRest, SoundPending, VersionsWithin, ap, length, refl, sym, ◌∙◌, subst, arith, All}
@@ -8,6 +8,7 @@ use Rattle.compiled_states.proofs.Names.{◌≡◌, ◌⊎◌, inl, inr, ℕ, ze
 use Rattle.compiled_states.proofs.Names.{not, List, le-leb, lt-ltb, eq-eqb, ne_eqb, and_from, or_left, or_right, leb-true, ltb-true, eqb-true, and_parts}
 use Rattle.compiled_states.proofs.Names.{or_cases, list_all, nat_le, nat_lt}
 use Rattle.fram_state.specs.Sound as state
+use Rattle.fram_state.specs.Sound.{keeps}
 use Rattle.fram_state.specs.declared.fault.Rule.TheVariants as rule
 use Rattle.fram_state.specs.declared.fault.Rule.{Rule}
 use Rattle.fram_state.specs.declared.runtime.Runtime.{Runtime}

@@ -35,7 +35,7 @@ module _ (text : List ℕ) (image : ImageValue) (of : IsImageOf text image) wher
   pub source_map : IsSourceMap text p allow l
   source_map = made text p allow image ok c
 
-  same_tasks : length (map_of text p l allow).tasks ≡ length p.tasks
+  pub same_tasks : length (map_of text p l allow).tasks ≡ length p.tasks
   same_tasks = sym (length-map (map_of text p l allow).tasks (λ t. t.name)) ∙ ap length source_map.of_source.tasks ∙ length-map p.tasks _
 
   abbrev pub mapped : Mapped

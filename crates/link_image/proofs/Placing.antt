@@ -1,10 +1,11 @@
 -- Words that are put into an image.
 use Rattle.link_image.proofs.Names.{◌≡◌, ◌≢◌, ◌∙◌, ◌+◌, ◌-◌, ◌*◌, ◌/◌, ◌%◌, ◌<◌, ◌≤◌, ◌==◌, ◌&&◌, ℕ, zero, suc, Bool, true, false, cond, if◌then◌else◌, List}
 use Rattle.link_image.proofs.Names.{[], ◌∷◌, map, drop, length, replicate, refl, sym, ap, subst, arith, eqb-true, slice_index, slice_set, get_or}
-use Rattle.link_image.proofs.Names.{get_or-set_same, get_or-set_other, at_drop_more, SharedDeclaration, place_of, zeros, IsFram, fram_of, initial_words}
+use Rattle.link_image.proofs.Names.{get_or-set_same, get_or-set_other, at_drop_more, SharedDeclaration, place_of, IsFram, fram_of, initial_words}
 use Rattle.link_image.proofs.Names.{fram_first, reset_vector, OneWord, TwoWords, Scalar, Array, MemoryMap, end_of, home_region, AreInOrder, IsLaidOut}
 use Rattle.link_image.proofs.Names.{in_order_end, parts_in_fram, is_within, word_of_row, shared_word, AreWords, All-nil, All-cons}
 use Rattle.task_ast.specs.declared.Extent.TheVariants as extent
+use Rattle.image_text.specs.ImageValue.{zeros}
 use Rattle.std.proofs.lemmas.Bool.Decides.{nat_tests}
 use Rattle.machine_effects.proofs.Interface.{zeros_at}
 use Rattle.task_ast.specs.declared.Extent.{Extent}
