@@ -14,7 +14,7 @@ pub use Rattle.memory_map.specs.Places.{AreInOrder, IsLaidOut, end_of, home_regi
 pub use Rattle.memory_map.specs.declared.place.ScalarWidth.TheVariants.{OneWord, TwoWords}
 pub use Rattle.memory_map.specs.declared.place.VariablePlace.TheVariants.{Array, Scalar}
 -- traces and images
-pub use Rattle.image_text.specs.ImageValue.{place_of, zeros}
+pub use Rattle.image_text.specs.ImageValue.{place_of}
 -- the board
 pub use Rattle.machine_effects.specs.Machine.{IsFram, fram_of}
 pub use Rattle.code_forms.specs.Placed.{instructions, words_of}
