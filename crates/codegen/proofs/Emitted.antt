@@ -1,5 +1,6 @@
 -- Code that is appended piece by piece.
-use Rattle.codegen.proofs.Names.{◌≡◌, ℕ, zero, suc, ◌+◌, ◌-◌, ◌<◌, ◌≤◌, List, [], ◌∷◌, ◌++◌, length, drop, get_or, sym, ap, ◌∙◌, arith, append_assoc, drop-cons, refl}
+use Rattle.codegen.proofs.Names.{◌≡◌, ℕ, zero, suc, ◌+◌, ◌-◌, ◌<◌, ◌≤◌, List, [], ◌∷◌, ◌++◌, length, drop, get_or, sym, ap, ◌∙◌, arith, append_assoc}
+use Rattle.codegen.proofs.Names.{drop-cons, refl}
 use Rattle.codegen.proofs.Names.{Some, ◌==◌, add-one, rules, subst, Bool, true, false, if◌then◌else◌, Result, Ok, Err, is_ok, test_code, test_words, remove}
 use Rattle.codegen.proofs.Names.{slice_index_or, on_ok_weaker, Condition, Source, Form, Push, Jump, forms_bytes-append, times_code}
 use Rattle.codegen.proofs.Names.{Comparison, PlainOperation, ArrayPlace, ListPlace, Step, Test, Program}

@@ -1,6 +1,7 @@
 -- The names that the proofs here share, from the rooms below.
 -- std
-pub use Rattle.std.proofs.Common.{◌≡◌, ℕ, zero, ◌+◌, ◌*◌, ◌<◌, ◌==◌, not, List, [], ◌∷◌, ◌++◌, refl, sym, ap, ◌∙◌, subst, arith, Bool, true, false, ◌≤◌, if◌then◌else◌}
+pub use Rattle.std.proofs.Common.{◌≡◌, ℕ, zero, ◌+◌, ◌*◌, ◌<◌, ◌==◌, not, List, [], ◌∷◌, ◌++◌, refl, sym, ap, ◌∙◌, subst, arith, Bool, true, false, ◌≤◌}
+pub use Rattle.std.proofs.Common.{if◌then◌else◌}
 pub use Rattle.std.proofs.Common.{Some, ap₂, suc, ◌-◌, length, drop, get_or, append_assoc, drop-cons, add-one, rules, Result, Ok, Err, is_ok, append-nil}
 pub use Rattle.std.proofs.Common.{Option, lt-ltb, le-ltb, max}
 pub use Rattle.std.proofs.lemmas.Result.{on_ok_weaker}
@@ -22,7 +23,8 @@ pub use Rattle.word_code.specs.array_versions.declared.operations.ShiftOperation
 pub use Rattle.word_code.specs.array_versions.declared.program.ArrayPlace.{ArrayPlace}
 pub use Rattle.word_code.specs.array_versions.declared.program.ListPlace.{ListPlace}
 -- this room's own definitions
-pub use Rattle.word_code.specs.Code.{times_code, number_source, check_code, zero_code, fetch_code, element_code, emit_code, entry_code, compare_form, holding, failing}
+pub use Rattle.word_code.specs.Code.{times_code, number_source, check_code, zero_code, fetch_code, element_code, emit_code, entry_code, compare_form, holding}
+pub use Rattle.word_code.specs.Code.{failing}
 pub use Rattle.word_code.specs.Code.{decision, waiting_source, flushed, top_of, below_top, repeated, size, waiting_behind, step_code, steps_code}
 pub use Rattle.word_code.specs.Code.{local_address, local_target, source_from, cleared, kept, four_from, top_number, element_at, stays, sides, right_source}
 pub use Rattle.word_code.specs.Code.{five_from, top_to_four, top_to_five, two_to_registers, unary_middle, binary_middle, plain_instruction, double, halve}

@@ -47,7 +47,8 @@ emit_test-returns-in_ok-emit_steps-in-Compares-clause-code t c =
     let same = c.deref-in-Compares.ensures.value in
     let first = rw (none, same) at c.in_ok-emit_steps-in-Compares.ensures.code in
     let after = rw (none, same) at c.in_ok-emit_steps-in-Compares.ensures.waiting in
-    rw (ap test_of c.in-Compares.is ∙ test_of-compares c.in-Compares.comparison c.in-Compares.steps) (behind c.emit_compares.result _ _ _ _ _ first (rw after at c.emit_compares.ensures))
+    rw (ap test_of c.in-Compares.is ∙ test_of-compares c.in-Compares.comparison c.in-Compares.steps)
+    (behind c.emit_compares.result _ _ _ _ _ first (rw after at c.emit_compares.ensures))
 
 pub emit_truth-returns-clause-code : goal.emit_truth-returns-clause-code
 emit_truth-returns-clause-code t c =
@@ -161,7 +162,16 @@ emit_test-emit_test-requires-in-Either-2 t c =
     let first = ap (λ x. test_words (test_of x)) c.deref-in-Either-3.ensures in (
       search (rules, word_step.the_lemmas),
       (
-        omega (arith, few, first, ap test_words is, c.requires.room, c.code_words-in-Either.ensures, c.words_if-in-Either.ensures, words_at_most c.args.when c.args.over),
+        omega (
+          arith,
+          few,
+          first,
+          ap test_words is,
+          c.requires.room,
+          c.code_words-in-Either.ensures,
+          c.words_if-in-Either.ensures,
+          words_at_most c.args.when c.args.over,
+        ),
         subst (λ x. TestLocalsBelow 1016 (test_of x)) (sym c.deref-in-Either-3.ensures) (subst (TestLocalsBelow 1016) is c.requires.locals).0,
       ),
     )
