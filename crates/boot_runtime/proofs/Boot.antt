@@ -1,5 +1,6 @@
 -- The boot and the start of an attempt.
-use Rattle.std.proofs.Common.{◌≡◌, ◌≢◌, ℕ, ◌+◌, ◌*◌, ◌%◌, ◌<◌, ◌==◌, Bool, not, if◌then◌else◌, List, [], ◌∷◌, ◌++◌, length, map, refl, sym, ap, ◌∙◌, subst, arith, true, false}
+use Rattle.std.proofs.Common.{◌≡◌, ◌≢◌, ℕ, ◌+◌, ◌*◌, ◌%◌, ◌<◌, ◌==◌, Bool, not, if◌then◌else◌, List, [], ◌∷◌, ◌++◌, length, map}
+use Rattle.std.proofs.Common.{refl, sym, ap, ◌∙◌, subst, arith, true, false}
 use Rattle.std.proofs.lemmas.Bool.Decides.{nat_tests}
 use Rattle.std.proofs.lemmas.List.{length-map}
 use Rattle.std.proofs.lemmas.List.Elements.{All-get_or}
@@ -48,8 +49,8 @@ module _ (code : Code) (m : MemoryMap) (commit : ℕ) (tasks : List TaskEntry) (
       → Comes code [] 2 6 u (IsAt (if not b then at + 10 else at + 6) fram inputs)
   looked {b} flag here =
       let room = boot.room in
-      compares code boot.tidy One (word_place m Gate) at (Branch commit ∷ []) (boot.places.words Gate) (boot.stands.0, (boot.stands.1.0, tt)) (omega (arith, room))
-      b fram inputs u flag here
+      compares code boot.tidy One (word_place m Gate) at (Branch commit ∷ []) (boot.places.words Gate) (boot.stands.0, (boot.stands.1.0, tt))
+      (omega (arith, room)) b fram inputs u flag here
 
   -- from the boot on to the commit, or past it
   commits : u.pc ≡ at → ((fram (word_place m Gate) + 65534 + 1) % 65536 == 0) ≡ true → Comes code [] 3 9 u (IsAt commit fram inputs)

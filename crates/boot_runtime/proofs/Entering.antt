@@ -56,7 +56,7 @@ copies_done code tidy (x ∷ xs) f l ok p u h at =
     let s = core_at p f l u in
     let next : Core = record s { pc = p + 6; fram = g } in
     from_there u (record { pc = at.pc; fram = at.fram; inputs = at.inputs }) (recounted (omega arith) (omega arith) (so_ends
-    (then_on (form_comes code tidy (Move (Fram x.home) (ToFram x.copy)) s next (Store x.copy (f x.home) ∷ []) 6 (λ v. v ≡ next) h.0 (words.home, words.copy) refl
-    refl)
+    (then_on (form_comes code tidy (Move (Fram x.home) (ToFram x.copy)) s next (Store x.copy (f x.home) ∷ []) 6 (λ v. v ≡ next) h.0
+    (words.home, words.copy) refl refl)
     (copies_done code tidy xs g l (All-tail ArePairWords x xs ok) (p + 6) next h.1 (record { pc = refl; sp = at.sp; fram = refl; inputs = refl })))
     (λ v k. record { pc = k.pc ∙ omega arith; sp = k.sp; fram = k.fram; inputs = k.inputs })))

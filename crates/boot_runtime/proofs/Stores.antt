@@ -56,7 +56,8 @@ start_stores P m privates f versions version length count copies =
 pub start_stores_in_fram : StartStoresInFram
 start_stores_in_fram m privates f places words =
     let left : (i : ℕ) → i < m.versions.words → IsPlace (m.versions.address + 2 * i) = λ i l.
-    first_left places.versions (left_from (2 * i) 2 (all_left (2 * m.versions.words) places.versions (omega arith)) (omega arith) (omega (arith, l))) (omega arith) in
+    let all = all_left (2 * m.versions.words) places.versions (omega arith) in
+    first_left places.versions (left_from (2 * i) 2 all (omega arith) (omega (arith, l))) (omega arith) in
     start_stores (λ a w. IsPlace a) m privates f left (λ w. places.words Version) (places.words ListLength) (places.words EmitCount)
     (All-weaker ArePairWords (λ x. (w : ℕ) → IsPlace x.copy) (λ x h w. h.copy) (privates (f (word_place m CurrentTask))) words)
 

@@ -1,5 +1,6 @@
 -- The commit's code makes the commit.
-use Rattle.std.proofs.Common.{◌≡◌, ℕ, zero, suc, ◌+◌, ◌*◌, ◌/◌, ◌%◌, ◌<◌, ◌≤◌, List, [], ◌∷◌, ◌++◌, length, length-append, refl, sym, ap, ◌∙◌, subst, arith, true}
+use Rattle.std.proofs.Common.{◌≡◌, ℕ, zero, suc, ◌+◌, ◌*◌, ◌/◌, ◌%◌, ◌<◌, ◌≤◌, List, [], ◌∷◌, ◌++◌, length, length-append}
+use Rattle.std.proofs.Common.{refl, sym, ap, ◌∙◌, subst, arith, true}
 use Rattle.std.specs.List.{All}
 use Rattle.std.proofs.lemmas.List.Elements.{All-same}
 use Rattle.runtime_code.specs.msp_isa.declared.instructions.Condition.TheVariants.{Always}
@@ -79,21 +80,23 @@ module _ (code : Code) (tidy : IsTidy code) (m : MemoryMap) (places : AreInFram 
         let third : q + 2 + 2 ≡ q + 4 = omega arith in
         let all : es ++ homes n to ≡ homes (suc n) x = ap (λ ys. es ++ copied_home ys to.memory) same ∙ sym (copied_behind run rest f) in
         let words = forms_at code p 6 5 (copy_loop m) stands in
+        let home = first_left places.list r.entries (omega arith) in
+        let copy = first_left places.list (left_from 2 4 r.entries refl (omega arith)) (omega arith) in
+        let count = subst IsPlace (sym third) (first_left places.list (left_from 4 2 r.entries refl (omega arith)) (omega arith)) in
+        let reads : Comes code [] 3 6 s (λ v. v ≡ read) =
+        straight code tidy entry_begin s (tt, (tt, (tt, tt))) (stands_front code (p + 8) entry_begin word_loop (turn_there code tidy copies_loop))
+        ((home, tt), ((copy, tt), ((count, tt), tt))) refl in
+        let at_count : Core = record read { pc = p + 22 } in
+        let begins : Comes code [] 1 2 read (λ v. v ≡ at_count) =
+        jumps code tidy Always (forms_bytes word_moved / 2) (p + 22) (p + 16) true read (ap code (omega arith) ∙ words.0) (omega arith) (omega arith) refl in
         record {
           to = to;
           effects = es;
           steps = 3 + (1 + (2 + k * 4));
           cycles = 6 + (2 + (3 + k * 9));
-          comes = then_on (straight code tidy entry_begin s (tt, (tt, (tt, tt))) (stands_front code (p + 8) entry_begin word_loop (turn_there code tidy copies_loop)) (
-            (first_left places.list r.entries (omega arith), tt),
-            (
-              (first_left places.list (left_from 2 4 r.entries refl (omega arith)) (omega arith), tt),
-              ((subst IsPlace (sym third) (first_left places.list (left_from 4 2 r.entries refl (omega arith)) (omega arith)), tt), tt),
-            ),
-          ) refl)
-              (then_on (jumps code tidy Always (forms_bytes word_moved / 2) (p + 22) (p + 16) true read (ap code (omega arith) ∙ words.0) (omega arith) (omega arith) refl)
-              (so_ends (words_home code tidy m (p + 14) (omega (arith, high)) words k (f q) (f (q + 2)) f l (record read { pc = p + 22 })
-              (omega (arith, few, long, both)) (record { pc = omega arith; fram = refl; inputs = refl }) (ap f third) refl refl here)
+          comes = then_on reads (then_on begins (so_ends
+              (words_home code tidy m (p + 14) (omega (arith, high)) words k (f q) (f (q + 2)) f l at_count (omega (arith, few, long, both))
+              (record { pc = omega arith; fram = refl; inputs = refl }) (ap f third) refl refl here)
               (λ v h. record {
                 at = record { pc = h.at.pc ∙ omega arith; fram = h.at.fram; inputs = h.at.inputs };
                 left = h.entries_left;
@@ -171,8 +174,8 @@ module _ (code : Code) (tidy : IsTidy code) (m : MemoryMap) (places : AreInFram 
       let Sent : List Effect → ℕ → ℕ → Core → Type 0 = λ es b n v.
       Comes code es (2 + (2 + if_any n 1 + 5 * n)) (6 + (3 + if_any n 2 + 13 * n)) v (BehindSends (p + 34 + 30) ((b + n) % 0x10000) g l) in
       let sent : (v : Core) → IsAt (p + 4 + 30) g l v → Sent (emits_sent m f) base k v = λ v j.
-      subst (λ es. Sent es base k v) same (subst (λ n. Sent (emits_sent m g) base n v) en (subst (λ b. Sent (emits_sent m g) b (g (word_place m EmitCount)) v) sb
-      (sends_are_made code tidy m places (p + 34) g l v (omega (arith, high)) (forms_at code p 14 10 (commit_forms m start) h) (omega (arith, en, few))
+      subst (λ es. Sent es base k v) same (subst (λ n. Sent (emits_sent m g) base n v) en
+      (subst (λ b. Sent (emits_sent m g) b (g (word_place m EmitCount)) v) sb (sends_are_made code tidy m places (p + 34) g l v (omega (arith, high)) (forms_at code p 14 10 (commit_forms m start) h) (omega (arith, en, few))
       (omega (arith, sb, word)) (record { pc = j.pc ∙ omega arith; fram = j.fram; inputs = j.inputs })))) in
       let ls = commit_closed m f in
       let closed : (v : Core) → BehindSends (p + 34 + 30) ((base + k) % 0x10000) g l v → Comes code ls 4 17 v (IsAt start (fram_after ls g) l) = λ v j.
@@ -181,7 +184,8 @@ module _ (code : Code) (tidy : IsTidy code) (m : MemoryMap) (places : AreInFram 
       (close_part (p + 64) start ((base + k) % 0x10000) g l v even (forms_behind code p 24 (commit_forms m start) h)
       (subst (λ x. BehindSends x ((base + k) % 0x10000) g l v) there j)) in
       let all : fram_after ls g ≡ fram_after (commit_effects m f) f =
-      sym (fram_after-append cs (emits_sent m f ++ ls) f ∙ fram_after-append (emits_sent m f) ls g ∙ ap (fram_after ls) (sends_keep k base m.emits.address f g)) in
+      sym (fram_after-append cs (emits_sent m f ++ ls) f ∙ fram_after-append (emits_sent m f) ls g
+      ∙ ap (fram_after ls) (sends_keep k base m.emits.address f g)) in
       recounted (omega arith) (omega arith)
       (so_ends (comes_on (copy_part p f l u (omega (arith, high)) (h.0, tt) (forms_at code p 1 13 (commit_forms m start) h) can at)
       (λ v j. comes_on (sent v j) closed)) (λ v j. record { pc = j.pc; fram = j.fram ∙ all; inputs = j.inputs }))

@@ -303,7 +303,8 @@ module _ {St : Type 0} (given : Setting St) where
     chose =
         let k = with_effects c.before h in
         let z : k.world.fram m.marks.gate ≡ 0 = laws.undecided_gate s (world_after c.before h.world) (holds_end (m.Undecided s) c.before h.world c.undecided) in
-        observe-append m.marks c.before (Store m.marks.gate 1 ∷ []) h ∙ ap (observe_one m.marks (Store m.marks.gate 1)) (observe_quiet m.marks c.before h c.elsewhere)
+        observe-append m.marks c.before (Store m.marks.gate 1 ∷ []) h
+        ∙ ap (observe_one m.marks (Store m.marks.gate 1)) (observe_quiet m.marks c.before h c.elsewhere)
         ∙ observe_decide m.marks k z
 
     gate_world : world_after to_gate h.world ≡ at_gate.world

@@ -62,11 +62,13 @@ observe_quiet marks [] h q = none_seen h
 observe_quiet marks (e ∷ es) h q = ap (observe marks es) (observe_one_quiet marks e h q.0) ∙ observe_quiet marks es (with_effect e h) q.1 ∙ joined e es h
 
 -- the store of 0 to a GATE of 1
-pub observe_done : (marks : Marks) (h : History) → h.world.fram marks.gate ≡ 1 → observe_one marks (Store marks.gate 0) h ≡ behind_done (with_effect (Store marks.gate 0) h)
+pub observe_done : (marks : Marks) (h : History) → h.world.fram marks.gate ≡ 1
+    → observe_one marks (Store marks.gate 0) h ≡ behind_done (with_effect (Store marks.gate 0) h)
 observe_done marks h e = ap₂ (λ b n. behind_gate b n (with_effect (Store marks.gate 0) h)) e (put_same h.world.fram marks.gate 0)
 
 -- the store of 1 to a GATE of 0
-pub observe_decide : (marks : Marks) (h : History) → h.world.fram marks.gate ≡ 0 → observe_one marks (Store marks.gate 1) h ≡ behind_decide (with_effect (Store marks.gate 1) h)
+pub observe_decide : (marks : Marks) (h : History) → h.world.fram marks.gate ≡ 0
+    → observe_one marks (Store marks.gate 1) h ≡ behind_decide (with_effect (Store marks.gate 1) h)
 observe_decide marks h e = ap₂ (λ b n. behind_gate b n (with_effect (Store marks.gate 1) h)) e (put_same h.world.fram marks.gate 1)
 
 -- dones are never taken back

@@ -346,7 +346,8 @@ module _ {St : Type 0} (given : Setting St) (c : Program) (code : ProgramLaws gi
     attempt_from_stores true s x inputs ws u k =
         let rec : List Effect = m.recover x.fram in
         each_store-append P rec (m.attempt (fram_after rec x.fram) inputs).effects (scripts.recoveries s x u)
-        (subst (λ f. EachStore P (m.attempt f inputs).effects) (world_fram rec x) (scripts.attempts s (world_after rec x) inputs ws (laws.recovers s x u).settled))
+        (subst (λ f. EachStore P (m.attempt f inputs).effects) (world_fram rec x)
+        (scripts.attempts s (world_after rec x) inputs ws (laws.recovers s x u).settled))
 
     script_stores : (h : History) → AtPoint h → EachStore P (script_there h).effects
     script_stores h p =

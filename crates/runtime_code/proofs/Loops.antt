@@ -119,7 +119,8 @@ module _ (code : Code) (tidy : IsTidy code) (loop : Loop code) where
   turn_there = stands_front code (p + 8) turn (loop_end (back_to_turn turn)) turn_stands
 
   count_there : Stands code (p + (8 + bytes)) (loop_end (back_to_turn turn))
-  count_there = subst (λ x. Stands code x (loop_end (back_to_turn turn))) (omega arith) (stands_back code (p + 8) turn (loop_end (back_to_turn turn)) turn_stands)
+  count_there =
+      subst (λ x. Stands code x (loop_end (back_to_turn turn))) (omega arith) (stands_back code (p + 8) turn (loop_end (back_to_turn turn)) turn_stands)
 
   -- the state behind the comparison of R4 with 0
   abbrev tested : Core → Core
