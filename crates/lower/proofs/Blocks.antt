@@ -3,7 +3,7 @@ use Rattle.lower.proofs.Names.{◌≡◌, ℕ, zero, suc, ◌+◌, ◌-◌, ◌*
 use Rattle.lower.proofs.Names.{sym, ap, ◌∙◌, subst, arith, if◌then◌else◌, le_refl, ⊎_elim, cases_lt, Store, put, CheckedExpression, CheckedStatement}
 use Rattle.lower.proofs.Names.{CheckedChoice, CheckedBlock, PlacedOperator, Variable, Shared, Local, CheckedTask, Evaluated, word_at, with_word, converted}
 use Rattle.lower.proofs.Names.{value_of, holds, Outcome, to_task, if_value, with_value, run_statement, run_choice, run_block, statement_emits, choice_emits}
-use Rattle.lower.proofs.Names.{block_emits, statement_count, choice_count, block_count, is_shared, is_store_to, more_turns, IsOneWord, WordType}
+use Rattle.lower.proofs.Names.{step, block_emits, statement_count, choice_count, block_count, is_shared, is_store_to, more_turns, IsOneWord, WordType}
 use Rattle.lower.proofs.Names.{Unsigned, Int, Long, runs_go_on_along_paths, PlainOperation, plain_word, stacked, Program, keep, emit_word, versioned_write}
 use Rattle.lower.proofs.Names.{versioned_update, choose, repeat, nothing, joined, WordState, Behaviour, then_on, local_updated, is_place, at_place, stored}
 use Rattle.lower.proofs.Names.{with_local, word_emitted, pushed, way_by_top, tested, behaviour, with_stack, step_behaviour, joined_go_on, joined_assoc}
@@ -70,25 +70,25 @@ module _ (z : Scene) where
   }
 
   -- a word of a shared scalar is set, and what is done behind that with the stack below
-  word_kept_then : (i j a : ℕ) {n : ℕ} {count : ℕ → ℕ} (here : Start z n count) (v : ℕ) (below : List ℕ) (next : WordState → Behaviour) (o : Outcome)
-      → a ≡ scalar_address z.p i j → (is : IsScalarWord z.p i j) → z.written i ≡ true
+  word_kept_then : (i j : ℕ) {n : ℕ} {count : ℕ → ℕ} (here : Start z n count) (v : ℕ) (below : List ℕ) (next : WordState → Behaviour) (o : Outcome)
+      → (is : IsScalarWord z.p i j) → z.written i ≡ true
       → DoesFrom (word_set i j here v is) (next (with_stack below (stored (scalar_address z.p i j) v here.w))) o
-      → DoesFrom here (then_on (step_behaviour (keep a) (with_stack (v ∷ below) here.w)) next) o
-  word_kept_then i j a here v below next o e is ok h =
+      → DoesFrom here (then_on (step_behaviour (keep (scalar_address z.p i j)) (with_stack (v ∷ below) here.w)) next) o
+  word_kept_then i j here v below next o is ok h =
       let at = scalar_address z.p i j in
       let u : WordState = with_stack below (stored at v here.w) in
       let b = next u in
-      subst (λ c. DoesFrom here (then_on (step_behaviour (keep c) (with_stack (v ∷ below) here.w)) next) o) (sym e)
-      (subst (λ r. DoesFrom here (then_on r next) o)
+      subst (λ r. DoesFrom here (then_on r next) o)
       (sym (placed at (words.goes_on (Store at v ∷ []) u) (spot_place z.p z.room (scalar i j) z.apart z.even is)))
-      (ends_behind z here.w.fram u.fram here.most here.w.stack (Store at v ∷ []) b.effects b.end o refl (at_variable i j is ok refl, tt) h))
+      (ends_behind z here.w.fram u.fram here.most here.w.stack (Store at v ∷ []) b.effects b.end o refl (at_variable i j is ok refl, tt) h)
 
   word_kept_does : (i j a : ℕ) {n : ℕ} {count : ℕ → ℕ} (here : Start z n count) (v : ℕ)
       → a ≡ scalar_address z.p i j → IsScalarWord z.p i j → z.written i ≡ true
       → DoesFrom here (behaviour (one (keep a)) (pushed v here.w)) (goes_on (source.assigned here.m (Shared i) j v))
   word_kept_does i j a here v e is ok =
       let after = word_set i j here v is in
-      word_kept_then i j a here v here.w.stack (behaviour nothing) (goes_on after.m) e is ok (nothing_does after)
+      subst (λ c. DoesFrom here (behaviour (one (keep c)) (pushed v here.w)) (goes_on after.m)) (sym e)
+      (word_kept_then i j here v here.w.stack (behaviour nothing) (goes_on after.m) is ok (nothing_does after))
 
   -- a local is set, and what is known else stays
   local_stands : {n : ℕ} {count : ℕ → ℕ} (i k : ℕ) → i < 256 → (here : Start z n count)
@@ -144,8 +144,9 @@ module _ (z : Scene) where
       let last = goes_on (source.assigned behind.m (Shared i) 0 low) in
       subst (λ x. DoesFrom here (behaviour (write_long z.p (Shared i)) (pushed high (pushed low here.w))) (goes_on (record here.m { variables = x })))
       (words_commute here.m.variables i high low)
-      (word_kept_then i 1 (high_address a) here high (low ∷ here.w.stack) (behaviour (one (keep a))) last (high_is z.p z.room i z.apart k.0) k.0 k.1
-      (word_kept_does i 0 a behind low (sym (first_address z.p i)) first k.1))
+      (subst (λ c. DoesFrom here (behaviour (step (keep c) (one (keep a))) (pushed high (pushed low here.w))) last) (sym (high_is z.p z.room i z.apart k.0))
+      (word_kept_then i 1 here high (low ∷ here.w.stack) (behaviour (one (keep a))) last k.0 k.1
+      (word_kept_does i 0 a behind low (sym (first_address z.p i)) first k.1)))
 
   -- so many stores to the elements of one variable
   abbrev one_store : Variable → ℕ → ℕ
