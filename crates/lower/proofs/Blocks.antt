@@ -10,7 +10,7 @@ use Rattle.lower.proofs.Names.{with_local, word_emitted, pushed, way_by_top, tes
 use Rattle.lower.proofs.Names.{decided_by_truth, update_step, write_long, setting, long_setting, updating, of_words, sides_set, scalar_assignment}
 use Rattle.lower.proofs.Names.{lowered_long, one, write_step, written_array, list_place, store_step, update_element_step, loop_local, assignment}
 use Rattle.lower.proofs.Names.{index_and_value, element_setting, element_updating, element_sides_set, element_assignment, lowered_transition}
-use Rattle.lower.proofs.Names.{lowered_expression, lowered_test, lowered_statement, lowered_choice, lowered_block, lowered_task, lowered_tasks, high_address}
+use Rattle.lower.proofs.Names.{lowered_expression, lowered_test, lowered_statement, lowered_choice, lowered_block, lowered_task, lowered_tasks}
 use Rattle.lower.proofs.Names.{listed_of, IsLocal, WellFormedExpression, WellFormedStatement, WellFormedChoice, WellFormedBlock, local_word}
 use Rattle.lower.proofs.Names.{assignment_writes, store_writes, loop_writes, taken_writes, passed_writes, first_writes, others_write, statement_sum}
 use Rattle.lower.proofs.Names.{choice_sum, block_sum, summary, IsWrittenArray, StandsFor, Scene, at_variable, at_emit_count, in_buffer, converted_to}
