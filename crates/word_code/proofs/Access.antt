@@ -1,6 +1,6 @@
 -- Elements of arrays, emits, and entries of the commit list.
 use Rattle.word_code.proofs.Names.{◌≡◌, ℕ, ◌+◌, ◌*◌, ◌%◌, ◌<◌, ◌==◌, not, List, [], ◌∷◌, ◌++◌, refl, sym, ap, ◌∙◌, subst, arith, Bool, true, false, ◌≤◌, nat_lt}
-use Rattle.word_code.proofs.Names.{nat_le, if◌then◌else◌, both_ways, nat_tests, word_sum, sum16, distance, Store, put, IsFram, R4, R5, Core, Number, Constant}
+use Rattle.word_code.proofs.Names.{nat_le, if◌then◌else◌, both_ways, nat_tests, word_sum, sum16, distance, Effect, Store, put, IsFram, R4, R5, Core, Number, Constant}
 use Rattle.word_code.proofs.Names.{ToRegister, ToIndexed, Form, Move, Calculate, Update, form_bytes, Stands, forms_bytes, Runs, stands_front, stands_back}
 use Rattle.word_code.proofs.Names.{forms_bytes-append, WordState, is_place, stored, word_emitted, entry_stored, number_source, check_code, zero_code}
 use Rattle.word_code.proofs.Names.{fetch_code, element_code, emit_code, pair_code, entry_code}
@@ -14,9 +14,14 @@ use Rattle.word_code.proofs.Memory.{place_is, address_small}
 use Rattle.word_code.proofs.Follows.{StandsFor, Follows, ends_at, guarded}
 use Rattle.word_code.proofs.ListParts.{sixfold, six_times, at_offset, plus_none}
 use Rattle.word_code.proofs.Jumps.{near_distance}
+use Rattle.word_code.proofs.Routes.{on, free, route, store_route, starts}
 
-twice : (n : ℕ) → n + n < 0x10000 → (n + n + 0) % 0x10000 ≡ n + n
-twice n h = omega arith
+-- twice an index, as the code has it, and the word of an element there
+pub twice : (n base : ℕ) → 2 * n + base < 0x10000 → (n + n + 0) % 0x10000 ≡ 2 * n
+twice n base h = omega arith
+
+pub doubled_fits : (i base : ℕ) → IsFram (2 * i + base) → IsFram ((i + i + 0) % 0x10000 + base)
+doubled_fits i base f = subst (λ k. IsFram (k + base)) (sym (twice i base (address_small f))) f
 
 is_one : (n : ℕ) → (n == 1) ≡ true → 1 ≡ n
 is_one n e = grind (arith, nat_tests)
@@ -101,13 +106,8 @@ module _ (z : Setting) where
   fetch_part : (base pc i : ℕ) (w : WordState) (t : Core) → IsFram (2 * i + base) → Stands z.code pc (fetch_code base) → Has z R4 pc w i t
       → Runs z.code [] 4 t (Has z R4 (pc + 6) w (w.fram (2 * i + base)))
   fetch_part base pc i w t f h k =
-      let a = 2 * i + base in
-      let fh = f.high in
-      let small : (i + i + 0) % 0x10000 ≡ 2 * i = omega arith in
-      let ms = fetch_code base in
-      let q : (t.work 4 + t.work 4 + 0) % 0x10000 ≡ 2 * i = ap (λ v. (v + v + 0) % 0x10000) k.held ∙ small in
-      line z ms 4 (pc + 6) _ k.is (tt, (tt, tt)) h ((tt, tt), ((subst (λ v. IsFram (v + base)) (sym q) f, tt), tt)) refl refl (omega (arith, k.is.at))
-      (λ s. record { is = s; held = ap (λ v. t.fram (v + base)) q ∙ ap (λ y. y a) k.is.fram })
+      route z pc (fetch_code base) h 0 (starts z k.is) (k.held, refl, refl, refl) (on 2 ∷ []) 4 _ (_, ((tt, tt), ((doubled_fits i base f, tt), tt)), (refl, tt))
+      refl refl (λ s. record { is = s; held = ap (λ v. w.fram (v + base)) (twice i base (address_small f)) })
 
   -- R4 holds an index of an array of so many words
   pub record Indexed (size pc i : ℕ) (w : WordState) (t : Core) : Type 0 where
@@ -143,100 +143,92 @@ module _ (z : Setting) where
   pub emit_part : (count buffer pc v : ℕ) (w : WordState) (u : Core) → Stands z.code pc (emit_code count buffer) → Has z R5 pc w v u
       → Follows z (pc + 18) 14 u (word_emitted count buffer v w)
   emit_part count buffer pc v w u h k =
-      let i = k.is in
       let n = w.fram count in
-      let ms = emit_code count buffer in
       let end = pc + 18 in
       guarded z (is_place count) end 14 u _ (λ g1.
       guarded z (is_place (2 * n + buffer)) end 14 u _ (λ g2.
       let f1 = place_is count g1 in
       let f2 = place_is (2 * n + buffer) g2 in
-      let fh = f2.high in
-      let un : u.fram count ≡ n = ap (λ f. f count) i.fram in
-      let at : (u.fram count + u.fram count + 0) % 0x10000 + buffer ≡ 2 * n + buffer = omega (arith, un) in
-      let up : (u.fram count + 1 + 0) % 0x10000 ≡ n + 1 = omega (arith, un) in
-      store_line z ms (Store (2 * n + buffer) v ∷ Store count (n + 1) ∷ []) (put (put w.fram (2 * n + buffer) v) count (n + 1)) 14 end _ i
-      (tt, (tt, (tt, (tt, (tt, (tt, tt)))))) h ((f1, tt), ((tt, tt), ((tt, tt), ((tt, subst IsFram (sym at) f2), ((tt, tt), ((tt, f1), tt)))))) refl refl
-      (omega (arith, i.at)) (λ e. Store (at e) (k.held e) ∷ Store count (up e) ∷ []) (λ e. put (put (i.fram e) (at e) (k.held e)) count (up e)) (λ s. s)))
+      let high = address_small f2 in
+      let at = ap (λ q. q + buffer) (twice n buffer high) in
+      let up : (n + 1 + 0) % 0x10000 ≡ n + 1 = omega (arith, high) in
+      store_route z pc (emit_code count buffer) h 0 (starts z k.is) (refl, k.held, refl, refl) (on 6 ∷ []) (Store (2 * n + buffer) v ∷ Store count (n + 1) ∷ [])
+      (put (put w.fram (2 * n + buffer) v) count (n + 1)) 14 _
+      (_, ((f1, tt), ((tt, tt), ((tt, tt), ((tt, doubled_fits n buffer f2), ((tt, tt), ((tt, f1), tt)))))), (refl, tt)) refl refl
+      (λ e. Store (at e) v ∷ Store count (up e) ∷ []) (λ e. put (put w.fram (at e) v) count (up e)) (λ s. s)))
 
-  -- R4 holds an offset in the list, in front of the words of an entry and the count
-  module _ (count list home copy words : ℕ) (w : WordState) where
+  -- an entry behind the others, then the count
+  module _ (count list home copy words pc : ℕ) (w : WordState) (u : Core) (i : StandsFor z pc w u) (fc : IsFram count) (f1 : IsFram (6 * w.fram count + list))
+      (f2 : IsFram (6 * w.fram count + list + 2)) (f4 : IsFram (6 * w.fram count + list + 4)) where
     abbrev at : ℕ
     at = 6 * w.fram count + list
 
-    abbrev both : WordState
-    both = stored (at + 2) copy (stored at home w)
-
     abbrev three : WordState
-    three = stored (at + 4) words both
+    three = stored (at + 4) words (stored (at + 2) copy (stored at home w))
 
     abbrev counted : ℕ
     counted = (three.fram count + 1) % 0x10000
 
-    -- home and copy
-    pair_part : (pc : ℕ) (u : Core) → IsFram count → IsFram at → IsFram (at + 2) → Stands z.code pc (pair_code count list home copy) → StandsFor z pc w u
-        → Runs z.code (Store at home ∷ Store (at + 2) copy ∷ []) 17 u (Has z R4 (pc + 24) both (6 * w.fram count))
-    pair_part pc u fc f1 f2 h i =
-        let n = w.fram count in
-        let ms = pair_code count list home copy in
-        let small = f1.high in
-        let four : sixfold (u.fram count) ≡ 6 * n = ap (λ f. sixfold (f count)) i.fram ∙ six_times n (omega (arith, small)) in
-        let first : sixfold (u.fram count) + list ≡ at = ap (λ k. k + list) four in
-        let second : sixfold (u.fram count) + word_sum list 2 ≡ at + 2 = ap (λ k. k + word_sum list 2) four ∙ at_offset (6 * n) list 2 (address_small f2) in
-        store_line z ms (Store at home ∷ Store (at + 2) copy ∷ []) both.fram 17 (pc + 24) _ i (tt, (tt, (tt, (tt, (tt, (tt, (tt, tt))))))) h
-        ((fc, tt), ((tt, tt), ((tt, tt), ((tt, tt), ((tt, tt), ((tt, subst IsFram (sym first) f1), ((tt, subst IsFram (sym second) f2), tt))))))) refl refl
-        (omega (arith, i.at)) (λ e. Store (first e) home ∷ Store (second e) copy ∷ []) (λ e. put (put (i.fram e) (first e) home) (second e) copy)
-        (λ s. record { is = s; held = four })
+    abbrev entry : List Effect
+    entry = Store at home ∷ Store (at + 2) copy ∷ Store (at + 4) words ∷ Store count counted ∷ []
 
-    -- the words
-    words_part : (b : Bool) (pc : ℕ) (t : Core) → (words == 1) ≡ b → IsFram (at + 4)
-        → (let m = Move (if b then Constant konst.One else Number words) (ToIndexed R4 (word_sum list 4)) in Stands z.code pc (m ∷ [])
-        → Has z R4 pc both (6 * w.fram count) t → Runs z.code (Store (at + 4) words ∷ []) 5 t (StandsFor z (pc + form_bytes m) three))
-    words_part true pc t e f h j =
-        let one : 1 ≡ words = is_one words e in
-        let there : t.work 4 + word_sum list 4 ≡ at + 4 = ap (λ k. k + word_sum list 4) j.held ∙ at_offset (6 * w.fram count) list 4 (address_small f) in
-        dearer z (omega arith) (store_line z (Move (Constant konst.One) (ToIndexed R4 (word_sum list 4)) ∷ []) (Store (at + 4) words ∷ []) three.fram 4 (pc + 4)
-        (StandsFor z (pc + 4) three) j.is (tt, tt) h ((tt, subst IsFram (sym there) f), tt) refl refl (omega (arith, j.is.at))
-        (λ k. Store (there k) (one k) ∷ []) (λ k. put (j.is.fram k) (there k) (one k)) (λ s. s))
-    words_part false pc t e f h j =
-        let there : t.work 4 + word_sum list 4 ≡ at + 4 = ap (λ k. k + word_sum list 4) j.held ∙ at_offset (6 * w.fram count) list 4 (address_small f) in
-        store_line z (Move (Number words) (ToIndexed R4 (word_sum list 4)) ∷ []) (Store (at + 4) words ∷ []) three.fram 5 (pc + 6) _ j.is (tt, tt) h
-        ((tt, subst IsFram (sym there) f), tt) refl refl (omega (arith, j.is.at)) (λ k. Store (there k) words ∷ [])
-        (λ k. put (j.is.fram k) (there k) words) (λ s. s)
+    abbrev code_by : Bool → List Form
+    code_by b =
+        pair_code count list home copy
+        ++ (Move (if b then Constant konst.One else Number words) (ToIndexed R4 (word_sum list 4)) ∷ Update op.Add (Constant konst.One) count ∷ [])
 
-    -- the count
-    count_part : (pc : ℕ) (t : Core) → IsFram count → Stands z.code pc (Update op.Add (Constant konst.One) count ∷ []) → StandsFor z pc three t
-        → Runs z.code (Store count counted ∷ []) 4 t (StandsFor z (pc + 4) (stored count counted three))
-    count_part pc t f h i =
-        let up : (t.fram count + 1 + 0) % 0x10000 ≡ counted = ap (λ g. (g count + 1 + 0) % 0x10000) i.fram ∙ plus_none (three.fram count) 1 in
-        store_line z (Update op.Add (Constant konst.One) count ∷ []) (Store count counted ∷ []) (put three.fram count counted) 4 (pc + 4) _ i (tt, tt) h
-        ((tt, refl, tt, f), tt) refl refl (omega (arith, i.at)) (λ k. Store count (up k) ∷ []) (λ k. put (i.fram k) count (up k)) (λ s. s)
+    -- R4's word is an offset in the list
+    abbrev offset : ℕ
+    offset = sixfold (w.fram count)
 
-    -- by whether the entry has one word
-    entry_by : (b : Bool) (pc : ℕ) (u : Core) → (words == 1) ≡ b → (let m = Move (if b then Constant konst.One else Number words)
-        (ToIndexed R4 (word_sum list 4)) in Stands z.code pc (pair_code count list home copy ++ (m ∷ Update op.Add (Constant konst.One) count ∷ []))
-        → StandsFor z pc w u → Follows z (pc + 24 + form_bytes m + 4) 26 u (entry_stored count list home copy words w))
-    entry_by b pc u e h i =
-        let m = Move (if b then Constant konst.One else Number words) (ToIndexed R4 (word_sum list 4)) in
-        let end = pc + 24 + form_bytes m + 4 in
-        let last = Update op.Add (Constant konst.One) count ∷ [] in
-        let front = stands_front z.code pc (pair_code count list home copy) (m ∷ last) h in
-        let back : Stands z.code (pc + 24) (m ∷ last) = stands_back z.code pc (pair_code count list home copy) (m ∷ last) h in
-        guarded z (is_place count) end 26 u _ (λ g1. guarded z (is_place at) end 26 u _ (λ g2. guarded z (is_place (at + 2)) end 26 u _ (λ g3.
-        guarded z (is_place (at + 4)) end 26 u _ (λ g4.
-        let fc = place_is count g1 in
-        runs_on z
-        (pair_part pc u fc (place_is at g2) (place_is (at + 2) g3) front i) (λ t j.
-        runs_on z (words_part b (pc + 24) t e (place_is (at + 4) g4) (back.0, tt) j) (λ t j.
-        count_part (pc + 24 + form_bytes m) t fc back.1 j))))))
+    offset_is : offset ≡ 6 * w.fram count
+    offset_is = let high = address_small f1 in six_times (w.fram count) (omega (arith, high))
+
+    first : offset + list ≡ at
+    first = ap (λ k. k + list) offset_is
+
+    second : offset + word_sum list 2 ≡ at + 2
+    second = ap (λ k. k + word_sum list 2) offset_is ∙ at_offset (6 * w.fram count) list 2 (address_small f2)
+
+    third : offset + word_sum list 4 ≡ at + 4
+    third = ap (λ k. k + word_sum list 4) offset_is ∙ at_offset (6 * w.fram count) list 4 (address_small f4)
+
+    abbrev made : ℕ → ℕ → ℕ
+    made x = put (put (put w.fram (offset + list) home) (offset + word_sum list 2) copy) (offset + word_sum list 4) x
+
+    made_is : (x : ℕ) → x ≡ words → made x ≡ three.fram
+    made_is x e = λ k. put (put (put w.fram (first k) home) (second k) copy) (third k) (e k)
+
+    count_is : (x : ℕ) → x ≡ words → (made x count + 1 + 0) % 0x10000 ≡ counted
+    count_is x e = ap (λ (f : ℕ → ℕ). (f count + 1 + 0) % 0x10000) (made_is x e) ∙ plus_none (three.fram count) 1
+
+    effects_are : (x : ℕ) → x ≡ words → Store (offset + list) home ∷ Store (offset + word_sum list 2) copy ∷ Store (offset + word_sum list 4) x
+        ∷ Store count ((made x count + 1 + 0) % 0x10000) ∷ [] ≡ entry
+    effects_are x e = λ k. Store (first k) home ∷ Store (second k) copy ∷ Store (third k) (e k) ∷ Store count (count_is x e k) ∷ []
+
+    fram_is : (x : ℕ) → x ≡ words → put (made x) count ((made x count + 1 + 0) % 0x10000) ≡ (stored count counted three).fram
+    fram_is x e = λ k. put (made_is x e k) count (count_is x e k)
+
+    -- by whether it has one word
+    entry_by : (b : Bool) → (words == 1) ≡ b → Stands z.code pc (code_by b)
+        → Runs z.code entry 26 u (StandsFor z (pc + forms_bytes (code_by b)) (stored count counted three))
+    entry_by true e h =
+        let g1 = subst IsFram (sym first) f1 in let g2 = subst IsFram (sym second) f2 in let g4 = subst IsFram (sym third) f4 in
+        dearer z (omega arith)
+        (store_route z pc (code_by true) h 0 (starts z i) (refl, refl, refl, refl) (on 5 ∷ on 4 ∷ []) entry (stored count counted three).fram 25 _
+        (_, ((fc, tt), free 4), (refl, (_, ((tt, g1), ((tt, g2), ((tt, g4), ((tt, refl, tt, fc), tt)))), (refl, tt)))) refl refl
+        (effects_are 1 (is_one words e)) (fram_is 1 (is_one words e)) (λ s. s))
+    entry_by false e h =
+        let g1 = subst IsFram (sym first) f1 in let g2 = subst IsFram (sym second) f2 in let g4 = subst IsFram (sym third) f4 in
+        store_route z pc (code_by false) h 0 (starts z i) (refl, refl, refl, refl) (on 5 ∷ on 4 ∷ []) entry (stored count counted three).fram 26 _
+        (_, ((fc, tt), free 4), (refl, (_, ((tt, g1), ((tt, g2), ((tt, g4), ((tt, refl, tt, fc), tt)))), (refl, tt)))) refl refl
+        (effects_are words refl) (fram_is words refl) (λ s. s)
 
   pub entry_part : (count list home copy words pc : ℕ) (w : WordState) (u : Core) → Stands z.code pc (entry_code count list home copy words)
       → StandsFor z pc w u → Follows z (pc + forms_bytes (entry_code count list home copy words)) 26 u (entry_stored count list home copy words w)
   entry_part count list home copy words pc w u h i =
-      ends_at z _ (pc + forms_bytes (entry_code count list home copy words)) 26 u (entry_stored count list home copy words w) (by (words == 1))
-      (entry_by count list home copy words w (words == 1) pc u refl h i)
-    where
-      by : (b : Bool) → (let m = Move (if b then Constant konst.One else Number words) (ToIndexed R4 (word_sum list 4)) in
-          pc + 24 + form_bytes m + 4 ≡ pc + forms_bytes (pair_code count list home copy ++ (m ∷ Update op.Add (Constant konst.One) count ∷ [])))
-      by true = omega arith
-      by false = omega arith
+      let at = 6 * w.fram count + list in
+      let end = pc + forms_bytes (entry_code count list home copy words) in
+      guarded z (is_place count) end 26 u _ (λ gc. guarded z (is_place at) end 26 u _ (λ g1. guarded z (is_place (at + 2)) end 26 u _ (λ g2.
+      guarded z (is_place (at + 4)) end 26 u _ (λ g4.
+      entry_by count list home copy words pc w u i (place_is count gc) (place_is at g1) (place_is (at + 2) g2) (place_is (at + 4) g4) (words == 1) refl h))))

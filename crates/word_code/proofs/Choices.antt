@@ -4,7 +4,7 @@ use Rattle.word_code.proofs.Names.{Option, Waiting, right_source, stays, Source,
 use Rattle.word_code.proofs.Names.{to_register, source_operand, TwoOp, IsNotMov, writes_destination, ◌≤◌, form_bytes, ◌≡◌, ℕ, ◌+◌, ◌*◌, ◌%◌, ◌<◌, ◌==◌, not, []}
 use Rattle.word_code.proofs.Names.{◌∷◌, Some, refl, sym, ap, ap₂, ◌∙◌, subst, arith, Bool, true, false, if◌then◌else◌, not-not, Flags, Word, Condition, is_met}
 use Rattle.word_code.proofs.Names.{R4, Core, Constant, Form, Calculate, instruction_of, Stands, forms_bytes, Runs, Comparison, Above, SignedAbove, CommonBit}
-use Rattle.word_code.proofs.Names.{is_true, compare_words, WordState, Behaviour, compare_form, holding, failing, jump_over, decision}
+use Rattle.word_code.proofs.Names.{List, ◌++◌, stands_back, forms_bytes-append, is_true, compare_words, WordState, Behaviour, compare_form, holding, failing, jump_over, decision}
 use Rattle.word_code.proofs.Middles.{IsRead, calculate}
 use Rattle.word_code.proofs.Follows.{stands_elsewhere, StandsFor, Follows, then_end}
 use Rattle.word_code.proofs.Registers.{Holds, Has, line, equal_flag}
@@ -43,39 +43,47 @@ fork_either true d n holds_at fails_at middle l k = record { holds = omega (arit
 fork_either false d n holds_at fails_at middle l k = record { holds = omega (arith, k.holds); fails = refl; room = λ h. omega (arith, l h) }
 
 module _ (z : Setting) where
-  -- a decision's jump stands here, and leads to the one way or the other
-  pub record Deciding (when : Bool) (pc d holds_at fails_at : ℕ) (met opposite : Condition) : Type 0 where
-    pub stands : Stands z.code pc (decision when d met opposite)
-    pub fork : Fork when d holds_at fails_at (pc + forms_bytes (decision when d met opposite))
-    pub low : pc < 0x10000
+  -- code that ends with a jump to the one way or the other stands here
+  pub record Forked (when : Bool) (d pc : ℕ) (all : List Form) (held failed : ℕ) : Type 0 where
+    pub stands : Stands z.code pc all
+    pub fork : Fork when d held failed (pc + forms_bytes all)
 
-  decision_part : (when b : Bool) (pc d holds_at fails_at : ℕ) (met opposite : Condition) (w : WordState) (t : Core)
-      → Deciding when pc d holds_at fails_at met opposite → Decided z pc w b met opposite t
-      → Runs z.code [] 5 t (StandsFor z (if b then holds_at else fails_at) w)
-  decision_part true true pc d holds_at fails_at met opposite w t k i =
-      let low = stands_low z pc (jump_over met opposite d) k.stands k.low in
-      over_part z true pc d holds_at met opposite w t k.stands k.fork.holds (omega (arith, k.fork.room low, k.fork.holds)) i
-  decision_part true false pc d holds_at fails_at met opposite w t k i =
-      let low = stands_low z pc (jump_over met opposite d) k.stands k.low in
-      over_part z false pc d fails_at met opposite w t k.stands k.fork.fails (omega (arith, low, k.fork.fails)) i
-  decision_part false true pc d holds_at fails_at met opposite w t k i =
-      let low = stands_low z pc (jump_over opposite met d) k.stands k.low in
-      over_part z false pc d holds_at opposite met w t k.stands k.fork.holds (omega (arith, low, k.fork.holds))
-      (record { is = i.is; holds = i.fails; fails = i.holds })
-  decision_part false false pc d holds_at fails_at met opposite w t k i =
-      let low = stands_low z pc (jump_over opposite met d) k.stands k.low in
-      over_part z true pc d fails_at opposite met w t k.stands k.fork.fails (omega (arith, k.fork.room low, k.fork.fails))
-      (record { is = i.is; holds = i.fails; fails = i.holds })
+  -- the code behind its first part
+  pub forked_behind : (when : Bool) (d pc : ℕ) (a last : List Form) (held failed : ℕ) → Forked when d pc (a ++ last) held failed
+      → Forked when d (pc + forms_bytes a) last held failed
+  forked_behind when d pc a last held failed k =
+      let same : pc + forms_bytes (a ++ last) ≡ pc + forms_bytes a + forms_bytes last = omega (arith, forms_bytes-append a last) in
+      record { stands = stands_back z.code pc a last k.stands; fork = subst (Fork when d held failed) same k.fork }
+
+  -- the jump alone
+  module _ (w : WordState) (t : Core) where
+    decision_part : (when b : Bool) (pc d held failed : ℕ) (met opposite : Condition) → Forked when d pc (decision when d met opposite) held failed
+        → pc < 0x10000 → Decided z pc w b met opposite t → Runs z.code [] 5 t (StandsFor z (if b then held else failed) w)
+    decision_part true true pc d held failed met opposite k l i =
+        let low = stands_low z pc (jump_over met opposite d) k.stands l in
+        over_part z true pc d held met opposite w t k.stands k.fork.holds (omega (arith, k.fork.room low, k.fork.holds)) i
+    decision_part true false pc d held failed met opposite k l i =
+        let low = stands_low z pc (jump_over met opposite d) k.stands l in
+        over_part z false pc d failed met opposite w t k.stands k.fork.fails (omega (arith, low, k.fork.fails)) i
+    decision_part false true pc d held failed met opposite k l i =
+        let low = stands_low z pc (jump_over opposite met d) k.stands l in
+        over_part z false pc d held opposite met w t k.stands k.fork.holds (omega (arith, low, k.fork.holds))
+        (record { is = i.is; holds = i.fails; fails = i.holds })
+    decision_part false false pc d held failed met opposite k l i =
+        let low = stands_low z pc (jump_over opposite met d) k.stands l in
+        over_part z true pc d failed opposite met w t k.stands k.fork.fails (omega (arith, k.fork.room low, k.fork.fails))
+        (record { is = i.is; holds = i.fails; fails = i.holds })
 
   -- the code that follows where it is decided, and the way that is taken
-  module _ {when : Bool} {pc d holds_at fails_at : ℕ} {met opposite : Condition} (k : Deciding when pc d holds_at fails_at met opposite) where
+  module _ {when : Bool} {pc d held failed : ℕ} {met opposite : Condition} (k : Forked when d pc (decision when d met opposite) held failed)
+      (low : pc < 0x10000) where
     pub decided_follows : (b : Bool) (n end m o : ℕ) (w : WordState) (u : Core) (x y : Behaviour) → Runs z.code [] n u (Decided z pc w b met opposite)
-        → ((t : Core) → StandsFor z holds_at w t → Follows z end m t x) → ((t : Core) → StandsFor z fails_at w t → Follows z end o t y)
+        → ((t : Core) → StandsFor z held w t → Follows z end m t x) → ((t : Core) → StandsFor z failed w t → Follows z end o t y)
         → Follows z end (n + 5 + (if b then m else o)) u (if b then x else y)
     decided_follows true n end m o w u x y r f g =
-        then_end z end m x.effects x.end (runs_on z r (λ t i. decision_part when true pc d holds_at fails_at met opposite w t k i)) f
+        then_end z end m x.effects x.end (runs_on z r (λ t i. decision_part w t when true pc d held failed met opposite k low i)) f
     decided_follows false n end m o w u x y r f g =
-        then_end z end o y.effects y.end (runs_on z r (λ t i. decision_part when false pc d holds_at fails_at met opposite w t k i)) g
+        then_end z end o y.effects y.end (runs_on z r (λ t i. decision_part w t when false pc d held failed met opposite k low i)) g
 
   -- ---- whether the top isn't 0
 

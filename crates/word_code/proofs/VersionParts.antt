@@ -10,19 +10,12 @@ use Rattle.word_code.proofs.Registers.{HasSides, Holds, Has, HasTwo, jump_with, 
 use Rattle.word_code.proofs.Stretches.{Setting, runs_on, dearer, so_runs}
 use Rattle.word_code.proofs.Follows.{Follows, more_cycles, then_end, ends_at, guarded}
 use Rattle.word_code.proofs.Jumps.{stands_low}
-use Rattle.word_code.proofs.Access.{check_part, within, beyond, within_stands, zero_stands, checked_end, checked_past, checked_within, over_zero}
+use Rattle.word_code.proofs.Access.{twice, doubled_fits, check_part, within, beyond, within_stands, zero_stands, checked_end, checked_past, checked_within, over_zero}
 use Rattle.word_code.proofs.ListParts.{first_follows}
 use Rattle.word_code.proofs.Routes.{on, jump, route, store_route, starts}
 
-twice : (n base : ℕ) → 2 * n + base < 0x10000 → (n + n + 0) % 0x10000 ≡ 2 * n
-twice n base h = omega arith
-
--- a word of an element at twice an index, as the code has that
-doubled_fits : (i base : ℕ) → IsFram (2 * i + base) → IsFram ((i + i + 0) % 0x10000 + base)
-doubled_fits i base f = subst (λ k. IsFram (k + base)) (sym (twice i base (address_small f))) f
-
 -- whether the version word is the attempt's number, as the code has it
-marked : (f : ℕ → ℕ) (ver versions i : ℕ) {b : Bool} → HoldsWords f → 2 * i + versions < 0x10000 → (f ver == f (2 * i + versions)) ≡ b
+pub marked : (f : ℕ → ℕ) (ver versions i : ℕ) {b : Bool} → HoldsWords f → 2 * i + versions < 0x10000 → (f ver == f (2 * i + versions)) ≡ b
     → ((f ver + (0xFFFF - f ((i + i + 0) % 0x10000 + versions)) + 1) % 0x10000 == 0) ≡ b
 marked f ver versions i words high e =
     ap (λ k. (f ver + (0xFFFF - f (k + versions)) + 1) % 0x10000 == 0) (twice i versions high)

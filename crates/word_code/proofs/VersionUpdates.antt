@@ -14,13 +14,14 @@ use Rattle.word_code.specs.declared.waiting.Waiting.TheVariants as waiting
 use Rattle.word_code.proofs.Memory.{HoldsWords, AreWords, place_is, address_small}
 use Rattle.word_code.proofs.Results.{StepDoes, alone_behind, Does}
 use Rattle.word_code.proofs.Sides.{Aiming, GivesOn, Aims, reading_cycles, reading_price, writing_price, side_owed, update_sides_part, right_part, is_read}
-use Rattle.word_code.proofs.VersionParts.{HasNumber, Versioned}
+use Rattle.word_code.proofs.VersionParts.{HasNumber, Versioned, marked}
 use Rattle.word_code.proofs.Registers.{Holds, Has, Flagged, IsZero, IsCarry, line, store_line, jump_with, jump_to, equal_flag, no_borrow}
 use Rattle.word_code.proofs.Operands.{owed, load_owed, Describes, bare, drop_part}
 use Rattle.word_code.proofs.Stretches.{Setting, hop, runs_on, dearer, so_runs}
 use Rattle.word_code.proofs.Follows.{StandsFor, Follows, more_cycles, then_end, ends_at, guarded, stands_elsewhere}
 use Rattle.word_code.proofs.Jumps.{whole_size, near_distance, stands_low}
-use Rattle.word_code.proofs.Access.{le_of_lt}
+use Rattle.word_code.proofs.Access.{le_of_lt, twice, doubled_fits}
+use Rattle.word_code.proofs.Routes.{on, route, starts}
 use Rattle.word_code.proofs.Middles.{makes, plain_step, plain_needs}
 use Rattle.word_code.proofs.LoopBounds.{Bounded, under_inside}
 use Rattle.word_code.proofs.ListParts.{first_follows}
@@ -31,9 +32,6 @@ lands : (pc : ℕ) (ms : List Form) → size ms ≤ 511 → pc + 2 + forms_bytes
 lands pc ms l low = ap (λ d. sum16 (pc + 2) d) (near_distance (size ms) l) ∙ omega (arith, low, whole_size ms)
 
 -- ---- addresses
-
-doubled : (i base : ℕ) → 2 * i + base < 0x10000 → (i + i + 0) % 0x10000 ≡ 2 * i
-doubled i base h = omega arith
 
 -- where the word of an element at a number that is known stands
 known_place : (k base : ℕ) → 2 * k + base < 0x10000 → word_sum base (word_sum k k) ≡ 2 * k + base
@@ -92,16 +90,9 @@ module _ (z : Setting) (o : PlainOperation) (x : Source) (r : ℕ) (reads : sour
       let last = Move (Register R7) (ToIndexed R4 place.copies) ∷ [] in
       let mid = pc + 4 + form_bytes m in
       let there : mid + 4 ≡ pc + forms_bytes (made_code o x from place.copies) = omega arith in
-      let fetched : Runs z.code [] 3 t (Holds z (Fetched w (2 * i) v (w.fram a)) (pc + 4) w) =
-      line z fetch 3 (pc + 4) _ k.is (tt, tt) (h.0, tt) ((subst (λ q. IsFram (q + from)) (sym k.held.four) ff, tt), tt) refl refl (omega (arith, k.is.at))
-      (λ s. record {
-        is = s;
-        held =
-            record {
-              aims = record { four = k.held.four; gives = k.held.gives };
-              seven = ap (λ q. t.fram (q + from)) k.held.four ∙ ap (λ f. f a) k.is.fram;
-            };
-      }) in
+      let fetched = route z pc fetch (h.0, tt) 0 (starts z k.is) (k.held.four, refl, refl, refl) (on 1 ∷ []) 3 (Holds z (Fetched w (2 * i) v (w.fram a)) (pc + 4) w)
+      (_, ((ff, tt), tt), (refl, tt)) refl refl
+      (λ s. record { is = s; held = record { aims = record { four = refl; gives = k.held.gives }; seven = refl } }) in
       let kept : (u : Core) → Holds z (Made (2 * i) y) mid w u → Runs z.code (Store c y ∷ []) 4 u (Has z R4 (mid + 4) (stored c y w) (2 * i)) =
       λ u j.
       let at : u.work 4 + place.copies ≡ c = ap (λ q. q + place.copies) j.held.four in
@@ -196,15 +187,12 @@ module _ (z : Setting) (o : PlainOperation) (x : Source) (r : ℕ) (reads : sour
   look_part : (pc i v : ℕ) (w : WordState) (t : Core) → HoldsWords w.fram → IsFram list.ver → IsFram (2 * i + place.versions) → Stands z.code pc looking
       → Aims z x pc w i v t → Runs z.code [] 7 t (Looked (pc + 10) w (2 * i) v (w.fram list.ver == w.fram (2 * i + place.versions)))
   look_part pc i v w t wl fv fm h k =
-      let m = 2 * i + place.versions in
-      let d : (t.work 4 + t.work 4 + 0) % 0x10000 ≡ 2 * i = ap (λ q. (q + q + 0) % 0x10000) k.held.four ∙ doubled i place.versions (address_small fm) in
-      line z looking 7 (pc + 10) _ k.is (tt, (tt, (tt, tt))) h
-      ((tt, tt), ((fv, tt), ((tt, subst (λ q. IsFram (q + place.versions)) (sym d) fm), tt))) refl refl (omega (arith, k.is.at))
+      let high = address_small fm in
+      route z pc looking h 0 (starts z k.is) (k.held.four, refl, refl, refl) (on 3 ∷ []) 7 _
+      (_, ((tt, tt), ((fv, tt), ((tt, doubled_fits i place.versions fm), tt))), (refl, tt)) refl refl
       (λ s. record {
-        all = record { is = s; held = record { four = d; gives = k.held.gives } };
-        flag = ap₂ (λ p q. (p + (0xFFFF - q) + 1) % 0x10000 == 0) (ap (λ f. f list.ver) k.is.fram)
-            (ap (λ q. t.fram (q + place.versions)) d ∙ ap (λ f. f m) k.is.fram)
-            ∙ equal_flag (w.fram list.ver) (w.fram m) (wl list.ver) (wl m);
+        all = record { is = s; held = record { four = twice i place.versions high; gives = k.held.gives } };
+        flag = marked w.fram list.ver place.versions i wl high refl;
       })
 
   module _ (pc : ℕ) (h : Stands z.code pc (inside_update o x place list)) (i v : ℕ) (w : WordState) (t : Core) (wl : HoldsWords w.fram)

@@ -31,7 +31,7 @@ use Rattle.word_code.proofs.Locals.{program_below, program_least, HasStack, stac
 use Rattle.word_code.proofs.Follows.{StandsFor, Follows, FollowsEnd, OnGoesOn, more_cycles, then_hop, ends_at, guarded, reach_more, reach_way, reaches}
 use Rattle.word_code.proofs.Follows.{then_end, then_follows, reach_guarded}
 use Rattle.word_code.proofs.Parts.{constant_part, store_part, move_part, jump_part}
-use Rattle.word_code.proofs.Choices.{Fork, fork_at, fork_turned, fork_both, fork_either, Deciding, decided_follows, zero_test, holds_part, compares_part}
+use Rattle.word_code.proofs.Choices.{Fork, fork_at, fork_turned, fork_both, fork_either, Forked, forked_behind, decided_follows, zero_test, holds_part, compares_part}
 use Rattle.word_code.proofs.Loops.{loop_by}
 use Rattle.word_code.proofs.Access.{entry_part}
 use Rattle.word_code.proofs.LoopBounds.{Bounded, Spared, spared_so, bounded_with, bounded_on, step_bounded}
@@ -95,6 +95,15 @@ record Known (words locals loops spared : Type 0) : Type 0 where
   count : loops
   spares : spared
 
+-- of one part, and of the other, where it is known of both
+known_first : {A B C D E F : Type 0} (S T : ℕ → Type 0) (bs : List Bound) → Known (A × B) (C × D) (E × F) (Spared bs (λ n. S n × T n)) → Known A C E (Spared bs S)
+known_first S T bs k =
+    record { of_words = k.of_words.0; below = k.below.0; count = k.count.0; spares = spared_so bs (λ n. S n × T n) S (λ n q. q.0) k.spares }
+
+known_second : {A B C D E F : Type 0} (S T : ℕ → Type 0) (bs : List Bound) → Known (A × B) (C × D) (E × F) (Spared bs (λ n. S n × T n)) → Known B D F (Spared bs T)
+known_second S T bs k =
+    record { of_words = k.of_words.1; below = k.below.1; count = k.count.1; spares = spared_so bs (λ n. S n × T n) T (λ n q. q.1) k.spares }
+
 module _ (z : Setting) where
   -- 1 is pushed, and the jump leads past the other number
   one_pushed : (pc : ℕ) (w : WordState) (u : Core) → Stands z.code pc truth_code → length w.stack < z.room → StandsFor z pc w u
@@ -122,20 +131,6 @@ module _ (z : Setting) where
     if_held : Continues bs end held
     if_failed : Continues bs end failed
 
-  -- code that ends with a jump to the one way or the other stands here
-  record Forked (when : Bool) (d pc : ℕ) (all : List Form) (held failed : ℕ) : Type 0 where
-    stands : Stands z.code pc all
-    fork : Fork when d held failed (pc + forms_bytes all)
-
-  -- the code behind its first part
-  forked_behind : (when : Bool) (d pc : ℕ) (a last : List Form) (held failed : ℕ) → Forked when d pc (a ++ last) held failed
-      → Forked when d (pc + forms_bytes a) last held failed
-  forked_behind when d pc a last held failed k =
-      record {
-        stands = stands_back z.code pc a last k.stands;
-        fork = fork_at when d held failed (pc + forms_bytes (a ++ last)) (pc + forms_bytes a + forms_bytes last) (omega (arith, forms_bytes-append a last)) k.fork;
-      }
-
   -- an instruction that asks words in registers, and the flags of its answer
   record Asking : Type 0 where
     form : Form
@@ -148,7 +143,7 @@ module _ (z : Setting) where
   module _ (bs : List Bound) (when : Bool) (d : ℕ) (ways : Ways bs) where
     -- words in registers, an instruction that asks them, and the jump by its answer
     module _ (front : List Form) (k : Asking) (pc : ℕ)
-        (s : Forked when d pc (front ++ (k.form ∷ decision when d k.met k.opposite)) ways.held.at ways.failed.at) where
+        (s : Forked z when d pc (front ++ (k.form ∷ decision when d k.met k.opposite)) ways.held.at ways.failed.at) where
       by_form : {l : ℕ} (P : ℕ → Core → Type 0) (most : ℕ) (t : WordState) (u : Core)
           → l + k.reads + 5 + (if k.answer then ways.held.cost t else ways.failed.cost t) ≤ most → Ready bs ways.held.fits t → Ready bs ways.failed.fits t
           → (let mid = pc + forms_bytes front in (Stands z.code pc front → Runs z.code [] l u (P mid))
@@ -159,21 +154,19 @@ module _ (z : Setting) where
           let last = decision when d k.met k.opposite in
           let mid = pc + forms_bytes front in
           let b : Behaviour = if k.answer then ways.held.does t else ways.failed.does t in
-          let back = forked_behind when d pc front (k.form ∷ last) ways.held.at ways.failed.at s in
+          let back = forked_behind z when d pc front (k.form ∷ last) ways.held.at ways.failed.at s in
           let high = (z.tidy mid _ back.stands.0).high in
           let behind : mid + forms_bytes (k.form ∷ last) ≡ mid + form_bytes k.form + forms_bytes last = omega arith in
-          let deciding : Deciding z when (mid + form_bytes k.form) d ways.held.at ways.failed.at k.met k.opposite = record {
-            stands = back.stands.1;
-            fork = fork_at when d ways.held.at ways.failed.at (mid + forms_bytes (k.form ∷ last)) (mid + form_bytes k.form + forms_bytes last) behind back.fork;
-            low = omega (arith, form_small k.form);
-          } in
+          let low : mid + form_bytes k.form < 0x10000 = omega (arith, form_small k.form, high) in
+          let jump : Forked z when d (mid + form_bytes k.form) last ways.held.at ways.failed.at =
+          record { stands = back.stands.1; fork = subst (Fork when d ways.held.at ways.failed.at) behind back.fork } in
           more_cycles z ways.end (l + k.reads + 5 + (if k.answer then ways.held.cost t else ways.failed.cost t)) most u b.effects b.end le
-          (decided_follows z deciding k.answer (l + k.reads) ways.end (ways.held.cost t) (ways.failed.cost t) t u (ways.held.does t) (ways.failed.does t)
+          (decided_follows z jump low k.answer (l + k.reads) ways.end (ways.held.cost t) (ways.failed.cost t) t u (ways.held.does t) (ways.failed.does t)
           (runs_on z (come (stands_front z.code pc front (k.form ∷ last) s.stands)) (λ q j. asks q back.stands.0 j))
           (λ x j. ways.if_held t x on j) (λ x j. ways.if_failed t x off j))
 
     by_top : (os : List Waiting) (pc : ℕ) (w : WordState) (u : Core) (vs : List ℕ)
-        → Forked when d pc (holds_code os when d) ways.held.at ways.failed.at → Ready bs (Moves z.room 1 0 (λ r. ways.held.fits r × ways.failed.fits r)) w
+        → Forked z when d pc (holds_code os when d) ways.held.at ways.failed.at → Ready bs (Moves z.room 1 0 (λ r. ways.held.fits r × ways.failed.fits r)) w
         → w.stack ≡ vs
         → Describes z os pc w u → Follows z ways.end (owed os + (8 + top_spent vs (λ v us. if is_true v then ways.held.cost (with_stack us w) else ways.failed.cost (with_stack us w)))) u
         (with_top vs (λ v us. if is_true v then ways.held.does (with_stack us w) else ways.failed.does (with_stack us w)))
@@ -194,7 +187,7 @@ module _ (z : Setting) where
         (λ q s j. holds_part z mid v t q words.0 s j)
 
     by_two : (os : List Waiting) (c : Comparison) (pc : ℕ) (w : WordState) (u : Core) (vs : List ℕ)
-        → Forked when d pc (compares_code os c when d) ways.held.at ways.failed.at
+        → Forked z when d pc (compares_code os c when d) ways.held.at ways.failed.at
         → Ready bs (Moves z.room 2 0 (λ r. ways.held.fits r × ways.failed.fits r)) w → w.stack ≡ vs
         → Describes z os pc w u → Follows z ways.end (owed os + (10 + top_spent vs
         (λ y xs. top_spent xs (λ x us. if compare_words c x y then ways.held.cost (with_stack us w) else ways.failed.cost (with_stack us w))))) u
@@ -401,7 +394,7 @@ module _ (z : Setting) where
 
     test_follows : (bs : List Bound) (t : Test) (when : Bool) (d pc : ℕ) (ways : Ways bs) (w : WordState) (u : Core)
         → Ready bs (EachTestWay z.room t ways.held.fits ways.failed.fits) w
-        → KnownTest bs t → Forked when d pc (test_code bs t when d) ways.held.at ways.failed.at → StandsFor z pc w u
+        → KnownTest bs t → Forked z when d pc (test_code bs t when d) ways.held.at ways.failed.at → StandsFor z pc w u
         → Follows z ways.end (test_spent t ways.held.cost ways.failed.cost w) u (tested t ways.held.does ways.failed.does w)
     test_follows bs (holds p) when d pc ways w u r known k i =
         let a = steps_code bs [] p in
@@ -412,7 +405,7 @@ module _ (z : Setting) where
         (steps_follow bs p next [] pc w u r known (stands_front z.code pc a last k.stands) (dressed z pc w u i))
         (ready_on bs next (behaviour p w).end (well z.room p next r.place w r.fit r.matches) (words p w known.of_words r.words_in)
         (bounded_on bs p w known.spares r.bounded))
-        (λ x v q j. by_top bs when d ways os (pc + forms_bytes a) v x v.stack (forked_behind when d pc a last ways.held.at ways.failed.at k) q refl j)
+        (λ x v q j. by_top bs when d ways os (pc + forms_bytes a) v x v.stack (forked_behind z when d pc a last ways.held.at ways.failed.at k) q refl j)
     test_follows bs (compares e p) when d pc ways w u r known k i =
         let a = steps_code bs [] p in
         let os = waiting_after [] p in
@@ -422,21 +415,19 @@ module _ (z : Setting) where
         (steps_follow bs p next [] pc w u r known (stands_front z.code pc a last k.stands) (dressed z pc w u i))
         (ready_on bs next (behaviour p w).end (well z.room p next r.place w r.fit r.matches) (words p w known.of_words r.words_in)
         (bounded_on bs p w known.spares r.bounded))
-        (λ x v q j. by_two bs when d ways os e (pc + forms_bytes a) v x v.stack (forked_behind when d pc a last ways.held.at ways.failed.at k) q refl j)
+        (λ x v q j. by_two bs when d ways os e (pc + forms_bytes a) v x v.stack (forked_behind z when d pc a last ways.held.at ways.failed.at k) q refl j)
     test_follows bs (both t e) when d pc ways w u r known k i =
         let second = test_code bs e when d in
         let first = test_code bs t false (size second + (if not when then d else 0)) in
         let middle = pc + forms_bytes first in
-        let back = forked_behind when d pc first second ways.held.at ways.failed.at k in
+        let back = forked_behind z when d pc first second ways.held.at ways.failed.at k in
         let counted = fork_at when d ways.held.at ways.failed.at (middle + forms_bytes second) (middle + 2 * size second) (omega (arith, whole_size second)) back.fork in
         let low : middle < 0x10000 → middle + 2 * size second < 0x10000 =
         λ less. omega (arith, stands_low z middle second back.stands less, whole_size second) in
         let cost = test_spent e ways.held.cost ways.failed.cost in
         let inner : Way = record { at = middle; fits = EachTestWay z.room e ways.held.fits ways.failed.fits; cost = cost; does = tested e ways.held.does ways.failed.does } in
-        let inner_spares = spared_so bs (λ n. TestSpares n (both t e)) (λ n. TestSpares n e) (λ n q. q.1) known.spares in
-        let inner_known : KnownTest bs e = record { of_words = known.of_words.1; below = known.below.1; count = known.count.1; spares = inner_spares } in
-        let first_spares = spared_so bs (λ n. TestSpares n (both t e)) (λ n. TestSpares n t) (λ n q. q.0) known.spares in
-        let first_known : KnownTest bs t = record { of_words = known.of_words.0; below = known.below.0; count = known.count.0; spares = first_spares } in
+        let inner_known : KnownTest bs e = known_second (λ n. TestSpares n t) (λ n. TestSpares n e) bs known in
+        let first_known : KnownTest bs t = known_first (λ n. TestSpares n t) (λ n. TestSpares n e) bs known in
         test_follows bs t false (size second + (if not when then d else 0)) pc (record {
           end = ways.end;
           held = inner;
@@ -449,16 +440,14 @@ module _ (z : Setting) where
         let second = test_code bs e when d in
         let first = test_code bs t true (size second + (if when then d else 0)) in
         let middle = pc + forms_bytes first in
-        let back = forked_behind when d pc first second ways.held.at ways.failed.at k in
+        let back = forked_behind z when d pc first second ways.held.at ways.failed.at k in
         let counted = fork_at when d ways.held.at ways.failed.at (middle + forms_bytes second) (middle + 2 * size second) (omega (arith, whole_size second)) back.fork in
         let low : middle < 0x10000 → middle + 2 * size second < 0x10000 =
         λ less. omega (arith, stands_low z middle second back.stands less, whole_size second) in
         let cost = test_spent e ways.held.cost ways.failed.cost in
         let inner : Way = record { at = middle; fits = EachTestWay z.room e ways.held.fits ways.failed.fits; cost = cost; does = tested e ways.held.does ways.failed.does } in
-        let inner_spares = spared_so bs (λ n. TestSpares n (either t e)) (λ n. TestSpares n e) (λ n q. q.1) known.spares in
-        let inner_known : KnownTest bs e = record { of_words = known.of_words.1; below = known.below.1; count = known.count.1; spares = inner_spares } in
-        let first_spares = spared_so bs (λ n. TestSpares n (either t e)) (λ n. TestSpares n t) (λ n q. q.0) known.spares in
-        let first_known : KnownTest bs t = record { of_words = known.of_words.0; below = known.below.0; count = known.count.0; spares = first_spares } in
+        let inner_known : KnownTest bs e = known_second (λ n. TestSpares n t) (λ n. TestSpares n e) bs known in
+        let first_known : KnownTest bs t = known_first (λ n. TestSpares n t) (λ n. TestSpares n e) bs known in
         test_follows bs t true (size second + (if when then d else 0)) pc (record {
           end = ways.end;
           held = ways.held;
@@ -487,10 +476,8 @@ module _ (z : Setting) where
         let end = pc' + forms_bytes rest in
         let after = waiting_after mid more in
         let all = behaviour (step first more) w in
-        let first_spares = spared_so bs (λ n. Spares n (step first more)) (λ n. StepSpares n first) (λ n k. k.0) known.spares in
-        let first_known : KnownStep bs first = record { of_words = known.of_words.0; below = known.below.0; count = known.count.0; spares = first_spares } in
-        let more_spares = spared_so bs (λ n. Spares n (step first more)) (λ n. Spares n more) (λ n k. k.1) known.spares in
-        let more_known : KnownProgram bs more = record { of_words = known.of_words.1; below = known.below.1; count = known.count.1; spares = more_spares } in
+        let first_known : KnownStep bs first = known_first (λ n. StepSpares n first) (λ n. Spares n more) bs known in
+        let more_known : KnownProgram bs more = known_second (λ n. StepSpares n first) (λ n. Spares n more) bs known in
         let there : end ≡ pc + forms_bytes (a ++ rest) = omega (arith, forms_bytes-append a rest) in
         subst (λ p. Does z after p (spent (step first more) w + owed os) u all) there
         (reach_more z (owed after) (Describes z after end) (step_spent first w + owed os + spent_on b.end (spent more)) (spent (step first more) w + owed os) u
