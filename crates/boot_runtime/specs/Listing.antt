@@ -8,7 +8,7 @@ use Rattle.runtime_code.specs.code_forms.Forms.{Number, Constant, Fram, ToRegist
 use Rattle.memory_map.specs.declared.words.RuntimeWord.TheVariants.{Gate, ListLength, EmitCount, Version}
 use Rattle.memory_map.specs.MemoryMap.{MemoryMap, word_place}
 use Rattle.runtime_code.specs.runtime_effects.Places.{CopyPair}
-use Rattle.runtime_code.specs.Counted.{jump_over, counted, if_any}
+use Rattle.runtime_code.specs.Counted.{over, counted, if_any}
 use Rattle.runtime_code.specs.Ladder.{Rung, stub_with, rung_with, ladder, all_stubs}
 pub use Rattle.runtime_code.specs.Ladder.{dispatch}
 
@@ -27,7 +27,7 @@ privates_in tasks k = (entry_at tasks k).privates
 
 -- where GATE is 1 a branch to the commit
 abbrev pub head : MemoryMap → ℕ → List Form
-head m commit = Compare (Constant One) (word_place m Gate) ∷ jump_over NotEqual (Branch commit ∷ []) ∷ Branch commit ∷ []
+head m commit = Compare (Constant One) (word_place m Gate) ∷ over NotEqual (Branch commit ∷ []) ∷ Branch commit ∷ []
 
 -- R4 := the number of version words
 abbrev pub clearing_begins : MemoryMap → List Form
@@ -51,7 +51,7 @@ clearing m = clearing_begins m ++ (clear_loop m ++ version_cleared m)
 
 -- where VER isn't at its end, over the clearing
 abbrev pub end_tested : MemoryMap → List Form
-end_tested m = Compare (Constant MinusOne) (word_place m Version) ∷ jump_over NotEqual (clearing m) ∷ []
+end_tested m = Compare (Constant MinusOne) (word_place m Version) ∷ over NotEqual (clearing m) ∷ []
 
 -- VER := VER + 1, CLN := 0, EN := 0
 abbrev pub counts_set : MemoryMap → List Form

@@ -187,9 +187,9 @@ module _ (code : Code) (tidy : IsTidy code) where
       → FormsNeed ms u → forms_run ms u ≡ stretch es c (At t) → P t → Comes code es (length ms) c u P
   straight_comes ms u t es c P st h w e p = record { end = t; leads = block ms u t es c st h w e; forms = at_forms ms u st h w; holds = p }
 
-  pub straight : (ms : List Form) (most : ℕ) (u t : Core) (es : List Effect) (c : ℕ) (P : Core → Type 0) → AreStraight ms → Stands code u.pc ms
-      → FormsNeed ms u → forms_run ms u ≡ stretch es c (At t) → c ≤ most → P t → Runs code es most u P
-  straight ms most u t es c P st h w e l p = record { steps = length ms; cycles = c; within = l; comes = straight_comes ms u t es c P st h w e p }
+  -- within so many cycles
+  pub runs_within : {es : List Effect} {n c : ℕ} {u : Core} {P : Core → Type 0} (most : ℕ) → Comes code es n c u P → c ≤ most → Runs code es most u P
+  runs_within {es} {n} {c} most a l = record { steps = n; cycles = c; within = l; comes = a }
 
   -- one form, a jump too
   pub form_comes : (m : Form) (u t : Core) (es : List Effect) (c : ℕ) (P : Core → Type 0) → code u.pc ≡ Some (instruction_of m) → FormNeeds m u
@@ -203,7 +203,7 @@ module _ (code : Code) (tidy : IsTidy code) where
 
   pub hop : (m : Form) (most : ℕ) (u t : Core) (es : List Effect) (c : ℕ) (P : Core → Type 0) → code u.pc ≡ Some (instruction_of m) → FormNeeds m u
       → form_step m u ≡ Goes es c t → c ≤ most → P t → Runs code es most u P
-  hop m most u t es c P h w e l p = record { steps = 1; cycles = c; within = l; comes = form_comes m u t es c P h w e p }
+  hop m most u t es c P h w e l p = runs_within most (form_comes m u t es c P h w e p) l
 
   pub runs_on : (most more : ℕ) (u : Core) (P Q : Core → Type 0) (es fs : List Effect) → Runs code es most u P
       → ((t : Core) → P t → Runs code fs more t Q) → Runs code (es ++ fs) (most + more) u Q

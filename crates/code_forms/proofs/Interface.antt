@@ -3,7 +3,7 @@
 -- The registers told apart.
 pub use Rattle.code_forms.proofs.Registers.{powered_has_a_core}
 -- Straight stretches of code, and stretches one after another.
-pub use Rattle.code_forms.proofs.Blocks.{stands_front, stands_back, forms_behind, first_forms, forms_at, form_at, does, block, straight, hop, runs_on, dearer}
+pub use Rattle.code_forms.proofs.Blocks.{stands_front, stands_back, forms_behind, first_forms, forms_at, form_at, does, block, runs_within, hop, runs_on, dearer}
 pub use Rattle.code_forms.proofs.Blocks.{nothing, starve, starves_on, dearer_starves, end_of, no_steps, comes_on, straight_comes, form_comes}
 -- What they read stands at SP or above.
 pub use Rattle.code_forms.proofs.FromSp.{forms_read_from_sp}

@@ -1,6 +1,7 @@
 -- Code that stays, made of forms: where it stands, what straight code does and needs, and what code makes from where it is begun.
-use Rattle.std.specs.Prelude.{ℕ, suc, ◌+◌, ◌≡◌, ◌<◌, ◌≤◌, List, [], ◌∷◌, Some}
+use Rattle.std.specs.Prelude.{ℕ, suc, ◌+◌, ◌-◌, ◌/◌, ◌≡◌, ◌<◌, ◌≤◌, List, [], ◌∷◌, Some}
 use Rattle.machine_effects.specs.msp_isa.declared.instructions.Instr.{Instr}
+use Rattle.machine_effects.specs.msp_isa.declared.instructions.Condition.{Condition}
 use Rattle.machine_effects.specs.msp_step.declared.machine.Stop.{Stop}
 use Rattle.machine_effects.specs.msp_step.declared.machine.Stop.TheVariants as stop
 use Rattle.machine_effects.specs.fram_board.Effects.{Effect}
@@ -18,6 +19,26 @@ Stands code p (m ∷ ms) = (code p ≡ Some (instruction_of m)) × Stands code (
 abbrev pub forms_bytes : List Form → ℕ
 forms_bytes [] = 0
 forms_bytes (m ∷ ms) = form_bytes m + forms_bytes ms
+
+-- ---- the offsets of jumps, each by the forms that it goes over: no listing has a number in its place
+
+-- the words of code, which are the offset of a jump over it
+abbrev pub size : List Form → ℕ
+size ms = forms_bytes ms / 2
+
+-- a jump over these forms, where a condition is met
+abbrev pub over : Condition → List Form → Form
+over c ms = Jump c (size ms)
+
+-- the offset, in ten bits, of a jump from behind so many words back to the first of them
+abbrev pub back_by : ℕ → ℕ
+back_by words = 0x3FF - words
+
+-- from behind these forms
+abbrev pub back_over : List Form → ℕ
+back_over ms = back_by (size ms)
+
+-- ---- what code does
 
 -- no jump, no skip and no branch
 abbrev pub IsStraight : Form → Type 0

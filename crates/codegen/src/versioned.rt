@@ -94,7 +94,7 @@ fn emit_mark(place: ArrayPlace, list: ListPlace, code: &mut Vec<Form>) -> Result
 
 // Without entries a jump; else in R5 where the last entry stands from the list on.
 fn emit_last(code: &mut Vec<Form>) -> Result<(), AllocError>
-    ensures { OnOk result (code.new.items ≡ code.old.items ++ last_code) }
+    ensures { OnOk result (code.new.items ≡ code.old.items ++ last_code 27) }
 {
     code.extend_from_slice(&[
         jump(Condition::Equal, 27),
@@ -137,7 +137,7 @@ fn emit_copy_test(list: u16, code: &mut Vec<Form>) -> Result<(), AllocError>
 
 // The last entry has a word more.
 fn emit_longer(list: u16, code: &mut Vec<Form>) -> Result<(), AllocError>
-    ensures { OnOk result (code.new.items ≡ code.old.items ++ longer_code (word_sum list 4)) }
+    ensures { OnOk result (code.new.items ≡ code.old.items ++ longer_code (word_sum list 4) 10) }
 {
     let words = list.wrapping_add(4);
     code.extend_from_slice(&[

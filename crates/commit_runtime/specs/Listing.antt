@@ -7,7 +7,7 @@ use Rattle.runtime_code.specs.code_forms.Forms.{Form, Move, Calculate, Jump, Bra
 use Rattle.runtime_code.specs.code_forms.Forms.{Register, Constant, Fram, PointedNext, ToRegister, ToFram, ToPointed}
 use Rattle.memory_map.specs.declared.words.RuntimeWord.TheVariants.{CurrentTask, NextTask, Gate, ListLength, Base}
 use Rattle.memory_map.specs.MemoryMap.{MemoryMap, word_place}
-use Rattle.runtime_code.specs.Counted.{jump_over, back_over, counted, if_any}
+use Rattle.runtime_code.specs.Counted.{over, back_over, counted, if_any}
 pub use Rattle.runtime_code.specs.Sending.{sends_begin, send_turn, send_loop, sending}
 
 -- R4 := CLN
@@ -28,7 +28,7 @@ word_counted = Calculate Sub (Constant One) R8 ∷ []
 
 -- one word after another goes home, and R8 is counted down before each: it begins at the count, and leaves where nothing was left
 abbrev pub word_loop : List Form
-word_loop = jump_over Always word_moved ∷ (word_moved ++ (word_counted ++ (Jump Carry (back_over (word_moved ++ word_counted)) ∷ [])))
+word_loop = over Always word_moved ∷ (word_moved ++ (word_counted ++ (Jump Carry (back_over (word_moved ++ word_counted)) ∷ [])))
 
 -- for each entry of the commit list its words go home
 abbrev pub copy_loop : MemoryMap → List Form

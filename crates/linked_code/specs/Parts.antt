@@ -2,12 +2,12 @@
 use Rattle.std.specs.Prelude.{◌≡◌, ℕ, ◌+◌, ◌-◌, ◌/◌, ◌%◌, ◌≤◌, List, [], ◌∷◌, ◌++◌}
 use Rattle.boot_runtime.specs.msp_isa.declared.instructions.Condition.TheVariants.{Always}
 use Rattle.boot_runtime.specs.code_forms.Forms.{Form, Jump}
-use Rattle.boot_runtime.specs.code_forms.Code.{forms_bytes}
+use Rattle.boot_runtime.specs.code_forms.Code.{forms_bytes, back_over}
 use Rattle.word_code.specs.Code.{repeated}
 
 -- a jump to itself, of one word
 abbrev pub filler : Form
-filler = Jump Always 0x3FF
+filler = Jump Always (back_over [])
 
 -- a part of the code, and where it stands
 pub record CodePart : Type 0 where

@@ -1,5 +1,5 @@
 -- Stretches of code one after another.
-use Rattle.std.proofs.Common.{◌≡◌, ℕ, ◌+◌, ◌/◌, List, [], ◌∷◌, ◌++◌, length, Some, Bool, not, true, if◌then◌else◌, refl, sym, ap, ◌∙◌, subst, arith}
+use Rattle.std.proofs.Common.{◌≡◌, ℕ, ◌+◌, List, [], ◌∷◌, ◌++◌, length, Some, Bool, not, true, if◌then◌else◌, refl, sym, ap, ◌∙◌, subst, arith}
 use Rattle.code_forms.specs.alp_words.declared.Width.TheVariants.{Word}
 use Rattle.code_forms.specs.alp_words.Words.{difference_of}
 use Rattle.code_forms.specs.msp_isa.declared.operands.Konst.{Konst}
@@ -16,7 +16,7 @@ use Rattle.runtime_effects.proofs.machine_effects.Interface.{fram_after-append}
 use Rattle.code_forms.specs.Forms.{Core, Form, Compare, Jump, Constant, instruction_of}
 use Rattle.code_forms.specs.Code.{Stands, AreStraight, forms_run, forms_bytes, FormsNeed, IsTidy}
 use Rattle.code_forms.proofs.Interface.{end_of, comes_on, straight_comes, form_comes}
-use Rattle.runtime_code.specs.Counted.{jump_over}
+use Rattle.runtime_code.specs.Counted.{over, size}
 use Rattle.runtime_code.specs.Comes.{Comes, IsAt}
 
 -- the state behind straight code
@@ -84,13 +84,13 @@ module _ (code : Code) (tidy : IsTidy code) where
       refl
 
   -- a word of FRAM is compared with a constant, and where it is another it goes on behind some forms
-  module _ (k : Konst) (a p : ℕ) (ms : List Form) (word : IsPlace a) (h : Stands code p (Compare (Constant k) a ∷ jump_over NotEqual ms ∷ []))
-      (there : word_sum (p + 4 + 2) (distance (forms_bytes ms / 2)) ≡ p + (6 + forms_bytes ms)) where
+  module _ (k : Konst) (a p : ℕ) (ms : List Form) (word : IsPlace a) (h : Stands code p (Compare (Constant k) a ∷ over NotEqual ms ∷ []))
+      (there : word_sum (p + 4 + 2) (distance (size ms)) ≡ p + (6 + forms_bytes ms)) where
     pub compares : (b : Bool) (f : ℕ → ℕ) (l : Inputs) (u : Core) → (difference_of Word (f a) (constant_value k) true).1.z ≡ b → IsAt p f l u
         → Comes code [] 2 6 u (IsAt (if not b then p + (6 + forms_bytes ms) else p + 6) f l)
     compares b f l u flag at =
         let s = core_at p f l u in
         let looked : List Form = Compare (Constant k) a ∷ [] in
         from_there u at (then_on (straight looked s (tt, tt) (h.0, tt) ((tt, word), tt) refl)
-        (ends (jumps NotEqual (forms_bytes ms / 2) (p + (6 + forms_bytes ms)) (p + 6) (not b) (behind looked s) h.1.0 there (omega arith) (ap not flag))
+        (ends (jumps NotEqual (size ms) (p + (6 + forms_bytes ms)) (p + 6) (not b) (behind looked s) h.1.0 there (omega arith) (ap not flag))
         (record { pc = refl; fram = refl; inputs = refl })))

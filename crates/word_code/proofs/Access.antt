@@ -7,11 +7,11 @@ use Rattle.word_code.proofs.Names.{fetch_code, element_code, emit_code, pair_cod
 use Rattle.array_versions.specs.msp_step.msp_isa.declared.instructions.Condition.TheVariants as condition
 use Rattle.array_versions.specs.msp_step.msp_isa.declared.instructions.TwoOp.TheVariants as op
 use Rattle.array_versions.specs.msp_step.msp_isa.declared.operands.Konst.TheVariants as konst
-use Rattle.word_code.proofs.Registers.{Holds, Has, line, store_line, jump_with}
+use Rattle.word_code.proofs.Registers.{Holds, Has, line, jump_with}
 use Rattle.word_code.proofs.Operands.{AreThese, compare_number}
 use Rattle.word_code.proofs.Stretches.{Setting, runs_on, dearer, so_runs}
 use Rattle.word_code.proofs.Memory.{place_is, address_small}
-use Rattle.word_code.proofs.Follows.{StandsFor, Follows, ends_at, guarded}
+use Rattle.word_code.proofs.Follows.{StandsFor, Follows, guarded}
 use Rattle.word_code.proofs.ListParts.{sixfold, six_times, at_offset, plus_none}
 use Rattle.word_code.proofs.Jumps.{near_distance}
 use Rattle.word_code.proofs.Routes.{on, free, route, store_route, starts}

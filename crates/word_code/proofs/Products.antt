@@ -1,6 +1,6 @@
 -- Multiplication: a turn for each bit of the right side, up to its highest.
-use Rattle.word_code.proofs.Names.{◌≡◌, ℕ, zero, suc, ◌+◌, ◌*◌, ◌/◌, ◌%◌, ◌^◌, ◌<◌, ◌==◌, not, List, [], ◌∷◌, refl, sym, ap, ◌∙◌, subst, arith, Bool, true, false}
-use Rattle.word_code.proofs.Names.{if◌then◌else◌, eqb-true, bit_and, nat_tests, and_mask, and_le_r, mul-mod_first, bit, R6, Core, Constant, ToRegister, Form}
+use Rattle.word_code.proofs.Names.{◌≡◌, ℕ, zero, suc, ◌+◌, ◌*◌, ◌/◌, ◌%◌, ◌^◌, ◌<◌, ◌==◌, not, [], ◌∷◌, refl, sym, ap, ◌∙◌, subst, arith, Bool, true, false}
+use Rattle.word_code.proofs.Names.{if◌then◌else◌, eqb-true, bit_and, nat_tests, and_mask, and_le_r, mul-mod_first, bit, R6, Core, Constant, ToRegister}
 use Rattle.word_code.proofs.Names.{Move, Stands, forms_bytes, Runs, Multiply, binary_word, WordState, binary_middle, multiply_turn}
 use Rattle.array_versions.specs.msp_step.msp_isa.declared.operands.Konst.TheVariants as konst
 use Rattle.word_code.proofs.Registers.{Holds, Has, Flagged, IsZero, line}

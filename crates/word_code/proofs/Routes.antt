@@ -9,7 +9,7 @@ use Rattle.code_forms.specs.Forms.{CoreStretch}
 use Rattle.array_versions.specs.machine_effects.Going.{Status}
 use Rattle.array_versions.specs.msp_step.declared.machine.Stop.{Stop}
 use Rattle.array_versions.specs.msp_step.msp_isa.declared.instructions.Condition.TheVariants as condition
-use Rattle.word_code.proofs.Memory.{Memory, local_words}
+use Rattle.word_code.proofs.Memory.{Memory}
 use Rattle.word_code.proofs.Registers.{kept_by}
 use Rattle.word_code.proofs.Stretches.{Setting, straight, hop, runs_on, so_runs, dearer, nothing_run}
 use Rattle.word_code.proofs.Follows.{StandsFor}

@@ -1,5 +1,5 @@
 -- Versioned reads and writes.
-use Rattle.word_code.proofs.Names.{◌≡◌, ℕ, ◌+◌, ◌-◌, ◌*◌, ◌%◌, ◌<◌, ◌==◌, not, List, [], ◌∷◌, Some, refl, sym, ap, ap₂, ◌∙◌, subst, arith, Bool, true, false}
+use Rattle.word_code.proofs.Names.{◌≡◌, ℕ, ◌+◌, ◌-◌, ◌*◌, ◌%◌, ◌<◌, ◌==◌, not, List, [], ◌∷◌, Some, refl, sym, ap, ◌∙◌, subst, arith, Bool, true, false}
 use Rattle.word_code.proofs.Names.{nat_lt, if◌then◌else◌, both_ways, sum16, distance, Store, put, IsFram, R4, Core, Indexed, ToRegister, Form, Move}
 use Rattle.word_code.proofs.Names.{instruction_of, Stands, forms_bytes, Runs, stands_front, stands_back, forms_behind, forms_bytes-append, ArrayPlace}
 use Rattle.word_code.proofs.Names.{ListPlace, WordState, goes_on, behind_effects, is_place, stored, first_stored, own_stored, versioned_stored, put_words}

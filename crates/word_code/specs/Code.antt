@@ -1,6 +1,6 @@
 -- The code of a word program, which does the same wherever it stands: the stack is at SP, its top first, below the words that wait to be pushed; the
 -- locals stand in R8 to R15 and, from the ninth on, in RAM above the stack; R4 to R7 are for work.
-use Rattle.std.specs.Prelude.{ℕ, zero, suc, ◌+◌, ◌-◌, ◌*◌, ◌/◌, Bool, true, false, not, List, [], ◌∷◌, ◌++◌, get_or, ◌==◌, if◌then◌else◌, nat_le, nat_lt, ◌&&◌}
+use Rattle.std.specs.Prelude.{ℕ, zero, suc, ◌+◌, ◌-◌, ◌*◌, Bool, true, false, not, List, [], ◌∷◌, ◌++◌, get_or, ◌==◌, if◌then◌else◌, nat_le, nat_lt, ◌&&◌}
 use Rattle.std.specs.Prelude.{◌^◌, Option, Some, None}
 use Rattle.std.specs.Int.{w16, trailing_zeros}
 use Rattle.std.specs.List.{list_any}
@@ -17,7 +17,8 @@ use Rattle.array_versions.specs.msp_step.msp_isa.alp_words.Words.{word_sum}
 use Rattle.code_forms.specs.Forms as forms
 use Rattle.code_forms.specs.Forms.{WorkRegister, R4, R5, R6, R7, R8, R9, R10, R11, R12, R13, R14, R15, Register, Number, Constant, Fram, Ram, Indexed, Popped}
 use Rattle.code_forms.specs.Forms.{Source, ToRegister, ToFram, ToRam, ToIndexed, Target, Form, Move, Calculate, Update, Push, Modify, SetStack, Jump, Skip, Branch}
-use Rattle.code_forms.specs.Code.{forms_bytes}
+use Rattle.code_forms.specs.Code.{over, back_by, back_over}
+pub use Rattle.code_forms.specs.Code.{size}
 use Rattle.word_code.specs.declared.bounds.Bound.{Bound}
 use Rattle.word_code.specs.declared.waiting.Waiting.{Waiting}
 use Rattle.word_code.specs.declared.waiting.Waiting.TheVariants as waiting
@@ -169,19 +170,29 @@ abbrev pub unary_middle : UnaryOperation → List Form
 unary_middle Negate = Move (Constant konst.Zero) (ToRegister R4) ∷ Calculate op.Sub (Register R5) R4 ∷ []
 unary_middle Complement = Move (Constant konst.MinusOne) (ToRegister R4) ∷ Calculate op.Sub (Register R5) R4 ∷ []
 
--- a bit of the multiplier: where it is 1, what is in R4 is added to R6; then R4 is doubled and R5 halved, until R5 is 0
-abbrev pub multiply_turn : List Form
-multiply_turn =
-    Calculate op.Bit (Constant konst.One) R5 ∷ Jump condition.Equal 1 ∷ Calculate op.Add (Register R4) R6 ∷ Calculate op.Add (Register R4) R4
-    ∷ Calculate op.Bit (Constant konst.Zero) R5 ∷ Modify change.Rrc R5 ∷ Jump condition.NotEqual 1017 ∷ []
+-- a bit of the multiplier: where it is 1, what is in R4 is added to R6; then R4 is doubled and R5 halved
+abbrev pub multiply_bit : List Form
+multiply_bit =
+    let added = Calculate op.Add (Register R4) R6 ∷ [] in
+    let shifted = Calculate op.Add (Register R4) R4 ∷ Calculate op.Bit (Constant konst.Zero) R5 ∷ Modify change.Rrc R5 ∷ [] in
+    Calculate op.Bit (Constant konst.One) R5 ∷ over condition.Equal added ∷ (added ++ shifted)
 
--- a bit of the dividend: it goes from R4 into the rest in R6, which is less the divisor where that goes; the quotient's bit goes into
--- R4; sixteen times, by R7
+-- until R5 is 0
+abbrev pub multiply_turn : List Form
+multiply_turn = multiply_bit ++ Jump condition.NotEqual (back_over multiply_bit) ∷ []
+
+-- a bit of the dividend: it goes from R4 into the rest in R6, which is less the divisor where that goes, as it does without a look where the rest has
+-- a bit too many; the quotient's bit goes into R4
+abbrev pub divide_bit : List Form
+divide_bit =
+    let taken = Calculate op.Sub (Register R5) R6 ∷ Calculate op.Add (Constant konst.One) R4 ∷ [] in
+    let tested = Calculate op.Cmp (Register R5) R6 ∷ over condition.NoCarry taken ∷ [] in
+    Calculate op.Add (Register R4) R4 ∷ Calculate op.Addc (Register R6) R6 ∷ over condition.Carry tested
+    ∷ (tested ++ (taken ++ Calculate op.Sub (Constant konst.One) R7 ∷ []))
+
+-- sixteen times, by R7
 abbrev pub divide_turn : List Form
-divide_turn =
-    Calculate op.Add (Register R4) R4 ∷ Calculate op.Addc (Register R6) R6 ∷ Jump condition.Carry 2 ∷ Calculate op.Cmp (Register R5) R6
-    ∷ Jump condition.NoCarry 2 ∷ Calculate op.Sub (Register R5) R6 ∷ Calculate op.Add (Constant konst.One) R4
-    ∷ Calculate op.Sub (Constant konst.One) R7 ∷ Jump condition.NotEqual 1015 ∷ []
+divide_turn = divide_bit ++ Jump condition.NotEqual (back_over divide_bit) ∷ []
 
 -- sixteen bits, from a rest of 0 on
 abbrev pub divide_middle : List Form
@@ -262,20 +273,35 @@ shift_middle operation k = if nat_le k 15 then shift_code operation k else (Move
 
 -- the index in R4 is compared with a length: where it isn't below it, over so many words
 abbrev pub check_code : ℕ → ℕ → List Form
-check_code length over = Calculate op.Cmp (number_source length) R4 ∷ Jump condition.Carry over ∷ []
+check_code length offset = Calculate op.Cmp (number_source length) R4 ∷ Jump condition.Carry offset ∷ []
 
--- what the check of an index goes to: R4 becomes 0; the code in front of it goes over that
+-- what the check of an index goes to: R4 becomes 0
+abbrev pub zeroed : List Form
+zeroed = Move (Constant konst.Zero) (ToRegister R4) ∷ []
+
+-- the code in front of it goes over that
+abbrev pub past_zero : List Form
+past_zero = over condition.Always zeroed ∷ []
+
 abbrev pub zero_code : List Form
-zero_code = Jump condition.Always 1 ∷ Move (Constant konst.Zero) (ToRegister R4) ∷ []
+zero_code = past_zero ++ zeroed
 
--- twice the index in R4 is an offset in an array, and R4 becomes the element
+-- code for an index in R4 that is below a length; where it isn't, R4 becomes 0
+abbrev pub or_zero : ℕ → List Form → List Form
+or_zero length ms = check_code length (size (ms ++ past_zero)) ++ (ms ++ zero_code)
+
+-- R4 is an offset in an array, and becomes the element there
+abbrev pub taken_from : ℕ → List Form
+taken_from base = Move (Indexed R4 base) (ToRegister R4) ∷ []
+
+-- so is twice the index in R4
 abbrev pub fetch_code : ℕ → List Form
-fetch_code base = double ∷ Move (Indexed R4 base) (ToRegister R4) ∷ []
+fetch_code base = double ∷ taken_from base
 
 -- an element, by whether the index is surely below the length; else it is 0 where the index isn't
 abbrev pub element_code : Bool → ℕ → ℕ → List Form
 element_code true base length = fetch_code base
-element_code false base length = check_code length 4 ++ (fetch_code base ++ zero_code)
+element_code false base length = or_zero length (fetch_code base)
 
 -- the word in R5, then the count
 abbrev pub emit_code : ℕ → ℕ → List Form
@@ -302,14 +328,15 @@ entry_code count list home copy words =
 -- a versioned read at an index in R4 that is below the length: the version word is compared with the attempt's number; then R4 becomes the copy, and
 -- the code goes over so many words, or the element
 abbrev pub own_code : ℕ → ArrayPlace → ListPlace → List Form
-own_code over place list =
-    double ∷ Move (Fram list.ver) (ToRegister R5) ∷ Calculate op.Cmp (Indexed R4 place.versions) R5 ∷ Jump condition.NotEqual 3
-    ∷ Move (Indexed R4 place.copies) (ToRegister R4) ∷ Jump condition.Always over ∷ Move (Indexed R4 place.elements) (ToRegister R4) ∷ []
+own_code offset place list =
+    let own = taken_from place.copies ++ Jump condition.Always offset ∷ [] in
+    double ∷ Move (Fram list.ver) (ToRegister R5) ∷ Calculate op.Cmp (Indexed R4 place.versions) R5 ∷ over condition.NotEqual own
+    ∷ (own ++ taken_from place.elements)
 
 -- a versioned read, by whether the index is surely below the length; else it gives 0 where the index isn't
 abbrev pub read_code : Bool → ArrayPlace → ListPlace → List Form
-read_code true place list = own_code 2 place list
-read_code false place list = check_code place.length 12 ++ (own_code 4 place list ++ zero_code)
+read_code true place list = own_code (size (taken_from place.elements)) place list
+read_code false place list = or_zero place.length (own_code (size (taken_from place.elements ++ zero_code)) place list)
 
 -- R6 is where the run of the last entry ends, the words of its entry being at one address from R5 on and where it begins at another;
 -- where that isn't what this register holds, a jump
@@ -324,17 +351,21 @@ mark_code place list =
     Move (Register R6) (ToIndexed R4 place.versions) ∷ Move (Register R4) (ToRegister R7) ∷ Calculate op.Add (Number place.elements) R7
     ∷ Calculate op.Add (Number place.copies) R4 ∷ Move (Fram list.cln) (ToRegister R5) ∷ Calculate op.Cmp (Constant konst.Zero) R5 ∷ []
 
--- without entries a jump; else R5 becomes where the last entry stands from the list on
-abbrev pub last_code : List Form
-last_code =
-    Jump condition.Equal 27 ∷ Calculate op.Sub (Constant konst.One) R5 ∷ Move (Register R5) (ToRegister R6) ∷ Calculate op.Add (Register R5) R5
+-- R5 becomes where the last entry stands from the list on
+abbrev pub last_place : List Form
+last_place =
+    Calculate op.Sub (Constant konst.One) R5 ∷ Move (Register R5) (ToRegister R6) ∷ Calculate op.Add (Register R5) R5
     ∷ Calculate op.Add (Register R6) R5 ∷ Calculate op.Add (Register R5) R5 ∷ []
 
--- the last entry has a word more, and all is done
-abbrev pub longer_code : ℕ → List Form
-longer_code words =
+-- that, or a jump without entries
+abbrev pub last_code : ℕ → List Form
+last_code offset = Jump condition.Equal offset ∷ last_place
+
+-- the last entry has a word more, and all is done: a jump
+abbrev pub longer_code : ℕ → ℕ → List Form
+longer_code words offset =
     Move (Indexed R5 words) (ToRegister R6) ∷ Calculate op.Add (Constant konst.One) R6 ∷ Move (Register R6) (ToIndexed R5 words)
-    ∷ Jump condition.Always 10 ∷ []
+    ∷ Jump condition.Always offset ∷ []
 
 -- the entry behind it
 abbrev pub next_code : List Form
@@ -351,14 +382,17 @@ word_code list =
 abbrev pub first_code : ArrayPlace → ListPlace → List Form
 first_code place list =
     let words = word_sum list.list 4 in
-    mark_code place list ++ (last_code ++ (end_test words list.list R7 13 ++ (end_test words (word_sum list.list 2) R4 6
-    ++ (longer_code words ++ (next_code ++ word_code list)))))
+    let longer = longer_code words (size (next_code ++ word_code list)) in
+    let copies_end = end_test words (word_sum list.list 2) R4 (size longer) in
+    let homes_end = end_test words list.list R7 (size (copies_end ++ longer)) in
+    let last = last_code (size (last_place ++ (homes_end ++ (copies_end ++ (longer ++ next_code))))) in
+    mark_code place list ++ (last ++ (homes_end ++ (copies_end ++ (longer ++ (next_code ++ word_code list)))))
 
 -- the store to the copy, of the word in R5 at the index in R4; where the version word is the attempt's number, all that follows it is passed over
 abbrev pub copy_code : ArrayPlace → ListPlace → List Form
 copy_code place list =
     double ∷ Move (Register R5) (ToIndexed R4 place.copies) ∷ Move (Fram list.ver) (ToRegister R6) ∷ Calculate op.Cmp (Indexed R4 place.versions) R6
-    ∷ Jump condition.Equal 46 ∷ []
+    ∷ over condition.Equal (first_code place list) ∷ []
 
 -- a versioned write at an index that is below the length
 abbrev pub stored_code : ArrayPlace → ListPlace → List Form
@@ -367,7 +401,7 @@ stored_code place list = copy_code place list ++ first_code place list
 -- a versioned write, by whether the index is surely below the length; else nothing is stored where the index isn't
 abbrev pub write_code : Bool → ArrayPlace → ListPlace → List Form
 write_code true place list = stored_code place list
-write_code false place list = check_code place.length 54 ++ stored_code place list
+write_code false place list = let stored = stored_code place list in check_code place.length (size stored) ++ stored
 
 -- the flags of a comparison: of R4, the left side, with the right one, or of R5, the right side, with the left one
 abbrev pub compare_form : Comparison → Source → Form
@@ -402,22 +436,19 @@ failing SignedBelow = condition.GreaterOrEqual
 failing SignedAbove = condition.GreaterOrEqual
 failing CommonBit = condition.Equal
 
--- the words of code
-abbrev pub size : List Form → ℕ
-size ms = forms_bytes ms / 2
-
 -- over so many words behind it where a condition is met, else on; the opposite one is met where it isn't. A jump of one word reaches 511 words; any
 -- further PC is added to, and the opposite condition jumps over that
 abbrev pub jump_over : Condition → Condition → ℕ → List Form
-jump_over met opposite d = if nat_le d 511 then Jump met d ∷ [] else (Jump opposite 2 ∷ Skip (2 * d) ∷ [])
+jump_over met opposite d = let far = Skip (2 * d) ∷ [] in if nat_le d 511 then Jump met d ∷ [] else (over opposite far ∷ far)
 
 -- over so many words behind it in any case
 abbrev pub pass_over : ℕ → List Form
 pass_over d = if d == 0 then [] else if nat_le d 511 then Jump condition.Always d ∷ [] else (Skip (2 * d) ∷ [])
 
--- back over so many words in front of it where a condition is met, else on; the opposite one is met where it isn't
+-- back over so many words in front of it where a condition is met, else on; the opposite one is met where it isn't. What PC is added to goes over its own
+-- three words too, the jump's among them
 abbrev pub jump_back : Condition → Condition → ℕ → List Form
-jump_back met opposite d = if nat_le d 511 then Jump met (1023 - d) ∷ [] else (Jump opposite 2 ∷ Skip (0xFFFA - 2 * d) ∷ [])
+jump_back met opposite d = let far = Skip (0xFFFA - 2 * d) ∷ [] in if nat_le d 511 then Jump met (back_by d) ∷ [] else (over opposite far ∷ far)
 
 -- over so many words where what the flags tell is as the flag says, else on: where it holds the one condition is met, and where it fails the other
 abbrev pub decision : Bool → ℕ → Condition → Condition → List Form
@@ -429,9 +460,16 @@ abbrev pub holds_code : List Waiting → Bool → ℕ → List Form
 holds_code os when d =
     (top_to_four os ++ flushed (kept (below_top os))) ++ (Calculate op.Cmp (Constant konst.Zero) R4 ∷ decision when d condition.NotEqual condition.Equal)
 
--- 1 is pushed, and from the third word on 0
+-- 0 is pushed
+abbrev pub zero_pushed : List Form
+zero_pushed = Push (Constant konst.Zero) ∷ []
+
+-- or 1 in its place
+abbrev pub one_pushed : List Form
+one_pushed = Push (Constant konst.One) ∷ over condition.Always zero_pushed ∷ []
+
 abbrev pub truth_code : List Form
-truth_code = Push (Constant konst.One) ∷ Jump condition.Always 1 ∷ Push (Constant konst.Zero) ∷ []
+truth_code = one_pushed ++ zero_pushed
 
 -- a local becomes a number
 abbrev pub number_code : ℕ → ℕ → List Form
@@ -588,7 +626,7 @@ first_update o x place list = made_code o x place.elements place.copies ++ (atte
 -- one way or the other by the flags of the version word and VER's word: where they are equal, the one that is first here, with a jump over the other
 abbrev pub by_version : List Form → List Form → List Form
 by_version again first =
-    let next = again ++ Jump condition.Always (size first) ∷ [] in Jump condition.NotEqual (size next) ∷ (next ++ first)
+    let next = again ++ over condition.Always first ∷ [] in over condition.NotEqual next ∷ (next ++ first)
 
 -- an update at the index in R4, which is below the length
 abbrev pub inside_update : PlainOperation → Source → ArrayPlace → ListPlace → List Form
@@ -600,7 +638,7 @@ inside_update o x place list =
 abbrev pub checked_update : PlainOperation → Source → ArrayPlace → ListPlace → List Form
 checked_update o x place list =
     let inside = inside_update o x place list in
-    Calculate op.Cmp (Number place.length) R4 ∷ Jump condition.Carry (size inside) ∷ inside
+    Calculate op.Cmp (Number place.length) R4 ∷ over condition.Carry inside ∷ inside
 
 -- at any index in R4, by whether it is surely below the length
 abbrev pub indexed_update : Bool → PlainOperation → Source → ArrayPlace → ListPlace → List Form
@@ -900,7 +938,7 @@ abbrev mutual
   step_code bs os (versioned_update o place list) =
       update_at (known_index os place.length) (is_inside bs (top_of (below_top os)) place.length) os o place list
   step_code bs os sense = cleared os ++ forms.Sense R4 ∷ []
-  step_code bs os (truth t) = flushed os ++ (test_code bs t false 2 ++ truth_code)
+  step_code bs os (truth t) = flushed os ++ (test_code bs t false (size one_pushed) ++ truth_code)
   step_code bs os (choose t taken otherwise) =
       let other = steps_code bs [] otherwise ++ flushed (waiting_after [] otherwise) in
       let first = (steps_code bs [] taken ++ flushed (waiting_after [] taken)) ++ pass_over (size other) in
