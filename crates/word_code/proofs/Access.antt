@@ -1,6 +1,6 @@
 -- Elements of arrays, emits, and entries of the commit list.
 use Rattle.word_code.proofs.Names.{◌≡◌, ℕ, ◌+◌, ◌*◌, ◌%◌, ◌<◌, ◌==◌, not, List, [], ◌∷◌, ◌++◌, refl, sym, ap, ◌∙◌, subst, arith, Bool, true, false, ◌≤◌, nat_lt}
-use Rattle.word_code.proofs.Names.{nat_le, if◌then◌else◌, both_ways, nat_tests, word_sum, sum16, distance, Effect, Store, put, IsFram, R4, R5, Core, Number, Constant}
+use Rattle.word_code.proofs.Names.{nat_le, if◌then◌else◌, both_ways, nat_tests, word_sum, sum16, distance, Effect, Store, put, IsPlace, R4, R5, Core, Number, Constant}
 use Rattle.word_code.proofs.Names.{ToRegister, ToIndexed, Form, Move, Calculate, Update, form_bytes, Stands, forms_bytes, Runs, stands_front, stands_back}
 use Rattle.word_code.proofs.Names.{forms_bytes-append, WordState, is_place, stored, word_emitted, entry_stored, number_source, check_code, zero_code}
 use Rattle.word_code.proofs.Names.{fetch_code, element_code, emit_code, pair_code, entry_code}
@@ -20,8 +20,8 @@ use Rattle.word_code.proofs.Routes.{on, free, route, store_route, starts}
 pub twice : (n base : ℕ) → 2 * n + base < 0x10000 → (n + n + 0) % 0x10000 ≡ 2 * n
 twice n base h = omega arith
 
-pub doubled_fits : (i base : ℕ) → IsFram (2 * i + base) → IsFram ((i + i + 0) % 0x10000 + base)
-doubled_fits i base f = subst (λ k. IsFram (k + base)) (sym (twice i base (address_small f))) f
+pub doubled_fits : (i base : ℕ) → IsPlace (2 * i + base) → IsPlace ((i + i + 0) % 0x10000 + base)
+doubled_fits i base f = subst (λ k. IsPlace (k + base)) (sym (twice i base (address_small f))) f
 
 is_one : (n : ℕ) → (n == 1) ≡ true → 1 ≡ n
 is_one n e = grind (arith, nat_tests)
@@ -103,7 +103,7 @@ module _ (z : Setting) where
   -- ---- an element
 
   -- at an index below the length it is a word of FRAM
-  fetch_part : (base pc i : ℕ) (w : WordState) (t : Core) → IsFram (2 * i + base) → Stands z.code pc (fetch_code base) → Has z R4 pc w i t
+  fetch_part : (base pc i : ℕ) (w : WordState) (t : Core) → IsPlace (2 * i + base) → Stands z.code pc (fetch_code base) → Has z R4 pc w i t
       → Runs z.code [] 4 t (Has z R4 (pc + 6) w (w.fram (2 * i + base)))
   fetch_part base pc i w t f h k =
       route z pc (fetch_code base) h 0 (starts z k.is) (k.held, refl, refl, refl) (on 2 ∷ []) 4 _ (_, ((tt, tt), ((doubled_fits i base f, tt), tt)), (refl, tt))
@@ -127,7 +127,7 @@ module _ (z : Setting) where
       (checked_past size 4 pc ms k.small h i w t refl (omega arith) below k.index k.held))
 
   pub before_end : (b : Bool) (base size pc i : ℕ) (w : WordState) (t : Core) → Indexed size pc i w t → Stands z.code pc (element_code b base size)
-      → nat_lt i size ≡ true → IsFram (2 * i + base)
+      → nat_lt i size ≡ true → IsPlace (2 * i + base)
       → Runs z.code [] 10 t (Has z R4 (pc + forms_bytes (element_code b base size)) w (w.fram (2 * i + base)))
   before_end true base size pc i w t k h lt f = dearer z (omega arith) (fetch_part base pc i w t f h k.held)
   before_end false base size pc i w t k h lt f =
@@ -158,8 +158,8 @@ module _ (z : Setting) where
       (λ e. Store (at e) v ∷ Store count (up e) ∷ []) (λ e. put (put w.fram (at e) v) count (up e)) (λ s. s)))
 
   -- an entry behind the others, then the count
-  module _ (count list home copy words pc : ℕ) (w : WordState) (u : Core) (i : StandsFor z pc w u) (fc : IsFram count) (f1 : IsFram (6 * w.fram count + list))
-      (f2 : IsFram (6 * w.fram count + list + 2)) (f4 : IsFram (6 * w.fram count + list + 4)) where
+  module _ (count list home copy words pc : ℕ) (w : WordState) (u : Core) (i : StandsFor z pc w u) (fc : IsPlace count) (f1 : IsPlace (6 * w.fram count + list))
+      (f2 : IsPlace (6 * w.fram count + list + 2)) (f4 : IsPlace (6 * w.fram count + list + 4)) where
     abbrev at : ℕ
     at = 6 * w.fram count + list
 
@@ -213,13 +213,13 @@ module _ (z : Setting) where
     entry_by : (b : Bool) → (words == 1) ≡ b → Stands z.code pc (code_by b)
         → Runs z.code entry 26 u (StandsFor z (pc + forms_bytes (code_by b)) (stored count counted three))
     entry_by true e h =
-        let g1 = subst IsFram (sym first) f1 in let g2 = subst IsFram (sym second) f2 in let g4 = subst IsFram (sym third) f4 in
+        let g1 = subst IsPlace (sym first) f1 in let g2 = subst IsPlace (sym second) f2 in let g4 = subst IsPlace (sym third) f4 in
         dearer z (omega arith)
         (store_route z pc (code_by true) h 0 (starts z i) (refl, refl, refl, refl) (on 5 ∷ on 4 ∷ []) entry (stored count counted three).fram 25 _
         (_, ((fc, tt), free 4), (refl, (_, ((tt, g1), ((tt, g2), ((tt, g4), ((tt, refl, tt, fc), tt)))), (refl, tt)))) refl refl
         (effects_are 1 (is_one words e)) (fram_is 1 (is_one words e)) (λ s. s))
     entry_by false e h =
-        let g1 = subst IsFram (sym first) f1 in let g2 = subst IsFram (sym second) f2 in let g4 = subst IsFram (sym third) f4 in
+        let g1 = subst IsPlace (sym first) f1 in let g2 = subst IsPlace (sym second) f2 in let g4 = subst IsPlace (sym third) f4 in
         store_route z pc (code_by false) h 0 (starts z i) (refl, refl, refl, refl) (on 5 ∷ on 4 ∷ []) entry (stored count counted three).fram 26 _
         (_, ((fc, tt), free 4), (refl, (_, ((tt, g1), ((tt, g2), ((tt, g4), ((tt, refl, tt, fc), tt)))), (refl, tt)))) refl refl
         (effects_are words refl) (fram_is words refl) (λ s. s)

@@ -1,6 +1,6 @@
 -- A word is listed: the last entry gets longer, or there is one more.
 use Rattle.word_code.proofs.Names.{◌≡◌, ℕ, suc, zero, ◌+◌, ◌-◌, ◌*◌, ◌%◌, ◌<◌, ◌==◌, ◌&&◌, not, List, [], ◌∷◌, refl, sym, ap, ap₂, ◌∙◌, subst, arith}
-use Rattle.word_code.proofs.Names.{Bool, true, false, if◌then◌else◌, ne_eqb, word_sum, Effect, Store, put, IsFram, Core, Form, Stands, Runs}
+use Rattle.word_code.proofs.Names.{Bool, true, false, if◌then◌else◌, ne_eqb, word_sum, Effect, Store, put, IsPlace, Core, Form, Stands, Runs}
 use Rattle.word_code.proofs.Names.{ArrayPlace, ListPlace, WordState, Behaviour, strays, behind_effects, is_place, stored, raised, entry_stored, ends_before}
 use Rattle.word_code.proofs.Names.{listed_behind, first_stored, put_words, first_code}
 use Rattle.word_code.proofs.Memory.{HoldsWords, place_is, address_small}
@@ -63,7 +63,7 @@ module _ (z : Setting) (place : ArrayPlace) (list : ListPlace) (p : ℕ) (h : St
   Tested k q home copy b w = Flagged z (λ f. Work copy q (f 6) home f) (IsZero b) (p + place_of code k) w
 
   -- the version word is stored; the home, the copy and the count are in their registers
-  mark_part : (i : ℕ) (w : WordState) (t : Core) → HoldsWords w.fram → IsFram (2 * i + place.versions) → IsFram list.cln
+  mark_part : (i : ℕ) (w : WordState) (t : Core) → HoldsWords w.fram → IsPlace (2 * i + place.versions) → IsPlace list.cln
       → 2 * i + place.elements < 0x10000 → 2 * i + place.copies < 0x10000 → StandsFor z (p + 0) w t → t.work 4 ≡ 2 * i → t.work 6 ≡ w.fram list.ver
       → (let m = 2 * i + place.versions in let y = stored m (w.fram list.ver) w in let n = y.fram list.cln in
       Runs z.code (Store m (w.fram list.ver) ∷ []) 13 t (Tested 6 n (2 * i + place.elements) (2 * i + place.copies) (n == 0) y))
@@ -80,7 +80,7 @@ module _ (z : Setting) (place : ArrayPlace) (list : ListPlace) (p : ℕ) (h : St
   -- an entry of one word, then the count
   entry_part : (w : WordState) (home copy : ℕ) (t : Core) → (let a = 6 * w.fram list.cln + list.list in
       let u = stored (a + 4) 1 (stored (a + 2) copy (stored a home w)) in let v = (u.fram list.cln + 1) % 0x10000 in
-      IsFram list.cln → IsFram a → IsFram (a + 2) → IsFram (a + 4) → Found 27 (6 * w.fram list.cln) home copy w t
+      IsPlace list.cln → IsPlace a → IsPlace (a + 2) → IsPlace (a + 4) → Found 27 (6 * w.fram list.cln) home copy w t
       → Runs z.code (Store a home ∷ Store (a + 2) copy ∷ Store (a + 4) 1 ∷ Store list.cln v ∷ []) 16 t (StandsFor z (p + 92) (stored list.cln v u)))
   entry_part w home copy t fc f1 f2 f4 j =
       let n = 6 * w.fram list.cln in
@@ -94,7 +94,7 @@ module _ (z : Setting) (place : ArrayPlace) (list : ListPlace) (p : ℕ) (h : St
       let up : (F list.cln + 1 + 0) % 0x10000 ≡ v = ap (λ q. (q list.cln + 1 + 0) % 0x10000) fr ∙ plus_none (u.fram list.cln) 1 in
       let es = Store a home ∷ Store (a + 2) copy ∷ Store (a + 4) 1 ∷ Store list.cln v ∷ [] in
       store_route z p code h 27 j.is j.held (on 4 ∷ []) es (put u.fram list.cln v) 16 _
-      (_, ((tt, f1), ((tt, subst IsFram (sym second) f2), ((tt, subst IsFram (sym third) f4), ((tt, refl, tt, fc), tt)))), (refl, tt)) refl refl
+      (_, ((tt, f1), ((tt, subst IsPlace (sym second) f2), ((tt, subst IsPlace (sym third) f4), ((tt, refl, tt, fc), tt)))), (refl, tt)) refl refl
       (λ k. Store a home ∷ Store (second k) copy ∷ Store (third k) 1 ∷ Store list.cln (up k) ∷ []) (λ k. put (fr k) list.cln (up k)) (λ s. s)
 
   -- the entry's code, behind code that brings it its place
@@ -108,7 +108,7 @@ module _ (z : Setting) (place : ArrayPlace) (list : ListPlace) (p : ℕ) (h : St
       runs_on z (comes g2) (λ x j. entry_part w home copy x (place_is list.cln g1) (place_is a g2) (place_is (a + 2) g3) (place_is (a + 4) g4) j)))))
 
   -- R5 becomes where the last entry stands; whether its homes end right before the home
-  home_part : (n : ℕ) (w : WordState) (home copy : ℕ) (t : Core) → home < 0x10000 → (let a = 6 * n + list.list in IsFram a → IsFram (a + 4)
+  home_part : (n : ℕ) (w : WordState) (home copy : ℕ) (t : Core) → home < 0x10000 → (let a = 6 * n + list.list in IsPlace a → IsPlace (a + 4)
       → Tested 6 (suc n) home copy false w t
       → Runs z.code [] 15 t (Tested 16 (6 * n) home copy ((2 * w.fram (a + 4) + w.fram a) % 0x10000 == home) w))
   home_part n w home copy t small f1 f4 k =
@@ -118,8 +118,8 @@ module _ (z : Setting) (place : ArrayPlace) (list : ListPlace) (p : ℕ) (h : St
       let five : last ≡ 6 * n = ap sixfold (one_less n (omega (arith, high))) ∙ six_times n (omega (arith, high)) in
       let words : last + word_sum list.list 4 ≡ a + 4 = ap (λ q. q + word_sum list.list 4) five ∙ at_offset (6 * n) list.list 4 (address_small f4) in
       let begin : last + list.list ≡ a = ap (λ q. q + list.list) five in
-      let f = subst IsFram (sym words) f4 in
-      let g = subst IsFram (sym begin) f1 in
+      let f = subst IsPlace (sym words) f4 in
+      let g = subst IsPlace (sym begin) f1 in
       route z p code h 6 k.all.is k.all.held (jump false ∷ on 5 ∷ on 4 ∷ []) 15 _
       (refl, k.flag, refl, (_, free 5, (refl, (_, ((f, tt), ((tt, tt), ((tt, g), free 1))), (refl, tt))))) refl refl
       (λ s. record {
@@ -128,14 +128,14 @@ module _ (z : Setting) (place : ArrayPlace) (list : ListPlace) (p : ℕ) (h : St
       })
 
   -- whether its copies end right before the copy
-  copy_part : (q : ℕ) (w : WordState) (home copy : ℕ) (t : Core) → copy < 0x10000 → (let a = q + list.list in IsFram (a + 2) → IsFram (a + 4)
+  copy_part : (q : ℕ) (w : WordState) (home copy : ℕ) (t : Core) → copy < 0x10000 → (let a = q + list.list in IsPlace (a + 2) → IsPlace (a + 4)
       → Tested 16 q home copy true w t → Runs z.code [] 10 t (Tested 21 q home copy ((2 * w.fram (a + 4) + w.fram (a + 2)) % 0x10000 == copy) w))
   copy_part q w home copy t small f2 f4 k =
       let a = q + list.list in
       let words : q + word_sum list.list 4 ≡ a + 4 = at_offset q list.list 4 (address_small f4) in
       let begin : q + word_sum list.list 2 ≡ a + 2 = at_offset q list.list 2 (address_small f2) in
-      let f = subst IsFram (sym words) f4 in
-      let g = subst IsFram (sym begin) f2 in
+      let f = subst IsPlace (sym words) f4 in
+      let g = subst IsPlace (sym begin) f2 in
       route z p code h 16 k.all.is k.all.held (jump false ∷ on 4 ∷ []) 10 _
       (refl, ap not k.flag, refl, (_, ((f, tt), ((tt, tt), ((tt, g), free 1))), (refl, tt))) refl refl
       (λ s. record {
@@ -144,14 +144,14 @@ module _ (z : Setting) (place : ArrayPlace) (list : ListPlace) (p : ℕ) (h : St
       })
 
   -- the entry has a word more
-  longer_part : (q : ℕ) (w : WordState) (home copy : ℕ) (t : Core) → (let c = q + list.list + 4 in let v = (w.fram c + 1) % 0x10000 in IsFram c
+  longer_part : (q : ℕ) (w : WordState) (home copy : ℕ) (t : Core) → (let c = q + list.list + 4 in let v = (w.fram c + 1) % 0x10000 in IsPlace c
       → Tested 21 q home copy true w t → Runs z.code (Store c v ∷ []) 12 t (StandsFor z (p + 92) (stored c v w)))
   longer_part q w home copy t f4 k =
       let c = q + list.list + 4 in
       let v = (w.fram c + 1) % 0x10000 in
       let there : q + word_sum list.list 4 ≡ c = at_offset q list.list 4 (address_small f4) in
       let up : (w.fram (q + word_sum list.list 4) + 1 + 0) % 0x10000 ≡ v = ap (λ x. (w.fram x + 1 + 0) % 0x10000) there ∙ plus_none (w.fram c) 1 in
-      let f = subst IsFram (sym there) f4 in
+      let f = subst IsPlace (sym there) f4 in
       store_route z p code h 21 k.all.is k.all.held (jump false ∷ on 3 ∷ jump true ∷ []) (Store c v ∷ []) (put w.fram c v) 12 _
       (refl, ap not k.flag, refl, (_, ((f, tt), ((tt, tt), ((tt, f), tt))), (refl, (refl, refl, refl, tt)))) refl refl
       (λ k. Store (there k) (up k) ∷ []) (λ k. put w.fram (there k) (up k)) (λ s. s)
@@ -166,7 +166,7 @@ module _ (z : Setting) (place : ArrayPlace) (list : ListPlace) (p : ℕ) (h : St
       (λ s. record { is = s; held = (refl, omega (arith, e, high), refl, refl) }))
 
   -- by whether the last copies end right before the copy
-  by_copy : (b : Bool) (n : ℕ) (w : WordState) (home copy : ℕ) (t : Core) → w.fram list.cln ≡ suc n → (let c = 6 * n + list.list + 4 in IsFram c
+  by_copy : (b : Bool) (n : ℕ) (w : WordState) (home copy : ℕ) (t : Core) → w.fram list.cln ≡ suc n → (let c = 6 * n + list.list + 4 in IsPlace c
       → Tested 21 (6 * n) home copy b w t → Follows z (p + 92) 20 t (if b then raised c w else entry_stored list.cln list.list home copy 1 w))
   by_copy true n w home copy t e f4 k = dearer z (omega arith) (longer_part (6 * n) w home copy t f4 k)
   by_copy false n w home copy t e f4 k =
@@ -178,7 +178,7 @@ module _ (z : Setting) (place : ArrayPlace) (list : ListPlace) (p : ℕ) (h : St
 
   -- by whether the last homes end right before the home
   by_home : (b : Bool) (n : ℕ) (w : WordState) (home copy : ℕ) (t : Core) → copy < 0x10000 → w.fram list.cln ≡ suc n
-      → (let a = 6 * n + list.list in let c = (2 * w.fram (a + 4) + w.fram (a + 2)) % 0x10000 == copy in IsFram (a + 2) → IsFram (a + 4)
+      → (let a = 6 * n + list.list in let c = (2 * w.fram (a + 4) + w.fram (a + 2)) % 0x10000 == copy in IsPlace (a + 2) → IsPlace (a + 4)
       → Tested 16 (6 * n) home copy b w t
       → Follows z (p + 92) 30 t (if b && c then raised (a + 4) w else entry_stored list.cln list.list home copy 1 w))
   by_home true n w home copy t small e f2 f4 k =
@@ -211,7 +211,7 @@ module _ (z : Setting) (place : ArrayPlace) (list : ListPlace) (p : ℕ) (h : St
       (λ u j. by_home _ n w home copy u cs e (place_is (a + 2) g2) (place_is (a + 4) g3) j))))
 
   -- behind the first store to a copy
-  pub first_follows : (i : ℕ) (w : WordState) (t : Core) → HoldsWords w.fram → IsFram (2 * i + place.copies) → IsFram (2 * i + place.versions)
+  pub first_follows : (i : ℕ) (w : WordState) (t : Core) → HoldsWords w.fram → IsPlace (2 * i + place.copies) → IsPlace (2 * i + place.versions)
       → StandsFor z p w t → t.work 4 ≡ 2 * i → t.work 6 ≡ w.fram list.ver → Follows z (p + 92) 58 t (first_stored place list i w)
   first_follows i w t wl fc fm is four six =
       let m = 2 * i + place.versions in

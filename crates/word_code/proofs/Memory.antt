@@ -1,6 +1,6 @@
 -- The stack and the locals: the first eight in registers, the others in RAM, above the stack.
 use Rattle.word_code.proofs.Names.{◌≡◌, ℕ, zero, suc, ◌+◌, ◌-◌, ◌*◌, ◌<◌, ◌≤◌, List, [], ◌∷◌, length, get_or, Option, Some, refl, sym, ap, ◌∙◌, subst, arith}
-use Rattle.word_code.proofs.Names.{Bool, true, false, nat_eq, nat_lt, eq-eqb, ne_eqb, if◌then◌else◌, nat_tests, same_Some, put, IsFram, IsRam}
+use Rattle.word_code.proofs.Names.{Bool, true, false, nat_eq, nat_lt, eq-eqb, ne_eqb, if◌then◌else◌, nat_tests, same_Some, put, IsPlace, IsRam}
 use Rattle.word_code.proofs.Names.{put_same, put_other, work_number, HasPushRoom, is_place, assigned, local_register, local_address, stack_base, eqb-true}
 use Rattle.word_code.proofs.Stretches.{Setting}
 pub use Rattle.array_versions.specs.alp_words.Words.{AreWords, HoldsWords}
@@ -19,10 +19,10 @@ stack_below : (ram : ℕ → ℕ) (a w sp : ℕ) (vs : List ℕ) → sp + 2 * le
 stack_below ram a w sp [] l h = tt
 stack_below ram a w sp (v ∷ vs) l h = (put_other ram a w sp (λ e. omega arith) ∙ h.0, stack_below ram a w (sp + 2) vs (omega arith) h.1)
 
-pub place_is : (a : ℕ) → is_place a ≡ true → IsFram a
+pub place_is : (a : ℕ) → is_place a ≡ true → IsPlace a
 place_is a h = record { even = grind (arith, nat_tests); low = grind (arith, nat_tests); high = grind (arith, nat_tests) }
 
-pub address_small : {a : ℕ} → IsFram a → a < 0x10000
+pub address_small : {a : ℕ} → IsPlace a → a < 0x10000
 address_small f = let high = f.high in omega (arith, high)
 
 pub assigned_same : (f : ℕ → Option ℕ) (n v : ℕ) → assigned f n v n ≡ Some v

@@ -24,7 +24,7 @@ pub use Rattle.array_versions.specs.msp_step.msp_isa.declared.operands.Konst.{Ko
 pub use Rattle.array_versions.proofs.machine_effects.Interface.{put_other, put_same}
 pub use Rattle.array_versions.specs.fram_board.Effects.{Effect, Store, Take}
 pub use Rattle.array_versions.specs.machine_effects.Going.{At, stretch, Goes, StepOutcome, Stops, Stretch, Halted, after_effects, continued, going}
-pub use Rattle.array_versions.specs.machine_effects.Machine.{IsPlace as IsFram, IsRam, MachineBoard, exec, Code}
+pub use Rattle.array_versions.specs.machine_effects.Machine.{IsPlace, IsRam, MachineBoard, exec, Code}
 pub use Rattle.array_versions.specs.machine_effects.World.{put, IsPrefix}
 pub use Rattle.array_versions.specs.machine_effects.address_space.Limits.{HasStackRoom}
 pub use Rattle.array_versions.specs.machine_effects.Inputs.{Inputs}

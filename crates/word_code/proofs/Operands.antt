@@ -1,7 +1,7 @@
 -- Words that wait to be pushed: what the machine stands for where some do, how they are pushed, and how they come to registers.
 use Rattle.word_code.proofs.Names.{◌≡◌, ℕ, suc, ◌+◌, ◌-◌, ◌%◌, ◌<◌, ◌≤◌, nat_le, Bool, true, false, nat_lt, if◌then◌else◌, List, [], ◌∷◌, ◌++◌, length, get_or}
 use Rattle.word_code.proofs.Names.{Inputs, drop, Option, Some, None, ◌==◌, eqb-true, refl, sym, ap, ap₂, ◌∙◌, subst, arith, append_assoc, append-nil}
-use Rattle.word_code.proofs.Names.{length-append, Flags, unwrap_or, AllByRecursion, put, Goes, IsFram, Konst, constant_value, CycleRow, cycles_of}
+use Rattle.word_code.proofs.Names.{length-append, Flags, unwrap_or, AllByRecursion, put, Goes, IsPlace, Konst, constant_value, CycleRow, cycles_of}
 use Rattle.word_code.proofs.Names.{source_cycles, to_register, to_memory, push, put_same, put_other, WorkRegister, R4, R5, work_number, Core, Source, Number}
 use Rattle.word_code.proofs.Names.{Constant, source_operand, source_bytes, source_value, source_read, SourceNeeds, ToRegister, Form, Move, Calculate, Push}
 use Rattle.word_code.proofs.Names.{HasPushRoom, instruction_of, form_bytes, Stands, forms_bytes, Runs, WordState, with_stack, pushed, Waiting, number_source}
@@ -39,7 +39,7 @@ pub record LocalIsThere (most : ℕ) (locals : ℕ → Option ℕ) (n : ℕ) : T
 -- what a word that waits names is there
 abbrev pub IsThere : ℕ → (ℕ → Option ℕ) → Waiting → Type 0
 IsThere most locals (waiting.Number n) = Unit {0}
-IsThere most locals (waiting.Fram a) = IsFram a
+IsThere most locals (waiting.Fram a) = IsPlace a
 IsThere most locals (waiting.Local n) = LocalIsThere most locals n
 IsThere most locals waiting.R4 = Unit {0}
 IsThere most locals waiting.R6 = Unit {0}

@@ -1,7 +1,7 @@
 -- The steps that are straight code: words of FRAM, locals, jumps.
 use Rattle.word_code.proofs.Names.{◌≡◌, ℕ, ◌+◌, ◌-◌, ◌%◌, ◌<◌, Bool, true, false, nat_lt, List, [], ◌∷◌, length, Option, Some, refl, sym, ap, ap₂, ◌∙◌, ◌++◌}
 use Rattle.word_code.proofs.Names.{◌==◌, subst, arith, put_other, ◌≤◌, eq-eqb, if◌then◌else◌, cycles_of, source_cycles, to_register, to_memory, Store, put}
-use Rattle.word_code.proofs.Names.{Goes, At, stretch, IsFram, Konst, constant_value, work_number, Core, Source, source_operand, source_bytes, source_read}
+use Rattle.word_code.proofs.Names.{Goes, At, stretch, IsPlace, Konst, constant_value, work_number, Core, Source, source_operand, source_bytes, source_read}
 use Rattle.word_code.proofs.Names.{Constant, Fram, Ram, ToRegister, ToFram, ToRam, Move, Push, Branch, instruction_of, Stands, forms_bytes, forms_run, Runs}
 use Rattle.word_code.proofs.Names.{stands_at, end_of, WordState, behaves, goes_on, Jumps, broken, with_stack, pushed, stored, with_local, is_place, word_stored}
 use Rattle.word_code.proofs.Names.{jumped, Waiting, HasJumped, local_register, local_address, local_target, number_source, source_from, number_code}
@@ -142,7 +142,7 @@ module _ (z : Setting) where
       set_by (nat_lt n 8) (number_source k) 5 n k pc w.stack w u refl lt
       (number_price to_register k 5 (omega arith) (omega arith), number_price to_memory k 5 (omega arith) (omega arith)) h (number_top z k pc w u i)
 
-  pub move_part : (from to pc : ℕ) (w : WordState) (u : Core) → IsFram from → Stands z.code pc (Move (Fram from) (ToFram to) ∷ []) → StandsFor z pc w u
+  pub move_part : (from to pc : ℕ) (w : WordState) (u : Core) → IsPlace from → Stands z.code pc (Move (Fram from) (ToFram to) ∷ []) → StandsFor z pc w u
       → Follows z (pc + 6) 6 u (word_stored to (w.fram from) w)
   move_part from to pc w u f h i =
       let ms = Move (Fram from) (ToFram to) ∷ [] in

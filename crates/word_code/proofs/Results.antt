@@ -2,7 +2,7 @@
 use Rattle.word_code.proofs.Names.{AllByRecursion, stays, ◌≡◌, ℕ, ◌+◌, ◌*◌, ◌<◌, ◌≤◌, ◌-◌, ◌/◌, ◌%◌, ◌^◌, ◌==◌, ◌&&◌, Bool, true, false, nat_lt, if◌then◌else◌}
 use Rattle.word_code.proofs.Names.{List, [], ◌∷◌, ◌++◌, length, Option, Some, None, refl, sym, ap, ◌∙◌, subst, arith, bit_and, w16, ltb-true, eqb-true, ne_eqb}
 use Rattle.word_code.proofs.Names.{le-leb, Step, and_parts, same_Some, and_mask, pow_pos, word_sum, word_product, quotient, remainder, unwrap_or, Take, put}
-use Rattle.word_code.proofs.Names.{IsFram, R4, R5, R6, Core, Form, Move, Calculate, Update, Push, Ram, ToFram, sensed, Stands, forms_bytes, Runs, stands_front}
+use Rattle.word_code.proofs.Names.{IsPlace, R4, R5, R6, Core, Form, Move, Calculate, Update, Push, Ram, ToFram, sensed, Stands, forms_bytes, Runs, stands_front}
 use Rattle.word_code.proofs.Names.{stands_back, forms_bytes-append, ArrayPlace, ListPlace, UnaryOperation, Negate, Complement, BinaryOperation, Multiply}
 use Rattle.word_code.proofs.Names.{Divide, Remainder, Plain, PlainOperation, And, ShiftOperation, Left, Right, unary_word, plain_word, binary_word, shift_word}
 use Rattle.word_code.proofs.Names.{keep, update, set_local, update_local, unary, binary, shift, element, emit_word, versioned_read, versioned_write, sense}
@@ -238,7 +238,7 @@ module _ (z : Setting) where
       → Does (waiting.Number n ∷ os) (pc + 0) (4 + owed os) u (goes_on [] (pushed n w))
   number_part n os pc w u room d = waits_part (waiting.Number n) os pc w n 4 u tt refl (omega arith) room d
 
-  pub load_part : (a : ℕ) (os : List Waiting) (pc : ℕ) (w : WordState) (u : Core) → length w.stack < z.room → IsFram a → Describes z os pc w u
+  pub load_part : (a : ℕ) (os : List Waiting) (pc : ℕ) (w : WordState) (u : Core) → length w.stack < z.room → IsPlace a → Describes z os pc w u
       → Does (waiting.Fram a ∷ os) (pc + 0) (5 + owed os) u (goes_on [] (pushed (w.fram a) w))
   load_part a os pc w u room f d = waits_part (waiting.Fram a) os pc w (w.fram a) 5 u f refl (omega arith) room d
 
@@ -248,7 +248,7 @@ module _ (z : Setting) where
     -- what an element gives: 0 where the index isn't below the length, else a word of FRAM
     by_length : (b : Bool) (after : List Waiting) (end most : ℕ) → nat_lt i size ≡ b
         → (nat_lt i size ≡ false → Does after end most u (goes_on [] (with_stack (0 ∷ rest) w)))
-        → (nat_lt i size ≡ true → IsFram (2 * i + base) → Does after end most u (goes_on [] (with_stack (w.fram (2 * i + base) ∷ rest) w)))
+        → (nat_lt i size ≡ true → IsPlace (2 * i + base) → Does after end most u (goes_on [] (with_stack (w.fram (2 * i + base) ∷ rest) w)))
         → (let a = 2 * i + base in let x : Behaviour = if b then at_place a (goes_on [] (with_stack (w.fram a ∷ rest) w)) else goes_on []
         (with_stack (0 ∷ rest) w) in Does after end most u x)
     by_length false after end most lt none there = none lt
@@ -291,7 +291,7 @@ module _ (z : Setting) where
         by_length (nat_lt i size) (known_element base size k ∷ os) (pc + 0) most refl (λ no. one false 0 no tt refl (omega arith)) (λ yes f.
         let high = f.high in
         let there : word_sum base (word_sum k k) ≡ at = omega (arith, x.1) in
-        one true (w.fram at) yes (subst IsFram (sym there) f) (ap w.fram there) (omega arith))
+        one true (w.fram at) yes (subst IsPlace (sym there) f) (ap w.fram there) (omega arith))
 
     element_on : (b : Bool) (os : List Waiting) (pc : ℕ) → (b ≡ true → nat_lt i size ≡ true)
         → (let ms = element_at b (top_number (top_of os)) os base size in Stands z.code pc ms → Describes z os pc w u
@@ -325,8 +325,8 @@ module _ (z : Setting) where
         template (four_fetched os pc w i rest u e d) (in_four (read_code sure place list) 18 v f) (23 + owed os) (omega arith) (omega (arith, load_owed os)) h
 
     -- by whether the version word is the attempt's number
-    own_by : (b : Bool) → (w.fram list.ver == w.fram (2 * i + place.versions)) ≡ b → nat_lt i place.length ≡ true → IsFram list.ver
-        → IsFram (2 * i + place.versions) → (let c = 2 * i + place.copies in let a = 2 * i + place.elements in
+    own_by : (b : Bool) → (w.fram list.ver == w.fram (2 * i + place.versions)) ≡ b → nat_lt i place.length ≡ true → IsPlace list.ver
+        → IsPlace (2 * i + place.versions) → (let c = 2 * i + place.copies in let a = 2 * i + place.elements in
         let x : Behaviour = if b then at_place c (goes_on [] (with_stack (w.fram c ∷ rest) w)) else at_place a (goes_on [] (with_stack (w.fram a ∷ rest) w)) in
         Does after_read read_end (23 + owed os) u x)
     own_by true q lt f g =

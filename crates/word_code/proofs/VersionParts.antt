@@ -1,6 +1,6 @@
 -- Versioned reads and writes.
 use Rattle.word_code.proofs.Names.{◌≡◌, ℕ, ◌+◌, ◌-◌, ◌*◌, ◌%◌, ◌<◌, ◌==◌, not, List, [], ◌∷◌, Some, refl, sym, ap, ◌∙◌, subst, arith, Bool, true, false}
-use Rattle.word_code.proofs.Names.{nat_lt, if◌then◌else◌, both_ways, sum16, distance, Store, put, IsFram, R4, Core, Indexed, ToRegister, Form, Move}
+use Rattle.word_code.proofs.Names.{nat_lt, if◌then◌else◌, both_ways, sum16, distance, Store, put, IsPlace, R4, Core, Indexed, ToRegister, Form, Move}
 use Rattle.word_code.proofs.Names.{instruction_of, Stands, forms_bytes, Runs, stands_front, stands_back, forms_behind, forms_bytes-append, ArrayPlace}
 use Rattle.word_code.proofs.Names.{ListPlace, WordState, goes_on, behind_effects, is_place, stored, first_stored, own_stored, versioned_stored, put_words}
 use Rattle.word_code.proofs.Names.{check_code, own_code, read_code, stored_code, write_code}
@@ -29,8 +29,8 @@ pub record HasNumber (k n : ℕ) (f : ℕ → ℕ) : Type 0 where
 -- what a version word is looked at with
 pub record Versioned (place : ArrayPlace) (list : ListPlace) (i : ℕ) (w : WordState) : Type 0 where
   pub words : HoldsWords w.fram
-  pub number : IsFram list.ver
-  pub version : IsFram (2 * i + place.versions)
+  pub number : IsPlace list.ver
+  pub version : IsPlace (2 * i + place.versions)
 
 module _ (z : Setting) where
   -- an element is read at an index in R4
@@ -55,7 +55,7 @@ module _ (z : Setting) where
 
     -- where the version word is the attempt's number, the copy is read, and the jump goes on
     copy_read : (to i : ℕ) (w : WordState) (t : Core) → Versioned place list i w → (w.fram list.ver == w.fram (2 * i + place.versions)) ≡ true
-        → IsFram (2 * i + place.copies) → sum16 (p + 16 + 2) (distance over) ≡ to → Has z R4 p w i t
+        → IsPlace (2 * i + place.copies) → sum16 (p + 16 + 2) (distance over) ≡ to → Has z R4 p w i t
         → Runs z.code [] 14 t (Has z R4 to w (w.fram (2 * i + place.copies)))
     copy_read to i w t m e fc d k =
         let v = w.fram (2 * i + place.copies) in
@@ -70,7 +70,7 @@ module _ (z : Setting) where
 
     -- where it isn't, the element
     home_read : (i : ℕ) (w : WordState) (t : Core) → Versioned place list i w → (w.fram list.ver == w.fram (2 * i + place.versions)) ≡ false
-        → IsFram (2 * i + place.elements) → Has z R4 p w i t → Runs z.code [] 12 t (Has z R4 (p + 22) w (w.fram (2 * i + place.elements)))
+        → IsPlace (2 * i + place.elements) → Has z R4 p w i t → Runs z.code [] 12 t (Has z R4 (p + 22) w (w.fram (2 * i + place.elements)))
     home_read i w t m e fe k =
         let f = doubled_fits i place.elements fe in
         let g = doubled_fits i place.versions m.version in
@@ -92,7 +92,7 @@ module _ (z : Setting) where
 
   pub own_copy : (b : Bool) (place : ArrayPlace) (list : ListPlace) (pc i : ℕ) (w : WordState) (t : Core) → Reading b place list pc i w t
       → nat_lt i place.length ≡ true → Versioned place list i w → (w.fram list.ver == w.fram (2 * i + place.versions)) ≡ true
-      → IsFram (2 * i + place.copies) → Runs z.code [] 18 t (Has z R4 (pc + forms_bytes (read_code b place list)) w (w.fram (2 * i + place.copies)))
+      → IsPlace (2 * i + place.copies) → Runs z.code [] 18 t (Has z R4 (pc + forms_bytes (read_code b place list)) w (w.fram (2 * i + place.copies)))
   own_copy true place list pc i w t r lt m e c =
       let high = (z.tidy (pc + 18) _ (at18 2 place list pc r.stands)).high in
       let to : sum16 (pc + 16 + 2) (distance 2) ≡ pc + 22 = omega arith in
@@ -113,7 +113,7 @@ module _ (z : Setting) where
 
   pub own_home : (b : Bool) (place : ArrayPlace) (list : ListPlace) (pc i : ℕ) (w : WordState) (t : Core) → Reading b place list pc i w t
       → nat_lt i place.length ≡ true → Versioned place list i w → (w.fram list.ver == w.fram (2 * i + place.versions)) ≡ false
-      → IsFram (2 * i + place.elements) → Runs z.code [] 18 t (Has z R4 (pc + forms_bytes (read_code b place list)) w (w.fram (2 * i + place.elements)))
+      → IsPlace (2 * i + place.elements) → Runs z.code [] 18 t (Has z R4 (pc + forms_bytes (read_code b place list)) w (w.fram (2 * i + place.elements)))
   own_home true place list pc i w t r lt m e c = dearer z (omega arith) (home_read 2 place list pc r.stands i w t m e c r.held)
   own_home false place list pc i w t r lt m e c =
       let ms = own_code 4 place list in
@@ -135,8 +135,8 @@ module _ (z : Setting) where
     stored_low = let high = (z.tidy p _ h.0).high in stands_low z p code h (omega arith)
 
     -- the word is stored; then it is by whether the version word is the attempt's number
-    module _ (i v : ℕ) (w : WordState) (t : Core) (wl : HoldsWords w.fram) (lv : v < 0x10000) (fc : IsFram (2 * i + place.copies)) (fv : IsFram list.ver)
-        (fm : IsFram (2 * i + place.versions)) (j : HasTwo z p w i v t) where
+    module _ (i v : ℕ) (w : WordState) (t : Core) (wl : HoldsWords w.fram) (lv : v < 0x10000) (fc : IsPlace (2 * i + place.copies)) (fv : IsPlace list.ver)
+        (fm : IsPlace (2 * i + place.versions)) (j : HasTwo z p w i v t) where
       abbrev c : ℕ
       c = 2 * i + place.copies
 

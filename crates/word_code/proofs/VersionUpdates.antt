@@ -1,7 +1,7 @@
 -- Elements that are updated in place.
 use Rattle.word_code.proofs.Names.{rests, ◌≡◌, ℕ, ◌+◌, ◌-◌, ◌*◌, ◌%◌, ◌<◌, ◌≤◌, ◌==◌, not, Bool, true, false, nat_lt, nat_le, if◌then◌else◌, List, [], ◌∷◌}
 use Rattle.word_code.proofs.Names.{◌++◌, Some, None, refl, sym, ap, ap₂, ◌∙◌, subst, arith, word_sum, Word, operated, sum16, distance, cycles_of, source_cycles}
-use Rattle.word_code.proofs.Names.{to_register, to_memory, Store, put, Goes, IsFram, R4, R6, R7, Core, Source, source_bytes, source_value, source_operand}
+use Rattle.word_code.proofs.Names.{to_register, to_memory, Store, put, Goes, IsPlace, R4, R6, R7, Core, Source, source_bytes, source_value, source_operand}
 use Rattle.word_code.proofs.Names.{Register, Number, Fram, Indexed, ToRegister, ToIndexed, Form, Move, Calculate, Update, Jump, flags_after, instruction_of}
 use Rattle.word_code.proofs.Names.{form_bytes, Stands, forms_bytes, Runs, stands_front, stands_back, forms_bytes-append, PlainOperation, ArrayPlace, ListPlace}
 use Rattle.word_code.proofs.Names.{plain_word, versioned_update, WordState, Behaviour, goes_on, behind_effects, with_two, with_stack, is_place, at_place}
@@ -77,7 +77,7 @@ module _ (z : Setting) (o : PlainOperation) (x : Source) (r : ℕ) (reads : sour
       })
 
   -- a copy becomes what the operation gives of a word and of the source
-  made_part : (from pc i v : ℕ) (w : WordState) (t : Core) → HoldsWords w.fram → v < 0x10000 → IsFram (2 * i + from) → IsFram (2 * i + place.copies)
+  made_part : (from pc i v : ℕ) (w : WordState) (t : Core) → HoldsWords w.fram → v < 0x10000 → IsPlace (2 * i + from) → IsPlace (2 * i + place.copies)
       → (let ms = made_code o x from place.copies in Stands z.code pc ms → Aims z x pc w (2 * i) v t
       → (let c = 2 * i + place.copies in let y = plain_word o (w.fram (2 * i + from)) v in
       Runs z.code (Store c y ∷ []) (7 + r) t (Has z R4 (pc + forms_bytes ms) (stored c y w) (2 * i))))
@@ -97,21 +97,21 @@ module _ (z : Setting) (o : PlainOperation) (x : Source) (r : ℕ) (reads : sour
       λ u j.
       let at : u.work 4 + place.copies ≡ c = ap (λ q. q + place.copies) j.held.four in
       store_line z last (Store c y ∷ []) (put w.fram c y) 4 (mid + 4) _ j.is (tt, tt) h.1.1
-      ((tt, subst IsFram (sym at) fc), tt) refl refl (omega (arith, j.is.at)) (λ e. Store (at e) (j.held.seven e) ∷ [])
+      ((tt, subst IsPlace (sym at) fc), tt) refl refl (omega (arith, j.is.at)) (λ e. Store (at e) (j.held.seven e) ∷ [])
       (λ e. put (j.is.fram e) (at e) (j.held.seven e)) (λ s. record { is = s; held = j.held.four }) in dearer z (omega arith)
       (subst (λ p. Runs z.code (Store c y ∷ []) (3 + (r + 4)) t (Has z R4 p (stored c y w) (2 * i))) there
       (runs_on z fetched (λ u j. runs_on z (make_part (pc + 4) (2 * i) v (w.fram a) w u (wl a) lv h.1.0 j) kept)))
 
   -- VER's word
-  number_part : (pc k : ℕ) (w : WordState) (t : Core) → IsFram list.ver → z.code pc ≡ Some (instruction_of (attempt_form list)) → Has z R4 pc w k t
+  number_part : (pc k : ℕ) (w : WordState) (t : Core) → IsPlace list.ver → z.code pc ≡ Some (instruction_of (attempt_form list)) → Has z R4 pc w k t
       → Runs z.code [] 3 t (Holds z (HasNumber k (w.fram list.ver)) (pc + 4) w)
   number_part pc k w t fv h j =
       line z (attempt_form list ∷ []) 3 (pc + 4) _ j.is (tt, tt) (h, tt) ((fv, tt), tt) refl refl (omega (arith, j.is.at))
       (λ s. record { is = s; held = record { four = j.held; six = ap (λ f. f list.ver) j.is.fram } })
 
   -- the first update of an element in an attempt
-  first_part : (pc i v : ℕ) (w : WordState) (t : Core) → Versioned place list i w → v < 0x10000 → IsFram (2 * i + place.elements)
-      → IsFram (2 * i + place.copies) → Stands z.code pc (first_update o x place list) → Aims z x pc w (2 * i) v t
+  first_part : (pc i v : ℕ) (w : WordState) (t : Core) → Versioned place list i w → v < 0x10000 → IsPlace (2 * i + place.elements)
+      → IsPlace (2 * i + place.copies) → Stands z.code pc (first_update o x place list) → Aims z x pc w (2 * i) v t
       → (let c = 2 * i + place.copies in let y = plain_word o (w.fram (2 * i + place.elements)) v in
       Follows z (pc + forms_bytes (first_update o x place list)) (68 + r) t (behind_effects (Store c y ∷ []) (first_stored place list i (stored c y w))))
   first_part pc i v w t m lv fe fc h k =
@@ -184,7 +184,7 @@ module _ (z : Setting) (o : PlainOperation) (x : Source) (r : ℕ) (reads : sour
   looking = double ∷ attempt_form list ∷ Calculate op.Cmp (Indexed R4 place.versions) R6 ∷ []
 
   -- R4 becomes the offset, and the version word is looked at
-  look_part : (pc i v : ℕ) (w : WordState) (t : Core) → HoldsWords w.fram → IsFram list.ver → IsFram (2 * i + place.versions) → Stands z.code pc looking
+  look_part : (pc i v : ℕ) (w : WordState) (t : Core) → HoldsWords w.fram → IsPlace list.ver → IsPlace (2 * i + place.versions) → Stands z.code pc looking
       → Aims z x pc w i v t → Runs z.code [] 7 t (Looked (pc + 10) w (2 * i) v (w.fram list.ver == w.fram (2 * i + place.versions)))
   look_part pc i v w t wl fv fm h k =
       let high = address_small fm in
@@ -196,7 +196,7 @@ module _ (z : Setting) (o : PlainOperation) (x : Source) (r : ℕ) (reads : sour
       })
 
   module _ (pc : ℕ) (h : Stands z.code pc (inside_update o x place list)) (i v : ℕ) (w : WordState) (t : Core) (wl : HoldsWords w.fram)
-      (lv : v < 0x10000) (fv : IsFram list.ver) (fm : IsFram (2 * i + place.versions)) (k : Aims z x pc w i v t) where
+      (lv : v < 0x10000) (fv : IsPlace list.ver) (fm : IsPlace (2 * i + place.versions)) (k : Aims z x pc w i v t) where
     abbrev made : List Form
     made = made_code o x place.copies place.copies
 
@@ -306,7 +306,7 @@ module _ (z : Setting) (o : PlainOperation) (x : Source) (r : ℕ) (reads : sour
   -- ---- at a number that is known
 
   -- a word of FRAM becomes what the operation gives of it and of the source
-  place_part : (c pc v : ℕ) (w : WordState) (t : Core) → source_cycles to_memory (source_operand x) ≤ 6 → w.fram c < 0x10000 → v < 0x10000 → IsFram c
+  place_part : (c pc v : ℕ) (w : WordState) (t : Core) → source_cycles to_memory (source_operand x) ≤ 6 → w.fram c < 0x10000 → v < 0x10000 → IsPlace c
       → (let m = Update (plain_instruction o) x c in let y = plain_word o (w.fram c) v in z.code pc ≡ Some (instruction_of m) → StandsFor z pc w t
       → GivesOn false x v w.fram t.work → Runs z.code (Store c y ∷ []) 6 t (StandsFor z (pc + form_bytes m) (stored c y w)))
   place_part c pc v w t writes l lv fc h i g =
@@ -329,7 +329,7 @@ module _ (z : Setting) (o : PlainOperation) (x : Source) (r : ℕ) (reads : sour
       })
 
   module _ (k pc : ℕ) (writes : source_cycles to_memory (source_operand x) ≤ 6) (h : Stands z.code pc (known_update o x place list k)) (v : ℕ) (w : WordState)
-      (t : Core) (wl : HoldsWords w.fram) (lv : v < 0x10000) (fv : IsFram list.ver) (fm : IsFram (2 * k + place.versions)) (i : StandsFor z pc w t)
+      (t : Core) (wl : HoldsWords w.fram) (lv : v < 0x10000) (fv : IsPlace list.ver) (fm : IsPlace (2 * k + place.versions)) (i : StandsFor z pc w t)
       (g : GivesOn false x v w.fram t.work) where
     abbrev offset : ℕ
     offset = word_sum k k
@@ -364,7 +364,7 @@ module _ (z : Setting) (o : PlainOperation) (x : Source) (r : ℕ) (reads : sour
         let at = known_place k place.versions (address_small fm) in
         subst (λ c. Runs z.code [] 6 t (Looked (pc + 8) w (t.work 4) v c)) e
         (line z known_looking 6 (pc + 8) (Looked (pc + 8) w (t.work 4) v (w.fram list.ver == w.fram m)) i (tt, (tt, tt))
-        (stands_front z.code pc known_looking (by_version one known_first) h) ((fv, tt), ((tt, subst IsFram (sym at) fm), tt)) refl refl (omega (arith, i.at))
+        (stands_front z.code pc known_looking (by_version one known_first) h) ((fv, tt), ((tt, subst IsPlace (sym at) fm), tt)) refl refl (omega (arith, i.at))
         (λ s. record {
           all = record { is = s; held = record { four = refl; gives = g } };
           flag = ap₂ (λ p q. (p + (0xFFFF - q) + 1) % 0x10000 == 0) (ap (λ (f : ℕ → ℕ). f list.ver) i.fram) (ap t.fram at ∙ ap (λ (f : ℕ → ℕ). f m) i.fram)
@@ -372,7 +372,7 @@ module _ (z : Setting) (o : PlainOperation) (x : Source) (r : ℕ) (reads : sour
         }))
 
     -- the copy by one instruction
-    once : (c : ℕ) (u : Core) → IsFram c → word_sum place.copies offset ≡ c → Stands z.code (pc + 8 + 2) one → Aims z x (pc + 8 + 2) w (t.work 4) v u
+    once : (c : ℕ) (u : Core) → IsPlace c → word_sum place.copies offset ≡ c → Stands z.code (pc + 8 + 2) one → Aims z x (pc + 8 + 2) w (t.work 4) v u
         → (let y = plain_word o (w.fram c) v in Runs z.code (Store c y ∷ []) 6 u (StandsFor z (pc + 8 + 2 + forms_bytes one) (stored c y w)))
     once c u fc at hs a =
         let c' = word_sum place.copies offset in
@@ -380,10 +380,10 @@ module _ (z : Setting) (o : PlainOperation) (x : Source) (r : ℕ) (reads : sour
         let end : pc + 8 + 2 + form_bytes m ≡ pc + 8 + 2 + forms_bytes one = omega arith in
         subst (λ n. let y = plain_word o (w.fram n) v in Runs z.code (Store n y ∷ []) 6 u (StandsFor z (pc + 8 + 2 + forms_bytes one) (stored n y w))) at
         (subst (λ p. let y = plain_word o (w.fram c') v in Runs z.code (Store c' y ∷ []) 6 u (StandsFor z p (stored c' y w))) end
-        (place_part c' (pc + 8 + 2) v w u writes (wl c') lv (subst IsFram (sym at) fc) hs.0 a.is a.held.gives))
+        (place_part c' (pc + 8 + 2) v w u writes (wl c') lv (subst IsPlace (sym at) fc) hs.0 a.is a.held.gives))
 
     -- the first update, R4 being loaded in front of it
-    afresh_part : (at : ℕ) (u : Core) → IsFram (2 * k + place.elements) → IsFram (2 * k + place.copies) → Stands z.code at known_first
+    afresh_part : (at : ℕ) (u : Core) → IsPlace (2 * k + place.elements) → IsPlace (2 * k + place.copies) → Stands z.code at known_first
         → Aims z x at w (t.work 4) v u → (let c = 2 * k + place.copies in let y = plain_word o (w.fram (2 * k + place.elements)) v in
         Follows z (at + forms_bytes known_first) (2 + (68 + r)) u (behind_effects (Store c y ∷ []) (first_stored place list k (stored c y w))))
     afresh_part at u fe fc hs a =
