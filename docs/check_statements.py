@@ -27,6 +27,7 @@ TWO_NOTIONS = {
     ('boot_head_bytes', 'weakest'): 'the bytes of a piece of code, and the precedence of an operator',
     ('Holds', 'StackIs'): 'words that stand in code, and the words of a stack',
     ('is_true', 'holds'): 'the word on top of a stack, and the value of an expression, which may be a long',
+    ('Event', 'Written'): 'an event of a trace, steps and word, and a write of an instruction, address and word',
     ('is_word',): 'the words of the FRAM board, and those of the board of tests, each by its own memory',
 }
 OTHER = ('use', 'mod', 'module', 'mutual', 'record', 'data', 'open', 'ruleset', 'syntax', 'infixl', 'infixr', 'infix', '--')

@@ -13,6 +13,10 @@ number_port = 0x202
 abbrev pub data_port : ℕ
 data_port = 0x204
 
+-- the port EVENT: a word read here is the event that waits in it, or 0 where none does
+abbrev pub event_port : ℕ
+event_port = 0x206
+
 -- the first word of RAM
 abbrev pub ram_first : ℕ
 ram_first = 0x1C00
@@ -48,6 +52,10 @@ fram_words = 24064
 -- its last word, which holds the address at which the CPU starts
 abbrev pub reset_vector : ℕ
 reset_vector = 0xFFFE
+
+-- the word that holds the address at which the CPU goes on where it accepts an event
+abbrev pub event_vector : ℕ
+event_vector = 0xFFF0
 
 -- where the words and the code of a compiled source end at the latest: above it there is room for what stands at one place in every image
 abbrev pub program_end : ℕ

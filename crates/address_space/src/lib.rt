@@ -10,6 +10,9 @@ pub const OUTNUM: u16 = 0x202;
 /// The port at which a word written is offered to the receiver.
 pub const OUTDATA: u16 = 0x204;
 
+/// The port at which a word read is the event that waits in it, or 0 where none does.
+pub const EVENT: u16 = 0x206;
+
 /// The first word of RAM.
 pub const RAM_FIRST: u16 = 0x1C00;
 
@@ -30,6 +33,9 @@ pub const FRAM_WORDS: usize = 24064;
 
 /// The last word of the FRAM, which holds the address at which the CPU starts.
 pub const RESET_VECTOR: u16 = 0xFFFE;
+
+/// The word of the FRAM that holds the address at which the CPU goes on where it accepts an event.
+pub const EVENT_VECTOR: u16 = 0xFFF0;
 
 ghost use Rattle.std.specs.Prelude.{◌≡◌, ◌≤◌, ◌<◌};
 ghost use Rattle.address_space.specs.Limits.{fram_first, fram_words, place_of};

@@ -6,4 +6,5 @@ pub mod Changes
 pub mod Written
 pub mod Marks
 pub mod Transitions
+pub mod Hands
 pub mod Interface

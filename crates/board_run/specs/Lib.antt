@@ -1,5 +1,6 @@
 pub mod Charges
 pub mod History
+pub mod Events
 pub mod Report
 pub mod Shadow
 pub mod Parts

@@ -1,6 +1,7 @@
 //! Runs of a board under a trace, and their reports.
 #![tactic(auto)]
 
+mod laws;
 mod numbers;
 mod seen;
 mod shadow;
@@ -9,5 +10,9 @@ mod state;
 mod trace_run;
 mod watch;
 
+pub use laws::{
+    events_are_accounted, ringless_runs_accept_nothing, silent_runs_accept_nothing,
+    words_of_events_are_known,
+};
 pub use trace_run::{RunEnd, RunFault, run};
 pub use watch::Watch;

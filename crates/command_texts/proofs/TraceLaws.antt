@@ -1,21 +1,19 @@
 -- The numbers of a trace that is read are as their types say.
-use Rattle.std.proofs.Common.{◌≡◌, ◌<◌, ◌^◌, ◌==◌, ℕ, List, [], ◌∷◌, map, Bool, true, false, if◌then◌else◌, nat_lt, Option, Some, None, IfSome, Result, Ok}
+use Rattle.std.proofs.Common.{◌≡◌, ◌<◌, ◌^◌, ℕ, List, [], ◌∷◌, map, Bool, true, false, if◌then◌else◌, nat_lt, Option, Some, None, IfSome, Result, Ok}
 use Rattle.std.proofs.Common.{Err, codes, All, arith, refl, sym, subst}
 use Rattle.std.specs.Str.{bytes_eq}
 use Rattle.std.proofs.lemmas.Bool.Decides.{nat_tests}
 use Rattle.std.proofs.lemmas.List.Elements.{All-nil, All-cons, All-append}
 use Rattle.command_answers.specs.alp_text.Numbers.{number_of, limited}
 use Rattle.command_answers.specs.alp_text.declared.numbers.NumberFault.{NumberFault}
-use Rattle.image_text.specs.text_parts.Fields.{fields}
-use Rattle.image_text.specs.text_parts.Lengths.{before}
 use Rattle.energy_trace.specs.declared.charge.Charge.{Charge}
 use Rattle.energy_trace.specs.declared.charge.ChargeKind.{ChargeKind}
-use Rattle.energy_trace.specs.declared.charge.ChargeKind.TheVariants as kind
-use Rattle.energy_trace.specs.Line.{LineMeaning, nothing, charge, readings, number_below, positive, times_of, charge_of, readings_of, fields_say, line_says}
-use Rattle.energy_trace.specs.Line.{◌>>?◌}
-use Rattle.energy_trace.specs.Ranges.{IsCharge}
-use Rattle.energy_trace.specs.Meaning.{all_charges, all_readings, AreLinesOf}
-use Rattle.energy_trace.specs.TraceValue.{TraceValue}
+use Rattle.energy_trace.specs.Line.{LineMeaning, nothing, charge, readings, event, number_below, positive, times_of, charge_of, readings_of, event_of}
+use Rattle.energy_trace.specs.Line.{line_says, ◌>>?◌}
+use Rattle.energy_trace.specs.Ranges.{IsCharge, IsEvent}
+use Rattle.energy_trace.specs.Meaning.{all_charges, all_readings, all_events, AreLinesOf}
+use Rattle.energy_trace.specs.TraceValue.{TraceValue, Event}
+use Rattle.energy_trace.proofs.Interface.{line_by}
 use Rattle.source_runs.specs.Traces.{IsTraceOfWords}
 
 -- what a line says is of words
@@ -23,6 +21,7 @@ abbrev IsOfWords : LineMeaning → Type 0
 IsOfWords nothing = Unit {0}
 IsOfWords (charge c) = IsCharge c
 IsOfWords (readings ws) = All (λ w. w < 0x10000) ws
+IsOfWords (event e) = IsEvent e
 
 -- ---- one line
 
@@ -82,33 +81,25 @@ reading_words : (fs : List (List ℕ)) → IfSome (readings_of fs) (All (λ x. x
 reading_words [] = All-nil (λ x. x < 0x10000)
 reading_words (f ∷ fs) = reading_by (limited (2 ^ 16) (number_of f)) (readings_of fs) (below (2 ^ 16) (number_of f)) (reading_words fs)
 
-said_charge : (o : Option Charge) (m : LineMeaning) → ((c : Charge) → o ≡ Some c → IsCharge c) → (o >>? λ c. Some (charge c)) ≡ Some m → IsOfWords m
-said_charge None m words e = cc
-said_charge (Some c) m words e = let same : charge c ≡ m = cc in subst IsOfWords same (words c refl)
+are_words : (fs : List (List ℕ)) (ws : List ℕ) → readings_of fs ≡ Some ws → All (λ x. x < 0x10000) ws
+are_words fs ws e = let P : Option (List ℕ) → Type 0 = λ o. IfSome o (All (λ x. x < 0x10000)) in subst P e (reading_words fs)
 
-said_readings : (o : Option (List ℕ)) (m : LineMeaning) → IfSome o (All (λ w. w < 0x10000)) → (o >>? λ ws. Some (readings ws)) ≡ Some m → IsOfWords m
-said_readings None m words e = cc
-said_readings (Some ws) m words e = let same : readings ws ≡ m = cc in subst IsOfWords same words
+event_by : (n w : Option ℕ) (e : Event) → IfSome n (λ x. x < 2 ^ 32) → IfSome w (λ x. x < 2 ^ 16) → (n >>? λ n. w >>? λ w. Some (n, w)) ≡ Some e → IsEvent e
+event_by None w e n_low w_low h = cc
+event_by (Some n) None e n_low w_low h = cc
+event_by (Some n) (Some w) e n_low w_low h = let same : (n, w) ≡ e = cc in subst IsEvent same (record { step = n_low; word = w_low })
 
-said_by : (x y z : Bool) (o p : Option Charge) (q : Option (List ℕ)) (m : LineMeaning)
-    → ((c : Charge) → o ≡ Some c → IsCharge c) → ((c : Charge) → p ≡ Some c → IsCharge c) → IfSome q (All (λ w. w < 0x10000))
-    → (if x then o >>? (λ c. Some (charge c)) else (if y then p >>? (λ c. Some (charge c)) else (if z then q >>? (λ ws. Some (readings ws)) else None)))
-    ≡ Some m → IsOfWords m
-said_by true y z o p q m first second third e = said_charge o m first e
-said_by false true z o p q m first second third e = said_charge p m second e
-said_by false false true o p q m first second third e = said_readings q m third e
-said_by false false false o p q m first second third e = cc
-
-fields_of_words : (fs : List (List ℕ)) (m : LineMeaning) → fields_say fs ≡ Some m → IsOfWords m
-fields_of_words [] m e = let same : nothing ≡ m = cc in subst IsOfWords same tt
-fields_of_words (word ∷ rest) m e =
-    said_by (bytes_eq word (codes "c")) (bytes_eq word (codes "s")) (bytes_eq word (codes "r")) (charge_of kind.Cycles rest) (charge_of kind.Steps rest)
-    (readings_of rest) m
-    (charge_words kind.Cycles rest) (charge_words kind.Steps rest) (reading_words rest) e
+event_words : (fs : List (List ℕ)) (e : Event) → event_of fs ≡ Some e → IsEvent e
+event_words [] e h = cc
+event_words (n ∷ []) e h = cc
+event_words (n ∷ w ∷ []) e h =
+    let word : Option ℕ = limited (2 ^ 16) (number_of w) in
+    event_by (limited (2 ^ 32) (number_of n)) (word >>? positive) e (below (2 ^ 32) (number_of n))
+    (positives (2 ^ 16) word (below (2 ^ 16) (number_of w))) h
+event_words (n ∷ w ∷ f ∷ fs) e h = cc
 
 line_of_words : (l : List ℕ) (m : LineMeaning) → line_says l ≡ Some m → IsOfWords m
-unfolding line_says
-line_of_words l m e = fields_of_words (fields (before (λ b. b == 35) l)) m e
+line_of_words l m e = line_by IsOfWords l m tt charge_words are_words event_words e
 
 -- ---- all lines
 
@@ -130,12 +121,21 @@ charges_of_words [] words = All-nil IsCharge
 charges_of_words (nothing ∷ ms) words = charges_of_words ms words.1
 charges_of_words (charge c ∷ ms) words = All-cons IsCharge c (all_charges ms) words.0 (charges_of_words ms words.1)
 charges_of_words (readings ws ∷ ms) words = charges_of_words ms words.1
+charges_of_words (event e ∷ ms) words = charges_of_words ms words.1
 
 readings_of_words : (ms : List LineMeaning) → AreOfWords ms → All (λ w. w < 0x10000) (all_readings ms)
 readings_of_words [] words = All-nil (λ w. w < 0x10000)
 readings_of_words (nothing ∷ ms) words = readings_of_words ms words.1
 readings_of_words (charge c ∷ ms) words = readings_of_words ms words.1
 readings_of_words (readings ws ∷ ms) words = All-append (λ w. w < 0x10000) ws (all_readings ms) words.0 (readings_of_words ms words.1)
+readings_of_words (event e ∷ ms) words = readings_of_words ms words.1
+
+events_of_words : (ms : List LineMeaning) → AreOfWords ms → All IsEvent (all_events ms)
+events_of_words [] words = All-nil IsEvent
+events_of_words (nothing ∷ ms) words = events_of_words ms words.1
+events_of_words (charge c ∷ ms) words = events_of_words ms words.1
+events_of_words (readings ws ∷ ms) words = events_of_words ms words.1
+events_of_words (event e ∷ ms) words = All-cons IsEvent e (all_events ms) words.0 (events_of_words ms words.1)
 
 pub trace_of_words : (ls : List (List ℕ)) (t : TraceValue) → AreLinesOf ls t → IsTraceOfWords t
 trace_of_words ls t are =
@@ -144,4 +144,5 @@ trace_of_words ls t are =
       trace = are.limits;
       charges = subst (All IsCharge) (sym are.charges) (charges_of_words are.meanings words);
       readings = subst (All (λ w. w < 0x10000)) (sym are.readings) (readings_of_words are.meanings words);
+      events = subst (All IsEvent) (sym are.events) (events_of_words are.meanings words);
     }

@@ -1,9 +1,10 @@
 -- The trace of `gen`, and the run of a generated source's image on it.
-use Rattle.std.proofs.Common.{◌≡◌, ◌∙◌, ℕ, zero, suc, ◌<◌, ◌^◌, List, Ok, Err, Option, refl, sym, ap, subst, arith, All}
+use Rattle.std.proofs.Common.{◌≡◌, ◌∙◌, ℕ, zero, suc, ◌<◌, ◌^◌, List, [], Ok, Err, Option, refl, sym, ap, subst, arith, All}
 use Rattle.std.proofs.lemmas.List.Elements.{All-nil, All-cons}
+use Rattle.std.proofs.lemmas.List.Sorted.{IsNonDecreasingBy-short}
 use Rattle.plain_commands.specs.cost_bound.declared.allowance.Allow.{Allow}
-use Rattle.plain_commands.specs.energy_trace.Ranges.{IsCharge}
-use Rattle.plain_commands.specs.energy_trace.TraceValue.{TraceValue}
+use Rattle.plain_commands.specs.energy_trace.Ranges.{IsCharge, IsEvent}
+use Rattle.plain_commands.specs.energy_trace.TraceValue.{TraceValue, Event}
 use Rattle.plain_commands.specs.image_text.ImageValue.{ImageValue}
 use Rattle.msp_step.specs.declared.machine.Stop.TheVariants as stop
 use Rattle.plain_commands.specs.fram_board.Board.{BoardValue, fresh}
@@ -54,9 +55,13 @@ generated_are number bound low =
         charges = few_charges _ bound (behind 512 s) refl;
         readings = few_readings _ s refl;
         repeats = each_once _ bound (behind 512 s) refl;
+        events = omega arith;
+        words = All-nil (λ (e : Event). 0 < e.1);
+        order = IsNonDecreasingBy-short (λ (e : Event). e.0) [] (omega arith);
       };
       charges = charges_are 256 bound (behind 512 s) low;
       readings = draws_are 512 s;
+      events = All-nil IsEvent;
     }
 
 pub generated_words : (number bound : ℕ) (trace : TraceValue) → bound < 2 ^ 32 → trace ≡ generated_trace number bound → IsTraceOfWords trace

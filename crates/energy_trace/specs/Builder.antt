@@ -2,6 +2,6 @@
 use Rattle.energy_trace.specs.declared.builder.TraceBuilder.{TraceBuilder}
 use Rattle.energy_trace.specs.TraceValue.{TraceValue}
 
--- the charges and readings so far
+-- the charges, readings and events so far
 abbrev pub built : TraceBuilder → TraceValue
-built b = record { charges = b.charges.items; readings = b.readings.items }
+built b = record { charges = b.charges.items; readings = b.readings.items; events = b.events.items }

@@ -1,11 +1,11 @@
 -- When lines are a trace, and which fault is the first, with no order of reading in it.
-use Rattle.std.specs.Prelude.{◌≡◌, ℕ, ◌+◌, ◌<◌, ◌⊎◌, List, [], ◌∷◌, ◌++◌, length, map, Option, Some, None, Ok, Err, Result}
+use Rattle.std.specs.Prelude.{◌≡◌, ℕ, ◌+◌, ◌<◌, ◌⊎◌, true, false, List, [], ◌∷◌, ◌++◌, length, map, Option, Some, None, Ok, Err, Result}
 use Rattle.energy_trace.specs.declared.charge.Charge.{Charge}
 use Rattle.energy_trace.specs.declared.fault.TraceFault.{TraceFault}
 use Rattle.energy_trace.specs.declared.fault.TraceFault.TheVariants.{BadLine, TooMany, Memory}
-use Rattle.energy_trace.specs.TraceValue.{TraceValue, charge_count, IsTrace}
-use Rattle.energy_trace.specs.Line.{LineMeaning, nothing, charge, readings, line_says}
-use Rattle.energy_trace.specs.Reading.{with_line}
+use Rattle.energy_trace.specs.TraceValue.{TraceValue, Event, charge_count, IsTrace}
+use Rattle.energy_trace.specs.Line.{LineMeaning, nothing, charge, readings, event, line_says}
+use Rattle.energy_trace.specs.Reading.{with_line, is_in_order}
 
 -- the charges of lines, in order
 abbrev pub all_charges : List LineMeaning → List Charge
@@ -13,6 +13,7 @@ all_charges [] = []
 all_charges (nothing ∷ ms) = all_charges ms
 all_charges (charge c ∷ ms) = c ∷ all_charges ms
 all_charges (readings ws ∷ ms) = all_charges ms
+all_charges (event e ∷ ms) = all_charges ms
 
 -- the readings of lines, in order
 abbrev pub all_readings : List LineMeaning → List ℕ
@@ -20,23 +21,33 @@ all_readings [] = []
 all_readings (nothing ∷ ms) = all_readings ms
 all_readings (charge c ∷ ms) = all_readings ms
 all_readings (readings ws ∷ ms) = ws ++ all_readings ms
+all_readings (event e ∷ ms) = all_readings ms
 
--- each line is one of a trace, the trace is their charges and their readings, and it is within the limits
+-- the events of lines, in order
+abbrev pub all_events : List LineMeaning → List Event
+all_events [] = []
+all_events (nothing ∷ ms) = all_events ms
+all_events (charge c ∷ ms) = all_events ms
+all_events (readings ws ∷ ms) = all_events ms
+all_events (event e ∷ ms) = e ∷ all_events ms
+
+-- each line is one of a trace, the trace is their charges, their readings and their events, and it is within the limits
 pub record AreLinesOf (ls : List (List ℕ)) (t : TraceValue) : Type 0 where
   pub meanings : List LineMeaning
   pub lines : map line_says ls ≡ map Some meanings
   pub charges : t.charges ≡ all_charges meanings
   pub readings : t.readings ≡ all_readings meanings
+  pub events : t.events ≡ all_events meanings
   pub limits : IsTrace t
 
--- the line is no line of a trace
+-- the line is no line of a trace, or its event arises before the one in front of it
 abbrev pub IsBadLine : TraceValue → Option LineMeaning → Type 0
-IsBadLine t said = said ≡ None
+IsBadLine t said = (said ≡ None) ⊎ ((m : LineMeaning) × (said ≡ Some m) × (is_in_order t m ≡ false))
 
--- with the line there are too many charges or readings
+-- the line is one of a trace in its order, and with it there are too many charges, readings or events
 abbrev pub IsTooMany : TraceValue → Option LineMeaning → Type 0
-IsTooMany t said = (m : LineMeaning) × (said ≡ Some m)
-    × ((1000000 < charge_count (with_line t m).charges) ⊎ (262144 < length (with_line t m).readings))
+IsTooMany t said = (m : LineMeaning) × (said ≡ Some m) × (is_in_order t m ≡ true)
+    × ((1000000 < charge_count (with_line t m).charges) ⊎ ((262144 < length (with_line t m).readings) ⊎ (65536 < length (with_line t m).events)))
 
 -- the lines before the n-th are a trace, and the n-th has a fault behind it
 pub record FaultAt (ls : List (List ℕ)) (n : ℕ) (IsFault : TraceValue → Option LineMeaning → Type 0) : Type 0 where

@@ -7,16 +7,20 @@ use Rattle.msp_step.specs.declared.machine.Stepped as machine
 use Rattle.msp_step.specs.Registers.{Registers, registers_of}
 use Rattle.msp_step.specs.Access.{Access, Completed, Faulted}
 use Rattle.msp_step.specs.Effect.{Written}
-use Rattle.msp_step.specs.Step.{outcome_of, effect, execution}
+use Rattle.msp_step.specs.Step.{outcome_of, effect, execution, return_place, status_place}
 use Rattle.msp_step.proofs.Interface.{Ends, effect_ends}
+use Rattle.fram_board.specs.declared.board.NextStep.{NextStep}
+use Rattle.fram_board.specs.declared.board.NextStep.TheVariants as next_step
 use Rattle.fram_board.specs.declared.board.Stepped.{Stepped}
 use Rattle.fram_board.specs.declared.receiver.Receiver.{Receiver}
-use Rattle.fram_board.specs.Bus.{BusState, board_bus}
+use Rattle.fram_board.specs.Bus.{BusState, board_bus, is_ram, with_word}
 use Rattle.fram_board.specs.Board.{BoardValue, opened, answer_of, executed, is_accepted, accepted_word, receiver_after}
+use Rattle.fram_board.specs.Board.{acceptance, acceptance_on, performed, at_boundary}
 use Rattle.fram_board.specs.Run.{Measure, BoardCharge, Moment, RunOutcome, ChargeRun, Spent, NoInstruction, TooDear, Refused, Executed, Run, Over, Next, Last}
 use Rattle.fram_board.specs.Run.{word_list, accepted_by, accepted_words}
 use Rattle.fram_board.specs.Laws.{AcceptedAreCounted}
 use Rattle.fram_board.proofs.Takes.{only_takes}
+use Rattle.fram_board.proofs.Acceptances.{of_acceptance}
 
 counted_one : (b : Bool) (w : ℕ) (r : Receiver)
     → (if b then record r { accepted = r.accepted + 1 } else record r { repeats = r.repeats + 1 }).accepted ≡ r.accepted + length
@@ -66,6 +70,41 @@ refused_counts b i stop e =
     let off = quiet i r (opened b) (effect board_bus i r (opened b)) (effect_ends board_bus i r (opened b)) refl t.0 t.1 in
     ap (λ x. (receiver_after o.bus.outnum x b.receiver).accepted) off
 
+-- an acceptance offers nothing
+silent : (s : BusState) (b : Bool) (r f : List ℕ) → (if b then record s { ram = r } else record s { fram = f }).offered ≡ s.offered
+silent s true r f = refl
+silent s false r f = refl
+
+accepting_offers_nothing : (b : BoardValue) → (acceptance_on (registers_of b.cpu) (opened b)).bus.offered ≡ None
+accepting_offers_nothing b =
+    let r = registers_of b.cpu in
+    let first = silent (opened b) (is_ram (return_place r)) _ _ in
+    of_acceptance (λ o. o.bus.offered ≡ None) r (opened b) (λ a. refl)
+    (λ _ _. silent (with_word (opened b) (return_place r) (r 0)) (is_ram (status_place r)) _ _ ∙ first)
+
+accepting_counts : (b : BoardValue) → (acceptance b).board.receiver ≡ b.receiver
+accepting_counts b =
+    let o = acceptance_on (registers_of b.cpu) (opened b) in
+    ap (λ x. receiver_after o.bus.outnum x b.receiver) (accepting_offers_nothing b)
+
+accepting_tells : (b : BoardValue) (done : Stepped) → (acceptance b).answer ≡ Ok done → done.accepted ≡ None
+accepting_tells b done e =
+    let o = acceptance_on (registers_of b.cpu) (opened b) in
+    told_ok b o.bus o.answer done e ∙ ap (λ x. accepted_word o.bus.outnum x b.receiver) (accepting_offers_nothing b)
+
+performed_counts : (b : BoardValue) (n : NextStep) (done : Stepped) → (performed b n).answer ≡ Ok done
+    → (performed b n).board.receiver.accepted ≡ b.receiver.accepted + length (word_list done.accepted)
+performed_counts b next_step.Acceptance done e =
+    let same = ap (λ x. x.accepted) (accepting_counts b) in
+    let none = ap (λ x. length (word_list x)) (accepting_tells b done e) in
+    omega arith
+performed_counts b (next_step.Instruction i) done e = executed_counts b i done e
+
+stopped_counts : (b : BoardValue) (n : NextStep) (stop : Stop) → (performed b n).answer ≡ Err stop
+    → (performed b n).board.receiver.accepted ≡ b.receiver.accepted
+stopped_counts b next_step.Acceptance stop e = ap (λ x. x.accepted) (accepting_counts b)
+stopped_counts b (next_step.Instruction i) stop e = refused_counts b i stop e
+
 words-append : (ms ns : List Moment) → accepted_words (ms ++ ns) ≡ accepted_words ms ++ accepted_words ns
 words-append [] ns = refl
 words-append (m ∷ ms) ns =
@@ -79,10 +118,10 @@ charge_counts : (m : Measure) (left : ℕ) (b : BoardValue) (r : RunOutcome) →
 charge_counts m left b r (Spent _ _ none) = omega arith
 charge_counts m left b r (NoInstruction _ _ e pos h) = omega arith
 charge_counts m left b r (TooDear _ _ i pos c dear) = omega arith
-charge_counts m left b r (Refused _ _ i e pos c paid a) = let h = refused_counts b i e a in omega arith
+charge_counts m left b r (Refused _ _ i e pos c paid a) = let h = stopped_counts b i e a in omega arith
 charge_counts m left b r (Executed _ _ i done rest pos c paid a h) =
-    let first = executed_counts b i done a in
-    let next = charge_counts m _ (executed b i).board rest h in
+    let first = performed_counts b i done a in
+    let next = charge_counts m _ (at_boundary (performed b i).board) rest h in
     let parts = length-append (word_list done.accepted) (accepted_words rest.moments) in
     omega arith
 

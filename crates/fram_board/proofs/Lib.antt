@@ -1,8 +1,11 @@
+mod Arrivals
 mod Takes
 mod Steps
 mod Legal
 mod Fits
 mod Effects
+mod Acceptances
+mod Accepted
 mod Runs
 mod Counts
 mod Powers

@@ -1,5 +1,5 @@
 -- The board's step in the code's own terms.
-use Rattle.std.proofs.Common.{◌≡◌, ◌+◌, arith, ℕ, refl, sym, ◌∙◌, ap, subst, length, Option, Some, None, List, [], ◌∷◌, Result, Err, Bool, true, false}
+use Rattle.std.proofs.Common.{◌≡◌, ◌+◌, arith, ℕ, refl, sym, ◌∙◌, ap, subst, length, Option, Some, None, List, [], ◌∷◌, Result, Bool, true, false}
 use Rattle.std.proofs.Common.{if◌then◌else◌}
 use Rattle.msp_isa.specs.declared.instructions.Instr.{Instr}
 use Rattle.msp_step.specs.declared.machine.Stop.{Stop}
@@ -7,16 +7,24 @@ use Rattle.msp_step.specs.declared.machine.Stepped as machine
 use Rattle.msp_step.specs.Registers.{registers_of}
 use Rattle.msp_step.specs.Reads.{OnlyReads}
 use Rattle.msp_step.specs.Step.{Outcome, execution}
-use Rattle.fram_board.specs.declared.board.Stepped.{Stepped}
 use Rattle.fram_board.specs.declared.receiver.Receiver.{Receiver}
 use Rattle.fram_board.specs.Bus.{BusState, board_bus}
-use Rattle.fram_board.specs.Board.{BoardValue, BoardOutcome, opened, board_outcome, executed, register_list, is_accepted, receiver_after}
-use Rattle.fram_board.specs.Steps.{OffersOneAtMost, KeepsAllButTaken}
+use Rattle.fram_board.specs.Board.{BoardValue, opened, board_outcome, executed, register_list, is_accepted, receiver_after}
+use Rattle.fram_board.specs.Steps.{OffersOneAtMost, KeepsAllButTaken, line_heard}
 use Rattle.fram_board.proofs.Takes.{TakesUpTo, execution_takes, only_takes}
 
 -- the board of these parts
 abbrev pub board_of : List ℕ → BusState → Receiver → BoardValue
-board_of cpu d r = record { cpu = cpu; fram = d.fram; ram = d.ram; outnum = d.outnum; readings = d.readings; taken = d.taken; receiver = r }
+board_of cpu d r = record {
+  cpu = cpu;
+  fram = d.fram;
+  ram = d.ram;
+  outnum = d.outnum;
+  readings = d.readings;
+  taken = d.taken;
+  receiver = r;
+  line = d.line;
+}
 
 -- what the CPU left
 abbrev pub cpu_outcome : Result machine.Stepped Stop → List ℕ → BusState → Outcome BusState
@@ -26,7 +34,8 @@ pub register_list-registers_of : (rs : List ℕ) → length rs ≡ 16 → regist
 register_list-registers_of (a ∷ b ∷ c ∷ d ∷ e ∷ f ∷ g ∷ h ∷ i ∷ j ∷ k ∷ l ∷ m ∷ n ∷ o ∷ p ∷ []) len = refl
 register_list-registers_of _ len = absurd (omega arith)
 
-opened_is : (b : BoardValue) (d : BusState) (cpu : List ℕ) (r : Receiver) → b ≡ board_of cpu d r → d.offered ≡ None → opened b ≡ d
+-- what the code's parts open
+pub opened_is : (b : BoardValue) (d : BusState) (cpu : List ℕ) (r : Receiver) → b ≡ board_of cpu d r → d.offered ≡ None → opened b ≡ d
 opened_is b d cpu r is off = ap opened is ∙ ap (λ o. record d { offered = o }) (sym off)
 
 pub outcome_is : (b : BoardValue) (cpu : List ℕ) (d : BusState) (r : Receiver) (i : Instr) (answer : Result machine.Stepped Stop) (cpu' : List ℕ)
@@ -67,8 +76,12 @@ stopped_keeps b cpu d r cpu' d' e q is off same reads cleared heard =
     let after : e.taken ≡ d'.taken = ap (λ s. s.taken) cleared in
     let from = g.takes.from in
     let to = g.takes.to in
-    let last : board_of cpu (record d { taken = d'.taken }) r ≡ record b { taken = e.taken } =
-    ap (λ n. board_of cpu (record d { taken = n }) r) (sym after) ∙ ap {A = BoardValue} (λ x. record x { taken = e.taken }) is in
+    let line : e.line ≡ d'.line = ap (λ s. s.line) cleared in
+    let last : board_of cpu (record d { taken = d'.taken; line = line_heard d.line d'.line }) r
+    ≡ record b { taken = e.taken; line = line_heard b.line e.line } =
+    ap (λ n. board_of cpu (record d { taken = n; line = line_heard d.line d'.line }) r) (sym after)
+    ∙ ap (λ q. board_of cpu (record d { taken = e.taken; line = line_heard d.line q }) r) (sym line)
+    ∙ ap {A = BoardValue} (λ x. record x { taken = e.taken; line = line_heard x.line e.line }) is in
     record {
       same = ap (λ s. board_of cpu' s q) cleared
           ∙ ap (λ x. board_of cpu' d' x) heard
@@ -79,18 +92,6 @@ stopped_keeps b cpu d r cpu' d' e q is off same reads cleared heard =
       from = omega arith;
       to = omega arith;
     }
-
-pub outcome_of_parts : (x : BoardOutcome) (answer : Result Stepped Stop) (after : BoardValue) → answer ≡ x.answer → after ≡ x.board
-    → ◌≡◌ {A = BoardOutcome} (record { answer = answer; offered = x.offered; board = after }) x
-outcome_of_parts x answer after a b =
-    ap {B = BoardOutcome} (λ y. record x { answer = y; board = after }) a ∙ ap {B = BoardOutcome} (λ y. record x { board = y }) b
-
--- the board of a step that isn't made is as before
-pub stopped_outcome : (b : BoardValue) (stop : Stop) → length b.cpu ≡ 16
-    → ◌≡◌ {A = BoardOutcome} (record { answer = Err stop; offered = None; board = b })
-    (board_outcome b (record { answer = Err stop; registers = registers_of b.cpu; bus = opened b }))
-stopped_outcome b stop len = ap {B = BoardOutcome} (λ c. record { answer = Err stop; offered = None; board = record b { cpu = c } })
-    (sym (register_list-registers_of b.cpu len))
 
 counted_few : (b : Bool) (r : Receiver) → OffersOneAtMost r (if b then record r { accepted = r.accepted + 1 } else record r { repeats = r.repeats + 1 })
 counted_few true r = omega arith

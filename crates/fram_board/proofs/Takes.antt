@@ -11,24 +11,35 @@ use Rattle.msp_step.specs.Step.{effect, execution, outcome_of}
 use Rattle.msp_step.specs.Laws.{AfterWrite}
 use Rattle.msp_step.proofs.Interface.{Ends, effect_ends}
 use Rattle.fram_board.specs.Bus.{BusState, board_bus, after_read, written, port_written, with_word, is_ram, is_word, is_memory, with_byte, memory_word}
-use Rattle.fram_board.specs.Bus.{sensor_port, number_port, data_port}
+use Rattle.fram_board.specs.Bus.{sensor_port, number_port, data_port, event_port}
+use Rattle.fram_board.specs.Events.{EventLine, port_read}
+use Rattle.fram_board.specs.Steps.{line_heard}
 
 -- so many readings more at most
 pub record TakesUpTo (n : ℕ) (s t : BusState) : Type 0 where
   pub from : s.taken ≤ t.taken
   pub to : t.taken ≤ s.taken + n
 
--- and nothing else
+-- and nothing else, but what waited in EVENT
 pub record TakesOnly (n : ℕ) (s t : BusState) : Type 0 where
-  pub same : t ≡ record s { taken = t.taken }
+  pub same : t ≡ record s { taken = t.taken; line = line_heard s.line t.line }
   pub takes : TakesUpTo n s t
 
 one_more : (b : Bool) (k : ℕ) → (k ≤ (if b then k + 1 else k)) × ((if b then k + 1 else k) ≤ k + 1)
 one_more true k = (omega arith, omega arith)
 one_more false k = (omega arith, omega arith)
 
+line_read : (b : Bool) (q : EventLine) → (if b then port_read q else q) ≡ line_heard q (if b then port_read q else q)
+line_read true q = refl
+line_read false q = refl
+
 read_takes : (s : BusState) (a : ℕ) (w : Width) → TakesOnly 1 s (after_read s a w)
-read_takes s a Word = let m = one_more (a == sensor_port) s.taken in record { same = refl; takes = record { from = m.0; to = m.1 } }
+read_takes s a Word =
+    let m = one_more (a == sensor_port) s.taken in
+    record {
+      same = ap {B = BusState} (λ q. record s { taken = if a == sensor_port then s.taken + 1 else s.taken; line = q }) (line_read (a == event_port) s.line);
+      takes = record { from = m.0; to = m.1 };
+    }
 read_takes s a Byte = record { same = refl; takes = record { from = omega arith; to = omega arith } }
 
 join : (n : ℕ) (s t u : BusState) → TakesOnly n s t → TakesOnly 1 t u → TakesOnly (suc n) s u
@@ -37,7 +48,10 @@ join n s t u g h =
     let b = g.takes.to in
     let c = h.takes.from in
     let d = h.takes.to in
-    record { same = h.same ∙ ap {A = BusState} (λ x. record x { taken = u.taken }) g.same; takes = record { from = omega arith; to = omega arith } }
+    record {
+      same = h.same ∙ ap {A = BusState} (λ x. record x { taken = u.taken; line = line_heard x.line u.line }) g.same;
+      takes = record { from = omega arith; to = omega arith };
+    }
 
 reads_take : (s t : BusState) (n : ℕ) → HasRead board_bus s n t → TakesOnly n s t
 reads_take s t n Nothing = record { same = refl; takes = record { from = omega arith; to = omega arith } }

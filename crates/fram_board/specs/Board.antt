@@ -1,15 +1,21 @@
--- The board: CPU, memory, ports, readings and receiver; power-up; one step.
-use Rattle.std.specs.Prelude.{ℕ, ◌+◌, ◌-◌, ◌%◌, ◌≡◌, ◌==◌, Bool, if◌then◌else◌, List, [], ◌∷◌, replicate, slice_index, Result, Ok, Err, Option, Some, None}
+-- The board: CPU, memory, ports, readings, events and receiver; power-up; one step.
+use Rattle.std.specs.Prelude.{ℕ, ◌+◌, ◌-◌, ◌%◌, ◌≡◌, ◌==◌, ◌&&◌, Bool, true, false, not, if◌then◌else◌, List, [], ◌∷◌, replicate, slice_index, Result, Ok, Err}
+use Rattle.std.specs.Prelude.{Option, Some, None}
 use Rattle.msp_isa.specs.declared.instructions.Instr.{Instr}
+use Rattle.msp_cycles.specs.Cycles.{cycles_of}
 use Rattle.msp_step.specs.declared.machine.Stop.{Stop}
+use Rattle.msp_step.specs.declared.machine.Stop.TheVariants as stop
 use Rattle.msp_step.specs.declared.machine.Stepped as cpu
 use Rattle.msp_step.specs.Registers.{Registers, registers_of, kept, powered_up}
-use Rattle.msp_step.specs.Step.{Outcome, IsCurrentInstruction, IsStopped, StepResult, execution}
-use Rattle.state_text.specs.address_space.Limits.{reset_vector}
+use Rattle.msp_step.specs.Step.{Outcome, IsCurrentInstruction, IsStopped, StepResult, execution, is_interruptible, return_place, status_place, interrupted}
+use Rattle.state_text.specs.address_space.Limits.{reset_vector, event_vector}
 use Rattle.state_text.specs.image_text.ImageValue.{place_of}
+use Rattle.fram_board.specs.declared.board.NextStep.{NextStep}
+use Rattle.fram_board.specs.declared.board.NextStep.TheVariants as next_step
 use Rattle.fram_board.specs.declared.board.Stepped.{Stepped}
 use Rattle.fram_board.specs.declared.receiver.Receiver.{Receiver}
-use Rattle.fram_board.specs.Bus.{BusState, board_bus}
+use Rattle.fram_board.specs.Events.{EventLine, line_of_events, is_full, line_behind_step, line_behind_power_up}
+use Rattle.fram_board.specs.Bus.{BusState, board_bus, is_word, with_word}
 
 -- the board between two instructions
 pub record BoardValue : Type 0 where
@@ -20,6 +26,7 @@ pub record BoardValue : Type 0 where
   pub readings : List ℕ  -- all readings of the sensor
   pub taken : ℕ  -- how many of them were taken
   pub receiver : Receiver  -- where it started, and its two counts
+  pub line : EventLine  -- the port EVENT, and what arises there
 
 -- so many equal words
 unfoldable pub filled_words : ℕ → ℕ → List ℕ
@@ -29,9 +36,9 @@ filled_words n w = replicate n w
 abbrev pub vector_of : List ℕ → ℕ
 vector_of fram = slice_index fram (place_of reset_vector)
 
--- the board with this FRAM and these readings, before anything was done, whose receiver takes this number next
-abbrev pub started : List ℕ → ℕ → List ℕ → BoardValue
-started fram number readings = record {
+-- the board with this FRAM, these readings and these events, before anything was done, whose receiver takes this number next
+abbrev pub started : List ℕ → ℕ → List ℕ → List (ℕ × ℕ) → BoardValue
+started fram number readings events = record {
   cpu = powered_up (vector_of fram) 0;
   fram = fram;
   ram = filled_words 1024 0;
@@ -39,11 +46,12 @@ started fram number readings = record {
   readings = readings;
   taken = 0;
   receiver = record { first = number; accepted = 0; repeats = 0 };
+  line = line_of_events events;
 }
 
 -- the same of a board that is loaded with an image
-abbrev pub fresh : List ℕ → List ℕ → BoardValue
-fresh fram readings = started fram 0 readings
+abbrev pub fresh : List ℕ → List ℕ → List (ℕ × ℕ) → BoardValue
+fresh fram readings events = started fram 0 readings events
 
 -- the words that a power-up leaves in what doesn't last
 pub record PowerState : Type 0 where
@@ -61,12 +69,14 @@ filled f = record {
   outnum = f;
 }
 
--- a power-up: PC is the reset vector and SR is 0; FRAM, readings and receiver are as before
+-- a power-up: PC is the reset vector and SR is 0; the port EVENT is emptied, and then the events arise that are due; FRAM,
+-- readings and receiver are as before
 abbrev pub powered : BoardValue → PowerState → BoardValue
 powered b p = record b {
   cpu = kept 0 (vector_of b.fram) ∷ kept 1 p.sp ∷ 0 ∷ 0 ∷ p.work;
   ram = p.ram;
   outnum = p.outnum;
+  line = line_behind_power_up b.line;
 }
 
 -- the number of the word that the receiver takes next: as many behind its first as it has accepted, modulo 65536
@@ -102,6 +112,7 @@ opened b = record {
   readings = b.readings;
   taken = b.taken;
   offered = None;
+  line = b.line;
 }
 
 -- the sixteen registers as a list
@@ -120,6 +131,7 @@ closed b r s = record {
   readings = s.readings;
   taken = s.taken;
   receiver = receiver_after s.outnum s.offered b.receiver;
+  line = s.line;
 }
 
 -- what a board answers of what its CPU answered
@@ -129,6 +141,7 @@ answer_of b s (Ok done) = Ok (record {
   wrote = done.wrote;
   took = s.taken - b.taken;
   accepted = accepted_word s.outnum s.offered b.receiver;
+  heard = s.line.heard;
 })
 answer_of b s (Err stop) = Err stop
 
@@ -158,6 +171,62 @@ IsStoppedBy b stop = IsStopped board_bus (registers_of b.cpu) (opened b) stop
 abbrev pub executed : BoardValue → Instr → BoardOutcome
 executed b i = board_outcome b (execution board_bus i (registers_of b.cpu) (opened b))
 
--- one step of the board is one step of its CPU on its bus
+-- where no acceptance is due, one step of the board is one step of its CPU on its bus
 abbrev pub IsStep : BoardValue → BoardOutcome → Type 0
 IsStep b x = (o : Outcome BusState) × StepResult board_bus (registers_of b.cpu) (opened b) o × (x ≡ board_outcome b o)
+
+-- an acceptance is due: an event waits in the port, and the CPU accepts interrupts
+abbrev pub is_accepting : BoardValue → Bool
+is_accepting b = is_full b.line.port && is_interruptible (registers_of b.cpu)
+
+-- the cycles of a step. Those of an acceptance are this project's profile
+abbrev pub step_cycles : NextStep → ℕ
+step_cycles next_step.Acceptance = 6
+step_cycles (next_step.Instruction i) = cycles_of i
+
+-- an acceptance that isn't served: the store at this address is a bus fault, and nothing is done
+abbrev pub acceptance_refused : Registers → BusState → ℕ → Outcome BusState
+acceptance_refused r s a = record { answer = Err (stop.Bus (r 0) a); registers = r; bus = s }
+
+-- one whose stores left this: PC is the vector, as it is then
+abbrev pub acceptance_made : Registers → BusState → Outcome BusState
+acceptance_made r s = record {
+  answer = Ok (record { cycles = step_cycles next_step.Acceptance; wrote = None });
+  registers = interrupted r (slice_index s.fram (place_of event_vector));
+  bus = s;
+}
+
+-- an acceptance stores PC and then SR, each to a word of memory: a port is none
+abbrev pub acceptance_on : Registers → BusState → Outcome BusState
+acceptance_on r s =
+    if not (is_word (return_place r)) then acceptance_refused r s (return_place r)
+    else if not (is_word (status_place r)) then acceptance_refused r s (status_place r)
+    else acceptance_made r (with_word (with_word s (return_place r) (r 0)) (status_place r) (r 2))
+
+-- the acceptance of the board
+abbrev pub acceptance : BoardValue → BoardOutcome
+acceptance b = board_outcome b (acceptance_on (registers_of b.cpu) (opened b))
+
+-- a step that is made, by its kind
+abbrev pub performed : BoardValue → NextStep → BoardOutcome
+performed b next_step.Acceptance = acceptance b
+performed b (next_step.Instruction i) = executed b i
+
+-- the board's next step: an acceptance where one is due, else the instruction at PC
+abbrev pub IsNextStep : BoardValue → NextStep → Type 0
+IsNextStep b next_step.Acceptance = is_accepting b ≡ true
+IsNextStep b (next_step.Instruction i) = (is_accepting b ≡ false) × IsNextInstruction b i
+
+-- it has none: no acceptance is due, and CPUOFF is set, or no instruction can be had at PC
+pub record HasNoStep (b : BoardValue) (stop : Stop) : Type 0 where
+  pub none : is_accepting b ≡ false
+  pub stopped : IsStoppedBy b stop
+
+-- the board at the boundary behind a step: the step is counted, and then the events arise that are due
+abbrev pub at_boundary : BoardValue → BoardValue
+at_boundary b = record b { line = line_behind_step b.line }
+
+-- what a step leaves: the board at the boundary behind it; where it wasn't made there is none
+abbrev pub board_behind : Result Stepped Stop → BoardValue → BoardValue
+board_behind (Ok done) b = at_boundary b
+board_behind (Err stop) b = b

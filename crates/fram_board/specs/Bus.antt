@@ -1,5 +1,6 @@
 -- The board as the CPU's bus: the memory map and the ports. RAM is 1C00 to 23FF, FRAM 4400 to FFFF; a word read at 0200
--- takes a reading, a word written to 0202 is kept, a word written to 0204 is offered to the receiver; nothing else answers.
+-- takes a reading, a word written to 0202 is kept, a word written to 0204 is offered to the receiver, a word read at 0206 takes
+-- the event that waits there; nothing else answers.
 use Rattle.std.specs.Prelude.{ℕ, ◌+◌, ◌-◌, ◌/◌, ◌%◌, ◌≡◌, ◌≤◌, Bool, ◌&&◌, ◌||◌, ◌==◌, nat_le, nat_lt, if◌then◌else◌, List, length, slice_index, slice_set}
 use Rattle.std.specs.Prelude.{Result, Ok, Err, Option, Some, None}
 use Rattle.alp_words.specs.declared.Width.{Width}
@@ -9,8 +10,9 @@ use Rattle.msp_step.specs.declared.bus.Refused.{Refused}
 use Rattle.msp_step.specs.declared.bus.Refused.TheVariants as refused
 use Rattle.msp_step.specs.Access.{BusModel}
 use Rattle.state_text.specs.address_space.Limits.{ram_first, ram_end, fram_first, fram_end, fram_words}
-pub use Rattle.state_text.specs.address_space.Limits.{sensor_port, number_port, data_port}
+pub use Rattle.state_text.specs.address_space.Limits.{sensor_port, number_port, data_port, event_port}
 use Rattle.state_text.specs.image_text.ImageValue.{place_of}
+use Rattle.fram_board.specs.Events.{EventLine, port_word, port_read}
 
 -- memory and ports during one instruction
 pub record BusState : Type 0 where
@@ -20,6 +22,7 @@ pub record BusState : Type 0 where
   pub readings : List ℕ  -- all readings of the sensor
   pub taken : ℕ  -- how many of them were taken
   pub offered : Option ℕ  -- the word that the instruction wrote to OUTDATA, if it did
+  pub line : EventLine  -- the port EVENT, and what arises there
 
 -- the addresses of RAM
 abbrev pub is_ram : ℕ → Bool
@@ -69,17 +72,21 @@ next_reading s =
     if nat_lt s.taken (length s.readings) then Ok (slice_index s.readings s.taken)
     else Err refused.NoReading
 
--- a read is served in memory, of a word at an even address; and a word read at SENSOR
+-- a read is served in memory, of a word at an even address; and a word read at SENSOR or EVENT
 abbrev pub read_of : BusState → ℕ → Width → Result ℕ Refused
 read_of s a Word =
     if is_word a then Ok (memory_word s a)
     else if a == sensor_port then next_reading s
+    else if a == event_port then Ok (port_word s.line.port)
     else Err refused.Bus
 read_of s a Byte = if is_memory a then Ok (byte_of (memory_word s a) a) else Err refused.Bus
 
--- a word read at SENSOR takes the reading
+-- a word read at SENSOR takes the reading, and one read at EVENT the event
 abbrev pub after_read : BusState → ℕ → Width → BusState
-after_read s a Word = record s { taken = if a == sensor_port then s.taken + 1 else s.taken }
+after_read s a Word = record s {
+  taken = if a == sensor_port then s.taken + 1 else s.taken;
+  line = if a == event_port then port_read s.line else s.line;
+}
 after_read s a Byte = s
 
 -- a word written to a port

@@ -2,6 +2,8 @@
 use Rattle.std.specs.Prelude.{ℕ, ◌+◌, ◌-◌, ◌%◌, ◌≡◌, ◌≤◌, if◌then◌else◌, List, [], ◌∷◌, ◌++◌, map, slice_index, slice_range, slice_set, Result, Ok, Err}
 use Rattle.std.specs.Prelude.{Option, Some, None}
 use Rattle.msp_step.specs.declared.machine.Stop.{Stop}
+use Rattle.msp_step.specs.Registers.{registers_of}
+use Rattle.msp_step.specs.Step.{return_place, status_place}
 use Rattle.state_text.specs.image_text.ImageValue.{place_of}
 use Rattle.fram_board.specs.declared.board.Stepped.{Stepped}
 use Rattle.fram_board.specs.declared.receiver.Receiver.{Receiver}
@@ -41,6 +43,16 @@ sends_of number (Some w) = Outside (Offered number w) ∷ []
 abbrev pub effects_of : BoardValue → BoardOutcome → List Effect
 effects_of b x = takes_of b x ++ (stores_of x.answer x.board ++ sends_of b.outnum x.offered)
 
+-- the store of a word at an even address of memory, if that is in FRAM
+abbrev pub store_of : ℕ → ℕ → List Effect
+store_of a w = if is_fram a then Store a w ∷ [] else []
+
+-- the effects of an acceptance that is made: PC and then SR is stored
+abbrev pub acceptance_effects : BoardValue → List Effect
+acceptance_effects b =
+    let r = registers_of b.cpu in
+    store_of (return_place r) (r 0) ++ store_of (status_place r) (r 2)
+
 -- FRAM after the stores among these effects
 abbrev pub stored : List Effect → List ℕ → List ℕ
 stored [] fram = fram
@@ -66,3 +78,8 @@ pub record MakesItsEffects (b : BoardValue) (x : BoardOutcome) : Type 0 where
   pub readings : x.board.readings ≡ b.readings
   pub from : b.taken ≤ x.board.taken
   pub to : x.board.taken ≤ b.taken + 2
+
+-- an acceptance that is made changes FRAM by its stores, beside it the registers and RAM, and nothing else
+pub record MakesItsStores (b after : BoardValue) : Type 0 where
+  pub fram : after.fram ≡ stored (acceptance_effects b) b.fram
+  pub same : after ≡ record b { cpu = after.cpu; fram = after.fram; ram = after.ram }

@@ -2,21 +2,25 @@
 use Rattle.std.specs.Prelude.{ℕ, ◌≡◌, ◌<◌, ◌+◌, List, length, Ok}
 use Rattle.msp_step.specs.Kept.{IsRegisters}
 use Rattle.fram_board.specs.declared.board.Stepped.{Stepped}
-use Rattle.fram_board.specs.Board.{BoardValue, BoardOutcome, IsStep, PowerState, filled, powered}
-use Rattle.fram_board.specs.Steps.{IsBoard, BoardCosts, IsPowerState}
-use Rattle.fram_board.specs.Effects.{MakesItsEffects}
+use Rattle.fram_board.specs.Board.{BoardValue, BoardOutcome, IsStep, acceptance, PowerState, filled, powered}
+use Rattle.fram_board.specs.Steps.{IsBoard, IsBoardStep, StepCosts, IsPowerState}
+use Rattle.fram_board.specs.Effects.{MakesItsEffects, MakesItsStores}
 use Rattle.fram_board.specs.Run.{BoardCharge, RunOutcome, Run, accepted_words}
 
 -- a board steps in one way
 abbrev pub IsDeterminedStep : Type 0
-IsDeterminedStep = (b : BoardValue) (x y : BoardOutcome) → IsStep b x → IsStep b y → x ≡ y
+IsDeterminedStep = (b : BoardValue) (x y : BoardOutcome) → IsBoardStep b x → IsBoardStep b y → x ≡ y
 
--- a step that is made takes the cycles that the instruction costs
+-- a step that is made takes the cycles that the next step costs
 abbrev pub StepTakesItsCost : Type 0
 StepTakesItsCost = (b : BoardValue) (x : BoardOutcome) (done : Stepped)
-    → IsStep b x → x.answer ≡ Ok done → BoardCosts b (Ok done.cycles)
+    → IsBoardStep b x → x.answer ≡ Ok done → StepCosts b (Ok done.cycles)
 
--- a step is what its effects say
+-- an acceptance that is made is what its stores say
+abbrev pub AcceptanceMakesItsStores : Type 0
+AcceptanceMakesItsStores = (b : BoardValue) (done : Stepped) → (acceptance b).answer ≡ Ok done → MakesItsStores b (acceptance b).board
+
+-- an instruction's step is what its effects say
 abbrev pub StepMakesItsEffects : Type 0
 StepMakesItsEffects = (b : BoardValue) (x : BoardOutcome) → IsBoard b → IsStep b x → MakesItsEffects b x
 

@@ -1,3 +1,4 @@
+pub mod Events
 pub mod Bus
 pub mod Board
 pub mod Saved

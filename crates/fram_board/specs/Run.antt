@@ -1,10 +1,11 @@
 -- A run: the board under a list of charges, from any power-up states, by the rules of the run.
 use Rattle.std.specs.Prelude.{ℕ, ◌-◌, ◌<◌, ◌≤◌, ◌≡◌, List, [], ◌∷◌, ◌++◌, Ok, Err, Option, Some, None}
-use Rattle.msp_isa.specs.declared.instructions.Instr.{Instr}
-use Rattle.msp_cycles.specs.Cycles.{cycles_of}
+use Rattle.msp_isa.specs.declared.instructions.Instr.TheVariants as instr
 use Rattle.msp_step.specs.declared.machine.Stop.{Stop}
+use Rattle.fram_board.specs.declared.board.NextStep.{NextStep}
+use Rattle.fram_board.specs.declared.board.NextStep.TheVariants as next_step
 use Rattle.fram_board.specs.declared.board.Stepped.{Stepped}
-use Rattle.fram_board.specs.Board.{BoardValue, PowerState, powered, IsNextInstruction, IsStoppedBy, executed}
+use Rattle.fram_board.specs.Board.{BoardValue, PowerState, powered, performed, IsNextStep, HasNoStep, step_cycles, at_boundary}
 
 -- what a charge is counted in
 pub data Measure : Type 0 where
@@ -17,16 +18,27 @@ pub record BoardCharge : Type 0 where
   pub amount : ℕ
   pub start : PowerState
 
--- what an instruction takes off a charge
-abbrev pub price : Measure → Instr → ℕ
-price Cycles i = cycles_of i
-price Instructions i = 1
+-- what a step takes off a charge
+abbrev pub price : Measure → NextStep → ℕ
+price Cycles n = step_cycles n
+price Instructions n = 1
 
--- what leads from one board of a run to the next: a power-up, or an instruction with what it did and the word that it
+-- the kind of a step: an acceptance, an instruction that returns from one, or another instruction
+pub data StepKind : Type 0 where
+  Accepting : StepKind
+  Returning : StepKind
+  Plain : StepKind
+
+abbrev pub kind_of : NextStep → StepKind
+kind_of next_step.Acceptance = Accepting
+kind_of (next_step.Instruction instr.Reti) = Returning
+kind_of (next_step.Instruction i) = Plain
+
+-- what leads from one board of a run to the next: a power-up, or a step with its kind, what it did and the word that it
 -- offered to the receiver
 pub data Action : Type 0 where
   PowerUp : Action
-  Execute : (done : Stepped) (offered : Option ℕ) → Action
+  Execute : (kind : StepKind) (done : Stepped) (offered : Option ℕ) → Action
 
 -- a moment of a run: an action, and the boards before and after it
 pub record Moment : Type 0 where
@@ -39,7 +51,8 @@ pub data End : Type 0 where
   Charges : End
   Stopped : (stop : Stop) → End
 
--- the moments, how it ended, and the board then; a board that stopped keeps the readings that its last instruction took
+-- the moments, how it ended, and the board then; a board that stopped keeps the readings and the event that its last
+-- instruction took
 pub record RunOutcome : Type 0 where
   pub moments : List Moment
   pub ending : End
@@ -53,33 +66,33 @@ run_outcome ms e b = record { moments = ms; ending = e; board = b }
 abbrev pub after_moments : List Moment → RunOutcome → RunOutcome
 after_moments ms r = record r { moments = ms ++ r.moments }
 
--- an instruction that is executed, as a moment
-abbrev pub moment_of : BoardValue → Instr → Stepped → Moment
-moment_of b i done = record {
-  action = Execute done (executed b i).offered;
+-- a step that is made, as a moment, up to the boundary behind it
+abbrev pub moment_of : BoardValue → NextStep → Stepped → Moment
+moment_of b n done = record {
+  action = Execute (kind_of n) done (performed b n).offered;
   before = b;
-  after = (executed b i).board;
+  after = at_boundary (performed b n).board;
 }
 
 -- the rest of a charge of which so much is left. `Charges` is its end where the charge is spent
 pub data ChargeRun (m : Measure) : ℕ → BoardValue → RunOutcome → Type 0 where
   -- nothing is left of it
   Spent : (left : ℕ) (b : BoardValue) → left ≡ 0 → ChargeRun m left b (run_outcome [] Charges b)
-  -- CPUOFF is set, an instruction can't be fetched, or its word is illegal
-  NoInstruction : (left : ℕ) (b : BoardValue) (stop : Stop) → 0 < left → IsStoppedBy b stop
+  -- no acceptance is due, and CPUOFF is set, an instruction can't be fetched, or its word is illegal
+  NoInstruction : (left : ℕ) (b : BoardValue) (stop : Stop) → 0 < left → HasNoStep b stop
       → ChargeRun m left b (run_outcome [] (Stopped stop) b)
-  -- the instruction's price exceeds what is left
-  TooDear : (left : ℕ) (b : BoardValue) (i : Instr) → 0 < left → IsNextInstruction b i → left < price m i
+  -- the step's price exceeds what is left
+  TooDear : (left : ℕ) (b : BoardValue) (n : NextStep) → 0 < left → IsNextStep b n → left < price m n
       → ChargeRun m left b (run_outcome [] Charges b)
-  -- the instruction wants a reading and none is left, or is a bus fault
-  Refused : (left : ℕ) (b : BoardValue) (i : Instr) (stop : Stop) → 0 < left → IsNextInstruction b i → price m i ≤ left
-      → (executed b i).answer ≡ Err stop
-      → ChargeRun m left b (run_outcome [] (Stopped stop) (executed b i).board)
-  -- it is executed, and its price is taken off
-  Executed : (left : ℕ) (b : BoardValue) (i : Instr) (done : Stepped) (rest : RunOutcome)
-      → 0 < left → IsNextInstruction b i → price m i ≤ left
-      → (executed b i).answer ≡ Ok done → ChargeRun m (left - price m i) (executed b i).board rest
-      → ChargeRun m left b (after_moments (moment_of b i done ∷ []) rest)
+  -- the instruction wants a reading and none is left, or the step is a bus fault
+  Refused : (left : ℕ) (b : BoardValue) (n : NextStep) (stop : Stop) → 0 < left → IsNextStep b n → price m n ≤ left
+      → (performed b n).answer ≡ Err stop
+      → ChargeRun m left b (run_outcome [] (Stopped stop) (performed b n).board)
+  -- it is made, its price is taken off, and the events arise that are due
+  Executed : (left : ℕ) (b : BoardValue) (n : NextStep) (done : Stepped) (rest : RunOutcome)
+      → 0 < left → IsNextStep b n → price m n ≤ left
+      → (performed b n).answer ≡ Ok done → ChargeRun m (left - price m n) (at_boundary (performed b n).board) rest
+      → ChargeRun m left b (after_moments (moment_of b n done ∷ []) rest)
 
 -- a power-up with these words, as a moment
 abbrev pub power_up_of : BoardValue → PowerState → Moment
@@ -107,7 +120,7 @@ word_list (Some w) = w ∷ []
 -- the word that an action made the receiver accept
 abbrev pub accepted_by : Action → List ℕ
 accepted_by PowerUp = []
-accepted_by (Execute done offered) = word_list done.accepted
+accepted_by (Execute kind done offered) = word_list done.accepted
 
 -- the words accepted in these moments, in order
 abbrev pub accepted_words : List Moment → List ℕ

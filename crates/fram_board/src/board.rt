@@ -1,13 +1,16 @@
 //! The board.
 
-ghost use Rattle.std.specs.Prelude.{◌≡◌, ℕ, ◌+◌, ◌-◌, ◌^◌, ◌<◌, ◌≤◌, length, None, IfOk, IfErr, OnErr};
+ghost use Rattle.std.specs.Prelude.{◌≡◌, ℕ, ◌+◌, ◌-◌, ◌^◌, ◌<◌, ◌≤◌, length, None, IfOk, IfErr, IfSome, IfNone, OnErr};
 ghost use Rattle.state_text.specs.address_space.Limits.{fram_words};
 ghost use Rattle.state_text.specs.image_text.ImageValue.{word_at};
-ghost use Rattle.fram_board.specs.Board.{accepted_word, receiver_after, started, fresh, next_number, powered, filled, executed, IsNextInstruction, IsStoppedBy};
+ghost use Rattle.fram_board.specs.Board.{accepted_word, receiver_after, started, fresh, powered, filled, executed, IsNextInstruction, IsStoppedBy};
+ghost use Rattle.fram_board.specs.Board.{is_accepting, acceptance, performed, IsNextStep, HasNoStep, step_cycles, at_boundary, board_behind};
+ghost use Rattle.fram_board.specs.declared.board.NextStep.TheVariants.{Acceptance};
 ghost use Rattle.fram_board.specs.Saved.{saved};
-ghost use Rattle.fram_board.specs.Steps.{AreNextWords, BoardCosts, IsStepOf, KeepsAllButTaken, OffersOneAtMost, IsBoard};
+ghost use Rattle.fram_board.specs.Steps.{AreNextWords, AreWordsOfStep, StepCosts, IsStepOf, KeepsAllButTaken, OffersOneAtMost, IsBoard};
 
 use crate::bus::Devices;
+use crate::events::Heard;
 use crate::receiver::Receiver;
 use msp_cycles::cycles;
 use msp_isa::{Instr, Reg};
@@ -15,6 +18,9 @@ use msp_step::{Cpu, Stop, Words, current_instruction, current_words, execute};
 use state_text::{Image, State};
 use std::alloc::{AllocError, Global};
 use std::marker::Model;
+
+// The clock cycles of an acceptance.
+const ACCEPTANCE_CYCLES: u32 = 6;
 
 /// What a step of the board did.
 #[derive(Clone, Copy, PartialEq, Eq, Debug)]
@@ -27,9 +33,20 @@ pub struct Stepped {
     pub took: u32,
     /// The word that the receiver accepted.
     pub accepted: Option<u16>,
+    /// What it read of the port EVENT.
+    pub heard: Heard,
 }
 
-/// The CPU with RAM, FRAM, a sensor and its readings, and a receiver.
+/// A step of the board.
+#[derive(Clone, Copy, PartialEq, Eq, Debug)]
+pub enum NextStep {
+    /// The instruction at PC is executed.
+    Instruction(Instr),
+    /// The event in the port EVENT is accepted: PC and SR are stored on the stack, and the CPU goes on at the vector.
+    Acceptance,
+}
+
+/// The CPU with RAM, FRAM, a sensor and its readings, the events of a run, and a receiver.
 #[derive(Drop)]
 pub struct Board {
     cpu: Cpu,
@@ -51,6 +68,7 @@ impl Model for Board {
       readings = b.devices.readings;
       taken = b.devices.taken;
       receiver = b.receiver;
+      line = b.devices.line;
     } };
 
     // Between two instructions nothing is offered.
@@ -72,12 +90,29 @@ fn receive(devices: &mut Devices, receiver: &mut Receiver) -> Option<u16>
     }
 }
 
-// A board with this image in its FRAM and these readings, whose receiver takes this number next.
-fn started(alloc: Global, image: &Image, number: u16, readings: &[u16]) -> Result<Board, AllocError>
-    requires { length readings.now ≤ 262144 }
-    ensures { IfOk result (λ b. b ≡ started image.now.words number readings.now) }
+// The clock cycles of a step.
+fn step_cycles(step: &NextStep) -> u32
+    ensures { result ≡ step_cycles step.now }
 {
-    let devices = Devices::new(alloc, image.words(), readings)?;
+    match step {
+        NextStep::Instruction(instruction) => cycles(instruction),
+        NextStep::Acceptance => ACCEPTANCE_CYCLES,
+    }
+}
+
+// A board with this image in its FRAM and these readings and events, whose receiver takes this number next.
+fn started(
+    alloc: Global,
+    image: &Image,
+    number: u16,
+    readings: &[u16],
+    events: &[(u32, u16)],
+) -> Result<Board, AllocError>
+    requires readings { length readings.now ≤ 262144 }
+    requires events { length events.now ≤ 65536 }
+    ensures { IfOk result (λ b. b ≡ started image.now.words number readings.now events.now) }
+{
+    let devices = Devices::new(alloc, image.words(), readings, events)?;
     Ok(Board {
         cpu: Cpu::new(devices.vector(), 0),
         devices,
@@ -90,27 +125,40 @@ fn started(alloc: Global, image: &Image, number: u16, readings: &[u16]) -> Resul
 }
 
 impl Board {
-    /// A board with this image in its FRAM and these readings to take, as a power-up with fill word 0 leaves it. Fails
-    /// where memory is refused.
-    pub fn new(alloc: Global, image: &Image, readings: &[u16]) -> Result<Board, AllocError>
-        requires { length readings.now ≤ 262144 }
-        ensures { IfOk result (λ b. b ≡ fresh image.now.words readings.now) }
+    /// A board with this image in its FRAM and these readings to take, as a power-up with fill word 0 leaves it. The events
+    /// arise from its first power-up on: each behind so many steps, with its word, in this order. Fails where memory is refused.
+    pub fn new(
+        alloc: Global,
+        image: &Image,
+        readings: &[u16],
+        events: &[(u32, u16)],
+    ) -> Result<Board, AllocError>
+        requires readings { length readings.now ≤ 262144 }
+        requires events { length events.now ≤ 65536 }
+        ensures { IfOk result (λ b. b ≡ fresh image.now.words readings.now events.now) }
     {
-        started(alloc, image, 0, readings)
+        started(alloc, image, 0, readings, events)
     }
 
     /// A board that goes on from a saved state: its FRAM and the number that its receiver takes next are the state's. Readings,
-    /// accepted words and repeats count from 0, and all else is as a power-up with fill word 0 leaves it. Fails where memory is
-    /// refused.
-    pub fn from_state(alloc: Global, state: &State, readings: &[u16]) -> Result<Board, AllocError>
-        requires { length readings.now ≤ 262144 }
-        ensures { IfOk result (λ b. b ≡ started state.now.image.words state.now.receiver readings.now) }
+    /// events, steps, accepted words and repeats count from 0, and all else is as a power-up with fill word 0 leaves it. Fails
+    /// where memory is refused.
+    pub fn from_state(
+        alloc: Global,
+        state: &State,
+        readings: &[u16],
+        events: &[(u32, u16)],
+    ) -> Result<Board, AllocError>
+        requires readings { length readings.now ≤ 262144 }
+        requires events { length events.now ≤ 65536 }
+        ensures { IfOk result (λ b. b ≡ started state.now.image.words state.now.receiver readings.now events.now) }
     {
-        started(alloc, &state.image, state.receiver, readings)
+        started(alloc, &state.image, state.receiver, readings, events)
     }
 
     /// Power comes back after a loss. FRAM, readings and receiver are as before; PC is the word at 0xFFFE with bit 0
-    /// cleared and SR is 0; each word of RAM, OUTNUM, R4 to R15, and SP with bit 0 cleared hold the fill word.
+    /// cleared and SR is 0; each word of RAM, OUTNUM, R4 to R15, and SP with bit 0 cleared hold the fill word. An event that
+    /// waits in the port EVENT is lost, and those that are due arise.
     pub fn power_up(&mut self, fill: u16)
         ensures { self.new ≡ powered self.old (filled fill) }
     {
@@ -118,38 +166,87 @@ impl Board {
         self.cpu = Cpu::new(self.devices.vector(), fill);
     }
 
-    /// The words of the instruction at PC, or why none is executed. Stops with the causes of `current_instruction`.
+    /// Whether the next step is an acceptance: an event waits in the port EVENT, GIE is set, and CPUOFF is clear.
     #[inline(always)]
-    pub fn current_words(&self) -> Result<Words, Stop>
-        ensures found { IfOk result (λ words. AreNextWords self.now words) }
-        ensures none { IfErr result (λ stop. IsStoppedBy self.now stop) }
+    fn is_accepting(&self) -> bool
+        ensures { result ≡ is_accepting self.now }
     {
-        current_words(&self.cpu, &self.devices)
+        self.devices.events().is_full() && self.cpu.is_interruptible()
     }
 
-    /// The instruction at PC, or why none is executed: `Off` where CPUOFF is set, a `Bus` fault of a fetch, or
-    /// `Illegal`.
-    pub fn current_instruction(&self) -> Result<Instr, Stop>
+    /// The words of the instruction at PC, where that is the next step, or why none is made. Nothing where the next step is an
+    /// acceptance. Stops with the causes of `next_step`.
+    #[inline(always)]
+    pub fn current_words(&self) -> Result<Option<Words>, Stop>
+        ensures found { IfOk result (λ found. IfSome found (λ words. AreWordsOfStep self.now words)) }
+        ensures accepting { IfOk result (λ found. IfNone found (IsNextStep self.now Acceptance)) }
+        ensures none { IfErr result (λ stop. HasNoStep self.now stop) }
+    {
+        if self.is_accepting() {
+            return Ok(None);
+        }
+        match current_words(&self.cpu, &self.devices) {
+            Ok(words) => Ok(Some(words)),
+            Err(stop) => Err(stop),
+        }
+    }
+
+    /// The instruction at PC, or why none can be executed: `Off` where CPUOFF is set, a `Bus` fault of a fetch, or `Illegal`.
+    fn current_instruction(&self) -> Result<Instr, Stop>
         ensures found { IfOk result (λ i. IsNextInstruction self.now i) }
         ensures none { IfErr result (λ stop. IsStoppedBy self.now stop) }
     {
         current_instruction(&self.cpu, &self.devices)
     }
 
-    /// The clock cycles of the instruction at PC, 1 to 6. Stops with the causes of `current_instruction`.
-    pub fn cost(&self) -> Result<u32, Stop>
-        ensures { BoardCosts self.now result }
+    /// The next step: an acceptance where one is due, else the instruction at PC; or why there is none: `Off` where CPUOFF is
+    /// set, a `Bus` fault of a fetch, or `Illegal`.
+    pub fn next_step(&self) -> Result<NextStep, Stop>
+        ensures found { IfOk result (λ n. IsNextStep self.now n) }
+        ensures none { IfErr result (λ stop. HasNoStep self.now stop) }
     {
+        if self.is_accepting() {
+            return Ok(NextStep::Acceptance);
+        }
         match self.current_instruction() {
-            Ok(instruction) => Ok(cycles(&instruction)),
+            Ok(instruction) => Ok(NextStep::Instruction(instruction)),
             Err(stop) => Err(stop),
         }
     }
 
-    /// Executes an instruction as the one at PC. Stops with a `Bus` fault or `NoReading` at its first access that isn't
-    /// served: then all is as before, but for the readings that it had taken, which stay taken.
+    /// The clock cycles of the next step, 1 to 6. Stops with the causes of `next_step`.
+    pub fn cost(&self) -> Result<u32, Stop>
+        ensures { StepCosts self.now result }
+    {
+        match self.next_step() {
+            Ok(step) => Ok(step_cycles(&step)),
+            Err(stop) => Err(stop),
+        }
+    }
+
+    /// Executes an instruction as the one at PC, up to the boundary behind it. Stops with a `Bus` fault or `NoReading` at its
+    /// first access that isn't served: then all is as before, but for the readings and the event that it had taken, which stay
+    /// taken.
     #[inline(always)]
     pub fn execute(&mut self, instruction: &Instr) -> Result<Stepped, Stop>
+        requires accepted { self.old.receiver.accepted < 2 ^ 64 - 1 }
+        requires repeats { self.old.receiver.repeats < 2 ^ 64 - 1 }
+        ensures answer { result ≡ (executed self.old instruction.now).answer }
+        ensures board { self.new ≡ board_behind result (executed self.old instruction.now).board }
+        ensures took { IfOk result (λ done. done.took ≤ 2) }
+        ensures counts { OffersOneAtMost self.old.receiver self.new.receiver }
+        ensures stopped { OnErr result (KeepsAllButTaken self.old self.new) }
+    {
+        let answer = self.execute_alone(instruction);
+        if answer.is_ok() {
+            self.devices.step();
+        }
+        answer
+    }
+
+    // The same without the boundary.
+    #[inline(always)]
+    fn execute_alone(&mut self, instruction: &Instr) -> Result<Stepped, Stop>
         requires accepted { self.old.receiver.accepted < 2 ^ 64 - 1 }
         requires repeats { self.old.receiver.repeats < 2 ^ 64 - 1 }
         ensures answer { result ≡ (executed self.old instruction.now).answer }
@@ -175,11 +272,60 @@ impl Board {
             wrote: done.wrote,
             took: self.devices.taken() - before,
             accepted,
+            heard: self.devices.events().heard(),
         })
     }
 
-    /// One step: the instruction at PC is executed. Stops with the causes of `current_instruction` and of `execute`:
-    /// then all is as before, but for the readings that the instruction had taken, which stay taken.
+    /// Accepts the event that waits in the port EVENT, up to the boundary behind that: PC and then SR are stored below SP, which
+    /// goes down by two words, SR is cleared, and PC is the word of the vector with bit 0 cleared. Stops with a `Bus` fault of
+    /// the first store that isn't one to memory: then all is as before.
+    fn accept(&mut self) -> Result<Stepped, Stop>
+        ensures answer { result ≡ (acceptance self.old).answer }
+        ensures board { self.new ≡ board_behind result (acceptance self.old).board }
+        ensures stopped { OnErr result (self.new ≡ self.old) }
+        ensures took { IfOk result (λ done. done.took ≡ 0) }
+        ensures receiver { self.new.receiver ≡ self.old.receiver }
+    {
+        let pc = self.cpu.reg(Reg::Pc);
+        let status = self.cpu.reg(Reg::Sr);
+        let (to, below) = self.cpu.return_places();
+        if let Err(address) = self.devices.store_two((to, pc), (below, status)) {
+            return Err(Stop::Bus { pc, address });
+        }
+        self.cpu.accept(self.devices.event_vector());
+        // Tells the proof that the register file is whole.
+        let _pc = self.cpu.reg(Reg::Pc);
+        let heard = self.devices.events().heard();
+        self.devices.step();
+        Ok(Stepped {
+            cycles: ACCEPTANCE_CYCLES,
+            wrote: None,
+            took: 0,
+            accepted: None,
+            heard,
+        })
+    }
+
+    /// Makes a step as the next one, up to the boundary behind it. Stops with a `Bus` fault or `NoReading` at its first access
+    /// that isn't served: then all is as before, but for the readings and the event that it had taken, which stay taken.
+    pub fn perform(&mut self, step: &NextStep) -> Result<Stepped, Stop>
+        requires accepted { self.old.receiver.accepted < 2 ^ 64 - 1 }
+        requires repeats { self.old.receiver.repeats < 2 ^ 64 - 1 }
+        ensures answer { result ≡ (performed self.old step.now).answer }
+        ensures board { self.new ≡ board_behind result (performed self.old step.now).board }
+        ensures took { IfOk result (λ done. done.took ≤ 2) }
+        ensures counts { OffersOneAtMost self.old.receiver self.new.receiver }
+        ensures stopped { OnErr result (KeepsAllButTaken self.old self.new) }
+    {
+        match step {
+            NextStep::Instruction(instruction) => self.execute(instruction),
+            NextStep::Acceptance => self.accept(),
+        }
+    }
+
+    /// One step: an acceptance where one is due, else the instruction at PC, up to the boundary behind it. Stops with the
+    /// causes of `next_step` and of `perform`: then all is as before, but for the readings and the event that the instruction
+    /// had taken, which stay taken.
     pub fn step(&mut self) -> Result<Stepped, Stop>
         requires accepted { self.old.receiver.accepted < 2 ^ 64 - 1 }
         requires repeats { self.old.receiver.repeats < 2 ^ 64 - 1 }
@@ -188,12 +334,31 @@ impl Board {
         ensures counts { OffersOneAtMost self.old.receiver self.new.receiver }
         ensures stopped { OnErr result (KeepsAllButTaken self.old self.new) }
     {
-        // Tells the proof that the register file is whole.
-        let _pc = self.cpu.reg(Reg::Pc);
-        match self.current_instruction() {
-            Ok(instruction) => self.execute(&instruction),
+        match self.next_step() {
+            Ok(step) => self.perform(&step),
             Err(stop) => Err(stop),
         }
+    }
+
+    /// How many events arose.
+    pub fn arisen(&self) -> u32
+        ensures { result ≡ self.now.line.arisen }
+    {
+        self.devices.events().arisen()
+    }
+
+    /// How many of them were lost at the port: it was full, or a power-up emptied it.
+    pub fn missed(&self) -> u32
+        ensures { result ≡ self.now.line.missed }
+    {
+        self.devices.events().missed()
+    }
+
+    /// What was read of the port EVENT since the last boundary: of a board that stopped, what the step had read that stopped it.
+    pub fn heard(&self) -> Heard
+        ensures { result ≡ self.now.line.heard }
+    {
+        self.devices.events().heard()
     }
 
     /// The word at an even address of the FRAM; nothing at another address.

@@ -1,24 +1,27 @@
 //! Memory and ports.
 
-ghost use Rattle.std.specs.Prelude.{◌≡◌, ◌==◌, ◌%◌, if◌then◌else◌, ◌∷◌, ℕ, ◌<◌, ◌≤◌, ◌+◌, ◌-◌, length, IsTrue, OnOk, OnErr, IfOk, IfErr, IfSome, IfNone};
-ghost use Rattle.std.specs.Prelude.{Some, None, false};
+ghost use Rattle.std.specs.Prelude.{◌≡◌, ◌==◌, ◌%◌, if◌then◌else◌, ◌∷◌, ℕ, ◌<◌, ◌≤◌, ◌+◌, ◌-◌, length, slice_index, ◌⊎◌};
+ghost use Rattle.std.specs.Prelude.{IsTrue, OnOk, OnErr, IfOk, IfErr, IfSome, IfNone, Some, None, false};
 ghost use Rattle.std.proofs.Common.{refl};
 ghost use Rattle.alp_words.specs.declared.Width.TheVariants.{Word, Byte};
-ghost use Rattle.state_text.specs.address_space.Limits.{fram_words};
-ghost use Rattle.state_text.specs.image_text.ImageValue.{word_at};
+ghost use Rattle.state_text.specs.address_space.Limits.{fram_words, event_vector};
+ghost use Rattle.state_text.specs.image_text.ImageValue.{word_at, place_of};
 ghost use Rattle.fram_board.specs.Bus.{IsBusState, is_ram, is_memory, is_word, memory_word, with_word, byte_of, with_byte, next_reading, port_written};
 ghost use Rattle.fram_board.specs.Bus.{board_bus};
 ghost use Rattle.fram_board.specs.Board.{filled_words, vector_of};
+ghost use Rattle.fram_board.specs.Events.{line_of_events, line_behind_step, line_behind_power_up};
 
+use crate::events::Events;
 use alp_words::{Width, from_bytes, to_bytes};
 use msp_step::{Bus, Refused};
 use state_text::address_space::{
-    FRAM_FIRST, OUTDATA, OUTNUM, RAM_END, RAM_FIRST, RESET_VECTOR, SENSOR, fram_index,
+    EVENT, EVENT_VECTOR, FRAM_FIRST, OUTDATA, OUTNUM, RAM_END, RAM_FIRST, RESET_VECTOR, SENSOR,
+    fram_index,
 };
 use std::alloc::{AllocError, Global};
 use std::marker::Model;
 
-/// RAM, FRAM, the sensor's readings and the ports.
+/// RAM, FRAM, the sensor's readings, the events and the ports.
 #[derive(Drop)]
 pub struct Devices {
     fram: Vec<u16>,
@@ -27,6 +30,7 @@ pub struct Devices {
     readings: Vec<u16>,
     taken: usize,
     offered: Option<u16>,
+    events: Events,
 }
 
 impl Model for Devices {
@@ -41,6 +45,7 @@ impl Model for Devices {
       readings = d.readings.items;
       taken = d.taken;
       offered = d.offered;
+      line = d.events;
     } };
 
     ghost invariant = { λ d. IsBusState (record {
@@ -50,6 +55,7 @@ impl Model for Devices {
       readings = d.readings.items;
       taken = d.taken;
       offered = d.offered;
+      line = d.events;
     }) };
 }
 
@@ -107,10 +113,16 @@ fn fill_words(words: &mut Vec<u16>, word: u16)
 }
 
 impl Devices {
-    /// This FRAM and these readings, none of them taken; RAM and OUTNUM are 0.
-    pub fn new(alloc: Global, fram: &[u16], readings: &[u16]) -> Result<Devices, AllocError>
+    /// This FRAM and these readings and events, none of them taken; RAM and OUTNUM are 0.
+    pub fn new(
+        alloc: Global,
+        fram: &[u16],
+        readings: &[u16],
+        events: &[(u32, u16)],
+    ) -> Result<Devices, AllocError>
         requires fram { length fram.now ≡ fram_words }
         requires readings { length readings.now ≤ 262144 }
+        requires events { length events.now ≤ 65536 }
         ensures { IfOk result (λ d. d ≡ record {
           fram = fram.now;
           ram = filled_words 1024 0;
@@ -118,6 +130,7 @@ impl Devices {
           readings = readings.now;
           taken = 0;
           offered = None;
+          line = line_of_events events.now;
         }) }
     {
         Ok(Devices {
@@ -127,15 +140,61 @@ impl Devices {
             readings: readings.to_vec(alloc)?,
             taken: 0,
             offered: None,
+            events: Events::new(alloc, events)?,
         })
     }
 
-    /// RAM and OUTNUM hold the fill word.
+    /// RAM and OUTNUM hold the fill word, the port EVENT is emptied, and the events that are due arise.
     pub fn power_up(&mut self, fill: u16)
-        ensures { self.new ≡ record self.old { ram = filled_words 1024 fill; outnum = fill } }
+        ensures { self.new ≡ record self.old { ram = filled_words 1024 fill; outnum = fill; line = line_behind_power_up self.old.line } }
     {
         fill_words(&mut self.ram, fill);
         self.outnum = fill;
+        self.events.power_up();
+    }
+
+    /// Behind a step: it is counted, and the events that are due arise.
+    #[inline(always)]
+    pub fn step(&mut self)
+        ensures { self.new ≡ record self.old { line = line_behind_step self.old.line } }
+    {
+        self.events.step();
+    }
+
+    /// The port EVENT and the events.
+    #[inline(always)]
+    pub fn events(&self) -> &Events
+        ensures { result.now ≡ self.now.line }
+    {
+        &self.events
+    }
+
+    /// Stores two words of memory, one behind the other. Where an address is no whole word of memory nothing is stored, and the
+    /// first such one is answered.
+    pub fn store_two(&mut self, first: (u16, u16), second: (u16, u16)) -> Result<(), u16>
+        ensures stored { OnOk result (self.new ≡ with_word (with_word self.old first.0 first.1) second.0 second.1) }
+        ensures ok { OnOk result (IsTrue (is_word first.0) × IsTrue (is_word second.0)) }
+        ensures refused { IfErr result (λ a. (self.new ≡ self.old) × (is_word a ≡ false)
+            × ((a ≡ first.0) ⊎ ((a ≡ second.0) × IsTrue (is_word first.0)))) }
+    {
+        let (to, word) = first;
+        let (next_to, next_word) = second;
+        if self.whole_word(to).is_none() {
+            return Err(to);
+        }
+        if self.whole_word(next_to).is_none() {
+            return Err(next_to);
+        }
+        self.set_word(to, word);
+        self.set_word(next_to, next_word);
+        Ok(())
+    }
+
+    /// The word at which the CPU goes on where it accepts an event.
+    pub fn event_vector(&self) -> u16
+        ensures { result ≡ slice_index self.now.fram (place_of event_vector) }
+    {
+        self.fram[fram_index(EVENT_VECTOR)]
     }
 
     /// The word to which an address of memory belongs.
@@ -307,6 +366,7 @@ impl Bus for Devices {
                 match self.whole_word(address) {
                     Some(word) => Ok(word),
                     None if address == SENSOR => self.take_reading(),
+                    None if address == EVENT => Ok(self.events.read()),
                     None => Err(Refused::Bus),
                 }
             }

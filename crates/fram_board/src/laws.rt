@@ -1,7 +1,7 @@
 //! Laws of the board. The functions do nothing: their contracts are the laws.
 
 ghost use Rattle.fram_board.specs.Laws.{IsDeterminedStep, StepTakesItsCost, StepMakesItsEffects, HasRun, HasOneRun, AcceptedAreCounted, PowerUpLeavesABoard};
-ghost use Rattle.fram_board.specs.Laws.{FillIsAPowerState};
+ghost use Rattle.fram_board.specs.Laws.{FillIsAPowerState, AcceptanceMakesItsStores};
 
 /// A board steps in one way.
 #[tactic(auto, using(crate::proofs::Runs::determined_step))]
@@ -10,12 +10,18 @@ pub fn board_step_is_determined()
 {}
 
 /// A step that is made takes the cycles that the board's `cost` answers.
-#[tactic(auto, using(crate::proofs::Runs::step_takes_its_cost))]
+#[tactic(auto, using(crate::proofs::Acceptances::step_takes_its_cost))]
 pub fn board_step_takes_its_cost()
     ensures { StepTakesItsCost }
 {}
 
-/// A step changes FRAM by its one store, of a whole word, and the receiver by its one send; it takes at most two
+/// An acceptance that is made changes FRAM by its two stores, PC's before SR's, and beside it the registers and RAM alone.
+#[tactic(auto, using(crate::proofs::Acceptances::acceptance_makes_its_stores))]
+pub fn acceptance_makes_its_stores()
+    ensures { AcceptanceMakesItsStores }
+{}
+
+/// An instruction changes FRAM by its one store, of a whole word, and the receiver by its one send; it takes at most two
 /// readings.
 #[tactic(auto, using(crate::proofs::Effects::step_makes_its_effects))]
 pub fn board_step_makes_its_effects()

@@ -47,7 +47,7 @@ fn are_same<T: Same>(items: &[T], others: &[T]) -> bool
     true
 }
 
-/// Whether two maps are the same: a map that says where no copies are isn't one that says nothing of them.
+/// Whether two maps are the same: a map that says where no copies are isn't one that says nothing of them; a map with a ring isn't one without.
 pub fn are_same_maps(map: &Map, other: &Map) -> bool
     ensures { IsTrue result ↔ (map.now ≡ other.now) }
 {
@@ -57,6 +57,7 @@ pub fn are_same_maps(map: &Map, other: &Map) -> bool
         && map.emits() == other.emits()
         && map.versions() == other.versions()
         && map.copies() == other.copies()
+        && map.ring() == other.ring()
         && are_same(map.variables(), other.variables())
         && are_same(map.tasks(), other.tasks())
 }

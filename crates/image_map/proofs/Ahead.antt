@@ -1,11 +1,13 @@
 -- A map is read off the lines up to its `end` alone: with any lines behind them it is the same, and these are left.
 use Rattle.std.proofs.Common.{◌≡◌, ℕ, ◌+◌, List, [], ◌∷◌, ◌++◌, refl, ap, sym, ◌∙◌, Bool, true, false, Option, Some, None, Result, Ok, Err, codes, append_assoc}
 use Rattle.image_map.specs.declared.fault.MapFault.{MapFault}
+use Rattle.image_map.specs.declared.fault.MapFault.TheVariants.{BadMap}
 use Rattle.image_map.specs.declared.parts.Place.{Place}
 use Rattle.image_map.specs.declared.parts.RuntimeWords.{RuntimeWords}
 use Rattle.image_map.specs.MapValue.{MapValue}
-use Rattle.image_map.specs.Line.{line_fields, start_of, bound_of, words_of, place_of}
-use Rattle.image_map.specs.Reading.{◌>>=◌, said, take_line, take_copies, copies_by, with_copies, rest_lines, head, step, body, goes_on, MapLines, map_lines}
+use Rattle.image_map.specs.Line.{line_fields, start_of, bound_of, words_of, place_of, ring_of}
+use Rattle.image_map.specs.Reading.{◌>>=◌, said, take_line, said_by, take_optional, take_copies, with_copies, take_ring, with_ring, rest_lines, ring_lines}
+use Rattle.image_map.specs.Reading.{head, step, body, goes_on, MapLines, map_lines}
 
 -- A reader of lines, and what it makes of some. Where it takes them they are a front and the rest that it leaves, and of this front with any
 -- lines behind it reads the same and leaves these: `rest_of` is what is left, `leaving` the value with another rest
@@ -59,7 +61,7 @@ then_ahead {A} {B} first next h k ls = by_first (first ls) (h ls)
 module _ (n : ℕ) where
   abbrev versions : ℕ → RuntimeWords → Place → Place → Lines → Result (MapValue × Lines) MapFault
   versions b w l e ls = take_line (place_of (codes "versions")) (n + 5) ls
-      >>= λ v. Ok (record { bound = b; words = w; list = l; emits = e; versions = v.0; copies = None; variables = []; tasks = [] }, v.1)
+      >>= λ v. Ok (record { bound = b; words = w; list = l; emits = e; versions = v.0; copies = None; ring = None; variables = []; tasks = [] }, v.1)
 
   abbrev emits : ℕ → RuntimeWords → Place → Lines → Result (MapValue × Lines) MapFault
   emits b w l ls = take_line (place_of (codes "emits")) (n + 4) ls >>= λ e. versions b w l e.0 e.1
@@ -75,9 +77,9 @@ module _ (n : ℕ) where
 
   versions_ahead : (b : ℕ) (w : RuntimeWords) (l e : Place) (ls : Lines) → TakesAhead (versions b w l e) ls (versions b w l e ls)
   versions_ahead b w l e = then_ahead (take_line (place_of (codes "versions")) (n + 5))
-      (λ v ls. Ok (record { bound = b; words = w; list = l; emits = e; versions = v; copies = None; variables = []; tasks = [] }, ls))
+      (λ v ls. Ok (record { bound = b; words = w; list = l; emits = e; versions = v; copies = None; ring = None; variables = []; tasks = [] }, ls))
       (take_ahead (place_of (codes "versions")) (n + 5))
-      (λ v. give_ahead (record { bound = b; words = w; list = l; emits = e; versions = v; copies = None; variables = []; tasks = [] }))
+      (λ v. give_ahead (record { bound = b; words = w; list = l; emits = e; versions = v; copies = None; ring = None; variables = []; tasks = [] }))
 
   emits_ahead : (b : ℕ) (w : RuntimeWords) (l : Place) (ls : Lines) → TakesAhead (emits b w l) ls (emits b w l ls)
   emits_ahead b w l = then_ahead (take_line (place_of (codes "emits")) (n + 4)) (versions b w l) (take_ahead (place_of (codes "emits")) (n + 4))
@@ -140,48 +142,77 @@ body_ahead : (n : ℕ) (m : MapValue) (l : List ℕ) (ls : Lines) → BodyAhead 
 body_ahead n m l [] = step_ahead n m l [] (none_later n m l)
 body_ahead n m l (k ∷ ks) = step_ahead n m l (k ∷ ks) (more_later n m l k ks (λ m'. body_ahead (n + 1) m' k ks))
 
--- the lines behind the first six
-abbrev Behind : ℕ → MapValue → Lines → Type 0
-Behind n m ls = MapAhead (λ ls. rest_lines (with_copies m (take_copies n ls))) ls (rest_lines (with_copies m (take_copies n ls)))
+-- a reader of maps that takes a line at the least
+record TakesLines (reads : Lines → Result MapLines MapFault) : Type 0 where
+  fault : MapFault
+  none : reads [] ≡ Err fault
+  more : (l : List ℕ) (ls : Lines) → MapAhead (λ ls. reads (l ∷ ls)) ls (reads (l ∷ ls))
 
-no_copies_ahead : (n : ℕ) (m : MapValue) (l : List ℕ) (ls : Lines) → place_of (codes "copies") (line_fields l) ≡ None
-    → MapAhead (λ ls. rest_lines (with_copies m (take_copies n ls))) (l ∷ ls) (body n (record m { copies = None }) (l ∷ ls))
-no_copies_ahead n m l ls e = by_body (body n (record m { copies = None }) (l ∷ ls)) (body_ahead n (record m { copies = None }) l ls)
-  where
-    by_body : (r : Result MapLines MapFault) → MapAhead (λ ls. body n (record m { copies = None }) (l ∷ ls)) ls r
-        → MapAhead (λ ls. rest_lines (with_copies m (take_copies n ls))) (l ∷ ls) r
-    by_body (Err f) c = tt
-    by_body (Ok t) (front, made, on) = (l ∷ front, ap (λ ls. l ∷ ls) made, λ rest. rw e (on rest))
-
-copies_ahead : (n : ℕ) (m : MapValue) (p : Place) (l k : List ℕ) (ks : Lines) → place_of (codes "copies") (line_fields l) ≡ Some p
-    → MapAhead (λ ls. rest_lines (with_copies m (take_copies n ls))) (l ∷ k ∷ ks) (body (n + 1) (record m { copies = Some p }) (k ∷ ks))
-copies_ahead n m p l k ks e = by_body (body (n + 1) (record m { copies = Some p }) (k ∷ ks)) (body_ahead (n + 1) (record m { copies = Some p }) k ks)
-  where
-    by_body : (r : Result MapLines MapFault) → MapAhead (λ ks. body (n + 1) (record m { copies = Some p }) (k ∷ ks)) ks r
-        → MapAhead (λ ls. rest_lines (with_copies m (take_copies n ls))) (l ∷ k ∷ ks) r
-    by_body (Err f) c = tt
-    by_body (Ok t) (front, made, on) = (l ∷ k ∷ front, ap (λ ks. l ∷ k ∷ ks) made, λ rest. rw e (on rest))
-
-no_lines_ahead : (n j : ℕ) (m v : MapValue) (ls : Lines) → MapAhead (λ ls. rest_lines (with_copies m (take_copies n ls))) ls (body j v [])
+body_end : (n : ℕ) (m : MapValue) → body n m [] ≡ Err (BadMap n)
 unfolding body
-no_lines_ahead n j m v ls = tt
+body_end n m = refl
 
-behind_ahead : (n : ℕ) (m : MapValue) (ls : Lines) → Behind n m ls
-behind_ahead n m [] = no_lines_ahead n n m (record m { copies = None }) []
-behind_ahead n m (l ∷ ls) = by_copies (place_of (codes "copies") (line_fields l)) ls refl
+body_takes : (n : ℕ) (m : MapValue) → TakesLines (body n m)
+body_takes n m = record { fault = BadMap n; none = body_end n m; more = body_ahead n m }
+
+-- a line that may be left out, and what is read behind it
+module _ {A : Type 0} (says : Lines → Option A) (n : ℕ) (later : ℕ → Option A → Lines → Result MapLines MapFault)
+    (takes : (j : ℕ) (o : Option A) → TakesLines (later j o)) where
+  abbrev both : Lines → Result MapLines MapFault
+  both ls = let o = take_optional says n ls in later o.line o.value o.rest
+
+  optional_none : (l : List ℕ) (ls : Lines) → says (line_fields l) ≡ None → MapAhead (λ ls. both (l ∷ ls)) ls (later n None (l ∷ ls))
+  optional_none l ls e = by_later (later n None (l ∷ ls)) ((takes n None).more l ls)
+    where
+      by_later : (r : Result MapLines MapFault) → MapAhead (λ ls. later n None (l ∷ ls)) ls r → MapAhead (λ ls. both (l ∷ ls)) ls r
+      by_later (Err f) c = tt
+      by_later (Ok t) (front, made, on) = (front, made, λ rest. rw e (on rest))
+
+  optional_some : (x : A) (l k : List ℕ) (ks : Lines) → says (line_fields l) ≡ Some x
+      → MapAhead (λ ls. both (l ∷ ls)) (k ∷ ks) (later (n + 1) (Some x) (k ∷ ks))
+  optional_some x l k ks e = by_later (later (n + 1) (Some x) (k ∷ ks)) ((takes (n + 1) (Some x)).more k ks)
+    where
+      by_later : (r : Result MapLines MapFault) → MapAhead (λ ks. later (n + 1) (Some x) (k ∷ ks)) ks r → MapAhead (λ ls. both (l ∷ ls)) (k ∷ ks) r
+      by_later (Err f) c = tt
+      by_later (Ok t) (front, made, on) = (k ∷ front, ap (λ ks. k ∷ ks) made, λ rest. rw e (on rest))
+
+  optional_last : (x : A) (l : List ℕ) → MapAhead (λ ls. both (l ∷ ls)) [] (later (n + 1) (Some x) [])
+  optional_last x l = rw (takes (n + 1) (Some x)).none tt
+
+  optional_takes : TakesLines both
+  optional_takes = record { fault = (takes n None).fault; none = (takes n None).none; more = λ l ls. by_said l (says (line_fields l)) ls refl }
+    where
+      by_said : (l : List ℕ) (o : Option A) (ls : Lines) → says (line_fields l) ≡ o
+          → MapAhead (λ ls. both (l ∷ ls)) ls (let s = said_by n l ls o in later s.line s.value s.rest)
+      by_said l None ls e = optional_none l ls e
+      by_said l (Some x) [] e = optional_last x l
+      by_said l (Some x) (k ∷ ks) e = optional_some x l k ks e
+
+-- the lines behind the first six
+abbrev Behind : MapValue → ℕ → Lines → Result MapLines MapFault
+Behind m n ls = ring_lines (with_copies m (take_copies n ls))
+
+ring_takes : (m : MapValue) (n : ℕ) → TakesLines (λ ls. rest_lines (with_ring m (take_ring n ls)))
+ring_takes m n = optional_takes ring_of n (λ j o. body j (record m { ring = o })) (λ j o. body_takes j (record m { ring = o }))
+
+copies_take : (m : MapValue) (n : ℕ) → TakesLines (Behind m n)
+copies_take m n = optional_takes (place_of (codes "copies")) n (λ j o ls. rest_lines (with_ring (record m { copies = o }) (take_ring j ls)))
+    (λ j o. ring_takes (record m { copies = o }) j)
+
+behind_ahead : (m : MapValue) (n : ℕ) (ls : Lines) → MapAhead (Behind m n) ls (Behind m n ls)
+behind_ahead m n [] = rw (copies_take m n).none tt
+behind_ahead m n (l ∷ ls) = by_more (Behind m n (l ∷ ls)) ((copies_take m n).more l ls)
   where
-    by_copies : (o : Option Place) (ls : Lines) → place_of (codes "copies") (line_fields l) ≡ o
-        → MapAhead (λ ls. rest_lines (with_copies m (take_copies n ls))) (l ∷ ls) (rest_lines (with_copies m (copies_by n l ls o)))
-    by_copies None ls e = no_copies_ahead n m l ls e
-    by_copies (Some p) [] e = no_lines_ahead n (n + 1) m (record m { copies = Some p }) (l ∷ [])
-    by_copies (Some p) (k ∷ ks) e = copies_ahead n m p l k ks e
+    by_more : (r : Result MapLines MapFault) → MapAhead (λ ls. Behind m n (l ∷ ls)) ls r → MapAhead (Behind m n) (l ∷ ls) r
+    by_more (Err f) c = tt
+    by_more (Ok t) (front, made, on) = (l ∷ front, ap (λ ls. l ∷ ls) made, on)
 
 -- a map is read off the lines up to its end
 pub map_ahead : (n : ℕ) (ls : Lines) → MapAhead (map_lines n) ls (map_lines n ls)
 map_ahead n ls = by_head (head n ls) (head_ahead n ls)
   where
     behind : MapValue → Lines → Result MapLines MapFault
-    behind m ls = rest_lines (with_copies m (take_copies (n + 6) ls))
+    behind m ls = Behind m (n + 6) ls
 
     by_behind : (m : MapValue) (rest six : Lines) → ls ≡ six ++ rest → ((t : Lines) → head n (six ++ t) ≡ Ok (m, t))
         → (r : Result MapLines MapFault) → MapAhead (behind m) rest r → MapAhead (map_lines n) ls r
@@ -194,4 +225,4 @@ map_ahead n ls = by_head (head n ls) (head_ahead n ls)
 
     by_head : (r : Result (MapValue × Lines) MapFault) → TakesAhead (head n) ls r → MapAhead (map_lines n) ls (r >>= λ h. behind h.0 h.1)
     by_head (Err e) c = tt
-    by_head (Ok p) (six, made, on) = by_behind p.0 p.1 six made on (behind p.0 p.1) (behind_ahead (n + 6) p.0 p.1)
+    by_head (Ok p) (six, made, on) = by_behind p.0 p.1 six made on (behind p.0 p.1) (behind_ahead p.0 (n + 6) p.1)

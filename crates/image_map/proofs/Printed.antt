@@ -1,12 +1,15 @@
 -- The text of a map as it is written.
 use Rattle.std.proofs.Common.{◌≡◌, ℕ, suc, ◌+◌, ◌<◌, List, [], ◌∷◌, ◌++◌, length, map, drop, get_or, drop-cons, arith, refl, ap, sym, subst, ◌∙◌, append_assoc}
-use Rattle.std.proofs.Common.{codes, nat_lt, Bool, true, false, append-nil}
+use Rattle.std.proofs.Common.{codes, nat_lt, Bool, true, false, append-nil, Option}
 use Rattle.std.proofs.lemmas.Bool.Decides.{nat_tests}
 use Rattle.std.proofs.lemmas.List.{get_or_default}
 use Rattle.text_parts.specs.Printed.{spaced, printed}
 use Rattle.text_parts.proofs.Interface.{printed_append}
+use Rattle.image_map.specs.declared.parts.Place.{Place}
+use Rattle.image_map.specs.declared.parts.RingPlaces.{RingPlaces}
 use Rattle.image_map.specs.MapValue.{MapValue, TaskValue}
-use Rattle.image_map.specs.Text.{tail_text, task_fields, tasks_fields, head_fields, copies_fields, variable_fields, map_fields, map_text}
+use Rattle.image_map.specs.Text.{tail_text, task_fields, tasks_fields, head_fields, copies_fields, ring_fields, optional_fields, variable_fields, map_fields}
+use Rattle.image_map.specs.Text.{map_text}
 
 spaced_tail : (v : List ℕ) (ws : List (List ℕ)) → spaced (v ∷ ws) ≡ v ++ tail_text ws
 unfolding tail_text
@@ -36,8 +39,16 @@ last_line : (l : List (List ℕ)) → printed (l ∷ []) ≡ spaced l ++ 10 ∷ 
 unfolding printed
 last_line l = append-nil (spaced l ++ 10 ∷ [])
 
+-- the lines of the copies and of the ring are written
+pub optional_written : (m : MapValue) (copies : Option Place) (ring : Option RingPlaces) (a b c : List ℕ) → copies ≡ m.copies → ring ≡ m.ring
+    → b ≡ a ++ printed (copies_fields copies) → c ≡ b ++ printed (ring_fields ring) → c ≡ a ++ printed (optional_fields m)
+optional_written m copies ring a b c e f g h =
+    h ∙ ap (λ x. x ++ printed (ring_fields ring)) g ∙ append_assoc a (printed (copies_fields copies)) (printed (ring_fields ring))
+    ∙ ap (λ x. a ++ x) (sym (printed_append (copies_fields copies) (ring_fields ring)))
+    ∙ ap (λ o. a ++ printed (copies_fields o ++ ring_fields ring)) e ∙ ap (λ o. a ++ printed (copies_fields m.copies ++ ring_fields o)) f
+
 -- all lines are written
-pub map_written : (m : MapValue) (a h b c d e : List ℕ) → h ≡ a ++ printed (head_fields m) → b ≡ h ++ printed (copies_fields m.copies)
+pub map_written : (m : MapValue) (a h b c d e : List ℕ) → h ≡ a ++ printed (head_fields m) → b ≡ h ++ printed (optional_fields m)
     → c ≡ b ++ printed (map variable_fields m.variables)
     → d ≡ c ++ printed (tasks_fields m.tasks)
     → e ≡ d ++ (spaced (codes "end" ∷ []) ++ 10 ∷ []) → e ≡ a ++ map_text m
@@ -47,14 +58,14 @@ map_written m a h b c d e f o g t k =
     let tasks : List (List (List ℕ)) = tasks_fields m.tasks in
     let variables : List (List (List ℕ)) = map variable_fields m.variables in
     let rest : List (List (List ℕ)) = variables ++ (tasks ++ end) in
-    let copies : List (List (List ℕ)) = copies_fields m.copies in
+    let optional : List (List (List ℕ)) = optional_fields m in
     k ∙ ap (λ x. d ++ x) (sym (last_line (codes "end" ∷ [])))
     ∙ ap (λ x. x ++ printed end) t ∙ append_assoc c (printed tasks) (printed end) ∙ ap (λ x. c ++ x) (sym (printed_append tasks end))
     ∙ ap (λ x. x ++ printed (tasks ++ end)) g ∙ append_assoc b (printed variables) (printed (tasks ++ end))
     ∙ ap (λ x. b ++ x) (sym (printed_append variables (tasks ++ end)))
-    ∙ ap (λ x. x ++ printed rest) o ∙ append_assoc h (printed copies) (printed rest) ∙ ap (λ x. h ++ x) (sym (printed_append copies rest))
-    ∙ ap (λ x. x ++ printed (copies ++ rest)) f ∙ append_assoc a (printed (head_fields m)) (printed (copies ++ rest))
-    ∙ ap (λ x. a ++ x) (sym (printed_append (head_fields m) (copies ++ rest)))
+    ∙ ap (λ x. x ++ printed rest) o ∙ append_assoc h (printed optional) (printed rest) ∙ ap (λ x. h ++ x) (sym (printed_append optional rest))
+    ∙ ap (λ x. x ++ printed (optional ++ rest)) f ∙ append_assoc a (printed (head_fields m)) (printed (optional ++ rest))
+    ∙ ap (λ x. a ++ x) (sym (printed_append (head_fields m) (optional ++ rest)))
 
 -- what holds of the items before one, and of that one
 pub one_more : {X : Type 0} (P : X → Type 0) (xs : List X) (x : X) (i : ℕ) → i < length xs → x ≡ get_or xs i x → P x

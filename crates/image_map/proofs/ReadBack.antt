@@ -20,19 +20,22 @@ use Rattle.image_map.specs.declared.fault.MapFault.{MapFault}
 use Rattle.image_map.specs.declared.fault.MapFault.TheVariants.{BadMap}
 use Rattle.image_map.specs.declared.parts.RuntimeWords.{RuntimeWords}
 use Rattle.image_map.specs.declared.parts.Place.{Place}
+use Rattle.image_map.specs.declared.parts.RingPlaces.{RingPlaces}
 use Rattle.image_map.specs.declared.parts.ValueType.{ValueType}
 use Rattle.image_map.specs.declared.parts.ValueType.TheVariants as value_type
 use Rattle.image_map.specs.declared.parts.Variable.{Variable}
 use Rattle.image_map.specs.Names.{is_name, is_name_byte, name_of}
-use Rattle.image_map.specs.MapValue.{MapValue, TaskValue, IsFramWord, AreFramWords, IsPlace, IsVariable, fits, word_count, are_scalars, takes_variable}
+use Rattle.image_map.specs.MapValue.{MapValue, TaskValue, IsFramWord, AreFramWords, IsPlace, IsRing, IsVariable, fits, ring_words, word_count}
 use Rattle.image_map.specs.Kept.{IsMap}
-use Rattle.image_map.specs.MapValue.{takes_task, takes_private, with_private}
+use Rattle.image_map.specs.MapValue.{are_scalars, takes_variable, takes_task, takes_private, with_private}
 use Rattle.image_map.specs.Line.{single_from, line_fields, address_digit, address_of, fram_word, decimal_below, type_of, bound_of, words_of, place_of, start_of}
-use Rattle.image_map.specs.Reading.{◌>>=◌, take_line, take_copies, with_copies, rest_lines, head, step, body, put_variable, put_task, put_private}
+use Rattle.image_map.specs.Line.{ring_of}
+use Rattle.image_map.specs.Reading.{◌>>=◌, take_line, take_optional, take_copies, with_copies, take_ring, with_ring, rest_lines, ring_lines}
+use Rattle.image_map.specs.Reading.{head, step, body, map_lines, put_variable, put_task, put_private}
 use Rattle.image_map.specs.Named.{AreTaskNames}
 use Rattle.image_map.specs.ReadsBack.{ReadsBack}
 use Rattle.image_map.specs.Text.{address_text, runtime_fields, place_fields, type_text, sized_fields, variable_fields, private_fields, tasks_fields}
-use Rattle.image_map.specs.Text.{copies_fields, head_fields, map_fields}
+use Rattle.image_map.specs.Text.{copies_fields, ring_line, ring_fields, head_fields, map_fields}
 use Rattle.image_map.proofs.Bodies.{body_next, body_done}
 use Rattle.image_map.proofs.Taking.{fram_test, variables_alone, tasks_alone, task_with, middle, takes_next_variable, takes_next_task, takes_next_private}
 use Rattle.image_map.proofs.Taking.{onto_of}
@@ -174,9 +177,29 @@ versions_back p h = rw (address_back p.address h.address, decimal_back (2 ^ 32) 
 copies_back : (p : Place) → IsPlace p → place_of (codes "copies") (place_fields (codes "copies") p) ≡ Some p
 copies_back p h = rw (address_back p.address h.address, decimal_back (2 ^ 32) p.capacity h.capacity (omega arith)) refl
 
--- a map without its copies, its variables and tasks
+ring_back : (r : RingPlaces) → IsRing r → ring_of (ring_line r) ≡ Some r
+ring_back r h = rw (
+  address_back r.head h.head,
+  address_back r.tail h.tail,
+  address_back r.event_count h.event_count,
+  address_back r.sent_tail h.sent_tail,
+  address_back r.answer h.answer,
+  address_back r.slots h.slots,
+  decimal_back (2 ^ 16) ring_words (omega arith) (omega arith),
+) (ap (λ t. if t then Some r else None) h.fits)
+
+ring_line_words : (r : RingPlaces) → IsRing r → AreWords (ring_line r)
+ring_line_words r h = (
+  omega arith,
+  omega arith,
+  address_word r.head _ h.head.high
+      (address_word r.tail _ h.tail.high (address_word r.event_count _ h.event_count.high (address_word r.sent_tail _ h.sent_tail.high
+      (address_word r.answer _ h.answer.high (address_word r.slots _ h.slots.high (decimal_word ring_words [] (omega arith) tt)))))),
+)
+
+-- a map without its copies, its ring, its variables and tasks
 abbrev bare : MapValue → MapValue
-bare m = record m { copies = None; variables = []; tasks = [] }
+bare m = record m { copies = None; ring = None; variables = []; tasks = [] }
 
 head_back : (m : MapValue) (n : ℕ) (more : List (List (List ℕ))) → IsMap m
     → head n (lines (printed (head_fields m ++ more))) ≡ Ok (bare m, lines (printed more))
@@ -199,24 +222,54 @@ head_back m n more h =
           (versions_back m.versions h.versions),
     ) refl
 
--- the place of the copies
+-- the lines that may be left out
 
--- lines from the k-th on that begin with another line than that of the copies
-abbrev BeginsOtherwise : ℕ → List (List ℕ) → Type 0
-BeginsOtherwise k ls = take_copies k ls ≡ record { place = None; rest = ls; line = k }
+-- lines whose first begins with another word than this
+abbrev BeginsOtherwise : List ℕ → List (List (List ℕ)) → Type 0
+BeginsOtherwise word [] = ⊥
+BeginsOtherwise word ([] ∷ more) = ⊥
+BeginsOtherwise word ((w ∷ ws) ∷ more) = AreWords (w ∷ ws) × (bytes_eq w word ≡ false)
 
-other_line : (k : ℕ) (w : List ℕ) (ws : List (List ℕ)) (more : List (List (List ℕ))) → AreWords (w ∷ ws) → bytes_eq w (codes "copies") ≡ false
-    → BeginsOtherwise k (lines (printed ((w ∷ ws) ∷ more)))
-other_line k w ws more h e = rw (lines_printed (w ∷ ws) more h, line_back w ws h, e) refl
+-- a line that says it
+present : {A : Type 0} (says : List (List ℕ) → Option A) (k : ℕ) (w : List ℕ) (ws : List (List ℕ)) (more : List (List (List ℕ))) (x : A) → AreWords (w ∷ ws)
+    → says (w ∷ ws) ≡ Some x
+    → take_optional says k (lines (printed ((w ∷ ws) ∷ more))) ≡ record { value = Some x; rest = lines (printed more); line = k + 1 }
+present says k w ws more x h e = rw (lines_printed (w ∷ ws) more h, line_back w ws h, e) refl
+
+-- a line that doesn't
+absent : {A : Type 0} (says : List (List ℕ) → Option A) (k : ℕ) (w : List ℕ) (ws : List (List ℕ)) (more : List (List (List ℕ))) → AreWords (w ∷ ws)
+    → says (w ∷ ws) ≡ None
+    → take_optional says k (lines (printed ((w ∷ ws) ∷ more))) ≡ record { value = None; rest = lines (printed ((w ∷ ws) ∷ more)); line = k }
+absent says k w ws more h e = rw (lines_printed (w ∷ ws) more h, line_back w ws h, e) refl
+
+no_copies : (k : ℕ) (more : List (List (List ℕ))) → BeginsOtherwise (codes "copies") more
+    → take_copies k (lines (printed more)) ≡ record { value = None; rest = lines (printed more); line = k }
+no_copies k [] h = absurd h
+no_copies k ([] ∷ more) h = absurd h
+no_copies k ((w ∷ ws) ∷ more) h = absent (place_of (codes "copies")) k w ws more h.0 (rw h.1 refl)
+
+no_ring : (k : ℕ) (more : List (List (List ℕ))) → BeginsOtherwise (codes "ring") more
+    → take_ring k (lines (printed more)) ≡ record { value = None; rest = lines (printed more); line = k }
+no_ring k [] h = absurd h
+no_ring k ([] ∷ more) h = absurd h
+no_ring k ((w ∷ ws) ∷ more) h = absent ring_of k w ws more h.0 (rw h.1 refl)
 
 -- the place of the copies reads back, where other lines stand behind
-copies_read : (m : MapValue) (o : Option Place) (k : ℕ) (more : List (List (List ℕ))) → IfSome o IsPlace → BeginsOtherwise k (lines (printed more))
+copies_read : (m : MapValue) (o : Option Place) (k : ℕ) (more : List (List (List ℕ))) → IfSome o IsPlace → BeginsOtherwise (codes "copies") more
     → (j : ℕ) × (with_copies m (take_copies k (lines (printed (copies_fields o ++ more))))
     ≡ record { value = record m { copies = o }; rest = lines (printed more); line = j })
-copies_read m None k more h e = (k, ap (with_copies m) e)
-copies_read m (Some p) k more h e =
-    let words : AreWords (place_fields (codes "copies") p) = (omega arith, omega arith, place_words p h) in
-    (k + 1, rw (lines_printed (place_fields (codes "copies") p) more words, line_back (codes "copies") _ words, copies_back p h) refl)
+copies_read m None k more h e = (k, ap (with_copies m) (no_copies k more e))
+copies_read m (Some p) k more h e = (
+  k + 1,
+  ap (with_copies m) (present (place_of (codes "copies")) k (codes "copies") _ more p (omega arith, omega arith, place_words p h) (copies_back p h)),
+)
+
+-- the ring reads back, where other lines stand behind
+ring_read : (m : MapValue) (o : Option RingPlaces) (k : ℕ) (more : List (List (List ℕ))) → IfSome o IsRing → BeginsOtherwise (codes "ring") more
+    → (j : ℕ) × (with_ring m (take_ring k (lines (printed (ring_fields o ++ more))))
+    ≡ record { value = record m { ring = o }; rest = lines (printed more); line = j })
+ring_read m None k more h e = (k, ap (with_ring m) (no_ring k more e))
+ring_read m (Some r) k more h e = (k + 1, ap (with_ring m) (present ring_of k (codes "ring") _ more r (ring_line_words r h) (ring_back r h)))
 
 -- the lines of variables and tasks
 
@@ -325,21 +378,33 @@ read_end m i h =
     let said : step i m (codes "end" ∷ []) ≡ Ok (false, m) = rw some refl in
     body_done i m m _ _ _ false (lines_printed (codes "end" ∷ []) [] words) (ap (step i m) (line_back (codes "end") [] words) ∙ said) refl
 
--- variables, tasks and the end begin otherwise than with the copies
+-- variables, tasks and the end begin otherwise than with the copies or the ring
 
-variable_otherwise : (k : ℕ) (o : Option ℕ) (name : List ℕ) (t : ValueType) (a : ℕ) (more : List (List (List ℕ))) → IsFramWord a → is_name name ≡ true
-    → fits a (word_count t o) ≡ true → BeginsOtherwise k (lines (printed (sized_fields o name t a ∷ more)))
-variable_otherwise k None name t a more h n f = other_line k (codes "scalar") _ more (sized_words None name t a h n f) refl
-variable_otherwise k (Some l) name t a more h n f = other_line k (codes "array") _ more (sized_words (Some l) name t a h n f) refl
+abbrev BeginsAsBody : List (List (List ℕ)) → Type 0
+BeginsAsBody ls = BeginsOtherwise (codes "copies") ls × BeginsOtherwise (codes "ring") ls
 
-body_otherwise : (k : ℕ) (vs : List Variable) (ts : List TaskValue) → All IsVariable vs → All (λ v. is_name v.name ≡ true) vs → All AreTaskNames ts
-    → BeginsOtherwise k (lines (printed (map variable_fields vs ++ (tasks_fields ts ++ (codes "end" ∷ []) ∷ []))))
-body_otherwise k [] [] are names tasks = other_line k (codes "end") [] [] (omega arith, omega arith, tt) refl
-body_otherwise k [] (t ∷ ts) are names tasks =
-    other_line k (codes "task") (t.name ∷ []) _ (omega arith, omega arith, name_word t.name [] (tasks 0 t (omega arith)).name tt) refl
-body_otherwise k (v ∷ vs) ts are names tasks =
+variable_otherwise : (o : Option ℕ) (name : List ℕ) (t : ValueType) (a : ℕ) (more : List (List (List ℕ))) → IsFramWord a → is_name name ≡ true
+    → fits a (word_count t o) ≡ true → BeginsAsBody (sized_fields o name t a ∷ more)
+variable_otherwise None name t a more h n f = let words = sized_words None name t a h n f in ((words, refl), (words, refl))
+variable_otherwise (Some l) name t a more h n f = let words = sized_words (Some l) name t a h n f in ((words, refl), (words, refl))
+
+body_otherwise : (vs : List Variable) (ts : List TaskValue) → All IsVariable vs → All (λ v. is_name v.name ≡ true) vs → All AreTaskNames ts
+    → BeginsAsBody (map variable_fields vs ++ (tasks_fields ts ++ (codes "end" ∷ []) ∷ []))
+body_otherwise [] [] are names tasks =
+    let words : AreWords (codes "end" ∷ []) = (omega arith, omega arith, tt) in
+    ((words, refl), (words, refl))
+body_otherwise [] (t ∷ ts) are names tasks =
+    let words : AreWords (codes "task" ∷ t.name ∷ []) = (omega arith, omega arith, name_word t.name [] (tasks 0 t (omega arith)).name tt) in
+    ((words, refl), (words, refl))
+body_otherwise (v ∷ vs) ts are names tasks =
     let is : IsVariable v = are 0 v (omega arith) in
-    variable_otherwise k v.length v.name v.value_type v.address _ is.address (names 0 v (omega arith)) is.fits
+    variable_otherwise v.length v.name v.value_type v.address _ is.address (names 0 v (omega arith)) is.fits
+
+-- and the ring otherwise than with the copies
+ring_otherwise : (o : Option RingPlaces) (more : List (List (List ℕ))) → IfSome o IsRing → BeginsOtherwise (codes "copies") more
+    → BeginsOtherwise (codes "copies") (ring_fields o ++ more)
+ring_otherwise None more h e = e
+ring_otherwise (Some r) more h e = (ring_line_words r h, refl)
 
 no_lines : lines (printed []) ≡ []
 unfolding printed pieces
@@ -351,12 +416,16 @@ unfolding map_fields
 reads_back m h names tasks some n =
     let end : List (List (List ℕ)) = (codes "end" ∷ []) ∷ [] in
     let behind : List (List (List ℕ)) = map variable_fields m.variables ++ (tasks_fields m.tasks ++ end) in
-    let first = head_back m n (copies_fields m.copies ++ behind) h in
-    let copies = copies_read (bare m) m.copies (n + 6) behind h.copies (body_otherwise (n + 6) m.variables m.tasks h.variables names tasks) in
-    let second = read_variables m h names copies.0 [] m.variables (tasks_fields m.tasks ++ end) refl in
-    let third = read_tasks m h tasks second.0 [] m.tasks end refl in
-    let last = read_end m third.0 some in (
-      third.0 + 1,
-      ap (λ r. r >>= λ h. rest_lines (with_copies h.0 (take_copies (n + 6) h.1))) first ∙ ap rest_lines copies.1 ∙ second.1 ∙ third.1 ∙ last
-          ∙ ap (λ r. Ok (record { value = m; rest = r; line = third.0 + 1 })) no_lines,
+    let others = body_otherwise m.variables m.tasks h.variables names tasks in
+    let ring : List (List (List ℕ)) = ring_fields m.ring ++ behind in
+    let first = head_back m n (copies_fields m.copies ++ ring) h in
+    let second = copies_read (bare m) m.copies (n + 6) ring h.copies (ring_otherwise m.ring behind h.ring others.0) in
+    let third = ring_read (record (bare m) { copies = m.copies }) m.ring second.0 behind h.ring others.1 in
+    let fourth = read_variables m h names third.0 [] m.variables (tasks_fields m.tasks ++ end) refl in
+    let fifth = read_tasks m h tasks fourth.0 [] m.tasks end refl in
+    let last = read_end m fifth.0 some in (
+      fifth.0 + 1,
+      ap (λ ls. map_lines n (lines (printed (head_fields m ++ ls)))) (append_assoc (copies_fields m.copies) (ring_fields m.ring) behind)
+          ∙ ap (λ r. r >>= λ h. ring_lines (with_copies h.0 (take_copies (n + 6) h.1))) first ∙ ap ring_lines second.1 ∙ ap rest_lines third.1
+          ∙ fourth.1 ∙ fifth.1 ∙ last ∙ ap (λ r. Ok (record { value = m; rest = r; line = fifth.0 + 1 })) no_lines,
     )

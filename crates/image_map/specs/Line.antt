@@ -8,12 +8,13 @@ pub use Rattle.alp_text.specs.Sequence.{◌>>?◌}
 use Rattle.text_parts.specs.Fields.{fields, is_blank, no_fields}
 use Rattle.image_map.specs.declared.parts.RuntimeWords.{RuntimeWords}
 use Rattle.image_map.specs.declared.parts.Place.{Place}
+use Rattle.image_map.specs.declared.parts.RingPlaces.{RingPlaces}
 use Rattle.image_map.specs.declared.line.FourAddresses.{FourAddresses}
 use Rattle.image_map.specs.declared.parts.ValueType.{ValueType}
 use Rattle.image_map.specs.declared.parts.ValueType.TheVariants as value_type
 use Rattle.image_map.specs.declared.parts.Variable.{Variable}
 use Rattle.image_map.specs.Names.{name_of}
-use Rattle.image_map.specs.MapValue.{is_fram_word, IsFramWord}
+use Rattle.image_map.specs.MapValue.{is_fram_word, fits, ring_words, IsFramWord}
 
 -- whether each blank of a line is a space with another byte before and behind it; `apart` says whether a blank stands before, or nothing
 abbrev pub single_from : Bool → List ℕ → Bool
@@ -129,6 +130,23 @@ words_of fs = behind (codes "words") fs >>? λ fs. next_four fs >>? λ head. nex
 -- `list ADDRESS N`, `emits ADDRESS N`, `versions ADDRESS N` or `copies ADDRESS N`, by the first word
 abbrev pub place_of : List ℕ → List (List ℕ) → Option Place
 place_of word fs = behind word fs >>? λ fs. next_address fs >>? λ a. next_number a.1 >>? λ n. alone n.1 (record { address = a.0; capacity = n.0 })
+
+-- a ring with these words and so many slots from an address on: as many as a ring has, and all in the FRAM
+abbrev pub ring_at : FourAddresses → ℕ → ℕ → ℕ → Option RingPlaces
+ring_at four answer slots n = if (n == ring_words) && fits slots ring_words then Some (record {
+  head = four.first;
+  tail = four.second;
+  event_count = four.third;
+  sent_tail = four.fourth;
+  answer = answer;
+  slots = slots;
+})
+    else None
+
+-- `ring HEAD TAIL EC SE ANS ADDRESS 64`
+abbrev pub ring_of : List (List ℕ) → Option RingPlaces
+ring_of fs = behind (codes "ring") fs >>? λ fs. next_four fs >>? λ four. next_address four.1 >>? λ answer. next_address answer.1 >>? λ slots.
+    next_length slots.1 >>? λ n. if no_fields n.1 then ring_at four.0 answer.0 slots.0 n.0 else None
 
 -- `NAME TYPE ADDRESS`
 abbrev pub scalar_of : List (List ℕ) → Option Variable

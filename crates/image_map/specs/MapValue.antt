@@ -7,6 +7,7 @@ use Rattle.address_space.specs.Limits.{fram_first, fram_end}
 pub use Rattle.address_space.specs.Limits.{IsFramWord}
 use Rattle.image_map.specs.declared.parts.RuntimeWords.{RuntimeWords}
 use Rattle.image_map.specs.declared.parts.Place.{Place}
+use Rattle.image_map.specs.declared.parts.RingPlaces.{RingPlaces}
 use Rattle.image_map.specs.declared.parts.ValueType.{ValueType}
 use Rattle.image_map.specs.declared.parts.ValueType.TheVariants as value_type
 use Rattle.image_map.specs.declared.parts.Variable.{Variable}
@@ -16,8 +17,9 @@ pub record TaskValue : Type 0 where
   pub name : List ℕ
   pub privates : List (List ℕ)
 
--- a map: the bound of a transition in cycles, the addresses of the runtime's words, the places of commit list, emits, versions and
--- private copies, then variables and tasks in order of declaration. A map may not say where the copies are: then there are none
+-- a map: the bound of a transition in cycles, the addresses of the runtime's words, the places of commit list, emits, versions,
+-- private copies and the ring of events, then variables and tasks in order of declaration. A map may not say where the copies are, or the ring:
+-- then there are none, or there is no ring
 pub record MapValue : Type 0 where
   pub bound : ℕ
   pub words : RuntimeWords
@@ -25,6 +27,7 @@ pub record MapValue : Type 0 where
   pub emits : Place
   pub versions : Place
   pub copies : Option Place
+  pub ring : Option RingPlaces
   pub variables : List Variable
   pub tasks : List TaskValue
 
@@ -46,6 +49,10 @@ word_count t (Some n) = n
 -- whether so many words from an address on are all there, and there is one at least
 abbrev pub fits : ℕ → ℕ → Bool
 fits a n = nat_lt 0 n && nat_le (a + 2 * n) fram_end
+
+-- how many words a ring has room for
+abbrev pub ring_words : ℕ
+ring_words = 64
 
 -- whether the numbers of this type have two words
 abbrev pub is_long : ValueType → Bool
@@ -146,6 +153,16 @@ pub record AreFramWords (w : RuntimeWords) : Type 0 where
 pub record IsPlace (p : Place) : Type 0 where
   pub address : IsFramWord p.address
   pub capacity : p.capacity < 2 ^ 32
+
+-- a ring whose words stand at even addresses of the FRAM, with all its slots
+pub record IsRing (r : RingPlaces) : Type 0 where
+  pub head : IsFramWord r.head
+  pub tail : IsFramWord r.tail
+  pub event_count : IsFramWord r.event_count
+  pub sent_tail : IsFramWord r.sent_tail
+  pub answer : IsFramWord r.answer
+  pub slots : IsFramWord r.slots
+  pub fits : fits r.slots ring_words ≡ true
 
 -- a variable at an even address of the FRAM, whose words all stand in the FRAM; no array is one of longs
 pub record IsVariable (v : Variable) : Type 0 where

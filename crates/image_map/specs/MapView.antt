@@ -11,6 +11,7 @@ map_of m = record {
   emits = m.emits;
   versions = m.versions;
   copies = m.copies;
+  ring = m.ring;
   variables = m.variables.items;
   tasks = m.tasks.items;
 }

@@ -6,9 +6,10 @@ use Rattle.text_parts.specs.Fields.{no_fields}
 use Rattle.image_map.specs.declared.fault.MapFault.{MapFault}
 use Rattle.image_map.specs.declared.fault.MapFault.TheVariants.{BadMap, Memory}
 use Rattle.image_map.specs.declared.parts.Place.{Place}
+use Rattle.image_map.specs.declared.parts.RingPlaces.{RingPlaces}
 use Rattle.image_map.specs.declared.parts.Variable.{Variable}
 use Rattle.image_map.specs.MapValue.{MapValue, takes_variable, with_variable, takes_task, with_task, takes_private, with_private}
-use Rattle.image_map.specs.Line.{line_fields, start_of, bound_of, words_of, place_of, scalar_of, array_of, lone_name}
+use Rattle.image_map.specs.Line.{line_fields, start_of, bound_of, words_of, place_of, ring_of, scalar_of, array_of, lone_name}
 
 -- what the n-th line says, and the lines behind it
 abbrev pub said : {A : Type 0} → ℕ → Option A → List (List ℕ) → Result (A × List (List ℕ)) MapFault
@@ -26,25 +27,37 @@ pub record MapLines : Type 0 where
   pub rest : List (List ℕ)
   pub line : ℕ
 
--- the place of the copies, if a line says it, and the lines behind it, with the number of the first of them
-pub record CopiesLines : Type 0 where
-  pub place : Option Place
+-- what a line says that may be left out, and the lines behind it, with the number of the first of them
+pub record OptionalLine (A : Type 0) : Type 0 where
+  pub value : Option A
   pub rest : List (List ℕ)
   pub line : ℕ
 
--- what the n-th line says of the copies: a line that doesn't say their place is one of those behind
-abbrev pub copies_by : ℕ → List ℕ → List (List ℕ) → Option Place → CopiesLines
-copies_by n l ls None = record { place = None; rest = l ∷ ls; line = n }
-copies_by n l ls (Some p) = record { place = Some p; rest = ls; line = n + 1 }
+-- what the n-th line says, where that may be left out: a line that doesn't say it is one of those behind
+abbrev pub said_by : {A : Type 0} → ℕ → List ℕ → List (List ℕ) → Option A → OptionalLine A
+said_by n l ls None = record { value = None; rest = l ∷ ls; line = n }
+said_by n l ls (Some x) = record { value = Some x; rest = ls; line = n + 1 }
+
+-- what lines from the n-th on say first, where that may be left out
+abbrev pub take_optional : {A : Type 0} → (List (List ℕ) → Option A) → ℕ → List (List ℕ) → OptionalLine A
+take_optional says n [] = record { value = None; rest = []; line = n }
+take_optional says n (l ∷ ls) = said_by n l ls (says (line_fields l))
 
 -- what lines from the n-th on say of the copies
-abbrev pub take_copies : ℕ → List (List ℕ) → CopiesLines
-take_copies n [] = record { place = None; rest = []; line = n }
-take_copies n (l ∷ ls) = copies_by n l ls (place_of (codes "copies") (line_fields l))
+abbrev pub take_copies : ℕ → List (List ℕ) → OptionalLine Place
+take_copies n ls = take_optional (place_of (codes "copies")) n ls
+
+-- what lines from the n-th on say of the ring
+abbrev pub take_ring : ℕ → List (List ℕ) → OptionalLine RingPlaces
+take_ring n ls = take_optional ring_of n ls
 
 -- a map with what is said of its copies, and the lines behind
-abbrev pub with_copies : MapValue → CopiesLines → MapLines
-with_copies m c = record { value = record m { copies = c.place }; rest = c.rest; line = c.line }
+abbrev pub with_copies : MapValue → OptionalLine Place → MapLines
+with_copies m c = record { value = record m { copies = c.value }; rest = c.rest; line = c.line }
+
+-- a map with what is said of its ring, and the lines behind
+abbrev pub with_ring : MapValue → OptionalLine RingPlaces → MapLines
+with_ring m r = record { value = record m { ring = r.value }; rest = r.rest; line = r.line }
 
 -- the first six lines, of which the first is the n-th, and the lines behind them
 abbrev pub head : ℕ → List (List ℕ) → Result (MapValue × List (List ℕ)) MapFault
@@ -59,6 +72,7 @@ head n ls = take_line start_of n ls >>= λ start. take_line bound_of (n + 1) sta
         emits = emits.0;
         versions = versions.0;
         copies = None;
+        ring = None;
         variables = [];
         tasks = [];
       },
@@ -105,9 +119,13 @@ body n m (l ∷ ls) = step n m (line_fields l) >>= λ o. goes_on o.0 (body (n + 
 abbrev pub rest_lines : MapLines → Result MapLines MapFault
 rest_lines t = body t.line t.value t.rest
 
+-- the lines behind those of the copies
+abbrev pub ring_lines : MapLines → Result MapLines MapFault
+ring_lines t = rest_lines (with_ring t.value (take_ring t.line t.rest))
+
 -- the map that lines from the n-th on begin with
 abbrev pub map_lines : ℕ → List (List ℕ) → Result MapLines MapFault
-map_lines n ls = head n ls >>= λ h. rest_lines (with_copies h.0 (take_copies (n + 6) h.1))
+map_lines n ls = head n ls >>= λ h. ring_lines (with_copies h.0 (take_copies (n + 6) h.1))
 
 -- the fault of a call is that of the lines, unless memory was refused
 abbrev pub Fails : {A : Type 0} → MapFault → Result A MapFault → Type 0

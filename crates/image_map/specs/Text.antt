@@ -4,10 +4,11 @@ use Rattle.text_parts.specs.Hex.{upper_hex}
 use Rattle.text_parts.specs.Printed.{printed}
 use Rattle.image_map.specs.declared.parts.RuntimeWords.{RuntimeWords}
 use Rattle.image_map.specs.declared.parts.Place.{Place}
+use Rattle.image_map.specs.declared.parts.RingPlaces.{RingPlaces}
 use Rattle.image_map.specs.declared.parts.ValueType.{ValueType}
 use Rattle.image_map.specs.declared.parts.ValueType.TheVariants as value_type
 use Rattle.image_map.specs.declared.parts.Variable.{Variable}
-use Rattle.image_map.specs.MapValue.{MapValue, TaskValue}
+use Rattle.image_map.specs.MapValue.{MapValue, TaskValue, ring_words}
 
 -- four upper-case hexadecimal digits
 unfoldable pub address_text : ℕ → List ℕ
@@ -54,6 +55,20 @@ abbrev pub copies_fields : Option Place → List (List (List ℕ))
 copies_fields None = []
 copies_fields (Some p) = place_fields (codes "copies") p ∷ []
 
+-- the line of a ring
+abbrev pub ring_line : RingPlaces → List (List ℕ)
+ring_line r = codes "ring" ∷ address_text r.head ∷ address_text r.tail ∷ address_text r.event_count ∷ address_text r.sent_tail ∷
+    address_text r.answer ∷ address_text r.slots ∷ decimal ring_words ∷ []
+
+-- the line of the ring, if a map has one
+abbrev pub ring_fields : Option RingPlaces → List (List (List ℕ))
+ring_fields None = []
+ring_fields (Some r) = ring_line r ∷ []
+
+-- the lines that may be left out: of the copies, then of the ring
+abbrev pub optional_fields : MapValue → List (List (List ℕ))
+optional_fields m = copies_fields m.copies ++ ring_fields m.ring
+
 -- the first six lines
 abbrev pub head_fields : MapValue → List (List (List ℕ))
 head_fields m = (codes "map" ∷ []) ∷ (codes "bound" ∷ decimal m.bound ∷ []) ∷ runtime_fields m.words ∷
@@ -61,7 +76,7 @@ head_fields m = (codes "map" ∷ []) ∷ (codes "bound" ∷ decimal m.bound ∷ 
 
 -- the lines of a map
 unfoldable pub map_fields : MapValue → List (List (List ℕ))
-map_fields m = head_fields m ++ (copies_fields m.copies ++ (map variable_fields m.variables ++ (tasks_fields m.tasks ++ (codes "end" ∷ []) ∷ [])))
+map_fields m = head_fields m ++ (optional_fields m ++ (map variable_fields m.variables ++ (tasks_fields m.tasks ++ (codes "end" ∷ []) ∷ [])))
 
 -- the text of a map
 abbrev pub map_text : MapValue → List ℕ

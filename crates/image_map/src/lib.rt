@@ -15,5 +15,5 @@ pub use line::number_behind;
 pub use map::{Map, is_fram_word};
 pub use name::Name;
 pub use parse::{MapText, read_map};
-pub use parts::{Place, RuntimeWords, Task, ValueType, Variable};
+pub use parts::{Place, RING_WORDS, RingPlaces, RuntimeWords, Task, ValueType, Variable};
 pub use print::push_map;

@@ -1,14 +1,14 @@
 //! What the fields of one line say.
 ghost use Rattle.std.specs.Prelude.{◌≡◌, ◌≤◌, ◌<◌, ◌^◌, ◌∷◌, [], Some, None, IfSome, MatchOption, option_map, is_some, length, true};
 ghost use Rattle.text_parts.specs.Fields.{fields, no_fields};
-ghost use Rattle.image_map.specs.MapValue.{IsFramWord, AreFramWords};
+ghost use Rattle.image_map.specs.MapValue.{IsFramWord, AreFramWords, IsRing};
 ghost use Rattle.image_map.specs.Line.{single_from, line_fields, address_digit, fram_word, address_of, decimal_below, type_of, next_address, next_number};
 ghost use Rattle.image_map.specs.Line.{next_length, next_name, next_type, behind, start_of, bound_of, words_of, place_of, scalar_of, array_of, lone_name};
-ghost use Rattle.image_map.specs.Line.{AreFour, next_four, words_at, number_behind};
+ghost use Rattle.image_map.specs.Line.{AreFour, next_four, words_at, ring_at, ring_of, number_behind};
 
-use crate::map::is_fram_word;
+use crate::map::{fits, is_fram_word};
 use crate::name::Name;
-use crate::parts::{Place, RuntimeWords, ValueType, Variable};
+use crate::parts::{Place, RING_WORDS, RingPlaces, RuntimeWords, ValueType, Variable};
 use alp_text::number;
 use text_parts::{is_blank, is_blank_line, next_field};
 
@@ -248,6 +248,45 @@ pub fn place_of(word: &[u8], line: &[u8]) -> Option<Place>
     let (capacity, rest) = next_number(rest)?;
     if is_blank_line(rest) {
         Some(Place { address, capacity })
+    } else {
+        None
+    }
+}
+
+// The ring with these words and so many slots from an address on; nothing where it has another number of them, or they don't fit.
+fn ring_at(words: FourAddresses, answer: u16, slots: u16, n: u16) -> Option<RingPlaces>
+    requires words { AreFour words }
+    requires answer { IsFramWord answer }
+    requires slots { IsFramWord slots }
+    ensures value { result ≡ ring_at words answer slots n }
+    ensures ring { IfSome result IsRing }
+{
+    if n == RING_WORDS && fits(slots, RING_WORDS) {
+        Some(RingPlaces {
+            head: words.first,
+            tail: words.second,
+            event_count: words.third,
+            sent_tail: words.fourth,
+            answer,
+            slots,
+        })
+    } else {
+        None
+    }
+}
+
+/// The ring of a line `ring HEAD TAIL EC SE ANS ADDRESS 64`.
+pub fn ring_of(line: &[u8]) -> Option<RingPlaces>
+    ensures value { result ≡ ring_of (line_fields line.now) }
+    ensures ring { IfSome result IsRing }
+{
+    let rest = behind(b"ring", line)?;
+    let (words, rest) = next_four(rest)?;
+    let (answer, rest) = next_address(rest)?;
+    let (slots, rest) = next_address(rest)?;
+    let (n, rest) = next_length(rest)?;
+    if is_blank_line(rest) {
+        ring_at(words, answer, slots, n)
     } else {
         None
     }

@@ -4,7 +4,7 @@ ghost use Rattle.image_map.specs.declared.parts.Variable.{Variable};
 ghost use Rattle.image_map.specs.MapValue.{is_fram_word, fits, is_kind, is_among, is_scalar_of, names_behind, are_scalars};
 
 use crate::name::Name;
-use crate::parts::{Place, RuntimeWords, Task, ValueType, Variable};
+use crate::parts::{Place, RingPlaces, RuntimeWords, Task, ValueType, Variable};
 use address_space::{FRAM_END, FRAM_FIRST};
 use std::alloc::{AllocError, Global};
 use std::marker::Model;
@@ -12,9 +12,9 @@ use std::marker::Model;
 /// What an image says of its program: the bound of a transition in cycles, where the runtime's words, the lists and the
 /// shared variables stand, and the tasks.
 ///
-/// A map keeps these rules: each address is even and in the FRAM; an array has a word at least and fits, and its elements are words; both words
-/// of a long are in the FRAM; there are at most
-/// 256 variables and 64 tasks, each with a name of its own; the private names of a task are scalars in order of declaration.
+/// A map keeps these rules: each address is even and in the FRAM; the 64 words of a ring fit; an array has a word at least and fits, and its
+/// elements are words; both words of a long are in the FRAM; there are at most 256 variables and 64 tasks, each with a name of its own; the private
+/// names of a task are scalars in order of declaration.
 #[derive(Drop)]
 pub struct Map {
     bound: u32,
@@ -23,6 +23,7 @@ pub struct Map {
     emits: Place,
     versions: Place,
     copies: Option<Place>,
+    ring: Option<RingPlaces>,
     variables: Vec<Variable>,
     tasks: Vec<Task>,
 }
@@ -47,7 +48,8 @@ pub fn is_fram_word(address: u16) -> bool
     address >= FRAM_FIRST && address % 2 == 0
 }
 
-fn fits(address: u16, words: u16) -> bool
+/// Whether so many words from an address on are all there, and there is one at least.
+pub fn fits(address: u16, words: u16) -> bool
     ensures { result ≡ fits address words }
 {
     words > 0 && address as u32 + 2 * words as u32 <= FRAM_END
@@ -119,10 +121,10 @@ impl Map {
     ghost use Rattle.image_map.specs.declared.parts.RuntimeWords.{RuntimeWords};
     ghost use Rattle.image_map.specs.declared.parts.Place.{Place};
     ghost use Rattle.image_map.specs.MapValue.{AreFramWords, IsFramWord, takes_variable, with_variable, takes_task, with_task, takes_private, with_private};
-    ghost use Rattle.image_map.specs.MapValue.{is_used};
+    ghost use Rattle.image_map.specs.MapValue.{is_used, IsRing};
     ghost use Rattle.image_map.specs.Kept.{IsMap};
 
-    /// A map without copies, variables and tasks, from its first lines.
+    /// A map without copies, ring, variables and tasks, from its first lines.
     pub fn new(
         alloc: Global,
         bound: u32,
@@ -135,7 +137,17 @@ impl Map {
         requires list { IsFramWord list.address }
         requires emits { IsFramWord emits.address }
         requires versions { IsFramWord versions.address }
-        ensures { result ≡ record { bound = bound; words = words; list = list; emits = emits; versions = versions; copies = None; variables = []; tasks = [] } }
+        ensures { result ≡ record {
+          bound = bound;
+          words = words;
+          list = list;
+          emits = emits;
+          versions = versions;
+          copies = None;
+          ring = None;
+          variables = [];
+          tasks = [];
+        } }
     {
         Map {
             bound,
@@ -144,6 +156,7 @@ impl Map {
             emits,
             versions,
             copies: None,
+            ring: None,
             variables: Vec::new(alloc),
             tasks: Vec::new(alloc),
         }
@@ -204,6 +217,21 @@ impl Map {
         ensures { self.new ≡ record self.old { copies = Some copies } }
     {
         self.copies = Some(copies);
+    }
+
+    /// The ring of events; nothing where the program has none.
+    pub fn ring(&self) -> Option<RingPlaces>
+        ensures { result ≡ self.now.ring }
+    {
+        self.ring
+    }
+
+    /// Says where the ring is.
+    pub fn set_ring(&mut self, ring: RingPlaces)
+        requires { IsRing ring }
+        ensures { self.new ≡ record self.old { ring = Some ring } }
+    {
+        self.ring = Some(ring);
     }
 
     /// The shared variables, in order of declaration.

@@ -5,12 +5,12 @@ ghost use Rattle.text_parts.specs.Lines.{lines};
 ghost use Rattle.image_map.specs.MapValue.{IsFramWord, AreFramWords};
 ghost use Rattle.image_map.specs.Line.{line_fields, start_of, bound_of, words_of, place_of, scalar_of, array_of, lone_name};
 ghost use Rattle.image_map.specs.Reading as reading;
-ghost use Rattle.image_map.specs.Reading.{Gives, take_line, head, with_copies, put_variable, put_task, put_private, step, body, map_lines};
+ghost use Rattle.image_map.specs.Reading.{Gives, take_line, head, with_copies, with_ring, put_variable, put_task, put_private, step, body, map_lines};
 ghost use Rattle.image_map.specs.Read.{read_text};
 
 use crate::fault::MapFault;
 use crate::line::{
-    array_of, bound_of, first_field, is_start, lone_name, place_of, scalar_of, words_of,
+    array_of, bound_of, first_field, is_start, lone_name, place_of, ring_of, scalar_of, words_of,
 };
 use crate::map::Map;
 use crate::name::Name;
@@ -87,7 +87,8 @@ fn take_place<'a>(word: &[u8], text: &'a [u8], n: u32) -> Result<(Place, &'a [u8
 fn read_head(alloc: Global, text: &[u8], n: u32) -> Result<(Map, &[u8]), MapFault>
     requires { n + length text.now < 4294967296 }
     ensures value { Gives (λ p. (p.0, lines p.1.now)) result (head n (lines text.now)) }
-    ensures bare { IfOk result (λ p. p.0.copies ≡ None) }
+    ensures no_copies { IfOk result (λ p. p.0.copies ≡ None) }
+    ensures no_ring { IfOk result (λ p. p.0.ring ≡ None) }
     ensures shorter { IfOk result (λ p. length p.1.now + 6 ≤ length text.now) }
 {
     let rest = take_start(text, n)?;
@@ -104,6 +105,7 @@ fn take_copies<'a>(map: &mut Map, text: &'a [u8], n: u32) -> (&'a [u8], u32)
     requires room { n + length text.now < 4294967296 }
     requires bare { map.old.copies ≡ None }
     ensures value { record { value = map.new; rest = lines result.0.now; line = result.1 } ≡ with_copies map.old (reading.take_copies n (lines text.now)) }
+    ensures ring { map.new.ring ≡ map.old.ring }
     ensures shorter { result.1 + length result.0.now ≤ n + length text.now }
 {
     let Some((line, rest)) = cut_line(text) else {
@@ -112,6 +114,25 @@ fn take_copies<'a>(map: &mut Map, text: &'a [u8], n: u32) -> (&'a [u8], u32)
     match place_of(b"copies", line) {
         Some(copies) => {
             map.set_copies(copies);
+            (rest, n + 1)
+        }
+        None => (text, n),
+    }
+}
+
+// Adds the ring, if the first line says it, which is line `n`; and what stands behind it, with the number of its first line.
+fn take_ring<'a>(map: &mut Map, text: &'a [u8], n: u32) -> (&'a [u8], u32)
+    requires room { n + length text.now < 4294967296 }
+    requires bare { map.old.ring ≡ None }
+    ensures value { record { value = map.new; rest = lines result.0.now; line = result.1 } ≡ with_ring map.old (reading.take_ring n (lines text.now)) }
+    ensures shorter { result.1 + length result.0.now ≤ n + length text.now }
+{
+    let Some((line, rest)) = cut_line(text) else {
+        return (text, n);
+    };
+    match ring_of(line) {
+        Some(ring) => {
+            map.set_ring(ring);
             (rest, n + 1)
         }
         None => (text, n),
@@ -209,9 +230,10 @@ fn read_body<'a>(alloc: Global, map: Map, text: &'a [u8], n: u32) -> Result<MapT
 /// the first line that breaks the form or a rule, which is the line behind the last where the text ends too soon.
 ///
 /// One blank parts the fields of a line. The lines are `map`, `bound B`, `words CUR NEXT GATE CLN EN BASE SB VER`, then `list`,
-/// `emits`, `versions` and perhaps `copies`, each with an address and a capacity, then `scalar NAME TYPE ADDRESS` and `array NAME TYPE ADDRESS N`,
-/// then `task NAME`, each followed by `private NAME` lines, and `end`. An address is four upper-case hexadecimal digits, a number
-/// decimal and below 2^32, and TYPE is `unsigned`, `int` or, of a scalar, `long`. `Memory` is want of memory, and says nothing of the text.
+/// `emits`, `versions` and perhaps `copies`, each with an address and a capacity, perhaps `ring HEAD TAIL EC SE ANS ADDRESS 64`, whose 64 words
+/// fit behind the last address, then `scalar NAME TYPE ADDRESS` and `array NAME TYPE ADDRESS N`, then `task NAME`, each followed by `private NAME`
+/// lines, and `end`. An address is four upper-case hexadecimal digits, a number decimal and below 2^32, and TYPE is `unsigned`, `int` or, of a scalar,
+/// `long`. `Memory` is want of memory, and says nothing of the text.
 pub fn read_map(alloc: Global, text: &[u8], n: u32) -> Result<MapText<'_>, MapFault>
     requires { n + length text.now < 4294967296 }
     ensures value { Gives read_text result (map_lines n (lines text.now)) }
@@ -220,5 +242,6 @@ pub fn read_map(alloc: Global, text: &[u8], n: u32) -> Result<MapText<'_>, MapFa
 {
     let (mut map, rest) = read_head(alloc, text, n)?;
     let (rest, line) = take_copies(&mut map, rest, n + 6);
+    let (rest, line) = take_ring(&mut map, rest, line);
     read_body(alloc, map, rest, line)
 }

@@ -34,6 +34,26 @@ pub struct Place {
     pub capacity: u32,
 }
 
+/// How many words a ring has room for.
+pub const RING_WORDS: u16 = 64;
+
+/// Where the words of a ring of events stand. HEAD and TAIL are indexes that count on modulo 65536: the word with index i stands in slot i modulo 64.
+#[derive(Clone, Copy, PartialEq, Eq)]
+pub struct RingPlaces {
+    /// HEAD: the index behind the newest word of the ring.
+    pub head: u16,
+    /// TAIL: the index of its oldest word.
+    pub tail: u16,
+    /// EC: how many words the attempt has taken.
+    pub event_count: u16,
+    /// SE: TAIL as the transition leaves it.
+    pub sent_tail: u16,
+    /// ANS: the last answer.
+    pub answer: u16,
+    /// The first of the 64 slots.
+    pub slots: u16,
+}
+
 /// How a variable's words are read as numbers.
 #[derive(Clone, Copy)]
 pub enum ValueType {

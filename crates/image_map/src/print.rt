@@ -4,13 +4,14 @@ ghost use Rattle.text_parts.specs.Printed.{spaced, printed};
 ghost use Rattle.image_map.specs.Names.{is_name};
 ghost use Rattle.image_map.specs.Kept.{IsMap};
 ghost use Rattle.image_map.specs.Text.{address_text, runtime_fields, place_fields, copies_fields, type_text, sized_fields, variable_fields, private_fields};
+ghost use Rattle.image_map.specs.Text.{ring_line, ring_fields, optional_fields};
 ghost use Rattle.image_map.specs.Text.{task_fields, tasks_fields, head_fields, map_text, tail_text};
 ghost use Rattle.image_map.specs.Named.{AreTaskNames};
 ghost use Rattle.image_map.specs.ReadsBack.{ReadsBack};
 
 use crate::map::Map;
 use crate::name::Name;
-use crate::parts::{Place, RuntimeWords, Task, ValueType, Variable};
+use crate::parts::{Place, RING_WORDS, RingPlaces, RuntimeWords, Task, ValueType, Variable};
 use alp_text::print_u64;
 use std::alloc::AllocError;
 use text_parts::upper_hex;
@@ -100,6 +101,49 @@ fn push_copies(out: &mut Vec<u8>, copies: Option<Place>) -> Result<(), AllocErro
         None => Ok(()),
         Some(place) => push_place(out, b"copies", place),
     }
+}
+
+fn push_ring_line(out: &mut Vec<u8>, ring: RingPlaces) -> Result<(), AllocError>
+    ensures { OnOk result (out.new.items ≡ out.old.items ++ (spaced (ring_line ring) ++ 10 ∷ [])) }
+{
+    let head = address_text(ring.head);
+    let tail = address_text(ring.tail);
+    let event_count = address_text(ring.event_count);
+    let sent_tail = address_text(ring.sent_tail);
+    let answer = address_text(ring.answer);
+    let slots = address_text(ring.slots);
+    let words = print_u64(RING_WORDS as u64);
+    push_line(
+        out,
+        b"ring",
+        &[
+            &head,
+            &tail,
+            &event_count,
+            &sent_tail,
+            &answer,
+            &slots,
+            words.as_bytes(),
+        ],
+    )
+}
+
+#[tactic(auto, unfolding(text_parts::specs::Printed::printed))]
+fn push_ring(out: &mut Vec<u8>, ring: Option<RingPlaces>) -> Result<(), AllocError>
+    ensures { OnOk result (out.new.items ≡ out.old.items ++ printed (ring_fields ring)) }
+{
+    match ring {
+        None => Ok(()),
+        Some(ring) => push_ring_line(out, ring),
+    }
+}
+
+// The lines that may be left out: of the copies, then of the ring.
+fn push_optional(out: &mut Vec<u8>, map: &Map) -> Result<(), AllocError>
+    ensures { OnOk result (out.new.items ≡ out.old.items ++ printed (optional_fields map.now)) }
+{
+    push_copies(out, map.copies())?;
+    push_ring(out, map.ring())
 }
 
 #[tactic(auto, unfolding(text_parts::specs::Printed::printed))]
@@ -224,7 +268,7 @@ pub fn push_map(out: &mut Vec<u8>, map: &Map) -> Result<(), AllocError>
 {
     map.rules();
     push_head(out, map)?;
-    push_copies(out, map.copies())?;
+    push_optional(out, map)?;
     push_variables(out, map.variables())?;
     push_tasks(out, map.tasks())?;
     push_line(out, b"end", &[])

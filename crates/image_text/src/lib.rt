@@ -10,6 +10,8 @@ mod print;
 
 pub use fault::ImageFault;
 pub use image::Image;
-pub use image_map::{Map, Name, Place, RuntimeWords, Task, Variable, address_space, is_fram_word};
+pub use image_map::{
+    Map, Name, Place, RingPlaces, RuntimeWords, Task, Variable, address_space, is_fram_word,
+};
 pub use parse::{ImageFront, parse_image, read_front};
 pub use print::{cut_section, print_image};

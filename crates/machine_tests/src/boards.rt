@@ -1,7 +1,7 @@
 //! Single steps and power-ups on small images, from the description of the board; what a run shows of them are rows.
 ghost use Rattle.std.specs.Prelude.{◌≤◌, length};
 
-use fram_board::{Board, Stepped};
+use fram_board::{Board, Heard, Stepped};
 use image_text::Image;
 use msp_isa::{IndexRegister, Reg};
 use msp_step::Stop;
@@ -23,7 +23,7 @@ fn board_of(alloc: Global, words: &[u16], readings: &[u16]) -> Result<Board, All
         image.set(0x4400 + 2 * i as u16, words[i]);
     }
     image.set(0xfffe, 0x4400);
-    Board::new(alloc, &image, readings)
+    Board::new(alloc, &image, readings, &[])
 }
 
 /// One step of a board whose receiver heard few words.
@@ -49,6 +49,7 @@ fn plain(cycles: u32, wrote: Option<u16>) -> Result<Stepped, Stop> {
         wrote,
         took: 0,
         accepted: None,
+        heard: Heard::Nothing,
     })
 }
 
@@ -58,6 +59,7 @@ fn took(cycles: u32, took: u32) -> Result<Stepped, Stop> {
         wrote: None,
         took,
         accepted: None,
+        heard: Heard::Nothing,
     })
 }
 
@@ -68,6 +70,7 @@ fn sent(accepted: Option<u16>) -> Result<Stepped, Stop> {
         wrote: Some(0x0204),
         took: 0,
         accepted,
+        heard: Heard::Nothing,
     })
 }
 
@@ -214,11 +217,110 @@ fn the_two_parts_of_a_step(rt: HostRuntime) -> Result<(), Fail> {
     let mut board = board_of(rt.alloc(), &[0x3fff], &[])?;
     for _ in 0..5 {
         assert!(rt; board.accepted() < 1000 && board.repeats() < 1000);
-        match board.current_instruction() {
-            Ok(instruction) => assert_eq!(rt; board.execute(&instruction), plain(2, None)),
+        match board.next_step() {
+            Ok(next) => assert_eq!(rt; board.perform(&next), plain(2, None)),
             Err(_) => assert!(rt; false),
         }
     }
     assert_eq!(rt; board.cpu().reg(Reg::Pc), 0x4400);
+    Ok(())
+}
+
+/// A board with these words from 0x4400 on, whose events go to the code at 0x4420, and these events.
+fn board_with(alloc: Global, words: &[u16], events: &[(u32, u16)]) -> Result<Board, AllocError>
+    requires words { length words.now ≤ 64 }
+    requires events { length events.now ≤ 64 }
+{
+    let mut image = Image::blank(alloc)?;
+    for i in 0..words.len() {
+        image.set(0x4400 + 2 * i as u16, words[i]);
+    }
+    image.set(0xfff0, 0x4421);
+    image.set(0xfffe, 0x4400);
+    Board::new(alloc, &image, &[], events)
+}
+
+/// A step that read EVENT once, and took this word if one was there.
+fn heard(cycles: u32, word: Option<u16>) -> Result<Stepped, Stop> {
+    Ok(Stepped {
+        cycles,
+        wrote: None,
+        took: 0,
+        accepted: None,
+        heard: Heard::Once(word),
+    })
+}
+
+// An event is accepted behind the step that sets GIE, and RETI goes back; in the handler none is.
+#[test]
+fn an_event_is_accepted(rt: HostRuntime) -> Result<(), Fail> {
+    // mov #0x2400,sp; bis #8,sr; jmp $; at 0x4420: mov &0x0206,r4, twice; reti
+    let mut code = [0x4303; 64];
+    code[0] = 0x4031;
+    code[1] = 0x2400;
+    code[2] = 0xd232;
+    code[3] = 0x3fff;
+    code[16] = 0x4214;
+    code[17] = 0x0206;
+    code[18] = 0x4214;
+    code[19] = 0x0206;
+    code[20] = 0x1300;
+    let mut board = board_with(rt.alloc(), &code, &[(0, 7), (0, 8), (3, 9), (4, 10)])?;
+    assert_eq!(rt; (board.arisen(), board.missed()), (0, 0));
+    board.power_up(0);
+    // the first takes the port, and the second is lost there
+    assert_eq!(rt; (board.arisen(), board.missed()), (2, 1));
+    assert_eq!(rt; step(&rt, &mut board), plain(2, None));
+    assert_eq!(rt; step(&rt, &mut board), plain(1, None));
+    assert_eq!(rt; board.cost(), Ok(6));
+    // step 3 is the acceptance, behind which one more is lost, since the port is full until it is read
+    assert_eq!(rt; step(&rt, &mut board), plain(6, None));
+    assert_eq!(rt; (board.arisen(), board.missed()), (3, 2));
+    let cpu = board.cpu();
+    assert_eq!(rt;
+        (cpu.reg(Reg::Pc), cpu.reg(Reg::Sr), cpu.reg(SP)),
+        (0x4420, 0, 0x23fc)
+    );
+    // the read empties it, so that the next one finds room
+    assert_eq!(rt; step(&rt, &mut board), heard(3, Some(7)));
+    assert_eq!(rt;
+        (board.arisen(), board.missed(), board.cpu().reg(R4)),
+        (4, 2, 7)
+    );
+    assert_eq!(rt; step(&rt, &mut board), heard(3, Some(10)));
+    assert_eq!(rt; step(&rt, &mut board), plain(5, None));
+    let cpu = board.cpu();
+    assert_eq!(rt;
+        (cpu.reg(Reg::Pc), cpu.reg(Reg::Sr), cpu.reg(SP)),
+        (0x4406, 8, 0x2400)
+    );
+    assert_eq!(rt; step(&rt, &mut board), plain(2, None));
+    Ok(())
+}
+
+// A power-up loses what waits; an acceptance whose stores aren't to memory is a fault, of PC's place first.
+#[test]
+fn an_event_is_lost_or_refused(rt: HostRuntime) -> Result<(), Fail> {
+    // mov #0x1c02,sp; bis #8,sr
+    let code = [0x4031, 0x1c02, 0xd232];
+    let mut board = board_with(rt.alloc(), &code, &[(1, 7), (3, 8)])?;
+    board.power_up(0);
+    assert_eq!(rt; step(&rt, &mut board), plain(2, None));
+    board.power_up(0);
+    assert_eq!(rt;
+        (board.arisen(), board.missed(), board.heard()),
+        (1, 1, Heard::Nothing)
+    );
+    assert_eq!(rt; step(&rt, &mut board), plain(2, None));
+    assert_eq!(rt; step(&rt, &mut board), plain(1, None));
+    // of the two places 0x1c00 and 0x1bfe the second is none
+    let fault = Stop::Bus {
+        pc: 0x4406,
+        address: 0x1bfe,
+    };
+    assert_eq!(rt; step(&rt, &mut board), Err(fault));
+    let cpu = board.cpu();
+    assert_eq!(rt; (cpu.reg(Reg::Pc), cpu.reg(SP)), (0x4406, 0x1c02));
+    assert_eq!(rt; board.cost(), Ok(6));
     Ok(())
 }

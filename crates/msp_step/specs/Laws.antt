@@ -1,5 +1,5 @@
 -- Laws of the step and of the effect.
-use Rattle.std.specs.Prelude.{ℕ, ◌+◌, ◌-◌, ◌*◌, ◌<◌, ◌≤◌, ◌≡◌, Option, Some, None, Ok}
+use Rattle.std.specs.Prelude.{ℕ, ◌+◌, ◌-◌, ◌*◌, ◌/◌, ◌<◌, ◌≤◌, ◌≡◌, Option, Some, None, Ok}
 use Rattle.alp_words.specs.declared.Width.{Width}
 use Rattle.msp_isa.specs.declared.instructions.Instr.{Instr}
 use Rattle.msp_step.specs.declared.machine.Stepped.{Stepped}
@@ -7,7 +7,7 @@ use Rattle.msp_step.specs.Registers.{Registers}
 use Rattle.msp_step.specs.Access.{BusModel, Access, Completed, Faulted}
 use Rattle.msp_step.specs.Reads.{OnlyReads}
 use Rattle.msp_step.specs.Effect.{Written, distance}
-use Rattle.msp_step.specs.Step.{effect, StepResult, Outcome, Costs}
+use Rattle.msp_step.specs.Step.{effect, StepResult, Outcome, Costs, interrupted, status_place}
 
 -- a state steps in one way
 abbrev pub IsDetermined : {S : Type 0} → BusModel S → Type 0
@@ -36,3 +36,8 @@ WritesOnce {S} bus = (i : Instr) (r : Registers) (s : S) → ReadsThenWrites bus
 abbrev pub JumpsBySignedWords : Type 0
 JumpsBySignedWords = (bits : ℕ) → (bits < 0x200 → distance bits ≡ 2 * bits)
     × (0x200 ≤ bits → bits < 0x400 → distance bits + 2 * (0x400 - bits) ≡ 0x10000)
+
+-- an acceptance leaves R3 to R15 alone, sets PC to the vector, but for bit 0, takes SP down by two words, and clears GIE and CPUOFF
+abbrev pub AcceptsAtTheVector : Type 0
+AcceptsAtTheVector = (r : Registers) (vector : ℕ) → (interrupted r vector 0 ≡ vector / 2 * 2) × (interrupted r vector 1 ≡ status_place r / 2 * 2)
+    × (interrupted r vector 2 ≡ 0) × ((n : ℕ) → 2 < n → interrupted r vector n ≡ r n)

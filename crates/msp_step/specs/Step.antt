@@ -1,5 +1,5 @@
 -- One step of the CPU over a bus (SLAU049 and SLAU144, CPU chapter).
-use Rattle.std.specs.Prelude.{ℕ, ◌/◌, ◌%◌, ◌<◌, ◌≡◌, List, [], ◌∷◌, Option, Some, None, Result, Ok, Err, length}
+use Rattle.std.specs.Prelude.{ℕ, ◌/◌, ◌%◌, ◌<◌, ◌≡◌, Bool, ◌&&◌, ◌==◌, List, [], ◌∷◌, Option, Some, None, Result, Ok, Err, length}
 use Rattle.std.specs.Option.{option_map}
 use Rattle.msp_isa.specs.declared.instructions.Instr.{Instr}
 use Rattle.msp_isa.specs.declared.instructions.Instr.TheVariants as instr
@@ -14,7 +14,7 @@ use Rattle.msp_step.specs.declared.machine.Stop.{Stop}
 use Rattle.msp_step.specs.declared.machine.Stop.TheVariants as stop
 use Rattle.msp_step.specs.declared.machine.Stepped.{Stepped}
 use Rattle.msp_step.specs.declared.machine.Words.{Words}
-use Rattle.msp_step.specs.Registers.{Registers}
+use Rattle.msp_step.specs.Registers.{Registers, with_register}
 use Rattle.msp_step.specs.Access.{BusModel, Access, Completed, Faulted}
 use Rattle.msp_step.specs.Effect.{Written, word_sum, two_operand_effect, jump_effect, read_modify_write, rotated, shifted, exchanged, sign_extended}
 use Rattle.msp_step.specs.Effect.{push_effect}
@@ -118,3 +118,24 @@ pub data StepResult {S : Type 0} (bus : BusModel S) (r : Registers) (s : S) : Ou
 abbrev pub Costs : {S : Type 0} → BusModel S → Registers → S → Result ℕ Stop → Type 0
 Costs bus r s (Ok n) = (i : Instr) × IsCurrentInstruction bus r s i × (n ≡ cycles_of i)
 Costs bus r s (Err e) = IsStopped bus r s e
+
+-- GIE, bit 3 of SR
+abbrev pub enabled_bit : Registers → ℕ
+enabled_bit r = r 2 / 8 % 2
+
+-- the CPU accepts an interrupt between two instructions: CPUOFF is clear and GIE is set
+abbrev pub is_interruptible : Registers → Bool
+is_interruptible r = (off_bit r == 0) && (enabled_bit r == 1)
+
+-- where an acceptance stores PC: at the next word of the stack
+abbrev pub return_place : Registers → ℕ
+return_place r = word_sum (r 1) 0xFFFE
+
+-- and SR: at the word below it
+abbrev pub status_place : Registers → ℕ
+status_place r = word_sum (r 1) 0xFFFC
+
+-- the registers after an acceptance, whose two stores are the board's: SP is at the second, and PC is the vector. That each bit
+-- of SR is cleared, SCG0 too, is this project's profile
+abbrev pub interrupted : Registers → ℕ → Registers
+interrupted r vector = with_register (with_register (with_register r 1 (status_place r)) 2 0) 0 vector

@@ -1,6 +1,6 @@
 //! Laws of the step, said for any bus. The functions do nothing: their contracts are the laws.
 
-ghost use Rattle.msp_step.specs.Laws.{IsDetermined, TakesItsCost, WritesOnce, JumpsBySignedWords};
+ghost use Rattle.msp_step.specs.Laws.{IsDetermined, TakesItsCost, WritesOnce, JumpsBySignedWords, AcceptsAtTheVector};
 
 use crate::bus::Bus;
 
@@ -26,4 +26,10 @@ pub fn effect_writes_once<B: Bus>()
 /// The distance of a jump is twice its signed offset, modulo 65536.
 pub fn jumps_by_signed_words()
     ensures { JumpsBySignedWords }
+{}
+
+/// An acceptance leaves R3 to R15 alone, sets PC to the vector, but for bit 0, takes SP down by two words, and clears GIE and
+/// CPUOFF with all of SR.
+pub fn accepts_at_the_vector()
+    ensures { AcceptsAtTheVector }
 {}

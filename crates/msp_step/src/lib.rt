@@ -11,7 +11,8 @@ mod operand;
 pub use bus::{Bus, Refused};
 pub use cpu::Cpu;
 pub use laws::{
-    effect_writes_once, jumps_by_signed_words, step_is_determined, step_takes_its_cost,
+    accepts_at_the_vector, effect_writes_once, jumps_by_signed_words, step_is_determined,
+    step_takes_its_cost,
 };
 pub use machine::{Stepped, Stop, Words, cost, current_instruction, current_words, execute, step};
 pub use msp_isa::Width;

@@ -18,9 +18,10 @@ unfoldable pub charges : ℕ → ℕ → ℕ → List Charge
 charges zero bound s = []
 charges (suc n) bound s = charge_of bound s ∷ charges n bound (behind 2 s)
 
--- 512 readings, and behind their draws those of 256 charges
+-- 512 readings, and behind their draws those of 256 charges; no event
 unfoldable pub generated_trace : ℕ → ℕ → TraceValue
 generated_trace n bound = record {
   charges = charges 256 bound (behind 512 (behind_source n));
   readings = draws 512 (behind_source n);
+  events = [];
 }

@@ -49,7 +49,7 @@ fn charges_of(
     Ok(charges)
 }
 
-/// The trace that is generated from a number, for its source with this bound. Fails where memory is refused.
+/// The trace that is generated from a number, for its source with this bound, without events. Fails where memory is refused.
 #[tactic(auto, unfolding(crate::specs::Trace::generated_trace))]
 pub fn generated_trace(alloc: Global, number: u32, bound: u32) -> Result<Trace, AllocError>
     ensures trace { IfOk result (λ trace. trace ≡ generated_trace number bound) }
@@ -58,5 +58,5 @@ pub fn generated_trace(alloc: Global, number: u32, bound: u32) -> Result<Trace, 
     generator.skip(8 + 16 * 7);
     let readings = readings_of(alloc, &mut generator)?;
     let charges = charges_of(alloc, bound, &mut generator)?;
-    Ok(Trace::of(charges, readings))
+    Ok(Trace::of(charges, readings, Vec::new(alloc)))
 }

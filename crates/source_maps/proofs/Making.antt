@@ -34,6 +34,7 @@ bare bound words list emits versions = record {
   emits = emits;
   versions = versions;
   copies = None;
+  ring = None;
   variables = [];
   tasks = [];
 }

@@ -16,6 +16,7 @@ bare_map l allow = record {
   emits = map_buffer l.emits;
   versions = map_buffer l.versions;
   copies = Some (map_buffer l.copies);
+  ring = None;
   variables = [];
   tasks = [];
 }

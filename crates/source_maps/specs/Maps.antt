@@ -101,6 +101,7 @@ map_of text p l allow = record {
   emits = map_buffer l.emits;
   versions = map_buffer l.versions;
   copies = Some (map_buffer l.copies);
+  ring = None;
   variables = variables_of text p.shared l.variables;
   tasks = tasks_of text p.shared p.tasks l.tasks;
 }

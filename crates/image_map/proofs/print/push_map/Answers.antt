@@ -5,7 +5,7 @@ use Rattle.image_map.specs.declared.parts.Variable.{Variable}
 use Rattle.image_map.specs.Names.{is_name}
 use Rattle.image_map.specs.MapValue.{TaskValue}
 use Rattle.image_map.specs.Named.{AreTaskNames}
-use Rattle.image_map.specs.Text.{copies_fields, variable_fields, tasks_fields}
+use Rattle.image_map.specs.Text.{variable_fields, tasks_fields}
 use Rattle.image_map.proofs.Printed.{map_written}
 use Rattle.image_map.proofs.ReadBack.{reads_back}
 use Rattle.image_map.proofs.print.push_map.Goals as goal
@@ -13,8 +13,8 @@ use Rattle.image_map.proofs.print.push_map.Goals as goal
 pub returns-clause-text : goal.returns-clause-text
 returns-clause-text c = on_ok_weaker c.push_line.result
     (map_written c.args.map.now c.args.out.now.items _ _ _ _ _ c.in_ok-push_head.ensures
-    (c.in_ok-push_copies.ensures ∙ ap (λ o. c.push_head.new.out.items ++ printed (copies_fields o)) c.copies.ensures)
-    (c.in_ok-push_variables.ensures.text ∙ ap (λ vs. c.push_copies.new.out.items ++ printed (map variable_fields vs)) c.variables.ensures)
+    c.in_ok-push_optional.ensures
+    (c.in_ok-push_variables.ensures.text ∙ ap (λ vs. c.push_optional.new.out.items ++ printed (map variable_fields vs)) c.variables.ensures)
     (c.in_ok-push_tasks.ensures.text ∙ ap (λ ts. c.push_variables.new.out.items ++ printed (tasks_fields ts)) c.tasks.ensures))
     c.push_line.ensures
 

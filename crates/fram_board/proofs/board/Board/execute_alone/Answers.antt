@@ -1,6 +1,6 @@
 use Rattle.std.proofs.Common.{arith, ◌∙◌, ap}
 use Rattle.fram_board.proofs.Steps.{heard_few_of, closed_is, taken_grows, stopped_keeps}
-use Rattle.fram_board.proofs.board.Board.execute.Goals as goal
+use Rattle.fram_board.proofs.board.Board.execute_alone.Goals as goal
 
 pub overflow_sub-result : goal.overflow_sub-result
 overflow_sub-result c =

@@ -1,0 +1,195 @@
+//! The port EVENT and the events that arise there.
+
+ghost use Rattle.std.specs.Prelude.{◌≡◌, ℕ, ◌+◌, ◌<◌, ◌≤◌, length, true, false, IfOk};
+ghost use Rattle.fram_board.specs.Events.{line_of_events, is_full, port_word, port_read, arrived, step_counted, line_behind_step, line_behind_power_up};
+
+use std::alloc::{AllocError, Global};
+use std::marker::Model;
+
+/// What was read of EVENT since the last boundary between two steps.
+#[derive(Clone, Copy, PartialEq, Eq, Debug)]
+pub enum Heard {
+    /// Nothing.
+    Nothing,
+    /// It was read once. This word was taken, if one waited there.
+    Once(Option<u16>),
+    /// It was read more than once. This is what the first read took.
+    Again(Option<u16>),
+}
+
+/// The events of a run, the first of which arose, and the port.
+#[derive(Drop)]
+pub struct Events {
+    port: Option<u16>,
+    heard: Heard,
+    events: Vec<(u32, u16)>,
+    arisen: usize,
+    missed: u32,
+    made: u32,
+}
+
+impl Model for Events {
+    ghost use Rattle.std.specs.Prelude.{◌≤◌, ◌+◌, drop, length};
+    ghost use Rattle.fram_board.specs.Events.{EventLine, words_in};
+
+    ghost Value = { EventLine };
+
+    ghost view = { λ e. record {
+      port = e.port;
+      heard = e.heard;
+      coming = drop e.arisen e.events.items;
+      arisen = e.arisen;
+      missed = e.missed;
+      made = e.made;
+    } };
+
+    // No more events are lost than arose, without the one that waits.
+    ghost invariant = { λ e. (e.arisen ≤ length e.events.items) × (length e.events.items ≤ 65536) × (e.missed + words_in e.port ≤ e.arisen) };
+}
+
+impl Events {
+    /// These events, none of which arose: behind how many steps of the run each does, and its word. Fails where memory is
+    /// refused.
+    pub fn new(alloc: Global, events: &[(u32, u16)]) -> Result<Events, AllocError>
+        requires { length events.now ≤ 65536 }
+        ensures { IfOk result (λ e. e ≡ line_of_events events.now) }
+    {
+        Ok(Events {
+            port: None,
+            heard: Heard::Nothing,
+            events: events.to_vec(alloc)?,
+            arisen: 0,
+            missed: 0,
+            made: 0,
+        })
+    }
+
+    /// Whether a word waits in the port.
+    #[inline(always)]
+    pub fn is_full(&self) -> bool
+        ensures { result ≡ is_full self.now.port }
+    {
+        self.port.is_some()
+    }
+
+    /// What was read of the port since the last boundary.
+    pub fn heard(&self) -> Heard
+        ensures { result ≡ self.now.heard }
+    {
+        self.heard
+    }
+
+    /// How many events arose.
+    pub fn arisen(&self) -> u32
+        ensures value { result ≡ self.now.arisen }
+        ensures few { result ≤ 65536 }
+    {
+        self.arisen as u32
+    }
+
+    /// How many of them were lost at the port.
+    pub fn missed(&self) -> u32
+        ensures value { result ≡ self.now.missed }
+        ensures few { result ≤ self.now.arisen }
+    {
+        self.missed
+    }
+
+    /// A word read at the port: the one that waits there, which is taken, or 0.
+    pub fn read(&mut self) -> u16
+        ensures value { result ≡ port_word self.old.port }
+        ensures taken { self.new ≡ port_read self.old }
+    {
+        self.heard = match self.heard {
+            Heard::Nothing => Heard::Once(self.port),
+            Heard::Once(taken) => Heard::Again(taken),
+            Heard::Again(taken) => Heard::Again(taken),
+        };
+        match self.port {
+            Some(word) => {
+                self.port = None;
+                word
+            }
+            None => 0,
+        }
+    }
+
+    // How many events are to come.
+    #[inline(always)]
+    fn coming(&self) -> usize
+        ensures { result ≡ length self.now.coming }
+    {
+        self.events.len() - self.arisen
+    }
+
+    // The next event arises, where it is due. Answers whether it did.
+    fn arise_next(&mut self) -> bool
+        ensures same { arrived self.new ≡ arrived self.old }
+        ensures one { result ≡ true → length self.old.coming ≡ length self.new.coming + 1 }
+        ensures none { result ≡ false → self.new ≡ arrived self.old }
+    {
+        if self.arisen == self.events.len() {
+            return false;
+        }
+        let (steps, word) = self.events[self.arisen];
+        if steps > self.made {
+            return false;
+        }
+        self.arisen += 1;
+        if self.port.is_some() {
+            self.missed += 1;
+        } else {
+            self.port = Some(word);
+        }
+        true
+    }
+
+    // The events that are due arise, in order.
+    #[tactic(auto, using(crate::proofs::Arrivals::none_comes))]
+    fn arise_due(&mut self)
+        ensures { self.new ≡ arrived self.old }
+    {
+        let count = self.coming();
+        for i in 0..count {
+            if !self.arise_next() {
+                return;
+            }
+        }
+    }
+
+    // A step is counted, and the events that are due behind it arise.
+    #[tactic(auto, using(crate::proofs::Arrivals::one_counted, crate::proofs::Arrivals::none_counted))]
+    fn count_step(&mut self)
+        requires { 0 < length self.old.coming }
+        ensures { self.new ≡ arrived (record self.old { made = step_counted self.old.coming self.old.made }) }
+    {
+        if self.made < u32::MAX {
+            self.made += 1;
+        }
+        self.arise_due();
+    }
+
+    /// Behind a step: it is counted, and the events that are due behind it arise.
+    #[inline(always)]
+    #[tactic(auto, using(crate::proofs::Arrivals::quiet_step))]
+    pub fn step(&mut self)
+        ensures { self.new ≡ line_behind_step self.old }
+    {
+        self.heard = Heard::Nothing;
+        if self.coming() > 0 {
+            self.count_step();
+        }
+    }
+
+    /// Power comes back after a loss: a word in the port is lost, and the events that are due arise.
+    pub fn power_up(&mut self)
+        ensures { self.new ≡ line_behind_power_up self.old }
+    {
+        if self.port.is_some() {
+            self.missed += 1;
+        }
+        self.port = None;
+        self.heard = Heard::Nothing;
+        self.arise_due();
+    }
+}
