@@ -343,13 +343,13 @@ whole_run cs b after ms (Some stop) w = let P : List BoardCharge → Type 0 = λ
 -- and its last lines
 module _ (h now : Known) (cs : List BoardCharge) (events : List Event) (b after : BoardValue) (old between new : Option (List ℕ)) (n : ℕ) (stop : Option Stop)
     (none : h.tally ≡ no_tally) (w : SpentCharges h cs b old between stop after now n) where
-  r : RunOutcome
+  abbrev pub r : RunOutcome
   r = run_outcome w.moments (ended stop) after
 
   run : Run cs b r
   run = whole_run cs b after w.moments stop w.went
 
-  line : List ℕ
+  abbrev pub line : List ℕ
   line = known_lines now events (ended stop) after
 
   line_is : line ≡ last_lines h.history events r

@@ -1,17 +1,16 @@
 -- What becomes of the words that were taken from EVENT.
 use Rattle.std.proofs.Common.{◌≡◌, ℕ, ◌+◌, ◌==◌, Bool, true, false, if◌then◌else◌, List, [], ◌∷◌, ◌++◌, length, length-append, Option, Some, None, arith, refl}
-use Rattle.std.proofs.Common.{ap, sym, subst, ◌∙◌}
+use Rattle.std.proofs.Common.{ap, ◌∙◌}
 use Rattle.std.specs.Prelude.{All}
 use Rattle.std.proofs.lemmas.List.Elements.{All-head, All-tail}
-use Rattle.image_text.specs.image_map.MapValue.{MapValue}
 use Rattle.fram_board.specs.declared.events.Heard.{Heard}
 use Rattle.fram_board.specs.declared.events.Heard.TheVariants as heard
 use Rattle.fram_board.specs.Board.{BoardValue}
-use Rattle.fram_board.specs.Run.{Moment, Action, PowerUp, Execute, End, Charges, Stopped, RunOutcome, word_list}
+use Rattle.fram_board.specs.Run.{Moment, Action, PowerUp, Execute, End, Charges, Stopped, word_list}
 use Rattle.board_run.specs.History.{word_in}
 use Rattle.board_run.specs.Events.{HandEnd, Reads, ChangesHead, Returns, PowersUp, Hand, no_hand, handed, handed_all, head_ends, is_return, return_ends, reads_of}
 use Rattle.board_run.specs.Events.{head_of, action_ends, hand_behind, hand_after, hand_at, run_hand, taken_by, words_known, AllWordsAreKnown}
-use Rattle.board_run.specs.Events.{EventsAreAccounted, counts_of, heard_by, NeverReads, SilentRunsAcceptNothing, RinglessRunsAcceptNothing}
+use Rattle.board_run.specs.Events.{EventsAreAccounted, counts_of, heard_by, SilentRunsAcceptNothing, RinglessRunsAcceptNothing}
 
 -- one end keeps count of the words
 known_behind : (e : HandEnd) (h : Hand) → words_known (handed e h) ≡ taken_by e + words_known h

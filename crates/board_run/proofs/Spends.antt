@@ -181,7 +181,7 @@ spent_err h watch m amount b after old new (Ok o) e p = cc
 spent_err h watch m amount b after old new (Err f) e p = p
 
 pub spends_stop_writing : (h watch : Known) (m : Measure) (amount : ℕ) (b : BoardValue) (old : Option (List ℕ)) (left : ℕ) (now after : BoardValue)
-    (between new : Option (List ℕ)) (mid : History) (result : Result (Option Stop) Failed) → IsErr result
+    (between new : Option (List ℕ)) (mid : Known) (result : Result (Option Stop) Failed) → IsErr result
     → SpendsOn h m amount b old left now between mid → TurnedPartly mid m left now between new after → IsSpent h m amount b old new result after watch
 spends_stop_writing h watch m amount b old left now after between new mid result e s t =
     spent_err h watch m amount b after old new result e (spends_err h m amount b old left now after between new mid s t)

@@ -1,21 +1,17 @@
 -- What becomes of events, as it is counted while a run is made.
-use Rattle.std.proofs.Common.{◌≡◌, ◌≤◌, ℕ, suc, ◌+◌, ◌==◌, Bool, true, false, if◌then◌else◌, List, [], ◌∷◌, ◌++◌, length, length-append, is_some, Option, Some, None}
-use Rattle.std.proofs.Common.{arith, refl, ap, ap₂, sym, subst, ◌∙◌, nat_lt}
+use Rattle.std.proofs.Common.{◌≡◌, ℕ, ◌+◌, Bool, true, false, if◌then◌else◌, List, [], ◌∷◌, ◌++◌, length, length-append, is_some, Option, Some, None}
+use Rattle.std.proofs.Common.{refl, ap, sym, ◌∙◌, nat_lt}
 use Rattle.image_text.specs.image_map.MapValue.{MapValue}
-use Rattle.msp_step.specs.declared.machine.Stop.{Stop}
-use Rattle.fram_board.specs.declared.events.Heard.{Heard}
-use Rattle.fram_board.specs.declared.events.Heard.TheVariants as heard
 use Rattle.fram_board.specs.declared.board.NextStep.{NextStep}
 use Rattle.fram_board.specs.declared.board.Stepped.{Stepped}
 use Rattle.fram_board.specs.Board.{BoardValue}
-use Rattle.fram_board.specs.Run.{Moment, Action, PowerUp, Execute, End, Charges, Stopped, RunOutcome, run_outcome, word_list, kind_of, moment_of, power_up_of}
-use Rattle.fram_board.specs.Board.{PowerState}
+use Rattle.fram_board.specs.Run.{Moment, Action, PowerUp, Execute, End, Charges, Stopped, RunOutcome, word_list, kind_of, moment_of}
 use Rattle.board_run.specs.History.{History, noted, behind_action, behind_instruction, behind_power_up, gated, with_word, with_words, completed, decided, is_done, is_decide, word_in}
 use Rattle.board_run.specs.Events.{HandEnd, Reads, ChangesHead, Returns, PowersUp, Hand, no_hand, handed, handed_all, head_of, head_ends, change_ends, is_return}
-use Rattle.board_run.specs.Events.{return_ends, reads_of, action_ends, hand_behind, hand_after, hand_at, run_hand, words_taken, taken_by, counts_of, event_counts}
+use Rattle.board_run.specs.Events.{return_ends, reads_of, action_ends, hand_behind, hand_after, hand_at, run_hand, event_counts}
 use Rattle.board_run.specs.Report.{after_all}
-use Rattle.board_run.specs.Tally.{TallyValue, no_tally, one_if, tallied, tallied_all, tally_behind, tally_after, tally_at, counts_at, words_of, tally_of}
-use Rattle.board_run.specs.Tally.{IsHead, WatchesHead, change_if, seen_ends, step_ends}
+use Rattle.board_run.specs.Tally.{TallyValue, no_tally, one_if, tallied, tallied_all, tally_behind, tally_after, tally_at, counts_at, tally_of}
+use Rattle.board_run.specs.Tally.{IsHead, WatchesHead, seen_ends, step_ends}
 
 -- a tally is that of a hand
 held : (o : Option ℕ) → length (word_list o) ≡ one_if (is_some o)

@@ -9,9 +9,10 @@ use Rattle.msp_step.specs.declared.machine.Stop.{Stop}
 use Rattle.fram_board.specs.declared.board.Stepped.{Stepped}
 use Rattle.fram_board.specs.declared.receiver.Receiver.{Receiver}
 use Rattle.fram_board.specs.declared.board.NextStep.{NextStep}
+use Rattle.fram_board.specs.declared.board.NextStep.TheVariants as next_step
 use Rattle.fram_board.specs.Board.{BoardValue, performed, IsNextStep, HasNoStep, at_boundary, receiver_after, is_accepted}
 use Rattle.fram_board.specs.Steps.{KeepsAllButTaken}
-use Rattle.fram_board.specs.Run.{Measure, price, word_list, Charges, Stopped, RunOutcome, run_outcome, ChargeRun, Spent, NoInstruction, TooDear, Refused}
+use Rattle.fram_board.specs.Run.{Measure, price, word_list, Charges, Stopped, run_outcome, ChargeRun, Spent, NoInstruction, TooDear, Refused}
 use Rattle.fram_board.specs.Run.{Executed, moment_of}
 use Rattle.fram_board.proofs.Interface.{price_low}
 use Rattle.board_run.specs.declared.spend.Turn.{Turn}
@@ -34,11 +35,15 @@ heard : (number : ℕ) (o : Option ℕ) (r : Receiver) → FewHeard r (receiver_
 heard number None r = record { accepted = omega arith; repeats = omega arith }
 heard number (Some w) r = heard_by (is_accepted number r) r
 
-one_more : (b after : BoardValue) (number : ℕ) (o : Option ℕ) → after.receiver ≡ receiver_after number o b.receiver → FewMore b after 1
-one_more b after number o e =
-    let P : Receiver → Type 0 = λ r. FewHeard b.receiver r in
-    let h = subst P (sym e) (heard number o b.receiver) in
-    record { accepted = h.accepted; repeats = h.repeats }
+step_heard : (b : BoardValue) (n : NextStep) → FewHeard b.receiver (performed b n).board.receiver
+step_heard b next_step.Acceptance = heard _ _ b.receiver
+step_heard b (next_step.Instruction i) = heard _ _ b.receiver
+
+one_more : (b after : BoardValue) (n : NextStep) → after ≡ at_boundary (performed b n).board → FewMore b after 1
+one_more b after n e =
+    let P : BoardValue → Type 0 = λ x. FewMore b x 1 in
+    let h = step_heard b n in
+    subst P (sym e) (record { accepted = h.accepted; repeats = h.repeats })
 
 -- a charge that can't be begun, or is too dear
 pub spent_now : (m : Measure) (left : ℕ) (b : BoardValue) (h : Known) (old : Option (List ℕ)) → left ≡ 0
@@ -78,7 +83,7 @@ comes_first m left rest b after n done made e = record {
   run = λ r h. Executed left b n done r made.some made.next made.paid made.answer
       (subst (λ a. ChargeRun m (left - price m n) a r) made.board (subst (λ k. ChargeRun m k after r) e h));
   board = sym made.board;
-  few = one_more b after _ _ (ap (λ (x : BoardValue). x.receiver) made.board);
+  few = one_more b after n made.board;
 }
 
 -- the lines of the moment are those of the step

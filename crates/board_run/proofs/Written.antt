@@ -1,12 +1,12 @@
 -- A step changes no word of the FRAM but those that it wrote.
 use Rattle.std.proofs.Common.{◌≡◌, ◌-◌, ◌%◌, if◌then◌else◌, arith, ℕ, refl, sym, ◌∙◌, ap, subst, Bool, true, false, List, [], ◌∷◌, ◌++◌, map}
-use Rattle.std.proofs.Common.{slice_index, slice_set, slice_range, Option, Some, None, Result, Ok, Err, OnOk, inl, inr, ◌⊎◌, ◌<◌, ⊎_elim}
+use Rattle.std.proofs.Common.{slice_index, slice_set, slice_range, Option, Some, None, Result, Ok, Err, OnOk, IfSome, inl, inr}
 use Rattle.std.proofs.lemmas.List.{get_or-set_other}
 use Rattle.msp_isa.specs.declared.instructions.Instr.{Instr}
 use Rattle.msp_step.specs.declared.machine.Stop.{Stop}
 use Rattle.msp_step.specs.Registers.{registers_of}
 use Rattle.msp_step.specs.Step.{Executed, return_place, status_place}
-use Rattle.image_text.specs.image_map.MapValue.{MapValue}
+use Rattle.image_text.specs.image_map.MapValue.{MapValue, IsFramWord}
 use Rattle.image_text.specs.address_space.Limits.{place_of}
 use Rattle.fram_board.specs.declared.board.Stepped.{Stepped}
 use Rattle.fram_board.specs.Bus.{is_fram}
@@ -15,10 +15,11 @@ use Rattle.fram_board.specs.Steps.{IsBoard, KeepsAllButTaken}
 use Rattle.fram_board.specs.Effects.{Effect, Store, Take, Outside, takes_of, store_at, store_of, stores_of, sends_of, effects_of, acceptance_effects, stored}
 use Rattle.fram_board.proofs.Interface.{step_makes_its_effects, fram_low}
 use Rattle.board_run.specs.declared.seen.Seen.{Seen}
-use Rattle.board_run.specs.declared.state.State.{State}
 use Rattle.board_run.specs.History.{History, word_in}
 use Rattle.board_run.specs.Shadow.{ShadowValue, Stores, IsWritten, IsStored, IsMarked, Covers, CoversBut}
 use Rattle.board_run.specs.State.{FollowsBy, FollowsButBy, Follows, FollowsBut, map_seen}
+use Rattle.board_run.specs.Events.{head_of}
+use Rattle.board_run.specs.Tally.{IsHead, WatchesHead}
 
 -- none of these effects stores to the word at a place
 abbrev NoStore : List Effect → ℕ → Type 0
@@ -129,11 +130,19 @@ pub follows_at_first : (m : Option MapValue) (s : ShadowValue) (gate : ℕ) (fra
 follows_at_first None s gate fram covers = tt
 follows_at_first (Some m) s gate fram covers = (covers, λ known. let c : true ≡ false = sym known in cc)
 
--- behind its lines all is followed, and GATE is the FRAM's
-pub follows_noted : {A E : Type 0} (r : Result A E) (m : MapValue) (s : State) (fram : List ℕ) → OnOk r (Covers s.shadow fram)
-    → OnOk r (s.gate ≡ word_in fram m.words.gate) → OnOk r (FollowsBy (Some m) s.shadow s.is_gate_known s.gate fram)
-follows_noted (Ok x) m s fram covers gate = (covers, λ known. gate)
-follows_noted (Err x) m s fram covers gate = covers
+-- behind its lines all is followed, and GATE and HEAD are the FRAM's
+pub follows_noted : {A E : Type 0} (r : Result A E) (s : Seen) (m : MapValue) (fram : List ℕ) → map_seen s ≡ Some m
+    → WatchesHead (map_seen s) s.head.place s.head.word fram → OnOk r (Covers s.state.shadow fram) → OnOk r (s.state.gate ≡ word_in fram m.words.gate)
+    → OnOk r (Follows s fram)
+follows_noted (Ok x) s m fram is head covers gate =
+    let P : Option MapValue → Type 0 = λ o. FollowsBy o s.state.shadow s.state.is_gate_known s.state.gate fram in
+    record { state = subst P (sym is) (covers, λ known. gate); head = head }
+follows_noted (Err x) s m fram is head covers gate = covers
+
+-- HEAD as it was looked at
+pub watches_on : (m : Option MapValue) (address before : Option ℕ) (head : ℕ) (fram : List ℕ) → before ≡ head_of m → IfSome before IsFramWord
+    → address ≡ before → IsHead address head fram → WatchesHead m address head fram
+watches_on m address before head fram place fits same is = record { place = same ∙ place; fits = subst (λ a. IfSome a IsFramWord) (sym same) fits; same = is }
 
 -- what is said of a history says what its GATE is
 pub gate_noted : {A E : Type 0} (r : Result A E) (h k : History) (gate : ℕ) → k.gate ≡ gate → OnOk r (h ≡ k) → OnOk r (h.gate ≡ gate)

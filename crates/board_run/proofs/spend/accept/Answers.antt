@@ -1,4 +1,4 @@
-use Rattle.std.proofs.Common.{◌≡◌, arith, refl, sym, ap, ap₂, subst, ◌∙◌, Some, None}
+use Rattle.std.proofs.Common.{arith, refl, sym, ap, ap₂, ◌∙◌, Some}
 use Rattle.msp_step.specs.Registers.{registers_of}
 use Rattle.msp_step.specs.Step.{return_place, status_place}
 use Rattle.fram_board.specs.declared.board.NextStep.TheVariants.{Acceptance}
@@ -63,7 +63,7 @@ note-requires-clause-follows g c =
     let made = c.perform.ensures.board ∙ ap (λ r. board_behind r (acceptance b).board) c.in-Ok.is in
     let stores = c.acceptance_makes_its_stores.ensures b c.in-Ok.done (sym c.perform.ensures.answer ∙ c.in-Ok.is) in
     let cpu = c.cpu.ensures in
-    let to = c.return_places.ensures.pc ∙ ap (λ x. return_place (registers_of x)) cpu in
-    let below = c.return_places.ensures.sr ∙ ap (λ x. status_place (registers_of x)) cpu in
+    let to = c.return_places-to.ensures.pc ∙ ap (λ x. return_place (registers_of x)) cpu in
+    let below = c.return_places-to.ensures.sr ∙ ap (λ x. status_place (registers_of x)) cpu in
     follows_but c.args.watch.now b _ c.perform.new.self.fram
     (Twice (ap₂ (λ x y. (Some x, Some y)) to below) (ap (λ (x : BoardValue). x.fram) made ∙ stores.fram)) c.requires.follows

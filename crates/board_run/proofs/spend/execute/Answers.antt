@@ -1,6 +1,5 @@
-use Rattle.std.proofs.Common.{◌≡◌, arith, refl, sym, ap, subst, ◌∙◌, None}
+use Rattle.std.proofs.Common.{arith, refl, sym, ap, ◌∙◌, None}
 use Rattle.fram_board.specs.declared.board.NextStep.TheVariants.{Instruction}
-use Rattle.fram_board.specs.declared.board.Stepped.{Stepped}
 use Rattle.fram_board.specs.Board.{BoardValue, executed, board_behind}
 use Rattle.board_run.specs.Charges.{measure_of}
 use Rattle.board_run.specs.State.{known_so}

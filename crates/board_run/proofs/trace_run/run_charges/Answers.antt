@@ -1,4 +1,4 @@
-use Rattle.std.proofs.Common.{◌≡◌, subst, ap, sym, ◌∙◌, ◌*◌, List, Err}
+use Rattle.std.proofs.Common.{subst, ap, ◌∙◌, ◌*◌, List, Err}
 use Rattle.std.proofs.lemmas.Result.{err_from_is_err_and}
 use Rattle.energy_trace.specs.TraceValue.{Event, charge_count}
 use Rattle.energy_trace.specs.declared.charge.Charge.{Charge}
