@@ -16,7 +16,7 @@ use Rattle.fram_board.specs.msp_step.declared.machine.Stop.TheVariants as stop
 use Rattle.fram_board.specs.msp_step.Registers.{Registers, registers_of, kept}
 use Rattle.fram_board.specs.msp_step.Access.{BusModel, Access, Completed, Faulted}
 use Rattle.fram_board.specs.msp_step.Effect.{Written}
-use Rattle.fram_board.specs.msp_step.Step.{effect, off_bit, stop_of, IsStopped, IsCurrentInstruction}
+use Rattle.fram_board.specs.msp_step.Step.{effect, off_bit, is_interruptible, stop_of, IsStopped, IsCurrentInstruction}
 use Rattle.fram_board.specs.image_text.ImageValue.{place_of}
 use Rattle.fram_board.specs.Bus.{ram_place, is_ram, is_fram, is_memory, is_word, byte_of, with_byte, sensor_port, number_port, data_port}
 use Rattle.fram_board.specs.Board.{PowerState}
@@ -160,9 +160,18 @@ step_with i s = if off_bit s.registers == 1 then Stops [] 0 stop.Off else standi
 abbrev pub Code : Type 0
 Code = ℕ → Option Instr
 
+-- where code goes astray
+abbrev pub astray : MachineBoard → Stop
+astray s = stop.Illegal (s.registers 0) (word_in s.fram s.ram (s.registers 0))
+
+-- code that stays goes astray, too, with a step behind which the CPU would accept an interrupt
+abbrev pub undisturbed : MachineBoard → MachineOutcome → MachineOutcome
+undisturbed s (Goes es c t) = if is_interruptible t.registers then Stops [] 0 (astray s) else Goes es c t
+undisturbed s (Stops es price e) = Stops es price e
+
 -- the step of a machine whose instructions come from code that stays, whatever FRAM holds
 abbrev pub exec : Code → MachineBoard → MachineOutcome
-exec code s = step_with (code (s.registers 0)) s
+exec code s = undisturbed s (step_with (code (s.registers 0)) s)
 
 -- an even address in RAM
 pub record IsRam (a : ℕ) : Type 0 where
