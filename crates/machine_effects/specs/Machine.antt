@@ -1,7 +1,7 @@
 -- The machine: the board with memory as functions of addresses, without its receiver, whose words are read off the effects.
--- Its bus keeps a log of what an instruction does to FRAM, the sensor and the receiver. Its instructions, their effects and
+-- It has no port EVENT, and accepts no interrupt. Its bus keeps a log of what an instruction does to FRAM, the sensor and the receiver. Its instructions, their effects and
 -- cycles are those of every bus (SLAU049 and SLAU144, CPU chapter).
-use Rattle.std.specs.Prelude.{ℕ, zero, suc, ◌-◌, ◌%◌, ◌≡◌, ◌<◌, ◌≤◌, ◌==◌, ◌&&◌, if◌then◌else◌, slice_index, List, [], ◌∷◌, ◌++◌, Result, Ok, Err, Option}
+use Rattle.std.specs.Prelude.{ℕ, ◌-◌, ◌%◌, ◌≡◌, ◌<◌, ◌≤◌, ◌==◌, ◌&&◌, if◌then◌else◌, slice_index, List, [], ◌∷◌, ◌++◌, Result, Ok, Err, Option}
 use Rattle.std.specs.Prelude.{Some, None}
 use Rattle.fram_board.specs.address_space.Limits.{ram_first, ram_end, fram_first, program_end, reset_vector}
 pub use Rattle.fram_board.specs.address_space.Limits.{IsFramWord as IsFram}
@@ -23,7 +23,7 @@ use Rattle.fram_board.specs.Board.{PowerState}
 use Rattle.fram_board.specs.Effects.{Effect, Store, Take, Outside, Offered}
 use Rattle.machine_effects.specs.World.{put}
 use Rattle.machine_effects.specs.Inputs.{Inputs}
-use Rattle.machine_effects.specs.Going.{StepOutcome, Goes, Stops, At, Halted, Stretch, stretch, after_effects}
+use Rattle.machine_effects.specs.Going.{StepOutcome, Goes, Stops, Stretch}
 
 -- memory and ports during one instruction, and what it did so far
 pub record MachineBus : Type 0 where
@@ -138,14 +138,6 @@ machine_executed s i = machine_outcome (s.registers 0) (cycles_of i) (effect mac
 pub data IsMachineStep (s : MachineBoard) : MachineOutcome → Type 0 where
   NoInstruction : (e : Stop) → IsStopped machine_bus s.registers (machine_opened s) e → IsMachineStep s (Stops [] 0 e)
   Executes : (i : Instr) → IsCurrentInstruction machine_bus s.registers (machine_opened s) i → IsMachineStep s (machine_executed s i)
-
--- so many steps of the machine, each as it fetches
-pub data MachineRun : ℕ → MachineBoard → MachineStretch → Type 0 where
-  Stays : (s : MachineBoard) → MachineRun zero s (stretch [] 0 (At s))
-  Halts : (n : ℕ) (s : MachineBoard) (es : List Effect) (price : ℕ) (e : Stop) → IsMachineStep s (Stops es price e)
-      → MachineRun (suc n) s (stretch es 0 (Halted price e))
-  Steps : (n : ℕ) (s t : MachineBoard) (es : List Effect) (c : ℕ) (rest : MachineStretch) → IsMachineStep s (Goes es c t) → MachineRun n t rest
-      → MachineRun (suc n) s (after_effects es c rest)
 
 -- what an instruction that stands at PC does while CPUOFF is clear; where none stands the word there is illegal
 abbrev pub standing : Option Instr → MachineBoard → MachineOutcome
