@@ -1,6 +1,6 @@
 -- The moments of a run, one behind the other, and what each of its instructions does to the machine.
 use Rattle.std.proofs.Common.{◌≡◌, ◌==◌, ◌≤◌, ◌+◌, ◌-◌, ◌%◌, ℕ, suc, refl, sym, ap, ◌∙◌, subst, arith, Bool, true, false, if◌then◌else◌, List, [], ◌∷◌, ◌++◌}
-use Rattle.std.proofs.Common.{length, append-nil, length-append, Option, Some, None, Ok}
+use Rattle.std.proofs.Common.{length, length-append, Option, Some, None, Ok}
 use Rattle.msp_isa.specs.declared.instructions.Instr.{Instr}
 use Rattle.msp_cycles.specs.Cycles.{cycles_of}
 use Rattle.msp_step.specs.Registers.{Registers, registers_of}
@@ -34,7 +34,7 @@ use Rattle.crash_rules.specs.Model.{Marks}
 use Rattle.crash_rules.specs.History.{History}
 use Rattle.crash_rules.proofs.Interface.{observed_taken, events_of_instructions}
 use Rattle.run_charges.specs.View.{outside_of, outside_effects, IsMachines, AreMoments}
-use Rattle.run_charges.specs.Charges.{ArePowerStates, IsInstruction, AreInstructionMoments}
+use Rattle.run_charges.specs.Charges.{ArePowerStates, AreInstructionMoments}
 
 -- the board behind the moments of a charge that is spent
 pub charge_last : (m : Measure) (left : ℕ) (b : BoardValue) (r : RunOutcome) → ChargeRun m left b r → r.ending ≡ Charges → last_board b r.moments ≡ r.board
@@ -54,7 +54,7 @@ charge_instructs m left b r (Refused _ _ n e pos c paid a) = tt
 charge_instructs m left b r (run.Executed _ _ n done rest pos c paid a h) =
     (tt, charge_instructs m (left - price m n) (at_boundary (performed b n).board) rest h)
 
-are-append : (b : BoardValue) (ms ns : List Moment) → AreMoments b ms → AreMoments (last_board b ms) ns → AreMoments b (ms ++ ns)
+pub are-append : (b : BoardValue) (ms ns : List Moment) → AreMoments b ms → AreMoments (last_board b ms) ns → AreMoments b (ms ++ ns)
 are-append b [] ns h k = k
 are-append b (m ∷ ms) ns h k = (h.0, h.1, are-append m.after ms ns h.2 k)
 

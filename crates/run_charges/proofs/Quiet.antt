@@ -1,13 +1,12 @@
 -- A run of a program that stands in FRAM reads nothing of EVENT.
-use Rattle.std.proofs.Common.{◌≡◌, ℕ, ◌-◌, refl, sym, ap, ◌∙◌, subst, List, [], ◌∷◌, All, Option, Result, Ok, Err}
+use Rattle.std.proofs.Common.{◌≡◌, ℕ, ◌-◌, sym, ap, ◌∙◌, subst, List, [], ◌∷◌, All, Option}
 use Rattle.std.proofs.lemmas.List.Elements.{All-nil, All-cons}
-use Rattle.msp_isa.specs.declared.instructions.Instr.{Instr}
 use Rattle.fram_board.specs.declared.board.NextStep.TheVariants as next_step
 use Rattle.fram_board.specs.declared.board.Stepped.{Stepped}
 use Rattle.fram_board.specs.declared.events.Heard.{Heard}
 use Rattle.fram_board.specs.declared.events.Heard.TheVariants as heard
 use Rattle.fram_board.specs.Board.{BoardValue, powered, executed, at_boundary}
-use Rattle.fram_board.specs.Run.{Measure, price, Action, PowerUp, Execute, Moment, moment_of, Charges, Stopped, RunOutcome, run_outcome, BoardCharge}
+use Rattle.fram_board.specs.Run.{Measure, price, Action, PowerUp, Execute, Moment, Charges, Stopped, RunOutcome, run_outcome, BoardCharge}
 use Rattle.fram_board.specs.Run.{Run, Over, Next, Last, StepKind}
 use Rattle.fram_board.specs.Run.{ChargeRun, Spent, NoInstruction, TooDear, Refused, Executed}
 use Rattle.machine_effects.proofs.Interface.{boundary_hears_nothing, power_up_hears_nothing, told_heard}

@@ -1,5 +1,5 @@
 -- A board on which a program that stands in FRAM runs: its instructions are the program's steps, it accepts no interrupt, and EVENT is left alone.
-use Rattle.std.proofs.Common.{◌≡◌, ◌-◌, ◌%◌, ◌⊎◌, ⊎_elim, ℕ, zero, suc, refl, sym, ap, ◌∙◌, subst, true, false, List, [], ◌∷◌, ◌++◌, length, Ok, Err}
+use Rattle.std.proofs.Common.{◌≡◌, ◌-◌, ⊎_elim, ℕ, suc, refl, sym, ap, ◌∙◌, subst, true, false, List, [], ◌∷◌, length, Ok}
 use Rattle.std.proofs.lemmas.Bool.{and_parts}
 use Rattle.msp_isa.specs.declared.instructions.Instr.{Instr}
 use Rattle.msp_step.specs.declared.machine.Stop.TheVariants as stop

@@ -1,8 +1,8 @@
 -- A charge of cycles that is spent is spent by the program too.
-use Rattle.std.proofs.Common.{◌≡◌, ℕ, ◌+◌, ◌-◌, ◌≤◌, ◌<◌, ◌⊎◌, refl, sym, ap, ◌∙◌, subst, arith, inl, inr, List, [], ◌∷◌, ◌++◌, length, Option, Ok}
+use Rattle.std.proofs.Common.{◌≡◌, ℕ, ◌-◌, ◌≤◌, ◌<◌, ◌⊎◌, refl, sym, ap, ◌∙◌, subst, arith, inl, inr, List, [], ◌∷◌, ◌++◌, length, Option, Ok}
 use Rattle.msp_isa.specs.declared.instructions.Instr.{Instr}
 use Rattle.msp_cycles.specs.Cycles.{cycles_of}
-use Rattle.msp_step.specs.Registers.{Registers}
+use Rattle.msp_step.specs.Registers.{Registers, registers_of}
 use Rattle.msp_step.specs.Access.{Access, Completed, Faulted}
 use Rattle.msp_step.specs.Effect.{Written}
 use Rattle.msp_step.specs.Step.{effect, outcome_of}
@@ -74,10 +74,10 @@ uses_more left c m ms end e fits more =
 
 module _ (on : PlacedProgram) where
   charge_used : (left : ℕ) (b : BoardValue) (r : RunOutcome) → Running on b → ChargeRun Cycles left b r → r.ending ≡ Charges → Uses left r.moments r.board
-  charge_used left b r run (Spent _ _ none) e = record { within = omega arith; used = inl none }
+  charge_used left b r run (Spent _ _ none) e = record { within = omega arith; used = inl (omega (arith, none)) }
   charge_used left b r run (NoInstruction _ _ x pos h) e = absurd cc
   charge_used left b r run (TooDear _ _ next_step.Acceptance pos c dear) e = absurd (none_accepted on b run c)
-  charge_used left b r run (TooDear _ _ (next_step.Instruction i) pos c dear) e = record { within = omega arith; used = inr (i, c.1, dear) }
+  charge_used left b r run (TooDear _ _ (next_step.Instruction i) pos c dear) e = record { within = omega arith; used = inr (i, c.1, omega (arith, dear)) }
   charge_used left b r run (Refused _ _ n x pos c paid a) e = absurd cc
   charge_used left b r run (Executed _ _ next_step.Acceptance done rest pos c paid a h) e = absurd (none_accepted on b run c)
   charge_used left b r run (Executed _ _ (next_step.Instruction i) done rest pos c paid a h) e =

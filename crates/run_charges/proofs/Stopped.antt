@@ -14,7 +14,7 @@ use Rattle.fram_board.specs.Board.{BoardValue, BoardOutcome, powered, opened, bo
 use Rattle.fram_board.proofs.Interface.{only_takes}
 use Rattle.fram_board.specs.Steps.{IsPowerState}
 use Rattle.fram_board.specs.Effects.{Effect, Take, sends_of, effects_of}
-use Rattle.fram_board.specs.Run.{Measure, price, Moment, moment_of, Stopped, RunOutcome, run_outcome, BoardCharge, Run, Over, Next, Last, power_up_of}
+use Rattle.fram_board.specs.Run.{Measure, price, Moment, Stopped, RunOutcome, run_outcome, BoardCharge, Run, Over, Next, Last, power_up_of}
 use Rattle.fram_board.specs.Run.{ChargeRun, Spent, NoInstruction, TooDear, Refused, Executed}
 use Rattle.machine_effects.specs.World.{EachStore}
 use Rattle.machine_effects.specs.Going.{Stops, Halted, stretch, after_effects, continued, going}
