@@ -1,5 +1,6 @@
 -- The words that a charge's moments tell are those that its effects make the receiver accept.
-use Rattle.std.proofs.Common.{◌≡◌, ◌==◌, ◌-◌, ◌%◌, ◌⊎◌, inl, inr, ⊎_elim, arith, ℕ, refl, sym, ◌∙◌, ap, ap₂, subst, not, Bool, true, false, if◌then◌else◌, List, []}
+use Rattle.std.proofs.Common.{◌≡◌, ◌==◌, ◌-◌, ◌%◌, ◌⊎◌, inl, inr, ⊎_elim, arith, ℕ, refl, sym, ◌∙◌, ap, ap₂, subst, Bool, true, false}
+use Rattle.std.proofs.Common.{not, if◌then◌else◌, List, []}
 use Rattle.std.proofs.Common.{◌∷◌, ◌++◌, map, length, length-append, append_assoc, append-nil, slice_range, slice_index, Option, Some, None, Result, Ok, Err}
 use Rattle.fram_board.specs.alp_words.declared.Width.{Width}
 use Rattle.fram_board.specs.alp_words.declared.Width.TheVariants.{Word, Byte}
@@ -24,7 +25,8 @@ use Rattle.fram_board.specs.Board.{BoardValue, BoardOutcome, opened, answer_of, 
 use Rattle.fram_board.specs.Board.{is_accepted, accepted_word}
 use Rattle.fram_board.specs.Saved.{TakesNextBehind}
 use Rattle.fram_board.specs.Effects.{Effect, Store, Take, store_at, sends_of, effects_of, store_of, acceptance_effects}
-use Rattle.fram_board.specs.Run.{Measure, price, kind_of, moment_of, RunOutcome, ChargeRun, Spent, NoInstruction, TooDear, Refused, Executed, word_list, accepted_words}
+use Rattle.fram_board.specs.Run.{Measure, price, kind_of, moment_of, RunOutcome, ChargeRun, Spent, NoInstruction, TooDear, Refused, Executed}
+use Rattle.fram_board.specs.Run.{word_list, accepted_words}
 use Rattle.fram_board.proofs.Interface.{only_takes, counted, first_kept}
 use Rattle.machine_effects.specs.World.{accepted_after}
 use Rattle.machine_effects.specs.Runs.{step_effects, action_effects, moments_effects}
@@ -187,11 +189,16 @@ told_effects b i done answer =
     moment_effects b i done
     ∙ ap (λ y. effects_of b (record { answer = y; offered = (executed b i).offered; board = (executed b i).board })) (sym answer)
 
--- the word that a step tells is the one that its effects make the receiver accept
+-- the word that the moment of an instruction tells is the one that its effects make the receiver accept
+pub moment_accepts : (b : BoardValue) (i : Instr) (done : Stepped) → (executed b i).answer ≡ Ok done → (ws : List ℕ) → TakesNextBehind ws b.receiver
+    → let m = moment_of b (next_step.Instruction i) done in
+    accepted_after (action_effects m.action m.before m.after) ws ≡ ws ++ word_list done.accepted
+moment_accepts b i done answer ws len = ap (λ es. accepted_after es ws) (moment_effects b i done) ∙ instruction_accepts b i done ws len answer
+
+-- and so with any step
 pub step_accepts_by_sends : StepAcceptsBySends
 step_accepts_by_sends b next_step.Acceptance done ws len answer = acceptance_accepts b done ws answer
-step_accepts_by_sends b (next_step.Instruction i) done ws len answer =
-    ap (λ es. accepted_after es ws) (moment_effects b i done) ∙ instruction_accepts b i done ws len answer
+step_accepts_by_sends b (next_step.Instruction i) done ws len answer = moment_accepts b i done answer ws len
 
 -- what a step tells of the port EVENT is what the board holds of it
 heard_by : (b : BoardValue) (s : BusState) (a : Result cpu.Stepped Stop) (done : Stepped) → answer_of b s a ≡ Ok done → done.heard ≡ s.line.heard

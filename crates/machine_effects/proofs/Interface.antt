@@ -14,8 +14,10 @@ pub use Rattle.machine_effects.proofs.Logs.{takes, written_effects, LoggedBy, ef
 pub use Rattle.machine_effects.proofs.Alike.{is_fram_address}
 -- Each step of a board is a step of the machine that it is, and each step of that is one of the board, unless EVENT is read.
 pub use Rattle.machine_effects.proofs.Steps.{executed_same, current_to_machine, stopped_to_machine}
--- Behind the boundary of a step and behind a power-up nothing was read of EVENT.
-pub use Rattle.machine_effects.proofs.Lines.{boundary_keeps_words, boundary_hears_nothing, power_up_hears_nothing}
+-- The boundary behind a step keeps a board whole, and words; there and behind a power-up nothing was read of EVENT.
+pub use Rattle.machine_effects.proofs.Lines.{boundary_whole, boundary_words, boundary_heard, powered_heard}
+-- What an instruction of a board leaves, made or refused.
+pub use Rattle.machine_effects.proofs.Executed.{executed_is_step, told_cycles, Left, left_of}
 -- What the operations of the CPU make of words are words.
 pub use Rattle.machine_effects.proofs.Values.{bit_low, zero_flag}
 -- Words stay words, on the machine and on the board.
@@ -24,4 +26,4 @@ pub use Rattle.machine_effects.proofs.Words.{charge_keeps_words, machine_is_of_w
 -- The views of a powered and of a fresh board.
 pub use Rattle.machine_effects.proofs.Views.{power_up_is_the_machines, zeros_at}
 -- The effects that moments tell, what they tell of EVENT, and that the words that they tell are those that the receiver accepts.
-pub use Rattle.machine_effects.proofs.Accepted.{told_effects, told_heard, count_after, step_accepts_by_sends, charge_accepts_by_sends}
+pub use Rattle.machine_effects.proofs.Accepted.{told_effects, told_heard, count_after, moment_accepts, step_accepts_by_sends}

@@ -6,6 +6,7 @@ mod Alike
 mod Along
 mod Steps
 mod Lines
+mod Executed
 mod Values
 mod Words
 mod Views

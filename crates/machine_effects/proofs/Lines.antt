@@ -4,7 +4,7 @@ use Rattle.std.specs.Prelude.{IfSome}
 use Rattle.fram_board.specs.declared.events.Heard.TheVariants as heard
 use Rattle.fram_board.specs.Events.{EventLine, port_behind, arising, arising_due, line_behind_step, line_behind_power_up}
 use Rattle.fram_board.specs.Board.{BoardValue, PowerState, powered, at_boundary}
-use Rattle.machine_effects.specs.View.{IsLineOfWords}
+use Rattle.machine_effects.specs.View.{IsWhole, IsLineOfWords, IsOfWords}
 use Rattle.machine_effects.specs.Laws.{BoundaryKeepsWords}
 
 -- the words of events
@@ -42,13 +42,25 @@ line_stays q h = due_words q.coming _ h.coming (record { port = h.port; coming =
 pub line_powered : (q : EventLine) → IsLineOfWords q → IsLineOfWords (line_behind_power_up q)
 line_powered q h = due_words q.coming _ h.coming (record { port = tt; coming = h.coming })
 
--- the boundary behind a step leaves a whole board, and words
+-- the boundary behind a step leaves a whole board
+pub boundary_whole : (b : BoardValue) → IsWhole b → IsWhole (at_boundary b)
+boundary_whole b h =
+    let g = h.board in
+    record { board = record { fram = g.fram; ram = g.ram; taken = g.taken; few = g.few }; registers = h.registers }
+
+-- and words
+pub boundary_words : (b : BoardValue) → IsOfWords b → IsOfWords (at_boundary b)
+boundary_words b w = record {
+  registers = w.registers;
+  fram = w.fram;
+  ram = w.ram;
+  readings = w.readings;
+  outnum = w.outnum;
+  line = line_stays b.line w.line;
+}
+
 pub boundary_keeps_words : BoundaryKeepsWords
-boundary_keeps_words b h w =
-    let g = h.board in (
-      record { board = record { fram = g.fram; ram = g.ram; taken = g.taken; few = g.few }; registers = h.registers },
-      record { registers = w.registers; fram = w.fram; ram = w.ram; readings = w.readings; outnum = w.outnum; line = line_stays b.line w.line },
-    )
+boundary_keeps_words b h w = (boundary_whole b h, boundary_words b w)
 
 -- events that arise are no reads
 due_heard : (es : List (ℕ × ℕ)) (q : EventLine) → (arising_due es q).heard ≡ q.heard
@@ -56,9 +68,9 @@ due_heard [] q = refl
 due_heard (e ∷ es) q = either_line (λ p. p.heard ≡ q.heard) (nat_le e.0 q.made) (arising_due es (arising e.1 es q)) q (due_heard es (arising e.1 es q)) refl
 
 -- behind the boundary of a step nothing was read of EVENT
-pub boundary_hears_nothing : (b : BoardValue) → (at_boundary b).line.heard ≡ heard.Nothing
-boundary_hears_nothing b = due_heard b.line.coming _
+pub boundary_heard : (b : BoardValue) → (at_boundary b).line.heard ≡ heard.Nothing
+boundary_heard b = due_heard b.line.coming _
 
 -- nor behind a power-up
-pub power_up_hears_nothing : (b : BoardValue) (p : PowerState) → (powered b p).line.heard ≡ heard.Nothing
-power_up_hears_nothing b p = due_heard b.line.coming _
+pub powered_heard : (b : BoardValue) (p : PowerState) → (powered b p).line.heard ≡ heard.Nothing
+powered_heard b p = due_heard b.line.coming _

@@ -1,5 +1,6 @@
 -- Each step of a board is a step of the machine that it is, and each step of that is one of the board, unless EVENT is read.
-use Rattle.std.proofs.Common.{◌≡◌, ◌==◌, if◌then◌else◌, cond, ◌≤◌, ◌<◌, ◌-◌, ◌%◌, arith, ℕ, zero, suc, refl, sym, ◌∙◌, ap, ap₂, subst, ◌⊎◌, inl, inr, Bool, true}
+use Rattle.std.proofs.Common.{◌≡◌, ◌==◌, if◌then◌else◌, cond, ◌≤◌, ◌<◌, ◌-◌, ◌%◌, arith, ℕ, zero, suc, refl, sym, ◌∙◌, ap, ap₂, subst, Bool, true}
+use Rattle.std.proofs.Common.{◌⊎◌, inl, inr}
 use Rattle.std.proofs.Common.{false, List, [], ◌∷◌, ◌++◌, length, drop, take, slice_index, slice_range, append-nil, Option, Some, None, Err}
 use mathlib.Core.Path.{fun_ext}
 use Rattle.std.specs.Option.{option_map}
@@ -39,7 +40,7 @@ use Rattle.machine_effects.specs.Going.{Goes, Stops}
 use Rattle.machine_effects.specs.Machine.{MachineBus, MachineOutcome, machine_bus, machine_opened, machine_closed}
 use Rattle.machine_effects.specs.Machine.{machine_outcome, machine_executed, IsMachineStep, NoInstruction, Executes}
 use Rattle.machine_effects.specs.Machine.{word_address, fram_of}
-use Rattle.machine_effects.specs.View.{machine_of, IsWhole, IsNextPrice, machine_outcome_of, IsEventFault, IsAtEvent}
+use Rattle.machine_effects.specs.View.{machine_of, IsWhole, IsNextPrice, machine_outcome_of, IsEventFault, IsAtEvent, IsMachines}
 use Rattle.machine_effects.specs.Laws.{BoardStepsAsMachine, MachineStepsAsBoard, MachineStepsInOneWay, StepsAsMachine, StepsToEvent}
 use Rattle.machine_effects.proofs.Alike.{AtEvent, SameBus, buses_alike, fetches_same, fram_at}
 use Rattle.machine_effects.proofs.Along.{IsClosed, SourceHas, InstructionHas, Gives, effect_gives}
@@ -70,7 +71,15 @@ module _ {S T : Type 0} (b : BusModel S) (c : BusModel T) (s : S) (t : T) (same 
 pub begins : (b : BoardValue) → IsWhole b → SameBus b.readings b.line (opened b) (machine_opened (machine_of b))
 begins b h =
     let g = h.board in
-    record { whole = record { fram = g.fram; ram = g.ram; taken = g.taken; few = g.few }; fram = refl; ram = refl; left = refl; outnum = refl; all = refl; line = refl }
+    record {
+      whole = record { fram = g.fram; ram = g.ram; taken = g.taken; few = g.few };
+      fram = refl;
+      ram = refl;
+      left = refl;
+      outnum = refl;
+      all = refl;
+      line = refl;
+    }
 
 fetches : (b : BoardValue) → IsWhole b → (a : ℕ) → board_bus.fetches (opened b) a ≡ machine_bus.fetches (machine_opened (machine_of b)) a
 fetches b h a = fetches_same b.readings b.line (opened b) (machine_opened (machine_of b)) a (begins b h)
@@ -240,6 +249,10 @@ module _ (b : BoardValue) (i : Instr) where
   abbrev SameOutcome : BoardOutcome → MachineOutcome → Type 0
   SameOutcome x o = IsAtEvent o ⊎ ((o ≡ machine_outcome_of b x (cycles_of i)) × (x.board.line ≡ b.line))
 
+  as_machines : SameOutcome (executed b i) (machine_executed (machine_of b) i) → IsAtEvent (machine_executed (machine_of b) i) ⊎ IsMachines b i
+  as_machines (inl at) = inl at
+  as_machines (inr h) = inr (record { step = h.0; line = h.1 })
+
   refused_same : (e f : Refused) (a c : ℕ) (s : BusState) (t : MachineBus) → (e ≡ f) × (a ≡ c) × SameBus b.readings b.line s t → s.offered ≡ None
       → Took (machine_opened (machine_of b)) t → b.taken ≤ s.taken
       → machine_outcome (registers_of b.cpu 0) (cycles_of i) (Faulted f c t) ≡ machine_outcome_of b (outcome (Faulted e a s)) (cycles_of i)
@@ -277,19 +290,18 @@ module _ (b : BoardValue) (i : Instr) where
   same_outcome (Faulted e a s) (Completed y t) same off log file le = elim same [ ]
 
 -- an instruction at PC does the same on both, and leaves the port EVENT, or the machine ends there
-pub executed_same : (b : BoardValue) (i : Instr) → IsWhole b → IsAtEvent (machine_executed (machine_of b) i)
-    ⊎ ((machine_executed (machine_of b) i ≡ machine_outcome_of b (executed b i) (cycles_of i)) × ((executed b i).board.line ≡ b.line))
+pub executed_same : (b : BoardValue) (i : Instr) → IsWhole b → IsAtEvent (machine_executed (machine_of b) i) ⊎ IsMachines b i
 executed_same b i h =
     let r = registers_of b.cpu in
     let m = effect board_bus i r (opened b) in
     let n = effect machine_bus i r (machine_opened (machine_of b)) in
-    same_outcome b i m n
+    as_machines b i (same_outcome b i m n
     (effect_alike BusState MachineBus board_bus machine_bus AtEvent (SameBus b.readings b.line) (buses_alike b.readings b.line) i r (opened b)
     (machine_opened (machine_of b)) (begins b h))
     (ends_offered (opened b) m refl (effect_ends board_bus i r (opened b)))
     (effect_logged i r (machine_opened (machine_of b)))
     (effect_gives board_bus (λ v. Unit {0}) IsFile (λ s. Unit {0}) file_closed i r (opened b) (instruction_free i) (whole_file b h) tt)
-    (execution_takes i r (opened b)).from
+    (execution_takes i r (opened b)).from)
 
 -- a step that is stopped takes nothing
 none_taken : (xs : List ℕ) (n : ℕ) → slice_range xs n n ≡ []
@@ -313,15 +325,14 @@ current_to_machine b i h g = Executes i (current_alike board_bus machine_bus (op
 abbrev AsMachine : BoardValue → BoardOutcome → Type 0
 AsMachine b x = StepsAsMachine b x ⊎ StepsToEvent b
 
-executed_as_machine : (b : BoardValue) (i : Instr) → IsWhole b → IsNextInstruction b i → IsAtEvent (machine_executed (machine_of b) i)
-    ⊎ ((machine_executed (machine_of b) i ≡ machine_outcome_of b (executed b i) (cycles_of i)) × ((executed b i).board.line ≡ b.line))
+executed_as_machine : (b : BoardValue) (i : Instr) → IsWhole b → IsNextInstruction b i → IsAtEvent (machine_executed (machine_of b) i) ⊎ IsMachines b i
     → AsMachine b (executed b i)
 executed_as_machine b i h g (inl at) = inr (machine_executed (machine_of b) i, current_to_machine b i h g, at)
 executed_as_machine b i h g (inr same) = inl (record {
   price = cycles_of i;
   next = inl (i, g, refl);
-  step = subst (λ x. IsMachineStep (machine_of b) x) same.0 (current_to_machine b i h g);
-  line = same.1;
+  step = subst (λ x. IsMachineStep (machine_of b) x) same.step (current_to_machine b i h g);
+  line = same.line;
 })
 
 step_as_machine : (b : BoardValue) (o : Outcome BusState) → IsWhole b → StepResult board_bus (registers_of b.cpu) (opened b) o → AsMachine b (board_outcome b o)
@@ -336,13 +347,15 @@ step_as_machine b o h (Executed i g) = executed_as_machine b i h g (executed_sam
 pub board_steps_as_machine : BoardStepsAsMachine
 board_steps_as_machine b x h is = subst (λ y. AsMachine b y) (sym is.2) (step_as_machine b is.0 h is.1)
 
-back_to_board : (b : BoardValue) (i : Instr) → IsNextInstruction b i → IsAtEvent (machine_executed (machine_of b) i)
-    ⊎ ((machine_executed (machine_of b) i ≡ machine_outcome_of b (executed b i) (cycles_of i)) × ((executed b i).board.line ≡ b.line))
-    → IsAtEvent (machine_executed (machine_of b) i)
-    ⊎ ((x : BoardOutcome) × (price : ℕ) × IsStep b x × IsNextPrice b price × (machine_executed (machine_of b) i ≡ machine_outcome_of b x price)
-    × (x.board.line ≡ b.line))
+-- what MachineStepsAsBoard says of one outcome
+abbrev AsBoard : BoardValue → MachineOutcome → Type 0
+AsBoard b o = IsAtEvent o
+    ⊎ ((x : BoardOutcome) × (price : ℕ) × IsStep b x × IsNextPrice b price × (o ≡ machine_outcome_of b x price) × (x.board.line ≡ b.line))
+
+back_to_board : (b : BoardValue) (i : Instr) → IsNextInstruction b i → IsAtEvent (machine_executed (machine_of b) i) ⊎ IsMachines b i
+    → AsBoard b (machine_executed (machine_of b) i)
 back_to_board b i g (inl at) = inl at
-back_to_board b i g (inr same) = inr (executed b i, cycles_of i, (_, Executed i g, refl), inl (i, g, refl), same.0, same.1)
+back_to_board b i g (inr same) = inr (executed b i, cycles_of i, (_, Executed i g, refl), inl (i, g, refl), same.step, same.line)
 
 pub machine_steps_as_board : MachineStepsAsBoard
 machine_steps_as_board b o h (NoInstruction e k) =

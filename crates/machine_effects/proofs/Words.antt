@@ -1,5 +1,6 @@
 -- Words stay words, on the machine and on the board.
-use Rattle.std.proofs.Common.{◌≡◌, ◌==◌, ◌&&◌, ◌≤◌, ◌<◌, ◌+◌, ◌-◌, ◌*◌, ◌/◌, ◌%◌, arith, ℕ, zero, suc, refl, sym, ◌∙◌, subst, not, eqb-true, length-set, Bool, true, false, if◌then◌else◌, nat_lt, List, [], ◌∷◌}
+use Rattle.std.proofs.Common.{◌≡◌, ◌==◌, ◌&&◌, ◌≤◌, ◌<◌, ◌+◌, ◌-◌, ◌*◌, ◌/◌, ◌%◌, arith, ℕ, zero, suc, refl, sym, ◌∙◌, subst, not, eqb-true, length-set}
+use Rattle.std.proofs.Common.{Bool, true, false, if◌then◌else◌, nat_lt, List, [], ◌∷◌}
 use Rattle.std.proofs.Common.{◌++◌, All, length, drop, slice_index, slice_set, inl, inr, ◌⊎◌, Option, Some, None, Result, Ok, Err}
 use Rattle.std.specs.Prelude.{IfSome}
 use Rattle.std.proofs.lemmas.Bool.{cases_lt}
@@ -22,7 +23,8 @@ use Rattle.fram_board.specs.msp_step.declared.machine.Stop.TheVariants as stop
 use Rattle.fram_board.specs.msp_step.Registers.{Registers, registers_of, with_register, kept, powered_up}
 use Rattle.fram_board.specs.msp_step.Access.{BusModel, Access, Completed, Faulted}
 use Rattle.fram_board.specs.msp_step.Effect.{Written}
-use Rattle.fram_board.specs.msp_step.Step.{FetchedAt, effect, execution, outcome_of, Outcome, StepResult, Stopped, Executed, off_bit, is_interruptible, return_place, status_place, interrupted}
+use Rattle.fram_board.specs.msp_step.Step.{FetchedAt, effect, outcome_of, Outcome, StepResult, Stopped, Executed, off_bit}
+use Rattle.fram_board.specs.msp_step.Step.{is_interruptible, return_place, status_place, interrupted}
 use Rattle.step_laws.specs.Effects.{IsValid}
 use Rattle.step_laws.specs.Effects as laws
 use Rattle.step_laws.proofs.Interface.{stays_valid}
@@ -33,7 +35,7 @@ use Rattle.fram_board.specs.Bus.{next_reading, read_of, after_read, written, por
 use Rattle.fram_board.specs.Events.{EventLine, port_word, port_read}
 use Rattle.fram_board.specs.declared.board.NextStep.{NextStep}
 use Rattle.fram_board.specs.declared.board.NextStep.TheVariants as next_step
-use Rattle.fram_board.specs.Board.{executed, performed, at_boundary, IsStep, IsNextStep}
+use Rattle.fram_board.specs.Board.{executed, performed, at_boundary, IsNextStep}
 use Rattle.fram_board.specs.Board.{BoardValue, opened, closed, board_outcome, register_list, filled_words, vector_of, acceptance_refused, acceptance_made}
 use Rattle.fram_board.specs.Effects.{Effect, Store}
 use Rattle.fram_board.specs.Run.{Measure, price, RunOutcome, ChargeRun}
@@ -50,6 +52,7 @@ use Rattle.machine_effects.specs.Laws.{LeavesWords, MachineWordsStayWords, CodeW
 use Rattle.machine_effects.specs.Laws.{PowerUpKeepsWords, FreshIsWhole, AcceptanceKeepsWords, ChargeKeepsWords}
 use Rattle.machine_effects.proofs.Along.{IsClosed, InstructionHas, Gives, effect_gives}
 use Rattle.machine_effects.proofs.Lines.{line_powered, boundary_keeps_words}
+use Rattle.machine_effects.proofs.Executed.{executed_is_step}
 use Rattle.machine_effects.proofs.Steps.{instruction_free}
 use Rattle.machine_effects.proofs.Values.{AreSmall, narrow_small, sum_small, constant_small, status_small, two_small, rotate_small, shift_small}
 use Rattle.machine_effects.proofs.Values.{exchange_small, extend_small, byte_small, bytes_small, kept_small, with_small}
@@ -305,8 +308,10 @@ if_lists false x y h k = k
 
 word_lists : (b : Bool) (s : BusState) (i j v : ℕ) → IsWord v → ListsOfWords s
     → ListsOfWords (if b then record s { ram = slice_set s.ram i v } else record s { fram = slice_set s.fram j v })
-word_lists true s i j v h q = record { fram = q.fram; ram = All-set (λ w. w < 0x10000) s.ram i v h q.ram; readings = q.readings; outnum = q.outnum; line = q.line }
-word_lists false s i j v h q = record { fram = All-set (λ w. w < 0x10000) s.fram j v h q.fram; ram = q.ram; readings = q.readings; outnum = q.outnum; line = q.line }
+word_lists true s i j v h q =
+    record { fram = q.fram; ram = All-set (λ w. w < 0x10000) s.ram i v h q.ram; readings = q.readings; outnum = q.outnum; line = q.line }
+word_lists false s i j v h q =
+    record { fram = All-set (λ w. w < 0x10000) s.fram j v h q.fram; ram = q.ram; readings = q.readings; outnum = q.outnum; line = q.line }
 
 port_lists : (s : BusState) (a v : ℕ) → IsWord v → ListsOfWords s → ListsIf (port_written s a v)
 port_lists s a v h q =
@@ -629,7 +634,7 @@ pub performed_keeps_words : (b : BoardValue) (n : NextStep) → IsWhole b → Is
     → IsWhole (performed b n).board × IsOfWords (performed b n).board
 performed_keeps_words b next_step.Acceptance h w next = acceptance_keeps_words b h w
 performed_keeps_words b (next_step.Instruction i) h w next =
-    let is : IsStep b (executed b i) = (execution board_bus i (registers_of b.cpu) (opened b), Executed i next.1, refl) in
+    let is = executed_is_step b i next.1 in
     (step_leaves_it_whole b (executed b i) h is, words_stay_words b (executed b i) h w is)
 
 charge_words : (m : Measure) (amount : ℕ) (b : BoardValue) (r : RunOutcome) → IsWhole b → IsOfWords b → ChargeRun m amount b r
