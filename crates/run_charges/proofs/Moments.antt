@@ -26,14 +26,14 @@ use Rattle.machine_effects.specs.Going.{Goes}
 use Rattle.machine_effects.specs.Machine.{MachineBus, MachineBoard, MachineOutcome, word_address, IsMachineStep, machine_bus}
 use Rattle.machine_effects.specs.Machine.{machine_opened, machine_outcome}
 use Rattle.machine_effects.specs.Machine.{machine_executed}
-use Rattle.machine_effects.specs.View.{machine_of, IsWhole, IsOfWords, outcome_of_answer}
+use Rattle.machine_effects.specs.View.{machine_of, IsWhole, IsOfWords, outcome_of_answer, IsMachines}
 use Rattle.machine_effects.specs.Runs.{last_board}
 use Rattle.machine_effects.proofs.Interface.{takes, written_effects, LoggedBy, effect_logged, machine_changes_by_effects, current_to_machine}
-use Rattle.machine_effects.proofs.Interface.{step_leaves_it_whole, words_stay_words, boundary_keeps_words, told_effects, step_accepts_by_sends}
+use Rattle.machine_effects.proofs.Interface.{step_leaves_it_whole, words_stay_words, boundary_whole, boundary_words, told_effects, step_accepts_by_sends}
 use Rattle.crash_rules.specs.Model.{Marks}
 use Rattle.crash_rules.specs.History.{History}
 use Rattle.crash_rules.proofs.Interface.{observed_taken, events_of_instructions}
-use Rattle.run_charges.specs.View.{outside_of, outside_effects, IsMachines, AreMoments}
+use Rattle.run_charges.specs.View.{outside_of, outside_effects, AreMoments}
 use Rattle.run_charges.specs.Charges.{ArePowerStates, AreInstructionMoments}
 
 -- the board behind the moments of a charge that is spent
@@ -137,10 +137,6 @@ heard_count (Outside (Offered n w) ∷ es) r ws e =
 at_most : (t n k : ℕ) → t ≤ n → n ≡ k → t ≤ k
 at_most t n k h e = omega arith
 
-boundary_whole : (b : BoardValue) → IsWhole b → IsWhole (at_boundary b)
-boundary_whole b h =
-    let g = h.board in record { board = record { fram = g.fram; ram = g.ram; taken = g.taken; few = g.few }; registers = h.registers }
-
 -- what an instruction does that is made, as the machine does
 module _ (b : BoardValue) (whole : IsWhole b) (i : Instr) (done : Stepped) (current : IsNextInstruction b i) (answer : (executed b i).answer ≡ Ok done)
     (own : IsMachines b i) where
@@ -177,9 +173,7 @@ module _ (b : BoardValue) (whole : IsWhole b) (i : Instr) (done : Stepped) (curr
 
   -- the board holds words behind it
   pub words_after : IsOfWords b → IsOfWords after
-  words_after w =
-      (boundary_keeps_words (executed b i).board (step_leaves_it_whole b (executed b i) whole is_step)
-      (words_stay_words b (executed b i) whole w is_step)).1
+  words_after w = boundary_words (executed b i).board (words_stay_words b (executed b i) whole w is_step)
 
   -- FRAM changes as what is told says
   pub fram_changed : (outside_of after).fram ≡ fram_after told (outside_of b).fram
