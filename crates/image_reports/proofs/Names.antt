@@ -43,7 +43,7 @@ pub use Rattle.source_values.specs.Runs.{CheckedProgram, Completion, EndsWell, S
 pub use Rattle.source_values.specs.Runs.{first_state, fresh_attempt, state_after, transition_of}
 pub use Rattle.source_meaning.proofs.Interface.{accepted_texts_run}
 pub use Rattle.source_meaning.specs.Acceptance.{IsAcceptedText}
-pub use Rattle.source_runs.proofs.Interface.{read_off, resumed_runs_are_told, runs_are_told, traces_are_few}
+pub use Rattle.source_runs.proofs.Interface.{read_off, resumed_runs_are_told, runs_are_told, trace_inputs, traces_are_few}
 pub use Rattle.source_runs.specs.Tells.{EachChargePays, IsToldBySource, at_first}
 pub use Rattle.source_maps.specs.Maps.{map_of}
 -- compiled sources

@@ -68,7 +68,7 @@ pub record Onward : Type 0 where
   pub belongs : BelongsTo start.program start.compiled.layout start.image (record { fram = fram_of start.fram; accepted = start.before })
   pub charges : List BoardCharge
   pub outcome : RunOutcome
-  pub run : IsRunOfWords charges (started start.fram start.number start.readings) outcome
+  pub run : IsRunOfWords charges (started start.fram start.number start.readings start.events) outcome
 
 module _ (onward : Onward) where
   open onward use {start as beginning, accepted as ok, belongs, charges as cs, outcome as r, run}
@@ -98,6 +98,13 @@ module _ (onward : Onward) where
   abbrev first : History
   first = first_history (runtime_marks l) x
 
+  -- no interrupt is accepted, and nothing is read of EVENT
+  plain : IsPlainRun cs b r
+  plain = runs_plainly model program readings origin x b bearing cs r run
+
+  pub unheard : NeverReads r
+  unheard = never_reads cs b r plain
+
   -- a charge stops for want of a reading alone, wherever charges lead
   stops_at_readings : StopsAtReadings program (runtime_marks l) (outside_of b) first
   stops_at_readings es t k charged q up fram left n price e halted =
@@ -120,7 +127,7 @@ module _ (onward : Onward) where
   IsReached = AtFront model program readings origin x b bearing
 
   reached : (ms rest : List Moment) → r.moments ≡ ms ++ rest → IsReached (last_board b ms) (known_from l x ms)
-  reached ms rest e = at_front model program readings origin x b bearing ms (run_front cs b r ms rest run e)
+  reached ms rest e = at_front model program readings origin x b bearing ms (run_front cs b r ms rest plain e)
 
   -- the board is one that a power-up left
   begins_on : GoesOn program (outside_of b)
@@ -141,7 +148,7 @@ module _ (onward : Onward) where
   began : (ms rest : List Moment) → r.moments ≡ ms ++ rest → KeepsVersions p l (known_from l x ms).start.fram
   began ms rest e =
       starts_hold (λ w. KeepsVersions p l w.fram) (runtime_marks l) b (first_history (runtime_marks l) x) ms run.whole run.words
-      (front_moments cs b r ms rest run.starts run.run e) (keeps_versions [] r.moments refl)
+      (front_moments b r ms rest plain.moments e) (keeps_versions [] r.moments refl)
       (λ ns more d. keeps_versions ns (more ++ rest) (e ∙ ap (λ q. q ++ rest) d ∙ append_assoc ns more rest))
 
   module _ (ms rest : List Moment) (e : r.moments ≡ ms ++ rest) where
@@ -208,10 +215,11 @@ module _ (onward : Onward) where
         let first : Counts b (first_history (runtime_marks l) x) before =
         record { whole = run.whole; words = run.words; accepted = refl; count = starts_with.accepted; taken = refl } in
         let counts = moments_count (runtime_marks l) b (first_history (runtime_marks l) x) before ms first
-        (front_moments cs b r ms rest run.starts run.run e) in
+        (front_moments b r ms rest plain.moments e) in
         let Code : (ℕ → ℕ) → Type 0 = λ f. KeepsCode p l image f in
         let Capacities : (ℕ → ℕ) → Type 0 = λ f. KeepsCapacities l f in
         record {
+          whole = at.ready.whole;
           fram = sym same;
           words = counts.accepted;
           number = subst (λ ws. TakesNextBehind ws t.receiver) (sym counts.accepted) counts.count;
@@ -240,6 +248,7 @@ module _ (onward : Onward) where
           };
           kept = kept;
           fetches = fetches;
+          events = moments_wait b ms refl (front_moments b r ms rest plain.moments e);
         }
 
   -- VER is raised by the fifth instruction of a charge
@@ -269,7 +278,7 @@ module _ (onward : Onward) where
   raises_from : (t : BoardValue) → BeginsCharge t → (steps first more : List Moment) → steps ≡ first ++ more → length first ≡ 5
       → AreInstructionMoments first → (boot : Moment) → boot.action ≡ PowerUp → IsMomentFrom t boot → AreMoments boot.after first
       → RaisesFrom steps boot
-  raises_from t from steps first more cut five are boot up (Instructs i done current answer is) moments =
+  raises_from t from steps first more cut five are boot up (Instructs i done current answer same is) moments =
       absurd (let other = sym up ∙ ap (λ y. y.action) is in cc (other))
   raises_from t from steps first more cut five are boot up (PowersUp power powers is) moments =
       let P : Moment → Type 0 = λ y. AreMoments y.after first → RaisesFrom steps y in
@@ -290,7 +299,7 @@ module _ (onward : Onward) where
       let behind : r.moments ≡ ms ++ (boot ∷ (first ++ (more ++ rest))) =
       e ∙ ap (λ q. ms ++ (boot ∷ (q ++ rest))) cut ∙ ap (λ q. ms ++ (boot ∷ q)) (append_assoc first more rest) in
       let front : r.moments ≡ (ms ++ (boot ∷ first)) ++ (more ++ rest) = behind ∙ sym (append_assoc ms (boot ∷ first) (more ++ rest)) in
-      let moments = are_behind b ms (boot ∷ first) (front_moments cs b r (ms ++ (boot ∷ first)) (more ++ rest) run.starts run.run front) in
+      let moments = are_behind b ms (boot ∷ first) (front_moments b r (ms ++ (boot ∷ first)) (more ++ rest) plain.moments front) in
       let five : length first ≡ 5 = length-take-le 5 steps (omega (arith, many)) in
       let h = known_from l x ms in
       let t = last_board b ms in
@@ -309,4 +318,4 @@ module _ (onward : Onward) where
       let P : ℕ → Type 0 = λ n. Progresses (runtime_marks l) n no_delay cs b (first_history (runtime_marks l) x) r in
       let paid : Progresses (runtime_marks l) m.bound no_delay cs b (first_history (runtime_marks l) x) r =
       subst P (bound_is_the_sources p l ∙ sym ok.allowed.cycles) (makes_progress model program readings origin x cs b r run bearing) in
-      (read_off m x cs b r (made text p allow image ok c).is_map starts_with run).pays x paid starts_with
+      (read_off m x cs b r (made text p allow image ok c).is_map starts_with plain).pays x paid starts_with

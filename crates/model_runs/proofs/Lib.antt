@@ -7,6 +7,7 @@ mod Words
 mod Places
 mod Events
 mod Starts
+mod Unheard
 mod Histories
 mod Reports
 pub mod Interface
