@@ -108,7 +108,7 @@ module _ (text : List ℕ) (p : CheckedProgram) (allow : Allow) (image : ImageVa
       (fresh image.words readings events)
   begins_with_source = record {
     bears = bears at_first;
-    starts = record { fram = refl; accepted = refl; taken = refl };
+    starts = record { fram = refl; accepted = refl; taken = refl; heard = refl };
     undecided = undecided;
     words = new.has_words;
   }

@@ -15,9 +15,9 @@ pub use Rattle.image_text.specs.ImageValue.{ImageValue, place_of}
 pub use Rattle.fram_board.specs.Board.{BoardValue, PowerState, filled, fresh, opened, powered, started}
 pub use Rattle.fram_board.specs.Effects.{Effect, Store}
 pub use Rattle.fram_board.specs.Run.{BoardCharge, Moment, PowerUp, Run, RunOutcome}
-pub use Rattle.machine_effects.proofs.Interface.{fram_after-append, fresh_is_whole, is_fram_address, power_up_keeps_words, put_other, put_same}
+pub use Rattle.machine_effects.proofs.Interface.{fram_after-append, fresh_is_whole, is_fram_address, put_other, put_same}
 pub use Rattle.machine_effects.specs.Going.{At, Goes, Halted, StepOutcome, Stops, continued, going}
-pub use Rattle.machine_effects.specs.Machine.{Code, IsFram, MachineBoard, exec, fram_of, standing}
+pub use Rattle.machine_effects.specs.Machine.{Code, IsFram, MachineBoard, exec, fram_of, standing, undisturbed}
 pub use Rattle.machine_effects.specs.Runs.{last_board}
 pub use Rattle.machine_effects.specs.World.{EachStore, World, fram_after, put, world_after}
 pub use Rattle.code_forms.specs.Placed.{AreInstructions, Holds, placed, words_of}

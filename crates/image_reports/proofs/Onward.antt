@@ -3,7 +3,7 @@ use Rattle.image_reports.proofs.Names.{◌≡◌, ◌≢◌, ℕ, zero, ◌+◌,
 use Rattle.image_reports.proofs.Names.{append_assoc, length-take-le, encoding, BoardValue, PowerState, powered, started, filled, BoardCharge, PowerUp, Moment}
 use Rattle.image_reports.proofs.Names.{RunOutcome, World, fram_after, going, continued, fram_of, last_board, words_of, CheckedProgram, State, IsAcceptedText}
 use Rattle.image_reports.proofs.Names.{map_of, read_off, Gate, Version, MemoryMap, word_place, IsElsewhere, Model, ModelLaws, History, first_history, Program}
-use Rattle.image_reports.proofs.Names.{Origin, Phase, UndecidedPhase, DecidedPhase, CommittingPhase, Begins, power_up_keeps_words, world_fram, never_lost}
+use Rattle.image_reports.proofs.Names.{Origin, Phase, UndecidedPhase, DecidedPhase, CommittingPhase, Begins, world_fram, never_lost}
 use Rattle.image_reports.proofs.Names.{sent_once, pending_sends, stops_short, stores_only, outside_of, IsMomentFrom, PowersUp, Instructs, AreMoments}
 use Rattle.image_reports.proofs.Names.{AreInstructionMoments, IsRunOfWords, BearsModel, no_delay, Progresses, stood, AtFront, at_front, powers_up, starts_hold}
 use Rattle.image_reports.proofs.Names.{fronts_are_lawful, makes_progress, HoldsWords, IsSound, SoundAtRest, SoundPending, each_weaker, program_places}
@@ -18,9 +18,12 @@ use Rattle.fram_board.specs.Steps.{IsPowerState}
 use Rattle.fram_board.proofs.Interface.{fill_is_a_power_state}
 use Rattle.boot_runtime.specs.Entries.{task_entries}
 use Rattle.boot_runtime.specs.Listing.{privates_in}
-use Rattle.run_charges.proofs.Interface.{follows_keeps, are_behind, front_moments, run_front, instructions_reach, PlacedProgram, is_powered, leads, reached_on}
+use Rattle.run_charges.specs.Laws.{IsPlainRun}
+use Rattle.run_charges.proofs.Interface.{follows_keeps, are_behind, front_moments, run_front, PlacedProgram, is_powered, leads, reached_on, none_due}
 use Rattle.run_charges.proofs.Interface.{Counts, moments_count}
+use Rattle.board_run.specs.Events.{NeverReads}
 use Rattle.model_runs.specs.EventLaws.{StartsWith}
+use Rattle.model_runs.proofs.Interface.{moments_wait, never_reads, runs_plainly}
 use Rattle.memory_map.specs.declared.runtime.Logging.{Logging}
 use Rattle.memory_map.specs.declared.runtime.Role.{Role}
 use Rattle.compiled_model.specs.Parts.{start_of as start_due}
@@ -93,7 +96,7 @@ module _ (onward : Onward) where
   bearing = bears beginning
 
   pub starts_with : StartsWith b x
-  starts_with = record { fram = refl; accepted = omega (arith, counted); taken = refl }
+  starts_with = record { fram = refl; accepted = omega (arith, counted); taken = refl; heard = refl }
 
   abbrev first : History
   first = first_history (runtime_marks l) x
@@ -103,7 +106,7 @@ module _ (onward : Onward) where
   plain = runs_plainly model program readings origin x b bearing cs r run
 
   pub unheard : NeverReads r
-  unheard = never_reads cs b r plain
+  unheard = never_reads model program readings origin x b bearing cs r run refl
 
   -- a charge stops for want of a reading alone, wherever charges lead
   stops_at_readings : StopsAtReadings program (runtime_marks l) (outside_of b) first
@@ -180,11 +183,14 @@ module _ (onward : Onward) where
         let to = here.to in
         record {
           instruction = i;
-          next = record {
-            on = stands.on;
-            is = here.is;
-            fetched = words_fetched t pc (encoding i) here.even (omega (arith, low, from)) (omega (arith, high, to)) here.holds;
-          };
+          next = (
+            none_due on b first (reached [] r.moments refl).ready refl ms (run_front cs b r ms rest plain e),
+            record {
+              on = stands.on;
+              is = here.is;
+              fetched = words_fetched t pc (encoding i) here.even (omega (arith, low, from)) (omega (arith, high, to)) here.holds;
+            },
+          );
           from = from;
           to = to;
           same = there.holds;
@@ -260,9 +266,8 @@ module _ (onward : Onward) where
         → (outside_of start).fram (word_place l Gate) ≡ 0 → (outside_of start).fram (word_place l Version) < 0xFFFF
         → (outside_of (last_board start first)).fram (word_place l Version) ≡ (outside_of start).fram (word_place l Version) + 1
     raised_by_five first are is five gate low =
-        let reach = instructions_reach start first (power_up_keeps_words t power at.ready.whole at.ready.words powers).0 are is in
         power_ups_raise_version p l ready.code (outside_of start) (is_powered on t h at.ready power powers) gate low (outside_of (last_board start first))
-        (ap (λ n. (going program.step n (outside_of start)).status) (sym five) ∙ leads on t h at.ready power powers first is reach)
+        (ap (λ n. (going program.step n (outside_of start)).status) (sym five) ∙ leads on t h at.ready power powers first is are)
 
   -- what a charge that begins so owes
   abbrev RaisesFrom : List Moment → Moment → Type 0

@@ -8,6 +8,7 @@ mod Places
 mod Events
 mod Starts
 mod Unheard
+mod Waiting
 mod Histories
 mod Reports
 pub mod Interface
