@@ -27,4 +27,4 @@ pub record IsReportFrom (board : BoardValue) (known : History) (trace : TraceVal
 
 -- the same of the image's fresh board, on the trace's readings
 abbrev pub IsRunReport : ImageValue → TraceValue → Ending → List ℕ → Type 0
-IsRunReport image trace = IsReportFrom (fresh image.words trace.readings) (start_of image) trace
+IsRunReport image trace = IsReportFrom (fresh image.words trace.readings trace.events) (start_of image) trace
