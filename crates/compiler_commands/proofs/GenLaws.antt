@@ -114,7 +114,7 @@ generates_run : (number : ℕ) (file output : List ℕ) (p : CheckedProgram) (al
     (fresh image.words (generated_trace number allow.cycles).readings (generated_trace number allow.cycles).events) o)
     → output ≡ generated_lines number allow.cycles (start_of image) r.0 → Generates number file output
 generates_run number file output p allow image accepted built told r lines =
-    let text = report_of (start_of image) r.0 in
+    let text = report_of (start_of image) (generated_trace number allow.cycles).events r.0 in
     let ends = told.ends_well (ending_of r.0.ending) text (record { outcome = r.0; run = r.1; ends = refl; lines = refl }) in
     record {
       program = p;
