@@ -1,8 +1,9 @@
 -- How many dones a run has at most, and how many readings it takes.
-use Rattle.std.proofs.Common.{◌≡◌, ℕ, ◌+◌, ◌-◌, ◌≤◌, refl, sym, ap, ◌∙◌, subst, arith, true, false, cond, List, [], ◌∷◌, length, length-append, append-nil, Ok}
+use Rattle.std.proofs.Common.{◌≡◌, ℕ, ◌+◌, ◌-◌, ◌≤◌, refl, sym, ap, ◌∙◌, subst, arith, true, false, cond, List, [], ◌∷◌, length, length-append, Ok}
 use Rattle.msp_isa.specs.declared.instructions.Instr.{Instr}
+use Rattle.fram_board.specs.declared.board.NextStep.TheVariants as next_step
 use Rattle.fram_board.specs.declared.board.Stepped.{Stepped}
-use Rattle.fram_board.specs.Board.{BoardValue, PowerState, powered, executed, IsNextInstruction}
+use Rattle.fram_board.specs.Board.{BoardValue, PowerState, powered, executed, performed, at_boundary, IsNextInstruction}
 use Rattle.fram_board.specs.Steps.{IsPowerState}
 use Rattle.fram_board.specs.Effects.{Effect}
 use Rattle.fram_board.specs.Run.{Measure, price, Moment, moment_of, Charges, Stopped, RunOutcome, run_outcome, BoardCharge, ChargeRun, Spent}
@@ -18,10 +19,10 @@ use Rattle.crash_rules.specs.History.{History, is_done, is_decide, behind_boot, 
 use Rattle.crash_rules.proofs.Interface.{observed_taken, with_effects}
 use Rattle.run_charges.specs.View.{IsMomentFrom, PowersUp, Instructs, AreMoments}
 use Rattle.run_charges.specs.Charges.{behind_moment, observed}
-use Rattle.run_charges.proofs.Interface.{follows_keeps, front_moments, told, whole_after, words_after, one_write}
+use Rattle.run_charges.proofs.Interface.{follows_keeps, told, whole_after, words_after, one_write}
 use Rattle.run_charges.proofs.Interface.{readings_counted, readings_stay}
 use Rattle.model_runs.proofs.Events.{seen}
-use Rattle.run_charges.specs.Laws.{IsRunOfWords}
+use Rattle.run_charges.specs.Laws.{IsPlainRun}
 use Rattle.model_runs.specs.Runs.{all_amounts}
 use Rattle.model_runs.specs.Laws.{DonesAreFew, TakesWhatIsThere}
 
@@ -32,7 +33,7 @@ charge_short m left b r (NoInstruction _ _ e pos h) = omega arith
 charge_short m left b r (TooDear _ _ i pos c dear) = omega arith
 charge_short m left b r (Refused _ _ i e pos c paid a) = omega arith
 charge_short m left b r (Executed _ _ i done rest pos c paid a h) =
-    let more = charge_short m (left - price m i) (executed b i).board rest h in
+    let more = charge_short m (left - price m i) (at_boundary (performed b i).board) rest h in
     let low = price_low m i in
     omega (arith, more, low, paid)
 
@@ -80,7 +81,7 @@ power_counts marks b h p w q ok =
 
 instruction_counts : (marks : Marks) (b : BoardValue) (h : History) (i : Instr) (done : Stepped) → IsWhole b → IsOfWords b → IsNextInstruction b i
     → (executed b i).answer ≡ Ok done
-    → Counts b h (executed b i).board (behind_moment marks (moment_of b i done) h) 1
+    → Counts b h (at_boundary (executed b i).board) (behind_moment marks (moment_of b (next_step.Instruction i) done) h) 1
 instruction_counts marks b h i done w q c a =
     let es : List Effect = told b w i done c a in
     let all = seen marks es h (one_write b w i done c a) in
@@ -125,16 +126,15 @@ moments_count marks b h (m ∷ ms) w q all =
       readings = more.readings ∙ one.readings ∙ keeps.readings;
     }
 
-run_counts : (cs : List BoardCharge) (b : BoardValue) (r : RunOutcome) → IsRunOfWords cs b r → (marks : Marks) (h : History)
+run_counts : (cs : List BoardCharge) (b : BoardValue) (r : RunOutcome) → IsPlainRun cs b r → (marks : Marks) (h : History)
     → Counts b h (last_board b r.moments) (observed marks r.moments h) (length r.moments)
-run_counts cs b r run marks h = moments_count marks b h r.moments run.whole run.words
-    (front_moments cs b r r.moments [] run.starts run.run (sym (append-nil r.moments)))
+run_counts cs b r run marks h = moments_count marks b h r.moments run.of_words.whole run.of_words.words run.moments
 
 -- a run has no more dones than its charges have cycles or instructions
 pub dones_are_few : DonesAreFew
 dones_are_few cs b r run marks h =
     let few = (run_counts cs b r run marks h).dones in
-    let short = run_short cs b r run.run in
+    let short = run_short cs b r run.of_words.run in
     omega (arith, few, short)
 
 within : (s t n k : ℕ) → s ≤ t → t ≤ n → n ≡ k → s ≤ k

@@ -4,8 +4,9 @@ use Rattle.std.proofs.Common.{append-nil, Some, Ok}
 use Rattle.msp_isa.specs.declared.instructions.Instr.{Instr}
 use Rattle.image_map.specs.MapValue.{MapValue}
 use Rattle.image_map.specs.Kept.{IsMap}
+use Rattle.fram_board.specs.declared.board.NextStep.TheVariants as next_step
 use Rattle.fram_board.specs.declared.board.Stepped.{Stepped}
-use Rattle.fram_board.specs.Board.{BoardValue, PowerState, powered, executed, IsNextInstruction}
+use Rattle.fram_board.specs.Board.{BoardValue, PowerState, powered, executed, at_boundary, IsNextInstruction}
 use Rattle.fram_board.specs.Saved.{TakesNextBehind}
 use Rattle.fram_board.specs.Steps.{IsPowerState}
 use Rattle.fram_board.specs.Effects.{Effect}
@@ -117,10 +118,10 @@ module _ (m : MapValue) (x : World) (ok : IsMap m) where
   module _ (b : BoardValue) (h : board.History) (k : History) (t : Together m x b h k) (i : Instr) (done : Stepped) (current : IsNextInstruction b i)
       (answer : (executed b i).answer ≡ Ok done) where
     abbrev after : BoardValue
-    after = (executed b i).board
+    after = at_boundary (executed b i).board
 
     abbrev es : List Effect
-    es = outside_effects (moment_of b i done)
+    es = outside_effects (moment_of b (next_step.Instruction i) done)
 
     abbrev ws : List ℕ
     ws = word_list done.accepted
@@ -169,13 +170,13 @@ module _ (m : MapValue) (x : World) (ok : IsMap m) where
     gate_before : spoken.gate ≡ before
     gate_before = words_keep_gate h done.accepted ∙ t.same.gate
 
-    noted_so : noted h (moment_of b i done) ≡ gated_from m spoken after before now
+    noted_so : noted h (moment_of b (next_step.Instruction i) done) ≡ gated_from m spoken after before now
     unfolding noted
     noted_so =
         ap (λ o. behind_instruction o h ws after) t.same.alike.mapped
         ∙ ap (λ n. gated_from m spoken after n now) gate_before
 
-    lines_so : moment_lines h (moment_of b i done) ≡ gate_lines m spoken after before now
+    lines_so : moment_lines h (moment_of b (next_step.Instruction i) done) ≡ gate_lines m spoken after before now
     unfolding moment_lines
     lines_so =
         ap (λ o. instruction_lines o h ws after) t.same.alike.mapped
@@ -199,7 +200,7 @@ module _ (m : MapValue) (x : World) (ok : IsMap m) where
           taken = observed_taken marks es k ∙ taken_now;
         }
 
-    behind_told : Told m x k (observe marks es k) (moment_lines h (moment_of b i done))
+    behind_told : Told m x k (observe marks es k) (moment_lines h (moment_of b (next_step.Instruction i) done))
     behind_told =
         let P : History → Type 0 = λ y. Told m x k y (gate_lines m spoken after before now) in
         let Q : List ℕ → Type 0 = λ l. Told m x k (observe marks es k) l in
@@ -209,7 +210,7 @@ module _ (m : MapValue) (x : World) (ok : IsMap m) where
         record { dones = event.dones; completed = event.completed; told = event.told } in
         subst Q (sym lines_so) (subst P (sym observed_so) same)
 
-    instruction_leads : Leads m x after (noted h (moment_of b i done)) k (observe marks es k) (moment_lines h (moment_of b i done))
+    instruction_leads : Leads m x after (noted h (moment_of b (next_step.Instruction i) done)) k (observe marks es k) (moment_lines h (moment_of b (next_step.Instruction i) done))
     instruction_leads =
         let P : board.History → Type 0 = λ y. SaysTheSame m x y (observe marks es k) in
         record {
@@ -269,8 +270,8 @@ module _ (m : MapValue) (x : World) (ok : IsMap m) where
 
 pub histories_stay_the_same : HistoriesStayTheSame
 histories_stay_the_same cs b r ms rest run e m x h k ok same tells =
-    let t : Together m x b h k = record { whole = run.whole; words = run.words; same = same; tells = tells } in
-    let all = moments_lead m x ok b h k ms t (front_moments cs b r ms rest run.starts run.run e) in
+    let t : Together m x b h k = record { whole = run.of_words.whole; words = run.of_words.words; same = same; tells = tells } in
+    let all = moments_lead m x ok b h k ms t (front_moments b r ms rest run.moments e) in
     (all.together.same, all.together.tells)
 
 -- the two histories begin the same

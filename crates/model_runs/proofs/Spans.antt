@@ -58,7 +58,7 @@ forwards marks (e ∷ es) h f = forwards marks es (observe_one marks e h)
 
 action_forwards : (marks : Marks) (a : Action) (es : List Effect) (h : History) → Forwards h → Forwards (behind_action marks a es h)
 action_forwards marks PowerUp es h f = record { since = omega arith; span = f.span; dones = f.dones }
-action_forwards marks (Execute done offered) es h f = forwards marks es h f
+action_forwards marks (Execute kind done offered) es h f = forwards marks es h f
 
 moments_forwards : (marks : Marks) (ms : List Moment) (h : History) → Forwards h → Forwards (observed marks ms h)
 moments_forwards marks [] h f = f

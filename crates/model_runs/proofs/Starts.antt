@@ -1,6 +1,7 @@
 -- The world at the last boot or done is the world of a front.
 use Rattle.std.proofs.Common.{◌≡◌, ℕ, refl, sym, ap, subst, true, false, cond, List, [], ◌∷◌, ◌++◌, Ok}
 use Rattle.msp_isa.specs.declared.instructions.Instr.{Instr}
+use Rattle.fram_board.specs.declared.board.NextStep.TheVariants as next_step
 use Rattle.fram_board.specs.declared.board.Stepped.{Stepped}
 use Rattle.fram_board.specs.Board.{BoardValue, executed, IsNextInstruction}
 use Rattle.fram_board.specs.Effects.{Effect}
@@ -38,7 +39,7 @@ module _ (P : World → Type 0) (marks : Marks) where
     abbrev es : List Effect
     es = told b h.whole i done current answer
 
-    behind_instruction : let m = moment_of b i done in let j = behind_moment marks m k in P j.world → Begun m.after j
+    behind_instruction : let m = moment_of b (next_step.Instruction i) done in let j = behind_moment marks m k in P j.world → Begun m.after j
     behind_instruction now =
         let Q : World → Type 0 = λ y. P y in
         let R : History → Type 0 = λ y. P y.start in
