@@ -2,7 +2,7 @@
 -- A word that a read of EVENT took is in hand until the next of these: a step leaves another word in HEAD, a RETI, a read of EVENT, a power-up. It is
 -- accepted where HEAD changes, and lost at the others. An event is lost too where it arose at a full port, or where the power-up found it in the port:
 -- these the board counts. Any other event waits, in the port or in hand. Without a ring no step changes HEAD.
-use Rattle.std.specs.Prelude.{◌≡◌, ℕ, ◌+◌, ◌==◌, if◌then◌else◌, List, [], ◌∷◌, ◌++◌, length, All, Option, Some, None, option_map}
+use Rattle.std.specs.Prelude.{◌≡◌, ℕ, ◌+◌, ◌==◌, Bool, true, false, if◌then◌else◌, List, [], ◌∷◌, ◌++◌, length, All, Option, Some, None, option_map}
 use Rattle.image_text.specs.image_map.MapValue.{MapValue}
 use Rattle.fram_board.specs.declared.events.Heard.{Heard}
 use Rattle.fram_board.specs.declared.events.Heard.TheVariants as heard
@@ -58,21 +58,29 @@ reads_of heard.Nothing = []
 reads_of (heard.Once took) = Reads took ∷ []
 reads_of (heard.Again took) = Reads took ∷ Reads None ∷ []
 
+-- whether HEAD, which was this word, is another now
+abbrev pub change_ends : ℕ → ℕ → List HandEnd
+change_ends was now = if now == was then [] else ChangesHead ∷ []
+
 -- whether HEAD, which stands at this address, changed between two states of the FRAM
 abbrev pub head_ends : Option ℕ → List ℕ → List ℕ → List HandEnd
 head_ends None before after = []
-head_ends (Some head) before after = if word_in after head == word_in before head then [] else ChangesHead ∷ []
+head_ends (Some head) before after = change_ends (word_in before head) (word_in after head)
 
--- whether a step was a RETI
-abbrev pub return_ends : StepKind → List HandEnd
-return_ends Accepting = []
-return_ends Returning = Returns ∷ []
-return_ends Plain = []
+-- whether a step is a RETI
+abbrev pub is_return : StepKind → Bool
+is_return Accepting = false
+is_return Returning = true
+is_return Plain = false
+
+abbrev pub return_ends : Bool → List HandEnd
+return_ends true = Returns ∷ []
+return_ends false = []
 
 -- the ends that an action brings between two states of the FRAM; of a step in this order: its reads, then its change of HEAD, then its return
 abbrev pub action_ends : Option ℕ → Action → List ℕ → List ℕ → List HandEnd
 action_ends head PowerUp before after = PowersUp ∷ []
-action_ends head (Execute kind done offered) before after = reads_of done.heard ++ (head_ends head before after ++ return_ends kind)
+action_ends head (Execute kind done offered) before after = reads_of done.heard ++ (head_ends head before after ++ return_ends (is_return kind))
 
 -- the hand behind a moment
 unfoldable pub hand_behind : Option ℕ → Moment → Hand → Hand

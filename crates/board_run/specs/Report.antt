@@ -84,45 +84,48 @@ pub record IsCutInMoment (h : History) (text : List ℕ) (ms : List Moment) (old
   pub written : BreaksOff old new (text ++ lines_from h before) (moment_lines (after_all h before) moment)
 
 -- where writing broke off in the report of a run that begins with a text, and the board that stands then
-pub data IsCutAt (h : History) (text : List ℕ) (b : BoardValue) (r : RunOutcome) (old new : Option (List ℕ)) (after : BoardValue) : Type 0 where
+pub data IsCutAt (h : History) (text : List ℕ) (events : List Event) (b : BoardValue) (r : RunOutcome) (old new : Option (List ℕ)) (after : BoardValue) : Type 0
+    where
   -- in the text: nothing was done, and the board is as it was
-  InText : after ≡ b → AppendsProperPrefix old new text → IsCutAt h text b r old new after
+  InText : after ≡ b → AppendsProperPrefix old new text → IsCutAt h text events b r old new after
   -- in the lines of a moment
-  InMoment : IsCutInMoment h text r.moments old new after → IsCutAt h text b r old new after
+  InMoment : IsCutInMoment h text r.moments old new after → IsCutAt h text events b r old new after
   -- in the last lines: the board is the one at the run's end
-  InLastLines : after ≡ r.board → BreaksOff old new (text ++ lines_from h r.moments) (last_lines h b.line.coming r)
-      → IsCutAt h text b r old new after
+  InLastLines : after ≡ r.board → BreaksOff old new (text ++ lines_from h r.moments) (last_lines h events r)
+      → IsCutAt h text events b r old new after
 
--- the report of a run wasn't written whole: a proper prefix of it is, up to this place
-pub record IsCut (h : History) (text : List ℕ) (b : BoardValue) (r : RunOutcome) (old new : Option (List ℕ)) (after : BoardValue) : Type 0 where
-  pub written : AppendsProperPrefix old new (text ++ rest_of h b.line.coming r)
-  pub place : IsCutAt h text b r old new after
+-- the report of a run under these events wasn't written whole: a proper prefix of it is, up to this place
+pub record IsCut (h : History) (text : List ℕ) (events : List Event) (b : BoardValue) (r : RunOutcome) (old new : Option (List ℕ)) (after : BoardValue) : Type 0
+    where
+  pub written : AppendsProperPrefix old new (text ++ rest_of h events r)
+  pub place : IsCutAt h text events b r old new after
 
--- what is answered of the run of a board under charges, and the events that it has to come, of which a text and then the report but for the bound are
--- written
-abbrev pub IsTold : List ℕ → History → List BoardCharge → BoardValue → Option (List ℕ) → Option (List ℕ) → Result RunEnd RunFault → BoardValue → History
-    → Type 0
-IsTold text h cs b old new (Ok end) after now = (r : RunOutcome) × Run cs b r × IsWhole h r (text ++ rest_of h b.line.coming r) old new (Ok end) after now
-IsTold text h cs b old new (Err (fault.Illegal pc word)) after now = (r : RunOutcome) × Run cs b r
-    × IsWhole h r (text ++ rest_of h b.line.coming r) old new (Err (fault.Illegal pc word)) after now
-IsTold text h cs b old new (Err (fault.Bus pc address)) after now = (r : RunOutcome) × Run cs b r
-    × IsWhole h r (text ++ rest_of h b.line.coming r) old new (Err (fault.Bus pc address)) after now
-IsTold text h cs b old new (Err fault.Write) after now = (r : RunOutcome) × Run cs b r × IsCut h text b r old new after
+-- what is answered of the run of a board under charges and events, of which a text and then the report but for the bound are written
+abbrev pub IsTold : List ℕ → History → List BoardCharge → List Event → BoardValue → Option (List ℕ) → Option (List ℕ) → Result RunEnd RunFault → BoardValue
+    → History → Type 0
+IsTold text h cs events b old new (Ok end) after now = (r : RunOutcome) × Run cs b r × IsWhole h r (text ++ rest_of h events r) old new (Ok end) after now
+IsTold text h cs events b old new (Err (fault.Illegal pc word)) after now = (r : RunOutcome) × Run cs b r
+    × IsWhole h r (text ++ rest_of h events r) old new (Err (fault.Illegal pc word)) after now
+IsTold text h cs events b old new (Err (fault.Bus pc address)) after now = (r : RunOutcome) × Run cs b r
+    × IsWhole h r (text ++ rest_of h events r) old new (Err (fault.Bus pc address)) after now
+IsTold text h cs events b old new (Err fault.Write) after now = (r : RunOutcome) × Run cs b r × IsCut h text events b r old new after
 
 -- the same of the report
-abbrev pub IsRunOf : History → List BoardCharge → BoardValue → Option (List ℕ) → Option (List ℕ) → Result RunEnd RunFault → BoardValue → History → Type 0
+abbrev pub IsRunOf : History → List BoardCharge → List Event → BoardValue → Option (List ℕ) → Option (List ℕ) → Result RunEnd RunFault → BoardValue → History
+    → Type 0
 IsRunOf h = IsTold (bound_lines h.map) h
 
 -- and of the report but for the bound
-abbrev pub IsRestOf : History → List BoardCharge → BoardValue → Option (List ℕ) → Option (List ℕ) → Result RunEnd RunFault → BoardValue → History → Type 0
+abbrev pub IsRestOf : History → List BoardCharge → List Event → BoardValue → Option (List ℕ) → Option (List ℕ) → Result RunEnd RunFault → BoardValue → History
+    → Type 0
 IsRestOf = IsTold []
 
--- the last line is written, whole or not
-abbrev pub IsEndOf : History → End → BoardValue → Option (List ℕ) → Option (List ℕ) → Result RunEnd RunFault → Type 0
-IsEndOf h end b old new (Ok e) = (Ok e ≡ answer_of end) × Appends old new (last_line h end b)
-IsEndOf h end b old new (Err (fault.Illegal pc word)) = (Err (fault.Illegal pc word) ≡ answer_of end) × Appends old new (last_line h end b)
-IsEndOf h end b old new (Err (fault.Bus pc address)) = (Err (fault.Bus pc address) ≡ answer_of end) × Appends old new (last_line h end b)
-IsEndOf h end b old new (Err fault.Write) = AppendsProperPrefix old new (last_line h end b)
+-- these last lines, which tell how a run ended, are written, whole or not
+abbrev pub IsEndOf : End → List ℕ → Option (List ℕ) → Option (List ℕ) → Result RunEnd RunFault → Type 0
+IsEndOf end text old new (Ok e) = (Ok e ≡ answer_of end) × Appends old new text
+IsEndOf end text old new (Err (fault.Illegal pc word)) = (Err (fault.Illegal pc word) ≡ answer_of end) × Appends old new text
+IsEndOf end text old new (Err (fault.Bus pc address)) = (Err (fault.Bus pc address) ≡ answer_of end) × Appends old new text
+IsEndOf end text old new (Err fault.Write) = AppendsProperPrefix old new text
 
 -- the count of faults has not fallen, and rose where the report can't be written
 pub record HasWriteCause (before now : ℕ) (result : Result RunEnd RunFault) : Type 0 where
