@@ -114,6 +114,11 @@ FreshIsWhole = (fram readings : List ℕ) (events : List (ℕ × ℕ)) → lengt
     → All (λ w. w < 0x10000) fram → All (λ w. w < 0x10000) readings → All (λ e. e.1 < 0x10000) events
     → IsWhole (fresh fram readings events) × IsOfWords (fresh fram readings events)
 
+-- a charge leaves a whole board, and words, whatever events arise
+abbrev pub ChargeKeepsWords : Type 0
+ChargeKeepsWords = (m : Measure) (amount : ℕ) (b : BoardValue) (r : RunOutcome) → IsWhole b → IsOfWords b → ChargeRun m amount b r
+    → IsWhole r.board × IsOfWords r.board
+
 -- the word that the moment of a step tells, an instruction's or an acceptance, is the one that its effects make the receiver
 -- accept
 abbrev pub StepAcceptsBySends : Type 0

@@ -1,6 +1,6 @@
--- The machine: the board with memory as functions of addresses, without its receiver, whose words are read off the effects.
--- It has no port EVENT, and accepts no interrupt. Its bus keeps a log of what an instruction does to FRAM, the sensor and the receiver. Its instructions, their effects and
--- cycles are those of every bus (SLAU049 and SLAU144, CPU chapter).
+-- The machine: the board with memory as functions of addresses, without its receiver, whose words are read off the effects,
+-- and without the port EVENT, so that it accepts no interrupt. Its bus keeps a log of what an instruction does to FRAM, the
+-- sensor and the receiver. Its instructions, their effects and cycles are those of every bus (SLAU049 and SLAU144, CPU chapter).
 use Rattle.std.specs.Prelude.{ℕ, ◌-◌, ◌%◌, ◌≡◌, ◌<◌, ◌≤◌, ◌==◌, ◌&&◌, if◌then◌else◌, slice_index, List, [], ◌∷◌, ◌++◌, Result, Ok, Err, Option}
 use Rattle.std.specs.Prelude.{Some, None}
 use Rattle.fram_board.specs.address_space.Limits.{ram_first, ram_end, fram_first, program_end, reset_vector}

@@ -1,5 +1,7 @@
 -- The board of the running program as the machine.
 use Rattle.std.specs.Prelude.{ℕ, ◌≡◌, ◌<◌, ◌⊎◌, List, All, IfSome, drop, Result, Ok, Err}
+use Rattle.fram_board.specs.msp_isa.declared.instructions.Instr.{Instr}
+use Rattle.fram_board.specs.msp_cycles.Cycles.{cycles_of}
 use Rattle.fram_board.specs.msp_step.declared.machine.Stop.{Stop}
 use Rattle.fram_board.specs.msp_step.declared.machine.Stop.TheVariants as stop
 use Rattle.fram_board.specs.msp_step.Registers.{registers_of}
@@ -7,12 +9,12 @@ use Rattle.fram_board.specs.msp_step.Kept.{IsRegisters}
 use Rattle.fram_board.specs.declared.board.Stepped.{Stepped}
 use Rattle.fram_board.specs.Bus.{event_port}
 use Rattle.fram_board.specs.Events.{EventLine}
-use Rattle.fram_board.specs.Board.{BoardValue, BoardOutcome}
+use Rattle.fram_board.specs.Board.{BoardValue, BoardOutcome, executed}
 use Rattle.fram_board.specs.Steps.{BoardCosts, IsBoard}
 use Rattle.fram_board.specs.Effects.{Effect, effects_of}
 use Rattle.machine_effects.specs.Inputs.{Inputs, InputsAreWords}
 use Rattle.machine_effects.specs.Going.{Goes, Stops}
-use Rattle.machine_effects.specs.Machine.{MachineBoard, MachineOutcome, fram_of, ram_of}
+use Rattle.machine_effects.specs.Machine.{MachineBoard, MachineOutcome, machine_executed, fram_of, ram_of}
 
 -- what is ready for a board
 abbrev pub inputs_of : BoardValue → Inputs
@@ -79,3 +81,8 @@ IsEventFault stop.NoReading = ⊥
 abbrev pub IsAtEvent : MachineOutcome → Type 0
 IsAtEvent (Goes es c t) = ⊥
 IsAtEvent (Stops es price e) = IsEventFault e
+
+-- an instruction of a board does as the machine's, which has no port EVENT, and leaves the events as they are
+pub record IsMachines (b : BoardValue) (i : Instr) : Type 0 where
+  pub step : machine_executed (machine_of b) i ≡ machine_outcome_of b (executed b i) (cycles_of i)
+  pub line : (executed b i).board.line ≡ b.line

@@ -3,7 +3,7 @@
 ghost use Rattle.machine_effects.specs.Laws.{BoardStepsAsMachine, MachineStepsAsBoard, MachineStepsInOneWay, CodeChangesByEffects, MachineChangesByEffects};
 ghost use Rattle.machine_effects.specs.Laws.{MachineWordsStayWords, CodeWordsStayWords, WordsStayWords, StepLeavesItWhole, BoundaryKeepsWords};
 ghost use Rattle.machine_effects.specs.Laws.{AcceptanceKeepsWords, MachineIsOfWords, PowerUpIsTheMachines, PowerUpKeepsWords, FreshMachine, FreshIsWhole};
-ghost use Rattle.machine_effects.specs.Laws.{StepAcceptsBySends, ChargeAcceptsBySends, WorldByItsParts};
+ghost use Rattle.machine_effects.specs.Laws.{ChargeKeepsWords, StepAcceptsBySends, ChargeAcceptsBySends, WorldByItsParts};
 
 /// Each step of a whole board at which no acceptance is due is the machine's step, with the same effects and cycles, or the
 /// same stop with the readings that were taken before it, and leaves the port EVENT; or the machine's step ends at EVENT. Each
@@ -45,11 +45,11 @@ pub fn steps_leave_boards_whole()
     ensures { StepLeavesItWhole }
 {}
 
-/// The boundary behind a step, at which events arise, and an acceptance leave a whole board of words.
-#[tactic(auto, using(crate::proofs::Lines::boundary_keeps_words, crate::proofs::Words::acceptance_keeps_words))]
-pub fn boundaries_and_acceptances_keep_words()
+/// The boundary behind a step, at which events arise, an acceptance and a whole charge leave a whole board of words.
+pub fn boards_of_words_stay_so()
     ensures boundary { BoundaryKeepsWords }
     ensures acceptance { AcceptanceKeepsWords }
+    ensures charge { ChargeKeepsWords }
 {}
 
 /// A power-up with any words is the machine's, and leaves a whole board of words.
