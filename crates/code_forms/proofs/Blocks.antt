@@ -1,15 +1,14 @@
 -- Straight stretches of code, and stretches one after another.
-use Rattle.std.proofs.Common.{◌≡◌, ◌==◌, ◌&&◌, ◌/◌, ◌%◌, if◌then◌else◌, ℕ, ◌+◌, ◌-◌, ◌<◌, ◌≤◌, Bool, true, false, nat_lt, ltb-true, List, [], ◌∷◌, ◌++◌, length, Some, refl, sym, ap, ◌∙◌, subst, arith, suc-add, zero-add, zero, suc, take, drop}
+use Rattle.std.proofs.Common.{◌≡◌, ◌==◌, ◌&&◌, ◌/◌, ◌%◌, if◌then◌else◌, ℕ, ◌+◌, ◌-◌, ◌≤◌, Bool, true, false, nat_lt, ltb-true, List, [], ◌∷◌, ◌++◌, length, Some, refl, sym, ap, ◌∙◌, subst, arith, suc-add, zero-add, zero, suc, take, drop}
 use Rattle.std.proofs.Common.{slice_get}
 use Rattle.std.proofs.lemmas.Bool.Decides.{nat_tests}
 use Rattle.std.proofs.lemmas.Option.{same_Some}
-use Rattle.machine_effects.specs.alp_words.declared.Flags.{Flags}
 use Rattle.machine_effects.specs.msp_step.declared.machine.Stop.{Stop}
 use Rattle.machine_effects.specs.msp_step.declared.machine.Stop.TheVariants as stop
 use Rattle.machine_effects.specs.msp_step.Effect.{status_with}
 use Rattle.machine_effects.specs.fram_board.Effects.{Effect}
 use Rattle.machine_effects.specs.Going.{Goes, Stops, Status, At, Halted, stretch, after_effects, continued, going, Leads}
-use Rattle.machine_effects.specs.Machine.{MachineBoard, MachineOutcome, MachineStretch, Code, step_with, exec, undisturbed, astray}
+use Rattle.machine_effects.specs.Machine.{MachineBoard, MachineStretch, Code, step_with, exec, undisturbed, astray}
 use Rattle.machine_effects.proofs.Interface.{stay, one_step, join, join_stall, stall, after_after, after_nothing}
 use Rattle.code_forms.specs.Forms.{WorkRegister, Core, CoreOutcome, CoreStretch, board_of, outcome_of_core, source_read, Target, ToRegister, ToFram, ToRam}
 use Rattle.code_forms.specs.Forms.{ToIndexed, ToPointed, ToOutnum, ToOutdata, target_written, Form, Move, Calculate, Compare, Update, Push, Modify, SetStack}

@@ -26,14 +26,14 @@ use Rattle.machine_effects.specs.Going.{Goes}
 use Rattle.machine_effects.specs.Machine.{MachineBus, MachineBoard, MachineOutcome, word_address, IsMachineStep, machine_bus}
 use Rattle.machine_effects.specs.Machine.{machine_opened, machine_outcome}
 use Rattle.machine_effects.specs.Machine.{machine_executed}
-use Rattle.machine_effects.specs.View.{machine_of, IsWhole, IsOfWords, IsMachines, outcome_of_answer}
+use Rattle.machine_effects.specs.View.{machine_of, IsWhole, IsOfWords, outcome_of_answer}
 use Rattle.machine_effects.specs.Runs.{last_board}
 use Rattle.machine_effects.proofs.Interface.{takes, written_effects, LoggedBy, effect_logged, machine_changes_by_effects, current_to_machine}
-use Rattle.machine_effects.proofs.Interface.{step_leaves_it_whole, words_stay_words, boundary_whole, boundary_words, moment_accepts}
+use Rattle.machine_effects.proofs.Interface.{step_leaves_it_whole, words_stay_words, boundary_keeps_words, told_effects, step_accepts_by_sends}
 use Rattle.crash_rules.specs.Model.{Marks}
 use Rattle.crash_rules.specs.History.{History}
 use Rattle.crash_rules.proofs.Interface.{observed_taken, events_of_instructions}
-use Rattle.run_charges.specs.View.{outside_of, outside_effects, AreMoments}
+use Rattle.run_charges.specs.View.{outside_of, outside_effects, IsMachines, AreMoments}
 use Rattle.run_charges.specs.Charges.{ArePowerStates, IsInstruction, AreInstructionMoments}
 
 -- the board behind the moments of a charge that is spent
@@ -137,6 +137,10 @@ heard_count (Outside (Offered n w) ∷ es) r ws e =
 at_most : (t n k : ℕ) → t ≤ n → n ≡ k → t ≤ k
 at_most t n k h e = omega arith
 
+boundary_whole : (b : BoardValue) → IsWhole b → IsWhole (at_boundary b)
+boundary_whole b h =
+    let g = h.board in record { board = record { fram = g.fram; ram = g.ram; taken = g.taken; few = g.few }; registers = h.registers }
+
 -- what an instruction does that is made, as the machine does
 module _ (b : BoardValue) (whole : IsWhole b) (i : Instr) (done : Stepped) (current : IsNextInstruction b i) (answer : (executed b i).answer ≡ Ok done)
     (own : IsMachines b i) where
@@ -152,7 +156,7 @@ module _ (b : BoardValue) (whole : IsWhole b) (i : Instr) (done : Stepped) (curr
   told = outside_effects moment
 
   told_same : told ≡ effects_of b (executed b i)
-  told_same = ap (λ y. effects_of b (record { answer = y; offered = (executed b i).offered; board = (executed b i).board })) (sym answer)
+  told_same = told_effects b i done answer
 
   -- it is a step of the machine
   pub same_step : machine_executed (machine_of b) i ≡ Goes told done.cycles (machine_of after)
@@ -173,7 +177,9 @@ module _ (b : BoardValue) (whole : IsWhole b) (i : Instr) (done : Stepped) (curr
 
   -- the board holds words behind it
   pub words_after : IsOfWords b → IsOfWords after
-  words_after w = boundary_words (executed b i).board (words_stay_words b (executed b i) whole w is_step)
+  words_after w =
+      (boundary_keeps_words (executed b i).board (step_leaves_it_whole b (executed b i) whole is_step)
+      (words_stay_words b (executed b i) whole w is_step)).1
 
   -- FRAM changes as what is told says
   pub fram_changed : (outside_of after).fram ≡ fram_after told (outside_of b).fram
@@ -188,7 +194,7 @@ module _ (b : BoardValue) (whole : IsWhole b) (i : Instr) (done : Stepped) (curr
 
   -- the word that is accepted
   pub words_accepted : (ws : List ℕ) → TakesNextBehind ws b.receiver → accepted_after told ws ≡ ws ++ word_list done.accepted
-  words_accepted ws len = moment_accepts b i done answer ws len
+  words_accepted ws len = step_accepts_by_sends b (next_step.Instruction i) done ws len answer
 
   -- the accepted words are counted
   pub words_counted : (ws : List ℕ) → TakesNextBehind ws b.receiver → TakesNextBehind (accepted_after told ws) after.receiver
