@@ -16,6 +16,7 @@ use Rattle.board_run.specs.Events.{NeverReads}
 use Rattle.board_run.specs.Report.{report_of}
 use Rattle.machine_effects.specs.World.{World, world_after, IsPrefix}
 use Rattle.machine_effects.specs.Machine.{fram_of}
+use Rattle.machine_effects.specs.View.{IsWhole}
 use Rattle.machine_effects.specs.Runs.{last_board}
 use Rattle.cost_bound.specs.declared.allowance.Allow.{Allow}
 use Rattle.source_values.specs.Runs.{CheckedProgram, State, Transition}
@@ -83,6 +84,7 @@ known_from l x ms = observed (runtime_marks l) ms (first_history (runtime_marks 
 -- pending at the start isn't done, the words accepted since are some of those that the state has beyond the start's which it leaves
 pub record HoldsFrom (p : CheckedProgram) (l : MemoryMap) (image : ImageValue) (x : World) (origin : Origin State) (readings : List ℕ) (b : BoardValue)
     (ms : List Moment) (h : History) : Type 0 where
+  pub whole : IsWhole b
   pub fram : h.world.fram ≡ (outside_of b).fram
   pub words : h.world.accepted ≡ x.accepted ++ accepted_words ms
   pub number : TakesNextBehind h.world.accepted b.receiver

@@ -102,7 +102,7 @@ moment_counts : (marks : Marks) (b : BoardValue) (h : History) (m : Moment) → 
 moment_counts marks b h m w q (PowersUp p ok e) =
     let P : Moment → Type 0 = λ y. Counts b h y.after (behind_moment marks y h) 1 in
     subst P (sym e) (power_counts marks b h p w q ok)
-moment_counts marks b h m w q (Instructs i done c a e) =
+moment_counts marks b h m w q (Instructs i done c a same e) =
     let P : Moment → Type 0 = λ y. Counts b h y.after (behind_moment marks y h) 1 in
     subst P (sym e) (instruction_counts marks b h i done w q c a)
 

@@ -210,7 +210,7 @@ module _ (m : MapValue) (x : World) (ok : IsMap m) where
         record { dones = event.dones; completed = event.completed; told = event.told } in
         subst Q (sym lines_so) (subst P (sym observed_so) same)
 
-    instruction_leads : Leads m x after (noted h (moment_of b (next_step.Instruction i) done)) k (observe marks es k) (moment_lines h (moment_of b (next_step.Instruction i) done))
+    instruction_leads : let o = moment_of b (next_step.Instruction i) done in Leads m x after (noted h o) k (observe marks es k) (moment_lines h o)
     instruction_leads =
         let P : board.History → Type 0 = λ y. SaysTheSame m x y (observe marks es k) in
         record {
@@ -230,7 +230,7 @@ module _ (m : MapValue) (x : World) (ok : IsMap m) where
   -- a moment leads both histories on
   pub moment_leads : (b : BoardValue) (h : board.History) (k : History) → Together m x b h k → (o : Moment) → IsMomentFrom b o → MomentLeads b h k o
   moment_leads b h k t o (PowersUp p start e) = let P : Moment → Type 0 = λ y. MomentLeads b h k y in subst P (sym e) (boot_leads b h k t p start)
-  moment_leads b h k t o (Instructs i done c a e) =
+  moment_leads b h k t o (Instructs i done c a same e) =
       let P : Moment → Type 0 = λ y. MomentLeads b h k y in subst P (sym e) (instruction_leads b h k t i done c a)
 
   -- dones behind dones
@@ -270,7 +270,8 @@ module _ (m : MapValue) (x : World) (ok : IsMap m) where
 
 pub histories_stay_the_same : HistoriesStayTheSame
 histories_stay_the_same cs b r ms rest run e m x h k ok same tells =
-    let t : Together m x b h k = record { whole = run.of_words.whole; words = run.of_words.words; same = same; tells = tells } in
+    let all_words = run.of_words in
+    let t : Together m x b h k = record { whole = all_words.whole; words = all_words.words; same = same; tells = tells } in
     let all = moments_lead m x ok b h k ms t (front_moments b r ms rest run.moments e) in
     (all.together.same, all.together.tells)
 

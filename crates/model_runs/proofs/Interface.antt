@@ -14,6 +14,9 @@ pub use Rattle.model_runs.proofs.Counts.{dones_are_few, takes_what_is_there}
 pub use Rattle.model_runs.proofs.Spans.{spans_are_in_order, spans_past_are_in_order}
 -- What a word of FRAM holds at most, by what is stored there.
 pub use Rattle.model_runs.proofs.Words.{words_stay_within}
+-- EVENT is never read, and each event that arose waits there or was lost.
+pub use Rattle.model_runs.proofs.Unheard.{never_reads}
+pub use Rattle.model_runs.proofs.Waiting.{AreWaiting, moments_wait}
 -- The two histories over the moments of a run.
 pub use Rattle.model_runs.proofs.Histories.{Together, together_on, observed_so, moment_leads, moments_lead, first_histories_are_the_same}
 -- The report of a run, by its dones.

@@ -11,7 +11,6 @@ use Rattle.fram_board.specs.Board.{BoardValue}
 use Rattle.fram_board.specs.Run.{End, Charges, Stopped, BoardCharge, Moment, RunOutcome}
 use Rattle.board_run.specs.History.{start_with, more_lines}
 use Rattle.board_run.specs.History as board
-use Rattle.board_run.specs.Events.{event_counts, NeverReads}
 use Rattle.board_run.specs.Report.{after_all, events_lines, lines_from, last_line}
 use Rattle.board_run.proofs.Interface.{silent_runs_accept_nothing}
 use Rattle.machine_effects.specs.World.{World}
@@ -19,7 +18,7 @@ use Rattle.machine_effects.specs.Runs.{last_board}
 use Rattle.crash_rules.specs.History.{first_history}
 use Rattle.run_charges.specs.Charges.{observed}
 use Rattle.run_charges.specs.Laws.{IsPlainRun}
-use Rattle.model_runs.specs.Events.{marks_of, counted, dones_lines, none_accepted}
+use Rattle.model_runs.specs.Events.{marks_of, counted, dones_lines}
 use Rattle.model_runs.specs.EventLaws.{StartsWith, LinesAreOfDones, ReportIsOfDones, FewWordsHaveLines}
 use Rattle.run_charges.proofs.Interface.{front_moments}
 use Rattle.model_runs.proofs.Histories.{Together, Leads, moments_lead, first_histories_are_the_same}
@@ -53,13 +52,13 @@ same_last h k (Stopped (stop.Bus pc address)) b e = refl
 
 -- the report is the bound, the lines of the dones, and how the run ended
 pub report_is_of_dones : ReportIsOfDones
-report_is_of_dones cs b r run m x ok s h e =
+report_is_of_dones cs b r run unheard m x ok s h e =
     let whole : r.moments ≡ r.moments ++ [] = sym (append-nil r.moments) in
     let all = (first_lead cs b r r.moments [] run whole m x ok s).1 in
     let lines = lines_are_of_dones cs b r r.moments [] run whole m x ok s in
     let last = same_last (after_all (start_with b.fram (Some m)) r.moments) h r.ending r.board (all.together.same.alike.completed ∙ sym e) in
-    let events = silent_runs_accept_nothing (Some m) r (never_reads cs b r run) in
-    let ends = ap₂ (λ c l. events_lines b.line.coming c ++ l) events last in
+    let events = silent_runs_accept_nothing (Some m) r unheard in
+    let ends = ap₂ (λ counts l. events_lines b.line.coming counts ++ l) events last in
     ap₂ (λ p q. bound_line m.bound ++ (p ++ q)) lines ends
 
 -- where at most 256 words are accepted, each has its line

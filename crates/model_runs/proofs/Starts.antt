@@ -58,7 +58,7 @@ module _ (P : World → Type 0) (marks : Marks) where
       let Q : Moment → Type 0 = λ y. Begun y.after (behind_moment marks y k) in
       let up = power_up_keeps_words b p h.whole h.words ok in
       subst Q (sym e) (record { whole = up.0; words = up.1; start = h.world; world = h.world })
-  begun_behind b k h m (Instructs i done c a e) now =
+  begun_behind b k h m (Instructs i done c a same e) now =
       let Q : Moment → Type 0 = λ y. P (behind_moment marks y k).world → Begun y.after (behind_moment marks y k) in
       subst Q (sym e) (behind_instruction b k h i done c a) now
 

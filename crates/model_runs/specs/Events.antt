@@ -8,7 +8,6 @@ use Rattle.fram_board.specs.Board.{BoardValue}
 use Rattle.fram_board.specs.Saved.{TakesNextBehind}
 use Rattle.board_run.specs.History.{SharedNumber, number_of, shared_numbers, task_name, changed_line, more_lines}
 use Rattle.board_run.specs.History as board
-use Rattle.board_run.specs.Events.{EventCounts}
 use Rattle.machine_effects.specs.World.{World}
 use Rattle.crash_rules.specs.Model.{Marks}
 use Rattle.crash_rules.specs.History.{Done, History}
@@ -17,10 +16,6 @@ use Rattle.run_charges.specs.View.{outside_of}
 -- what happens in a run is told by the words that a map names
 abbrev pub marks_of : MapValue → Marks
 marks_of m = record { gate = m.words.gate }
-
--- what became of the events of a run that accepts none, by the board behind it: how many arose, and how many of them were lost at the port
-abbrev pub none_accepted : BoardValue → EventCounts
-none_accepted b = record { arisen = b.line.arisen; accepted = 0; lost = b.line.missed }
 
 -- a history tells of this board: its FRAM, the word that its receiver takes next, how many readings were taken
 pub record TellsOf (b : BoardValue) (k : History) : Type 0 where

@@ -19,5 +19,7 @@ pub use Rattle.run_charges.proofs.Stopped.{SameDones, StopsBehind, run_halts}
 pub use Rattle.run_charges.proofs.Fronts.{plain_run}
 -- Nothing is read of EVENT.
 pub use Rattle.run_charges.proofs.Quiet.{IsSilent, moments_hear_nothing, run_silent}
+-- No acceptance is due.
+pub use Rattle.run_charges.proofs.Accepting.{IsClosed, none_due}
 -- The words accepted and the readings taken are those of the board.
 pub use Rattle.run_charges.proofs.Counted.{Counts, moments_count, front_counts}

@@ -8,5 +8,6 @@ mod Spent
 mod Stopped
 mod Fronts
 mod Quiet
+mod Accepting
 pub mod Interface
 pub use Rattle.code_forms.proofs as code_forms

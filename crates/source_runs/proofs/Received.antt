@@ -94,7 +94,7 @@ told_counted b s (Err x) done e = cc
 moment_counted : (b : BoardValue) (m : Moment) → IsMomentFrom b m → m.after.receiver.accepted ≡ b.receiver.accepted + length (accepted_by m.action)
 moment_counted b m (PowersUp p ok e) =
     let P : Moment → Type 0 = λ y. y.after.receiver.accepted ≡ b.receiver.accepted + length (accepted_by y.action) in subst P (sym e) (omega arith)
-moment_counted b m (Instructs i done c a e) =
+moment_counted b m (Instructs i done c a same e) =
     let P : Moment → Type 0 = λ y. y.after.receiver.accepted ≡ b.receiver.accepted + length (accepted_by y.action) in
     let o = execution board_bus i (registers_of b.cpu) (opened b) in
     subst P (sym e) (told_counted b o.bus o.answer done a)
@@ -116,20 +116,21 @@ pub words_are_received : (m : MapValue) (x : World) (cs : List BoardCharge) (b :
 words_are_received m x cs b r s ts ok starts run here stand =
     let begun = first_histories_are_the_same b m x ok starts in
     let k = first_history (marks_of m) x in
-    let t : Together m x b (start_with b.fram (Some m)) k = record { whole = run.of_words.whole; words = run.of_words.words; same = begun.0; tells = begun.1 } in
-    let moments = run.moments in
-    let end = (moments_lead m x ok b (start_with b.fram (Some m)) k r.moments t moments).together in
+    let all_words = run.of_words in
+    let t : Together m x b (start_with b.fram (Some m)) k =
+    record { whole = all_words.whole; words = all_words.words; same = begun.0; tells = begun.1 } in
+    let end = (moments_lead m x ok b (start_with b.fram (Some m)) k r.moments t run.moments).together in
     let done = (observed (marks_of m) r.moments k).completed in
     let words = words_at_last m x s done ts here stand in
     let all = ap length end.same.alike.words_are in
     let both = length-append (last_world x done).accepted end.same.alike.words in
     let first : Counts b k x.accepted =
-    record { whole = run.of_words.whole; words = run.of_words.words; accepted = refl; count = starts.accepted; taken = sym starts.taken } in
-    let heard = ap length (moments_count (marks_of m) b k x.accepted r.moments first moments).accepted in
+    record { whole = all_words.whole; words = all_words.words; accepted = refl; count = starts.accepted; taken = sym starts.taken } in
+    let heard = ap length (moments_count (marks_of m) b k x.accepted r.moments first run.moments).accepted in
     let begin = ap length here.accepted in
     let told = length-append x.accepted (accepted_words r.moments) in
-    let count = words_counted b r.moments moments in
-    let last = run_keeps cs b r run.of_words.run in
+    let count = words_counted b r.moments run.moments in
+    let last = run_keeps cs b r all_words.run in
     omega (arith, words, all, both, heard, begin, told, count, last)
 
 -- what a receiver has heard

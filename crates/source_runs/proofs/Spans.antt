@@ -76,7 +76,7 @@ module _ (m : MapValue) (x : World) (ok : IsMap m) where
   moment_adds : (b : BoardValue) (h : board.History) (k : History) → Together m x b h k → (o : Moment) → IsMomentFrom b o → Adds h k o
   moment_adds b h k t o (PowersUp p start e) =
       let P : Moment → Type 0 = λ y. Adds h k y in subst P (sym e) (sym (append-nil (committed_by k.completed)))
-  moment_adds b h k t o (Instructs i done c a e) =
+  moment_adds b h k t o (Instructs i done c a same e) =
       let P : Moment → Type 0 = λ y. Adds h k y in subst P (sym e) (instruction_adds b h k t i done c a)
 
   -- and behind all of them

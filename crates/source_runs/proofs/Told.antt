@@ -12,6 +12,7 @@ use Rattle.fram_board.specs.Board.{BoardValue}
 use Rattle.fram_board.specs.Run.{End, Charges, Stopped, BoardCharge, RunOutcome}
 use Rattle.board_run.specs.History.{start_with}
 use Rattle.board_run.specs.History as board
+use Rattle.board_run.specs.Events.{none_accepted}
 use Rattle.board_run.specs.Report.{events_lines, report_of, last_line}
 use Rattle.source_values.specs.Statements.{Outcome, short}
 use Rattle.source_values.specs.Runs.{CheckedProgram, State, Transition, first_state, state_after, state_behind, attempt_of}
@@ -24,10 +25,10 @@ use Rattle.crash_rules.specs.Runs.{Program}
 use Rattle.crash_rules.specs.Laws.{Origin, Resting, Pending, IsSettled, Reaches, IsLawful, SourceRun}
 use Rattle.run_charges.specs.Charges.{observed}
 use Rattle.run_charges.specs.Laws.{IsRunOfWords, IsPlainRun}
-use Rattle.model_runs.specs.Events.{marks_of, none_accepted, counted, dones_lines}
+use Rattle.model_runs.specs.Events.{marks_of, counted, dones_lines}
 use Rattle.model_runs.specs.EventLaws.{StartsWith}
 use Rattle.model_runs.proofs.Interface.{report_is_of_dones, fronts_are_lawful, stops_where_short, makes_progress, dones_are_few, takes_what_is_there}
-use Rattle.model_runs.proofs.Interface.{runs_plainly, spans_are_in_order, spans_past_are_in_order}
+use Rattle.model_runs.proofs.Interface.{runs_plainly, never_reads, spans_are_in_order, spans_past_are_in_order}
 use Rattle.source_runs.specs.Transitions.{HasWordsOf, StandForTransitions, committed_by}
 use Rattle.source_runs.proofs.Lines.{dones_are_transitions, counted_below}
 use Rattle.model_runs.specs.Runs.{BearsModel, history_behind, IsShort, Progresses, all_amounts, AreInOrder, AreInOrderPast}
@@ -107,7 +108,8 @@ module _ (text : List ℕ) (program : CheckedProgram) (m : MapValue) (model : Mo
 
   report_is : report_of (start_with b.fram (Some m)) b.line.coming r
       ≡ bound_line m.bound ++ (dones_lines m 0 x h.completed ++ (events ++ last_line last r.ending r.board))
-  report_is = report_is_of_dones cs b r plain m x is.is_map starts last refl
+  report_is =
+      report_is_of_dones cs b r plain (never_reads model c b.readings origin x b bears cs r run starts.heard) m x is.is_map starts last refl
 
   -- The world has a state's words; the first dones stand for some transitions from it; and from there on the source runs
   module _ (s0 s : State) (here : HasWordsOf m x s0) (done : List Done) (first : List Transition) (stand : StandForTransitions m s0 done first)

@@ -6,12 +6,12 @@ use Rattle.alp_io.specs.Report.{bound_line, end_line}
 use Rattle.image_map.specs.MapValue.{MapValue}
 use Rattle.fram_board.specs.Board.{BoardValue}
 use Rattle.fram_board.specs.Run.{Charges, RunOutcome, BoardCharge}
+use Rattle.board_run.specs.Events.{none_accepted}
 use Rattle.board_run.specs.Report.{after_all, events_lines}
 use Rattle.source_values.specs.Runs.{CheckedProgram, State, Transition, state_after, state_behind, source_run, attempt_of}
 use Rattle.source_report.specs.Apart.{AreApart}
 use Rattle.source_report.specs.SourceReport.{Committed, readings_of, source_report}
 use Rattle.machine_effects.specs.World.{World}
-use Rattle.model_runs.specs.Events.{none_accepted}
 use Rattle.source_runs.specs.Tells.{spans_of, at_first, EachChargePays, IsEndOf, IsUninterrupted}
 use Rattle.source_runs.specs.Transitions.{HasWordsOf}
 

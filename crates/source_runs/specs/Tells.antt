@@ -10,11 +10,11 @@ use Rattle.fram_board.specs.Board.{BoardValue, powered}
 use Rattle.fram_board.specs.Run.{Cycles, Action, PowerUp, Execute, Moment, End, Charges, Stopped, RunOutcome, run_outcome, after_moments}
 use Rattle.fram_board.specs.Run.{BoardCharge, ChargeRun, power_up_of}
 use Rattle.board_run.specs.History.{History, start_with, is_done, word_in, noted}
+use Rattle.board_run.specs.Events.{none_accepted}
 use Rattle.board_run.specs.Report.{after_all, events_lines}
 use Rattle.source_values.specs.Statements.{Outcome, short}
 use Rattle.source_values.specs.Runs.{CheckedProgram, Transition, first_state, state_behind, source_run, attempt_of}
 use Rattle.source_report.specs.Apart.{AreApart}
-use Rattle.model_runs.specs.Events.{none_accepted}
 use Rattle.source_report.specs.SourceReport.{Committed, IsConsecutive, position_after, readings_of, source_report}
 
 -- the committed readings of the transition that an action completed, where it left this board and GATE tells of one: its span, or none
