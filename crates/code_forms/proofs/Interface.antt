@@ -8,6 +8,6 @@ pub use Rattle.code_forms.proofs.Blocks.{nothing, starve, starves_on, dearer_sta
 -- What they read stands at SP or above.
 pub use Rattle.code_forms.proofs.FromSp.{forms_read_from_sp}
 -- Instructions that stand one after another in FRAM, untouched, are what a machine fetches.
-pub use Rattle.code_forms.proofs.Placed.{bytes_are, form_small, holds_front, holds_back, fram_word, fram_no_ram, holds_stores, code_in_fram_runs}
+pub use Rattle.code_forms.proofs.Placed.{bytes_are, form_small, holds_front, holds_back, fram_word, fram_no_ram, holds_stores, code_in_fram_steps, code_goes_undisturbed}
 pub use Rattle.code_forms.proofs.Placed.{placed_is_tidy}
 pub use Rattle.code_forms.proofs.Placed.{forms_stand, forms_bytes-append, instructions-append, stands_at}

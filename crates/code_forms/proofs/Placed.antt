@@ -1,6 +1,6 @@
 -- Instructions that stand one after another in FRAM, untouched, are what a machine fetches.
 use Rattle.std.proofs.Common.{◌≡◌, ℕ, suc, ◌+◌, ◌*◌, ◌%◌, ◌<◌, ◌≤◌, ◌==◌, List, [], ◌∷◌, ◌++◌, length, Option, Some, None, refl, sym, ap, ◌∙◌, subst, arith}
-use Rattle.std.proofs.Common.{true, false, if◌then◌else◌, cond, ◌⊎◌, inl, inr, ⊎_elim, eqb-true, ne_eqb, eq-eqb, length-append}
+use Rattle.std.proofs.Common.{Bool, true, false, if◌then◌else◌, cond, ◌⊎◌, inl, inr, ⊎_elim, eqb-true, ne_eqb, eq-eqb, length-append}
 use Rattle.std.proofs.lemmas.Bool.Decides.{nat_tests}
 use Rattle.machine_effects.specs.msp_isa.declared.instructions.Instr.{Instr}
 use Rattle.machine_effects.specs.msp_isa.Encoding.{encoding, IsInstruction, source_row, destination_row}
@@ -8,22 +8,20 @@ use Rattle.instruction_forms.specs.declared.kinds.Modification.TheVariants as ch
 use Rattle.machine_effects.specs.msp_step.declared.machine.Stop.{Stop}
 use Rattle.machine_effects.specs.msp_step.declared.machine.Stop.TheVariants as stop
 use Rattle.machine_effects.specs.msp_step.Effect.{word_sum}
-use Rattle.machine_effects.specs.msp_step.Step.{off_bit, FetchedAt, IsStopped, IsCurrentInstruction}
+use Rattle.machine_effects.specs.msp_step.Step.{off_bit, is_interruptible, FetchedAt, IsStopped, IsCurrentInstruction}
 use Rattle.machine_effects.proofs.msp_step.Interface.{same_current, not_stopped}
 use Rattle.machine_effects.specs.fram_board.Bus.{is_word, is_ram}
 use Rattle.machine_effects.specs.fram_board.Effects.{Effect, Store, Take, Outside}
 use Rattle.machine_effects.specs.World.{put, fram_after_one, fram_after, OfStore, EachStore}
-use Rattle.machine_effects.specs.Going.{Goes, Stops, Halted, stretch, after_effects, continued, going}
-use Rattle.machine_effects.specs.Machine.{MachineBoard, MachineOutcome, MachineStretch, machine_bus, machine_opened, machine_fetched, machine_executed}
-use Rattle.machine_effects.specs.Machine.{IsMachineStep, NoInstruction, Executes, MachineRun, Stays, Halts, Steps, Code, step_with, exec, word_address}
-use Rattle.machine_effects.specs.Laws.{ChangesByEffects}
-use Rattle.machine_effects.proofs.Interface.{each_store-front, each_store-back, step_changes}
+use Rattle.machine_effects.specs.Going.{Goes, Stops}
+use Rattle.machine_effects.specs.Machine.{MachineBoard, MachineOutcome, machine_bus, machine_opened, machine_fetched, machine_executed}
+use Rattle.machine_effects.specs.Machine.{IsMachineStep, NoInstruction, Executes, Code, step_with, exec, undisturbed, astray, word_address}
 use Rattle.code_forms.specs.Forms.{Form, Move, Calculate, Compare, Update, Push, Modify, SetStack, Sense, Jump, Skip, Branch, BranchIndexed}
 use Rattle.code_forms.specs.Forms.{SkipBy, source_operand, Target, ToRegister, target_operand, target_bytes, instruction_of, form_bytes}
 use Rattle.code_forms.specs.Forms.{Core}
 use Rattle.code_forms.specs.Code.{Stands, forms_bytes}
-use Rattle.code_forms.specs.Placed.{placed, words_of, instructions, Holds, AreInstructions, IsOutside, LeavesCode}
-use Rattle.code_forms.specs.Laws.{FormsStandWherePlaced, PlacedIsTidy, CodeInFramRuns}
+use Rattle.code_forms.specs.Placed.{placed, words_of, instructions, Holds, AreInstructions, IsOutside}
+use Rattle.code_forms.specs.Laws.{FormsStandWherePlaced, PlacedIsTidy, IsNoHole, CodeInFramSteps, CodeGoesUndisturbed}
 use Rattle.code_forms.proofs.Forms.{from_small, from_length, to_length}
 
 -- a form's length is that of its instruction's words
@@ -150,9 +148,29 @@ pub holds_stores : (es : List Effect) (f : ℕ → ℕ) (p : ℕ) (ws : List ℕ
 holds_stores [] f p ws s h = h
 holds_stores (e ∷ es) f p ws s h = holds_stores es (fram_after_one e f) p ws s.1 (holds_store f p ws e s.0 h)
 
--- it doesn't stop for want of an instruction
-abbrev IsNoHole : MachineOutcome → Type 0
-IsNoHole o = (es : List Effect) (price pc word : ℕ) → o ≡ Stops es price (stop.Illegal pc word) → ⊥
+-- what isn't astray is as it is
+undisturbed_goes : (b : Bool) (s t : MachineBoard) (es : List Effect) (c : ℕ) → is_interruptible t.registers ≡ b → IsNoHole (undisturbed s (Goes es c t))
+    → undisturbed s (Goes es c t) ≡ Goes es c t
+undisturbed_goes true s t es c e hole = absurd (hole [] 0 _ _ (ap (λ b. if b then Stops [] 0 (astray s) else Goes es c t) e))
+undisturbed_goes false s t es c e hole = ap (λ b. if b then Stops [] 0 (astray s) else Goes es c t) e
+
+undisturbed_is : (s : MachineBoard) (o : MachineOutcome) → IsNoHole (undisturbed s o) → undisturbed s o ≡ o
+undisturbed_is s (Goes es c t) hole = undisturbed_goes (is_interruptible t.registers) s t es c refl hole
+undisturbed_is s (Stops es price e) hole = refl
+
+goes_by : (b : Bool) (s t u : MachineBoard) (es fs : List Effect) (c d : ℕ) → is_interruptible t.registers ≡ b
+    → ◌≡◌ {A = MachineOutcome} (if b then Stops [] 0 (astray s) else Goes es c t) (Goes fs d u) → is_interruptible u.registers ≡ false
+goes_by true s t u es fs c d e h = absurd cc
+goes_by false s t u es fs c d e h = let same : t ≡ u = cc in ap (λ v. is_interruptible v.registers) (sym same) ∙ e
+
+goes_on_undisturbed : (s u : MachineBoard) (o : MachineOutcome) (fs : List Effect) (d : ℕ) → undisturbed s o ≡ Goes fs d u
+    → is_interruptible u.registers ≡ false
+goes_on_undisturbed s u (Goes es c t) fs d h = goes_by (is_interruptible t.registers) s t u es fs c d refl h
+goes_on_undisturbed s u (Stops es price e) fs d h = absurd cc
+
+-- where code that stays goes on, the CPU accepts no interrupt
+pub code_goes_undisturbed : CodeGoesUndisturbed
+code_goes_undisturbed code s t es c h = goes_on_undisturbed s t (step_with (code (s.registers 0)) s) es c h
 
 if_off : (n : ℕ) (o : MachineOutcome) → n ≡ 1 → Stops [] 0 stop.Off ≡ (if n == 1 then Stops [] 0 stop.Off else o)
 if_off n o e = rw e refl
@@ -188,49 +206,20 @@ module _ (p : ℕ) (is : List Instr) (are : AreInstructions is) (even : p % 2 �
   none_at s q (stop.Bus at a) k h t hole = absurd (stopped_at s q (stop.Bus at a) k.0 k h t hole)
   none_at s q stop.NoReading k h t hole = absurd k
 
+  step_as : (s : MachineBoard) (o : MachineOutcome) → IsMachineStep s o → Holds s.fram p (words_of is) → IsNoHole (step_with (there (s.registers 0)) s)
+      → o ≡ step_with (there (s.registers 0)) s
+  step_as s o (NoInstruction e k) h hole = none_at s (there (s.registers 0)) e k h refl hole
+  step_as s o (Executes i c) h hole = executes_at s (there (s.registers 0)) i c h refl hole
+
   -- a step of the machine is a step of the code that stays
   step_is : (s : MachineBoard) (o : MachineOutcome) → IsMachineStep s o → Holds s.fram p (words_of is) → IsNoHole (exec there s) → o ≡ exec there s
-  step_is s o (NoInstruction e k) h hole = none_at s (there (s.registers 0)) e k h refl hole
-  step_is s o (Executes i c) h hole = executes_at s (there (s.registers 0)) i c h refl hole
-
-  abbrev next : ℕ → MachineBoard → MachineStretch
-  next n = going (exec there) n
-
-  no_hole : (n : ℕ) (s : MachineBoard) → LeavesCode p (length (words_of is)) (next (suc n) s) → IsNoHole (exec there s)
-  no_hole n s l es price pc word e = l.stands price pc word (ap (λ o. (continued o (next n)).status) e)
-
-  halts_part : (n : ℕ) (s : MachineBoard) (es : List Effect) (price : ℕ) (x : Stop) → IsMachineStep s (Stops es price x)
-      → Holds s.fram p (words_of is) → LeavesCode p (length (words_of is)) (next (suc n) s) → stretch es 0 (Halted price x) ≡ next (suc n) s
-  halts_part n s es price x st h l = ap (λ o. continued o (next n)) (step_is s (Stops es price x) st h (no_hole n s l))
-
-  steps_part : (n : ℕ) (s t : MachineBoard) (es : List Effect) (c : ℕ) (r : MachineStretch) → IsMachineStep s (Goes es c t)
-      → Holds s.fram p (words_of is) → LeavesCode p (length (words_of is)) (next (suc n) s)
-      → (Holds t.fram p (words_of is) → LeavesCode p (length (words_of is)) (next n t) → r ≡ next n t) → after_effects es c r ≡ next (suc n) s
-  steps_part n s t es c r st h l ih =
-      let e = step_is s (Goes es c t) st h (no_hole n s l) in
-      let f : EachStore (IsOutside p (length (words_of is))) (es ++ (next n t).effects) =
-      subst (λ o. EachStore (IsOutside p (length (words_of is))) (continued o (next n)).effects) (sym e) l.stores in
-      let changed : ChangesByEffects s (Goes es c t) = subst (λ o. ChangesByEffects s o) (sym e) (step_changes (there (s.registers 0)) s) in
-      let ch : t.fram ≡ fram_after es s.fram = changed.0 in
-      let h' = subst (λ g. Holds g p (words_of is)) (sym ch) (holds_stores es s.fram p (words_of is)
-      (each_store-front (IsOutside p (length (words_of is))) es (next n t).effects f) h) in
-      let l' : LeavesCode p (length (words_of is)) (next n t) = record {
-        stores = each_store-back (IsOutside p (length (words_of is))) es
-            (next n t).effects f;
-        stands = λ price pc word q. l.stands price pc word (ap (λ o. (continued o (next n)).status) (sym e) ∙ q);
-      } in
-      ap (after_effects es c) (ih h' l') ∙ ap (λ o. continued o (next n)) e
-
-  -- so many steps of the machine are those of the code that stays
-  pub transfer : (n : ℕ) (s : MachineBoard) (r : MachineStretch) → MachineRun n s r → Holds s.fram p (words_of is)
-      → LeavesCode p (length (words_of is)) (going (exec there) n s) → r ≡ going (exec there) n s
-  transfer n s r (Stays _) h l = refl
-  transfer n s r (Halts k _ es price x st) h l = halts_part k s es price x st h l
-  transfer n s r (Steps k _ t es c q st rest) h l = steps_part k s t es c q st h l (λ h' l'. transfer k t q rest h' l')
+  step_is s o is_step h hole =
+      let same = undisturbed_is s (step_with (there (s.registers 0)) s) hole in
+      step_as s o is_step h (subst IsNoHole same hole) ∙ sym same
 
 -- code that stands in FRAM is executed as it stands
-pub code_in_fram_runs : CodeInFramRuns
-code_in_fram_runs p is n s r are even low high run h l = transfer p is are even low high n s r run h l
+pub code_in_fram_steps : CodeInFramSteps
+code_in_fram_steps p is s o are even low high is_step h hole = step_is p is are even low high s o is_step h hole
 
 -- instructions stand at even addresses, within their bytes
 placed_within : (is : List Instr) (q : ℕ) → q % 2 ≡ 0 → (a : ℕ) (i : Instr) → placed q is a ≡ Some i

@@ -1,14 +1,16 @@
 -- Laws of the forms and of code that stands in FRAM.
-use Rattle.std.specs.Prelude.{◌≡◌, ℕ, ◌+◌, ◌*◌, ◌%◌, ◌<◌, ◌≤◌, List, length, Some}
+use Rattle.std.specs.Prelude.{◌≡◌, ◌≢◌, false, ℕ, ◌+◌, ◌*◌, ◌%◌, ◌<◌, ◌≤◌, List, length, Some}
 use Rattle.machine_effects.specs.address_space.Limits.{fram_first, fram_end}
 use Rattle.machine_effects.specs.msp_isa.declared.instructions.Instr.{Instr}
+use Rattle.machine_effects.specs.msp_step.declared.machine.Stop.TheVariants as stop
+use Rattle.machine_effects.specs.msp_step.Step.{is_interruptible}
 use Rattle.machine_effects.specs.fram_board.Board.{PowerState}
 use Rattle.machine_effects.specs.fram_board.Effects.{Effect}
-use Rattle.machine_effects.specs.Going.{At, stretch, Leads, going}
-use Rattle.machine_effects.specs.Machine.{Code, MachineBoard, MachineStretch, MachineRun, exec, step_with, machine_powered}
+use Rattle.machine_effects.specs.Going.{Goes, Stops, At, stretch, Leads, going}
+use Rattle.machine_effects.specs.Machine.{Code, MachineBoard, MachineOutcome, IsMachineStep, exec, step_with, machine_powered}
 use Rattle.code_forms.specs.Forms.{Core, board_of, core_of, outcome_of_core, Form, instruction_of, form_step, FormNeeds, ram_read, IsCodeAddress}
 use Rattle.code_forms.specs.Code.{Stands, AreStraight, forms_run, FormsNeed, IsTidy, IsAtForm, OfState, StepsAreForms}
-use Rattle.code_forms.specs.Placed.{placed, words_of, instructions, Holds, AreInstructions, LeavesCode}
+use Rattle.code_forms.specs.Placed.{placed, words_of, instructions, Holds, AreInstructions}
 
 -- a machine that was powered up has its registers told apart
 abbrev pub PoweredHasACore : Type 0
@@ -46,10 +48,16 @@ FormsStandWherePlaced = (ms : List Form) (p : ℕ) → Stands (placed p (instruc
 abbrev pub PlacedIsTidy : Type 0
 PlacedIsTidy = (is : List Instr) (p : ℕ) → p % 2 ≡ 0 → p + 2 * length (words_of is) + 6 ≤ fram_end → IsTidy (placed p is)
 
--- a machine whose FRAM holds instructions goes as the code that they are, as long as no store falls on them and it never comes to
--- where none stands
-abbrev pub CodeInFramRuns : Type 0
-CodeInFramRuns = (p : ℕ) (is : List Instr) (n : ℕ) (s : MachineBoard) (r : MachineStretch)
+-- it doesn't go astray
+abbrev pub IsNoHole : MachineOutcome → Type 0
+IsNoHole o = (es : List Effect) (price pc word : ℕ) → o ≢ Stops es price (stop.Illegal pc word)
+
+-- a machine whose FRAM holds instructions steps as the code that they are, where that doesn't go astray
+abbrev pub CodeInFramSteps : Type 0
+CodeInFramSteps = (p : ℕ) (is : List Instr) (s : MachineBoard) (o : MachineOutcome)
     → AreInstructions is → p % 2 ≡ 0 → fram_first ≤ p → p + 2 * length (words_of is) < fram_end
-    → MachineRun n s r → Holds s.fram p (words_of is) → LeavesCode p (length (words_of is)) (going (exec (placed p is)) n s)
-    → r ≡ going (exec (placed p is)) n s
+    → IsMachineStep s o → Holds s.fram p (words_of is) → IsNoHole (exec (placed p is) s) → o ≡ exec (placed p is) s
+
+-- where code that stays goes on, the CPU accepts no interrupt
+abbrev pub CodeGoesUndisturbed : Type 0
+CodeGoesUndisturbed = (code : Code) (s t : MachineBoard) (es : List Effect) (c : ℕ) → exec code s ≡ Goes es c t → is_interruptible t.registers ≡ false

@@ -1,7 +1,7 @@
 //! Laws of the forms. The functions do nothing: their contracts are the laws.
 
 ghost use Rattle.code_forms.specs.Laws.{PoweredHasACore, FormsDoAsInstructions, StraightCodeLeads, FormsReadFromSp, FormsStandWherePlaced, PlacedIsTidy};
-ghost use Rattle.code_forms.specs.Laws.{CodeInFramRuns};
+ghost use Rattle.code_forms.specs.Laws.{CodeInFramSteps, CodeGoesUndisturbed};
 
 /// A machine that was powered up has SR and R3 at 0, so that its registers can be told apart.
 pub fn powered_machine_has_a_core()
@@ -33,9 +33,10 @@ pub fn placed_code_stands()
     ensures tidy { PlacedIsTidy }
 {}
 
-/// A machine whose FRAM holds instructions goes as the code that they are, as long as no store falls on them and it never
-/// comes to where none of them stands.
-#[tactic(auto, using(crate::proofs::Placed::code_in_fram_runs))]
-pub fn code_in_fram_runs()
-    ensures { CodeInFramRuns }
+/// A machine whose FRAM holds instructions steps as the code that they are, where that doesn't go astray; and behind each
+/// step of such code the CPU accepts no interrupt.
+#[tactic(auto, using(crate::proofs::Placed::code_in_fram_steps, crate::proofs::Placed::code_goes_undisturbed))]
+pub fn code_in_fram_steps()
+    ensures same { CodeInFramSteps }
+    ensures undisturbed { CodeGoesUndisturbed }
 {}

@@ -15,9 +15,10 @@ use Rattle.msp_cycles.specs.Cycles.{CycleRow, operand_cycles, source_cycles, des
 use Rattle.msp_step.specs.Registers.{Registers}
 use Rattle.msp_step.specs.Access.{Access, Completed, Faulted}
 use Rattle.msp_step.specs.Effect.{Written}
-use Rattle.msp_step.specs.Step.{effect, off_bit}
-use Rattle.machine_effects.specs.Going.{Stops}
-use Rattle.machine_effects.specs.Machine.{Code, MachineBus, MachineBoard, MachineOutcome, machine_bus, machine_opened, machine_outcome, standing, exec}
+use Rattle.msp_step.specs.Step.{effect, is_interruptible, off_bit}
+use Rattle.machine_effects.specs.Going.{Goes, Stops}
+use Rattle.machine_effects.specs.Machine.{Code, MachineBus, MachineBoard, MachineOutcome, machine_bus, machine_opened, machine_outcome, standing, step_with}
+use Rattle.machine_effects.specs.Machine.{astray, undisturbed, exec}
 use Rattle.crash_rules.specs.Runs.{TakesCycles}
 
 -- each column for an operand has a cycle at least
@@ -83,7 +84,13 @@ either_takes : (b : Bool) (x y : MachineOutcome) → TakesCycles x → TakesCycl
 either_takes true x y h k = h
 either_takes false x y h k = k
 
+undisturbed_takes : (s : MachineBoard) (o : MachineOutcome) → TakesCycles o → TakesCycles (undisturbed s o)
+undisturbed_takes s (Goes es c t) h =
+    either_takes (is_interruptible t.registers) (Stops [] 0 (astray s)) (Goes es c t) (λ q. absurd (cc (q))) h
+undisturbed_takes s (Stops es price e) h = h
+
 pub code_takes : (code : Code) (s : MachineBoard) → TakesCycles (exec code s)
 code_takes code s =
     let i = code (s.registers 0) in
-    either_takes (off_bit s.registers == 1) (Stops [] 0 stop.Off) (standing i s) (λ q. absurd (cc (q))) (standing_takes i s)
+    undisturbed_takes s (step_with i s)
+    (either_takes (off_bit s.registers == 1) (Stops [] 0 stop.Off) (standing i s) (λ q. absurd (cc (q))) (standing_takes i s))

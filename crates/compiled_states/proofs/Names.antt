@@ -22,7 +22,7 @@ pub use Rattle.image_map.specs.MapValue.{IsFramWord, MapValue, TaskValue, word_c
 pub use Rattle.image_text.specs.ImageValue.{ImageValue, place_of}
 pub use Rattle.state_text.specs.declared.state.State.{State}
 -- the board
-pub use Rattle.fram_board.specs.Board.{BoardValue, board_outcome, executed, next_number, opened, powered, receiver_after}
+pub use Rattle.fram_board.specs.Board.{BoardValue, board_outcome, next_number, opened, powered, receiver_after}
 pub use Rattle.fram_board.specs.Bus.{BusState, board_bus, is_fram}
 pub use Rattle.fram_board.specs.Run.{BoardCharge, ChargeRun, Charges, Executed, Last, Measure, Moment, Next, NoInstruction, Over, Refused, Run, RunOutcome}
 pub use Rattle.fram_board.specs.Run.{Spent, Stopped, TooDear, price, run_outcome}
@@ -33,7 +33,7 @@ pub use Rattle.machine_effects.specs.World.{World}
 pub use Rattle.runtime_effects.specs.Places.{CopyPair, entries_from, listed, run_pairs}
 pub use Rattle.stands_for.specs.Layout.{IsAmong, IsCopyWord, IsSharedWord, ProgramPlaces}
 pub use Rattle.stands_for.specs.StandsFor.{IsAtRest, IsOpen, IsPendingCommit, IsSound, SoundAtRest, SoundPending, VersionsWithin, words_at}
-pub use Rattle.run_charges.proofs.Interface.{Counts, charge_last, front_moments, moments_count}
+pub use Rattle.run_charges.proofs.Interface.{charge_last}
 -- sources
 pub use Rattle.task_ast.specs.declared.Extent.{Extent}
 pub use Rattle.task_ast.specs.declared.SharedDeclaration.{SharedDeclaration}
@@ -61,7 +61,7 @@ pub use Rattle.layout_facts.proofs.Interface.{among_back, among_either, among_fr
 pub use Rattle.image_laws.proofs.Interface.{half, images_are_fresh, laid_out, worlds_stand}
 pub use Rattle.image_laws.specs.Compiled.{IsCompiled, IsImageOf}
 pub use Rattle.image_laws.specs.Laws.{IsFreshImage, fresh_world}
-pub use Rattle.image_reports.proofs.Interface.{images_belong, images_resume, made, run_of_words}
+pub use Rattle.image_reports.proofs.Interface.{images_belong, images_resume, made}
 pub use Rattle.image_reports.specs.Resumed.{BelongsTo, IsResumedRun, IsToldOnward, known_from}
 -- this crate
 pub use Rattle.compiled_states.specs.Laws.{FreshStatesBelong, ImagesSuitTheirSources, MigratedStatesBelong, StatesAreTold, StatesAreWorlds, StatesGoOn}

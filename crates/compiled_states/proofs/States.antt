@@ -1,9 +1,9 @@
 -- States that belong to the image of an accepted source are its worlds, and go on as it says.
 use Rattle.compiled_states.proofs.Names.{◌≡◌, ◌⊎◌, inl, inr, ℕ, ◌%◌, ◌<◌, ◌≤◌, false, List, [], ◌++◌, length, Option, Some, refl, sym, ap, ◌∙◌, subst, arith}
-use Rattle.compiled_states.proofs.Names.{All, append-nil, replicate, length-map, length-replicate, cases_lt, State, is_named, MemoryMap, MapValue, ImageValue}
-use Rattle.compiled_states.proofs.Names.{BoardValue, BoardCharge, Moment, RunOutcome, Run, saved, World, IsFram, fram_of, last_board, Counts, moments_count}
-use Rattle.compiled_states.proofs.Names.{front_moments, Allow, CheckedProgram, map_of, IsCompiled, IsImageOf, IsFreshImage, laid_out, images_are_fresh}
-use Rattle.compiled_states.proofs.Names.{BelongsTo, known_from, IsToldOnward, IsResumedRun, made, images_belong, run_of_words, images_resume, world_of}
+use Rattle.compiled_states.proofs.Names.{append-nil, replicate, length-map, length-replicate, cases_lt, State, is_named, MemoryMap, MapValue, ImageValue}
+use Rattle.compiled_states.proofs.Names.{BoardValue, BoardCharge, Moment, RunOutcome, Run, saved, World, IsFram, fram_of, last_board}
+use Rattle.compiled_states.proofs.Names.{Allow, CheckedProgram, map_of, IsCompiled, IsImageOf, IsFreshImage, laid_out, images_are_fresh}
+use Rattle.compiled_states.proofs.Names.{BelongsTo, known_from, IsToldOnward, IsResumedRun, made, images_belong, images_resume, world_of}
 use Rattle.compiled_states.proofs.Names.{MayHaveAccepted, HasFramWords, HasCodeWords, board_of, LeavesItsStates, StatesAreWorlds, WorldsAreStates}
 use Rattle.compiled_states.proofs.Names.{FreshStatesBelong, StatesGoOn, StatesAreTold, StatesStay}
 use Rattle.fram_state.specs.Sound as state
@@ -14,13 +14,13 @@ use Rattle.whole_programs.proofs.Interface.{privates_are_few}
 use Rattle.board_run.specs.Charges.{charges_of}
 use Rattle.board_run.specs.History.{start_of}
 use Rattle.board_run.specs.Report.{report_of}
-use Rattle.crash_rules.specs.History.{first_history}
 use Rattle.run_charges.specs.Charges.{ArePowerStates}
-use Rattle.run_charges.specs.Laws.{IsRunOfWords}
-use Rattle.source_runs.proofs.Interface.{traces_are_few}
+use Rattle.energy_trace.specs.TraceValue.{Event}
+use Rattle.source_runs.specs.Traces.{AreInputs}
+use Rattle.source_runs.proofs.Interface.{traces_are_few, trace_inputs}
 use Rattle.source_maps.specs.Laws.{IsSourceMap}
 use Rattle.compiled_runs.proofs.Interface.{code_is_placed}
-use Rattle.image_reports.specs.ImageLaw.{runtime_marks, KeepsCode}
+use Rattle.image_reports.specs.ImageLaw.{KeepsCode}
 use Rattle.compiled_states.proofs.Words.{fram_at}
 use Rattle.compiled_states.proofs.Named.{Mapped, its_map, named, unnamed}
 use Rattle.compiled_states.proofs.Sound.{Saved, list_within, emits_within, versions_within, is_sound, keeps_rules}
@@ -152,17 +152,17 @@ record StateRun : Type 0 where
   pub charges : List BoardCharge
   pub starts : ArePowerStates charges
   pub readings : List ℕ
-  pub words : All (λ w. w < 0x10000) readings
-  pub few : length readings ≤ 262144
+  pub events : List Event
+  pub inputs : AreInputs readings events
   pub outcome : RunOutcome
-  pub run : Run charges (board_of state readings) outcome
+  pub run : Run charges (board_of state readings events) outcome
 
 module _ (on : StateRun) where
-  open on use {text, image, of, state as s, accepted, whole, counted, belongs as b, charges as cs, starts, readings, words, few, outcome as r, run}
+  open on use {text, image, of, state as s, accepted, whole, counted, belongs as b, charges as cs, starts, readings, events, inputs, outcome as r, run}
   open (on.of) use {program as p, allow, accepted as ok, compiled as c}
 
   abbrev first : BoardValue
-  first = board_of s readings
+  first = board_of s readings events
 
   abbrev x : World
   x = world_of s accepted
@@ -170,16 +170,7 @@ module _ (on : StateRun) where
   lawful : IsResumedRun text p allow c.layout image x cs first r
   lawful =
       images_resume text p allow image ok c s.image.words whole.count whole.are_words s.receiver accepted counted
-      (as_world text image of s accepted counted whole b) cs starts readings words few r run
-
-  -- the FRAM of each board is whole
-  fram_length : (ms rest : List Moment) → r.moments ≡ ms ++ rest → length (last_board first ms).fram ≡ 24064
-  fram_length ms rest e =
-      let marks = runtime_marks c.layout in
-      let own : IsRunOfWords cs first r = run_of_words s.image.words whole.count whole.are_words s.receiver cs starts readings words few r run in
-      let none : Counts first (first_history marks x) accepted =
-      record { whole = own.whole; words = own.words; accepted = refl; count = omega (arith, counted); taken = refl } in
-      (moments_count marks first (first_history marks x) accepted ms none (front_moments cs first r ms rest starts run e)).whole.board.fram
+      (as_world text image of s accepted counted whole b) cs starts readings events inputs r run
 
   board_belongs : (ms rest : List Moment) → r.moments ≡ ms ++ rest → Belongs image (saved (last_board first ms) s.image.map)
   board_belongs ms rest e =
@@ -188,7 +179,7 @@ module _ (on : StateRun) where
       let heard = (known_from c.layout x ms).world.accepted in
       let code = code_words text image of s b.map b.have.of_image b.others in
       let Kept : (ℕ → ℕ) → Type 0 = λ f. BelongsTo p c.layout image (record { fram = f; accepted = heard }) in
-      as_state text image of (saved t s.image.map) heard k.number (fram_length ms rest e) (b.have.of_state ∙ sym b.have.of_image)
+      as_state text image of (saved t s.image.map) heard k.number k.whole.board.fram (b.have.of_state ∙ sym b.have.of_image)
       (λ a is from. k.kept a from ∙ code a is from) (subst Kept k.fram k.belongs)
 
   leaves : LeavesItsStates image s first r
@@ -198,7 +189,7 @@ module _ (on : StateRun) where
   }
 
 pub states_go_on : StatesGoOn
-states_go_on text p allow image ok c s accepted whole number b cs starts readings words few r run =
+states_go_on text p allow image ok c s accepted whole number b cs starts readings events inputs r run =
     let on : StateRun = record {
       text = text;
       image = image;
@@ -211,8 +202,8 @@ states_go_on text p allow image ok c s accepted whole number b cs starts reading
       charges = cs;
       starts = starts;
       readings = readings;
-      words = words;
-      few = few;
+      events = events;
+      inputs = inputs;
       outcome = r;
       run = run;
     } in
@@ -223,10 +214,10 @@ states_are_told image s whole b trace t r run text p allow ok c accepted number 
     let few = traces_are_few trace t in
     let l = c.layout in
     let P : Option MapValue → Type 0 = λ o. IsToldOnward text p (map_of text p l allow) l (world_of s accepted) (charges_of trace.charges)
-    (board_of s trace.readings) r (report_of (start_of (record { words = s.image.words; map = o })) r) in
+    (board_of s trace.readings trace.events) r (report_of (start_of (record { words = s.image.words; map = o })) trace.events r) in
     subst P (b.have.of_image ∙ sym b.have.of_state)
-    ((states_go_on text p allow image ok c s accepted whole number b (charges_of trace.charges) few.0 trace.readings t.readings t.trace.readings r run).0.told
-    few.1)
+    ((states_go_on text p allow image ok c s accepted whole number b (charges_of trace.charges) few.0 trace.readings trace.events
+    (trace_inputs trace t) r run).0.told few.1)
 
 -- so many words that a receiver takes next the one of a number
 abbrev pub some_words : ℕ → List ℕ
@@ -239,4 +230,4 @@ pub states_stay : StatesStay
 states_stay text image of s whole b trace t r run =
     let few = traces_are_few trace t in
     (states_go_on text of.program of.allow image of.accepted of.compiled s (some_words s.receiver) whole (words_before s.receiver whole.receiver) b
-    (charges_of trace.charges) few.0 trace.readings t.readings t.trace.readings r run).1
+    (charges_of trace.charges) few.0 trace.readings trace.events (trace_inputs trace t) r run).1

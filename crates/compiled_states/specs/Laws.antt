@@ -1,5 +1,5 @@
 -- What holds of the states of images of accepted sources.
-use Rattle.std.specs.Prelude.{◌≡◌, ℕ, ◌<◌, ◌≤◌, List, length, All, Some, IfSome}
+use Rattle.std.specs.Prelude.{◌≡◌, ℕ, List, length, Some, IfSome}
 use Rattle.address_space.specs.Limits.{fram_words}
 use Rattle.state_text.specs.declared.state.State.{State}
 use Rattle.fram_state.specs.Belongs.{Belongs}
@@ -8,13 +8,13 @@ use Rattle.fram_state.specs.Migrated.{EditionValue, edition_with, rows_of, IsSta
 use Rattle.image_map.specs.MapValue.{MapValue}
 use Rattle.image_map.specs.Kept.{IsMap}
 use Rattle.image_text.specs.ImageValue.{ImageValue}
-use Rattle.energy_trace.specs.TraceValue.{TraceValue}
+use Rattle.energy_trace.specs.TraceValue.{Event, TraceValue}
 use Rattle.fram_board.specs.Run.{BoardCharge, RunOutcome, Run}
 use Rattle.board_run.specs.Charges.{charges_of}
 use Rattle.board_run.specs.History.{start_of}
 use Rattle.board_run.specs.Report.{report_of}
 use Rattle.run_charges.specs.Charges.{ArePowerStates}
-use Rattle.source_runs.specs.Traces.{IsTraceOfWords}
+use Rattle.source_runs.specs.Traces.{AreInputs, IsTraceOfWords}
 use Rattle.cost_bound.specs.declared.allowance.Allow.{Allow}
 use Rattle.source_values.specs.Runs.{CheckedProgram}
 use Rattle.source_meaning.specs.Acceptance.{IsAcceptedText}
@@ -42,25 +42,26 @@ abbrev pub FreshStatesBelong : Type 0
 FreshStatesBelong = (text : List ℕ) (image : ImageValue) → IsImageOf text image → Belongs image (record { image = image; receiver = 0 })
 
 -- each run from a state that belongs to the image keeps the laws of runs that go on, whatever words were accepted before: under every list of
--- charges, from every state that each power-up may leave, and on all readings that a board may hold; and what is saved of each of its boards
+-- charges, from every state that each power-up may leave, and on all readings and events that a board may hold; and what is saved of each of its boards
 -- belongs to the image again
 abbrev pub StatesGoOn : Type 0
 StatesGoOn = OfImages (λ text p allow image c. (s : State) (accepted : List ℕ) → HasFramWords s → MayHaveAccepted s accepted → Belongs image s
-    → (cs : List BoardCharge) → ArePowerStates cs → (readings : List ℕ) → All (λ w. w < 0x10000) readings → length readings ≤ 262144
-    → (r : RunOutcome) → Run cs (board_of s readings) r
-    → IsResumedRun text p allow c.layout image (world_of s accepted) cs (board_of s readings) r × LeavesItsStates image s (board_of s readings) r)
+    → (cs : List BoardCharge) → ArePowerStates cs → (readings : List ℕ) (events : List Event) → AreInputs readings events
+    → (r : RunOutcome) → Run cs (board_of s readings events) r
+    → IsResumedRun text p allow c.layout image (world_of s accepted) cs (board_of s readings events) r
+    × LeavesItsStates image s (board_of s readings events) r)
 
 -- on any trace of words, the report of the one run from a state that belongs to an image is told by the image's source
 abbrev pub StatesAreTold : Type 0
 StatesAreTold = (image : ImageValue) (s : State) → HasFramWords s → Belongs image s → (trace : TraceValue) → IsTraceOfWords trace
-    → (r : RunOutcome) → Run (charges_of trace.charges) (board_of s trace.readings) r
-    → IsToldByItsSource image s trace r (report_of (start_of s.image) r)
+    → (r : RunOutcome) → Run (charges_of trace.charges) (board_of s trace.readings trace.events) r
+    → IsToldByItsSource image s trace r (report_of (start_of s.image) trace.events r)
 
 -- and it leaves states that belong to the image, where this is one of an accepted source
 abbrev pub StatesStay : Type 0
 StatesStay = (text : List ℕ) (image : ImageValue) → IsImageOf text image → (s : State) → HasFramWords s → Belongs image s → (trace : TraceValue)
-    → IsTraceOfWords trace → (r : RunOutcome) → Run (charges_of trace.charges) (board_of s trace.readings) r
-    → LeavesItsStates image s (board_of s trace.readings) r
+    → IsTraceOfWords trace → (r : RunOutcome) → Run (charges_of trace.charges) (board_of s trace.readings trace.events) r
+    → LeavesItsStates image s (board_of s trace.readings trace.events) r
 
 -- the image suits its source
 abbrev pub ImagesSuitTheirSources : Type 0

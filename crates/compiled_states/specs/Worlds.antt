@@ -4,7 +4,7 @@ use Rattle.address_space.specs.Limits.{fram_words}
 use Rattle.state_text.specs.declared.state.State.{State}
 use Rattle.fram_state.specs.Belongs.{Belongs}
 use Rattle.image_text.specs.ImageValue.{ImageValue}
-use Rattle.energy_trace.specs.TraceValue.{TraceValue}
+use Rattle.energy_trace.specs.TraceValue.{Event, TraceValue}
 use Rattle.fram_board.specs.Board.{BoardValue, started}
 use Rattle.fram_board.specs.Run.{Moment, RunOutcome}
 use Rattle.fram_board.specs.Saved.{saved}
@@ -53,16 +53,17 @@ pub record BelongsAt (p : CheckedProgram) (l : MemoryMap) (image : ImageValue) (
   pub rests : (accepted : List ℕ) → MayHaveAccepted s accepted
       → (compiled_model p l).Rests (state_with shared task accepted) (world_of s accepted)
 
--- the board that goes on from a state, on these readings
-abbrev pub board_of : State → List ℕ → BoardValue
-board_of s readings = started s.image.words s.receiver readings
+-- the board that goes on from a state, on these readings and events
+abbrev pub board_of : State → List ℕ → List Event → BoardValue
+board_of s readings events = started s.image.words s.receiver readings events
 
 -- A run from a state on a trace is told so by whatever source the image is of, whatever words were accepted before: from the state on; or, where
 -- its commit is pending, behind the transition that this makes
 abbrev pub IsToldByItsSource : ImageValue → State → TraceValue → RunOutcome → List ℕ → Type 0
 IsToldByItsSource image s trace r report = (text : List ℕ) (p : CheckedProgram) (allow : Allow) → IsAcceptedText text p allow
     → (c : IsCompiled text p allow image) → (accepted : List ℕ) → MayHaveAccepted s accepted
-    → IsToldOnward text p (map_of text p c.layout allow) c.layout (world_of s accepted) (charges_of trace.charges) (board_of s trace.readings) r report
+    → IsToldOnward text p (map_of text p c.layout allow) c.layout (world_of s accepted) (charges_of trace.charges)
+    (board_of s trace.readings trace.events) r report
 
 -- what is saved of each board of a run from a state belongs to the image, and so does what is saved at its end
 pub record LeavesItsStates (image : ImageValue) (s : State) (b : BoardValue) (r : RunOutcome) : Type 0 where

@@ -5,6 +5,8 @@ use Rattle.image_reports.proofs.Names.{first_state, first_history, Origin, Resti
 use Rattle.image_reports.proofs.Names.{IsPlacedProgram, IsRunOfWords, MemoryMap, compiled_model, source_code, compiled_program, code_keeps_the_laws}
 use Rattle.image_reports.proofs.Names.{code_is_placed, runs_leave_the_code, BearsModel, map_of, IsCompiled, fresh_world, IsFreshImage, IsReadyToRun}
 use Rattle.image_reports.proofs.Names.{runtime_marks, KeepsCode}
+use Rattle.energy_trace.specs.TraceValue.{Event}
+use Rattle.source_runs.specs.Traces.{AreInputs}
 use Rattle.source_runs.specs.Sources.{BeginsWithSource}
 
 -- words that stand in a FRAM stand in each that has the same there
@@ -32,12 +34,13 @@ pub record Beginning : Type 0 where
   pub code : KeepsCode program compiled.layout image (fram_of fram)
   pub origin : Origin State
   pub readings : List ℕ
-  pub words : All (λ w. w < 0x10000) readings
+  pub events : List Event
+  pub inputs : AreInputs readings events
   pub begun : StandsFor (compiled_model program compiled.layout) readings origin
       (first_history (runtime_marks compiled.layout) (record { fram = fram_of fram; accepted = before }))
 
 module _ (at : Beginning) where
-  open at use {program as p, image, compiled as c, ready, new, fram, number, before, code, origin, readings, words, begun}
+  open at use {program as p, image, compiled as c, ready, new, fram, number, before, code, origin, readings, events, inputs, begun}
 
   abbrev l : MemoryMap
   l = c.layout
@@ -46,14 +49,14 @@ module _ (at : Beginning) where
   first_world = record { fram = fram_of fram; accepted = before }
 
   abbrev pub first_board : BoardValue
-  first_board = started fram number readings
+  first_board = started fram number readings events
 
   -- the code stands in FRAM
   pub stands_there : Holds (fram_of fram) l.boot.address (words_of (source_code p l))
   stands_there = holds_as (fram_of fram) (fram_of image.words) (words_of (source_code p l)) l.boot.address (code_is_placed p l new.fits).even code.code new.code
 
   abbrev pub begins : Begins (compiled_model p l) readings origin first_world (outside_of first_board)
-  begins = record { fram = refl; readings_left = refl; words = words; stands = begun }
+  begins = record { fram = refl; readings_left = refl; words = inputs.readings_are_words; stands = begun }
 
   abbrev pub bears : BearsModel (compiled_model p l) (compiled_program p l) readings origin first_world first_board
   bears =
@@ -74,7 +77,7 @@ module _ (at : Beginning) where
 -- ---- the fresh board
 
 module _ (text : List ℕ) (p : CheckedProgram) (allow : Allow) (image : ImageValue) (c : IsCompiled text p allow image) (readings : List ℕ)
-    (words : All (λ w. w < 0x10000) readings) (ready : IsReadyToRun p c.layout) (new : IsFreshImage text p allow c.layout image) where
+    (events : List Event) (inputs : AreInputs readings events) (ready : IsReadyToRun p c.layout) (new : IsFreshImage text p allow c.layout image) where
   pub undecided : (compiled_model p c.layout).Undecided (first_state p) (fresh_world image)
   undecided =
       let s = first_state p in
@@ -96,15 +99,16 @@ module _ (text : List ℕ) (p : CheckedProgram) (allow : Allow) (image : ImageVa
     code = record { code = λ a even from to. refl; vector = refl };
     origin = Resting (first_state p);
     readings = readings;
-    words = words;
+    events = events;
+    inputs = inputs;
     begun = (runs_may_begin (compiled_model p c.layout) ready.model readings).resting (first_state p) (fresh_world image) undecided;
   }
 
   pub begins_with_source : BeginsWithSource p (map_of text p c.layout allow) (compiled_model p c.layout) (compiled_program p c.layout) (fresh_world image)
-      (fresh image.words readings)
+      (fresh image.words readings events)
   begins_with_source = record {
     bears = bears at_first;
-    starts = record { fram = refl; accepted = refl; taken = refl };
+    starts = record { fram = refl; accepted = refl; taken = refl; heard = refl };
     undecided = undecided;
     words = new.has_words;
   }
@@ -113,10 +117,10 @@ module _ (text : List ℕ) (p : CheckedProgram) (allow : Allow) (image : ImageVa
 
 -- a run that goes on from words of FRAM is one of words, as one of a fresh board is
 pub run_of_words : (fram : List ℕ) → length fram ≡ 24064 → All (λ w. w < 0x10000) fram → (number : ℕ) (cs : List BoardCharge) → ArePowerStates cs
-    → (readings : List ℕ) → All (λ w. w < 0x10000) readings → length readings ≤ 262144 → (r : RunOutcome) → Run cs (started fram number readings) r
-    → IsRunOfWords cs (started fram number readings) r
-run_of_words fram long are_words number cs starts readings words few r run =
-    let w = fresh_is_whole fram readings long few are_words words in
+    → (readings : List ℕ) (events : List Event) → AreInputs readings events → (r : RunOutcome) → Run cs (started fram number readings events) r
+    → IsRunOfWords cs (started fram number readings events) r
+run_of_words fram long are_words number cs starts readings events inputs r run =
+    let w = fresh_is_whole fram readings events long inputs.few_readings are_words inputs.readings_are_words inputs.events_are_words in
     let whole = w.0 in let of_words = w.1 in
     record {
       whole = record {
@@ -129,6 +133,7 @@ run_of_words fram long are_words number cs starts readings words few r run =
         ram = of_words.ram;
         readings = of_words.readings;
         outnum = of_words.outnum;
+        line = of_words.line;
       };
       starts = starts;
       run = run;

@@ -1,7 +1,7 @@
 -- At each front of a run the board's next instruction is one of the code, whose words are those of the image.
 use Rattle.image_reports.proofs.Names.{◌≡◌, ℕ, zero, suc, ◌+◌, ◌*◌, ◌%◌, ◌<◌, ◌≤◌, ◌==◌, Bool, true, false, cond, refl, sym, ap, ◌∙◌, subst, arith, eqb-true}
 use Rattle.image_reports.proofs.Names.{List, [], ◌∷◌, length, length-append, Option, Some, None, slice_index, nat_tests, encoding, IsInstruction, place_of}
-use Rattle.image_reports.proofs.Names.{BoardValue, opened, Effect, StepOutcome, Goes, Stops, At, Halted, going, continued, MachineBoard, Code, standing, exec}
+use Rattle.image_reports.proofs.Names.{BoardValue, opened, Effect, StepOutcome, Goes, Stops, At, Halted, going, continued, MachineBoard, Code, standing, undisturbed, exec}
 use Rattle.image_reports.proofs.Names.{fram_of, is_fram_address, placed, words_of, Holds, AreInstructions, Marks, History, observe, behind_boot, Program}
 use Rattle.image_reports.proofs.Names.{Charge, Charged}
 use Rattle.msp_step.specs.declared.machine.Stop.TheVariants as stop
@@ -62,11 +62,13 @@ pub stands_on : (code : Code) (s : MachineBoard)
 stands_on code s goes = by (off_bit s.registers == 1) refl
   where
     by : (b : Bool) → (off_bit s.registers == 1) ≡ b → StandsOn code s
-    by true e = absurd (let x = goes [] 0 stop.Off (ap (λ b. cond b (Stops [] 0 stop.Off) (standing (code (s.registers 0)) s)) e) in cc)
+    by true e =
+        absurd (let x = goes [] 0 stop.Off (ap (λ b. undisturbed s (cond b (Stops [] 0 stop.Off) (standing (code (s.registers 0)) s))) e) in cc)
     by false e =
         let on : off_bit s.registers ≡ 0 = grind (arith, nat_tests) in
         stands_at code s (code (s.registers 0)) refl on
-        (λ es price x k. goes es price x (ap (λ b. cond b (Stops [] 0 stop.Off) (standing (code (s.registers 0)) s)) e ∙ k))
+        (λ es price x k. goes es price x
+        (ap (λ b. undisturbed s (cond b (Stops [] 0 stop.Off) (standing (code (s.registers 0)) s))) e ∙ ap (undisturbed s) k))
 
 -- an instruction of a list that stands in FRAM: its words are there, within those of the list
 pub record IsWithin (f : ℕ → ℕ) (p n a : ℕ) (i : Instr) : Type 0 where

@@ -1,13 +1,13 @@
 -- Each run of an image of an accepted text keeps the laws.
 use Rattle.image_reports.proofs.Names.{ℕ, refl, subst, arith, List, ImageValue, BoardValue, fresh, Moment, last_board, CheckedProgram, State, first_state}
-use Rattle.image_reports.proofs.Names.{MemoryMap, Model, History, Resting, traces_are_few, stops_where_short, SoundAtRest, compiled_model, is_redo}
+use Rattle.image_reports.proofs.Names.{MemoryMap, Model, History, Resting, trace_inputs, traces_are_few, stops_where_short, SoundAtRest, compiled_model, is_redo}
 use Rattle.image_reports.proofs.Names.{KeepsCapacities, compiled_program, sources_are_ready, fresh_world, laid_out, images_are_fresh, known_behind, KeepsCode}
 use Rattle.image_reports.proofs.Names.{HoldsAt, ImagesKeepTheLaws, ImagesAreTold, ImagesKeepCapacities, HoldsFrom, ImagesBelong}
 use Rattle.board_run.specs.Charges.{charges_of}
 use Rattle.image_reports.proofs.Begins.{at_first, bears, run_of_words}
 use Rattle.image_reports.proofs.Capacities.{fresh_capacities}
 use Rattle.image_reports.proofs.Told.{runs_are_told}
-use Rattle.image_reports.proofs.Onward.{Onward, front, raises, pays}
+use Rattle.image_reports.proofs.Onward.{Onward, front, unheard, raises, pays}
 
 -- the fresh image belongs to itself
 pub images_belong : ImagesBelong
@@ -37,30 +37,33 @@ held_at p l image readings b ms h k =
       versions = k.versions;
       code = subst Code k.fram k.belongs.code;
       fetches = k.fetches;
+      events = k.events;
     }
 
 pub images_keep_the_laws : ImagesKeepTheLaws
-images_keep_the_laws text p allow image ok c cs starts readings words few r go =
+images_keep_the_laws text p allow image ok c cs starts readings events inputs r go =
     let l = c.layout in
     let on : Onward = record {
-      start = at_first text p allow image c readings words (sources_are_ready text p allow c.plans l (laid_out text p allow image ok c))
+      start = at_first text p allow image c readings events inputs (sources_are_ready text p allow c.plans l (laid_out text p allow image ok c))
           (images_are_fresh text p allow image ok c);
       accepted = ok;
       belongs = images_belong text p allow image ok c;
       charges = cs;
       outcome = r;
-      run = run_of_words image.words c.words.count c.words.are_words 0 cs starts readings words few r go;
+      run = run_of_words image.words c.words.count c.words.are_words 0 cs starts readings events inputs r go;
     } in
     record {
       rests = on.start.new.rests;
       apart = on.start.ready.code.apart;
       commits = on.start.ready.model.decided_commits;
-      fronts = λ ms rest e. held_at p l image readings (last_board (fresh image.words readings) ms) ms (known_behind l image ms) (front on ms rest e);
+      fronts = λ ms rest e. held_at p l image readings (last_board (fresh image.words readings events) ms) ms (known_behind l image ms)
+          (front on ms rest e);
       stops = stops_where_short (compiled_model p l) (compiled_program p l) readings (Resting (first_state p)) (fresh_world image) cs
-          (fresh image.words readings) r on.run (bears on.start);
+          (fresh image.words readings events) r on.run (bears on.start);
+      unheard = unheard on;
       raises = raises on;
       progress = pays on;
-      told = runs_are_told text p allow image ok c cs readings words r on.run;
+      told = runs_are_told text p allow image ok c cs readings events inputs r on.run;
     }
 
 -- ---- on a trace
@@ -68,9 +71,10 @@ images_keep_the_laws text p allow image ok c cs starts readings words few r go =
 pub images_are_told : ImagesAreTold
 images_are_told text p allow image ok c trace t r run =
     let few = traces_are_few trace t in
-    (images_keep_the_laws text p allow image ok c (charges_of trace.charges) few.0 trace.readings t.readings t.trace.readings r run).told few.1
+    (images_keep_the_laws text p allow image ok c (charges_of trace.charges) few.0 trace.readings trace.events (trace_inputs trace t) r run).told few.1
 
 pub images_keep_capacities : ImagesKeepCapacities
 images_keep_capacities text p allow image ok c trace t r run ms rest e =
     let few = traces_are_few trace t in
-    ((images_keep_the_laws text p allow image ok c (charges_of trace.charges) few.0 trace.readings t.readings t.trace.readings r run).fronts ms rest e).capacities
+    ((images_keep_the_laws text p allow image ok c (charges_of trace.charges) few.0 trace.readings trace.events (trace_inputs trace t) r run).fronts ms
+    rest e).capacities

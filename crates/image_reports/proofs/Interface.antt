@@ -4,7 +4,5 @@
 pub use Rattle.image_reports.proofs.Told.{made}
 -- From an image's fresh world a run may go on.
 pub use Rattle.image_reports.proofs.ImageLaw.{images_belong}
--- A run that goes on from words of FRAM is one of words.
-pub use Rattle.image_reports.proofs.Begins.{run_of_words}
 -- Each run of a state that belongs to an image keeps the laws.
 pub use Rattle.image_reports.proofs.Resumed.{images_resume}

@@ -15,9 +15,9 @@ pub use Rattle.image_text.specs.ImageValue.{ImageValue, place_of}
 pub use Rattle.fram_board.specs.Board.{BoardValue, PowerState, filled, fresh, opened, powered, started}
 pub use Rattle.fram_board.specs.Effects.{Effect, Store}
 pub use Rattle.fram_board.specs.Run.{BoardCharge, Moment, PowerUp, Run, RunOutcome}
-pub use Rattle.machine_effects.proofs.Interface.{fram_after-append, fresh_is_whole, is_fram_address, power_up_keeps_words, put_other, put_same}
+pub use Rattle.machine_effects.proofs.Interface.{fram_after-append, fresh_is_whole, is_fram_address, put_other, put_same}
 pub use Rattle.machine_effects.specs.Going.{At, Goes, Halted, StepOutcome, Stops, continued, going}
-pub use Rattle.machine_effects.specs.Machine.{Code, IsFram, MachineBoard, exec, fram_of, standing}
+pub use Rattle.machine_effects.specs.Machine.{Code, IsFram, MachineBoard, exec, fram_of, standing, undisturbed}
 pub use Rattle.machine_effects.specs.Runs.{last_board}
 pub use Rattle.machine_effects.specs.World.{EachStore, World, fram_after, put, world_after}
 pub use Rattle.code_forms.specs.Placed.{AreInstructions, Holds, placed, words_of}
@@ -43,7 +43,7 @@ pub use Rattle.source_values.specs.Runs.{CheckedProgram, Completion, EndsWell, S
 pub use Rattle.source_values.specs.Runs.{first_state, fresh_attempt, state_after, transition_of}
 pub use Rattle.source_meaning.proofs.Interface.{accepted_texts_run}
 pub use Rattle.source_meaning.specs.Acceptance.{IsAcceptedText}
-pub use Rattle.source_runs.proofs.Interface.{read_off, resumed_runs_are_told, runs_are_told, traces_are_few}
+pub use Rattle.source_runs.proofs.Interface.{read_off, resumed_runs_are_told, runs_are_told, trace_inputs, traces_are_few}
 pub use Rattle.source_runs.specs.Tells.{EachChargePays, IsToldBySource, at_first}
 pub use Rattle.source_maps.specs.Maps.{map_of}
 -- compiled sources

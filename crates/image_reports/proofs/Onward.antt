@@ -3,7 +3,7 @@ use Rattle.image_reports.proofs.Names.{◌≡◌, ◌≢◌, ℕ, zero, ◌+◌,
 use Rattle.image_reports.proofs.Names.{append_assoc, length-take-le, encoding, BoardValue, PowerState, powered, started, filled, BoardCharge, PowerUp, Moment}
 use Rattle.image_reports.proofs.Names.{RunOutcome, World, fram_after, going, continued, fram_of, last_board, words_of, CheckedProgram, State, IsAcceptedText}
 use Rattle.image_reports.proofs.Names.{map_of, read_off, Gate, Version, MemoryMap, word_place, IsElsewhere, Model, ModelLaws, History, first_history, Program}
-use Rattle.image_reports.proofs.Names.{Origin, Phase, UndecidedPhase, DecidedPhase, CommittingPhase, Begins, power_up_keeps_words, world_fram, never_lost}
+use Rattle.image_reports.proofs.Names.{Origin, Phase, UndecidedPhase, DecidedPhase, CommittingPhase, Begins, world_fram, never_lost}
 use Rattle.image_reports.proofs.Names.{sent_once, pending_sends, stops_short, stores_only, outside_of, IsMomentFrom, PowersUp, Instructs, AreMoments}
 use Rattle.image_reports.proofs.Names.{AreInstructionMoments, IsRunOfWords, BearsModel, no_delay, Progresses, stood, AtFront, at_front, powers_up, starts_hold}
 use Rattle.image_reports.proofs.Names.{fronts_are_lawful, makes_progress, HoldsWords, IsSound, SoundAtRest, SoundPending, each_weaker, program_places}
@@ -18,9 +18,12 @@ use Rattle.fram_board.specs.Steps.{IsPowerState}
 use Rattle.fram_board.proofs.Interface.{fill_is_a_power_state}
 use Rattle.boot_runtime.specs.Entries.{task_entries}
 use Rattle.boot_runtime.specs.Listing.{privates_in}
-use Rattle.run_charges.proofs.Interface.{follows_keeps, are_behind, front_moments, run_front, instructions_reach, PlacedProgram, is_powered, leads, reached_on}
+use Rattle.run_charges.specs.Laws.{IsPlainRun}
+use Rattle.run_charges.proofs.Interface.{follows_keeps, are_behind, front_moments, run_front, PlacedProgram, is_powered, leads, reached_on, none_due}
 use Rattle.run_charges.proofs.Interface.{Counts, moments_count}
+use Rattle.board_run.specs.Events.{NeverReads}
 use Rattle.model_runs.specs.EventLaws.{StartsWith}
+use Rattle.model_runs.proofs.Interface.{moments_wait, never_reads, runs_plainly}
 use Rattle.memory_map.specs.declared.runtime.Logging.{Logging}
 use Rattle.memory_map.specs.declared.runtime.Role.{Role}
 use Rattle.compiled_model.specs.Parts.{start_of as start_due}
@@ -68,7 +71,7 @@ pub record Onward : Type 0 where
   pub belongs : BelongsTo start.program start.compiled.layout start.image (record { fram = fram_of start.fram; accepted = start.before })
   pub charges : List BoardCharge
   pub outcome : RunOutcome
-  pub run : IsRunOfWords charges (started start.fram start.number start.readings) outcome
+  pub run : IsRunOfWords charges (started start.fram start.number start.readings start.events) outcome
 
 module _ (onward : Onward) where
   open onward use {start as beginning, accepted as ok, belongs, charges as cs, outcome as r, run}
@@ -93,10 +96,17 @@ module _ (onward : Onward) where
   bearing = bears beginning
 
   pub starts_with : StartsWith b x
-  starts_with = record { fram = refl; accepted = omega (arith, counted); taken = refl }
+  starts_with = record { fram = refl; accepted = omega (arith, counted); taken = refl; heard = refl }
 
   abbrev first : History
   first = first_history (runtime_marks l) x
+
+  -- no interrupt is accepted, and nothing is read of EVENT
+  plain : IsPlainRun cs b r
+  plain = runs_plainly model program readings origin x b bearing cs r run
+
+  pub unheard : NeverReads r
+  unheard = never_reads model program readings origin x b bearing cs r run refl
 
   -- a charge stops for want of a reading alone, wherever charges lead
   stops_at_readings : StopsAtReadings program (runtime_marks l) (outside_of b) first
@@ -120,7 +130,7 @@ module _ (onward : Onward) where
   IsReached = AtFront model program readings origin x b bearing
 
   reached : (ms rest : List Moment) → r.moments ≡ ms ++ rest → IsReached (last_board b ms) (known_from l x ms)
-  reached ms rest e = at_front model program readings origin x b bearing ms (run_front cs b r ms rest run e)
+  reached ms rest e = at_front model program readings origin x b bearing ms (run_front cs b r ms rest plain e)
 
   -- the board is one that a power-up left
   begins_on : GoesOn program (outside_of b)
@@ -141,7 +151,7 @@ module _ (onward : Onward) where
   began : (ms rest : List Moment) → r.moments ≡ ms ++ rest → KeepsVersions p l (known_from l x ms).start.fram
   began ms rest e =
       starts_hold (λ w. KeepsVersions p l w.fram) (runtime_marks l) b (first_history (runtime_marks l) x) ms run.whole run.words
-      (front_moments cs b r ms rest run.starts run.run e) (keeps_versions [] r.moments refl)
+      (front_moments b r ms rest plain.moments e) (keeps_versions [] r.moments refl)
       (λ ns more d. keeps_versions ns (more ++ rest) (e ∙ ap (λ q. q ++ rest) d ∙ append_assoc ns more rest))
 
   module _ (ms rest : List Moment) (e : r.moments ≡ ms ++ rest) where
@@ -173,11 +183,14 @@ module _ (onward : Onward) where
         let to = here.to in
         record {
           instruction = i;
-          next = record {
-            on = stands.on;
-            is = here.is;
-            fetched = words_fetched t pc (encoding i) here.even (omega (arith, low, from)) (omega (arith, high, to)) here.holds;
-          };
+          next = (
+            none_due on b first (reached [] r.moments refl).ready refl ms (run_front cs b r ms rest plain e),
+            record {
+              on = stands.on;
+              is = here.is;
+              fetched = words_fetched t pc (encoding i) here.even (omega (arith, low, from)) (omega (arith, high, to)) here.holds;
+            },
+          );
           from = from;
           to = to;
           same = there.holds;
@@ -208,10 +221,11 @@ module _ (onward : Onward) where
         let first : Counts b (first_history (runtime_marks l) x) before =
         record { whole = run.whole; words = run.words; accepted = refl; count = starts_with.accepted; taken = refl } in
         let counts = moments_count (runtime_marks l) b (first_history (runtime_marks l) x) before ms first
-        (front_moments cs b r ms rest run.starts run.run e) in
+        (front_moments b r ms rest plain.moments e) in
         let Code : (ℕ → ℕ) → Type 0 = λ f. KeepsCode p l image f in
         let Capacities : (ℕ → ℕ) → Type 0 = λ f. KeepsCapacities l f in
         record {
+          whole = at.ready.whole;
           fram = sym same;
           words = counts.accepted;
           number = subst (λ ws. TakesNextBehind ws t.receiver) (sym counts.accepted) counts.count;
@@ -240,6 +254,7 @@ module _ (onward : Onward) where
           };
           kept = kept;
           fetches = fetches;
+          events = moments_wait b ms refl (front_moments b r ms rest plain.moments e);
         }
 
   -- VER is raised by the fifth instruction of a charge
@@ -251,9 +266,8 @@ module _ (onward : Onward) where
         → (outside_of start).fram (word_place l Gate) ≡ 0 → (outside_of start).fram (word_place l Version) < 0xFFFF
         → (outside_of (last_board start first)).fram (word_place l Version) ≡ (outside_of start).fram (word_place l Version) + 1
     raised_by_five first are is five gate low =
-        let reach = instructions_reach start first (power_up_keeps_words t power at.ready.whole at.ready.words powers).0 are is in
         power_ups_raise_version p l ready.code (outside_of start) (is_powered on t h at.ready power powers) gate low (outside_of (last_board start first))
-        (ap (λ n. (going program.step n (outside_of start)).status) (sym five) ∙ leads on t h at.ready power powers first is reach)
+        (ap (λ n. (going program.step n (outside_of start)).status) (sym five) ∙ leads on t h at.ready power powers first is are)
 
   -- what a charge that begins so owes
   abbrev RaisesFrom : List Moment → Moment → Type 0
@@ -269,7 +283,7 @@ module _ (onward : Onward) where
   raises_from : (t : BoardValue) → BeginsCharge t → (steps first more : List Moment) → steps ≡ first ++ more → length first ≡ 5
       → AreInstructionMoments first → (boot : Moment) → boot.action ≡ PowerUp → IsMomentFrom t boot → AreMoments boot.after first
       → RaisesFrom steps boot
-  raises_from t from steps first more cut five are boot up (Instructs i done current answer is) moments =
+  raises_from t from steps first more cut five are boot up (Instructs i done current answer same is) moments =
       absurd (let other = sym up ∙ ap (λ y. y.action) is in cc (other))
   raises_from t from steps first more cut five are boot up (PowersUp power powers is) moments =
       let P : Moment → Type 0 = λ y. AreMoments y.after first → RaisesFrom steps y in
@@ -290,7 +304,7 @@ module _ (onward : Onward) where
       let behind : r.moments ≡ ms ++ (boot ∷ (first ++ (more ++ rest))) =
       e ∙ ap (λ q. ms ++ (boot ∷ (q ++ rest))) cut ∙ ap (λ q. ms ++ (boot ∷ q)) (append_assoc first more rest) in
       let front : r.moments ≡ (ms ++ (boot ∷ first)) ++ (more ++ rest) = behind ∙ sym (append_assoc ms (boot ∷ first) (more ++ rest)) in
-      let moments = are_behind b ms (boot ∷ first) (front_moments cs b r (ms ++ (boot ∷ first)) (more ++ rest) run.starts run.run front) in
+      let moments = are_behind b ms (boot ∷ first) (front_moments b r (ms ++ (boot ∷ first)) (more ++ rest) plain.moments front) in
       let five : length first ≡ 5 = length-take-le 5 steps (omega (arith, many)) in
       let h = known_from l x ms in
       let t = last_board b ms in
@@ -309,4 +323,4 @@ module _ (onward : Onward) where
       let P : ℕ → Type 0 = λ n. Progresses (runtime_marks l) n no_delay cs b (first_history (runtime_marks l) x) r in
       let paid : Progresses (runtime_marks l) m.bound no_delay cs b (first_history (runtime_marks l) x) r =
       subst P (bound_is_the_sources p l ∙ sym ok.allowed.cycles) (makes_progress model program readings origin x cs b r run bearing) in
-      (read_off m x cs b r (made text p allow image ok c).is_map starts_with run).pays x paid starts_with
+      (read_off m x cs b r (made text p allow image ok c).is_map starts_with plain).pays x paid starts_with

@@ -1,6 +1,6 @@
 -- Each run of a state that belongs to the image of an accepted text keeps the laws.
 use Rattle.image_reports.proofs.Names.{◌≡◌, ◌<◌, ◌%◌, ◌^◌, ◌==◌, if◌then◌else◌, ℕ, refl, sym, ap, ◌∙◌, subst, arith, Option, Some, List, ◌++◌, length, drop}
-use Rattle.image_reports.proofs.Names.{All, MapValue, ImageValue, BoardValue, started, BoardCharge, RunOutcome, start_with, start_of, report_of, World}
+use Rattle.image_reports.proofs.Names.{MapValue, ImageValue, BoardValue, started, BoardCharge, RunOutcome, start_with, start_of, report_of, World}
 use Rattle.image_reports.proofs.Names.{world_after, fram_of, Allow, CheckedProgram, State, IsAcceptedText, map_of, resumed_runs_are_told, Gate, MemoryMap}
 use Rattle.image_reports.proofs.Names.{word_place, commit_effects, Model, first_history, Origin, Resting, Pending, StandsFor, runs_may_begin, IsRunOfWords}
 use Rattle.image_reports.proofs.Names.{BearsModel, all_amounts, stops_where_short, IsSound, SoundAtRest, SoundPending, IsAtRest, IsPendingCommit}
@@ -8,13 +8,15 @@ use Rattle.image_reports.proofs.Names.{unsent_are_few, program_places, compiled_
 use Rattle.image_reports.proofs.Names.{laid_out, images_are_fresh, worlds_stand, runtime_marks, BelongsTo, origin_of, pending_transition, IsToldOnward}
 use Rattle.image_reports.proofs.Names.{ToldAtRest, ToldPending, IsResumedRun, ImagesResume}
 use Rattle.std.proofs.Math.Seq.{drop-append_seam}
+use Rattle.energy_trace.specs.TraceValue.{Event}
+use Rattle.source_runs.specs.Traces.{AreInputs}
 use Rattle.source_runs.specs.Resumed.{HasTransition}
 use Rattle.source_runs.specs.Laws.{ResumedRunIsTold}
 use Rattle.compiled_model.specs.View.{state_in, state_left}
 use Rattle.image_reports.proofs.CompiledTold.{models_are_of_sources}
 use Rattle.image_reports.proofs.Told.{source}
 use Rattle.image_reports.proofs.Begins.{bears, run_of_words}
-use Rattle.image_reports.proofs.Onward.{Onward, starts_with, front, raises, pays}
+use Rattle.image_reports.proofs.Onward.{Onward, starts_with, front, unheard, raises, pays}
 
 -- the world of a saved state that belongs to an image
 module _ (text : List ℕ) (p : CheckedProgram) (allow : Allow) (image : ImageValue) (ok : IsAcceptedText text p allow) (c : IsCompiled text p allow image)
@@ -79,10 +81,10 @@ module _ (text : List ℕ) (p : CheckedProgram) (allow : Allow) (image : ImageVa
       }
 
   -- its run
-  module _ (cs : List BoardCharge) (readings : List ℕ) (words : All (λ w. w < 0x10000) readings) (r : RunOutcome)
-      (run : IsRunOfWords cs (started fram number readings) r) where
+  module _ (cs : List BoardCharge) (readings : List ℕ) (events : List Event) (inputs : AreInputs readings events) (r : RunOutcome)
+      (run : IsRunOfWords cs (started fram number readings events) r) where
     abbrev b : BoardValue
-    b = started fram number readings
+    b = started fram number readings events
 
     abbrev on : Onward
     on = record {
@@ -101,7 +103,8 @@ module _ (text : List ℕ) (p : CheckedProgram) (allow : Allow) (image : ImageVa
         code = belongs.code;
         origin = origin;
         readings = readings;
-        words = words;
+        events = events;
+        inputs = inputs;
         begun = begun_by readings belongs.sound;
       };
       accepted = ok;
@@ -119,7 +122,7 @@ module _ (text : List ℕ) (p : CheckedProgram) (allow : Allow) (image : ImageVa
       told = resumed_runs_are_told model (compiled_program p l) text p m x cs b r (models_are_of_sources text p l m (source text p allow image ok c))
           (starts_with on) run few_in_all
 
-      onward_by : IsSound (program_places p l) x → IsToldOnward text p m l x cs b r (report_of (start_with fram (Some m)) r)
+      onward_by : IsSound (program_places p l) x → IsToldOnward text p m l x cs b r (report_of (start_with fram (Some m)) events r)
       onward_by (SoundAtRest q) =
           ToldAtRest q.gate (told.resting (state_in l x) (subst (λ o. BearsModel model (compiled_program p l) readings o x b) (sym (at_rest q.gate)) bearing)
           (undecided_there q) (states.words x q.words))
@@ -127,21 +130,22 @@ module _ (text : List ℕ) (p : CheckedProgram) (allow : Allow) (image : ImageVa
           ToldPending q.gate (told.pending (state_in l x) (state_left l x) (pending_transition l x)
           (subst (λ o. BearsModel model (compiled_program p l) readings o x b) (sym (in_commit q.gate)) bearing) (transition q))
 
-      onward : IsToldOnward text p m l x cs b r (report_of (start_of (record image { words = fram })) r)
+      onward : IsToldOnward text p m l x cs b r (report_of (start_of (record image { words = fram })) events r)
       onward =
-          let P : Option MapValue → Type 0 = λ o. IsToldOnward text p m l x cs b r (report_of (start_with fram o) r) in
+          let P : Option MapValue → Type 0 = λ o. IsToldOnward text p m l x cs b r (report_of (start_with fram o) events r) in
           subst P (sym c.map) (onward_by belongs.sound)
 
     resumed : IsResumedRun text p allow l image x cs b r
     resumed = record {
       fronts = front on;
       stops = stops_where_short model (compiled_program p l) readings origin x cs b r run bearing;
+      unheard = unheard on;
       raises = raises on;
       progress = pays on;
       told = onward;
     }
 
 pub images_resume : ImagesResume
-images_resume text p allow image ok c fram long are_words number accepted count belongs cs starts readings words few r go =
-    resumed text p allow image ok c fram number accepted count belongs cs readings words r
-    (run_of_words fram long are_words number cs starts readings words few r go)
+images_resume text p allow image ok c fram long are_words number accepted count belongs cs starts readings events inputs r go =
+    resumed text p allow image ok c fram number accepted count belongs cs readings events inputs r
+    (run_of_words fram long are_words number cs starts readings events inputs r go)

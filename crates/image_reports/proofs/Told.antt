@@ -1,8 +1,10 @@
 -- The headline.
-use Rattle.image_reports.proofs.Names.{◌<◌, ◌^◌, ℕ, sym, refl, subst, Option, List, All, Allow, MapValue, ImageValue, BoardValue, fresh, BoardCharge}
+use Rattle.image_reports.proofs.Names.{◌<◌, ◌^◌, ℕ, sym, refl, subst, Option, List, Allow, MapValue, ImageValue, BoardValue, fresh, BoardCharge}
 use Rattle.image_reports.proofs.Names.{RunOutcome, start_with, start_of, report_of, CheckedProgram, IsRunnable, IsAcceptedText, accepted_texts_run}
 use Rattle.image_reports.proofs.Names.{IsRunOfWords, all_amounts, compiled_program, IsToldBySource, map_of, IsCompiled, fresh_world, laid_out, images_are_fresh}
 use Rattle.image_reports.proofs.Names.{maps_find_states, sources_are_ready, ImagesAreMapped}
+use Rattle.energy_trace.specs.TraceValue.{Event}
+use Rattle.source_runs.specs.Traces.{AreInputs}
 use Rattle.image_reports.specs.Sources.{IsSourcesMap}
 use Rattle.source_maps.proofs.Interface.{names_are_names, maps_are_of_sources}
 use Rattle.source_maps.specs.Laws.{IsSourceMap}
@@ -37,19 +39,19 @@ module _ (text : List ℕ) (p : CheckedProgram) (allow : Allow) (image : ImageVa
   }
 
   -- its run under any charges that have fewer than 2^64 cycles and instructions in all
-  pub runs_are_told : (cs : List BoardCharge) (readings : List ℕ) → All (λ w. w < 0x10000) readings → (r : RunOutcome)
-      → IsRunOfWords cs (fresh image.words readings) r → all_amounts cs < 2 ^ 64
-      → IsToldBySource text p (map_of text p c.layout allow) cs (fresh image.words readings) r (report_of (start_of image) r)
-  runs_are_told cs readings words r run few =
+  pub runs_are_told : (cs : List BoardCharge) (readings : List ℕ) (events : List Event) → AreInputs readings events → (r : RunOutcome)
+      → IsRunOfWords cs (fresh image.words readings events) r → all_amounts cs < 2 ^ 64
+      → IsToldBySource text p (map_of text p c.layout allow) cs (fresh image.words readings events) r (report_of (start_of image) events r)
+  runs_are_told cs readings events inputs r run few =
       let l = c.layout in
       let x = fresh_world image in
-      let b : BoardValue = fresh image.words readings in
+      let b : BoardValue = fresh image.words readings events in
       let ready = sources_are_ready text p allow c.plans l (laid_out text p allow image ok c) in
       let new = images_are_fresh text p allow image ok c in
-      let P : Option MapValue → Type 0 = λ o. IsToldBySource text p m cs b r (report_of (start_with image.words o) r) in
+      let P : Option MapValue → Type 0 = λ o. IsToldBySource text p m cs b r (report_of (start_with image.words o) events r) in
       subst P (sym c.map)
       (compiled_runs_are_told (compiled_program p l) text p l m x cs b r source
-      (begins_with_source text p allow image c readings words ready new) run few)
+      (begins_with_source text p allow image c readings events inputs ready new) run few)
 
 pub images_are_mapped : ImagesAreMapped
 images_are_mapped text p allow image ok c = (made text p allow image ok c).of_source

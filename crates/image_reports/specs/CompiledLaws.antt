@@ -25,4 +25,4 @@ abbrev pub CompiledRunsAreTold : Program → Type 0
 CompiledRunsAreTold c = (text : List ℕ) (p : CheckedProgram) (l : MemoryMap) (m : MapValue) (x : World) (cs : List BoardCharge) (b : BoardValue)
     (r : RunOutcome)
     → IsSourcesMap text p l m → BeginsWithSource p m (compiled_model p l) c x b → IsRunOfWords cs b r → all_amounts cs < 2 ^ 64
-    → IsToldBySource text p m cs b r (report_of (start_with b.fram (Some m)) r)
+    → IsToldBySource text p m cs b r (report_of (start_with b.fram (Some m)) b.line.coming r)

@@ -1,15 +1,20 @@
--- What holds of each run of the image of an accepted source, on the board itself, cut wherever power fails: the effects since the last
--- boot or done, what the board stands for, the words accepted, the counts, the code that is fetched, how it ends, and its report.
-use Rattle.std.specs.Prelude.{◌≡◌, ◌≢◌, ℕ, ◌+◌, ◌*◌, ◌^◌, ◌%◌, ◌<◌, ◌≤◌, true, List, ◌∷◌, ◌++◌, length, All}
+-- What holds of each run of the image of an accepted source, on the board itself, cut wherever power fails, whatever events arise: the
+-- effects since the last boot or done, what the board stands for, the words accepted, the counts, the code that is fetched, how it ends,
+-- and its report. No event is accepted, and nothing is read of EVENT.
+use Rattle.std.specs.Prelude.{◌≡◌, ◌≢◌, ℕ, ◌+◌, ◌*◌, ◌^◌, ◌%◌, ◌<◌, ◌≤◌, true, List, ◌∷◌, ◌++◌, length}
 use Rattle.msp_isa.specs.declared.instructions.Instr.{Instr}
 use Rattle.msp_isa.specs.Encoding.{encoding}
 use Rattle.msp_step.specs.Registers.{registers_of}
 use Rattle.msp_step.specs.declared.machine.Stop.{Stop}
 use Rattle.msp_step.specs.declared.machine.Stop.TheVariants as stop
+use Rattle.energy_trace.specs.TraceValue.{Event}
 use Rattle.image_text.specs.ImageValue.{ImageValue}
-use Rattle.fram_board.specs.Board.{BoardValue, fresh, IsNextInstruction}
+use Rattle.fram_board.specs.declared.board.NextStep.TheVariants as next_step
+use Rattle.fram_board.specs.Events.{words_in}
+use Rattle.fram_board.specs.Board.{BoardValue, fresh, IsNextStep}
 use Rattle.fram_board.specs.Run.{BoardCharge, PowerUp, Moment, Stopped, RunOutcome, Run, accepted_words}
 use Rattle.board_run.specs.History.{start_of}
+use Rattle.board_run.specs.Events.{NeverReads}
 use Rattle.board_run.specs.Report.{report_of}
 use Rattle.machine_effects.specs.World.{World}
 use Rattle.machine_effects.specs.Machine.{fram_of}
@@ -18,6 +23,7 @@ use Rattle.code_forms.specs.Placed.{Holds}
 use Rattle.cost_bound.specs.declared.allowance.Allow.{Allow}
 use Rattle.source_values.specs.Runs.{CheckedProgram, State, first_state}
 use Rattle.source_meaning.specs.Acceptance.{IsAcceptedText}
+use Rattle.source_runs.specs.Traces.{AreInputs}
 use Rattle.source_runs.specs.Tells.{at_first, EachChargePays, IsToldBySource}
 use Rattle.source_maps.specs.Maps.{map_of}
 use Rattle.memory_map.specs.declared.words.RuntimeWord.TheVariants.{Gate, Version}
@@ -63,11 +69,11 @@ pub record KeepsCode (p : CheckedProgram) (l : MemoryMap) (image : ImageValue) (
   pub code : (a : ℕ) → a % 2 ≡ 0 → l.boot.address ≤ a → a < code_end p l → f a ≡ fram_of image.words a
   pub vector : f 0xFFFE ≡ fram_of image.words 0xFFFE
 
--- the board's next instruction is one of the code: CPUOFF is clear, and its words stand at PC, as they are fetched, within the code, and
--- are those that the image has there
+-- the board's next step is an instruction of the code: no acceptance is due, CPUOFF is clear, and its words stand at PC, as they are
+-- fetched, within the code, and are those that the image has there
 pub record FetchesCode (p : CheckedProgram) (l : MemoryMap) (image : ImageValue) (b : BoardValue) : Type 0 where
   pub instruction : Instr
-  pub next : IsNextInstruction b instruction
+  pub next : IsNextStep b (next_step.Instruction instruction)
   pub from : l.boot.address ≤ registers_of b.cpu 0
   pub to : registers_of b.cpu 0 + 2 * length (encoding instruction) ≤ code_end p l
   pub same : Holds (fram_of image.words) (registers_of b.cpu 0) (encoding instruction)
@@ -96,6 +102,8 @@ pub record HoldsAt (p : CheckedProgram) (l : MemoryMap) (image : ImageValue) (re
   pub code : KeepsCode p l image (outside_of b).fram
   -- every word that is fetched is the fresh image's
   pub fetches : FetchesCode p l image b
+  -- each event that arose waits in EVENT, or was lost there
+  pub events : b.line.arisen ≡ b.line.missed + words_in b.line.port
 
 -- VER is raised within the first 40 of these instructions: behind some of them it is one more than on the board on which they began
 pub record IsRaisedSoon (l : MemoryMap) (b : BoardValue) (steps : List Moment) : Type 0 where
@@ -111,9 +119,9 @@ RaisesVersion l moments = (ms steps rest : List Moment) (boot : Moment) → mome
     → AreInstructionMoments steps → 40 ≤ length steps → (outside_of boot.after).fram (word_place l Gate) ≡ 0
     → (outside_of boot.after).fram (word_place l Version) ≢ 0xFFFF → IsRaisedSoon l boot.after steps
 
--- What holds of a run of an image under charges, on readings.
+-- What holds of a run of an image under charges, on readings and events.
 pub record IsLawfulRun (text : List ℕ) (p : CheckedProgram) (allow : Allow) (l : MemoryMap) (image : ImageValue) (cs : List BoardCharge) (readings : List ℕ)
-    (r : RunOutcome) : Type 0 where
+    (events : List Event) (r : RunOutcome) : Type 0 where
   -- the fresh board rests at the source's first state
   pub rests : (compiled_model p l).Rests (first_state p) (fresh_world image)
   -- the places that the map names are apart
@@ -122,24 +130,26 @@ pub record IsLawfulRun (text : List ℕ) (p : CheckedProgram) (allow : Allow) (l
   pub commits : (s next : State) (x : World) → (compiled_model p l).Decided s next x → CommitContract (compiled_model p l) s next x
   -- at each board, behind any number of instructions
   pub fronts : (ms rest : List Moment) → r.moments ≡ ms ++ rest
-      → HoldsAt p l image readings (last_board (fresh image.words readings) ms) ms (known_behind l image ms)
+      → HoldsAt p l image readings (last_board (fresh image.words readings events) ms) ms (known_behind l image ms)
   -- it stops for want of a reading alone: at no illegal word, no bus fault and not off; and only where the source is short, at the state
   -- of the last done on the readings from the last boot or done on
   pub stops : (e : Stop) → r.ending ≡ Stopped e
       → (e ≡ stop.NoReading) × IsShort (compiled_model p l) readings (Resting (first_state p)) (known_behind l image r.moments)
+  -- nothing is read of EVENT, by the step that stopped it neither
+  pub unheard : NeverReads r
   -- in a charge that begins with GATE 0 and VER not 65535, VER is raised within the first 40 instructions, if the charge has them
   pub raises : RaisesVersion l r.moments
   -- a charge of n bounds that is spent has n transitions
-  pub progress : let m = map_of text p l allow in EachChargePays m cs (fresh image.words readings) (at_first m (fresh image.words readings)) r
+  pub progress : let m = map_of text p l allow in EachChargePays m cs (fresh image.words readings events) (at_first m (fresh image.words readings events)) r
   -- its report is told by the source, where the charges have fewer than 2^64 cycles and instructions in all
   pub told : all_amounts cs < 2 ^ 64
-      → IsToldBySource text p (map_of text p l allow) cs (fresh image.words readings) r (report_of (start_of image) r)
+      → IsToldBySource text p (map_of text p l allow) cs (fresh image.words readings events) r (report_of (start_of image) events r)
 
 -- What holds of an image: under every list of charges of cycles or of instructions, from every state that each power-up may leave (any
--- words in RAM, registers and OUTNUM), and on all readings that a board may hold, its run is such.
+-- words in RAM, registers and OUTNUM), and on all readings and events that a board may hold, its run is such.
 abbrev pub IsLawful : List ℕ → CheckedProgram → Allow → MemoryMap → ImageValue → Type 0
-IsLawful text p allow l image = (cs : List BoardCharge) → ArePowerStates cs → (readings : List ℕ) → All (λ w. w < 0x10000) readings
-    → length readings ≤ 262144 → (r : RunOutcome) → Run cs (fresh image.words readings) r → IsLawfulRun text p allow l image cs readings r
+IsLawful text p allow l image = (cs : List BoardCharge) → ArePowerStates cs → (readings : List ℕ) (events : List Event) → AreInputs readings events
+    → (r : RunOutcome) → Run cs (fresh image.words readings events) r → IsLawfulRun text p allow l image cs readings events r
 
 -- it holds of every accepted text and its image
 abbrev pub ImagesKeepTheLaws : Type 0

@@ -23,8 +23,9 @@ use Rattle.image_laws.specs.Compiled.{IsCompiled}
 abbrev pub ImagesAreTold : Type 0
 ImagesAreTold = (text : List ℕ) (p : CheckedProgram) (allow : Allow) (image : ImageValue) → IsAcceptedText text p allow
     → (c : IsCompiled text p allow image) → (trace : TraceValue) → IsTraceOfWords trace → (r : RunOutcome)
-    → Run (charges_of trace.charges) (fresh image.words trace.readings) r
-    → IsToldBySource text p (map_of text p c.layout allow) (charges_of trace.charges) (fresh image.words trace.readings) r (report_of (start_of image) r)
+    → Run (charges_of trace.charges) (fresh image.words trace.readings trace.events) r
+    → IsToldBySource text p (map_of text p c.layout allow) (charges_of trace.charges) (fresh image.words trace.readings trace.events) r
+    (report_of (start_of image) trace.events r)
 
 -- the map of an image names the variables and the tasks of the source
 abbrev pub ImagesAreMapped : Type 0
@@ -35,5 +36,5 @@ ImagesAreMapped = (text : List ℕ) (p : CheckedProgram) (allow : Allow) (image 
 abbrev pub ImagesKeepCapacities : Type 0
 ImagesKeepCapacities = (text : List ℕ) (p : CheckedProgram) (allow : Allow) (image : ImageValue) → IsAcceptedText text p allow
     → (c : IsCompiled text p allow image) → (trace : TraceValue) → IsTraceOfWords trace → (r : RunOutcome)
-    → Run (charges_of trace.charges) (fresh image.words trace.readings) r
-    → (ms rest : List Moment) → r.moments ≡ ms ++ rest → KeepsCapacities c.layout (outside_of (last_board (fresh image.words trace.readings) ms)).fram
+    → Run (charges_of trace.charges) (fresh image.words trace.readings trace.events) r
+    → (ms rest : List Moment) → r.moments ≡ ms ++ rest → KeepsCapacities c.layout (outside_of (last_board (fresh image.words trace.readings trace.events) ms)).fram

@@ -1,22 +1,27 @@
 -- What holds of each run of an accepted source's image that goes on from a saved state, on the board itself, beside what holds from its
 -- fresh board.
-use Rattle.std.specs.Prelude.{◌≡◌, ℕ, ◌^◌, ◌%◌, ◌<◌, ◌≤◌, ◌==◌, true, if◌then◌else◌, List, [], ◌++◌, length, All}
+use Rattle.std.specs.Prelude.{◌≡◌, ℕ, ◌+◌, ◌^◌, ◌%◌, ◌<◌, ◌≤◌, ◌==◌, true, if◌then◌else◌, List, [], ◌++◌, length, All}
 use Rattle.msp_step.specs.declared.machine.Stop.{Stop}
 use Rattle.msp_step.specs.declared.machine.Stop.TheVariants as stop
 use Rattle.address_space.specs.Limits.{fram_words}
 use Rattle.image_map.specs.MapValue.{MapValue}
+use Rattle.energy_trace.specs.TraceValue.{Event}
 use Rattle.image_text.specs.ImageValue.{ImageValue}
+use Rattle.fram_board.specs.Events.{words_in}
 use Rattle.fram_board.specs.Board.{BoardValue, started}
 use Rattle.fram_board.specs.Saved.{TakesNextBehind}
 use Rattle.fram_board.specs.Run.{BoardCharge, Moment, Stopped, RunOutcome, Run, accepted_words}
 use Rattle.board_run.specs.History.{start_of}
+use Rattle.board_run.specs.Events.{NeverReads}
 use Rattle.board_run.specs.Report.{report_of}
 use Rattle.machine_effects.specs.World.{World, world_after, IsPrefix}
 use Rattle.machine_effects.specs.Machine.{fram_of}
+use Rattle.machine_effects.specs.View.{IsWhole}
 use Rattle.machine_effects.specs.Runs.{last_board}
 use Rattle.cost_bound.specs.declared.allowance.Allow.{Allow}
 use Rattle.source_values.specs.Runs.{CheckedProgram, State, Transition}
 use Rattle.source_meaning.specs.Acceptance.{IsAcceptedText}
+use Rattle.source_runs.specs.Traces.{AreInputs}
 use Rattle.source_runs.specs.Tells.{at_first, EachChargePays}
 use Rattle.source_runs.specs.Resumed.{IsToldFrom, IsToldBehind}
 use Rattle.source_maps.specs.Maps.{map_of}
@@ -79,6 +84,7 @@ known_from l x ms = observed (runtime_marks l) ms (first_history (runtime_marks 
 -- pending at the start isn't done, the words accepted since are some of those that the state has beyond the start's which it leaves
 pub record HoldsFrom (p : CheckedProgram) (l : MemoryMap) (image : ImageValue) (x : World) (origin : Origin State) (readings : List ℕ) (b : BoardValue)
     (ms : List Moment) (h : History) : Type 0 where
+  pub whole : IsWhole b
   pub fram : h.world.fram ≡ (outside_of b).fram
   pub words : h.world.accepted ≡ x.accepted ++ accepted_words ms
   pub number : TakesNextBehind h.world.accepted b.receiver
@@ -94,6 +100,7 @@ pub record HoldsFrom (p : CheckedProgram) (l : MemoryMap) (image : ImageValue) (
   -- no store fell on the code, nor on a word behind it
   pub kept : (a : ℕ) → l.boot.address ≤ a → (outside_of b).fram a ≡ x.fram a
   pub fetches : FetchesCode p l image b
+  pub events : b.line.arisen ≡ b.line.missed + words_in b.line.port
 
 -- What holds of a run of an image from a saved state, with these words in FRAM and this number for the next word; the words accepted before
 -- are any that have it.
@@ -105,12 +112,15 @@ pub record IsResumedRun (text : List ℕ) (p : CheckedProgram) (allow : Allow) (
   -- it stops for want of a reading alone, and only where the source is short, at the state of the last done
   pub stops : (e : Stop) → r.ending ≡ Stopped e
       → (e ≡ stop.NoReading) × IsShort (compiled_model p l) b.readings (origin_of l x) (known_from l x r.moments)
+  -- nothing is read of EVENT, by the step that stopped it neither
+  pub unheard : NeverReads r
   -- in a charge that begins with GATE 0 and VER not 65535, VER is raised within the first 40 instructions, if the charge has them
   pub raises : RaisesVersion l r.moments
   -- a charge of n bounds that is spent has n transitions
   pub progress : let m = map_of text p l allow in EachChargePays m cs b (at_first m b) r
   -- its report is told by the source, where the charges have fewer than 2^64 cycles and instructions in all
-  pub told : all_amounts cs < 2 ^ 64 → IsToldOnward text p (map_of text p l allow) l x cs b r (report_of (start_of (record image { words = b.fram })) r)
+  pub told : all_amounts cs < 2 ^ 64
+      → IsToldOnward text p (map_of text p l allow) l x cs b r (report_of (start_of (record image { words = b.fram })) b.line.coming r)
 
 -- the fresh world of an accepted text's image belongs to it
 abbrev pub ImagesBelong : Type 0
@@ -118,13 +128,13 @@ ImagesBelong = (text : List ℕ) (p : CheckedProgram) (allow : Allow) (image : I
     → (c : IsCompiled text p allow image) → BelongsTo p c.layout image (fresh_world image)
 
 -- the run of each state that belongs to the image of an accepted text is such, under every list of charges, from every state that each
--- power-up may leave, and on all readings that a board may hold
+-- power-up may leave, and on all readings and events that a board may hold
 abbrev pub ImagesResume : Type 0
 ImagesResume = (text : List ℕ) (p : CheckedProgram) (allow : Allow) (image : ImageValue) → IsAcceptedText text p allow
     → (c : IsCompiled text p allow image)
     → (words : List ℕ) → length words ≡ fram_words → All (λ w. w < 0x10000) words
     → (number : ℕ) (accepted : List ℕ) → length accepted % 0x10000 ≡ number
     → let x : World = record { fram = fram_of words; accepted = accepted } in BelongsTo p c.layout image x
-    → (cs : List BoardCharge) → ArePowerStates cs → (readings : List ℕ) → All (λ w. w < 0x10000) readings → length readings ≤ 262144
-    → (r : RunOutcome) → Run cs (started words number readings) r
-    → IsResumedRun text p allow c.layout image x cs (started words number readings) r
+    → (cs : List BoardCharge) → ArePowerStates cs → (readings : List ℕ) (events : List Event) → AreInputs readings events
+    → (r : RunOutcome) → Run cs (started words number readings events) r
+    → IsResumedRun text p allow c.layout image x cs (started words number readings events) r

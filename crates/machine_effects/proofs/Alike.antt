@@ -1,7 +1,7 @@
--- The board's bus and the machine's answer alike.
+-- The board's bus and the machine's answer alike, unless EVENT is read.
 use Rattle.std.proofs.Common.{◌≡◌, ◌==◌, ◌&&◌, if◌then◌else◌, cond, nat_lt, ◌≤◌, ◌<◌, ◌+◌, ◌-◌, ◌/◌, ◌%◌, arith, ℕ, zero, suc, refl, sym, ◌∙◌, ap, ap₂, subst}
 use Rattle.std.proofs.Common.{Bool, true, false, List, [], ◌∷◌, ◌++◌, length, drop, slice_index, slice_set, get_or-set_same, get_or-set_other, length-set}
-use Rattle.std.proofs.Common.{eqb-true, eq-eqb, Option, Some, None, Result, Ok, Err}
+use Rattle.std.proofs.Common.{inl, inr, eqb-true, eq-eqb, Option, Some, None, Result, Ok, Err}
 use mathlib.Core.Path.{fun_ext}
 use Rattle.std.proofs.lemmas.Bool.Decides.{nat_tests}
 use Rattle.std.proofs.lemmas.Bool.{and_parts}
@@ -11,9 +11,10 @@ use Rattle.fram_board.specs.msp_step.declared.bus.Refused.{Refused}
 use Rattle.fram_board.specs.msp_step.declared.bus.Refused.TheVariants as refused
 use Rattle.fram_board.specs.image_text.ImageValue.{place_of}
 use Rattle.fram_board.specs.Bus.{BusState, IsBusState, board_bus, is_ram, is_fram, is_memory, is_word, ram_place, memory_word, with_word, byte_of, with_byte}
-use Rattle.fram_board.specs.Bus.{next_reading, read_of, after_read, written, port_written, sensor_port, number_port, data_port}
+use Rattle.fram_board.specs.Bus.{next_reading, read_of, after_read, written, port_written, sensor_port, number_port, data_port, event_port}
+use Rattle.fram_board.specs.Events.{EventLine, port_word, port_read}
 use Rattle.fram_board.specs.Effects.{Effect, Store, Outside, Offered}
-use Rattle.step_laws.specs.Alike.{AnswerAlike, WrittenAlike}
+use Rattle.step_laws.specs.Alike.{ReadAlike, AnswerAlikeUnless, WrittenAlike}
 use Rattle.fram_board.proofs.Interface.{other_is_fram, fram_low}
 use Rattle.machine_effects.specs.World.{put}
 use Rattle.machine_effects.specs.Inputs.{Inputs}
@@ -24,14 +25,19 @@ use Rattle.machine_effects.specs.Machine.{reading_taken, machine_after_read, mac
 abbrev ready_on : BusState → Inputs
 ready_on s = record { readings = drop s.taken s.readings }
 
--- the same memory, ports and inputs, with these readings in all
-pub record SameBus (readings : List ℕ) (s : BusState) (t : MachineBus) : Type 0 where
+-- an access that the machine refuses at EVENT
+abbrev pub AtEvent : Refused → ℕ → Type 0
+AtEvent e a = (e ≡ refused.Bus) × (a ≡ event_port)
+
+-- the same memory, ports and inputs, with these readings in all, and the port EVENT as it was at first
+pub record SameBus (readings : List ℕ) (begun : EventLine) (s : BusState) (t : MachineBus) : Type 0 where
   pub whole : IsBusState s
   pub fram : t.fram ≡ fram_of s.fram
   pub ram : t.ram ≡ ram_of s.ram
   pub left : t.inputs ≡ ready_on s
   pub outnum : t.outnum ≡ s.outnum
   pub all : s.readings ≡ readings
+  pub line : s.line ≡ begun
 
 -- memory by addresses, from the list of its words; a word written to the list is one written to the function
 abbrev view : (ℕ → Bool) → ℕ → List ℕ → ℕ → ℕ
@@ -120,21 +126,21 @@ put_ram xs a v len h =
     let within : ram_place (word_address a) < length xs = omega arith in
     put_view is_ram 0x1C00 in_ram xs (word_address a) v (ram_there a h) within ∙ ap (λ p. ram_of (slice_set xs p v)) (ram_place_same a h)
 
-module _ (readings : List ℕ) where
+module _ (readings : List ℕ) (begun : EventLine) where
   word_on : (b : Bool) (s : BusState) (a : ℕ) → is_ram a ≡ b → is_memory a ≡ true
       → (if b then slice_index s.ram (ram_place a) else slice_index s.fram (place_of a)) ≡
       (if b then ram_of s.ram (word_address a) else fram_of s.fram (word_address a))
   word_on true s a e m = sym (ram_at s.ram a e)
   word_on false s a e m = sym (fram_at s.fram a (other_is_fram a e m))
 
-  pub word_same : (s : BusState) (t : MachineBus) (a : ℕ) → SameBus readings s t → is_memory a ≡ true → memory_word s a ≡ machine_word t a
+  pub word_same : (s : BusState) (t : MachineBus) (a : ℕ) → SameBus readings begun s t → is_memory a ≡ true → memory_word s a ≡ machine_word t a
   word_same s t a h m = word_on (is_ram a) s a refl m ∙ sym (ap₂ (λ f r. word_in f r a) h.fram h.ram)
 
   fetched_on : (b : Bool) (x y : ℕ) → (b ≡ true → x ≡ y) → ◌≡◌ {A = Option ℕ} (if b then Some x else None) (if b then Some y else None)
   fetched_on true x y e = ap Some (e refl)
   fetched_on false x y e = refl
 
-  pub fetches_same : (s : BusState) (t : MachineBus) (a : ℕ) → SameBus readings s t → board_bus.fetches s a ≡ machine_bus.fetches t a
+  pub fetches_same : (s : BusState) (t : MachineBus) (a : ℕ) → SameBus readings begun s t → board_bus.fetches s a ≡ machine_bus.fetches t a
   fetches_same s t a h = fetched_on (is_word a) (memory_word s a) (machine_word t a) (λ e. word_same s t a h (and_parts (a % 2 == 0) (is_memory a) e).1)
 
   -- a reading
@@ -146,24 +152,26 @@ module _ (readings : List ℕ) where
       let e : nat_lt (suc n) (suc (length xs)) ≡ nat_lt n (length xs) = grind (arith, nat_tests) in
       ap (λ b. cond b (Ok (slice_index xs n)) (Err refused.NoReading)) e ∙ next_on xs n
 
-  next_same : (s : BusState) (t : MachineBus) → SameBus readings s t → next_reading s ≡ first_reading t.inputs.readings
+  next_same : (s : BusState) (t : MachineBus) → SameBus readings begun s t → next_reading s ≡ first_reading t.inputs.readings
   next_same s t h = next_on s.readings s.taken ∙ ap (λ i. first_reading i.readings) (sym h.left)
 
-  read_on : (b c : Bool) (x y : ℕ) (p q : Result ℕ Refused) → (b ≡ true → x ≡ y) → p ≡ q
-      → (if b then Ok x else if c then p else Err refused.Bus) ≡ (if b then Ok y else if c then q else Err refused.Bus)
-  read_on true c x y p q h e = ap (λ z. Ok z) (h refl)
-  read_on false c x y p q h e = ap (λ z. cond c z (Err refused.Bus)) e
+  read_on : (b c d : Bool) (a x y z : ℕ) (p q : Result ℕ Refused) → (d ≡ true → a ≡ event_port) → (b ≡ true → x ≡ y) → p ≡ q
+      → ReadAlike AtEvent a (if b then Ok x else if c then p else if d then Ok z else Err refused.Bus) (if b then Ok y else if c then q else Err refused.Bus)
+  read_on true c d a x y z p q event h e = inl (ap (λ v. Ok v) (h refl))
+  read_on false true d a x y z p q event h e = inl e
+  read_on false false true a x y z p q event h e = inr (refused.Bus, refl, (refl, event refl))
+  read_on false false false a x y z p q event h e = inl refl
 
   byte_on : (b : Bool) (a x y : ℕ) → (b ≡ true → x ≡ y)
       → ◌≡◌ {A = Result ℕ Refused} (if b then Ok (byte_of x a) else Err refused.Bus) (if b then Ok (byte_of y a) else Err refused.Bus)
   byte_on true a x y h = ap (λ z. Ok (byte_of z a)) (h refl)
   byte_on false a x y h = refl
 
-  reads_same : (s : BusState) (t : MachineBus) (a : ℕ) (w : Width) → SameBus readings s t → read_of s a w ≡ machine_read t a w
+  reads_same : (s : BusState) (t : MachineBus) (a : ℕ) (w : Width) → SameBus readings begun s t → ReadAlike AtEvent a (read_of s a w) (machine_read t a w)
   reads_same s t a Word h =
-      read_on (is_word a) (a == sensor_port) (memory_word s a) (machine_word t a) (next_reading s) (first_reading t.inputs.readings)
-      (λ e. word_same s t a h (and_parts (a % 2 == 0) (is_memory a) e).1) (next_same s t h)
-  reads_same s t a Byte h = byte_on (is_memory a) a (memory_word s a) (machine_word t a) (λ e. word_same s t a h e)
+      read_on (is_word a) (a == sensor_port) (a == event_port) a (memory_word s a) (machine_word t a) (port_word s.line.port) (next_reading s)
+      (first_reading t.inputs.readings) (λ e. eqb-true a event_port e) (λ e. word_same s t a h (and_parts (a % 2 == 0) (is_memory a) e).1) (next_same s t h)
+  reads_same s t a Byte h = inl (byte_on (is_memory a) a (memory_word s a) (machine_word t a) (λ e. word_same s t a h e))
 
   -- a reading taken
   drop_next : (xs : List ℕ) (n w : ℕ) (ws : List ℕ) → drop n xs ≡ w ∷ ws → (drop (n + 1) xs ≡ ws) × (n + 1 ≤ length xs)
@@ -176,8 +184,8 @@ module _ (readings : List ℕ) where
       let m : suc n + 1 ≡ suc (n + 1) = omega arith in
       (ap (λ q. drop q (x ∷ xs)) m ∙ r.0, omega arith)
 
-  taken_same : (ws : List ℕ) (s : BusState) (t : MachineBus) (v : ℕ) → first_reading ws ≡ Ok v → t.inputs.readings ≡ ws → SameBus readings s t
-      → SameBus readings (record s { taken = s.taken + 1 }) (reading_taken ws t)
+  taken_same : (ws : List ℕ) (s : BusState) (t : MachineBus) (v : ℕ) → first_reading ws ≡ Ok v → t.inputs.readings ≡ ws → SameBus readings begun s t
+      → SameBus readings begun (record s { taken = s.taken + 1 }) (reading_taken ws t)
   taken_same [] s t v e q h = absurd cc
   taken_same (w ∷ ws) s t v e q h =
       let d = drop_next s.readings s.taken w ws (sym (ap (λ i. i.readings) h.left) ∙ q) in
@@ -189,24 +197,32 @@ module _ (readings : List ℕ) where
         left = ap {B = Inputs} (λ l. record { readings = l }) (sym d.0);
         outnum = h.outnum;
         all = h.all;
+        line = h.line;
       }
 
   at_sensor : (t : MachineBus) (a v : ℕ) → a ≡ sensor_port → machine_read t a Word ≡ Ok v → first_reading t.inputs.readings ≡ Ok v
   at_sensor t a v e r = subst (λ x. machine_read t x Word ≡ Ok v) e r
 
-  after_on : (b : Bool) (s : BusState) (t : MachineBus) (a v : ℕ) → (a == sensor_port) ≡ b → machine_read t a Word ≡ Ok v → SameBus readings s t
-      → SameBus readings (record s { taken = if b then s.taken + 1 else s.taken }) (if b then reading_taken t.inputs.readings t else t)
-  after_on true s t a v e r h = taken_same t.inputs.readings s t v (at_sensor t a v (eqb-true a sensor_port e) r) refl h
-  after_on false s t a v e r h = h
+  -- the machine serves no read of EVENT
+  event_unread : (t : MachineBus) (v : ℕ) → machine_read t event_port Word ≡ Ok v → ⊥
+  event_unread t v e = cc
 
-  after_same : (s : BusState) (t : MachineBus) (a : ℕ) (w : Width) (v : ℕ) → SameBus readings s t → machine_read t a w ≡ Ok v
-      → SameBus readings (after_read s a w) (machine_after_read t a w)
-  after_same s t a Word v h r = after_on (a == sensor_port) s t a v refl r h
+  after_on : (b c : Bool) (s : BusState) (t : MachineBus) (a v : ℕ) → (a == sensor_port) ≡ b → (a == event_port) ≡ c → machine_read t a Word ≡ Ok v
+      → SameBus readings begun s t
+      → SameBus readings begun (record s { taken = if b then s.taken + 1 else s.taken; line = if c then port_read s.line else s.line })
+      (if b then reading_taken t.inputs.readings t else t)
+  after_on b true s t a v e k r h = absurd (event_unread t v (subst (λ x. machine_read t x Word ≡ Ok v) (eqb-true a event_port k) r))
+  after_on true false s t a v e k r h = taken_same t.inputs.readings s t v (at_sensor t a v (eqb-true a sensor_port e) r) refl h
+  after_on false false s t a v e k r h = h
+
+  after_same : (s : BusState) (t : MachineBus) (a : ℕ) (w : Width) (v : ℕ) → SameBus readings begun s t → machine_read t a w ≡ Ok v
+      → SameBus readings begun (after_read s a w) (machine_after_read t a w)
+  after_same s t a Word v h r = after_on (a == sensor_port) (a == event_port) s t a v refl refl r h
   after_same s t a Byte v h r = h
 
   -- writes
-  stored_same : (b : Bool) (s : BusState) (t : MachineBus) (a v : ℕ) (log : List Effect) → is_ram a ≡ b → is_memory a ≡ true → SameBus readings s t
-      → SameBus readings (if b then record s { ram = slice_set s.ram (ram_place a) v } else record s { fram = slice_set s.fram (place_of a) v })
+  stored_same : (b : Bool) (s : BusState) (t : MachineBus) (a v : ℕ) (log : List Effect) → is_ram a ≡ b → is_memory a ≡ true → SameBus readings begun s t
+      → SameBus readings begun (if b then record s { ram = slice_set s.ram (ram_place a) v } else record s { fram = slice_set s.fram (place_of a) v })
       (if b then record t { ram = put t.ram (word_address a) v } else record t { fram = put t.fram (word_address a) v; log = log })
   stored_same true s t a v log e m h =
       let g = h.whole in
@@ -217,6 +233,7 @@ module _ (readings : List ℕ) where
         left = h.left;
         outnum = h.outnum;
         all = h.all;
+        line = h.line;
       }
   stored_same false s t a v log e m h =
       let g = h.whole in
@@ -227,14 +244,15 @@ module _ (readings : List ℕ) where
         left = h.left;
         outnum = h.outnum;
         all = h.all;
+        line = h.line;
       }
 
-  word_stored : (s : BusState) (t : MachineBus) (a v : ℕ) → is_memory a ≡ true → SameBus readings s t
-      → SameBus readings (with_word s a v) (machine_stored t a v)
+  word_stored : (s : BusState) (t : MachineBus) (a v : ℕ) → is_memory a ≡ true → SameBus readings begun s t
+      → SameBus readings begun (with_word s a v) (machine_stored t a v)
   word_stored s t a v m h = stored_same (is_ram a) s t a v (t.log ++ Store (word_address a) v ∷ []) refl m h
 
-  port_same : (b c : Bool) (s : BusState) (t : MachineBus) (v : ℕ) (log : List Effect) → SameBus readings s t
-      → WrittenAlike (SameBus readings) (if b then Some (record s { outnum = v }) else if c then Some (record s { offered = Some v }) else None)
+  port_same : (b c : Bool) (s : BusState) (t : MachineBus) (v : ℕ) (log : List Effect) → SameBus readings begun s t
+      → WrittenAlike (SameBus readings begun) (if b then Some (record s { outnum = v }) else if c then Some (record s { offered = Some v }) else None)
       (if b then Some (record t { outnum = v }) else if c then Some (record t { log = log }) else None)
   port_same true c s t v log h =
       let g = h.whole in
@@ -245,6 +263,7 @@ module _ (readings : List ℕ) where
         left = h.left;
         outnum = refl;
         all = h.all;
+        line = h.line;
       }
   port_same false true s t v log h =
       let g = h.whole in
@@ -256,22 +275,23 @@ module _ (readings : List ℕ) where
         outnum =
             h.outnum;
         all = h.all;
+        line = h.line;
       }
   port_same false false s t v log h = tt
 
-  either : (b : Bool) (x y : Option BusState) (z u : Option MachineBus) → (b ≡ true → WrittenAlike (SameBus readings) x z)
-      → WrittenAlike (SameBus readings) y u → WrittenAlike (SameBus readings) (if b then x else y) (if b then z else u)
+  either : (b : Bool) (x y : Option BusState) (z u : Option MachineBus) → (b ≡ true → WrittenAlike (SameBus readings begun) x z)
+      → WrittenAlike (SameBus readings begun) y u → WrittenAlike (SameBus readings begun) (if b then x else y) (if b then z else u)
   either true x y z u h k = h refl
   either false x y z u h k = k
 
-  byte_stored : (s : BusState) (t : MachineBus) (a v : ℕ) → is_memory a ≡ true → SameBus readings s t
-      → SameBus readings (with_word s a (with_byte (memory_word s a) a v)) (machine_stored t a (with_byte (machine_word t a) a v))
+  byte_stored : (s : BusState) (t : MachineBus) (a v : ℕ) → is_memory a ≡ true → SameBus readings begun s t
+      → SameBus readings begun (with_word s a (with_byte (memory_word s a) a v)) (machine_stored t a (with_byte (machine_word t a) a v))
   byte_stored s t a v m h =
-      subst (λ x. SameBus readings (with_word s a (with_byte (memory_word s a) a v)) (machine_stored t a (with_byte x a v))) (word_same s t a h m)
+      subst (λ x. SameBus readings begun (with_word s a (with_byte (memory_word s a) a v)) (machine_stored t a (with_byte x a v))) (word_same s t a h m)
       (word_stored s t a (with_byte (memory_word s a) a v) m h)
 
-  writes_same : (s : BusState) (t : MachineBus) (a : ℕ) (w : Width) (v : ℕ) → SameBus readings s t
-      → WrittenAlike (SameBus readings) (written s a w v) (machine_written t a w v)
+  writes_same : (s : BusState) (t : MachineBus) (a : ℕ) (w : Width) (v : ℕ) → SameBus readings begun s t
+      → WrittenAlike (SameBus readings begun) (written s a w v) (machine_written t a w v)
   writes_same s t a Word v h =
       either (is_word a) (Some (with_word s a v)) (port_written s a v) (Some (machine_stored t a v)) (machine_port_written t a v)
       (λ e. word_stored s t a v (and_parts (a % 2 == 0) (is_memory a) e).1 h) (port_same (a == number_port) (a == data_port) s t v
@@ -280,7 +300,7 @@ module _ (readings : List ℕ) where
       either (is_memory a) (Some (with_word s a (with_byte (memory_word s a) a v))) None
       (Some (machine_stored t a (with_byte (machine_word t a) a v))) None (λ e. byte_stored s t a v e h) tt
 
-  pub buses_alike : AnswerAlike board_bus machine_bus (SameBus readings)
+  pub buses_alike : AnswerAlikeUnless AtEvent board_bus machine_bus (SameBus readings begun)
   buses_alike = record {
     reads = λ s t a w h. reads_same s t a w h;
     after = λ s t a w v h e. after_same s t a w v h e;

@@ -10,17 +10,20 @@ pub use Rattle.machine_effects.proofs.Inputs.{takes_nothing, takes_behind_store,
 pub use Rattle.machine_effects.proofs.Inputs.{left_are_words, taken_is_word}
 -- What the machine's bus logs of an instruction: the readings that it takes, and then its one store or its one send.
 pub use Rattle.machine_effects.proofs.Logs.{takes, written_effects, LoggedBy, effect_logged, step_changes, code_changes_by_effects, machine_changes_by_effects}
--- The board's bus and the machine's answer alike.
+-- The board's bus and the machine's answer alike, unless EVENT is read.
 pub use Rattle.machine_effects.proofs.Alike.{is_fram_address}
--- Each step of a board is a step of the machine that it is, and each step of that is one of the board.
-pub use Rattle.machine_effects.proofs.Steps.{executed_same, current_to_machine}
+-- Each step of a board is a step of the machine that it is, and each step of that is one of the board, unless EVENT is read.
+pub use Rattle.machine_effects.proofs.Steps.{executed_same, current_to_machine, stopped_to_machine}
+-- The boundary behind a step keeps a board whole, and words; there and behind a power-up nothing was read of EVENT.
+pub use Rattle.machine_effects.proofs.Lines.{boundary_whole, boundary_words, boundary_heard, powered_heard}
+-- What an instruction of a board leaves, made or refused.
+pub use Rattle.machine_effects.proofs.Executed.{executed_is_step, told_cycles, Left, left_of}
 -- What the operations of the CPU make of words are words.
 pub use Rattle.machine_effects.proofs.Values.{bit_low, zero_flag}
 -- Words stay words, on the machine and on the board.
-pub use Rattle.machine_effects.proofs.Words.{index_small, words_stay_words, step_leaves_it_whole, machine_is_of_words, power_up_keeps_words, fresh_is_whole}
+pub use Rattle.machine_effects.proofs.Words.{index_small, words_stay_words, step_leaves_it_whole, acceptance_keeps_words, performed_keeps_words}
+pub use Rattle.machine_effects.proofs.Words.{charge_keeps_words, machine_is_of_words, power_up_keeps_words, fresh_is_whole}
 -- The views of a powered and of a fresh board.
 pub use Rattle.machine_effects.proofs.Views.{power_up_is_the_machines, zeros_at}
--- A charge of the board is one of the machine.
-pub use Rattle.machine_effects.proofs.Runs.{charges_alike, charge_leaves_it_whole, charge_keeps_words, reaches_none, charge_boards_alike}
--- The words that a charge's moments tell are those that its effects make the receiver accept.
-pub use Rattle.machine_effects.proofs.Accepted.{charge_accepts_by_sends}
+-- The effects that moments tell, what they tell of EVENT, and that the words that they tell are those that the receiver accepts.
+pub use Rattle.machine_effects.proofs.Accepted.{told_effects, told_heard, count_after, moment_accepts, step_accepts_by_sends}

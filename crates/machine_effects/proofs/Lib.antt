@@ -5,10 +5,11 @@ mod Logs
 mod Alike
 mod Along
 mod Steps
+mod Lines
+mod Executed
 mod Values
 mod Words
 mod Views
-mod Runs
 mod Accepted
 pub mod Interface
 pub use Rattle.fram_board.proofs.msp_step as msp_step

@@ -11,7 +11,7 @@ use Rattle.fram_board.specs.msp_step.Registers.{Registers}
 use Rattle.fram_board.specs.msp_step.Access.{Access, Completed, Faulted}
 use Rattle.fram_board.specs.msp_step.Reads.{HasRead, Nothing, Once, OnlyReads}
 use Rattle.fram_board.specs.msp_step.Effect.{Written}
-use Rattle.fram_board.specs.msp_step.Step.{effect, off_bit}
+use Rattle.fram_board.specs.msp_step.Step.{effect, off_bit, is_interruptible}
 use Rattle.fram_board.specs.msp_step.Laws.{AfterWrite}
 use Rattle.fram_board.proofs.msp_step.Interface.{Ends, effect_ends}
 use Rattle.fram_board.specs.msp_cycles.Cycles.{cycles_of}
@@ -20,10 +20,10 @@ use Rattle.fram_board.specs.Bus.{is_ram, is_fram, is_memory, is_word, with_byte,
 use Rattle.fram_board.specs.Effects.{Effect, Store, Take, Outside, Offered, sends_of}
 use Rattle.fram_board.proofs.Interface.{data_not_fram, other_is_fram, ram_not_fram}
 use Rattle.machine_effects.specs.World.{put, fram_after, readings_taken}
-use Rattle.machine_effects.specs.Going.{Stops}
+use Rattle.machine_effects.specs.Going.{Goes, Stops}
 use Rattle.machine_effects.specs.Machine.{MachineBus, machine_bus, machine_word, word_address, reading_taken, machine_after_read, machine_stored}
 use Rattle.machine_effects.specs.Machine.{machine_port_written, machine_written, MachineBoard, machine_opened, MachineOutcome, machine_outcome}
-use Rattle.machine_effects.specs.Machine.{machine_executed, NoInstruction, Executes, standing, step_with}
+use Rattle.machine_effects.specs.Machine.{machine_executed, NoInstruction, Executes, standing, step_with, astray, undisturbed}
 use Rattle.machine_effects.specs.Laws.{ChangesByEffects, CodeChangesByEffects, MachineChangesByEffects}
 use Rattle.machine_effects.proofs.Worlds.{fram_after-append, readings_taken-append, taking_keeps_fram, taking_takes}
 use Rattle.machine_effects.proofs.Inputs.{takes_nothing}
@@ -239,9 +239,17 @@ if_off false s o h = h
 pub step_changes : (i : Option Instr) (s : MachineBoard) → ChangesByEffects s (step_with i s)
 step_changes i s = if_off (off_bit s.registers == 1) s (standing i s) (standing_changes i s)
 
--- code changes FRAM, inputs and receiver as its effects say
+undisturbed_if : (b : Bool) (s : MachineBoard) (o : MachineOutcome) → ChangesByEffects s o → ChangesByEffects s (if b then Stops [] 0 (astray s) else o)
+undisturbed_if true s o h = (refl, (s.inputs, takes_nothing s.inputs))
+undisturbed_if false s o h = h
+
+undisturbed_changes : (s : MachineBoard) (o : MachineOutcome) → ChangesByEffects s o → ChangesByEffects s (undisturbed s o)
+undisturbed_changes s (Goes es c t) h = undisturbed_if (is_interruptible t.registers) s (Goes es c t) h
+undisturbed_changes s (Stops es price e) h = h
+
+-- code changes FRAM and inputs as its effects say
 pub code_changes_by_effects : CodeChangesByEffects
-code_changes_by_effects code s = step_changes (code (s.registers 0)) s
+code_changes_by_effects code s = undisturbed_changes s (step_with (code (s.registers 0)) s) (step_changes (code (s.registers 0)) s)
 
 -- a machine changes as its effects say
 pub machine_changes_by_effects : MachineChangesByEffects

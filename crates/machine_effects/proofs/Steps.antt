@@ -1,5 +1,6 @@
--- Each step of a board is a step of the machine that it is, and each step of that is one of the board.
-use Rattle.std.proofs.Common.{◌≡◌, ◌==◌, if◌then◌else◌, cond, ◌≤◌, ◌<◌, ◌-◌, ◌%◌, arith, ℕ, zero, suc, refl, sym, ◌∙◌, ap, ap₂, subst, inl, inr, Bool, true}
+-- Each step of a board is a step of the machine that it is, and each step of that is one of the board, unless EVENT is read.
+use Rattle.std.proofs.Common.{◌≡◌, ◌==◌, if◌then◌else◌, cond, ◌≤◌, ◌<◌, ◌-◌, ◌%◌, arith, ℕ, zero, suc, refl, sym, ◌∙◌, ap, ap₂, subst, Bool, true}
+use Rattle.std.proofs.Common.{◌⊎◌, inl, inr}
 use Rattle.std.proofs.Common.{false, List, [], ◌∷◌, ◌++◌, length, drop, take, slice_index, slice_range, append-nil, Option, Some, None, Err}
 use mathlib.Core.Path.{fun_ext}
 use Rattle.std.specs.Option.{option_map}
@@ -16,6 +17,7 @@ use Rattle.fram_board.specs.msp_isa.declared.instructions.Instr.{Instr}
 use Rattle.fram_board.specs.msp_isa.declared.instructions.Instr.TheVariants as instr
 use Rattle.fram_board.specs.msp_isa.Encoding.{encoding}
 use Rattle.fram_board.specs.msp_cycles.Cycles.{cycles_of}
+use Rattle.fram_board.specs.msp_step.declared.bus.Refused.{Refused}
 use Rattle.fram_board.specs.msp_step.declared.machine.Stop.{Stop}
 use Rattle.fram_board.specs.msp_step.declared.machine.Stop.TheVariants as stop
 use Rattle.fram_board.specs.msp_step.Registers.{Registers, with_register, kept, registers_of}
@@ -26,23 +28,23 @@ use Rattle.fram_board.specs.msp_step.Step.{StepResult}
 use Rattle.fram_board.specs.msp_step.Step.{Stopped, Executed}
 use Rattle.fram_board.specs.msp_step.Laws.{AfterWrite}
 use Rattle.fram_board.proofs.msp_step.Interface.{Ends, effect_ends, same_current, same_stop, not_stopped}
-use Rattle.step_laws.specs.Alike.{Alike}
+use Rattle.step_laws.specs.Alike.{AlikeUnless}
 use Rattle.step_laws.proofs.Interface.{effect_alike}
 use Rattle.fram_board.specs.image_text.ImageValue.{place_of}
 use Rattle.fram_board.specs.Bus.{BusState, board_bus, is_ram, is_fram, is_memory, is_word, written, port_written, with_word, with_byte, memory_word}
 use Rattle.fram_board.specs.Bus.{number_port, data_port}
-use Rattle.fram_board.specs.Board.{BoardValue, BoardOutcome, opened, closed, board_outcome, executed, register_list, IsNextInstruction}
+use Rattle.fram_board.specs.Board.{BoardValue, BoardOutcome, IsStep, opened, closed, board_outcome, executed, register_list, IsNextInstruction}
 use Rattle.fram_board.specs.Effects.{Effect, Store, store_at, sends_of, effects_of}
 use Rattle.fram_board.proofs.Interface.{only_takes, execution_takes}
-use Rattle.machine_effects.specs.Going.{Goes, Stops, At, Halted, stretch, after_effects}
-use Rattle.machine_effects.specs.Machine.{MachineBus, MachineBoard, MachineOutcome, MachineStretch, machine_bus, machine_opened, machine_closed}
-use Rattle.machine_effects.specs.Machine.{machine_outcome, machine_executed, IsMachineStep, NoInstruction, Executes, MachineRun, Stays, Halts, Steps}
+use Rattle.machine_effects.specs.Going.{Goes, Stops}
+use Rattle.machine_effects.specs.Machine.{MachineBus, MachineOutcome, machine_bus, machine_opened, machine_closed}
+use Rattle.machine_effects.specs.Machine.{machine_outcome, machine_executed, IsMachineStep, NoInstruction, Executes}
 use Rattle.machine_effects.specs.Machine.{word_address, fram_of}
-use Rattle.machine_effects.specs.View.{machine_of, IsWhole, IsNextPrice, machine_outcome_of}
-use Rattle.machine_effects.specs.Laws.{BoardStepsAsMachine, MachineStepsAsBoard, MachineStepsInOneWay, MachineRunsInOneWay}
-use Rattle.machine_effects.proofs.Alike.{SameBus, buses_alike, fetches_same, fram_at}
+use Rattle.machine_effects.specs.View.{machine_of, IsWhole, IsNextPrice, machine_outcome_of, IsEventFault, IsAtEvent, IsMachines}
+use Rattle.machine_effects.specs.Laws.{BoardStepsAsMachine, MachineStepsAsBoard, MachineStepsInOneWay, StepsAsMachine, StepsToEvent}
+use Rattle.machine_effects.proofs.Alike.{AtEvent, SameBus, buses_alike, fetches_same, fram_at}
 use Rattle.machine_effects.proofs.Along.{IsClosed, SourceHas, InstructionHas, Gives, effect_gives}
-use Rattle.machine_effects.proofs.Logs.{takes, LoggedBy, effect_logged, offered_by, written_effects, number_no_fram}
+use Rattle.machine_effects.proofs.Logs.{Took, takes, LoggedBy, effect_logged, offered_by, written_effects, number_no_fram}
 
 -- two buses that fetch alike have the same instruction, or none, at an address
 module _ {S T : Type 0} (b : BusModel S) (c : BusModel T) (s : S) (t : T) (same : (a : ℕ) → b.fetches s a ≡ c.fetches t a) where
@@ -66,13 +68,21 @@ module _ {S T : Type 0} (b : BusModel S) (c : BusModel T) (s : S) (t : T) (same 
   current_alike r i h = record { on = h.on; is = h.is; fetched = fetched_alike (encoding i) (r 0) h.fetched }
 
 -- the board's bus and the machine's as an instruction begins
-pub begins : (b : BoardValue) → IsWhole b → SameBus b.readings (opened b) (machine_opened (machine_of b))
+pub begins : (b : BoardValue) → IsWhole b → SameBus b.readings b.line (opened b) (machine_opened (machine_of b))
 begins b h =
     let g = h.board in
-    record { whole = record { fram = g.fram; ram = g.ram; taken = g.taken; few = g.few }; fram = refl; ram = refl; left = refl; outnum = refl; all = refl }
+    record {
+      whole = record { fram = g.fram; ram = g.ram; taken = g.taken; few = g.few };
+      fram = refl;
+      ram = refl;
+      left = refl;
+      outnum = refl;
+      all = refl;
+      line = refl;
+    }
 
 fetches : (b : BoardValue) → IsWhole b → (a : ℕ) → board_bus.fetches (opened b) a ≡ machine_bus.fetches (machine_opened (machine_of b)) a
-fetches b h a = fetches_same b.readings (opened b) (machine_opened (machine_of b)) a (begins b h)
+fetches b h a = fetches_same b.readings b.line (opened b) (machine_opened (machine_of b)) a (begins b h)
 
 -- there are no registers behind the sixteen
 abbrev IsFile : Registers → Type 0
@@ -109,7 +119,7 @@ source_free (src.Operand p) = tt
 source_free (src.Immediate n) = tt
 source_free (src.Constant k) = tt
 
-instruction_free : (i : Instr) → InstructionHas (λ v. Unit {0}) i
+pub instruction_free : (i : Instr) → InstructionHas (λ v. Unit {0}) i
 instruction_free (instr.Two op w x d) = source_free x
 instruction_free (instr.One (one.Push w x)) = source_free x
 instruction_free (instr.One (one.Call x)) = source_free x
@@ -217,7 +227,7 @@ same_written None words number = refl
 same_written (Some w) words number = ap (λ l. l ++ sends_of number (offered_by w.0 w.1)) (store_on (is_fram w.0) w.0 words refl)
 
 -- the same machine
-same_machine : (r q : Registers) (t : MachineBus) (s : BusState) (b : BoardValue) → r ≡ q → IsFile r → SameBus b.readings s t
+same_machine : (r q : Registers) (t : MachineBus) (s : BusState) (b : BoardValue) → r ≡ q → IsFile r → SameBus b.readings b.line s t
     → machine_closed q t ≡ machine_of (closed b r s)
 same_machine r q t s b e f h =
     let same : q ≡ registers_of (register_list r) = sym e ∙ fun_ext (λ n. listed r f n) in
@@ -227,7 +237,7 @@ nothing_behind : (es fs : List Effect) → fs ≡ [] → es ≡ es ++ fs
 nothing_behind es fs e = sym (append-nil es) ∙ ap (λ l. es ++ l) (sym e)
 
 -- the readings that are left on both
-left_same : (b : BoardValue) (t : MachineBus) (s : BusState) → SameBus b.readings s t → t.inputs.readings ≡ drop s.taken b.readings
+left_same : (b : BoardValue) (t : MachineBus) (s : BusState) → SameBus b.readings b.line s t → t.inputs.readings ≡ drop s.taken b.readings
 left_same b t s h = ap (λ i. i.readings) h.left ∙ ap (λ l. drop s.taken l) h.all
 
 -- of the two accesses of an instruction
@@ -235,10 +245,34 @@ module _ (b : BoardValue) (i : Instr) where
   abbrev outcome : Access BusState (Registers × Option Written) → BoardOutcome
   outcome m = board_outcome b (outcome_of i (registers_of b.cpu) m)
 
+  -- what the machine made of the instruction, of the board's outcome
+  abbrev SameOutcome : BoardOutcome → MachineOutcome → Type 0
+  SameOutcome x o = IsAtEvent o ⊎ ((o ≡ machine_outcome_of b x (cycles_of i)) × (x.board.line ≡ b.line))
+
+  as_machines : SameOutcome (executed b i) (machine_executed (machine_of b) i) → IsAtEvent (machine_executed (machine_of b) i) ⊎ IsMachines b i
+  as_machines (inl at) = inl at
+  as_machines (inr h) = inr (record { step = h.0; line = h.1 })
+
+  refused_same : (e f : Refused) (a c : ℕ) (s : BusState) (t : MachineBus) → (e ≡ f) × (a ≡ c) × SameBus b.readings b.line s t → s.offered ≡ None
+      → Took (machine_opened (machine_of b)) t → b.taken ≤ s.taken
+      → machine_outcome (registers_of b.cpu 0) (cycles_of i) (Faulted f c t) ≡ machine_outcome_of b (outcome (Faulted e a s)) (cycles_of i)
+  refused_same e f a c s t same off log le =
+      let h = same.2 in
+      let words = same_words b.readings t.inputs.readings log.words b.taken s.taken le log.left (left_same b t s h) in
+      let none : sends_of b.outnum s.offered ≡ [] = ap (λ o. sends_of b.outnum o) off in
+      let effects : t.log ≡ effects_of b (outcome (Faulted e a s)) =
+      ap (λ x. x.log) log.same ∙ ap takes words ∙ nothing_behind (takes (slice_range b.readings b.taken s.taken)) (sends_of b.outnum s.offered) none in
+      let same_stop_of : stop_of (registers_of b.cpu 0) f c ≡ stop_of (registers_of b.cpu 0) e a =
+      ap₂ (λ r x. stop_of (registers_of b.cpu 0) r x) (sym same.0) (sym same.1) in
+      ap₂ (λ es x. Stops es (cycles_of i) x) effects same_stop_of
+
+  event_stop : (pc a : ℕ) (f : Refused) → AtEvent f a → IsEventFault (stop_of pc f a)
+  event_stop pc a f at = subst (λ r. IsEventFault (stop_of pc r a)) (sym at.0) at.1
+
   same_outcome : (m : Access BusState (Registers × Option Written)) (n : Access MachineBus (Registers × Option Written))
-      → Alike (SameBus b.readings) m n → OfferedBy m → LoggedBy (machine_opened (machine_of b)) n → Gives (λ s. Unit {0}) (λ y. IsFile y.0) m
-      → b.taken ≤ (outcome m).board.taken
-      → machine_outcome (registers_of b.cpu 0) (cycles_of i) n ≡ machine_outcome_of b (outcome m) (cycles_of i)
+      → AlikeUnless AtEvent (SameBus b.readings b.line) m n → OfferedBy m → LoggedBy (machine_opened (machine_of b)) n
+      → Gives (λ s. Unit {0}) (λ y. IsFile y.0) m → b.taken ≤ (outcome m).board.taken
+      → SameOutcome (outcome m) (machine_outcome (registers_of b.cpu 0) (cycles_of i) n)
   same_outcome (Completed x s) (Completed y t) same off log file le =
       let h = same.1 in
       let words = same_words b.readings t.inputs.readings log.words b.taken s.taken le log.left (left_same b t s h) in
@@ -249,32 +283,25 @@ module _ (b : BoardValue) (i : Instr) where
       ∙ ap (λ o. store_at (option_map (λ p. p.0) x.1) s.fram ++ sends_of b.outnum o) (sym off) in
       let effects : t.log ≡ effects_of b (outcome (Completed x s)) = log.log ∙ ap₂ (λ k l. takes k ++ l) words wrote in
       let next = same_machine x.0 y.0 t s b (ap (λ z. z.0) same.0) file.0 h in
-      ap₂ (λ es u. Goes es (cycles_of i) u) effects next
-  same_outcome (Faulted e a s) (Faulted f c t) same off log file le =
-      let h = same.2 in
-      let words = same_words b.readings t.inputs.readings log.words b.taken s.taken le log.left (left_same b t s h) in
-      let none : sends_of b.outnum s.offered ≡ [] = ap (λ o. sends_of b.outnum o) off in
-      let effects : t.log ≡ effects_of b (outcome (Faulted e a s)) =
-      ap (λ x. x.log) log.same ∙ ap takes words ∙ nothing_behind (takes (slice_range b.readings b.taken s.taken)) (sends_of b.outnum s.offered) none in
-      let same_stop_of : stop_of (registers_of b.cpu 0) f c ≡ stop_of (registers_of b.cpu 0) e a =
-      ap₂ (λ r x. stop_of (registers_of b.cpu 0) r x) (sym same.0) (sym same.1) in
-      ap₂ (λ es x. Stops es (cycles_of i) x) effects same_stop_of
-  same_outcome (Completed x s) (Faulted f c t) same off log file le = elim same [ ]
+      inr (ap₂ (λ es u. Goes es (cycles_of i) u) effects next, h.line)
+  same_outcome (Faulted e a s) (Faulted f c t) (inl at) off log file le = inl (event_stop (registers_of b.cpu 0) c f at)
+  same_outcome (Faulted e a s) (Faulted f c t) (inr same) off log file le = inr (refused_same e f a c s t same off log le, same.2.line)
+  same_outcome (Completed x s) (Faulted f c t) at off log file le = inl (event_stop (registers_of b.cpu 0) c f at)
   same_outcome (Faulted e a s) (Completed y t) same off log file le = elim same [ ]
 
--- an instruction at PC does the same on both
-pub executed_same : (b : BoardValue) (i : Instr) → IsWhole b → machine_executed (machine_of b) i ≡ machine_outcome_of b (executed b i) (cycles_of i)
+-- an instruction at PC does the same on both, and leaves the port EVENT, or the machine ends there
+pub executed_same : (b : BoardValue) (i : Instr) → IsWhole b → IsAtEvent (machine_executed (machine_of b) i) ⊎ IsMachines b i
 executed_same b i h =
     let r = registers_of b.cpu in
     let m = effect board_bus i r (opened b) in
     let n = effect machine_bus i r (machine_opened (machine_of b)) in
-    same_outcome b i m n
-    (effect_alike BusState MachineBus board_bus machine_bus (SameBus b.readings) (buses_alike b.readings) i r (opened b)
+    as_machines b i (same_outcome b i m n
+    (effect_alike BusState MachineBus board_bus machine_bus AtEvent (SameBus b.readings b.line) (buses_alike b.readings b.line) i r (opened b)
     (machine_opened (machine_of b)) (begins b h))
     (ends_offered (opened b) m refl (effect_ends board_bus i r (opened b)))
     (effect_logged i r (machine_opened (machine_of b)))
     (effect_gives board_bus (λ v. Unit {0}) IsFile (λ s. Unit {0}) file_closed i r (opened b) (instruction_free i) (whole_file b h) tt)
-    (execution_takes i r (opened b)).from
+    (execution_takes i r (opened b)).from)
 
 -- a step that is stopped takes nothing
 none_taken : (xs : List ℕ) (n : ℕ) → slice_range xs n n ≡ []
@@ -296,52 +323,52 @@ pub current_to_machine : (b : BoardValue) (i : Instr) → IsWhole b → IsNextIn
 current_to_machine b i h g = Executes i (current_alike board_bus machine_bus (opened b) (machine_opened (machine_of b)) (fetches b h) (registers_of b.cpu) i g)
 
 abbrev AsMachine : BoardValue → BoardOutcome → Type 0
-AsMachine b x = (price : ℕ) × IsNextPrice b price × IsMachineStep (machine_of b) (machine_outcome_of b x price)
+AsMachine b x = StepsAsMachine b x ⊎ StepsToEvent b
+
+executed_as_machine : (b : BoardValue) (i : Instr) → IsWhole b → IsNextInstruction b i → IsAtEvent (machine_executed (machine_of b) i) ⊎ IsMachines b i
+    → AsMachine b (executed b i)
+executed_as_machine b i h g (inl at) = inr (machine_executed (machine_of b) i, current_to_machine b i h g, at)
+executed_as_machine b i h g (inr same) = inl (record {
+  price = cycles_of i;
+  next = inl (i, g, refl);
+  step = subst (λ x. IsMachineStep (machine_of b) x) same.step (current_to_machine b i h g);
+  line = same.line;
+})
 
 step_as_machine : (b : BoardValue) (o : Outcome BusState) → IsWhole b → StepResult board_bus (registers_of b.cpu) (opened b) o → AsMachine b (board_outcome b o)
-step_as_machine b o h (Stopped e g) =
-    (0, inr (e, g, refl), subst (λ x. IsMachineStep (machine_of b) x) (stopped_same b e) (stopped_to_machine b e h g))
-step_as_machine b o h (Executed i g) =
-    (cycles_of i, inl (i, g, refl), subst (λ x. IsMachineStep (machine_of b) x) (executed_same b i h) (current_to_machine b i h g))
+step_as_machine b o h (Stopped e g) = inl (record {
+  price = 0;
+  next = inr (e, g, refl);
+  step = subst (λ x. IsMachineStep (machine_of b) x) (stopped_same b e) (stopped_to_machine b e h g);
+  line = refl;
+})
+step_as_machine b o h (Executed i g) = executed_as_machine b i h g (executed_same b i h)
 
 pub board_steps_as_machine : BoardStepsAsMachine
 board_steps_as_machine b x h is = subst (λ y. AsMachine b y) (sym is.2) (step_as_machine b is.0 h is.1)
 
+-- what MachineStepsAsBoard says of one outcome
+abbrev AsBoard : BoardValue → MachineOutcome → Type 0
+AsBoard b o = IsAtEvent o
+    ⊎ ((x : BoardOutcome) × (price : ℕ) × IsStep b x × IsNextPrice b price × (o ≡ machine_outcome_of b x price) × (x.board.line ≡ b.line))
+
+back_to_board : (b : BoardValue) (i : Instr) → IsNextInstruction b i → IsAtEvent (machine_executed (machine_of b) i) ⊎ IsMachines b i
+    → AsBoard b (machine_executed (machine_of b) i)
+back_to_board b i g (inl at) = inl at
+back_to_board b i g (inr same) = inr (executed b i, cycles_of i, (_, Executed i g, refl), inl (i, g, refl), same.step, same.line)
+
 pub machine_steps_as_board : MachineStepsAsBoard
 machine_steps_as_board b o h (NoInstruction e k) =
     let g = stopped_alike machine_bus board_bus (machine_opened (machine_of b)) (opened b) (λ a. sym (fetches b h a)) (registers_of b.cpu) e k in
-    (board_outcome b (record { answer = Err e; registers = registers_of b.cpu; bus = opened b }), 0, (_, Stopped e g, refl), inr (e, g, refl), stopped_same b e)
+    let x = board_outcome b (record { answer = Err e; registers = registers_of b.cpu; bus = opened b }) in
+    inr (x, 0, (_, Stopped e g, refl), inr (e, g, refl), stopped_same b e, refl)
 machine_steps_as_board b o h (Executes i k) =
     let g = current_alike machine_bus board_bus (machine_opened (machine_of b)) (opened b) (λ a. sym (fetches b h a)) (registers_of b.cpu) i k in
-    (executed b i, cycles_of i, (_, Executed i g, refl), inl (i, g, refl), executed_same b i h)
+    back_to_board b i g (executed_same b i h)
 
--- the machine steps and goes in one way
+-- the machine steps in one way
 pub machine_steps_in_one_way : MachineStepsInOneWay
 machine_steps_in_one_way s o p (NoInstruction e h) (NoInstruction f k) = ap (λ x. Stops [] 0 x) (same_stop machine_bus s.registers (machine_opened s) e f h k)
 machine_steps_in_one_way s o p (NoInstruction e h) (Executes i c) = absurd (not_stopped machine_bus s.registers (machine_opened s) e i h c)
 machine_steps_in_one_way s o p (Executes i c) (NoInstruction e h) = absurd (not_stopped machine_bus s.registers (machine_opened s) e i h c)
 machine_steps_in_one_way s o p (Executes i c) (Executes j d) = ap (λ x. machine_executed s x) (same_current machine_bus s.registers (machine_opened s) i j c d)
-
-abbrev stop_part : MachineOutcome → MachineStretch
-stop_part (Stops es price e) = stretch es 0 (Halted price e)
-stop_part (Goes es c t) = stretch es c (At t)
-
--- the parts of two outcomes that are one
-same_goes : (es fs : List Effect) (c d : ℕ) (t u : MachineBoard) → ◌≡◌ {A = MachineOutcome} (Goes es c t) (Goes fs d u) → (es ≡ fs) × (c ≡ d) × (t ≡ u)
-same_goes es fs c d t u e = (cc, cc, cc)
-
-goes_not_stops : (es fs : List Effect) (c d : ℕ) (t : MachineBoard) (x : Stop) → ◌≡◌ {A = MachineOutcome} (Goes es c t) (Stops fs d x) → ⊥
-goes_not_stops es fs c d t x e = cc
-
-pub machine_runs_in_one_way : MachineRunsInOneWay
-machine_runs_in_one_way n s r q (Stays _) (Stays _) = refl
-machine_runs_in_one_way n s r q (Halts m _ es price e h) (Halts _ _ fs price' f k) = ap stop_part (machine_steps_in_one_way s _ _ h k)
-machine_runs_in_one_way n s r q (Halts m _ es price e h) (Steps _ _ t fs c rest k more) =
-    absurd (goes_not_stops _ _ _ _ _ _ (machine_steps_in_one_way s _ _ k h))
-machine_runs_in_one_way n s r q (Steps m _ t es c rest h more) (Halts _ _ fs price f k) =
-    absurd (goes_not_stops _ _ _ _ _ _ (machine_steps_in_one_way s _ _ h k))
-machine_runs_in_one_way n s r q (Steps m _ t es c rest h more) (Steps _ _ u fs d rest' k more') =
-    let e = same_goes es fs c d t u (machine_steps_in_one_way s _ _ h k) in
-    let P : MachineBoard → Type 0 = λ x. MachineRun m x rest' in
-    let same : rest ≡ rest' = machine_runs_in_one_way m t rest rest' more (subst P (sym e.2) more') in
-    ap₂ (λ l k. after_effects l k rest) e.0 e.1 ∙ ap (λ x. after_effects fs d x) same

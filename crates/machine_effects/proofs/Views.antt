@@ -29,7 +29,7 @@ blank_ram : ram_of (filled_words 1024 0) ≡ (λ a. 0)
 blank_ram = fun_ext (λ a. either_zero ((a % 2 == 0) && is_ram a) (slice_index (filled_words 1024 0) (ram_place a)) (filled_at 1024 (ram_place a)))
 
 pub fresh_machine : FreshMachine
-fresh_machine fram readings = ap {B = MachineBoard} (λ r. record {
+fresh_machine fram readings events = ap {B = MachineBoard} (λ r. record {
   registers = registers_of (powered_up (vector_of fram) 0);
   fram = fram_of fram;
   ram = r;

@@ -1,7 +1,10 @@
 -- Words stay words, on the machine and on the board.
-use Rattle.std.proofs.Common.{◌≡◌, ◌==◌, ◌&&◌, ◌≤◌, ◌<◌, ◌%◌, arith, ℕ, zero, suc, refl, sym, subst, Bool, true, false, if◌then◌else◌, nat_lt, List, [], ◌∷◌}
+use Rattle.std.proofs.Common.{◌≡◌, ◌==◌, ◌&&◌, ◌≤◌, ◌<◌, ◌+◌, ◌-◌, ◌*◌, ◌/◌, ◌%◌, arith, ℕ, zero, suc, refl, sym, ◌∙◌, subst, not, eqb-true, length-set}
+use Rattle.std.proofs.Common.{Bool, true, false, if◌then◌else◌, nat_lt, List, [], ◌∷◌}
 use Rattle.std.proofs.Common.{◌++◌, All, length, drop, slice_index, slice_set, inl, inr, ◌⊎◌, Option, Some, None, Result, Ok, Err}
+use Rattle.std.specs.Prelude.{IfSome}
 use Rattle.std.proofs.lemmas.Bool.{cases_lt}
+use Rattle.std.proofs.lemmas.Bool.Decides.{nat_tests}
 use Rattle.std.proofs.lemmas.List.{length-replicate}
 use Rattle.std.proofs.lemmas.List.Elements.{All-set, All-replicate}
 use Rattle.fram_board.specs.alp_words.Words.{IsWord}
@@ -15,33 +18,42 @@ use Rattle.fram_board.specs.msp_isa.Encoding.{encoding}
 use Rattle.fram_board.specs.msp_cycles.Cycles.{cycles_of}
 use Rattle.fram_board.specs.msp_step.declared.bus.Refused.{Refused}
 use Rattle.fram_board.specs.msp_step.declared.bus.Refused.TheVariants as refused
+use Rattle.fram_board.specs.msp_step.declared.machine.Stop.{Stop}
 use Rattle.fram_board.specs.msp_step.declared.machine.Stop.TheVariants as stop
-use Rattle.fram_board.specs.msp_step.Registers.{Registers, registers_of, kept, powered_up}
+use Rattle.fram_board.specs.msp_step.Registers.{Registers, registers_of, with_register, kept, powered_up}
 use Rattle.fram_board.specs.msp_step.Access.{BusModel, Access, Completed, Faulted}
 use Rattle.fram_board.specs.msp_step.Effect.{Written}
 use Rattle.fram_board.specs.msp_step.Step.{FetchedAt, effect, outcome_of, Outcome, StepResult, Stopped, Executed, off_bit}
-use Rattle.step_laws.specs.Alike.{Alike}
+use Rattle.fram_board.specs.msp_step.Step.{is_interruptible, return_place, status_place, interrupted}
 use Rattle.step_laws.specs.Effects.{IsValid}
 use Rattle.step_laws.specs.Effects as laws
-use Rattle.step_laws.proofs.Interface.{stays_valid, effect_alike}
+use Rattle.step_laws.proofs.Interface.{stays_valid}
+use Rattle.fram_board.specs.address_space.Limits.{event_vector}
 use Rattle.fram_board.specs.image_text.ImageValue.{place_of}
 use Rattle.fram_board.specs.Bus.{BusState, IsBusState, board_bus, is_ram, is_fram, is_memory, is_word, ram_place, memory_word, with_word, with_byte, byte_of}
-use Rattle.fram_board.specs.Bus.{next_reading, read_of, after_read, written, port_written, sensor_port, number_port, data_port}
-use Rattle.fram_board.specs.Board.{BoardValue, opened, closed, board_outcome, register_list, filled_words, vector_of}
+use Rattle.fram_board.specs.Bus.{next_reading, read_of, after_read, written, port_written, sensor_port, number_port, data_port, event_port}
+use Rattle.fram_board.specs.Events.{EventLine, port_word, port_read}
+use Rattle.fram_board.specs.declared.board.NextStep.{NextStep}
+use Rattle.fram_board.specs.declared.board.NextStep.TheVariants as next_step
+use Rattle.fram_board.specs.Board.{executed, performed, at_boundary, IsNextStep}
+use Rattle.fram_board.specs.Board.{BoardValue, opened, closed, board_outcome, register_list, filled_words, vector_of, acceptance_refused, acceptance_made}
 use Rattle.fram_board.specs.Effects.{Effect, Store}
+use Rattle.fram_board.specs.Run.{Measure, price, RunOutcome, ChargeRun}
+use Rattle.fram_board.specs.Run as run
 use Rattle.fram_board.proofs.Interface.{power_up_leaves_a_board}
 use Rattle.machine_effects.specs.World.{put}
 use Rattle.machine_effects.specs.Inputs.{InputsAreWords}
-use Rattle.machine_effects.specs.Going.{Stops}
+use Rattle.machine_effects.specs.Going.{Goes, Stops}
 use Rattle.machine_effects.specs.Machine.{MachineBus, MachineBoard, MachineOutcome, machine_bus, machine_word, word_address, first_reading, machine_read}
 use Rattle.machine_effects.specs.Machine.{reading_taken, machine_after_read, machine_stored, machine_port_written, machine_written, machine_opened}
-use Rattle.machine_effects.specs.Machine.{machine_outcome, machine_executed, NoInstruction, Executes, standing}
-use Rattle.machine_effects.specs.View.{machine_of, IsWhole, IsOfWords, IsMachineOfWords}
+use Rattle.machine_effects.specs.Machine.{machine_outcome, machine_executed, NoInstruction, Executes, standing, step_with, astray, undisturbed}
+use Rattle.machine_effects.specs.View.{IsWhole, IsLineOfWords, IsOfWords, IsMachineOfWords}
 use Rattle.machine_effects.specs.Laws.{LeavesWords, MachineWordsStayWords, CodeWordsStayWords, WordsStayWords, StepLeavesItWhole, MachineIsOfWords}
-use Rattle.machine_effects.specs.Laws.{PowerUpKeepsWords, FreshIsWhole}
-use Rattle.machine_effects.proofs.Alike.{SameBus, buses_alike}
+use Rattle.machine_effects.specs.Laws.{PowerUpKeepsWords, FreshIsWhole, AcceptanceKeepsWords, ChargeKeepsWords}
 use Rattle.machine_effects.proofs.Along.{IsClosed, InstructionHas, Gives, effect_gives}
-use Rattle.machine_effects.proofs.Steps.{begins}
+use Rattle.machine_effects.proofs.Lines.{line_powered, boundary_keeps_words}
+use Rattle.machine_effects.proofs.Executed.{executed_is_step}
+use Rattle.machine_effects.proofs.Steps.{instruction_free}
 use Rattle.machine_effects.proofs.Values.{AreSmall, narrow_small, sum_small, constant_small, status_small, two_small, rotate_small, shift_small}
 use Rattle.machine_effects.proofs.Values.{exchange_small, extend_small, byte_small, bytes_small, kept_small, with_small}
 
@@ -212,17 +224,23 @@ machine_words_stay_words s o h (Executes i k) =
     executed_words s i h (immediate_fetched machine_bus (machine_opened s) (λ a v e. some_on (is_word a) (machine_word (machine_opened s) a) v
     (word_small (machine_opened s) a q) e) i (s.registers 0) k.fetched)
 
-if_off_words : (b : Bool) (o : MachineOutcome) → LeavesWords o → LeavesWords (if b then Stops [] 0 stop.Off else o)
-if_off_words true o h = tt
-if_off_words false o h = h
-
 standing_words : (o : Option Instr) (s : MachineBoard) → ((i : Instr) → o ≡ Some i → All (λ w. w < 0x10000) (encoding i)) → IsMachineOfWords s
     → LeavesWords (standing o s)
 standing_words None s e h = tt
 standing_words (Some i) s e h = executed_words s i h (immediate_encoded i (e i refl))
 
+stopped_if_words : (b : Bool) (e : Stop) (o : MachineOutcome) → LeavesWords o → LeavesWords (if b then Stops [] 0 e else o)
+stopped_if_words true e o h = tt
+stopped_if_words false e o h = h
+
+undisturbed_words : (s : MachineBoard) (o : MachineOutcome) → LeavesWords o → LeavesWords (undisturbed s o)
+undisturbed_words s (Goes es c t) h = stopped_if_words (is_interruptible t.registers) (astray s) (Goes es c t) h
+undisturbed_words s (Stops es price e) h = tt
+
 pub code_words_stay_words : CodeWordsStayWords
-code_words_stay_words code s e h = if_off_words (off_bit s.registers == 1) (standing (code (s.registers 0)) s) (standing_words (code (s.registers 0)) s e h)
+code_words_stay_words code s e h =
+    undisturbed_words s (step_with (code (s.registers 0)) s)
+    (stopped_if_words (off_bit s.registers == 1) stop.Off (standing (code (s.registers 0)) s) (standing_words (code (s.registers 0)) s e h))
 
 -- the board's bus
 record ListsOfWords (s : BusState) : Type 0 where
@@ -230,6 +248,7 @@ record ListsOfWords (s : BusState) : Type 0 where
   pub ram : All (λ w. w < 0x10000) s.ram
   pub readings : All (λ w. w < 0x10000) s.readings
   pub outnum : IsWord s.outnum
+  pub line : IsLineOfWords s.line
 
 past_end : (ws : List ℕ) (k : ℕ) → length ws ≤ k → slice_index ws k ≡ 0
 past_end [] k h = refl
@@ -253,14 +272,30 @@ next_on : (b : Bool) (x v : ℕ) → IsWord x → ◌≡◌ {A = Result ℕ Refu
 next_on true x v h e = let same : x ≡ v = cc in subst IsWord same h
 next_on false x v h e = absurd cc
 
+port_small : (port : Option ℕ) → IfSome port (λ w. w < 0x10000) → IsWord (port_word port)
+port_small None h = omega arith
+port_small (Some w) h = h
+
+port_on : (b c : Bool) (v w : ℕ) (o : Result ℕ Refused) → (o ≡ Ok v → IsWord v) → IsWord w
+    → (if b then o else if c then Ok w else Err refused.Bus) ≡ Ok v → IsWord v
+port_on true c v w o k h e = k e
+port_on false true v w o k h e = let same : w ≡ v = cc in subst IsWord same h
+port_on false false v w o k h e = absurd cc
+
 read_small : (s : BusState) (a : ℕ) (w : Width) (v : ℕ) → ListsOfWords s → read_of s a w ≡ Ok v → IsWord v
 read_small s a Word v q e =
-    ok_on (is_word a) (memory_word s a) v _ (list_word_small s a q) (λ g. sensed_on (a == sensor_port) v (next_reading s)
-    (λ r. next_on (nat_lt s.taken (length s.readings)) (slice_index s.readings s.taken) v (index_small s.readings s.taken q.readings) r) g) e
+    ok_on (is_word a) (memory_word s a) v _ (list_word_small s a q) (λ g. port_on (a == sensor_port) (a == event_port) v (port_word s.line.port)
+    (next_reading s) (λ r. next_on (nat_lt s.taken (length s.readings)) (slice_index s.readings s.taken) v (index_small s.readings s.taken q.readings) r)
+    (port_small s.line.port q.line.port) g) e
 read_small s a Byte v q e = ok_on (is_memory a) (byte_of (memory_word s a) a) v _ (byte_small (memory_word s a) a (list_word_small s a q)) (λ g. no_word v g) e
 
+line_read : (b : Bool) (q : EventLine) → IsLineOfWords q → IsLineOfWords (if b then port_read q else q)
+line_read true q h = record { port = tt; coming = h.coming }
+line_read false q h = h
+
 after_lists : (s : BusState) (a : ℕ) (w : Width) → ListsOfWords s → ListsOfWords (after_read s a w)
-after_lists s a Word q = record { fram = q.fram; ram = q.ram; readings = q.readings; outnum = q.outnum }
+after_lists s a Word q =
+    record { fram = q.fram; ram = q.ram; readings = q.readings; outnum = q.outnum; line = line_read (a == event_port) s.line q.line }
 after_lists s a Byte q = q
 
 abbrev ListsIf : Option BusState → Type 0
@@ -273,14 +308,16 @@ if_lists false x y h k = k
 
 word_lists : (b : Bool) (s : BusState) (i j v : ℕ) → IsWord v → ListsOfWords s
     → ListsOfWords (if b then record s { ram = slice_set s.ram i v } else record s { fram = slice_set s.fram j v })
-word_lists true s i j v h q = record { fram = q.fram; ram = All-set (λ w. w < 0x10000) s.ram i v h q.ram; readings = q.readings; outnum = q.outnum }
-word_lists false s i j v h q = record { fram = All-set (λ w. w < 0x10000) s.fram j v h q.fram; ram = q.ram; readings = q.readings; outnum = q.outnum }
+word_lists true s i j v h q =
+    record { fram = q.fram; ram = All-set (λ w. w < 0x10000) s.ram i v h q.ram; readings = q.readings; outnum = q.outnum; line = q.line }
+word_lists false s i j v h q =
+    record { fram = All-set (λ w. w < 0x10000) s.fram j v h q.fram; ram = q.ram; readings = q.readings; outnum = q.outnum; line = q.line }
 
 port_lists : (s : BusState) (a v : ℕ) → IsWord v → ListsOfWords s → ListsIf (port_written s a v)
 port_lists s a v h q =
-    if_lists (a == number_port) (Some (record s { outnum = v })) _ (record { fram = q.fram; ram = q.ram; readings = q.readings; outnum = h })
+    if_lists (a == number_port) (Some (record s { outnum = v })) _ (record { fram = q.fram; ram = q.ram; readings = q.readings; outnum = h; line = q.line })
     (if_lists (a == data_port) (Some (record s { offered = Some v })) None (record
-    { fram = q.fram; ram = q.ram; readings = q.readings; outnum = q.outnum }) tt)
+    { fram = q.fram; ram = q.ram; readings = q.readings; outnum = q.outnum; line = q.line }) tt)
 
 written_lists : (s : BusState) (a : ℕ) (w : Width) (v : ℕ) → IsWord v → ListsOfWords s → ListsIf (written s a w v)
 written_lists s a Word v h q =
@@ -334,13 +371,13 @@ all_registers r h =
     (h 0, (h 1, (h 2, (h 3, (h 4, (h 5, (h 6, (h 7, (h 8, (h 9, (h 10, (h 11, (h 12, (h 13, (h 14, (h 15, tt))))))))))))))))
 
 closed_lists : (b : BoardValue) (r : Registers) (s : BusState) → AreSmall r → ListsOfWords s → IsOfWords (closed b r s)
-closed_lists b r s h q = record { registers = all_registers r h; fram = q.fram; ram = q.ram; readings = q.readings; outnum = q.outnum }
+closed_lists b r s h q = record { registers = all_registers r h; fram = q.fram; ram = q.ram; readings = q.readings; outnum = q.outnum; line = q.line }
 
 registers_small : (b : BoardValue) → IsOfWords b → AreSmall (registers_of b.cpu)
 registers_small b h n = index_small b.cpu n h.registers
 
 opened_lists : (b : BoardValue) → IsOfWords b → ListsOfWords (opened b)
-opened_lists b h = record { fram = h.fram; ram = h.ram; readings = h.readings; outnum = h.outnum }
+opened_lists b h = record { fram = h.fram; ram = h.ram; readings = h.readings; outnum = h.outnum; line = h.line }
 
 access_lists : (b : BoardValue) (i : Instr) (m : Access BusState (Registers × Option Written)) → IsOfWords b
     → Gives ListsOfWords (λ y. AreSmall y.0) m → IsOfWords (board_outcome b (outcome_of i (registers_of b.cpu) m)).board
@@ -373,25 +410,128 @@ closed_whole b r s v g =
           { long = refl; even_pc = v.pc; even_sp = v.sp; sr = v.sr; r3 = v.r3 };
     }
 
-access_whole : (b : BoardValue) (i : Instr) (m : Access BusState (Registers × Option Written)) (n : Access MachineBus (Registers × Option Written))
-    → IsWhole b → Alike (SameBus b.readings) m n → laws.Gives m (λ y. IsValid y.0)
-    → IsWhole (board_outcome b (outcome_of i (registers_of b.cpu) m)).board
-access_whole b i (Completed x s) (Completed y t) h same v = closed_whole b x.0 s v same.1.whole
-access_whole b i (Faulted e a s) (Faulted f c t) h same v = closed_whole b (registers_of b.cpu) s (valid_registers b h) same.2.whole
-access_whole b i (Completed x s) (Faulted f c t) h same v = elim same [ ]
-access_whole b i (Faulted e a s) (Completed y t) h same v = elim same [ ]
+next_left : (b : Bool) (s : BusState) (v : ℕ) → nat_lt s.taken (length s.readings) ≡ b
+    → (if b then Ok (slice_index s.readings s.taken) else Err refused.NoReading) ≡ Ok v → s.taken + 1 ≤ length s.readings
+next_left true s v e r = grind (arith, nat_tests)
+next_left false s v e r = absurd cc
+
+taken_within : (b : Bool) (s : BusState) (a v : ℕ) → (a == sensor_port) ≡ b → IsBusState s → read_of s a Word ≡ Ok v
+    → (if b then s.taken + 1 else s.taken) ≤ length s.readings
+taken_within true s a v e g r =
+    let sensed : next_reading s ≡ Ok v = subst (λ x. read_of s x Word ≡ Ok v) (eqb-true a sensor_port e) r in
+    next_left (nat_lt s.taken (length s.readings)) s v refl sensed
+taken_within false s a v e g r = g.taken
+
+read_whole : (s : BusState) (a : ℕ) (w : Width) (v : ℕ) → IsBusState s → read_of s a w ≡ Ok v → IsBusState (after_read s a w)
+read_whole s a Word v g r = record { fram = g.fram; ram = g.ram; taken = taken_within (a == sensor_port) s a v refl g r; few = g.few }
+read_whole s a Byte v g r = g
+
+word_whole : (b : Bool) (s : BusState) (i j v : ℕ) → IsBusState s
+    → IsBusState (if b then record s { ram = slice_set s.ram i v } else record s { fram = slice_set s.fram j v })
+word_whole true s i j v g = record { fram = g.fram; ram = length-set s.ram i v ∙ g.ram; taken = g.taken; few = g.few }
+word_whole false s i j v g = record { fram = length-set s.fram j v ∙ g.fram; ram = g.ram; taken = g.taken; few = g.few }
+
+with_word_whole : (s : BusState) (a v : ℕ) → IsBusState s → IsBusState (with_word s a v)
+with_word_whole s a v g = word_whole (is_ram a) s (ram_place a) (place_of a) v g
+
+abbrev WholeIf : Option BusState → Type 0
+WholeIf None = Unit {0}
+WholeIf (Some t) = IsBusState t
+
+if_whole : (b : Bool) (x y : Option BusState) → WholeIf x → WholeIf y → WholeIf (if b then x else y)
+if_whole true x y h k = h
+if_whole false x y h k = k
+
+port_whole : (s : BusState) (a v : ℕ) → IsBusState s → WholeIf (port_written s a v)
+port_whole s a v g =
+    if_whole (a == number_port) (Some (record s { outnum = v })) _ (record { fram = g.fram; ram = g.ram; taken = g.taken; few = g.few })
+    (if_whole (a == data_port) (Some (record s { offered = Some v })) None (record { fram = g.fram; ram = g.ram; taken = g.taken; few = g.few }) tt)
+
+written_whole : (s : BusState) (a : ℕ) (w : Width) (v : ℕ) → IsBusState s → WholeIf (written s a w v)
+written_whole s a Word v g = if_whole (is_word a) (Some (with_word s a v)) (port_written s a v) (with_word_whole s a v g) (port_whole s a v g)
+written_whole s a Byte v g =
+    let x = with_byte (memory_word s a) a v in
+    if_whole (is_memory a) (Some (with_word s a x)) None (with_word_whole s a x g) tt
+
+whole_closed : IsClosed board_bus (λ v. Unit {0}) (λ r. Unit {0}) IsBusState
+whole_closed = record {
+  register = λ r n p. tt;
+  with = λ r n v low w p. tt;
+  read = λ s a w v q e. tt;
+  after = λ s a w v q e. read_whole s a w v q e;
+  write = λ s a w v t q h e. subst WholeIf e (written_whole s a w v q);
+  narrow = λ w v h. tt;
+  sum = λ a b. tt;
+  constant = λ k. tt;
+  status = λ sr f. tt;
+  two = λ op w d s f g h. tt;
+  rotate = λ w v f h. tt;
+  shift = λ w v f h. tt;
+  exchange = λ w v f h. tt;
+  extend = λ w v f h. tt;
+  nothing = tt;
+}
+
+access_whole : (b : BoardValue) (i : Instr) (m : Access BusState (Registers × Option Written)) → IsWhole b → Gives IsBusState (λ y. Unit {0}) m
+    → laws.Gives m (λ y. IsValid y.0) → IsWhole (board_outcome b (outcome_of i (registers_of b.cpu) m)).board
+access_whole b i (Completed x s) h g v = closed_whole b x.0 s v g.1
+access_whole b i (Faulted e a s) h g v = closed_whole b (registers_of b.cpu) s (valid_registers b h) g
 
 outcome_whole : (b : BoardValue) (o : Outcome BusState) → IsWhole b → StepResult board_bus (registers_of b.cpu) (opened b) o → IsWhole (board_outcome b o).board
 outcome_whole b o h (Stopped e k) = closed_whole b (registers_of b.cpu) (opened b) (valid_registers b h) h.board
 outcome_whole b o h (Executed i k) =
     let r = registers_of b.cpu in
-    access_whole b i (effect board_bus i r (opened b)) (effect machine_bus i r (machine_opened (machine_of b))) h
-    (effect_alike BusState MachineBus board_bus machine_bus (SameBus b.readings) (buses_alike b.readings) i r (opened b)
-    (machine_opened (machine_of b)) (begins b h)) (stays_valid board_bus i r (opened b) (valid_registers b h))
+    access_whole b i (effect board_bus i r (opened b)) h
+    (effect_gives board_bus (λ v. Unit {0}) (λ q. Unit {0}) IsBusState whole_closed i r (opened b) (instruction_free i) tt h.board)
+    (stays_valid board_bus i r (opened b) (valid_registers b h))
 
 -- a step leaves a whole board
 pub step_leaves_it_whole : StepLeavesItWhole
 step_leaves_it_whole b x h is = subst (λ y. IsWhole y.board) (sym is.2) (outcome_whole b is.0 h is.1)
+
+-- an acceptance
+by_tests : (P : Outcome BusState → Type 0) (a b : Bool) (x y z : Outcome BusState) → P x → P y → P z → P (if not a then x else if not b then y else z)
+by_tests P true true x y z p q h = h
+by_tests P true false x y z p q h = q
+by_tests P false b x y z p q h = p
+
+interrupted_valid : (r : Registers) (v : ℕ) → IsValid r → IsValid (interrupted r v)
+interrupted_valid r v h = record {
+  pc = let e : v / 2 * 2 % 2 ≡ 0 = omega arith in e;
+  sp = let e : status_place r / 2 * 2 % 2 ≡ 0 = omega arith in e;
+  sr = omega arith;
+  r3 = h.r3;
+}
+
+interrupted_small : (r : Registers) (v : ℕ) → IsWord v → AreSmall r → AreSmall (interrupted r v)
+interrupted_small r v h k =
+    let lowered = with_register r 1 (status_place r) in
+    with_small (with_register lowered 2 0) 0 v (omega arith) h
+    (with_small lowered 2 0 (omega arith) (omega arith) (with_small r 1 (status_place r) (omega arith) (sum_small (r 1) 0xFFFC) k))
+
+-- an acceptance, made or refused, leaves a whole board, and words
+pub acceptance_keeps_words : AcceptanceKeepsWords
+acceptance_keeps_words b h w =
+    let r = registers_of b.cpu in
+    let s = with_word (opened b) (return_place r) (r 0) in
+    let t = with_word s (status_place r) (r 2) in
+    let small = registers_small b w in
+    let valid = valid_registers b h in
+    let first = word_lists (is_ram (return_place r)) (opened b) (ram_place (return_place r)) (place_of (return_place r)) (r 0) (small 0) (opened_lists b w) in
+    let both = word_lists (is_ram (status_place r)) s (ram_place (status_place r)) (place_of (status_place r)) (r 2) (small 2) first in
+    let whole = with_word_whole s (status_place r) (r 2) (with_word_whole (opened b) (return_place r) (r 0) h.board) in
+    let vector = slice_index t.fram (place_of event_vector) in
+    let to = interrupted r vector in
+    let P : Outcome BusState → Type 0 = λ o. IsWhole (board_outcome b o).board × IsOfWords (board_outcome b o).board in
+    let first_refused : P (acceptance_refused r (opened b) (return_place r)) =
+    (closed_whole b r (opened b) valid h.board, closed_lists b r (opened b) small (opened_lists b w)) in
+    let second_refused : P (acceptance_refused r (opened b) (status_place r)) = first_refused in
+    by_tests P (is_word (return_place r)) (is_word (status_place r))
+    (acceptance_refused r (opened b) (return_place r)) (acceptance_refused r (opened b) (status_place r)) (acceptance_made r t) first_refused second_refused (
+      closed_whole b to t (interrupted_valid r vector valid) whole,
+      closed_lists b to t (interrupted_small r vector (index_small t.fram (place_of event_vector)
+          both.fram) small) both,
+    )
 
 -- a board of words as a machine
 drop_small : (n : ℕ) (ws : List ℕ) → All (λ w. w < 0x10000) ws → All (λ w. w < 0x10000) (drop n ws)
@@ -423,6 +563,7 @@ power_up_keeps_words b p h w q =
         ram = q.ram;
         readings = w.readings;
         outnum = q.outnum;
+        line = line_powered b.line w.line;
       },
     )
 
@@ -473,7 +614,7 @@ fresh_registers v h = from_pairs (powered_up v 0) (
 
 -- a fresh board is whole and holds words
 pub fresh_is_whole : FreshIsWhole
-fresh_is_whole fram readings long few f r = (
+fresh_is_whole fram readings events long few f r e = (
   record {
     board = record { fram = long; ram = blank_length 1024; taken = omega arith; few = few };
     registers = record { long = refl; even_pc = omega arith; even_sp = refl; sr = omega arith; r3 = refl };
@@ -484,5 +625,29 @@ fresh_is_whole fram readings long few f r = (
     ram = blank 1024;
     readings = r;
     outnum = zero_small;
+    line = record { port = tt; coming = e };
   },
 )
+
+-- a step of the board, made or refused, keeps them both
+pub performed_keeps_words : (b : BoardValue) (n : NextStep) → IsWhole b → IsOfWords b → IsNextStep b n
+    → IsWhole (performed b n).board × IsOfWords (performed b n).board
+performed_keeps_words b next_step.Acceptance h w next = acceptance_keeps_words b h w
+performed_keeps_words b (next_step.Instruction i) h w next =
+    let is = executed_is_step b i next.1 in
+    (step_leaves_it_whole b (executed b i) h is, words_stay_words b (executed b i) h w is)
+
+charge_words : (m : Measure) (amount : ℕ) (b : BoardValue) (r : RunOutcome) → IsWhole b → IsOfWords b → ChargeRun m amount b r
+    → IsWhole r.board × IsOfWords r.board
+charge_words m amount b r h w (run.Spent _ _ none) = (h, w)
+charge_words m amount b r h w (run.NoInstruction _ _ e pos none) = (h, w)
+charge_words m amount b r h w (run.TooDear _ _ n pos next dear) = (h, w)
+charge_words m amount b r h w (run.Refused _ _ n e pos next paid a) = performed_keeps_words b n h w next
+charge_words m amount b r h w (run.Executed _ _ n done rest pos next paid a more) =
+    let behind = performed_keeps_words b n h w next in
+    let at = boundary_keeps_words (performed b n).board behind.0 behind.1 in
+    charge_words m (amount - price m n) (at_boundary (performed b n).board) rest at.0 at.1 more
+
+-- and so does a charge
+pub charge_keeps_words : ChargeKeepsWords
+charge_keeps_words m amount b r h w c = charge_words m amount b r h w c

@@ -1,39 +1,47 @@
 -- Laws of the machine, and that it is the board.
-use Rattle.std.specs.Prelude.{ℕ, ◌≡◌, ◌<◌, ◌≤◌, List, All, ◌++◌, length, Some}
+use Rattle.std.specs.Prelude.{ℕ, ◌≡◌, ◌<◌, ◌≤◌, ◌⊎◌, List, All, ◌++◌, length, Some, Ok}
 use Rattle.fram_board.specs.address_space.Limits.{fram_words}
 use Rattle.fram_board.specs.msp_isa.declared.instructions.Instr.{Instr}
 use Rattle.fram_board.specs.msp_isa.Encoding.{encoding}
 use Rattle.fram_board.specs.msp_step.Registers.{registers_of, powered_up}
-use Rattle.fram_board.specs.Board.{BoardValue, BoardOutcome, IsStep, PowerState, powered, fresh, vector_of}
+use Rattle.fram_board.specs.declared.board.NextStep.{NextStep}
+use Rattle.fram_board.specs.declared.board.Stepped.{Stepped}
+use Rattle.fram_board.specs.Board.{BoardValue, BoardOutcome, IsStep, PowerState, powered, fresh, vector_of, acceptance, performed, at_boundary}
 use Rattle.fram_board.specs.Saved.{TakesNextBehind}
 use Rattle.fram_board.specs.Steps.{IsPowerState}
 use Rattle.fram_board.specs.Effects.{Effect}
-use Rattle.fram_board.specs.Run.{Measure, Moment, RunOutcome, ChargeRun, accepted_words}
+use Rattle.fram_board.specs.Run.{Measure, moment_of, RunOutcome, ChargeRun, accepted_by, accepted_words}
 use Rattle.machine_effects.specs.World.{World, fram_after, accepted_after, world_after}
 use Rattle.machine_effects.specs.Inputs.{Inputs, TakesExactly}
 use Rattle.machine_effects.specs.Going.{Goes, Stops}
-use Rattle.machine_effects.specs.Machine.{MachineBoard, MachineOutcome, MachineStretch, IsMachineStep, MachineRun, Code, exec, fram_of, machine_powered}
-use Rattle.machine_effects.specs.View.{machine_of, IsWhole, IsOfWords, IsMachineOfWords, IsNextPrice, machine_outcome_of}
-use Rattle.machine_effects.specs.Runs.{moments_effects, EndsAs, ReachesAs}
+use Rattle.machine_effects.specs.Machine.{MachineBoard, MachineOutcome, IsMachineStep, Code, exec, fram_of, machine_powered}
+use Rattle.machine_effects.specs.View.{machine_of, IsWhole, IsOfWords, IsMachineOfWords, IsNextPrice, machine_outcome_of, IsAtEvent}
+use Rattle.machine_effects.specs.Runs.{action_effects, moments_effects}
 
--- each step of a board is the machine's step of its view, with the board's effects and cycles; a stop is the same stop, with
--- the readings taken before it and the price of the instruction that stopped
+-- a step of the board is the machine's step of its view, with the board's effects and cycles, and leaves the port EVENT; a stop
+-- is the same stop, with the readings taken before it and the price of the instruction that stopped
+pub record StepsAsMachine (b : BoardValue) (x : BoardOutcome) : Type 0 where
+  pub price : ℕ
+  pub next : IsNextPrice b price
+  pub step : IsMachineStep (machine_of b) (machine_outcome_of b x price)
+  pub line : x.board.line ≡ b.line
+
+-- the view of a board steps to EVENT
+abbrev pub StepsToEvent : BoardValue → Type 0
+StepsToEvent b = (o : MachineOutcome) × IsMachineStep (machine_of b) o × IsAtEvent o
+
+-- where no acceptance is due, each step of a board is the machine's, or the machine's ends at EVENT
 abbrev pub BoardStepsAsMachine : Type 0
-BoardStepsAsMachine = (b : BoardValue) (x : BoardOutcome) → IsWhole b → IsStep b x
-    → (price : ℕ) × IsNextPrice b price × IsMachineStep (machine_of b) (machine_outcome_of b x price)
+BoardStepsAsMachine = (b : BoardValue) (x : BoardOutcome) → IsWhole b → IsStep b x → StepsAsMachine b x ⊎ StepsToEvent b
 
--- and each step of the view is the board's
+-- and each step of the view that doesn't end there is the board's
 abbrev pub MachineStepsAsBoard : Type 0
-MachineStepsAsBoard = (b : BoardValue) (o : MachineOutcome) → IsWhole b → IsMachineStep (machine_of b) o
-    → (x : BoardOutcome) × (price : ℕ) × IsStep b x × IsNextPrice b price × (o ≡ machine_outcome_of b x price)
+MachineStepsAsBoard = (b : BoardValue) (o : MachineOutcome) → IsWhole b → IsMachineStep (machine_of b) o → IsAtEvent o
+    ⊎ ((x : BoardOutcome) × (price : ℕ) × IsStep b x × IsNextPrice b price × (o ≡ machine_outcome_of b x price) × (x.board.line ≡ b.line))
 
 -- the machine steps in one way
 abbrev pub MachineStepsInOneWay : Type 0
 MachineStepsInOneWay = (s : MachineBoard) (o p : MachineOutcome) → IsMachineStep s o → IsMachineStep s p → o ≡ p
-
--- and goes in one way
-abbrev pub MachineRunsInOneWay : Type 0
-MachineRunsInOneWay = (n : ℕ) (s : MachineBoard) (r q : MachineStretch) → MachineRun n s r → MachineRun n s q → r ≡ q
 
 -- what an outcome says of FRAM and the inputs: they are as the effects make them
 abbrev pub ChangesByEffects : MachineBoard → MachineOutcome → Type 0
@@ -70,6 +78,14 @@ WordsStayWords = (b : BoardValue) (x : BoardOutcome) → IsWhole b → IsOfWords
 abbrev pub StepLeavesItWhole : Type 0
 StepLeavesItWhole = (b : BoardValue) (x : BoardOutcome) → IsWhole b → IsStep b x → IsWhole x.board
 
+-- at the boundary behind a step the board is as whole, and holds words, too
+abbrev pub BoundaryKeepsWords : Type 0
+BoundaryKeepsWords = (b : BoardValue) → IsWhole b → IsOfWords b → IsWhole (at_boundary b) × IsOfWords (at_boundary b)
+
+-- so is the board that an acceptance leaves, made or refused
+abbrev pub AcceptanceKeepsWords : Type 0
+AcceptanceKeepsWords = (b : BoardValue) → IsWhole b → IsOfWords b → IsWhole (acceptance b).board × IsOfWords (acceptance b).board
+
 -- what a board of words is as a machine
 abbrev pub MachineIsOfWords : Type 0
 MachineIsOfWords = (b : BoardValue) → IsOfWords b → IsMachineOfWords (machine_of b)
@@ -84,7 +100,7 @@ PowerUpKeepsWords = (b : BoardValue) (p : PowerState) → IsWhole b → IsOfWord
 
 -- a fresh board as a machine: registers but PC, and RAM, are 0, and all readings are left
 abbrev pub FreshMachine : Type 0
-FreshMachine = (fram readings : List ℕ) → machine_of (fresh fram readings) ≡ record {
+FreshMachine = (fram readings : List ℕ) (events : List (ℕ × ℕ)) → machine_of (fresh fram readings events) ≡ record {
   registers = registers_of (powered_up (vector_of fram) 0);
   fram = fram_of fram;
   ram = λ a. 0;
@@ -92,27 +108,22 @@ FreshMachine = (fram readings : List ℕ) → machine_of (fresh fram readings) �
   outnum = 0;
 }
 
--- it is whole where FRAM is as large as the memory map says, and holds words where FRAM and the readings do
+-- it is whole where FRAM is as large as the memory map says, and holds words where FRAM, the readings and the events do
 abbrev pub FreshIsWhole : Type 0
-FreshIsWhole = (fram readings : List ℕ) → length fram ≡ fram_words → length readings ≤ 262144
-    → All (λ w. w < 0x10000) fram → All (λ w. w < 0x10000) readings → IsWhole (fresh fram readings) × IsOfWords (fresh fram readings)
+FreshIsWhole = (fram readings : List ℕ) (events : List (ℕ × ℕ)) → length fram ≡ fram_words → length readings ≤ 262144
+    → All (λ w. w < 0x10000) fram → All (λ w. w < 0x10000) readings → All (λ e. e.1 < 0x10000) events
+    → IsWhole (fresh fram readings events) × IsOfWords (fresh fram readings events)
 
--- a charge of the board is the machine's
-abbrev pub ChargesAlike : Type 0
-ChargesAlike = (m : Measure) (amount : ℕ) (b : BoardValue) (r : RunOutcome) → IsWhole b → ChargeRun m amount b r → EndsAs m amount b r r.ending
-
--- and so is each front of it: the board after so many of its instructions is the machine after as many steps
-abbrev pub ChargeBoardsAlike : Type 0
-ChargeBoardsAlike = (m : Measure) (amount : ℕ) (b : BoardValue) (r : RunOutcome) (ms rest : List Moment) → IsWhole b → ChargeRun m amount b r
-    → r.moments ≡ ms ++ rest → ReachesAs b ms
-
--- a charge leaves a whole board
-abbrev pub ChargeLeavesItWhole : Type 0
-ChargeLeavesItWhole = (m : Measure) (amount : ℕ) (b : BoardValue) (r : RunOutcome) → IsWhole b → ChargeRun m amount b r → IsWhole r.board
-
--- and words
+-- a charge leaves a whole board, and words, whatever events arise
 abbrev pub ChargeKeepsWords : Type 0
-ChargeKeepsWords = (m : Measure) (amount : ℕ) (b : BoardValue) (r : RunOutcome) → IsWhole b → IsOfWords b → ChargeRun m amount b r → IsOfWords r.board
+ChargeKeepsWords = (m : Measure) (amount : ℕ) (b : BoardValue) (r : RunOutcome) → IsWhole b → IsOfWords b → ChargeRun m amount b r
+    → IsWhole r.board × IsOfWords r.board
+
+-- the word that the moment of a step tells, an instruction's or an acceptance, is the one that its effects make the receiver
+-- accept
+abbrev pub StepAcceptsBySends : Type 0
+StepAcceptsBySends = (b : BoardValue) (n : NextStep) (done : Stepped) (ws : List ℕ) → TakesNextBehind ws b.receiver → (performed b n).answer ≡ Ok done
+    → let m = moment_of b n done in accepted_after (action_effects m.action m.before m.after) ws ≡ ws ++ accepted_by m.action
 
 -- the words that a charge's moments tell are those that its effects make the receiver accept
 abbrev pub ChargeAcceptsBySends : Type 0

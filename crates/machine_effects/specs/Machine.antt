@@ -1,7 +1,7 @@
--- The machine: the board with memory as functions of addresses, without its receiver, whose words are read off the effects.
--- Its bus keeps a log of what an instruction does to FRAM, the sensor and the receiver. Its instructions, their effects and
--- cycles are those of every bus (SLAU049 and SLAU144, CPU chapter).
-use Rattle.std.specs.Prelude.{ℕ, zero, suc, ◌-◌, ◌%◌, ◌≡◌, ◌<◌, ◌≤◌, ◌==◌, ◌&&◌, if◌then◌else◌, slice_index, List, [], ◌∷◌, ◌++◌, Result, Ok, Err, Option}
+-- The machine: the board with memory as functions of addresses, without its receiver, whose words are read off the effects,
+-- and without the port EVENT, so that it accepts no interrupt. Its bus keeps a log of what an instruction does to FRAM, the
+-- sensor and the receiver. Its instructions, their effects and cycles are those of every bus (SLAU049 and SLAU144, CPU chapter).
+use Rattle.std.specs.Prelude.{ℕ, ◌-◌, ◌%◌, ◌≡◌, ◌<◌, ◌≤◌, ◌==◌, ◌&&◌, if◌then◌else◌, slice_index, List, [], ◌∷◌, ◌++◌, Result, Ok, Err, Option}
 use Rattle.std.specs.Prelude.{Some, None}
 use Rattle.fram_board.specs.address_space.Limits.{ram_first, ram_end, fram_first, program_end, reset_vector}
 pub use Rattle.fram_board.specs.address_space.Limits.{IsFramWord as IsFram}
@@ -16,14 +16,14 @@ use Rattle.fram_board.specs.msp_step.declared.machine.Stop.TheVariants as stop
 use Rattle.fram_board.specs.msp_step.Registers.{Registers, registers_of, kept}
 use Rattle.fram_board.specs.msp_step.Access.{BusModel, Access, Completed, Faulted}
 use Rattle.fram_board.specs.msp_step.Effect.{Written}
-use Rattle.fram_board.specs.msp_step.Step.{effect, off_bit, stop_of, IsStopped, IsCurrentInstruction}
+use Rattle.fram_board.specs.msp_step.Step.{effect, off_bit, is_interruptible, stop_of, IsStopped, IsCurrentInstruction}
 use Rattle.fram_board.specs.image_text.ImageValue.{place_of}
 use Rattle.fram_board.specs.Bus.{ram_place, is_ram, is_fram, is_memory, is_word, byte_of, with_byte, sensor_port, number_port, data_port}
 use Rattle.fram_board.specs.Board.{PowerState}
 use Rattle.fram_board.specs.Effects.{Effect, Store, Take, Outside, Offered}
 use Rattle.machine_effects.specs.World.{put}
 use Rattle.machine_effects.specs.Inputs.{Inputs}
-use Rattle.machine_effects.specs.Going.{StepOutcome, Goes, Stops, At, Halted, Stretch, stretch, after_effects}
+use Rattle.machine_effects.specs.Going.{StepOutcome, Goes, Stops, Stretch}
 
 -- memory and ports during one instruction, and what it did so far
 pub record MachineBus : Type 0 where
@@ -139,14 +139,6 @@ pub data IsMachineStep (s : MachineBoard) : MachineOutcome → Type 0 where
   NoInstruction : (e : Stop) → IsStopped machine_bus s.registers (machine_opened s) e → IsMachineStep s (Stops [] 0 e)
   Executes : (i : Instr) → IsCurrentInstruction machine_bus s.registers (machine_opened s) i → IsMachineStep s (machine_executed s i)
 
--- so many steps of the machine, each as it fetches
-pub data MachineRun : ℕ → MachineBoard → MachineStretch → Type 0 where
-  Stays : (s : MachineBoard) → MachineRun zero s (stretch [] 0 (At s))
-  Halts : (n : ℕ) (s : MachineBoard) (es : List Effect) (price : ℕ) (e : Stop) → IsMachineStep s (Stops es price e)
-      → MachineRun (suc n) s (stretch es 0 (Halted price e))
-  Steps : (n : ℕ) (s t : MachineBoard) (es : List Effect) (c : ℕ) (rest : MachineStretch) → IsMachineStep s (Goes es c t) → MachineRun n t rest
-      → MachineRun (suc n) s (after_effects es c rest)
-
 -- what an instruction that stands at PC does while CPUOFF is clear; where none stands the word there is illegal
 abbrev pub standing : Option Instr → MachineBoard → MachineOutcome
 standing (Some i) s = machine_executed s i
@@ -160,9 +152,18 @@ step_with i s = if off_bit s.registers == 1 then Stops [] 0 stop.Off else standi
 abbrev pub Code : Type 0
 Code = ℕ → Option Instr
 
+-- where code goes astray
+abbrev pub astray : MachineBoard → Stop
+astray s = stop.Illegal (s.registers 0) (word_in s.fram s.ram (s.registers 0))
+
+-- code that stays goes astray, too, with a step behind which the CPU would accept an interrupt
+abbrev pub undisturbed : MachineBoard → MachineOutcome → MachineOutcome
+undisturbed s (Goes es c t) = if is_interruptible t.registers then Stops [] 0 (astray s) else Goes es c t
+undisturbed s (Stops es price e) = Stops es price e
+
 -- the step of a machine whose instructions come from code that stays, whatever FRAM holds
 abbrev pub exec : Code → MachineBoard → MachineOutcome
-exec code s = step_with (code (s.registers 0)) s
+exec code s = undisturbed s (step_with (code (s.registers 0)) s)
 
 -- an even address in RAM
 pub record IsRam (a : ℕ) : Type 0 where

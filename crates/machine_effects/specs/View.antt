@@ -1,15 +1,20 @@
 -- The board of the running program as the machine.
-use Rattle.std.specs.Prelude.{ℕ, ◌≡◌, ◌<◌, ◌⊎◌, List, All, drop, Result, Ok, Err}
+use Rattle.std.specs.Prelude.{ℕ, ◌≡◌, ◌<◌, ◌⊎◌, List, All, IfSome, drop, Result, Ok, Err}
+use Rattle.fram_board.specs.msp_isa.declared.instructions.Instr.{Instr}
+use Rattle.fram_board.specs.msp_cycles.Cycles.{cycles_of}
 use Rattle.fram_board.specs.msp_step.declared.machine.Stop.{Stop}
+use Rattle.fram_board.specs.msp_step.declared.machine.Stop.TheVariants as stop
 use Rattle.fram_board.specs.msp_step.Registers.{registers_of}
 use Rattle.fram_board.specs.msp_step.Kept.{IsRegisters}
 use Rattle.fram_board.specs.declared.board.Stepped.{Stepped}
-use Rattle.fram_board.specs.Board.{BoardValue, BoardOutcome}
+use Rattle.fram_board.specs.Bus.{event_port}
+use Rattle.fram_board.specs.Events.{EventLine}
+use Rattle.fram_board.specs.Board.{BoardValue, BoardOutcome, executed}
 use Rattle.fram_board.specs.Steps.{BoardCosts, IsBoard}
 use Rattle.fram_board.specs.Effects.{Effect, effects_of}
 use Rattle.machine_effects.specs.Inputs.{Inputs, InputsAreWords}
 use Rattle.machine_effects.specs.Going.{Goes, Stops}
-use Rattle.machine_effects.specs.Machine.{MachineBoard, MachineOutcome, fram_of, ram_of}
+use Rattle.machine_effects.specs.Machine.{MachineBoard, MachineOutcome, machine_executed, fram_of, ram_of}
 
 -- what is ready for a board
 abbrev pub inputs_of : BoardValue → Inputs
@@ -30,6 +35,11 @@ pub record IsWhole (b : BoardValue) : Type 0 where
   pub board : IsBoard b
   pub registers : IsRegisters b.cpu
 
+-- the words that wait in the port EVENT and that come there are words
+pub record IsLineOfWords (q : EventLine) : Type 0 where
+  pub port : IfSome q.port (λ w. w < 0x10000)
+  pub coming : All (λ e. e.1 < 0x10000) q.coming
+
 -- all that a board holds are words
 pub record IsOfWords (b : BoardValue) : Type 0 where
   pub registers : All (λ w. w < 0x10000) b.cpu
@@ -37,6 +47,7 @@ pub record IsOfWords (b : BoardValue) : Type 0 where
   pub ram : All (λ w. w < 0x10000) b.ram
   pub readings : All (λ w. w < 0x10000) b.readings
   pub outnum : b.outnum < 0x10000
+  pub line : IsLineOfWords b.line
 
 -- all that the machine holds are words
 pub record IsMachineOfWords (s : MachineBoard) : Type 0 where
@@ -58,3 +69,20 @@ outcome_of_answer es price (Err e) next = Stops es price e
 -- a step of the board as one of the machine
 abbrev pub machine_outcome_of : BoardValue → BoardOutcome → ℕ → MachineOutcome
 machine_outcome_of b x price = outcome_of_answer (effects_of b x) price x.answer (machine_of x.board)
+
+-- a bus fault at the address of EVENT
+abbrev pub IsEventFault : Stop → Type 0
+IsEventFault (stop.Bus at a) = a ≡ event_port
+IsEventFault (stop.Illegal at w) = ⊥
+IsEventFault stop.Off = ⊥
+IsEventFault stop.NoReading = ⊥
+
+-- the machine ends at EVENT, which it doesn't have: there alone a board may do otherwise
+abbrev pub IsAtEvent : MachineOutcome → Type 0
+IsAtEvent (Goes es c t) = ⊥
+IsAtEvent (Stops es price e) = IsEventFault e
+
+-- an instruction of a board does as the machine's, which has no port EVENT, and leaves the events as they are
+pub record IsMachines (b : BoardValue) (i : Instr) : Type 0 where
+  pub step : machine_executed (machine_of b) i ≡ machine_outcome_of b (executed b i) (cycles_of i)
+  pub line : (executed b i).board.line ≡ b.line

@@ -1,23 +1,23 @@
 //! Laws of the machine. The functions do nothing: their contracts are the laws.
 
-ghost use Rattle.machine_effects.specs.Laws.{BoardStepsAsMachine, MachineStepsAsBoard, MachineStepsInOneWay, MachineRunsInOneWay, CodeChangesByEffects};
-ghost use Rattle.machine_effects.specs.Laws.{MachineChangesByEffects, MachineWordsStayWords, CodeWordsStayWords, WordsStayWords, StepLeavesItWhole};
-ghost use Rattle.machine_effects.specs.Laws.{MachineIsOfWords, PowerUpIsTheMachines, PowerUpKeepsWords, FreshMachine, FreshIsWhole, ChargesAlike};
-ghost use Rattle.machine_effects.specs.Laws.{ChargeBoardsAlike, ChargeLeavesItWhole, ChargeKeepsWords, ChargeAcceptsBySends, WorldByItsParts};
+ghost use Rattle.machine_effects.specs.Laws.{BoardStepsAsMachine, MachineStepsAsBoard, MachineStepsInOneWay, CodeChangesByEffects, MachineChangesByEffects};
+ghost use Rattle.machine_effects.specs.Laws.{MachineWordsStayWords, CodeWordsStayWords, WordsStayWords, StepLeavesItWhole, BoundaryKeepsWords};
+ghost use Rattle.machine_effects.specs.Laws.{AcceptanceKeepsWords, MachineIsOfWords, PowerUpIsTheMachines, PowerUpKeepsWords, FreshMachine, FreshIsWhole};
+ghost use Rattle.machine_effects.specs.Laws.{ChargeKeepsWords, StepAcceptsBySends, ChargeAcceptsBySends, WorldByItsParts};
 
-/// Each step of a whole board is the machine's step, with the same effects and cycles, or the same stop with the readings
-/// that were taken before it; and each step of the machine that a board is, is a step of the board.
+/// Each step of a whole board at which no acceptance is due is the machine's step, with the same effects and cycles, or the
+/// same stop with the readings that were taken before it, and leaves the port EVENT; or the machine's step ends at EVENT. Each
+/// step of the machine that a board is, that doesn't end there, is a step of the board.
 #[tactic(auto, using(crate::proofs::Steps::board_steps_as_machine, crate::proofs::Steps::machine_steps_as_board))]
 pub fn steps_are_the_machines()
     ensures forth { BoardStepsAsMachine }
     ensures back { MachineStepsAsBoard }
 {}
 
-/// The machine steps in one way, and so many steps lead one way.
-#[tactic(auto, using(crate::proofs::Steps::machine_steps_in_one_way, crate::proofs::Steps::machine_runs_in_one_way))]
-pub fn machine_goes_in_one_way()
-    ensures step { MachineStepsInOneWay }
-    ensures run { MachineRunsInOneWay }
+/// The machine steps in one way.
+#[tactic(auto, using(crate::proofs::Steps::machine_steps_in_one_way))]
+pub fn machine_steps_in_one_way()
+    ensures { MachineStepsInOneWay }
 {}
 
 /// A step of the machine changes FRAM by its stores and the readings left by its takes; one that stops takes alone.
@@ -45,6 +45,13 @@ pub fn steps_leave_boards_whole()
     ensures { StepLeavesItWhole }
 {}
 
+/// The boundary behind a step, at which events arise, an acceptance and a whole charge leave a whole board of words.
+pub fn boards_of_words_stay_so()
+    ensures boundary { BoundaryKeepsWords }
+    ensures acceptance { AcceptanceKeepsWords }
+    ensures charge { ChargeKeepsWords }
+{}
+
 /// A power-up with any words is the machine's, and leaves a whole board of words.
 #[tactic(auto, using(crate::proofs::Views::power_up_is_the_machines, crate::proofs::Words::power_up_keeps_words))]
 pub fn power_up_is_the_machines()
@@ -52,24 +59,18 @@ pub fn power_up_is_the_machines()
     ensures words { PowerUpKeepsWords }
 {}
 
-/// A fresh board as a machine; it is whole, and holds words where its FRAM and its readings do.
+/// A fresh board as a machine; it is whole, and holds words where its FRAM, its readings and its events do.
 pub fn fresh_board_is_a_machine()
     ensures view { FreshMachine }
     ensures whole { FreshIsWhole }
 {}
 
-/// The instructions of a charge are steps of the machine, with the effects and cycles that its moments tell. As many are
-/// made as the charge pays for, or the machine stops as the board does. The board is whole after it, and holds words.
-pub fn charges_are_the_machines()
-    ensures alike { ChargesAlike }
-    ensures boards { ChargeBoardsAlike }
-    ensures whole { ChargeLeavesItWhole }
-    ensures words { ChargeKeepsWords }
-{}
-
-/// The words that the moments of a charge tell as accepted are those that its effects make the receiver accept.
+/// The word that the moment of a step tells as accepted is the one that its effects make the receiver accept; and so with the
+/// words of a charge's moments.
+#[tactic(auto, using(crate::proofs::Accepted::step_accepts_by_sends, crate::proofs::Accepted::charge_accepts_by_sends))]
 pub fn charges_accept_by_their_sends()
-    ensures { ChargeAcceptsBySends }
+    ensures step { StepAcceptsBySends }
+    ensures charge { ChargeAcceptsBySends }
 {}
 
 /// The world after effects is FRAM and the accepted words after them.

@@ -1,8 +1,9 @@
 -- How many dones a run has at most, and how many readings it takes.
-use Rattle.std.proofs.Common.{◌≡◌, ℕ, ◌+◌, ◌-◌, ◌≤◌, refl, sym, ap, ◌∙◌, subst, arith, true, false, cond, List, [], ◌∷◌, length, length-append, append-nil, Ok}
+use Rattle.std.proofs.Common.{◌≡◌, ℕ, ◌+◌, ◌-◌, ◌≤◌, refl, sym, ap, ◌∙◌, subst, arith, true, false, cond, List, [], ◌∷◌, length, length-append, Ok}
 use Rattle.msp_isa.specs.declared.instructions.Instr.{Instr}
+use Rattle.fram_board.specs.declared.board.NextStep.TheVariants as next_step
 use Rattle.fram_board.specs.declared.board.Stepped.{Stepped}
-use Rattle.fram_board.specs.Board.{BoardValue, PowerState, powered, executed, IsNextInstruction}
+use Rattle.fram_board.specs.Board.{BoardValue, PowerState, powered, executed, performed, at_boundary, IsNextInstruction}
 use Rattle.fram_board.specs.Steps.{IsPowerState}
 use Rattle.fram_board.specs.Effects.{Effect}
 use Rattle.fram_board.specs.Run.{Measure, price, Moment, moment_of, Charges, Stopped, RunOutcome, run_outcome, BoardCharge, ChargeRun, Spent}
@@ -10,7 +11,7 @@ use Rattle.fram_board.specs.Run.{NoInstruction}
 use Rattle.fram_board.specs.Run.{TooDear, Refused, Executed, Run, Over, Next, Last}
 use Rattle.fram_board.proofs.Interface.{price_low}
 use Rattle.machine_effects.specs.World.{world_after}
-use Rattle.machine_effects.specs.View.{IsWhole, IsOfWords}
+use Rattle.machine_effects.specs.View.{IsWhole, IsOfWords, IsMachines}
 use Rattle.machine_effects.specs.Runs.{last_board}
 use Rattle.machine_effects.proofs.Interface.{power_up_keeps_words}
 use Rattle.crash_rules.specs.Model.{Marks}
@@ -18,10 +19,10 @@ use Rattle.crash_rules.specs.History.{History, is_done, is_decide, behind_boot, 
 use Rattle.crash_rules.proofs.Interface.{observed_taken, with_effects}
 use Rattle.run_charges.specs.View.{IsMomentFrom, PowersUp, Instructs, AreMoments}
 use Rattle.run_charges.specs.Charges.{behind_moment, observed}
-use Rattle.run_charges.proofs.Interface.{follows_keeps, front_moments, told, whole_after, words_after, one_write}
+use Rattle.run_charges.proofs.Interface.{follows_keeps, told, whole_after, words_after, one_write}
 use Rattle.run_charges.proofs.Interface.{readings_counted, readings_stay}
 use Rattle.model_runs.proofs.Events.{seen}
-use Rattle.run_charges.specs.Laws.{IsRunOfWords}
+use Rattle.run_charges.specs.Laws.{IsPlainRun}
 use Rattle.model_runs.specs.Runs.{all_amounts}
 use Rattle.model_runs.specs.Laws.{DonesAreFew, TakesWhatIsThere}
 
@@ -32,7 +33,7 @@ charge_short m left b r (NoInstruction _ _ e pos h) = omega arith
 charge_short m left b r (TooDear _ _ i pos c dear) = omega arith
 charge_short m left b r (Refused _ _ i e pos c paid a) = omega arith
 charge_short m left b r (Executed _ _ i done rest pos c paid a h) =
-    let more = charge_short m (left - price m i) (executed b i).board rest h in
+    let more = charge_short m (left - price m i) (at_boundary (performed b i).board) rest h in
     let low = price_low m i in
     omega (arith, more, low, paid)
 
@@ -79,21 +80,21 @@ power_counts marks b h p w q ok =
     record { whole = up.0; words = up.1; dones = omega arith; since = λ l. omega arith; taken = λ e. e; readings = refl }
 
 instruction_counts : (marks : Marks) (b : BoardValue) (h : History) (i : Instr) (done : Stepped) → IsWhole b → IsOfWords b → IsNextInstruction b i
-    → (executed b i).answer ≡ Ok done
-    → Counts b h (executed b i).board (behind_moment marks (moment_of b i done) h) 1
-instruction_counts marks b h i done w q c a =
-    let es : List Effect = told b w i done c a in
-    let all = seen marks es h (one_write b w i done c a) in
+    → (executed b i).answer ≡ Ok done → IsMachines b i
+    → Counts b h (at_boundary (executed b i).board) (behind_moment marks (moment_of b (next_step.Instruction i) done) h) 1
+instruction_counts marks b h i done w q c a own =
+    let es : List Effect = told b w i done c a own in
+    let all = seen marks es h (one_write b w i done c a own) in
     let P : History → Type 0 = λ k. AddsOne (with_effects es h) k in
     let one : AddsOne (with_effects es h) (observe marks es h) = subst P (sym all)
     (event_adds (h.world.fram marks.gate) ((world_after es h.world).fram marks.gate) (with_effects es h)) in
     record {
-      whole = whole_after b w i done c a;
-      words = words_after b w i done c a q;
+      whole = whole_after b w i done c a own;
+      words = words_after b w i done c a own q;
       dones = one.dones;
       since = λ l. one.since (omega (arith, l));
-      taken = λ e. observed_taken marks es h ∙ readings_counted b w i done c a h e;
-      readings = readings_stay b w i done c a;
+      taken = λ e. observed_taken marks es h ∙ readings_counted b w i done c a own h e;
+      readings = readings_stay b w i done c a own;
     }
 
 moment_counts : (marks : Marks) (b : BoardValue) (h : History) (m : Moment) → IsWhole b → IsOfWords b → IsMomentFrom b m
@@ -101,9 +102,9 @@ moment_counts : (marks : Marks) (b : BoardValue) (h : History) (m : Moment) → 
 moment_counts marks b h m w q (PowersUp p ok e) =
     let P : Moment → Type 0 = λ y. Counts b h y.after (behind_moment marks y h) 1 in
     subst P (sym e) (power_counts marks b h p w q ok)
-moment_counts marks b h m w q (Instructs i done c a e) =
+moment_counts marks b h m w q (Instructs i done c a own e) =
     let P : Moment → Type 0 = λ y. Counts b h y.after (behind_moment marks y h) 1 in
-    subst P (sym e) (instruction_counts marks b h i done w q c a)
+    subst P (sym e) (instruction_counts marks b h i done w q c a own)
 
 moments_count : (marks : Marks) (b : BoardValue) (h : History) (ms : List Moment) → IsWhole b → IsOfWords b → AreMoments b ms
     → Counts b h (last_board b ms) (observed marks ms h) (length ms)
@@ -125,16 +126,15 @@ moments_count marks b h (m ∷ ms) w q all =
       readings = more.readings ∙ one.readings ∙ keeps.readings;
     }
 
-run_counts : (cs : List BoardCharge) (b : BoardValue) (r : RunOutcome) → IsRunOfWords cs b r → (marks : Marks) (h : History)
+run_counts : (cs : List BoardCharge) (b : BoardValue) (r : RunOutcome) → IsPlainRun cs b r → (marks : Marks) (h : History)
     → Counts b h (last_board b r.moments) (observed marks r.moments h) (length r.moments)
-run_counts cs b r run marks h = moments_count marks b h r.moments run.whole run.words
-    (front_moments cs b r r.moments [] run.starts run.run (sym (append-nil r.moments)))
+run_counts cs b r run marks h = moments_count marks b h r.moments run.of_words.whole run.of_words.words run.moments
 
 -- a run has no more dones than its charges have cycles or instructions
 pub dones_are_few : DonesAreFew
 dones_are_few cs b r run marks h =
     let few = (run_counts cs b r run marks h).dones in
-    let short = run_short cs b r run.run in
+    let short = run_short cs b r run.of_words.run in
     omega (arith, few, short)
 
 within : (s t n k : ℕ) → s ≤ t → t ≤ n → n ≡ k → s ≤ k

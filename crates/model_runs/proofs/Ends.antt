@@ -15,7 +15,7 @@ use Rattle.run_charges.specs.View.{outside_of}
 use Rattle.run_charges.proofs.Interface.{run_front, StopsBehind, run_halts}
 use Rattle.model_runs.specs.Runs.{BearsModel, history_behind, IsShort}
 use Rattle.model_runs.specs.Laws.{StopsWhereShort}
-use Rattle.model_runs.proofs.Fronts.{stood, at_front, powers_up}
+use Rattle.model_runs.proofs.Fronts.{stood, runs_plainly, at_front, powers_up}
 
 module _ {St : Type 0} (m : Model St) (c : Program) (readings : List ℕ) (origin : Origin St) (x : World) (b : BoardValue)
     (bears : BearsModel m c readings origin x b) where
@@ -52,5 +52,5 @@ module _ {St : Type 0} (m : Model St) (c : Program) (readings : List ℕ) (origi
 pub stops_where_short : {St : Type 0} (m : Model St) (c : Program) → StopsWhereShort m c
 stops_where_short m c readings origin x cs b r run bears e h =
     let first = first_history m.marks x in
-    let at = at_front m c readings origin x b bears [] (run_front cs b r [] r.moments run refl) in
+    let at = at_front m c readings origin x b bears [] (run_front cs b r [] r.moments (runs_plainly m c readings origin x b bears cs r run) refl) in
     stopped m c readings origin x b bears r e (run_halts (stood m c readings origin x b bears) b first cs b first r run.starts run.run at e h)

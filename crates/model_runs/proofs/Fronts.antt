@@ -1,7 +1,7 @@
 -- Fronts of a run whose code is a program of a model.
 use Rattle.std.proofs.Common.{◌≡◌, ℕ, refl, List}
 use Rattle.fram_board.specs.Board.{BoardValue}
-use Rattle.fram_board.specs.Run.{Moment}
+use Rattle.fram_board.specs.Run.{BoardCharge, Moment, RunOutcome}
 use Rattle.machine_effects.specs.Machine.{MachineBoard}
 use Rattle.machine_effects.specs.World.{World}
 use Rattle.machine_effects.specs.View.{IsWhole, IsOfWords}
@@ -12,7 +12,8 @@ use Rattle.crash_rules.specs.Runs.{Program, Charge, Charged}
 use Rattle.crash_rules.specs.Laws.{Origin, IsLawful, Matches, HasRun, PowersUpBehind}
 use Rattle.crash_rules.proofs.Interface.{crash_theorem}
 use Rattle.run_charges.specs.View.{outside_of, IsFront}
-use Rattle.run_charges.proofs.Interface.{PlacedProgram, Ready, Reached, front_reached, run_front}
+use Rattle.run_charges.specs.Laws.{IsRunOfWords, IsPlainRun}
+use Rattle.run_charges.proofs.Interface.{PlacedProgram, Ready, Reached, front_reached, plain_run, run_front}
 use Rattle.model_runs.specs.Runs.{BearsModel, history_behind}
 use Rattle.model_runs.specs.Laws.{FrontsAreLawful}
 
@@ -34,6 +35,10 @@ module _ {St : Type 0} (m : Model St) (c : Program) (readings : List ℕ) (origi
 
   pub ready_at_first : IsWhole b → IsOfWords b → Ready stood b first
   ready_at_first whole words = record { whole = whole; words = words; vector = refl; holds = bears.stands.holds; leaves = bears.stands.leaves }
+
+  -- its run is a plain one: no interrupt is accepted, and nothing is read of EVENT
+  pub runs_plainly : (cs : List BoardCharge) (r : RunOutcome) → IsRunOfWords cs b r → IsPlainRun cs b r
+  runs_plainly cs r run = plain_run stood b first (ready_at_first run.whole run.words) cs r run
 
   -- what is known at a front: charges lead there, and the code stands
   abbrev pub AtFront : BoardValue → History → Type 0
@@ -62,4 +67,4 @@ module _ {St : Type 0} (m : Model St) (c : Program) (readings : List ℕ) (origi
 
 pub fronts_are_lawful : {St : Type 0} (m : Model St) (c : Program) → FrontsAreLawful m c
 fronts_are_lawful m c readings origin x cs b r run bears ms rest e =
-    lawful_front m c readings origin x b bears ms (run_front cs b r ms rest run e)
+    lawful_front m c readings origin x b bears ms (run_front cs b r ms rest (runs_plainly m c readings origin x b bears cs r run) e)

@@ -4,8 +4,9 @@ use Rattle.std.proofs.Common.{append-nil, Some, Ok}
 use Rattle.msp_isa.specs.declared.instructions.Instr.{Instr}
 use Rattle.image_map.specs.MapValue.{MapValue}
 use Rattle.image_map.specs.Kept.{IsMap}
+use Rattle.fram_board.specs.declared.board.NextStep.TheVariants as next_step
 use Rattle.fram_board.specs.declared.board.Stepped.{Stepped}
-use Rattle.fram_board.specs.Board.{BoardValue, PowerState, powered, executed, IsNextInstruction}
+use Rattle.fram_board.specs.Board.{BoardValue, PowerState, powered, executed, at_boundary, IsNextInstruction}
 use Rattle.fram_board.specs.Saved.{TakesNextBehind}
 use Rattle.fram_board.specs.Steps.{IsPowerState}
 use Rattle.fram_board.specs.Effects.{Effect}
@@ -15,7 +16,7 @@ use Rattle.board_run.specs.History.{shared_numbers}
 use Rattle.board_run.specs.History as board
 use Rattle.board_run.specs.Report.{lines_from, after_all}
 use Rattle.machine_effects.specs.World.{World, fram_after, world_after}
-use Rattle.machine_effects.specs.View.{IsWhole, IsOfWords}
+use Rattle.machine_effects.specs.View.{IsWhole, IsOfWords, IsMachines}
 use Rattle.machine_effects.specs.Runs.{last_board}
 use Rattle.machine_effects.proofs.Interface.{world_by_its_parts, power_up_keeps_words}
 use Rattle.crash_rules.specs.Model.{Marks}
@@ -115,12 +116,12 @@ module _ (m : MapValue) (x : World) (ok : IsMap m) where
 
   -- an instruction
   module _ (b : BoardValue) (h : board.History) (k : History) (t : Together m x b h k) (i : Instr) (done : Stepped) (current : IsNextInstruction b i)
-      (answer : (executed b i).answer ≡ Ok done) where
+      (answer : (executed b i).answer ≡ Ok done) (own : IsMachines b i) where
     abbrev after : BoardValue
-    after = (executed b i).board
+    after = at_boundary (executed b i).board
 
     abbrev es : List Effect
-    es = outside_effects (moment_of b i done)
+    es = outside_effects (moment_of b (next_step.Instruction i) done)
 
     abbrev ws : List ℕ
     ws = word_list done.accepted
@@ -141,16 +142,16 @@ module _ (m : MapValue) (x : World) (ok : IsMap m) where
     fram_now =
         ap (λ y. y.fram) (world_by_its_parts es k.world)
         ∙ ap (fram_after es) t.tells.fram
-        ∙ sym (fram_changed b t.whole i done current answer)
+        ∙ sym (fram_changed b t.whole i done current answer own)
 
     accepted_now : (world_after es k.world).accepted ≡ k.world.accepted ++ ws
-    accepted_now = ap (λ y. y.accepted) (world_by_its_parts es k.world) ∙ words_accepted b t.whole i done current answer k.world.accepted t.tells.accepted
+    accepted_now = ap (λ y. y.accepted) (world_by_its_parts es k.world) ∙ words_accepted b t.whole i done current answer own k.world.accepted t.tells.accepted
 
     taken_now : moved.taken ≡ after.taken
-    taken_now = readings_counted b t.whole i done current answer k t.tells.taken
+    taken_now = readings_counted b t.whole i done current answer own k t.tells.taken
 
     count_now : TakesNextBehind (world_after es k.world).accepted after.receiver
-    count_now = ap (λ y. length y.accepted % 0x10000) (world_by_its_parts es k.world) ∙ words_counted b t.whole i done current answer k.world.accepted
+    count_now = ap (λ y. length y.accepted % 0x10000) (world_by_its_parts es k.world) ∙ words_counted b t.whole i done current answer own k.world.accepted
         t.tells.accepted
 
     moved_tells : TellsOf after moved
@@ -164,18 +165,18 @@ module _ (m : MapValue) (x : World) (ok : IsMap m) where
 
     -- what is observed of this instruction
     pub observed_so : observe marks es k ≡ behind_gate before now moved
-    observed_so = seen marks es k (one_write b t.whole i done current answer) ∙ ap (λ n. behind_gate before n moved) (sym gate_now)
+    observed_so = seen marks es k (one_write b t.whole i done current answer own) ∙ ap (λ n. behind_gate before n moved) (sym gate_now)
 
     gate_before : spoken.gate ≡ before
     gate_before = words_keep_gate h done.accepted ∙ t.same.gate
 
-    noted_so : noted h (moment_of b i done) ≡ gated_from m spoken after before now
+    noted_so : noted h (moment_of b (next_step.Instruction i) done) ≡ gated_from m spoken after before now
     unfolding noted
     noted_so =
         ap (λ o. behind_instruction o h ws after) t.same.alike.mapped
         ∙ ap (λ n. gated_from m spoken after n now) gate_before
 
-    lines_so : moment_lines h (moment_of b i done) ≡ gate_lines m spoken after before now
+    lines_so : moment_lines h (moment_of b (next_step.Instruction i) done) ≡ gate_lines m spoken after before now
     unfolding moment_lines
     lines_so =
         ap (λ o. instruction_lines o h ws after) t.same.alike.mapped
@@ -199,7 +200,7 @@ module _ (m : MapValue) (x : World) (ok : IsMap m) where
           taken = observed_taken marks es k ∙ taken_now;
         }
 
-    behind_told : Told m x k (observe marks es k) (moment_lines h (moment_of b i done))
+    behind_told : Told m x k (observe marks es k) (moment_lines h (moment_of b (next_step.Instruction i) done))
     behind_told =
         let P : History → Type 0 = λ y. Told m x k y (gate_lines m spoken after before now) in
         let Q : List ℕ → Type 0 = λ l. Told m x k (observe marks es k) l in
@@ -209,13 +210,13 @@ module _ (m : MapValue) (x : World) (ok : IsMap m) where
         record { dones = event.dones; completed = event.completed; told = event.told } in
         subst Q (sym lines_so) (subst P (sym observed_so) same)
 
-    instruction_leads : Leads m x after (noted h (moment_of b i done)) k (observe marks es k) (moment_lines h (moment_of b i done))
+    instruction_leads : let o = moment_of b (next_step.Instruction i) done in Leads m x after (noted h o) k (observe marks es k) (moment_lines h o)
     instruction_leads =
         let P : board.History → Type 0 = λ y. SaysTheSame m x y (observe marks es k) in
         record {
           together = record {
-            whole = whole_after b t.whole i done current answer;
-            words = words_after b t.whole i done current answer t.words;
+            whole = whole_after b t.whole i done current answer own;
+            words = words_after b t.whole i done current answer own t.words;
             same = subst P (sym noted_so) behind_same;
             tells = behind_tells;
           };
@@ -229,8 +230,8 @@ module _ (m : MapValue) (x : World) (ok : IsMap m) where
   -- a moment leads both histories on
   pub moment_leads : (b : BoardValue) (h : board.History) (k : History) → Together m x b h k → (o : Moment) → IsMomentFrom b o → MomentLeads b h k o
   moment_leads b h k t o (PowersUp p start e) = let P : Moment → Type 0 = λ y. MomentLeads b h k y in subst P (sym e) (boot_leads b h k t p start)
-  moment_leads b h k t o (Instructs i done c a e) =
-      let P : Moment → Type 0 = λ y. MomentLeads b h k y in subst P (sym e) (instruction_leads b h k t i done c a)
+  moment_leads b h k t o (Instructs i done c a own e) =
+      let P : Moment → Type 0 = λ y. MomentLeads b h k y in subst P (sym e) (instruction_leads b h k t i done c a own)
 
   -- dones behind dones
   lines-append : (j : ℕ) (w : World) (ds es : List Done) → dones_lines m (counted j) w (ds ++ es)
@@ -269,8 +270,9 @@ module _ (m : MapValue) (x : World) (ok : IsMap m) where
 
 pub histories_stay_the_same : HistoriesStayTheSame
 histories_stay_the_same cs b r ms rest run e m x h k ok same tells =
-    let t : Together m x b h k = record { whole = run.whole; words = run.words; same = same; tells = tells } in
-    let all = moments_lead m x ok b h k ms t (front_moments cs b r ms rest run.starts run.run e) in
+    let all_words = run.of_words in
+    let t : Together m x b h k = record { whole = all_words.whole; words = all_words.words; same = same; tells = tells } in
+    let all = moments_lead m x ok b h k ms t (front_moments b r ms rest run.moments e) in
     (all.together.same, all.together.tells)
 
 -- the two histories begin the same

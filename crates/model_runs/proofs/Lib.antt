@@ -7,6 +7,8 @@ mod Words
 mod Places
 mod Events
 mod Starts
+mod Unheard
+mod Waiting
 mod Histories
 mod Reports
 pub mod Interface

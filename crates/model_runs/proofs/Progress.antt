@@ -15,7 +15,7 @@ use Rattle.run_charges.proofs.Interface.{PlacedProgram, run_front, first_start, 
 use Rattle.run_charges.proofs.Interface.{spent_reached, is_spent}
 use Rattle.model_runs.specs.Runs.{BearsModel, PaysFor, Progresses, AllSpent, SpentOne, StoppedIn}
 use Rattle.model_runs.specs.Laws.{MakesProgress}
-use Rattle.model_runs.proofs.Fronts.{stood, AtFront, at_front, powers_up}
+use Rattle.model_runs.proofs.Fronts.{stood, runs_plainly, AtFront, at_front, powers_up}
 
 module _ {St : Type 0} (m : Model St) (c : Program) (readings : List ℕ) (origin : Origin St) (x : World) (b : BoardValue)
     (bears : BearsModel m c readings origin x b) where
@@ -54,4 +54,4 @@ module _ {St : Type 0} (m : Model St) (c : Program) (readings : List ℕ) (origi
 pub makes_progress : {St : Type 0} (m : Model St) (c : Program) → MakesProgress m c
 makes_progress m c readings origin x cs b r run bears =
     progresses m c readings origin x b bears cs b (first_history m.marks x) r run.starts run.run
-    (at_front m c readings origin x b bears [] (run_front cs b r [] r.moments run refl))
+    (at_front m c readings origin x b bears [] (run_front cs b r [] r.moments (runs_plainly m c readings origin x b bears cs r run) refl))

@@ -3,25 +3,24 @@ use Rattle.std.proofs.Common.{◌≡◌, ℕ, ◌≤◌, refl, sym, ap, ◌∙�
 use Rattle.fram_board.specs.Board.{BoardValue, powered}
 use Rattle.fram_board.specs.Steps.{IsPowerState}
 use Rattle.fram_board.specs.Effects.{Effect}
-use Rattle.fram_board.specs.Run.{Measure, Action, PowerUp, Execute, Moment, RunOutcome, run_outcome, BoardCharge, ChargeRun, Run, Over}
+use Rattle.fram_board.specs.Run.{Action, PowerUp, Execute, Moment, RunOutcome, run_outcome, BoardCharge, Run, Over}
 use Rattle.fram_board.specs.Run.{Next, Last, power_up_of, Charges, Stopped}
 use Rattle.machine_effects.specs.World.{World, world_after_one}
 use Rattle.machine_effects.specs.Machine.{MachineBoard}
 use Rattle.machine_effects.specs.Runs.{last_board}
-use Rattle.machine_effects.proofs.Interface.{power_up_keeps_words}
 use Rattle.crash_rules.specs.Model.{Model, Marks}
 use Rattle.crash_rules.specs.History.{Done, History, is_done, is_decide, with_effect, behind_boot, behind_done, behind_decide, behind_gate, observe_one}
 use Rattle.crash_rules.specs.History.{observe, first_history}
 use Rattle.crash_rules.specs.Runs.{Program, Charge}
 use Rattle.crash_rules.specs.Laws.{Origin, Resting, Pending, HasRun, AreConsecutive, FollowFirst}
 use Rattle.crash_rules.proofs.Interface.{spans_follow, pending_spans_follow}
-use Rattle.run_charges.specs.View.{outside_of, outside_effects}
-use Rattle.run_charges.specs.Charges.{behind_action, behind_moment, observed}
+use Rattle.run_charges.specs.View.{outside_of, outside_effects, AreMoments}
+use Rattle.run_charges.specs.Charges.{AreInstructionMoments, behind_action, behind_moment, observed}
 use Rattle.run_charges.specs.Laws.{IsRunOfWords}
-use Rattle.run_charges.proofs.Interface.{first_start, charge_moments, charge_instructs, instructions_reach, begun, charged_once}
+use Rattle.run_charges.proofs.Interface.{first_start, charge_instructs, front_moments, begun, charged_once}
 use Rattle.model_runs.specs.Runs.{BearsModel, history_behind, AreInOrder, AreInOrderPast}
 use Rattle.model_runs.specs.Laws.{SpansAreInOrder, SpansPastAreInOrder}
-use Rattle.model_runs.proofs.Fronts.{stood, ready_at_first, has_run}
+use Rattle.model_runs.proofs.Fronts.{stood, ready_at_first, runs_plainly, has_run}
 
 -- each done's span goes forwards
 abbrev GoForwards : List Done → Type 0
@@ -58,7 +57,7 @@ forwards marks (e ∷ es) h f = forwards marks es (observe_one marks e h)
 
 action_forwards : (marks : Marks) (a : Action) (es : List Effect) (h : History) → Forwards h → Forwards (behind_action marks a es h)
 action_forwards marks PowerUp es h f = record { since = omega arith; span = f.span; dones = f.dones }
-action_forwards marks (Execute done offered) es h f = forwards marks es h f
+action_forwards marks (Execute kind done offered) es h f = forwards marks es h f
 
 moments_forwards : (marks : Marks) (ms : List Moment) (h : History) → Forwards h → Forwards (observed marks ms h)
 moments_forwards marks [] h f = f
@@ -95,59 +94,62 @@ module _ {St : Type 0} (m : Model St) (c : Program) (readings : List ℕ) (origi
   ok = first_start d [] run.starts
 
   -- the moments of one charge
-  charge_in_order : (m2 : Measure) (amount : ℕ) (o : RunOutcome) → ChargeRun m2 amount (powered b d.start) o → InOrder (power_up_of b d.start ∷ o.moments)
-  charge_in_order m2 amount o one =
+  charge_in_order : (ms : List Moment) → AreInstructionMoments ms → AreMoments (powered b d.start) ms → InOrder (power_up_of b d.start ∷ ms)
+  charge_in_order ms are moments =
       let on = stood m c readings origin x b bears in
       let ready = ready_at_first m c readings origin x b bears run.whole run.words in
-      let ms = o.moments in
       let p = begun on b first ready d.start ok in
-      let are = charge_instructs m2 amount (powered b d.start) o one in
-      let reach = instructions_reach (powered b d.start) ms (power_up_keeps_words b d.start run.whole run.words ok).0
-      (charge_moments m2 amount (powered b d.start) o one) are in
       let k = observed m.marks ms (behind_boot first) in
       let e : Charge = record { powered = p; steps = length ms } in
       law (outside_of (last_board (powered b d.start) ms)) k
       (has_run m c readings origin x b bears (e ∷ []) (outside_of (last_board (powered b d.start) ms)) k
-      (charged_once on b first ready d.start ok ms are reach)) refl e refl
+      (charged_once on b first ready d.start ok ms are moments)) refl e refl
       (moments_forwards m.marks ms (behind_boot first) (first_forwards m.marks x)).dones
 
-  run_in_order : (cs : List BoardCharge) (t : BoardValue) (o : RunOutcome) → Run cs t o → cs ≡ d ∷ [] → t ≡ b → InOrder o.moments
-  run_in_order cs t o (Over _) e f = absurd cc
-  run_in_order cs t o (Next e es _ ms end rest one more) same there =
-      let c1 : e ≡ d = cc same in
-      let c2 : es ≡ [] = cc same in
-      let P : BoardCharge → Type 0 = λ y. ChargeRun y.measure y.amount (powered t y.start) (run_outcome ms Charges end) in
-      let Q : BoardValue → Type 0 = λ y. ChargeRun d.measure d.amount (powered y d.start) (run_outcome ms Charges end) in
+  -- the same of a charge that is this one, on this board
+  same_in_order : (e : BoardCharge) (t : BoardValue) (ms : List Moment) → AreInstructionMoments ms → AreMoments (powered t e.start) ms → e ≡ d → t ≡ b
+      → InOrder (power_up_of t e.start ∷ ms)
+  same_in_order e t ms are moments same there =
+      let P : BoardCharge → Type 0 = λ y. AreMoments (powered t y.start) ms in
+      let Q : BoardValue → Type 0 = λ y. AreMoments (powered y d.start) ms in
       let R : BoardValue → Type 0 = λ y. InOrder (power_up_of y e.start ∷ ms) in
       let S : BoardCharge → Type 0 = λ y. InOrder (power_up_of b y.start ∷ ms) in
+      subst R (sym there) (subst S (sym same) (charge_in_order ms are (subst Q there (subst P same moments))))
+
+  run_in_order : (cs : List BoardCharge) (t : BoardValue) (o : RunOutcome) → Run cs t o → AreMoments t o.moments → cs ≡ d ∷ [] → t ≡ b
+      → InOrder o.moments
+  run_in_order cs t o (Over _) moments e f = absurd cc
+  run_in_order cs t o (Next e es _ ms end rest one more) moments same there =
+      let c1 : e ≡ d = cc same in
+      let c2 : es ≡ [] = cc same in
       let T : List Moment → Type 0 = λ l. InOrder (power_up_of t e.start ∷ l) in
       let none : rest.moments ≡ [] = nothing_more es end rest more c2 in
-      subst T (sym (append-nil ms) ∙ ap (λ l. ms ++ l) (sym none))
-      (subst R (sym there) (subst S (sym c1) (charge_in_order d.measure d.amount (run_outcome ms Charges end) (subst Q there (subst P c1 one)))))
+      let are = charge_instructs e.measure e.amount (powered t e.start) (run_outcome ms Charges end) one in
+      let own = front_moments (powered t e.start) (run_outcome (ms ++ rest.moments) Charges end) ms rest.moments moments.2 refl in
+      subst T (sym (append-nil ms) ∙ ap (λ l. ms ++ l) (sym none)) (same_in_order e t ms are own c1 there)
     where
       nothing_more : (es : List BoardCharge) (t : BoardValue) (o : RunOutcome) → Run es t o → es ≡ [] → o.moments ≡ []
       nothing_more es t o (Over _) e = refl
       nothing_more es t o (Next e2 more _ ms end rest one k) e = absurd cc
       nothing_more es t o (Last e2 more _ ms stop end one) e = absurd cc
-  run_in_order cs t o (Last e es _ ms stop end one) same there =
+  run_in_order cs t o (Last e es _ ms stop end one) moments same there =
+      let are = charge_instructs e.measure e.amount (powered t e.start) (run_outcome ms (Stopped stop) end) one in
       let c1 : e ≡ d = cc same in
-      let P : BoardCharge → Type 0 = λ y. ChargeRun y.measure y.amount (powered t y.start) (run_outcome ms (Stopped stop) end) in
-      let Q : BoardValue → Type 0 = λ y. ChargeRun d.measure d.amount (powered y d.start) (run_outcome ms (Stopped stop) end) in
-      let R : BoardValue → Type 0 = λ y. InOrder (power_up_of y e.start ∷ ms) in
-      let S : BoardCharge → Type 0 = λ y. InOrder (power_up_of b y.start ∷ ms) in
-      subst R (sym there) (subst S (sym c1) (charge_in_order d.measure d.amount (run_outcome ms (Stopped stop) end) (subst Q there (subst P c1 one))))
+      same_in_order e t ms are moments.2 c1 there
 
 -- the spans of a run are in order
 pub spans_are_in_order : {St : Type 0} (m : Model St) (c : Program) → SpansAreInOrder m c
 spans_are_in_order m c readings s x d b r run bears here =
+    let plain = runs_plainly m c readings (Resting s) x b bears (d ∷ []) r run in
     run_in_order m c readings (Resting s) x d b r run bears (λ h. AreInOrder 0 h.since h.completed)
     (λ t k go began e one f. in_order 0 k.since k.completed
     (spans_follow m c bears.model bears.program readings s t k go (subst (m.Undecided s) (sym began) here) e one) f)
-    (d ∷ []) b r run.run refl refl
+    (d ∷ []) b r run.run plain.moments refl refl
 
 -- so are those behind a commit that was pending at the start
 pub spans_past_are_in_order : {St : Type 0} (m : Model St) (c : Program) → SpansPastAreInOrder m c
 spans_past_are_in_order m c readings to x d b r run bears =
+    let plain = runs_plainly m c readings (Pending to) x b bears (d ∷ []) r run in
     run_in_order m c readings (Pending to) x d b r run bears (λ h. AreInOrderPast h.since h.completed)
     (λ t k go began e one f. in_order_past k.since k.completed (pending_spans_follow m c bears.model bears.program readings to t k go e one) f)
-    (d ∷ []) b r run.run refl refl
+    (d ∷ []) b r run.run plain.moments refl refl

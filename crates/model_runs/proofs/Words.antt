@@ -14,7 +14,7 @@ use Rattle.run_charges.specs.View.{outside_of}
 use Rattle.run_charges.proofs.Interface.{run_front}
 use Rattle.model_runs.specs.Runs.{history_behind}
 use Rattle.model_runs.specs.Laws.{WordsStayWithin}
-use Rattle.model_runs.proofs.Fronts.{at_front, powers_up}
+use Rattle.model_runs.proofs.Fronts.{runs_plainly, at_front, powers_up}
 
 module _ (P : ℕ → ℕ → Type 0) (a most : ℕ) (few : (w : ℕ) → P a w → w ≤ most) where
   put_within : (f : ℕ → ℕ) (d w : ℕ) → P d w → f a ≤ most → (if a == d then w else f a) ≤ most
@@ -52,7 +52,7 @@ module _ (P : ℕ → ℕ → Type 0) (a most : ℕ) (few : (w : ℕ) → P a w 
 -- a word stays within its bound at each front
 pub words_stay_within : {St : Type 0} (m : Model St) (c : Program) (P : ℕ → ℕ → Type 0) → WordsStayWithin m c P
 words_stay_within m c P readings origin x cs b r run bears scripts a most few first ms rest e =
-    let at = at_front m c readings origin x b bears ms (run_front cs b r ms rest run e) in
+    let at = at_front m c readings origin x b bears ms (run_front cs b r ms rest (runs_plainly m c readings origin x b bears cs r run) e) in
     let Q : (ℕ → ℕ) → Type 0 = λ f. f a ≤ most in
     charges_within P a most few c bears.program.changes m.marks at.charges (outside_of b) (outside_of (last_board b ms))
     (first_history m.marks x) (history_behind m x ms)

@@ -12,7 +12,7 @@ use Rattle.crash_rules.specs.Runs.{Program}
 use Rattle.crash_rules.specs.Laws.{Origin, Resting, Pending, IsLawful, Matches, ScriptsStore}
 use Rattle.run_charges.specs.View.{outside_of}
 use Rattle.run_charges.specs.Charges.{observed}
-use Rattle.run_charges.specs.Laws.{IsRunOfWords}
+use Rattle.run_charges.specs.Laws.{IsRunOfWords, IsPlainRun}
 use Rattle.model_runs.specs.Runs.{BearsModel, history_behind, IsShort, Progresses, all_amounts, AreInOrder, AreInOrderPast}
 
 -- what is known behind each front of a run stands for a run of the source, and the board is so
@@ -54,11 +54,11 @@ WordsStayWithin {St} m c P = (readings : List ℕ) (origin : Origin St) (x : Wor
 
 -- no more readings are taken than there are
 abbrev pub TakesWhatIsThere : Type 0
-TakesWhatIsThere = (cs : List BoardCharge) (b : BoardValue) (r : RunOutcome) → IsRunOfWords cs b r → (marks : Marks) (h : History) → h.taken ≡ b.taken
+TakesWhatIsThere = (cs : List BoardCharge) (b : BoardValue) (r : RunOutcome) → IsPlainRun cs b r → (marks : Marks) (h : History) → h.taken ≡ b.taken
     → h.since ≤ h.taken
     → (observed marks r.moments h).since ≤ length b.readings
 
 -- a run has no more dones than its charges have cycles or instructions
 abbrev pub DonesAreFew : Type 0
-DonesAreFew = (cs : List BoardCharge) (b : BoardValue) (r : RunOutcome) → IsRunOfWords cs b r → (marks : Marks) (h : History)
+DonesAreFew = (cs : List BoardCharge) (b : BoardValue) (r : RunOutcome) → IsPlainRun cs b r → (marks : Marks) (h : History)
     → length (observed marks r.moments h).completed ≤ length h.completed + all_amounts cs

@@ -1,32 +1,23 @@
 -- Runs of the board whose code is a program that keeps what it owes to a model, and what is said of them.
 use Rattle.std.specs.Prelude.{◌≡◌, ℕ, ◌+◌, ◌*◌, ◌<◌, ◌≤◌, List, [], ◌∷◌, length}
-use Rattle.msp_isa.specs.declared.instructions.Instr.{Instr}
 use Rattle.msp_step.specs.declared.machine.Stop.{Stop}
 use Rattle.fram_board.specs.Board.{BoardValue, powered}
 use Rattle.fram_board.specs.Run.{Cycles, Moment, Charges, Stopped, RunOutcome, run_outcome, after_moments, BoardCharge, ChargeRun, power_up_of}
 use Rattle.machine_effects.specs.World.{World}
-use Rattle.code_forms.specs.Placed.{words_of, Holds}
 use Rattle.crash_rules.specs.Model.{Model, ModelLaws, Marks, Inputs, Short}
 use Rattle.crash_rules.specs.History.{Done, History, first_history, inputs_from}
 use Rattle.crash_rules.specs.Runs.{Program, ProgramLaws}
 use Rattle.crash_rules.specs.Laws.{Origin, Begins, IsSettled, Reaches}
 use Rattle.run_charges.specs.View.{outside_of}
-use Rattle.run_charges.specs.Charges.{observed, IsPlacedProgram, AlwaysLeaves}
-
--- where a program stands in the FRAM of a board, which enters it by its reset vector, and that its charges never change it
-pub record HasProgram (c : Program) (marks : Marks) (x : World) (b : BoardValue) : Type 0 where
-  pub place : ℕ
-  pub instructions : List Instr
-  pub placed : IsPlacedProgram c place instructions ((outside_of b).fram 0xFFFE)
-  pub holds : Holds (outside_of b).fram place (words_of instructions)
-  pub leaves : AlwaysLeaves c place (length (words_of instructions)) marks (outside_of b) (first_history marks x)
+use Rattle.run_charges.specs.Charges.{observed}
+use Rattle.run_charges.specs.Laws.{StandsIn}
 
 -- a program that keeps what it owes to a model stands on a board, whose world then a run may begin with
 pub record BearsModel {St : Type 0} (m : Model St) (c : Program) (readings : List ℕ) (origin : Origin St) (x : World) (b : BoardValue) : Type 0 where
   pub model : ModelLaws m
   pub program : ProgramLaws m c
   pub begins : Begins m readings origin x (outside_of b)
-  pub stands : HasProgram c m.marks x b
+  pub stands : StandsIn c m.marks b (first_history m.marks x)
 
 -- what is known behind moments of a run that began with this world
 abbrev pub history_behind : {St : Type 0} → Model St → World → List Moment → History

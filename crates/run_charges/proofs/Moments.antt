@@ -1,67 +1,60 @@
 -- The moments of a run, one behind the other, and what each of its instructions does to the machine.
 use Rattle.std.proofs.Common.{◌≡◌, ◌==◌, ◌≤◌, ◌+◌, ◌-◌, ◌%◌, ℕ, suc, refl, sym, ap, ◌∙◌, subst, arith, Bool, true, false, if◌then◌else◌, List, [], ◌∷◌, ◌++◌}
-use Rattle.std.proofs.Common.{length, append-nil, length-append, Option, Some, None, Ok}
+use Rattle.std.proofs.Common.{length, length-append, Option, Some, None, Ok}
 use Rattle.msp_isa.specs.declared.instructions.Instr.{Instr}
 use Rattle.msp_cycles.specs.Cycles.{cycles_of}
 use Rattle.msp_step.specs.Registers.{Registers, registers_of}
 use Rattle.msp_step.specs.Access.{Access, Completed, Faulted}
 use Rattle.msp_step.specs.Effect.{Written}
 use Rattle.msp_step.specs.Step.{effect, execution, Executed}
+use Rattle.fram_board.specs.declared.board.NextStep.TheVariants as next_step
 use Rattle.fram_board.specs.declared.board.Stepped.{Stepped}
 use Rattle.fram_board.specs.declared.receiver.Receiver.{Receiver}
 use Rattle.fram_board.specs.Bus.{board_bus, is_fram, data_port}
-use Rattle.fram_board.specs.Board.{BoardValue, powered, opened, executed, IsNextInstruction, IsStep, is_accepted, next_number}
+use Rattle.fram_board.specs.Board.{BoardValue, opened, executed, performed, at_boundary, IsNextInstruction, IsStep, is_accepted, next_number}
 use Rattle.fram_board.specs.Board.{offered_to}
 use Rattle.fram_board.specs.Saved.{TakesNextBehind}
 use Rattle.fram_board.specs.Steps.{IsPowerState}
 use Rattle.fram_board.specs.Effects.{Effect, Store, Take, Outside, OutsideEffect, Offered, sends_of, effects_of, heard}
-use Rattle.fram_board.specs.Run.{Measure, Instructions, price, Moment, moment_of, Charges, RunOutcome, run_outcome, after_moments}
+use Rattle.fram_board.specs.Run.{Measure, price, Moment, moment_of, Charges, RunOutcome}
 use Rattle.fram_board.specs.Run.{ChargeRun}
-use Rattle.fram_board.specs.Run.{Spent, NoInstruction, TooDear, Refused, BoardCharge, Run, Over, Next, Last, word_list}
+use Rattle.fram_board.specs.Run.{Spent, NoInstruction, TooDear, Refused, BoardCharge, word_list}
 use Rattle.fram_board.specs.Run as run
 use Rattle.fram_board.proofs.Interface.{step_makes_its_effects, data_not_fram}
 use Rattle.machine_effects.specs.World.{fram_after, received, accepted_after, readings_taken}
-use Rattle.machine_effects.specs.Going.{Goes, At, stretch}
-use Rattle.machine_effects.specs.Machine.{MachineBus, MachineBoard, MachineOutcome, MachineRun, Stays, Steps, word_address, IsMachineStep, machine_bus}
+use Rattle.machine_effects.specs.Going.{Goes}
+use Rattle.machine_effects.specs.Machine.{MachineBus, MachineBoard, MachineOutcome, word_address, IsMachineStep, machine_bus}
 use Rattle.machine_effects.specs.Machine.{machine_opened, machine_outcome}
 use Rattle.machine_effects.specs.Machine.{machine_executed}
-use Rattle.machine_effects.specs.View.{machine_of, IsWhole, IsOfWords, outcome_of_answer}
-use Rattle.machine_effects.specs.Runs.{moments_effects, moments_cycles, last_board, ReachesAs}
-use Rattle.machine_effects.proofs.Interface.{takes, written_effects, LoggedBy, effect_logged, machine_changes_by_effects, executed_same}
-use Rattle.machine_effects.proofs.Interface.{current_to_machine, step_leaves_it_whole, words_stay_words, charge_accepts_by_sends}
+use Rattle.machine_effects.specs.View.{machine_of, IsWhole, IsOfWords, outcome_of_answer, IsMachines}
+use Rattle.machine_effects.specs.Runs.{last_board}
+use Rattle.machine_effects.proofs.Interface.{takes, written_effects, LoggedBy, effect_logged, machine_changes_by_effects, current_to_machine}
+use Rattle.machine_effects.proofs.Interface.{step_leaves_it_whole, words_stay_words, boundary_whole, boundary_words, told_effects, step_accepts_by_sends}
 use Rattle.crash_rules.specs.Model.{Marks}
 use Rattle.crash_rules.specs.History.{History}
 use Rattle.crash_rules.proofs.Interface.{observed_taken, events_of_instructions}
-use Rattle.run_charges.specs.View.{outside_of, outside_effects, IsMomentFrom, PowersUp, Instructs, AreMoments}
-use Rattle.run_charges.proofs.View.{Keeps, follows_keeps, no_gap}
-use Rattle.run_charges.specs.Charges.{ArePowerStates, IsInstruction, AreInstructionMoments}
-
--- a charge's run is made of moments
-pub charge_moments : (m : Measure) (left : ℕ) (b : BoardValue) (r : RunOutcome) → ChargeRun m left b r → AreMoments b r.moments
-charge_moments m left b r (Spent _ _ none) = tt
-charge_moments m left b r (NoInstruction _ _ e pos h) = tt
-charge_moments m left b r (TooDear _ _ i pos c dear) = tt
-charge_moments m left b r (Refused _ _ i e pos c paid a) = tt
-charge_moments m left b r (run.Executed _ _ i done rest pos c paid a h) =
-    (no_gap b, Instructs i done c a refl, charge_moments m (left - price m i) (executed b i).board rest h)
+use Rattle.run_charges.specs.View.{outside_of, outside_effects, AreMoments}
+use Rattle.run_charges.specs.Charges.{ArePowerStates, AreInstructionMoments}
 
 -- the board behind the moments of a charge that is spent
 pub charge_last : (m : Measure) (left : ℕ) (b : BoardValue) (r : RunOutcome) → ChargeRun m left b r → r.ending ≡ Charges → last_board b r.moments ≡ r.board
 charge_last m left b r (Spent _ _ none) e = refl
 charge_last m left b r (NoInstruction _ _ x pos h) e = absurd cc
-charge_last m left b r (TooDear _ _ i pos c dear) e = refl
-charge_last m left b r (Refused _ _ i x pos c paid a) e = absurd cc
-charge_last m left b r (run.Executed _ _ i done rest pos c paid a h) e = charge_last m (left - price m i) (executed b i).board rest h e
+charge_last m left b r (TooDear _ _ n pos c dear) e = refl
+charge_last m left b r (Refused _ _ n x pos c paid a) e = absurd cc
+charge_last m left b r (run.Executed _ _ n done rest pos c paid a h) e =
+    charge_last m (left - price m n) (at_boundary (performed b n).board) rest h e
 
 -- the moments of a charge are instructions
 pub charge_instructs : (m : Measure) (left : ℕ) (b : BoardValue) (r : RunOutcome) → ChargeRun m left b r → AreInstructionMoments r.moments
 charge_instructs m left b r (Spent _ _ none) = tt
 charge_instructs m left b r (NoInstruction _ _ e pos h) = tt
-charge_instructs m left b r (TooDear _ _ i pos c dear) = tt
-charge_instructs m left b r (Refused _ _ i e pos c paid a) = tt
-charge_instructs m left b r (run.Executed _ _ i done rest pos c paid a h) = (tt, charge_instructs m (left - price m i) (executed b i).board rest h)
+charge_instructs m left b r (TooDear _ _ n pos c dear) = tt
+charge_instructs m left b r (Refused _ _ n e pos c paid a) = tt
+charge_instructs m left b r (run.Executed _ _ n done rest pos c paid a h) =
+    (tt, charge_instructs m (left - price m n) (at_boundary (performed b n).board) rest h)
 
-are-append : (b : BoardValue) (ms ns : List Moment) → AreMoments b ms → AreMoments (last_board b ms) ns → AreMoments b (ms ++ ns)
+pub are-append : (b : BoardValue) (ms ns : List Moment) → AreMoments b ms → AreMoments (last_board b ms) ns → AreMoments b (ms ++ ns)
 are-append b [] ns h k = k
 are-append b (m ∷ ms) ns h k = (h.0, h.1, are-append m.after ms ns h.2 k)
 
@@ -82,24 +75,9 @@ first_start c cs ok = ok 0 c (omega arith)
 pub other_starts : (c : BoardCharge) (cs : List BoardCharge) → ArePowerStates (c ∷ cs) → ArePowerStates cs
 other_starts c cs ok = λ i d l. ok (suc i) d (omega arith)
 
-run_moments : (cs : List BoardCharge) (b : BoardValue) (r : RunOutcome) → ArePowerStates cs → Run cs b r → AreMoments b r.moments
-run_moments cs b r ok (Over _) = tt
-run_moments cs b r ok (Next c ds _ ms end rest h k) =
-    let front = charge_moments c.measure c.amount (powered b c.start) (run_outcome ms Charges end) h in
-    let there : last_board (powered b c.start) ms ≡ end = charge_last c.measure c.amount (powered b c.start) (run_outcome ms Charges end) h refl in
-    let more = run_moments ds end rest (other_starts c ds ok) k in
-    let P : BoardValue → Type 0 = λ x. AreMoments x rest.moments in (
-      no_gap b,
-      PowersUp c.start (first_start c ds ok) refl,
-      are-append (powered b c.start) ms rest.moments front (subst P (sym there) more),
-    )
-run_moments cs b r ok (Last c ds _ ms stop end h) =
-    (no_gap b, PowersUp c.start (first_start c ds ok) refl, charge_moments c.measure c.amount (powered b c.start) (run_outcome ms (run.Stopped stop) end) h)
-
--- the moments of each front of a run follow one another
-pub front_moments : (cs : List BoardCharge) (b : BoardValue) (r : RunOutcome) (ms rest : List Moment) → ArePowerStates cs → Run cs b r
-    → r.moments ≡ ms ++ rest → AreMoments b ms
-front_moments cs b r ms rest ok h e = let P : List Moment → Type 0 = λ l. AreMoments b l in are_front b ms rest (subst P e (run_moments cs b r ok h))
+-- the moments of each front follow one another where all do
+pub front_moments : (b : BoardValue) (r : RunOutcome) (ms rest : List Moment) → AreMoments b r.moments → r.moments ≡ ms ++ rest → AreMoments b ms
+front_moments b r ms rest all e = let P : List Moment → Type 0 = λ l. AreMoments b l in are_front b ms rest (subst P e all)
 
 -- one store, one effect outside the board, or none
 pub data AtMostOne (es : List Effect) : Type 0 where
@@ -159,25 +137,31 @@ heard_count (Outside (Offered n w) ∷ es) r ws e =
 at_most : (t n k : ℕ) → t ≤ n → n ≡ k → t ≤ k
 at_most t n k h e = omega arith
 
--- what an instruction does that is made
-module _ (b : BoardValue) (whole : IsWhole b) (i : Instr) (done : Stepped) (current : IsNextInstruction b i) (answer : (executed b i).answer ≡ Ok done) where
+-- what an instruction does that is made, as the machine does
+module _ (b : BoardValue) (whole : IsWhole b) (i : Instr) (done : Stepped) (current : IsNextInstruction b i) (answer : (executed b i).answer ≡ Ok done)
+    (own : IsMachines b i) where
+  -- the board at the boundary behind it
   abbrev pub after : BoardValue
-  after = (executed b i).board
+  after = at_boundary (executed b i).board
+
+  abbrev pub moment : Moment
+  moment = moment_of b (next_step.Instruction i) done
 
   -- the effects that the moment tells
   abbrev pub told : List Effect
-  told = outside_effects (moment_of b i done)
+  told = outside_effects moment
 
   told_same : told ≡ effects_of b (executed b i)
-  told_same = ap (λ y. effects_of b (record { answer = y; offered = (executed b i).offered; board = (executed b i).board })) (sym answer)
+  told_same = told_effects b i done answer
 
-  same_step : machine_executed (machine_of b) i ≡ Goes told done.cycles (machine_of after)
+  -- it is a step of the machine
+  pub same_step : machine_executed (machine_of b) i ≡ Goes told done.cycles (machine_of after)
   same_step =
-      executed_same b i whole
+      own.step
       ∙ ap (λ y. outcome_of_answer (effects_of b (executed b i)) (cycles_of i) y (machine_of after)) answer
       ∙ ap (λ es. Goes es done.cycles (machine_of after)) (sym told_same)
 
-  pub step : IsMachineStep (machine_of b) (Goes told done.cycles (machine_of after))
+  step : IsMachineStep (machine_of b) (Goes told done.cycles (machine_of after))
   step = let P : MachineOutcome → Type 0 = λ o. IsMachineStep (machine_of b) o in subst P same_step (current_to_machine b i whole current)
 
   is_step : IsStep b (executed b i)
@@ -185,11 +169,11 @@ module _ (b : BoardValue) (whole : IsWhole b) (i : Instr) (done : Stepped) (curr
 
   -- the board is whole behind it
   pub whole_after : IsWhole after
-  whole_after = step_leaves_it_whole b (executed b i) whole is_step
+  whole_after = boundary_whole (executed b i).board (step_leaves_it_whole b (executed b i) whole is_step)
 
   -- the board holds words behind it
   pub words_after : IsOfWords b → IsOfWords after
-  words_after w = words_stay_words b (executed b i) whole w is_step
+  words_after w = boundary_words (executed b i).board (words_stay_words b (executed b i) whole w is_step)
 
   -- FRAM changes as what is told says
   pub fram_changed : (outside_of after).fram ≡ fram_after told (outside_of b).fram
@@ -202,15 +186,9 @@ module _ (b : BoardValue) (whole : IsWhole b) (i : Instr) (done : Stepped) (curr
       one_logged (machine_opened s) (s.registers 0) (cycles_of i) done.cycles (effect machine_bus i s.registers (machine_opened s)) told (machine_of after) refl
       (effect_logged i s.registers (machine_opened s)) same_step
 
-  alone : ChargeRun Instructions 1 b (after_moments (moment_of b i done ∷ []) (run_outcome [] Charges after))
-  alone = run.Executed 1 b i done (run_outcome [] Charges after) (omega arith) current (omega arith) answer (Spent (1 - 1) after refl)
-
   -- the word that is accepted
   pub words_accepted : (ws : List ℕ) → TakesNextBehind ws b.receiver → accepted_after told ws ≡ ws ++ word_list done.accepted
-  words_accepted ws len =
-      ap (λ es. accepted_after es ws) (sym (append-nil told))
-      ∙ charge_accepts_by_sends Instructions 1 b (after_moments (moment_of b i done ∷ []) (run_outcome [] Charges after)) ws len alone
-      ∙ ap (λ l. ws ++ l) (append-nil (word_list done.accepted))
+  words_accepted ws len = step_accepts_by_sends b (next_step.Instruction i) done ws len answer
 
   -- the accepted words are counted
   pub words_counted : (ws : List ℕ) → TakesNextBehind ws b.receiver → TakesNextBehind (accepted_after told ws) after.receiver
@@ -233,35 +211,3 @@ module _ (b : BoardValue) (whole : IsWhole b) (i : Instr) (done : Stepped) (curr
       let event = events_of_instructions any b (executed b i) k e made.from room in
       let count = observed_taken any (effects_of b (executed b i)) k in
       ap (λ es. k.taken + length (readings_taken es)) told_same ∙ sym count ∙ event.taken
-
-  -- more instructions behind it are as many more steps of the machine
-  pub more_reached : (ms : List Moment) → ReachesAs after ms → ReachesAs b (moment_of b i done ∷ ms)
-  more_reached ms rest = record {
-    run = Steps (length ms) (machine_of b) (machine_of after) told done.cycles
-        (stretch (moments_effects ms) (moments_cycles ms) (At (machine_of (last_board after ms)))) step rest.run;
-    whole = rest.whole;
-    words = λ w. rest.words (words_after w);
-  }
-
-one_reached : (b : BoardValue) (m : Moment) (ms : List Moment) → IsWhole b → IsMomentFrom b m → IsInstruction m.action
-    → (IsWhole m.after → ReachesAs m.after ms) → ReachesAs b (m ∷ ms)
-one_reached b m ms whole (PowersUp p ok e) is more = let P : Moment → Type 0 = λ y. IsInstruction y.action in absurd (subst P e is)
-one_reached b m ms whole (Instructs i done c a e) is more =
-    let P : Moment → Type 0 = λ y. (IsWhole y.after → ReachesAs y.after ms) → ReachesAs b (y ∷ ms) in
-    subst P (sym e) (λ go. more_reached b whole i done c a ms (go (whole_after b whole i done c a))) more
-
--- and so they are from a board that these instructions follow
-pub reached_from : (b c : BoardValue) (m : Moment) (ms : List Moment) → Keeps b c → ReachesAs c (m ∷ ms) → ReachesAs b (m ∷ ms)
-reached_from b c m ms keeps reach =
-    let all = m ∷ ms in
-    let P : MachineBoard → Type 0 = λ s. MachineRun (length all) s
-    (stretch (moments_effects all) (moments_cycles all) (At (machine_of (last_board m.after ms)))) in
-    record { run = subst P keeps.outside reach.run; whole = reach.whole; words = λ w. reach.words (keeps.words w) }
-
--- moments that are instructions are as many steps of the machine
-pub instructions_reach : (b : BoardValue) (ms : List Moment) → IsWhole b → AreMoments b ms → AreInstructionMoments ms → ReachesAs b ms
-instructions_reach b [] whole are is = record { run = Stays (machine_of b); whole = whole; words = λ w. w }
-instructions_reach b (m ∷ ms) whole are is =
-    let keeps = follows_keeps b m.before are.0 in
-    reached_from b m.before m ms keeps
-    (one_reached m.before m ms (keeps.whole whole) are.1 is.0 (λ w. instructions_reach m.after ms w are.2 is.1))

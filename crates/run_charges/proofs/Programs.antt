@@ -1,45 +1,27 @@
 -- Fronts of a run as charges of a program that stands in FRAM.
 use Rattle.std.proofs.Common.{◌≡◌, ℕ, refl, sym, ap, ◌∙◌, subst, List, [], ◌∷◌, ◌++◌, length}
-use Rattle.msp_isa.specs.declared.instructions.Instr.{Instr}
-use Rattle.msp_step.specs.declared.machine.Stop.{Stop}
 use Rattle.fram_board.specs.Board.{BoardValue, PowerState, powered}
 use Rattle.fram_board.specs.Steps.{IsPowerState}
 use Rattle.fram_board.specs.Effects.{Effect}
 use Rattle.fram_board.specs.Run.{Action, PowerUp, Execute, Moment}
-use Rattle.machine_effects.specs.World.{fram_after, EachStore}
-use Rattle.machine_effects.specs.Going.{Goes, Status, At, Halted, stretch, going}
-use Rattle.machine_effects.specs.Machine.{MachineBoard, MachineOutcome, MachineStretch, MachineRun, Stays, Halts, Steps}
-use Rattle.machine_effects.specs.View.{machine_of, IsWhole, IsOfWords}
-use Rattle.machine_effects.specs.Runs.{moments_effects, moments_cycles, last_board, ReachesAs}
-use Rattle.machine_effects.proofs.Interface.{fram_after-append, fram_untouched, machine_changes_by_effects, power_up_keeps_words}
-use Rattle.machine_effects.proofs.Interface.{machine_is_of_words, power_up_is_the_machines}
-use Rattle.code_forms.specs.Placed.{words_of, Holds, LeavesCode, IsOutside}
-use Rattle.code_forms.proofs.Interface.{holds_stores, code_in_fram_runs}
+use Rattle.machine_effects.specs.World.{EachStore}
+use Rattle.machine_effects.specs.Going.{At, going}
+use Rattle.machine_effects.specs.Machine.{MachineBoard, MachineOutcome, MachineStretch}
+use Rattle.machine_effects.specs.View.{IsWhole, IsOfWords}
+use Rattle.machine_effects.specs.Runs.{moments_effects, last_board}
+use Rattle.machine_effects.proofs.Interface.{fram_untouched, power_up_keeps_words, machine_is_of_words, power_up_is_the_machines}
+use Rattle.code_forms.specs.Placed.{words_of, Holds}
 use Rattle.crash_rules.specs.Model.{IsElsewhere, Marks}
 use Rattle.crash_rules.specs.History.{History, observe, behind_boot}
 use Rattle.crash_rules.specs.Runs.{Program, Charge, Charged}
 use Rattle.crash_rules.proofs.Interface.{observe-append}
-use Rattle.run_charges.specs.View.{outside_of, outside_effects, Follows, IsFront}
+use Rattle.run_charges.specs.View.{outside_of, outside_effects, Follows, AreMoments, IsFront}
 use Rattle.run_charges.specs.Charges.{ChargeFront, board_powered, board_behind, board_behind_all, moments_of, IsInstruction, AreInstructionMoments}
-use Rattle.run_charges.specs.Charges.{AreMachineCharges, behind_action, behind_moment, observed, charges_of, IsPlacedProgram, LeavesProgram, AlwaysLeaves}
-use Rattle.run_charges.specs.Laws.{IsChargedBy, FrontsAreCharged}
+use Rattle.run_charges.specs.Charges.{AreChargesFrom, behind_action, behind_moment, observed, charges_of, LeavesProgram, AlwaysLeaves}
+use Rattle.run_charges.specs.Laws.{IsChargedBy}
 use Rattle.run_charges.proofs.View.{follows_keeps}
-use Rattle.run_charges.proofs.Charges.{front_charges, run_front}
-
--- FRAM behind steps that lead on
-abbrev FramBehind : (ℕ → ℕ) → List Effect → Status MachineBoard Stop → Type 0
-FramBehind f es (At t) = t.fram ≡ fram_after es f
-FramBehind f es (Halted price e) = Unit {0}
-
-fram_more : (q : Status MachineBoard Stop) (f g : ℕ → ℕ) (es fs : List Effect) → g ≡ fram_after es f → FramBehind g fs q → FramBehind f (es ++ fs) q
-fram_more (At t) f g es fs e h = h ∙ ap (fram_after fs) e ∙ sym (fram_after-append es fs f)
-fram_more (Halted price x) f g es fs e h = tt
-
-run_fram : (n : ℕ) (s : MachineBoard) (r : MachineStretch) → MachineRun n s r → FramBehind s.fram r.effects r.status
-run_fram n s r (Stays _) = refl
-run_fram n s r (Halts k _ es price e h) = tt
-run_fram n s r (Steps k _ t es c rest h more) =
-    fram_more rest.status s.fram t.fram es rest.effects (machine_changes_by_effects s (Goes es c t) h).0 (run_fram k t rest more)
+use Rattle.run_charges.proofs.Charges.{front_charges}
+use Rattle.run_charges.proofs.Running.{PlacedProgram, Running, Reaches, instructions_reach}
 
 -- moments in two parts
 pub observed-append : (marks : Marks) (ms ns : List Moment) (k : History) → observed marks (ms ++ ns) k ≡ observed marks ns (observed marks ms k)
@@ -48,7 +30,7 @@ observed-append marks (m ∷ ms) ns k = observed-append marks ms ns (behind_mome
 
 action_observed : (marks : Marks) (a : Action) (es : List Effect) (k : History) → IsInstruction a → behind_action marks a es k ≡ observe marks es k
 action_observed marks PowerUp es k h = absurd h
-action_observed marks (Execute done offered) es k h = refl
+action_observed marks (Execute kind done offered) es k h = refl
 
 -- moments that are instructions are observed by their effects
 pub instructions_observed : (marks : Marks) (ms : List Moment) (k : History) → AreInstructionMoments ms
@@ -80,15 +62,6 @@ charged_join c marks [] fs s q t h j k run more =
 charged_join c marks (e ∷ es) fs s q t h j k run more =
     let behind = observe marks (going c.step e.steps e.powered).effects (behind_boot h) in
     (run.0, run.1, run.2, (run.3.0, run.3.1, charged_join c marks es fs run.3.0 q t behind j k run.3.2 more))
-
--- a program in FRAM, with the marks of its runs: where it stands, and the entry in the reset vector
-pub record PlacedProgram : Type 1 where
-  pub program : Program
-  pub marks : Marks
-  pub place : ℕ
-  pub instructions : List Instr
-  pub entry : ℕ
-  pub is : IsPlacedProgram program place instructions entry
 
 module _ (on : PlacedProgram) where
   abbrev step : MachineBoard → MachineOutcome
@@ -143,16 +116,14 @@ module _ (on : PlacedProgram) where
     pub leaves_code : (n : ℕ) → LeavesProgram on.place (length code_words) (going step n begun)
     leaves_code n = ready.leaves [] (outside_of b) h (refl, refl) begun is_powered same_fram same_readings n
 
-    -- what the machine does there the program does
-    pub program_runs : (n : ℕ) (q : MachineStretch) → MachineRun n begun q → q ≡ going step n begun
-    program_runs n q go =
-        let P : (MachineBoard → MachineOutcome) → Type 0 = λ f. LeavesCode on.place (length code_words) (going f n begun) in
-        code_in_fram_runs on.place on.instructions n begun q on.is.instructions on.is.even on.is.low on.is.high go ready.holds
-        (subst P on.is.steps (leaves_code n).code)
-        ∙ ap (λ f. going f n begun) (sym on.is.steps)
+    -- and the program runs on it
+    pub running : Running on (powered b start)
+    running =
+        let up = power_up_keeps_words b start ready.whole ready.words ok in
+        record { whole = up.0; words = up.1; quiet = refl; holds = ready.holds; leaves = λ n. (leaves_code n).code }
 
     -- its instructions so far
-    module _ (ms : List Moment) (are : AreInstructionMoments ms) (reach : ReachesAs (powered b start) ms) where
+    module _ (ms : List Moment) (are : AreInstructionMoments ms) (moments : AreMoments (powered b start) ms) where
       abbrev pub steps : ℕ
       steps = length ms
 
@@ -162,42 +133,30 @@ module _ (on : PlacedProgram) where
       abbrev pub behind : History
       behind = observed marks ms (behind_boot h)
 
-      told_is_made : stretch (moments_effects ms) (moments_cycles ms) (At (machine_of end)) ≡ going step steps begun
-      told_is_made = program_runs steps _ reach.run
+      pub reaches : Reaches on (powered b start) ms
+      reaches = instructions_reach on (powered b start) ms running moments are
 
       -- they lead where the program's steps lead
       pub leads : (going step steps begun).status ≡ At (outside_of end)
-      leads = sym (ap (λ r. r.status) told_is_made)
+      leads = ap (λ r. r.status) reaches.run
 
       -- with the program's effects
       pub seen : observe marks (going step steps begun).effects (behind_boot h) ≡ behind
-      seen = ap (λ r. observe marks r.effects (behind_boot h)) (sym told_is_made) ∙ sym (instructions_observed marks ms (behind_boot h) are)
-
-      same_effects : (going step steps begun).effects ≡ moments_effects ms
-      same_effects = ap (λ r. r.effects) (sym told_is_made)
-
-      fram_behind : (outside_of end).fram ≡ fram_after (moments_effects ms) (outside_of b).fram
-      fram_behind = run_fram steps begun _ reach.run
-
-      off_code : EachStore (IsOutside on.place (length code_words)) (moments_effects ms)
-      off_code =
-          let P : List Effect → Type 0 = λ es. EachStore (IsOutside on.place (length code_words)) es in
-          subst P same_effects (leaves_code steps).code.stores
+      seen = ap (λ r. observe marks r.effects (behind_boot h)) reaches.run ∙ sym (instructions_observed marks ms (behind_boot h) are)
 
       off_vector : EachStore (IsElsewhere 0xFFFE) (moments_effects ms)
-      off_vector = let P : List Effect → Type 0 = λ es. EachStore (IsElsewhere 0xFFFE) es in subst P same_effects (leaves_code steps).vector
+      off_vector =
+          let P : MachineStretch → Type 0 = λ r. EachStore (IsElsewhere 0xFFFE) r.effects in
+          subst P reaches.run (leaves_code steps).vector
 
       -- and the board behind them is ready too
       pub ready_behind : Ready end behind
       ready_behind =
-          let P : (ℕ → ℕ) → Type 0 = λ g. Holds g on.place code_words in
-          let f = (outside_of b).fram in
-          let up = power_up_keeps_words b start ready.whole ready.words ok in
           record {
-            whole = reach.whole;
-            words = reach.words up.1;
-            vector = ap (λ g. g 0xFFFE) fram_behind ∙ fram_untouched (moments_effects ms) 0xFFFE f off_vector ∙ ready.vector;
-            holds = subst P (sym fram_behind) (holds_stores (moments_effects ms) f on.place code_words off_code ready.holds);
+            whole = reaches.running.whole;
+            words = reaches.running.words;
+            vector = ap (λ (g : ℕ → ℕ). g 0xFFFE) reaches.fram ∙ fram_untouched (moments_effects ms) 0xFFFE (outside_of b).fram off_vector ∙ ready.vector;
+            holds = reaches.running.holds;
             leaves = λ charges t k run.
                 let Q : History → Type 0 = λ j. Charged on.program marks (outside_of end) j charges t k in
                 ready.leaves (record { powered = begun; steps = steps } ∷ charges) t k
@@ -213,7 +172,7 @@ module _ (on : PlacedProgram) where
     pub charged : Charged on.program marks (outside_of b) h (charges_of fs) (outside_of (board_behind_all b fs)) (observed marks (moments_of fs) h)
     pub ready : Ready (board_behind_all b fs) (observed marks (moments_of fs) h)
 
-  lead_on : (b : BoardValue) (h : History) (fs : List ChargeFront) → Ready b h → AreMachineCharges b fs → LeadsOn b h fs
+  lead_on : (b : BoardValue) (h : History) (fs : List ChargeFront) → Ready b h → AreChargesFrom b fs → LeadsOn b h fs
   lead_on b h [] ready all = record { charged = (refl, refl); ready = ready }
   lead_on b h (f ∷ fs) ready all =
       let c = all.0 in
@@ -222,7 +181,7 @@ module _ (on : PlacedProgram) where
       let here = ready_on b f.before h c.follows ready in
       let end = board_behind f in
       let k = observed marks ms (behind_boot h) in
-      let rest = lead_on end k fs (ready_behind f.before h here f.start c.start ms c.instructions c.reaches) all.1 in
+      let rest = lead_on end k fs (ready_behind f.before h here f.start c.start ms c.instructions c.moments) all.1 in
       let last = outside_of (board_behind_all end fs) in
       let joined = sym (observed-append marks ms (moments_of fs) (behind_boot h)) in
       let P : History → Type 0 = λ j. Charged on.program marks (outside_of end) j (charges_of fs) last (observed marks (ms ++ moments_of fs) (behind_boot h)) in
@@ -235,8 +194,8 @@ module _ (on : PlacedProgram) where
           same_readings f.before h here f.start c.start ∙ ap (λ s. s.inputs.readings) keeps.outside,
           (
             outside_of end,
-            leads f.before h here f.start c.start ms c.instructions c.reaches,
-            subst P (sym (seen f.before h here f.start c.start ms c.instructions c.reaches)) (subst Q joined rest.charged),
+            leads f.before h here f.start c.start ms c.instructions c.moments,
+            subst P (sym (seen f.before h here f.start c.start ms c.instructions c.moments)) (subst Q joined rest.charged),
           ),
         );
         ready = subst R joined rest.ready;
@@ -264,23 +223,17 @@ module _ (on : PlacedProgram) where
   front_reached b h ready ms front =
       let all = front_charges b ms front in
       let fs = all.charges in
-      let led = lead_on b h fs ready all.machine in
+      let led = lead_on b h fs ready all.follow in
       let there : last_board b ms ≡ board_behind_all b fs = ap (last_board b) all.moments ∙ last_behind b fs in
       let P : BoardValue → Type 0 = λ t. Reached b h t (observed marks ms h) in
       let Q : List Moment → Type 0 = λ l. Reached b h (board_behind_all b fs) (observed marks l h) in
       subst P (sym there) (subst Q (sym all.moments) (record { charges = charges_of fs; charged = led.charged; ready = led.ready }))
 
   -- the same, said of the charges of the front
-  front_charged : (b : BoardValue) (h : History) → Ready b h → (ms : List Moment) → IsFront b ms → IsChargedBy on.program marks b h ms
+  pub front_charged : (b : BoardValue) (h : History) → Ready b h → (ms : List Moment) → IsFront b ms → IsChargedBy on.program marks b h ms
   front_charged b h ready ms front =
       let all = front_charges b ms front in
       let P : List Moment → Type 0 = λ l. Charged on.program marks (outside_of b) h (charges_of all.charges)
       (outside_of (board_behind_all b all.charges)) (observed marks l h) in
-      record { front = all; charged = subst P (sym all.moments) (lead_on b h all.charges ready all.machine).charged }
+      record { front = all; charged = subst P (sym all.moments) (lead_on b h all.charges ready all.follow).charged }
 
--- each front of a run is charges of the program
-pub fronts_are_charged : (c : Program) → FrontsAreCharged c
-fronts_are_charged c cs b r ms rest run e marks p is h stands holds leaves =
-    let on : PlacedProgram = record { program = c; marks = marks; place = p; instructions = is; entry = (outside_of b).fram 0xFFFE; is = stands } in
-    front_charged on b h (record { whole = run.whole; words = run.words; vector = refl; holds = holds; leaves = leaves }) ms
-    (run_front cs b r ms rest run e)

@@ -1,23 +1,28 @@
 -- The charge in which a run stops.
-use Rattle.std.proofs.Common.{◌≡◌, ℕ, suc, sym, ap, ◌∙◌, subst, List, [], ◌∷◌, ◌++◌, length, map}
+use Rattle.std.proofs.Common.{◌≡◌, ℕ, ◌+◌, ◌-◌, suc, refl, sym, ap, ◌∙◌, subst, List, [], ◌∷◌, ◌++◌, append_assoc, length, map, Err}
+use Rattle.msp_isa.specs.declared.instructions.Instr.{Instr}
+use Rattle.msp_cycles.specs.Cycles.{cycles_of}
 use Rattle.msp_step.specs.declared.machine.Stop.{Stop}
-use Rattle.fram_board.specs.Board.{BoardValue, powered}
+use Rattle.fram_board.specs.declared.board.NextStep.TheVariants as next_step
+use Rattle.fram_board.specs.Board.{BoardValue, powered, executed, at_boundary, IsStoppedBy, IsNextInstruction}
 use Rattle.fram_board.specs.Steps.{IsPowerState}
-use Rattle.fram_board.specs.Effects.{Effect, Take}
-use Rattle.fram_board.specs.Run.{Moment, Stopped, RunOutcome, run_outcome, BoardCharge, ChargeRun, Run, Over, Next, Last, power_up_of}
+use Rattle.fram_board.specs.Effects.{Effect, Take, effects_of}
+use Rattle.fram_board.specs.Run.{Measure, price, Moment, Stopped, RunOutcome, run_outcome, BoardCharge, Run, Over, Next, Last, power_up_of}
+use Rattle.fram_board.specs.Run.{ChargeRun, Spent, NoInstruction, TooDear, Refused, Executed}
 use Rattle.machine_effects.specs.World.{EachStore}
-use Rattle.machine_effects.specs.Going.{Halted, stretch, going}
-use Rattle.machine_effects.specs.Machine.{MachineBoard}
-use Rattle.machine_effects.specs.Runs.{moments_effects, moments_cycles, StopsAs}
-use Rattle.machine_effects.proofs.Interface.{power_up_keeps_words, charges_alike}
+use Rattle.machine_effects.specs.Going.{Stops, Halted, stretch, after_effects, continued, going}
+use Rattle.machine_effects.specs.Machine.{MachineBoard, MachineOutcome}
+use Rattle.machine_effects.specs.View.{machine_of, outcome_of_answer}
+use Rattle.machine_effects.specs.Runs.{moments_effects, moments_cycles}
+use Rattle.machine_effects.proofs.Interface.{takes, left_of, stopped_to_machine}
 use Rattle.crash_rules.specs.Model.{IsElsewhere, Marks}
 use Rattle.crash_rules.specs.History.{History, observe, behind_boot}
 use Rattle.crash_rules.proofs.Interface.{observe-append, observe_quiet, with_effects}
 use Rattle.run_charges.specs.View.{outside_of}
 use Rattle.run_charges.specs.Charges.{ArePowerStates, observed}
-use Rattle.run_charges.proofs.Moments.{first_start, other_starts, charge_instructs}
-use Rattle.run_charges.proofs.Programs.{observed-append, instructions_observed, PlacedProgram, begun, is_powered, same_fram, same_readings, program_runs}
-use Rattle.run_charges.proofs.Programs.{Reached}
+use Rattle.run_charges.proofs.Moments.{first_start, other_starts, charge_instructs, told}
+use Rattle.run_charges.proofs.Running.{PlacedProgram, Running, none_accepted, program_steps, made, own, goes, runs_on}
+use Rattle.run_charges.proofs.Programs.{observed-append, instructions_observed, begun, is_powered, same_fram, same_readings, running, Reached}
 use Rattle.run_charges.proofs.Spent.{spent_reached}
 
 takes_elsewhere : (gate : ℕ) (ws : List ℕ) → EachStore (IsElsewhere gate) (map (λ w. Take w) ws)
@@ -38,6 +43,57 @@ taken_more marks es ws h =
     record { completed = ap (λ k. k.completed) all; since = ap (λ k. k.since) all }
 
 module _ (on : PlacedProgram) where
+  abbrev step : MachineBoard → MachineOutcome
+  step = on.program.step
+
+  -- so many instructions are steps of the program, and at the next one it halts, behind the readings that this one took
+  record HaltsBehind (b : BoardValue) (ms : List Moment) (e : Stop) : Type 0 where
+    pub last_taken : List ℕ
+    pub price : ℕ
+    pub run : stretch (moments_effects ms ++ takes last_taken) (moments_cycles ms) (Halted price e) ≡ going step (suc (length ms)) (outside_of b)
+
+  no_instruction_halts : (b : BoardValue) → Running on b → (e : Stop) → IsStoppedBy b e → HaltsBehind b [] e
+  no_instruction_halts b run e h = record {
+    last_taken = [];
+    price = 0;
+    run = ap (λ o. continued o (going step 0)) (program_steps on b run (Stops [] 0 e) (stopped_to_machine b e run.whole h));
+  }
+
+  refused_halts : (b : BoardValue) → Running on b → (i : Instr) (e : Stop) → IsNextInstruction b i → (executed b i).answer ≡ Err e → HaltsBehind b [] e
+  refused_halts b run i e c a =
+      let x = executed b i in
+      let l = left_of b i e a in
+      let same : step (outside_of b) ≡ Stops (takes l.words) (cycles_of i) e =
+      sym (made on b run i c)
+      ∙ (own on b run i c).step
+      ∙ ap (λ y. outcome_of_answer (effects_of b x) (cycles_of i) y (machine_of x.board)) a
+      ∙ ap (λ es. Stops es (cycles_of i) e) l.effects in
+      record { last_taken = l.words; price = cycles_of i; run = ap (λ o. continued o (going step 0)) (sym same) }
+
+  charge_halts : (m : Measure) (left : ℕ) (b : BoardValue) (r : RunOutcome) → Running on b → ChargeRun m left b r → (e : Stop) → r.ending ≡ Stopped e
+      → HaltsBehind b r.moments e
+  charge_halts m left b r run (Spent _ _ none) e ends = absurd cc
+  charge_halts m left b r run (NoInstruction _ _ x pos h) e ends =
+      let same : x ≡ e = cc in subst (λ y. HaltsBehind b [] y) same (no_instruction_halts b run x h.stopped)
+  charge_halts m left b r run (TooDear _ _ n pos c dear) e ends = absurd cc
+  charge_halts m left b r run (Refused _ _ next_step.Acceptance x pos c paid a) e ends = absurd (none_accepted on b run c)
+  charge_halts m left b r run (Refused _ _ (next_step.Instruction i) x pos c paid a) e ends =
+      let same : x ≡ e = cc in subst (λ y. HaltsBehind b [] y) same (refused_halts b run i x c.1 a)
+  charge_halts m left b r run (Executed _ _ next_step.Acceptance done rest pos c paid a h) e ends = absurd (none_accepted on b run c)
+  charge_halts m left b r run (Executed _ _ (next_step.Instruction i) done rest pos c paid a h) e ends =
+      let next = at_boundary (executed b i).board in
+      let more = charge_halts m (left - price m (next_step.Instruction i)) next rest (runs_on on b run i c.1 done a) h e ends in
+      let first : List Effect = told b run.whole i done c.1 a (own on b run i c.1) in
+      let es : List Effect = moments_effects rest.moments in
+      record {
+        last_taken = more.last_taken;
+        price = more.price;
+        run =
+            ap (λ l. stretch l (done.cycles + moments_cycles rest.moments) (Halted more.price e)) (append_assoc first es (takes more.last_taken))
+            ∙ ap (after_effects first done.cycles) more.run
+            ∙ ap (λ o. continued o (going step (suc (length rest.moments)))) (sym (goes on b run i c.1 done a));
+      }
+
   -- the program halts in a charge, to which charges lead from a board and its history
   pub record HaltsIn (b : BoardValue) (first : History) (e : Stop) : Type 0 where
     pub there : BoardValue
@@ -49,13 +105,13 @@ module _ (on : PlacedProgram) where
     pub readings : start.inputs.readings ≡ (outside_of there).inputs.readings
     pub steps : ℕ
     pub price : ℕ
-    pub halts : (going on.program.step steps start).status ≡ Halted price e
+    pub halts : (going step steps start).status ≡ Halted price e
 
   -- moments behind which a run stops, from a history on
   pub record StopsBehind (b : BoardValue) (first known : History) (ms : List Moment) (e : Stop) : Type 0 where
     pub halts : HaltsIn b first e
     pub same : SameDones (observed on.marks ms known)
-        (observe on.marks (going on.program.step halts.steps halts.start).effects (behind_boot halts.before))
+        (observe on.marks (going step halts.steps halts.start).effects (behind_boot halts.before))
 
   -- the charge in which it does
   module _ (b : BoardValue) (first : History) (t : BoardValue) (h : History) (at : Reached on b first t h) (d : BoardCharge) (ok : IsPowerState d.start)
@@ -66,23 +122,19 @@ module _ (on : PlacedProgram) where
     abbrev start : MachineBoard
     start = begun on t h at.ready d.start ok
 
-    stops_as : StopsAs d.measure d.amount (powered t d.start) stopped e
-    stops_as = charges_alike d.measure d.amount (powered t d.start) stopped (power_up_keeps_words t d.start at.ready.whole at.ready.words ok).0 one
+    halted : HaltsBehind (powered t d.start) ms e
+    halted = charge_halts d.measure d.amount (powered t d.start) stopped (running on t h at.ready d.start ok) one e refl
 
     abbrev steps : ℕ
     steps = suc (length ms)
 
-    made : stretch (moments_effects ms ++ map (λ w. Take w) stops_as.last_taken) (moments_cycles ms) (Halted stops_as.price e)
-        ≡ going on.program.step steps start
-    made = program_runs on t h at.ready d.start ok steps _ stops_as.run
-
-    same : SameDones (observed on.marks ms (behind_boot h)) (observe on.marks (going on.program.step steps start).effects (behind_boot h))
+    same : SameDones (observed on.marks ms (behind_boot h)) (observe on.marks (going step steps start).effects (behind_boot h))
     same =
         let k = behind_boot h in
-        let P : History → Type 0 = λ j. SameDones j (observe on.marks (going on.program.step steps start).effects k) in
+        let P : History → Type 0 = λ j. SameDones j (observe on.marks (going step steps start).effects k) in
         let Q : List Effect → Type 0 = λ es. SameDones (observe on.marks (moments_effects ms) k) (observe on.marks es k) in
         subst P (sym (instructions_observed on.marks ms k (charge_instructs d.measure d.amount (powered t d.start) stopped one)))
-        (subst Q (ap (λ q. q.effects) made) (taken_more on.marks (moments_effects ms) stops_as.last_taken k))
+        (subst Q (ap (λ q. q.effects) halted.run) (taken_more on.marks (moments_effects ms) halted.last_taken k))
 
     stops_behind : StopsBehind b first h (power_up_of t d.start ∷ ms) e
     stops_behind = record {
@@ -95,8 +147,8 @@ module _ (on : PlacedProgram) where
         fram = same_fram on t h at.ready d.start ok;
         readings = same_readings on t h at.ready d.start ok;
         steps = steps;
-        price = stops_as.price;
-        halts = sym (ap (λ q. q.status) made);
+        price = halted.price;
+        halts = sym (ap (λ q. q.status) halted.run);
       };
       same = same;
     }
@@ -111,7 +163,7 @@ module _ (on : PlacedProgram) where
       let k = observed on.marks ms (behind_boot h) in
       let l = run_halts b first ds end k rest (other_starts d ds ok) more next e ends in
       let s = l.halts in
-      let P : History → Type 0 = λ j. SameDones j (observe on.marks (going on.program.step s.steps s.start).effects (behind_boot s.before)) in
+      let P : History → Type 0 = λ j. SameDones j (observe on.marks (going step s.steps s.start).effects (behind_boot s.before)) in
       record { halts = s; same = subst P (sym (observed-append on.marks ms rest.moments (behind_boot h))) l.same }
   run_halts b first cs t h r ok (Last d ds _ ms x end one) at e ends =
       let P : Stop → Type 0 = λ y. StopsBehind b first h (power_up_of t d.start ∷ ms) y in

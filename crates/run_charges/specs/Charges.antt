@@ -2,22 +2,21 @@
 use Rattle.std.specs.Prelude.{◌≡◌, ℕ, ◌+◌, ◌*◌, ◌%◌, ◌<◌, ◌≤◌, List, [], ◌∷◌, ◌++◌, length, All}
 use Rattle.address_space.specs.Limits.{fram_first, fram_end, reset_vector}
 use Rattle.msp_isa.specs.declared.instructions.Instr.{Instr}
-use Rattle.msp_step.specs.declared.machine.Stop.{Stop}
 use Rattle.fram_board.specs.Board.{BoardValue, PowerState, powered}
 use Rattle.fram_board.specs.Steps.{IsPowerState}
 use Rattle.fram_board.specs.Effects.{Effect}
-use Rattle.fram_board.specs.Run.{Action, PowerUp, Execute, Moment, Charges, Stopped, RunOutcome, run_outcome, after_moments, BoardCharge}
+use Rattle.fram_board.specs.Run.{Action, PowerUp, Execute, Moment, BoardCharge}
 use Rattle.fram_board.specs.Run.{power_up_of}
 use Rattle.machine_effects.specs.World.{EachStore}
 use Rattle.machine_effects.specs.Going.{going}
 use Rattle.machine_effects.specs.Machine.{MachineBoard, MachineStretch, exec, machine_powered}
 use Rattle.machine_effects.specs.View.{IsMachineOfWords}
-use Rattle.machine_effects.specs.Runs.{SpendsAs, StopsAs, ReachesAs, last_board}
+use Rattle.machine_effects.specs.Runs.{last_board}
 use Rattle.code_forms.specs.Placed.{placed, words_of, AreInstructions, LeavesCode}
 use Rattle.crash_rules.specs.Model.{IsElsewhere, Marks}
 use Rattle.crash_rules.specs.History.{History, observe, behind_boot}
 use Rattle.crash_rules.specs.Runs.{Program, Charge, Charged}
-use Rattle.run_charges.specs.View.{outside_of, outside_effects, Follows}
+use Rattle.run_charges.specs.View.{outside_of, outside_effects, Follows, AreMoments}
 
 -- charges begin with any words that a power-up may leave
 abbrev pub ArePowerStates : List BoardCharge → Type 0
@@ -47,42 +46,32 @@ abbrev pub moments_of : List ChargeFront → List Moment
 moments_of [] = []
 moments_of (c ∷ cs) = power_up_of c.before c.start ∷ (c.instructions ++ moments_of cs)
 
--- an action is an instruction
+-- an action is a step
 abbrev pub IsInstruction : Action → Type 0
 IsInstruction PowerUp = ⊥
-IsInstruction (Execute done offered) = Unit {0}
+IsInstruction (Execute kind done offered) = Unit {0}
 
 -- these moments are instructions
 abbrev pub AreInstructionMoments : List Moment → Type 0
 AreInstructionMoments [] = Unit {0}
 AreInstructionMoments (m ∷ ms) = IsInstruction m.action × AreInstructionMoments ms
 
--- a charge follows this board, and its instructions are steps of the machine from the board that the power-up left
-pub record IsMachineCharge (b : BoardValue) (c : ChargeFront) : Type 0 where
+-- a charge follows this board, and its instructions follow one another from the board that the power-up left
+pub record IsChargeFrom (b : BoardValue) (c : ChargeFront) : Type 0 where
   pub follows : Follows b c.before
   pub start : IsPowerState c.start
   pub instructions : AreInstructionMoments c.instructions
-  pub reaches : ReachesAs (board_powered c) c.instructions
+  pub moments : AreMoments (board_powered c) c.instructions
 
--- those of each charge are, one behind the other
-abbrev pub AreMachineCharges : BoardValue → List ChargeFront → Type 0
-AreMachineCharges b [] = Unit {0}
-AreMachineCharges b (c ∷ cs) = IsMachineCharge b c × AreMachineCharges (board_behind c) cs
-
--- a run whose charges are the machine's: each is spent as the machine spends it, and the last one may stop as the machine stops
-pub data RunsAsMachine : List BoardCharge → BoardValue → RunOutcome → Type 0 where
-  NoCharge : (b : BoardValue) → RunsAsMachine [] b (run_outcome [] Charges b)
-  SpentCharge : (c : BoardCharge) (cs : List BoardCharge) (b : BoardValue) (ms : List Moment) (end : BoardValue) (rest : RunOutcome)
-      → SpendsAs c.measure c.amount (powered b c.start) (run_outcome ms Charges end) → RunsAsMachine cs end rest
-      → RunsAsMachine (c ∷ cs) b (after_moments (power_up_of b c.start ∷ ms) rest)
-  StoppedCharge : (c : BoardCharge) (cs : List BoardCharge) (b : BoardValue) (ms : List Moment) (stop : Stop) (end : BoardValue)
-      → StopsAs c.measure c.amount (powered b c.start) (run_outcome ms (Stopped stop) end) stop
-      → RunsAsMachine (c ∷ cs) b (run_outcome (power_up_of b c.start ∷ ms) (Stopped stop) end)
+-- those of each charge do, one behind the other
+abbrev pub AreChargesFrom : BoardValue → List ChargeFront → Type 0
+AreChargesFrom b [] = Unit {0}
+AreChargesFrom b (c ∷ cs) = IsChargeFrom b c × AreChargesFrom (board_behind c) cs
 
 -- the history behind an action with these effects, by these marks: behind a boot, or behind the effects of an instruction
 abbrev pub behind_action : Marks → Action → List Effect → History → History
 behind_action marks PowerUp es k = behind_boot k
-behind_action marks (Execute done offered) es k = observe marks es k
+behind_action marks (Execute kind done offered) es k = observe marks es k
 
 -- the history behind a moment
 abbrev pub behind_moment : Marks → Moment → History → History
@@ -107,7 +96,7 @@ pub record IsPlacedProgram (c : Program) (p : ℕ) (is : List Instr) (entry : �
   pub steps : c.step ≡ exec (placed p is)
   pub powers : (s : MachineBoard) (q : PowerState) → IsMachineOfWords s → IsPowerState q → s.fram reset_vector ≡ entry → c.IsPoweredUp (machine_powered s q)
 
--- steps that store on none of so many words from p on, nor on the reset vector, and never come to where no instruction stands
+-- steps that store on none of so many words from p on, nor on the reset vector, never go astray, and leave EVENT alone
 pub record LeavesProgram (p n : ℕ) (r : MachineStretch) : Type 0 where
   pub code : LeavesCode p n r
   pub vector : EachStore (IsElsewhere reset_vector) r.effects

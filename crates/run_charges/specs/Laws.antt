@@ -8,8 +8,8 @@ use Rattle.code_forms.specs.Placed.{words_of, Holds}
 use Rattle.crash_rules.specs.Model.{Marks}
 use Rattle.crash_rules.specs.History.{History}
 use Rattle.crash_rules.specs.Runs.{Program, Charged}
-use Rattle.run_charges.specs.View.{outside_of}
-use Rattle.run_charges.specs.Charges.{ArePowerStates, ChargeFront, board_behind_all, moments_of, AreMachineCharges, RunsAsMachine, observed, charges_of}
+use Rattle.run_charges.specs.View.{outside_of, AreMoments}
+use Rattle.run_charges.specs.Charges.{ArePowerStates, ChargeFront, board_behind_all, moments_of, AreChargesFrom, observed, charges_of}
 use Rattle.run_charges.specs.Charges.{IsPlacedProgram, AlwaysLeaves}
 
 -- a run of a whole board of words under charges with any power-ups
@@ -19,19 +19,20 @@ pub record IsRunOfWords (cs : List BoardCharge) (b : BoardValue) (r : RunOutcome
   pub starts : ArePowerStates cs
   pub run : Run cs b r
 
--- each charge of a run is one of the machine
-abbrev pub RunsAreTheMachines : Type 0
-RunsAreTheMachines = (cs : List BoardCharge) (b : BoardValue) (r : RunOutcome) → IsRunOfWords cs b r → RunsAsMachine cs b r
+-- one in which no interrupt is accepted and EVENT is left alone: its moments are power-ups, and instructions that do as the machine's
+pub record IsPlainRun (cs : List BoardCharge) (b : BoardValue) (r : RunOutcome) : Type 0 where
+  pub of_words : IsRunOfWords cs b r
+  pub moments : AreMoments b r.moments
 
--- a front of a run is charges of the machine, the last one up to some instruction
+-- a front of a run is charges, the last one up to some instruction
 pub record IsOfCharges (b : BoardValue) (ms : List Moment) : Type 0 where
   pub charges : List ChargeFront
   pub moments : ms ≡ moments_of charges
-  pub machine : AreMachineCharges b charges
+  pub follow : AreChargesFrom b charges
 
--- each front is, also the whole run
-abbrev pub FrontsAreTheMachines : Type 0
-FrontsAreTheMachines = (cs : List BoardCharge) (b : BoardValue) (r : RunOutcome) (ms rest : List Moment) → IsRunOfWords cs b r
+-- each front of a plain run is, also the whole run
+abbrev pub FrontsAreCharges : Type 0
+FrontsAreCharges = (cs : List BoardCharge) (b : BoardValue) (r : RunOutcome) (ms rest : List Moment) → IsPlainRun cs b r
     → r.moments ≡ ms ++ rest → IsOfCharges b ms
 
 -- a front of a run is charges of a program, with the history of its moments behind them
@@ -39,11 +40,21 @@ pub record IsChargedBy (c : Program) (marks : Marks) (b : BoardValue) (h : Histo
   pub front : IsOfCharges b ms
   pub charged : Charged c marks (outside_of b) h (charges_of front.charges) (outside_of (board_behind_all b front.charges)) (observed marks ms h)
 
--- where a program stands in FRAM, and wherever its charges lead a further one leaves it and the reset vector as they are, each
--- front of a run is charges of that program
+-- a program stands in FRAM, and wherever its charges lead a further one leaves it and the reset vector as they are, never goes astray, and
+-- leaves EVENT alone
+pub record StandsIn (c : Program) (marks : Marks) (b : BoardValue) (h : History) : Type 0 where
+  pub place : ℕ
+  pub instructions : List Instr
+  pub placed : IsPlacedProgram c place instructions ((outside_of b).fram 0xFFFE)
+  pub holds : Holds (outside_of b).fram place (words_of instructions)
+  pub leaves : AlwaysLeaves c place (length (words_of instructions)) marks (outside_of b) h
+
+-- then each run is plain
+abbrev pub ProgramsRunPlainly : Program → Type 0
+ProgramsRunPlainly c = (cs : List BoardCharge) (b : BoardValue) (r : RunOutcome) → IsRunOfWords cs b r
+    → (marks : Marks) (h : History) → StandsIn c marks b h → IsPlainRun cs b r
+
+-- and each front of it is charges of that program
 abbrev pub FrontsAreCharged : Program → Type 0
 FrontsAreCharged c = (cs : List BoardCharge) (b : BoardValue) (r : RunOutcome) (ms rest : List Moment) → IsRunOfWords cs b r
-    → r.moments ≡ ms ++ rest
-    → (marks : Marks) (p : ℕ) (is : List Instr) (h : History) → IsPlacedProgram c p is ((outside_of b).fram 0xFFFE)
-    → Holds (outside_of b).fram p (words_of is)
-    → AlwaysLeaves c p (length (words_of is)) marks (outside_of b) h → IsChargedBy c marks b h ms
+    → r.moments ≡ ms ++ rest → (marks : Marks) (h : History) → StandsIn c marks b h → IsChargedBy c marks b h ms

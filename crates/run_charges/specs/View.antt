@@ -1,8 +1,9 @@
 -- What a program is told of the board on which it runs and of what the board does, and how moments follow one another. Now that is all of
--- the board, and nothing comes from outside between two moments. What is to run on a board beside its program, or to reach it between two
--- steps, is said here.
+-- the board but the port EVENT and the events that come: they arise at the boundary behind a step, in the moment itself, and a program's
+-- instructions leave them alone. What is to run on a board beside its program, or to reach it between two steps, is said here.
 use Rattle.std.specs.Prelude.{◌≡◌, List, [], ◌∷◌, Ok}
 use Rattle.msp_isa.specs.declared.instructions.Instr.{Instr}
+use Rattle.fram_board.specs.declared.board.NextStep.TheVariants as next_step
 use Rattle.fram_board.specs.declared.board.Stepped.{Stepped}
 use Rattle.fram_board.specs.Board.{BoardValue, PowerState, executed, IsNextInstruction}
 use Rattle.fram_board.specs.Steps.{IsPowerState}
@@ -10,6 +11,7 @@ use Rattle.fram_board.specs.Effects.{Effect}
 use Rattle.fram_board.specs.Run.{PowerUp, Moment, moment_of, power_up_of}
 use Rattle.machine_effects.specs.Machine.{MachineBoard}
 use Rattle.machine_effects.specs.View.{machine_of, IsWhole, IsOfWords}
+pub use Rattle.machine_effects.specs.View.{IsMachines}
 use Rattle.machine_effects.specs.Runs.{action_effects}
 
 -- the machine that a board is to its program
@@ -24,12 +26,13 @@ outside_effects m = action_effects m.action m.before m.after
 pub record Follows (left next : BoardValue) : Type 0 where
   pub same : next ≡ left
 
--- a moment that may begin on this board
+-- a moment that may begin on this board, of a program that leaves the port EVENT alone and accepts no interrupt
 pub data IsMomentFrom (b : BoardValue) (m : Moment) : Type 0 where
   -- a power-up
   PowersUp : (p : PowerState) → IsPowerState p → m ≡ power_up_of b p → IsMomentFrom b m
-  -- an instruction that is executed
-  Instructs : (i : Instr) (done : Stepped) → IsNextInstruction b i → (executed b i).answer ≡ Ok done → m ≡ moment_of b i done → IsMomentFrom b m
+  -- an instruction that is executed, as the machine does
+  Instructs : (i : Instr) (done : Stepped) → IsNextInstruction b i → (executed b i).answer ≡ Ok done → IsMachines b i
+      → m ≡ moment_of b (next_step.Instruction i) done → IsMomentFrom b m
 
 -- moments from this board on, one behind the other
 abbrev pub AreMoments : BoardValue → List Moment → Type 0

@@ -4,4 +4,4 @@
 
 mod laws;
 
-pub use laws::{fronts_are_charged, runs_are_the_machines};
+pub use laws::{fronts_are_charged, fronts_are_charges};

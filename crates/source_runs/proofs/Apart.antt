@@ -115,7 +115,7 @@ effects_ordered marks (e ∷ es) h o = effects_ordered marks es (observe_one mar
 
 action_ordered : (marks : Marks) (a : Action) (es : List Effect) (h : History) → Ordered marks h → Ordered marks (behind_action marks a es h)
 action_ordered marks PowerUp es h o = boot_ordered marks h o
-action_ordered marks (Execute done offered) es h o = effects_ordered marks es h o
+action_ordered marks (Execute kind done offered) es h o = effects_ordered marks es h o
 
 moments_ordered : (marks : Marks) (ms : List Moment) (h : History) → Ordered marks h → Ordered marks (observed marks ms h)
 moments_ordered marks [] h o = o

@@ -9,10 +9,12 @@ use Rattle.msp_step.specs.Registers.{registers_of}
 use Rattle.msp_step.specs.Step.{execution}
 use Rattle.image_map.specs.MapValue.{MapValue}
 use Rattle.image_map.specs.Kept.{IsMap}
+use Rattle.fram_board.specs.declared.board.NextStep.{NextStep}
+use Rattle.fram_board.specs.declared.board.NextStep.TheVariants as next_step
 use Rattle.fram_board.specs.declared.receiver.Receiver.{Receiver}
 use Rattle.fram_board.specs.declared.board.Stepped.{Stepped}
 use Rattle.fram_board.specs.Bus.{BusState, board_bus}
-use Rattle.fram_board.specs.Board.{BoardValue, opened, answer_of, executed, powered, is_accepted, accepted_word, receiver_after}
+use Rattle.fram_board.specs.Board.{BoardValue, opened, answer_of, performed, acceptance_on, at_boundary, powered, is_accepted, accepted_word, receiver_after}
 use Rattle.fram_board.specs.Run.{Measure, Moment, Charges, Stopped, RunOutcome, run_outcome, BoardCharge, price, ChargeRun, Spent, NoInstruction}
 use Rattle.fram_board.specs.Run.{TooDear, Refused, Executed, Run, Over, Next, Last, word_list, accepted_by, accepted_words}
 use Rattle.fram_board.proofs.Interface.{price_low, counted}
@@ -22,9 +24,9 @@ use Rattle.machine_effects.specs.World.{World}
 use Rattle.machine_effects.specs.Runs.{last_board}
 use Rattle.crash_rules.specs.History.{Done, first_history}
 use Rattle.run_charges.specs.Charges.{observed}
-use Rattle.run_charges.specs.Laws.{IsRunOfWords}
+use Rattle.run_charges.specs.Laws.{IsPlainRun}
 use Rattle.run_charges.specs.View.{IsMomentFrom, PowersUp, Instructs, AreMoments}
-use Rattle.run_charges.proofs.Interface.{follows_keeps, charge_last, front_moments, Counts, moments_count}
+use Rattle.run_charges.proofs.Interface.{follows_keeps, charge_last, Counts, moments_count}
 use Rattle.model_runs.specs.Events.{marks_of, last_world}
 use Rattle.model_runs.specs.EventLaws.{StartsWith}
 use Rattle.model_runs.proofs.Interface.{Together, moments_lead, first_histories_are_the_same}
@@ -54,16 +56,18 @@ kept : (number : ℕ) (o : Option ℕ) (r : Receiver) → r.accepted ≤ (receiv
 kept number None r = omega arith
 kept number (Some w) r = one_kept (is_accepted number r) r
 
-executed_keeps : (b : BoardValue) (i : Instr) → b.receiver.accepted ≤ (executed b i).board.receiver.accepted
-executed_keeps b i = let o = execution board_bus i (registers_of b.cpu) (opened b) in kept o.bus.outnum o.bus.offered b.receiver
+performed_keeps : (b : BoardValue) (n : NextStep) → b.receiver.accepted ≤ (performed b n).board.receiver.accepted
+performed_keeps b next_step.Acceptance = let o = acceptance_on (registers_of b.cpu) (opened b) in kept o.bus.outnum o.bus.offered b.receiver
+performed_keeps b (next_step.Instruction i) =
+    let o = execution board_bus i (registers_of b.cpu) (opened b) in kept o.bus.outnum o.bus.offered b.receiver
 
 charge_keeps : (m : Measure) (left : ℕ) (b : BoardValue) (r : RunOutcome) → ChargeRun m left b r
     → (last_board b r.moments).receiver.accepted ≤ r.board.receiver.accepted
 charge_keeps m left b r (Spent _ _ none) = omega arith
 charge_keeps m left b r (NoInstruction _ _ e pos h) = omega arith
 charge_keeps m left b r (TooDear _ _ i pos c dear) = omega arith
-charge_keeps m left b r (Refused _ _ i e pos c paid a) = executed_keeps b i
-charge_keeps m left b r (Executed _ _ i done rest pos c paid a h) = charge_keeps m (left - price m i) (executed b i).board rest h
+charge_keeps m left b r (Refused _ _ i e pos c paid a) = performed_keeps b i
+charge_keeps m left b r (Executed _ _ i done rest pos c paid a h) = charge_keeps m (left - price m i) (at_boundary (performed b i).board) rest h
 
 -- what holds behind moments and others, holds behind all of them
 behind_both : (b : BoardValue) (ms ns : List Moment) (n : ℕ) → (last_board (last_board b ms) ns).receiver.accepted ≤ n
@@ -90,7 +94,7 @@ told_counted b s (Err x) done e = cc
 moment_counted : (b : BoardValue) (m : Moment) → IsMomentFrom b m → m.after.receiver.accepted ≡ b.receiver.accepted + length (accepted_by m.action)
 moment_counted b m (PowersUp p ok e) =
     let P : Moment → Type 0 = λ y. y.after.receiver.accepted ≡ b.receiver.accepted + length (accepted_by y.action) in subst P (sym e) (omega arith)
-moment_counted b m (Instructs i done c a e) =
+moment_counted b m (Instructs i done c a own e) =
     let P : Moment → Type 0 = λ y. y.after.receiver.accepted ≡ b.receiver.accepted + length (accepted_by y.action) in
     let o = execution board_bus i (registers_of b.cpu) (opened b) in
     subst P (sym e) (told_counted b o.bus o.answer done a)
@@ -107,25 +111,26 @@ words_counted b (m ∷ ms) all =
 
 -- so it accepted what the transitions emitted
 pub words_are_received : (m : MapValue) (x : World) (cs : List BoardCharge) (b : BoardValue) (r : RunOutcome) (s : State) (ts : List Transition)
-    → IsMap m → StartsWith b x → IsRunOfWords cs b r → HasWordsOf m x s
+    → IsMap m → StartsWith b x → IsPlainRun cs b r → HasWordsOf m x s
     → StandForTransitions m s (observed (marks_of m) r.moments (first_history (marks_of m) x)).completed ts → words_in ts ≤ r.board.receiver.accepted
 words_are_received m x cs b r s ts ok starts run here stand =
     let begun = first_histories_are_the_same b m x ok starts in
     let k = first_history (marks_of m) x in
-    let t : Together m x b (start_with b.fram (Some m)) k = record { whole = run.whole; words = run.words; same = begun.0; tells = begun.1 } in
-    let moments = front_moments cs b r r.moments [] run.starts run.run (sym (append-nil r.moments)) in
-    let end = (moments_lead m x ok b (start_with b.fram (Some m)) k r.moments t moments).together in
+    let all_words = run.of_words in
+    let t : Together m x b (start_with b.fram (Some m)) k =
+    record { whole = all_words.whole; words = all_words.words; same = begun.0; tells = begun.1 } in
+    let end = (moments_lead m x ok b (start_with b.fram (Some m)) k r.moments t run.moments).together in
     let done = (observed (marks_of m) r.moments k).completed in
     let words = words_at_last m x s done ts here stand in
     let all = ap length end.same.alike.words_are in
     let both = length-append (last_world x done).accepted end.same.alike.words in
     let first : Counts b k x.accepted =
-    record { whole = run.whole; words = run.words; accepted = refl; count = starts.accepted; taken = sym starts.taken } in
-    let heard = ap length (moments_count (marks_of m) b k x.accepted r.moments first moments).accepted in
+    record { whole = all_words.whole; words = all_words.words; accepted = refl; count = starts.accepted; taken = sym starts.taken } in
+    let heard = ap length (moments_count (marks_of m) b k x.accepted r.moments first run.moments).accepted in
     let begin = ap length here.accepted in
     let told = length-append x.accepted (accepted_words r.moments) in
-    let count = words_counted b r.moments moments in
-    let last = run_keeps cs b r run.run in
+    let count = words_counted b r.moments run.moments in
+    let last = run_keeps cs b r all_words.run in
     omega (arith, words, all, both, heard, begin, told, count, last)
 
 -- what a receiver has heard
@@ -140,17 +145,20 @@ after_one : (number : ℕ) (o : Option ℕ) (r : Receiver) → heard (receiver_a
 after_one number None r = omega arith
 after_one number (Some w) r = one_heard (is_accepted number r) r
 
-executed_hears : (b : BoardValue) (i : Instr) → heard (executed b i).board.receiver ≤ heard b.receiver + 1
-executed_hears b i = let o = execution board_bus i (registers_of b.cpu) (opened b) in after_one o.bus.outnum o.bus.offered b.receiver
+performed_hears : (b : BoardValue) (n : NextStep) → heard (performed b n).board.receiver ≤ heard b.receiver + 1
+performed_hears b next_step.Acceptance =
+    let o = acceptance_on (registers_of b.cpu) (opened b) in after_one o.bus.outnum o.bus.offered b.receiver
+performed_hears b (next_step.Instruction i) =
+    let o = execution board_bus i (registers_of b.cpu) (opened b) in after_one o.bus.outnum o.bus.offered b.receiver
 
 charge_hears : (m : Measure) (left : ℕ) (b : BoardValue) (r : RunOutcome) → ChargeRun m left b r → heard r.board.receiver ≤ heard b.receiver + left
 charge_hears m left b r (Spent _ _ none) = omega arith
 charge_hears m left b r (NoInstruction _ _ e pos h) = omega arith
 charge_hears m left b r (TooDear _ _ i pos c dear) = omega arith
-charge_hears m left b r (Refused _ _ i e pos c paid a) = let one = executed_hears b i in omega (arith, one, pos)
+charge_hears m left b r (Refused _ _ i e pos c paid a) = let one = performed_hears b i in omega (arith, one, pos)
 charge_hears m left b r (Executed _ _ i done rest pos c paid a h) =
-    let one = executed_hears b i in
-    let more = charge_hears m (left - price m i) (executed b i).board rest h in
+    let one = performed_hears b i in
+    let more = charge_hears m (left - price m i) (at_boundary (performed b i).board) rest h in
     let low = price_low m i in
     omega (arith, one, more, low, paid)
 

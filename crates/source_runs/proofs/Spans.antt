@@ -6,21 +6,23 @@ use Rattle.std.proofs.lemmas.List.{length-map, map-append}
 use Rattle.msp_isa.specs.declared.instructions.Instr.{Instr}
 use Rattle.image_map.specs.MapValue.{MapValue}
 use Rattle.image_map.specs.Kept.{IsMap}
+use Rattle.fram_board.specs.declared.board.NextStep.TheVariants as next_step
 use Rattle.fram_board.specs.declared.board.Stepped.{Stepped}
-use Rattle.fram_board.specs.Board.{BoardValue, powered, executed, IsNextInstruction}
+use Rattle.fram_board.specs.Board.{BoardValue, powered, executed, at_boundary, IsNextInstruction}
 use Rattle.fram_board.specs.Run.{Moment, moment_of, power_up_of, Charges, RunOutcome, run_outcome, BoardCharge}
 use Rattle.board_run.specs.History.{noted, is_done, word_in}
 use Rattle.board_run.specs.History as board
 use Rattle.board_run.specs.Report.{after_all}
 use Rattle.machine_effects.specs.World.{World}
+use Rattle.machine_effects.specs.View.{IsMachines}
 use Rattle.machine_effects.specs.Runs.{last_board}
 use Rattle.crash_rules.specs.Model.{Marks}
 use Rattle.crash_rules.specs.History.{History, is_decide, behind_decide, behind_done, behind_gate, first_history}
 use Rattle.crash_rules.proofs.Interface.{with_effects}
 use Rattle.run_charges.specs.View.{outside_effects, IsMomentFrom, PowersUp, Instructs, AreMoments}
-use Rattle.run_charges.specs.Charges.{ArePowerStates, behind_moment, observed}
-use Rattle.run_charges.specs.Laws.{IsRunOfWords}
-use Rattle.run_charges.proofs.Interface.{no_gap, charge_moments, charge_last, first_start, other_starts, front_moments}
+use Rattle.run_charges.specs.Charges.{behind_moment, observed}
+use Rattle.run_charges.specs.Laws.{IsPlainRun}
+use Rattle.run_charges.proofs.Interface.{charge_last, front_moments, are_behind}
 use Rattle.model_runs.specs.Events.{marks_of}
 use Rattle.model_runs.specs.EventLaws.{StartsWith}
 use Rattle.model_runs.proofs.Interface.{Together, together_on, observed_so, moment_leads, moments_lead, first_histories_are_the_same}
@@ -60,14 +62,14 @@ module _ (m : MapValue) (x : World) (ok : IsMap m) where
   Adds h k o = committed_by (behind_moment marks o k).completed ≡ committed_by k.completed ++ spans_by m h o.action o.after
 
   instruction_adds : (b : BoardValue) (h : board.History) (k : History) → Together m x b h k → (i : Instr) (done : Stepped) → IsNextInstruction b i
-      → (executed b i).answer ≡ Ok done → Adds h k (moment_of b i done)
-  instruction_adds b h k t i done current answer =
-      let after = (executed b i).board in
-      let moved = with_effects (outside_effects (moment_of b i done)) k in
+      → (executed b i).answer ≡ Ok done → IsMachines b i → Adds h k (moment_of b (next_step.Instruction i) done)
+  instruction_adds b h k t i done current answer own =
+      let after = at_boundary (executed b i).board in
+      let moved = with_effects (outside_effects (moment_of b (next_step.Instruction i) done)) k in
       let before : ℕ = k.world.fram gate in
       let now : ℕ = word_in after.fram gate in
       let a = t.same.alike in
-      ap (λ y. committed_by y.completed) (observed_so m x ok b h k t i done current answer)
+      ap (λ y. committed_by y.completed) (observed_so m x ok b h k t i done current answer own)
       ∙ event_adds before now moved
       ∙ ap₂ (λ p q. committed_by k.completed ++ span_if (is_done before now) p q) (sym a.span_from) (sym a.span_to)
       ∙ ap (λ g. committed_by k.completed ++ span_if (is_done g now) h.span_from h.span_to) (sym t.same.gate)
@@ -75,8 +77,8 @@ module _ (m : MapValue) (x : World) (ok : IsMap m) where
   moment_adds : (b : BoardValue) (h : board.History) (k : History) → Together m x b h k → (o : Moment) → IsMomentFrom b o → Adds h k o
   moment_adds b h k t o (PowersUp p start e) =
       let P : Moment → Type 0 = λ y. Adds h k y in subst P (sym e) (sym (append-nil (committed_by k.completed)))
-  moment_adds b h k t o (Instructs i done c a e) =
-      let P : Moment → Type 0 = λ y. Adds h k y in subst P (sym e) (instruction_adds b h k t i done c a)
+  moment_adds b h k t o (Instructs i done c a own e) =
+      let P : Moment → Type 0 = λ y. Adds h k y in subst P (sym e) (instruction_adds b h k t i done c a own)
 
   -- and behind all of them
   moments_add : (b : BoardValue) (h : board.History) (k : History) (ms : List Moment) → Together m x b h k → AreMoments b ms
@@ -101,21 +103,21 @@ module _ (m : MapValue) (x : World) (ok : IsMap m) where
       let old : length (committed_by k.completed) ≡ length k.completed = length-map k.completed (λ d. record { from = d.span_from; to = d.span_to }) in
       omega (arith, more, all, now, old)
 
-  charges_pay : (cs : List BoardCharge) (b : BoardValue) (k : History) (r : RunOutcome) (h : board.History) → Together m x b h k → ArePowerStates cs
+  charges_pay : (cs : List BoardCharge) (b : BoardValue) (k : History) (r : RunOutcome) (h : board.History) → Together m x b h k → AreMoments b r.moments
       → Progresses marks m.bound no_delay cs b k r → EachChargePays m cs b h r
-  charges_pay cs b k r h t starts (model.AllSpent _ _) = AllSpent b h
-  charges_pay cs b k r h t starts (model.SpentOne c ds _ _ ms end rest one pays more) =
-      let start = first_start c ds starts in
+  charges_pay cs b k r h t all (model.AllSpent _ _) = AllSpent b h
+  charges_pay cs b k r h t all (model.SpentOne c ds _ _ ms end rest one pays more) =
       let own = power_up_of b c.start ∷ ms in
-      let are : AreMoments b own =
-      (no_gap b, PowersUp c.start start refl, charge_moments c.measure c.amount (powered b c.start) (run_outcome ms Charges end) one) in
+      let are : AreMoments b own = front_moments b (run_outcome (own ++ rest.moments) Charges end) own rest.moments all refl in
       let there : last_board (powered b c.start) ms ≡ end = charge_last c.measure c.amount (powered b c.start) (run_outcome ms Charges end) one refl in
       let P : BoardValue → Type 0 = λ y. Together m x y (after_all h own) (observed marks own k) in
+      let Q : BoardValue → Type 0 = λ y. AreMoments y rest.moments in
       let next = subst P there (moments_lead m x ok b h k own t are).together in
+      let behind = subst Q there (are_behind b own rest.moments all) in
       SpentOne c ds b h ms end rest one
       (pays_so c k (observed marks own k) (spans_of m h own) (moments_add b h k own t are) pays)
-      (charges_pay ds end (observed marks own k) rest (after_all h own) next (other_starts c ds starts) more)
-  charges_pay cs b k r h t starts (model.StoppedIn c ds _ _ ms stop end one) = StoppedIn c ds b h ms stop end one
+      (charges_pay ds end (observed marks own k) rest (after_all h own) next behind more)
+  charges_pay cs b k r h t all (model.StoppedIn c ds _ _ ms stop end one) = StoppedIn c ds b h ms stop end one
 
 -- of a run from its beginning on: the spans, the readings taken at the last boot or done, and what its charges pay for
 pub record IsReadOff (m : MapValue) (cs : List BoardCharge) (b : BoardValue) (r : RunOutcome) (k : History) : Type 0 where
@@ -125,19 +127,18 @@ pub record IsReadOff (m : MapValue) (cs : List BoardCharge) (b : BoardValue) (r 
       → EachChargePays m cs b (at_first m b) r
 
 -- the events that are read off moments are those of the effects
-pub read_off : (m : MapValue) (x : World) (cs : List BoardCharge) (b : BoardValue) (r : RunOutcome) → IsMap m → StartsWith b x → IsRunOfWords cs b r
+pub read_off : (m : MapValue) (x : World) (cs : List BoardCharge) (b : BoardValue) (r : RunOutcome) → IsMap m → StartsWith b x → IsPlainRun cs b r
     → IsReadOff m cs b r (observed (marks_of m) r.moments (first_history (marks_of m) x))
 read_off m x cs b r ok starts run =
     let k = first_history (marks_of m) x in
     let t = together x starts in
-    let are = front_moments cs b r r.moments [] run.starts run.run (sym (append-nil r.moments)) in
     record {
-      spans = moments_add m x ok b (at_first m b) k r.moments t are;
-      since = sym (moments_lead m x ok b (at_first m b) k r.moments t are).together.same.alike.since;
-      pays = λ y progress begins. charges_pay m y ok cs b (first_history (marks_of m) y) r (at_first m b) (together y begins) run.starts progress;
+      spans = moments_add m x ok b (at_first m b) k r.moments t run.moments;
+      since = sym (moments_lead m x ok b (at_first m b) k r.moments t run.moments).together.same.alike.since;
+      pays = λ y progress begins. charges_pay m y ok cs b (first_history (marks_of m) y) r (at_first m b) (together y begins) run.moments progress;
     }
   where
     together : (y : World) → StartsWith b y → Together m y b (at_first m b) (first_history (marks_of m) y)
     together y begins =
         let begun = first_histories_are_the_same b m y ok begins in
-        record { whole = run.whole; words = run.words; same = begun.0; tells = begun.1 }
+        record { whole = run.of_words.whole; words = run.of_words.words; same = begun.0; tells = begun.1 }

@@ -12,7 +12,8 @@ use Rattle.fram_board.specs.Board.{BoardValue}
 use Rattle.fram_board.specs.Run.{End, Charges, Stopped, BoardCharge, RunOutcome}
 use Rattle.board_run.specs.History.{start_with}
 use Rattle.board_run.specs.History as board
-use Rattle.board_run.specs.Report.{report_of, last_line}
+use Rattle.board_run.specs.Events.{none_accepted}
+use Rattle.board_run.specs.Report.{events_lines, report_of, last_line}
 use Rattle.source_values.specs.Statements.{Outcome, short}
 use Rattle.source_values.specs.Runs.{CheckedProgram, State, Transition, first_state, state_after, state_behind, attempt_of}
 use Rattle.source_report.specs.Apart.{AreApart}
@@ -23,11 +24,11 @@ use Rattle.crash_rules.specs.History.{Done, History, first_history, inputs_from}
 use Rattle.crash_rules.specs.Runs.{Program}
 use Rattle.crash_rules.specs.Laws.{Origin, Resting, Pending, IsSettled, Reaches, IsLawful, SourceRun}
 use Rattle.run_charges.specs.Charges.{observed}
-use Rattle.run_charges.specs.Laws.{IsRunOfWords}
+use Rattle.run_charges.specs.Laws.{IsRunOfWords, IsPlainRun}
 use Rattle.model_runs.specs.Events.{marks_of, counted, dones_lines}
 use Rattle.model_runs.specs.EventLaws.{StartsWith}
 use Rattle.model_runs.proofs.Interface.{report_is_of_dones, fronts_are_lawful, stops_where_short, makes_progress, dones_are_few, takes_what_is_there}
-use Rattle.model_runs.proofs.Interface.{spans_are_in_order, spans_past_are_in_order}
+use Rattle.model_runs.proofs.Interface.{runs_plainly, never_reads, spans_are_in_order, spans_past_are_in_order}
 use Rattle.source_runs.specs.Transitions.{HasWordsOf, StandForTransitions, committed_by}
 use Rattle.source_runs.proofs.Lines.{dones_are_transitions, counted_below}
 use Rattle.model_runs.specs.Runs.{BearsModel, history_behind, IsShort, Progresses, all_amounts, AreInOrder, AreInOrderPast}
@@ -68,11 +69,15 @@ module _ (text : List ℕ) (program : CheckedProgram) (m : MapValue) (model : Mo
   lawful = subst (IsLawful model b.readings origin) same
       (fronts_are_lawful model c b.readings origin x cs b r run bears r.moments [] (sym (append-nil r.moments))).0
 
+  -- no interrupt is accepted
+  plain : IsPlainRun cs b r
+  plain = runs_plainly model c b.readings origin x b bears cs r run
+
   few_dones : length h.completed < 2 ^ 64
-  few_dones = let l = dones_are_few cs b r run (marks_of m) (first_history (marks_of m) x) in omega (arith, l, few)
+  few_dones = let l = dones_are_few cs b r plain (marks_of m) (first_history (marks_of m) x) in omega (arith, l, few)
 
   off : IsReadOff m cs b r h
-  off = read_off m x cs b r is.is_map starts run
+  off = read_off m x cs b r is.is_map starts plain
 
   progress : EachChargePays m cs b (at_first m b) r
   progress =
@@ -83,7 +88,7 @@ module _ (text : List ℕ) (program : CheckedProgram) (m : MapValue) (model : Mo
       off.pays x (subst R is.delay (subst Q is.bound (subst P is.marks made))) starts
 
   in_readings : h.since ≤ length b.readings
-  in_readings = takes_what_is_there cs b r run (marks_of m) (first_history (marks_of m) x) (sym starts.taken) (omega arith)
+  in_readings = takes_what_is_there cs b r plain (marks_of m) (first_history (marks_of m) x) (sym starts.taken) (omega arith)
 
   heard : r.board.receiver.accepted + r.board.receiver.repeats < b.receiver.accepted + b.receiver.repeats + 2 ^ 64
   heard = let all = run_hears cs b r run.run in omega (arith, all, few)
@@ -97,8 +102,14 @@ module _ (text : List ℕ) (program : CheckedProgram) (m : MapValue) (model : Mo
   abbrev last : board.History
   last = record (start_with b.fram (Some m)) { completed = counted (length h.completed) }
 
-  report_is : report_of (start_with b.fram (Some m)) r ≡ bound_line m.bound ++ (dones_lines m 0 x h.completed ++ last_line last r.ending r.board)
-  report_is = report_is_of_dones cs b r run m x is.is_map starts last refl
+  -- the line of events, of which none is accepted, if any were to come
+  abbrev events : List ℕ
+  events = events_lines b.line.coming (none_accepted r.board)
+
+  report_is : report_of (start_with b.fram (Some m)) b.line.coming r
+      ≡ bound_line m.bound ++ (dones_lines m 0 x h.completed ++ (events ++ last_line last r.ending r.board))
+  report_is =
+      report_is_of_dones cs b r plain (never_reads model c b.readings origin x b bears cs r run starts.heard) m x is.is_map starts last refl
 
   -- The world has a state's words; the first dones stand for some transitions from it; and from there on the source runs
   module _ (s0 s : State) (here : HasWordsOf m x s0) (done : List Done) (first : List Transition) (stand : StandForTransitions m s0 done first)
@@ -165,17 +176,17 @@ module _ (text : List ℕ) (program : CheckedProgram) (m : MapValue) (model : Mo
     ends_so : EndsSo r.ending
     ends_so = by_end r.ending refl
 
-    lines : report_of (start_with b.fram (Some m)) r
+    lines : report_of (start_with b.fram (Some m)) b.line.coming r
         ≡ bound_line m.bound ++ (source_report text program 1 (unread first ++ committed_by ds) (first ++ all.transitions)
-        ++ end_line ends_so.why (length first + length (committed_by ds)) r.board.receiver.accepted r.board.receiver.repeats)
+        ++ (events ++ end_line ends_so.why (length first + length (committed_by ds)) r.board.receiver.accepted r.board.receiver.repeats))
     lines =
         let shown : dones_lines m 0 x h.completed ≡ source_report text program 1 (committed_by h.completed) (first ++ all.transitions) =
         dones_are_transitions text program m is.of_source 0 x s0 h.completed (first ++ all.transitions) here stand_all (omega (arith, few_dones)) in
         report_is
-        ∙ ap₂ (λ p q. bound_line m.bound ++ (p ++ q))
+        ∙ ap₂ (λ p q. bound_line m.bound ++ (p ++ (events ++ q)))
         (shown ∙ ap (λ l. source_report text program 1 l (first ++ all.transitions)) spans_are) ends_so.line
 
-    pub told_from : IsToldFrom text program m first s cs b r (report_of (start_with b.fram (Some m)) r)
+    pub told_from : IsToldFrom text program m first s cs b r (report_of (start_with b.fram (Some m)) b.line.coming r)
     told_from =
         let es = ends_so in
         let end = state_behind s all.transitions in
@@ -191,7 +202,7 @@ module _ (text : List ℕ) (program : CheckedProgram) (m : MapValue) (model : Mo
           ending = subst Ends off.since es.ending;
           progress = progress;
           apart = subst (AreApart 0 (length b.readings)) spans_are (spans_are_apart (marks_of m) x r.moments (length b.readings) in_readings);
-          words = words_are_received m x cs b r s0 (first ++ all.transitions) is.is_map starts run here stand_all;
+          words = words_are_received m x cs b r s0 (first ++ all.transitions) is.is_map starts plain here stand_all;
           heard = heard;
           uninterrupted = subst Alone off.since (λ one. let k = consecutive 0 h.since (length b.readings) ds (alone one) in_readings in
               record { consecutive = k.0; at_last = k.1 });
@@ -220,19 +231,20 @@ module _ (text : List ℕ) (program : CheckedProgram) (m : MapValue) (model : Mo
   module _ (cs : List BoardCharge) (starts : StartsWith b x) (run : IsRunOfWords cs b r) (few : all_amounts cs < 2 ^ 64) where
     -- from a state on
     pub told_resting : (s : State) → BearsModel model c b.readings (Resting s) x b → model.Undecided s x → HasWordsOf m x s
-        → IsToldFrom text program m [] s cs b r (report_of (start_with b.fram (Some m)) r)
+        → IsToldFrom text program m [] s cs b r (report_of (start_with b.fram (Some m)) b.line.coming r)
     told_resting s bears undecided here =
         told_from text program m model c x cs b r is (Resting s) bears starts run few s s here [] [] tt refl refl (events_of m x r).completed refl
         (λ z reached. reached) (one_charge s bears undecided cs run)
 
     -- a commit that isn't done
     told_undone : (to : State) → BearsModel model c b.readings (Pending to) x b → (events_of m x r).completed ≡ []
-        → IsToldUndone m cs b r (report_of (start_with b.fram (Some m)) r)
+        → IsToldUndone m cs b r (report_of (start_with b.fram (Some m)) b.line.coming r)
     told_undone to bears none =
         record {
           spans_are = ap committed_by (sym none) ∙ (off text program m model c x cs b r is (Pending to) bears starts run few).spans;
           lines = report_is text program m model c x cs b r is (Pending to) bears starts run few
-              ∙ ap₂ (λ ds q. bound_line m.bound ++ (dones_lines m 0 x ds ++ q)) none (last_is r.ending (by_charges r.ending refl));
+              ∙ ap₂ (λ ds q. bound_line m.bound ++ (dones_lines m 0 x ds ++ (events_lines b.line.coming (none_accepted r.board) ++ q))) none
+              (last_is r.ending (by_charges r.ending refl));
           ending = by_charges r.ending refl;
           progress = progress text program m model c x cs b r is (Pending to) bears starts run few;
           heard = heard text program m model c x cs b r is (Pending to) bears starts run few;
@@ -252,7 +264,7 @@ module _ (text : List ℕ) (program : CheckedProgram) (m : MapValue) (model : Mo
 
     -- one that is done, and what the run comes to behind it
     told_done : (s to : State) (t : Transition) → BearsModel model c b.readings (Pending to) x b → HasTransition m x s to t → (d : Done) (ds : List Done)
-        → (events_of m x r).completed ≡ d ∷ ds → IsToldFrom text program m (t ∷ []) to cs b r (report_of (start_with b.fram (Some m)) r)
+        → (events_of m x r).completed ≡ d ∷ ds → IsToldFrom text program m (t ∷ []) to cs b r (report_of (start_with b.fram (Some m)) b.line.coming r)
     told_done s to t bears has d ds e =
         let law = lawful text program m model c x cs b r is (Pending to) bears starts run few in
         let reached = subst (λ l. Reaches model b.readings (Pending to) l law.stands.state) e law.stands.reached in
@@ -265,10 +277,10 @@ module _ (text : List ℕ) (program : CheckedProgram) (m : MapValue) (model : Mo
 
     -- behind a pending commit
     told_pending : (s to : State) (t : Transition) → BearsModel model c b.readings (Pending to) x b → HasTransition m x s to t
-        → IsToldBehind text program m t to cs b r (report_of (start_with b.fram (Some m)) r)
+        → IsToldBehind text program m t to cs b r (report_of (start_with b.fram (Some m)) b.line.coming r)
     told_pending s to t bears has = by_dones (events_of m x r).completed refl
       where
-        by_dones : (ds : List Done) → (events_of m x r).completed ≡ ds → IsToldBehind text program m t to cs b r (report_of (start_with b.fram (Some m)) r)
+        by_dones : (ds : List Done) → (events_of m x r).completed ≡ ds → IsToldBehind text program m t to cs b r (report_of (start_with b.fram (Some m)) b.line.coming r)
         by_dones [] e = CommitUndone (told_undone to bears e)
         by_dones (d ∷ ds) e = CommitDone (told_done s to t bears has d ds e)
 
@@ -291,7 +303,7 @@ runs_are_told model c text program m x cs b r is begins run few =
       spans_are = t.spans_are;
       source = t.source;
       lines = t.lines ∙ ap (λ n. bound_line m.bound ++ (source_report text program 1 t.spans t.transitions
-          ++ end_line t.why n r.board.receiver.accepted r.board.receiver.repeats)) count;
+          ++ (events_lines b.line.coming (none_accepted r.board) ++ end_line t.why n r.board.receiver.accepted r.board.receiver.repeats))) count;
       ending = t.ending;
       progress = t.progress;
       apart = t.apart;

@@ -4,13 +4,14 @@ use Rattle.std.proofs.lemmas.List.Sums.{sum_by-cons}
 use Rattle.std.proofs.lemmas.List.Elements.{All-nil, All-append, All-replicate, All-head, All-tail}
 use Rattle.energy_trace.specs.declared.charge.Charge.{Charge}
 use Rattle.energy_trace.specs.Ranges.{IsCharge}
-use Rattle.energy_trace.specs.TraceValue.{charge_count}
+use Rattle.energy_trace.specs.TraceValue.{TraceValue, charge_count}
 use Rattle.fram_board.specs.Steps.{IsPowerState}
 use Rattle.fram_board.specs.Run.{BoardCharge}
 use Rattle.fram_board.proofs.Interface.{fill_is_a_power_state}
 use Rattle.board_run.specs.Charges.{charge_of, charges_of}
 use Rattle.run_charges.specs.Charges.{ArePowerStates}
 use Rattle.model_runs.specs.Runs.{all_amounts}
+use Rattle.source_runs.specs.Traces.{AreInputs, IsTraceOfWords}
 use Rattle.source_runs.specs.Laws.{TracesAreFew}
 
 amounts_both : (cs ds : List BoardCharge) → all_amounts (cs ++ ds) ≡ all_amounts cs + all_amounts ds
@@ -47,3 +48,12 @@ traces_are_few t is = (
   starts t.charges is.charges,
   few_times (charge_count t.charges) (all_amounts (charges_of t.charges)) is.trace.charges (amounts_few t.charges is.charges),
 )
+
+-- a board may hold its readings and its events
+pub trace_inputs : (t : TraceValue) → IsTraceOfWords t → AreInputs t.readings t.events
+trace_inputs t is = record {
+  readings_are_words = is.readings;
+  few_readings = is.trace.readings;
+  events_are_words = λ i e at. let word = (is.events i e at).word in omega (arith, word);
+  few_events = is.trace.events;
+}

@@ -26,15 +26,15 @@ use Rattle.source_runs.specs.Sources.{IsOfSource, BeginsWithSource}
 abbrev pub RunsAreTold : Model State → Program → Type 0
 RunsAreTold model c = (text : List ℕ) (program : CheckedProgram) (m : MapValue) (x : World) (cs : List BoardCharge) (b : BoardValue) (r : RunOutcome)
     → IsOfSource text program m model → BeginsWithSource program m model c x b → IsRunOfWords cs b r → all_amounts cs < 2 ^ 64
-    → IsToldBySource text program m cs b r (report_of (start_with b.fram (Some m)) r)
+    → IsToldBySource text program m cs b r (report_of (start_with b.fram (Some m)) b.line.coming r)
 
 -- and so is each from a state that the world has, and each that begins with a pending commit, told behind this
 pub record ResumedRunIsTold (model : Model State) (c : Program) (text : List ℕ) (program : CheckedProgram) (m : MapValue) (x : World)
     (cs : List BoardCharge) (b : BoardValue) (r : RunOutcome) : Type 0 where
   pub resting : (s : State) → BearsModel model c b.readings (Resting s) x b → model.Undecided s x → HasWordsOf m x s
-      → IsToldFrom text program m [] s cs b r (report_of (start_with b.fram (Some m)) r)
+      → IsToldFrom text program m [] s cs b r (report_of (start_with b.fram (Some m)) b.line.coming r)
   pub pending : (s to : State) (t : Transition) → BearsModel model c b.readings (Pending to) x b → HasTransition m x s to t
-      → IsToldBehind text program m t to cs b r (report_of (start_with b.fram (Some m)) r)
+      → IsToldBehind text program m t to cs b r (report_of (start_with b.fram (Some m)) b.line.coming r)
 
 abbrev pub ResumedRunsAreTold : Model State → Program → Type 0
 ResumedRunsAreTold model c = (text : List ℕ) (program : CheckedProgram) (m : MapValue) (x : World) (cs : List BoardCharge) (b : BoardValue)

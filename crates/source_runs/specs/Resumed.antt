@@ -6,7 +6,8 @@ use Rattle.alp_io.specs.Report.{bound_line, end_line}
 use Rattle.image_map.specs.MapValue.{MapValue}
 use Rattle.fram_board.specs.Board.{BoardValue}
 use Rattle.fram_board.specs.Run.{Charges, RunOutcome, BoardCharge}
-use Rattle.board_run.specs.Report.{after_all}
+use Rattle.board_run.specs.Events.{none_accepted}
+use Rattle.board_run.specs.Report.{after_all, events_lines}
 use Rattle.source_values.specs.Runs.{CheckedProgram, State, Transition, state_after, state_behind, source_run, attempt_of}
 use Rattle.source_report.specs.Apart.{AreApart}
 use Rattle.source_report.specs.SourceReport.{Committed, readings_of, source_report}
@@ -20,7 +21,8 @@ unread ts = map (λ t. record { from = 0; to = 0 }) ts
 
 -- the report of a run, as the source tells it from a state on, behind the transitions whose commit was pending at the start: none or one.
 -- It is the source's report of these and of the source's transitions from there on, on the spans of the dones, each of which one task takes
--- exactly; and how it ended, with the number of all. All else is as of a run from the first state
+-- exactly; what became of the events that were to come, if any were: none was accepted; and how it ended, with the number of all. All else is
+-- as of a run from the first state
 pub record IsToldFrom (text : List ℕ) (program : CheckedProgram) (m : MapValue) (first : List Transition) (s : State) (cs : List BoardCharge)
     (b : BoardValue) (r : RunOutcome) (report : List ℕ) : Type 0 where
   pub spans : List Committed
@@ -29,7 +31,8 @@ pub record IsToldFrom (text : List ℕ) (program : CheckedProgram) (m : MapValue
   pub spans_are : unread first ++ spans ≡ spans_of m (at_first m b) r.moments
   pub source : source_run program s (map (readings_of b.readings) spans) ≡ Some transitions
   pub lines : report ≡ bound_line m.bound ++ (source_report text program 1 (unread first ++ spans) (first ++ transitions)
-      ++ end_line why (length first + length spans) r.board.receiver.accepted r.board.receiver.repeats)
+      ++ (events_lines b.line.coming (none_accepted r.board)
+      ++ end_line why (length first + length spans) r.board.receiver.accepted r.board.receiver.repeats))
   pub ending : let t = state_behind s transitions in
       IsEndOf r.ending (attempt_of program t.task t.shared (drop (after_all (at_first m b) r.moments).since b.readings)) why
   pub progress : EachChargePays m cs b (at_first m b) r
@@ -41,7 +44,8 @@ pub record IsToldFrom (text : List ℕ) (program : CheckedProgram) (m : MapValue
 -- a run in which the commit that was pending at the start isn't done: it ended with its charges, and its report has no transition
 pub record IsToldUndone (m : MapValue) (cs : List BoardCharge) (b : BoardValue) (r : RunOutcome) (report : List ℕ) : Type 0 where
   pub spans_are : [] ≡ spans_of m (at_first m b) r.moments
-  pub lines : report ≡ bound_line m.bound ++ end_line reason.Charges 0 r.board.receiver.accepted r.board.receiver.repeats
+  pub lines : report ≡ bound_line m.bound ++ (events_lines b.line.coming (none_accepted r.board)
+      ++ end_line reason.Charges 0 r.board.receiver.accepted r.board.receiver.repeats)
   pub ending : r.ending ≡ Charges
   pub progress : EachChargePays m cs b (at_first m b) r
   pub heard : r.board.receiver.accepted + r.board.receiver.repeats < b.receiver.accepted + b.receiver.repeats + 2 ^ 64

@@ -10,7 +10,8 @@ use Rattle.fram_board.specs.Board.{BoardValue, powered}
 use Rattle.fram_board.specs.Run.{Cycles, Action, PowerUp, Execute, Moment, End, Charges, Stopped, RunOutcome, run_outcome, after_moments}
 use Rattle.fram_board.specs.Run.{BoardCharge, ChargeRun, power_up_of}
 use Rattle.board_run.specs.History.{History, start_with, is_done, word_in, noted}
-use Rattle.board_run.specs.Report.{after_all}
+use Rattle.board_run.specs.Events.{none_accepted}
+use Rattle.board_run.specs.Report.{after_all, events_lines}
 use Rattle.source_values.specs.Statements.{Outcome, short}
 use Rattle.source_values.specs.Runs.{CheckedProgram, Transition, first_state, state_behind, source_run, attempt_of}
 use Rattle.source_report.specs.Apart.{AreApart}
@@ -19,7 +20,7 @@ use Rattle.source_report.specs.SourceReport.{Committed, IsConsecutive, position_
 -- the committed readings of the transition that an action completed, where it left this board and GATE tells of one: its span, or none
 abbrev pub spans_by : MapValue → History → Action → BoardValue → List Committed
 spans_by m h PowerUp b = []
-spans_by m h (Execute done offered) b =
+spans_by m h (Execute kind done offered) b =
     if is_done h.gate (word_in b.fram m.words.gate) then record { from = h.span_from; to = h.span_to } ∷ [] else []
 
 -- the spans of the transitions that are completed in these moments, in order
@@ -61,8 +62,9 @@ pub record IsUninterrupted (readings : List ℕ) (since : ℕ) (spans : List Com
   pub at_last : position_after 0 spans ≡ since
 
 -- the report of a run, as the source tells it: behind the bound the source's report of the transitions on the spans of the dones,
--- each of which one task takes exactly; and how it ended, with the number of transitions. The spans are in order and apart, whatever
--- was cut off between them; the receiver accepted the words that the transitions emitted, at least, and heard fewer than 2^64
+-- each of which one task takes exactly; what became of the events that were to come, if any were: none was accepted; and how it ended,
+-- with the number of transitions. The spans are in order and apart, whatever was cut off between them; the receiver accepted the words
+-- that the transitions emitted, at least, and heard fewer than 2^64
 pub record IsToldBySource (text : List ℕ) (program : CheckedProgram) (m : MapValue) (cs : List BoardCharge) (b : BoardValue) (r : RunOutcome)
     (report : List ℕ) : Type 0 where
   pub spans : List Committed
@@ -71,7 +73,7 @@ pub record IsToldBySource (text : List ℕ) (program : CheckedProgram) (m : MapV
   pub spans_are : spans ≡ spans_of m (at_first m b) r.moments
   pub source : source_run program (first_state program) (map (readings_of b.readings) spans) ≡ Some transitions
   pub lines : report ≡ bound_line m.bound ++ (source_report text program 1 spans transitions
-      ++ end_line why (length spans) r.board.receiver.accepted r.board.receiver.repeats)
+      ++ (events_lines b.line.coming (none_accepted r.board) ++ end_line why (length spans) r.board.receiver.accepted r.board.receiver.repeats))
   pub ending : let s = state_behind (first_state program) transitions in
       IsEndOf r.ending (attempt_of program s.task s.shared (drop (after_all (at_first m b) r.moments).since b.readings)) why
   pub progress : EachChargePays m cs b (at_first m b) r

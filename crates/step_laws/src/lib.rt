@@ -9,7 +9,8 @@ ghost use Rattle.step_laws.specs.Effects.{StatusStays, StaysValid};
 
 use msp_step::Bus;
 
-/// Two buses that answer alike carry any instruction alike: a step on one is the same step on the other.
+/// Two buses that answer alike carry any instruction alike: a step on one is the same step on the other, unless the second
+/// refuses an access of it that the caller calls odd.
 #[tactic(auto, using(crate::proofs::EffectAlike::carries_alike))]
 pub fn effect_is_alike<B: Bus, C: Bus>()
     ensures { CarriesAlike B.model C.model }
