@@ -14,7 +14,7 @@ use Rattle.fram_board.specs.Run.{BoardCharge, Moment, Stopped, RunOutcome, Run, 
 use Rattle.board_run.specs.History.{start_of}
 use Rattle.board_run.specs.Events.{NeverReads}
 use Rattle.board_run.specs.Report.{report_of}
-use Rattle.machine_effects.specs.World.{World, world_after, IsPrefix}
+use Rattle.machine_effects.specs.World.{World, world_after}
 use Rattle.machine_effects.specs.Machine.{fram_of}
 use Rattle.machine_effects.specs.View.{IsWhole}
 use Rattle.machine_effects.specs.Runs.{last_board}

@@ -3,11 +3,12 @@
 ghost use Rattle.image_reports.specs.ImageLaw.{ImagesKeepTheLaws};
 ghost use Rattle.image_reports.specs.Resumed.{ImagesBelong, ImagesResume};
 
-/// Every run of the image of an accepted text, under any charges, from any words that the power-ups leave, on any readings, keeps the
-/// laws at each boundary between two instructions: its effects are a prefix of boot, start, task and commit; its board is undecided at
-/// the source's state or decided to the next one, which is never lost; each word is accepted once; the counts keep to their capacities;
-/// and what is fetched is the image's own code. It stops only where the source is short of readings, a charge of n bounds that is
-/// spent has n transitions, and the report is told by the source.
+/// Every run of the image of an accepted text, under any charges, from any words that the power-ups leave, on any readings and events,
+/// keeps the laws at each boundary between two instructions: its effects are a prefix of boot, start, task and commit; its board is
+/// undecided at the source's state or decided to the next one, which is never lost; each word is accepted once; the counts keep to their
+/// capacities; and what is fetched is the image's own code. No interrupt is accepted, EVENT is never read, and each event that arose
+/// waits there or was lost. It stops only where the source is short of readings, a charge of n bounds that is spent has n transitions,
+/// and the report is told by the source.
 pub fn images_keep_the_laws()
     ensures { ImagesKeepTheLaws }
 {}

@@ -16,14 +16,16 @@ pub fn models_are_of_sources()
 {}
 
 /// The report of a run of a compiled source is the source's report on the committed readings of its transitions, behind the bound and
-/// before the line that says how it ended; each charge of n bounds that is spent has n transitions.
+/// before the lines that say what became of its events, of which none is accepted, and how it ended; each charge of n bounds that is
+/// spent has n transitions.
 pub fn compiled_runs_are_told<S: Coded>()
     ensures { CompiledRunsAreTold S.program }
 {}
 
 /// The report of the run of an accepted source's image on a trace is the source's report on the committed readings of its
-/// transitions, behind the bound and before the line that says how it ended; the run never ends at a fault, and for want of a reading
-/// only where the source is short; and each charge of n bounds that is spent has n transitions.
+/// transitions, behind the bound and before the lines that say what became of the trace's events, of which none is accepted, and how it
+/// ended; the run never ends at a fault, and for want of a reading only where the source is short; and each charge of n bounds that is
+/// spent has n transitions.
 pub fn images_are_told()
     ensures { ImagesAreTold }
 {}

@@ -9,12 +9,13 @@ pub fn first_histories_are_the_same()
     ensures { FirstHistoriesAreTheSame }
 {}
 
-/// And stays the same over any moments of a run.
+/// And stays the same over any moments of a run in which no interrupt is accepted and EVENT is left alone.
 pub fn histories_stay_the_same()
     ensures { HistoriesStayTheSame }
 {}
 
-/// The lines of a run are those of its dones, by their numbers, spans and worlds alone; so is its report, but for how it ended.
+/// The lines of a run in which no interrupt is accepted and EVENT is left alone are those of its dones, by their numbers, spans and
+/// worlds alone; so is its report, but for what became of its events, of which none is accepted, and how it ended.
 pub fn lines_are_of_dones()
     ensures lines { LinesAreOfDones }
     ensures report { ReportIsOfDones }
@@ -46,7 +47,8 @@ pub fn words_stay_within<S: Compiled>()
     ensures { WordsStayWithin S.model S.program S.may_store }
 {}
 
-/// A run has no more dones than its charges have cycles or instructions, and takes no more readings than there are.
+/// A run in which no interrupt is accepted and EVENT is left alone has no more dones than its charges have cycles or instructions, and
+/// takes no more readings than there are.
 pub fn dones_are_few()
     ensures dones { DonesAreFew }
     ensures readings { TakesWhatIsThere }

@@ -236,4 +236,3 @@ module _ (on : PlacedProgram) where
       let P : List Moment → Type 0 = λ l. Charged on.program marks (outside_of b) h (charges_of all.charges)
       (outside_of (board_behind_all b all.charges)) (observed marks l h) in
       record { front = all; charged = subst P (sym all.moments) (lead_on b h all.charges ready all.follow).charged }
-

@@ -141,9 +141,11 @@ module _ (on : PlacedProgram) where
   charge_moments m left b r run (TooDear _ _ n pos c dear) = tt
   charge_moments m left b r run (Refused _ _ n e pos c paid a) = tt
   charge_moments m left b r run (Executed _ _ next_step.Acceptance done rest pos c paid a h) = absurd (none_accepted b run c)
-  charge_moments m left b r run (Executed _ _ (next_step.Instruction i) done rest pos c paid a h) =
-      (no_gap b, Instructs i done c.1 a (own b run i c.1) refl,
-      charge_moments m (left - price m (next_step.Instruction i)) (at_boundary (executed b i).board) rest (runs_on b run i c.1 done a) h)
+  charge_moments m left b r run (Executed _ _ (next_step.Instruction i) done rest pos c paid a h) = (
+    no_gap b,
+    Instructs i done c.1 a (own b run i c.1) refl,
+    charge_moments m (left - price m (next_step.Instruction i)) (at_boundary (executed b i).board) rest (runs_on b run i c.1 done a) h,
+  )
 
   -- so many instructions are as many steps of the program
   pub record Reaches (b : BoardValue) (ms : List Moment) : Type 0 where

@@ -21,9 +21,9 @@ pub trait Told {
     ghost program: { Program };
 }
 
-/// The report of a run is the source's report on the committed readings of its transitions, behind the bound and before the line
-/// that says how it ended; it never ends at a fault, nor for want of a reading but where the source is short; and each charge of n
-/// bounds that is spent has n transitions.
+/// The report of a run is the source's report on the committed readings of its transitions, behind the bound and before the lines
+/// that say what became of its events, of which none is accepted, and how it ended; it never ends at a fault, nor for want of a
+/// reading but where the source is short; and each charge of n bounds that is spent has n transitions.
 pub fn run_is_told_by_its_source<S: Told>()
     ensures { RunsAreTold S.model S.program }
 {}
