@@ -36,14 +36,14 @@ pub record ComesFirst (m : Measure) (left : ℕ) (b : BoardValue) (moment : Mome
 
 -- a step was made, and its lines written
 pub record Turned (h : Known) (m : Measure) (left : ℕ) (b : BoardValue) (old new : Option (List ℕ)) (rest : ℕ) (after : BoardValue) (now : Known) : Type 0
-    where
-  pub moment : Moment
-  pub first : ComesFirst m left b moment rest after
-  pub less : rest < left
-  pub written : Appends old new (moment_lines h.history moment)
-  pub history : now.history ≡ noted h.history moment
-  pub tally : now.tally ≡ tally_behind (known_head h) moment h.tally
-  pub words : words_of now.tally ≤ words_of h.tally + 1
+  where
+    pub moment : Moment
+    pub first : ComesFirst m left b moment rest after
+    pub less : rest < left
+    pub written : Appends old new (moment_lines h.history moment)
+    pub history : now.history ≡ noted h.history moment
+    pub tally : now.tally ≡ tally_behind (known_head h) moment h.tally
+    pub words : words_of now.tally ≤ words_of h.tally + 1
 
 -- a step was made, and its lines weren't written whole
 pub record TurnedPartly (h : Known) (m : Measure) (left : ℕ) (b : BoardValue) (old new : Option (List ℕ)) (after : BoardValue) : Type 0 where

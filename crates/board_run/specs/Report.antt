@@ -85,20 +85,20 @@ pub record IsCutInMoment (h : History) (text : List ℕ) (ms : List Moment) (old
 
 -- where writing broke off in the report of a run that begins with a text, and the board that stands then
 pub data IsCutAt (h : History) (text : List ℕ) (events : List Event) (b : BoardValue) (r : RunOutcome) (old new : Option (List ℕ)) (after : BoardValue) : Type 0
-    where
-  -- in the text: nothing was done, and the board is as it was
-  InText : after ≡ b → AppendsProperPrefix old new text → IsCutAt h text events b r old new after
-  -- in the lines of a moment
-  InMoment : IsCutInMoment h text r.moments old new after → IsCutAt h text events b r old new after
-  -- in the last lines: the board is the one at the run's end
-  InLastLines : after ≡ r.board → BreaksOff old new (text ++ lines_from h r.moments) (last_lines h events r)
-      → IsCutAt h text events b r old new after
+  where
+    -- in the text: nothing was done, and the board is as it was
+    InText : after ≡ b → AppendsProperPrefix old new text → IsCutAt h text events b r old new after
+    -- in the lines of a moment
+    InMoment : IsCutInMoment h text r.moments old new after → IsCutAt h text events b r old new after
+    -- in the last lines: the board is the one at the run's end
+    InLastLines : after ≡ r.board → BreaksOff old new (text ++ lines_from h r.moments) (last_lines h events r)
+        → IsCutAt h text events b r old new after
 
 -- the report of a run under these events wasn't written whole: a proper prefix of it is, up to this place
 pub record IsCut (h : History) (text : List ℕ) (events : List Event) (b : BoardValue) (r : RunOutcome) (old new : Option (List ℕ)) (after : BoardValue) : Type 0
-    where
-  pub written : AppendsProperPrefix old new (text ++ rest_of h events r)
-  pub place : IsCutAt h text events b r old new after
+  where
+    pub written : AppendsProperPrefix old new (text ++ rest_of h events r)
+    pub place : IsCutAt h text events b r old new after
 
 -- what is answered of the run of a board under charges and events, of which a text and then the report but for the bound are written
 abbrev pub IsTold : List ℕ → History → List BoardCharge → List Event → BoardValue → Option (List ℕ) → Option (List ℕ) → Result RunEnd RunFault → BoardValue

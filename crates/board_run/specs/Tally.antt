@@ -71,10 +71,10 @@ IsHead None head fram = Unit {0}
 IsHead (Some place) head fram = head ≡ word_in fram place
 
 -- HEAD of a map is looked at, and was this word in a FRAM
-pub record WatchesHead (m : Option MapValue) (place : Option ℕ) (head : ℕ) (fram : List ℕ) : Type 0 where
-  pub place : place ≡ head_of m
-  pub fits : IfSome place IsFramWord
-  pub same : IsHead place head fram
+pub record WatchesHead (m : Option MapValue) (address : Option ℕ) (head : ℕ) (fram : List ℕ) : Type 0 where
+  pub place : address ≡ head_of m
+  pub fits : IfSome address IsFramWord
+  pub same : IsHead address head fram
 
 -- the end that a change of HEAD is
 abbrev pub change_if : Bool → List HandEnd

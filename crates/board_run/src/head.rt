@@ -1,5 +1,5 @@
 //! The word HEAD of a board, where a map has a ring of events.
-ghost use Rattle.std.specs.Prelude.{◌≡◌, IfSome, option_map};
+ghost use Rattle.std.specs.Prelude.{◌≡◌, None, IfSome, option_map};
 ghost use Rattle.image_text.specs.image_map.MapValue.{IsFramWord};
 ghost use Rattle.board_run.specs.Events.{head_of};
 ghost use Rattle.board_run.specs.Tally.{IsHead, WatchesHead, change_if, seen_ends};
@@ -17,7 +17,7 @@ pub struct Head {
 
 // The address of HEAD, if there is a map and it has a ring.
 fn head_place(map: Option<&Map>) -> Option<u16>
-    ensures value { result ≡ head_of (option_map (λ m. m.now) map) }
+    ensures value { result ≡ head_of (option_map (λ m. m.now) map.entry) }
     ensures fits { IfSome result IsFramWord }
 {
     let Some(map) = map else {
@@ -33,6 +33,7 @@ fn head_place(map: Option<&Map>) -> Option<u16>
 impl Head {
     /// No HEAD is looked at.
     pub fn none() -> Head
+        ensures { result.place ≡ None }
     {
         Head {
             place: None,
@@ -42,7 +43,7 @@ impl Head {
 
     /// HEAD of this map, as it is on this board.
     pub fn of(map: Option<&Map>, board: &Board) -> Head
-        ensures { WatchesHead (option_map (λ m. m.now) map) result.place result.word board.now.fram }
+        ensures { WatchesHead (option_map (λ m. m.now) map.entry) result.place result.word board.now.fram }
     {
         match head_place(map) {
             Some(place) => Head {
