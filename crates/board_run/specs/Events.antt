@@ -154,10 +154,13 @@ pub record NeverReads (r : RunOutcome) : Type 0 where
   pub moments : All (λ m. heard_by m.action ≡ heard.Nothing) r.moments
   pub stop : r.board.line.heard ≡ heard.Nothing
 
+-- what became of the events of such a run, by the board behind it: how many arose, and how many of them were lost at the port
+abbrev pub none_accepted : BoardValue → EventCounts
+none_accepted b = record { arisen = b.line.arisen; accepted = 0; lost = b.line.missed }
+
 -- a run that never reads EVENT accepts nothing and loses nothing in hand, with or without a ring
 abbrev pub SilentRunsAcceptNothing : Type 0
-SilentRunsAcceptNothing = (m : Option MapValue) (r : RunOutcome) → NeverReads r
-    → event_counts m r ≡ record { arisen = r.board.line.arisen; accepted = 0; lost = r.board.line.missed }
+SilentRunsAcceptNothing = (m : Option MapValue) (r : RunOutcome) → NeverReads r → event_counts m r ≡ none_accepted r.board
 
 -- where there is no ring nothing is accepted
 abbrev pub RinglessRunsAcceptNothing : Type 0

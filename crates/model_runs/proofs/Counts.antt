@@ -11,7 +11,7 @@ use Rattle.fram_board.specs.Run.{NoInstruction}
 use Rattle.fram_board.specs.Run.{TooDear, Refused, Executed, Run, Over, Next, Last}
 use Rattle.fram_board.proofs.Interface.{price_low}
 use Rattle.machine_effects.specs.World.{world_after}
-use Rattle.machine_effects.specs.View.{IsWhole, IsOfWords}
+use Rattle.machine_effects.specs.View.{IsWhole, IsOfWords, IsMachines}
 use Rattle.machine_effects.specs.Runs.{last_board}
 use Rattle.machine_effects.proofs.Interface.{power_up_keeps_words}
 use Rattle.crash_rules.specs.Model.{Marks}
@@ -80,21 +80,21 @@ power_counts marks b h p w q ok =
     record { whole = up.0; words = up.1; dones = omega arith; since = λ l. omega arith; taken = λ e. e; readings = refl }
 
 instruction_counts : (marks : Marks) (b : BoardValue) (h : History) (i : Instr) (done : Stepped) → IsWhole b → IsOfWords b → IsNextInstruction b i
-    → (executed b i).answer ≡ Ok done
+    → (executed b i).answer ≡ Ok done → IsMachines b i
     → Counts b h (at_boundary (executed b i).board) (behind_moment marks (moment_of b (next_step.Instruction i) done) h) 1
-instruction_counts marks b h i done w q c a =
-    let es : List Effect = told b w i done c a in
-    let all = seen marks es h (one_write b w i done c a) in
+instruction_counts marks b h i done w q c a own =
+    let es : List Effect = told b w i done c a own in
+    let all = seen marks es h (one_write b w i done c a own) in
     let P : History → Type 0 = λ k. AddsOne (with_effects es h) k in
     let one : AddsOne (with_effects es h) (observe marks es h) = subst P (sym all)
     (event_adds (h.world.fram marks.gate) ((world_after es h.world).fram marks.gate) (with_effects es h)) in
     record {
-      whole = whole_after b w i done c a;
-      words = words_after b w i done c a q;
+      whole = whole_after b w i done c a own;
+      words = words_after b w i done c a own q;
       dones = one.dones;
       since = λ l. one.since (omega (arith, l));
-      taken = λ e. observed_taken marks es h ∙ readings_counted b w i done c a h e;
-      readings = readings_stay b w i done c a;
+      taken = λ e. observed_taken marks es h ∙ readings_counted b w i done c a own h e;
+      readings = readings_stay b w i done c a own;
     }
 
 moment_counts : (marks : Marks) (b : BoardValue) (h : History) (m : Moment) → IsWhole b → IsOfWords b → IsMomentFrom b m
@@ -102,9 +102,9 @@ moment_counts : (marks : Marks) (b : BoardValue) (h : History) (m : Moment) → 
 moment_counts marks b h m w q (PowersUp p ok e) =
     let P : Moment → Type 0 = λ y. Counts b h y.after (behind_moment marks y h) 1 in
     subst P (sym e) (power_counts marks b h p w q ok)
-moment_counts marks b h m w q (Instructs i done c a same e) =
+moment_counts marks b h m w q (Instructs i done c a own e) =
     let P : Moment → Type 0 = λ y. Counts b h y.after (behind_moment marks y h) 1 in
-    subst P (sym e) (instruction_counts marks b h i done w q c a)
+    subst P (sym e) (instruction_counts marks b h i done w q c a own)
 
 moments_count : (marks : Marks) (b : BoardValue) (h : History) (ms : List Moment) → IsWhole b → IsOfWords b → AreMoments b ms
     → Counts b h (last_board b ms) (observed marks ms h) (length ms)

@@ -16,7 +16,7 @@ use Rattle.board_run.specs.History.{shared_numbers}
 use Rattle.board_run.specs.History as board
 use Rattle.board_run.specs.Report.{lines_from, after_all}
 use Rattle.machine_effects.specs.World.{World, fram_after, world_after}
-use Rattle.machine_effects.specs.View.{IsWhole, IsOfWords}
+use Rattle.machine_effects.specs.View.{IsWhole, IsOfWords, IsMachines}
 use Rattle.machine_effects.specs.Runs.{last_board}
 use Rattle.machine_effects.proofs.Interface.{world_by_its_parts, power_up_keeps_words}
 use Rattle.crash_rules.specs.Model.{Marks}
@@ -116,7 +116,7 @@ module _ (m : MapValue) (x : World) (ok : IsMap m) where
 
   -- an instruction
   module _ (b : BoardValue) (h : board.History) (k : History) (t : Together m x b h k) (i : Instr) (done : Stepped) (current : IsNextInstruction b i)
-      (answer : (executed b i).answer ≡ Ok done) where
+      (answer : (executed b i).answer ≡ Ok done) (own : IsMachines b i) where
     abbrev after : BoardValue
     after = at_boundary (executed b i).board
 
@@ -142,16 +142,16 @@ module _ (m : MapValue) (x : World) (ok : IsMap m) where
     fram_now =
         ap (λ y. y.fram) (world_by_its_parts es k.world)
         ∙ ap (fram_after es) t.tells.fram
-        ∙ sym (fram_changed b t.whole i done current answer)
+        ∙ sym (fram_changed b t.whole i done current answer own)
 
     accepted_now : (world_after es k.world).accepted ≡ k.world.accepted ++ ws
-    accepted_now = ap (λ y. y.accepted) (world_by_its_parts es k.world) ∙ words_accepted b t.whole i done current answer k.world.accepted t.tells.accepted
+    accepted_now = ap (λ y. y.accepted) (world_by_its_parts es k.world) ∙ words_accepted b t.whole i done current answer own k.world.accepted t.tells.accepted
 
     taken_now : moved.taken ≡ after.taken
-    taken_now = readings_counted b t.whole i done current answer k t.tells.taken
+    taken_now = readings_counted b t.whole i done current answer own k t.tells.taken
 
     count_now : TakesNextBehind (world_after es k.world).accepted after.receiver
-    count_now = ap (λ y. length y.accepted % 0x10000) (world_by_its_parts es k.world) ∙ words_counted b t.whole i done current answer k.world.accepted
+    count_now = ap (λ y. length y.accepted % 0x10000) (world_by_its_parts es k.world) ∙ words_counted b t.whole i done current answer own k.world.accepted
         t.tells.accepted
 
     moved_tells : TellsOf after moved
@@ -165,7 +165,7 @@ module _ (m : MapValue) (x : World) (ok : IsMap m) where
 
     -- what is observed of this instruction
     pub observed_so : observe marks es k ≡ behind_gate before now moved
-    observed_so = seen marks es k (one_write b t.whole i done current answer) ∙ ap (λ n. behind_gate before n moved) (sym gate_now)
+    observed_so = seen marks es k (one_write b t.whole i done current answer own) ∙ ap (λ n. behind_gate before n moved) (sym gate_now)
 
     gate_before : spoken.gate ≡ before
     gate_before = words_keep_gate h done.accepted ∙ t.same.gate
@@ -215,8 +215,8 @@ module _ (m : MapValue) (x : World) (ok : IsMap m) where
         let P : board.History → Type 0 = λ y. SaysTheSame m x y (observe marks es k) in
         record {
           together = record {
-            whole = whole_after b t.whole i done current answer;
-            words = words_after b t.whole i done current answer t.words;
+            whole = whole_after b t.whole i done current answer own;
+            words = words_after b t.whole i done current answer own t.words;
             same = subst P (sym noted_so) behind_same;
             tells = behind_tells;
           };
@@ -230,8 +230,8 @@ module _ (m : MapValue) (x : World) (ok : IsMap m) where
   -- a moment leads both histories on
   pub moment_leads : (b : BoardValue) (h : board.History) (k : History) → Together m x b h k → (o : Moment) → IsMomentFrom b o → MomentLeads b h k o
   moment_leads b h k t o (PowersUp p start e) = let P : Moment → Type 0 = λ y. MomentLeads b h k y in subst P (sym e) (boot_leads b h k t p start)
-  moment_leads b h k t o (Instructs i done c a same e) =
-      let P : Moment → Type 0 = λ y. MomentLeads b h k y in subst P (sym e) (instruction_leads b h k t i done c a)
+  moment_leads b h k t o (Instructs i done c a own e) =
+      let P : Moment → Type 0 = λ y. MomentLeads b h k y in subst P (sym e) (instruction_leads b h k t i done c a own)
 
   -- dones behind dones
   lines-append : (j : ℕ) (w : World) (ds es : List Done) → dones_lines m (counted j) w (ds ++ es)

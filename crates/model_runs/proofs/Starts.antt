@@ -7,7 +7,7 @@ use Rattle.fram_board.specs.Board.{BoardValue, executed, IsNextInstruction}
 use Rattle.fram_board.specs.Effects.{Effect}
 use Rattle.fram_board.specs.Run.{Moment, moment_of}
 use Rattle.machine_effects.specs.World.{World, world_after}
-use Rattle.machine_effects.specs.View.{IsWhole, IsOfWords}
+use Rattle.machine_effects.specs.View.{IsWhole, IsOfWords, IsMachines}
 use Rattle.machine_effects.proofs.Interface.{power_up_keeps_words}
 use Rattle.crash_rules.specs.Model.{Marks}
 use Rattle.crash_rules.specs.History.{History, is_done, is_decide, behind_done, behind_decide, behind_gate}
@@ -35,9 +35,9 @@ module _ (P : World → Type 0) (marks : Marks) where
 
   -- an instruction
   module _ (b : BoardValue) (k : History) (h : Begun b k) (i : Instr) (done : Stepped) (current : IsNextInstruction b i)
-      (answer : (executed b i).answer ≡ Ok done) where
+      (answer : (executed b i).answer ≡ Ok done) (own : IsMachines b i) where
     abbrev es : List Effect
-    es = told b h.whole i done current answer
+    es = told b h.whole i done current answer own
 
     behind_instruction : let m = moment_of b (next_step.Instruction i) done in let j = behind_moment marks m k in P j.world → Begun m.after j
     behind_instruction now =
@@ -45,9 +45,9 @@ module _ (P : World → Type 0) (marks : Marks) where
         let R : History → Type 0 = λ y. P y.start in
         let world : P (world_after es k.world) = subst Q (observed_world marks es k) now in
         record {
-          whole = whole_after b h.whole i done current answer;
-          words = words_after b h.whole i done current answer h.words;
-          start = subst R (sym (seen marks es k (one_write b h.whole i done current answer)))
+          whole = whole_after b h.whole i done current answer own;
+          words = words_after b h.whole i done current answer own h.words;
+          start = subst R (sym (seen marks es k (one_write b h.whole i done current answer own)))
               (gate_start P (k.world.fram marks.gate) ((world_after es k.world).fram marks.gate) (with_effects es k) h.start world);
           world = now;
         }
@@ -58,9 +58,9 @@ module _ (P : World → Type 0) (marks : Marks) where
       let Q : Moment → Type 0 = λ y. Begun y.after (behind_moment marks y k) in
       let up = power_up_keeps_words b p h.whole h.words ok in
       subst Q (sym e) (record { whole = up.0; words = up.1; start = h.world; world = h.world })
-  begun_behind b k h m (Instructs i done c a same e) now =
+  begun_behind b k h m (Instructs i done c a own e) now =
       let Q : Moment → Type 0 = λ y. P (behind_moment marks y k).world → Begun y.after (behind_moment marks y k) in
-      subst Q (sym e) (behind_instruction b k h i done c a) now
+      subst Q (sym e) (behind_instruction b k h i done c a own) now
 
   -- what holds of the world at each front, and at first of the last boot or done, holds of the last boot or done behind all moments
   pub starts_hold : (b : BoardValue) (k : History) (ms : List Moment) → IsWhole b → IsOfWords b → AreMoments b ms → P k.start

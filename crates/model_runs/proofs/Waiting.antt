@@ -29,10 +29,10 @@ moment_waits : (b : BoardValue) (m : Moment) → AreWaiting b.line → IsMomentF
 moment_waits b m h (PowersUp p ok e) =
     let P : Moment → Type 0 = λ y. AreWaiting y.after.line in
     subst P (sym e) (due_wait b.line.coming _ (let all : b.line.arisen ≡ b.line.missed + words_in b.line.port + 0 = omega (arith, h) in all))
-moment_waits b m h (Instructs i done c a same e) =
+moment_waits b m h (Instructs i done c a own e) =
     let P : Moment → Type 0 = λ y. AreWaiting y.after.line in
     let Q : EventLine → Type 0 = λ q. AreWaiting (line_behind_step q) in
-    subst P (sym e) (subst Q (sym same.line) (due_wait b.line.coming _ h))
+    subst P (sym e) (subst Q (sym own.line) (due_wait b.line.coming _ h))
 
 -- and so it is behind the moments of a plain run
 pub moments_wait : (b : BoardValue) (ms : List Moment) → AreWaiting b.line → AreMoments b ms → AreWaiting (last_board b ms).line

@@ -33,8 +33,8 @@ power_up_part b c ms follows p ok rest =
 
 one_part : (b c : BoardValue) (m : Moment) (ms : List Moment) → Follows b c → IsMomentFrom c m → AreMoments b (m ∷ []) → Parts m.after ms
     → Parts b (m ∷ ms)
-one_part b c m ms follows (PowersUp p ok e) one =
-    let P : Moment → Type 0 = λ x. Parts x.after ms → Parts b (x ∷ ms) in subst P (sym e) (power_up_part b c ms follows p ok)
+one_part b c m ms follows (PowersUp p ok e) one rest =
+    let P : Moment → Type 0 = λ x. Parts x.after ms → Parts b (x ∷ ms) in subst P (sym e) (power_up_part b c ms follows p ok) rest
 one_part b c m ms follows (Instructs i done at a own e) one rest =
     record {
       before = m ∷ rest.before;

@@ -9,13 +9,13 @@ use Rattle.fram_board.specs.Steps.{IsPowerState}
 use Rattle.fram_board.specs.Effects.{Effect}
 use Rattle.fram_board.specs.Run.{Moment, moment_of, word_list, accepted_by, accepted_words, BoardCharge, RunOutcome}
 use Rattle.machine_effects.specs.World.{accepted_after}
-use Rattle.machine_effects.specs.View.{IsWhole, IsOfWords}
+use Rattle.machine_effects.specs.View.{IsWhole, IsOfWords, IsMachines}
 use Rattle.machine_effects.specs.Runs.{last_board}
 use Rattle.machine_effects.proofs.Interface.{world_by_its_parts, power_up_keeps_words}
 use Rattle.crash_rules.specs.Model.{Marks}
 use Rattle.crash_rules.specs.History.{History, behind_boot}
 use Rattle.crash_rules.proofs.Interface.{observed_world, observed_taken}
-use Rattle.run_charges.specs.View.{Follows, IsMachines, IsMomentFrom, PowersUp, Instructs, AreMoments}
+use Rattle.run_charges.specs.View.{Follows, IsMomentFrom, PowersUp, Instructs, AreMoments}
 use Rattle.run_charges.specs.Charges.{behind_moment, observed}
 use Rattle.run_charges.specs.Laws.{IsPlainRun}
 use Rattle.run_charges.proofs.View.{follows_keeps}

@@ -1,11 +1,7 @@
 -- A run of a program that stands in FRAM is plain, and each front of it is charges of the program.
-use Rattle.std.proofs.Common.{◌≡◌, ℕ, ◌-◌, refl, sym, ap, ◌∙◌, subst, List, [], ◌∷◌, ◌++◌}
-use Rattle.msp_step.specs.declared.machine.Stop.{Stop}
-use Rattle.fram_board.specs.declared.board.NextStep.TheVariants as next_step
-use Rattle.fram_board.specs.declared.events.Heard.TheVariants as heard
-use Rattle.fram_board.specs.Board.{BoardValue, powered, executed, at_boundary}
-use Rattle.fram_board.specs.Run.{Measure, price, Moment, PowerUp, Execute, Action, Charges, Stopped, RunOutcome, run_outcome, BoardCharge, Run, Over, Next, Last}
-use Rattle.fram_board.specs.Run.{ChargeRun, Spent, NoInstruction, TooDear, Refused, Executed}
+use Rattle.std.proofs.Common.{◌≡◌, refl, sym, subst, List}
+use Rattle.fram_board.specs.Board.{BoardValue, powered}
+use Rattle.fram_board.specs.Run.{Charges, Stopped, RunOutcome, run_outcome, BoardCharge, Run, Over, Next, Last}
 use Rattle.machine_effects.specs.Runs.{last_board}
 use Rattle.crash_rules.specs.Model.{Marks}
 use Rattle.crash_rules.specs.History.{History, behind_boot}
@@ -45,7 +41,7 @@ module _ (on : PlacedProgram) where
 
 -- where a program stands
 module _ (c : Program) (marks : Marks) (b : BoardValue) (h : History) (stands : StandsIn c marks b h) where
-  pub placed_program : PlacedProgram
+  abbrev pub placed_program : PlacedProgram
   placed_program = record {
     program = c;
     marks = marks;

@@ -1,6 +1,6 @@
 -- The moments of a run, one behind the other, and what each of its instructions does to the machine.
 use Rattle.std.proofs.Common.{◌≡◌, ◌==◌, ◌≤◌, ◌+◌, ◌-◌, ◌%◌, ℕ, suc, refl, sym, ap, ◌∙◌, subst, arith, Bool, true, false, if◌then◌else◌, List, [], ◌∷◌, ◌++◌}
-use Rattle.std.proofs.Common.{length, append-nil, length-append, Option, Some, None, Ok}
+use Rattle.std.proofs.Common.{length, length-append, Option, Some, None, Ok}
 use Rattle.msp_isa.specs.declared.instructions.Instr.{Instr}
 use Rattle.msp_cycles.specs.Cycles.{cycles_of}
 use Rattle.msp_step.specs.Registers.{Registers, registers_of}
@@ -26,15 +26,15 @@ use Rattle.machine_effects.specs.Going.{Goes}
 use Rattle.machine_effects.specs.Machine.{MachineBus, MachineBoard, MachineOutcome, word_address, IsMachineStep, machine_bus}
 use Rattle.machine_effects.specs.Machine.{machine_opened, machine_outcome}
 use Rattle.machine_effects.specs.Machine.{machine_executed}
-use Rattle.machine_effects.specs.View.{machine_of, IsWhole, IsOfWords, outcome_of_answer}
+use Rattle.machine_effects.specs.View.{machine_of, IsWhole, IsOfWords, outcome_of_answer, IsMachines}
 use Rattle.machine_effects.specs.Runs.{last_board}
 use Rattle.machine_effects.proofs.Interface.{takes, written_effects, LoggedBy, effect_logged, machine_changes_by_effects, current_to_machine}
-use Rattle.machine_effects.proofs.Interface.{step_leaves_it_whole, words_stay_words, boundary_keeps_words, told_effects, step_accepts_by_sends}
+use Rattle.machine_effects.proofs.Interface.{step_leaves_it_whole, words_stay_words, boundary_whole, boundary_words, told_effects, step_accepts_by_sends}
 use Rattle.crash_rules.specs.Model.{Marks}
 use Rattle.crash_rules.specs.History.{History}
 use Rattle.crash_rules.proofs.Interface.{observed_taken, events_of_instructions}
-use Rattle.run_charges.specs.View.{outside_of, outside_effects, IsMachines, AreMoments}
-use Rattle.run_charges.specs.Charges.{ArePowerStates, IsInstruction, AreInstructionMoments}
+use Rattle.run_charges.specs.View.{outside_of, outside_effects, AreMoments}
+use Rattle.run_charges.specs.Charges.{ArePowerStates, AreInstructionMoments}
 
 -- the board behind the moments of a charge that is spent
 pub charge_last : (m : Measure) (left : ℕ) (b : BoardValue) (r : RunOutcome) → ChargeRun m left b r → r.ending ≡ Charges → last_board b r.moments ≡ r.board
@@ -54,7 +54,7 @@ charge_instructs m left b r (Refused _ _ n e pos c paid a) = tt
 charge_instructs m left b r (run.Executed _ _ n done rest pos c paid a h) =
     (tt, charge_instructs m (left - price m n) (at_boundary (performed b n).board) rest h)
 
-are-append : (b : BoardValue) (ms ns : List Moment) → AreMoments b ms → AreMoments (last_board b ms) ns → AreMoments b (ms ++ ns)
+pub are-append : (b : BoardValue) (ms ns : List Moment) → AreMoments b ms → AreMoments (last_board b ms) ns → AreMoments b (ms ++ ns)
 are-append b [] ns h k = k
 are-append b (m ∷ ms) ns h k = (h.0, h.1, are-append m.after ms ns h.2 k)
 
@@ -137,10 +137,6 @@ heard_count (Outside (Offered n w) ∷ es) r ws e =
 at_most : (t n k : ℕ) → t ≤ n → n ≡ k → t ≤ k
 at_most t n k h e = omega arith
 
-boundary_whole : (b : BoardValue) → IsWhole b → IsWhole (at_boundary b)
-boundary_whole b h =
-    let g = h.board in record { board = record { fram = g.fram; ram = g.ram; taken = g.taken; few = g.few }; registers = h.registers }
-
 -- what an instruction does that is made, as the machine does
 module _ (b : BoardValue) (whole : IsWhole b) (i : Instr) (done : Stepped) (current : IsNextInstruction b i) (answer : (executed b i).answer ≡ Ok done)
     (own : IsMachines b i) where
@@ -177,9 +173,7 @@ module _ (b : BoardValue) (whole : IsWhole b) (i : Instr) (done : Stepped) (curr
 
   -- the board holds words behind it
   pub words_after : IsOfWords b → IsOfWords after
-  words_after w =
-      (boundary_keeps_words (executed b i).board (step_leaves_it_whole b (executed b i) whole is_step)
-      (words_stay_words b (executed b i) whole w is_step)).1
+  words_after w = boundary_words (executed b i).board (words_stay_words b (executed b i) whole w is_step)
 
   -- FRAM changes as what is told says
   pub fram_changed : (outside_of after).fram ≡ fram_after told (outside_of b).fram

@@ -1,16 +1,15 @@
 -- A run of a program that stands in FRAM reads nothing of EVENT.
-use Rattle.std.proofs.Common.{◌≡◌, ℕ, ◌-◌, refl, sym, ap, ◌∙◌, subst, List, [], ◌∷◌, All, Option, Result, Ok, Err}
+use Rattle.std.proofs.Common.{◌≡◌, ℕ, ◌-◌, sym, ap, ◌∙◌, subst, List, [], ◌∷◌, All, Option}
 use Rattle.std.proofs.lemmas.List.Elements.{All-nil, All-cons}
-use Rattle.msp_isa.specs.declared.instructions.Instr.{Instr}
 use Rattle.fram_board.specs.declared.board.NextStep.TheVariants as next_step
 use Rattle.fram_board.specs.declared.board.Stepped.{Stepped}
 use Rattle.fram_board.specs.declared.events.Heard.{Heard}
 use Rattle.fram_board.specs.declared.events.Heard.TheVariants as heard
 use Rattle.fram_board.specs.Board.{BoardValue, powered, executed, at_boundary}
-use Rattle.fram_board.specs.Run.{Measure, price, Action, PowerUp, Execute, Moment, moment_of, Charges, Stopped, RunOutcome, run_outcome, BoardCharge}
+use Rattle.fram_board.specs.Run.{Measure, price, Action, PowerUp, Execute, Moment, Charges, Stopped, RunOutcome, run_outcome, BoardCharge}
 use Rattle.fram_board.specs.Run.{Run, Over, Next, Last, StepKind}
 use Rattle.fram_board.specs.Run.{ChargeRun, Spent, NoInstruction, TooDear, Refused, Executed}
-use Rattle.machine_effects.proofs.Interface.{boundary_hears_nothing, power_up_hears_nothing, told_heard}
+use Rattle.machine_effects.proofs.Interface.{boundary_heard, powered_heard, told_heard}
 use Rattle.crash_rules.specs.History.{History, behind_boot}
 use Rattle.run_charges.specs.View.{IsMomentFrom, PowersUp, Instructs, AreMoments}
 use Rattle.run_charges.specs.Charges.{ArePowerStates, observed}
@@ -28,11 +27,11 @@ module _ (said : Action → Heard) (up : said PowerUp ≡ heard.Nothing)
     (step : (kind : StepKind) (done : Stepped) (offered : Option ℕ) → said (Execute kind done offered) ≡ done.heard) where
   moment_silent : (b : BoardValue) (m : Moment) → IsSilent b → IsMomentFrom b m → (said m.action ≡ heard.Nothing) × IsSilent m.after
   moment_silent b m silent (PowersUp p ok e) =
-      let P : Moment → Type 0 = λ y. (said y.action ≡ heard.Nothing) × IsSilent y.after in subst P (sym e) (up, power_up_hears_nothing b p)
+      let P : Moment → Type 0 = λ y. (said y.action ≡ heard.Nothing) × IsSilent y.after in subst P (sym e) (up, powered_heard b p)
   moment_silent b m silent (Instructs i done c a same e) =
       let P : Moment → Type 0 = λ y. (said y.action ≡ heard.Nothing) × IsSilent y.after in
       subst P (sym e)
-      (step _ done _ ∙ told_heard b (next_step.Instruction i) done a ∙ ap (λ q. q.heard) same.line ∙ silent, boundary_hears_nothing (executed b i).board)
+      (step _ done _ ∙ told_heard b (next_step.Instruction i) done a ∙ ap (λ q. q.heard) same.line ∙ silent, boundary_heard (executed b i).board)
 
   -- moments read nothing
   pub moments_hear_nothing : (b : BoardValue) (ms : List Moment) → IsSilent b → AreMoments b ms → All (λ m. said m.action ≡ heard.Nothing) ms
@@ -51,7 +50,7 @@ module _ (on : PlacedProgram) where
   charge_silent m left b r run silent (Executed _ _ next_step.Acceptance done rest pos c paid a h) = absurd (none_accepted on b run c)
   charge_silent m left b r run silent (Executed _ _ (next_step.Instruction i) done rest pos c paid a h) =
       charge_silent m (left - price m (next_step.Instruction i)) (at_boundary (executed b i).board) rest (runs_on on b run i c.1 done a)
-      (boundary_hears_nothing (executed b i).board) h
+      (boundary_heard (executed b i).board) h
 
   -- nor does the step that stops a run
   pub run_silent : (cs : List BoardCharge) (b : BoardValue) (h : History) (r : RunOutcome) → Ready on b h → IsSilent b → ArePowerStates cs → Run cs b r
@@ -60,9 +59,9 @@ module _ (on : PlacedProgram) where
   run_silent cs b h r ready silent ok (Next c ds _ ms end rest one more) =
       let start = first_start c ds ok in
       let up = powered b c.start in
-      let next = charge_silent c.measure c.amount up (run_outcome ms Charges end) (running on b h ready c.start start) (power_up_hears_nothing b c.start) one in
+      let next = charge_silent c.measure c.amount up (run_outcome ms Charges end) (running on b h ready c.start start) (powered_heard b c.start) one in
       run_silent ds end (observed on.marks ms (behind_boot h)) rest (spent_ready on b h ready c start ms end one) next (other_starts c ds ok) more
   run_silent cs b h r ready silent ok (Last c ds _ ms stop end one) =
       let start = first_start c ds ok in
       charge_silent c.measure c.amount (powered b c.start) (run_outcome ms (Stopped stop) end) (running on b h ready c.start start)
-      (power_up_hears_nothing b c.start) one
+      (powered_heard b c.start) one

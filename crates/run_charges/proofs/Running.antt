@@ -1,5 +1,5 @@
 -- A board on which a program that stands in FRAM runs: its instructions are the program's steps, it accepts no interrupt, and EVENT is left alone.
-use Rattle.std.proofs.Common.{◌≡◌, ◌-◌, ◌%◌, ◌⊎◌, ⊎_elim, ℕ, zero, suc, refl, sym, ap, ◌∙◌, subst, true, false, List, [], ◌∷◌, ◌++◌, length, Ok, Err}
+use Rattle.std.proofs.Common.{◌≡◌, ◌-◌, ⊎_elim, ℕ, suc, refl, sym, ap, ◌∙◌, subst, true, false, List, [], ◌∷◌, length, Ok}
 use Rattle.std.proofs.lemmas.Bool.{and_parts}
 use Rattle.msp_isa.specs.declared.instructions.Instr.{Instr}
 use Rattle.msp_step.specs.declared.machine.Stop.TheVariants as stop
@@ -14,7 +14,7 @@ use Rattle.fram_board.specs.Run.{Measure, price, Moment, moment_of, RunOutcome, 
 use Rattle.machine_effects.specs.World.{fram_after, EachStore}
 use Rattle.machine_effects.specs.Going.{Goes, Stops, At, Halted, stretch, after_effects, continued, going}
 use Rattle.machine_effects.specs.Machine.{MachineBoard, MachineOutcome, MachineStretch, IsMachineStep, machine_executed, exec}
-use Rattle.machine_effects.specs.View.{IsWhole, IsOfWords, IsAtEvent}
+use Rattle.machine_effects.specs.View.{IsWhole, IsOfWords, IsAtEvent, IsMachines}
 use Rattle.machine_effects.specs.Runs.{moments_effects, moments_cycles, last_board}
 use Rattle.machine_effects.proofs.Interface.{fram_after-append, each_store-front, each_store-back, executed_same, current_to_machine}
 use Rattle.code_forms.specs.Placed.{placed, words_of, Holds, LeavesCode, IsOutside}
@@ -22,7 +22,7 @@ use Rattle.code_forms.specs.Laws.{IsNoHole}
 use Rattle.code_forms.proofs.Interface.{holds_stores, code_in_fram_steps, code_goes_undisturbed}
 use Rattle.crash_rules.specs.Model.{Marks}
 use Rattle.crash_rules.specs.Runs.{Program}
-use Rattle.run_charges.specs.View.{outside_of, Follows, IsMachines, IsMomentFrom, PowersUp, Instructs, AreMoments}
+use Rattle.run_charges.specs.View.{outside_of, Follows, IsMomentFrom, PowersUp, Instructs, AreMoments}
 use Rattle.run_charges.specs.Charges.{IsInstruction, AreInstructionMoments, IsPlacedProgram}
 use Rattle.run_charges.proofs.View.{no_gap}
 use Rattle.run_charges.proofs.Moments.{told, same_step, whole_after, words_after, fram_changed}
@@ -106,8 +106,7 @@ module _ (on : PlacedProgram) where
       pub own : IsMachines b i
       own =
           ⊎_elim {C = IsMachines b i} (λ at. absurd (unheard (outside_of b) (machine_executed (outside_of b) i) (run.leaves 1) (sym made) at))
-          (λ o. record { step = o.0; line = o.1 })
-          (executed_same b i run.whole)
+          (λ o. o) (executed_same b i run.whole)
 
       module _ (done : Stepped) (answer : (executed b i).answer ≡ Ok done) where
         abbrev next : BoardValue

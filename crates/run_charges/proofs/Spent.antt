@@ -1,20 +1,19 @@
 -- A charge of cycles that is spent is spent by the program too.
-use Rattle.std.proofs.Common.{◌≡◌, ℕ, ◌+◌, ◌-◌, ◌≤◌, ◌<◌, ◌⊎◌, refl, sym, ap, ◌∙◌, subst, arith, inl, inr, List, [], ◌∷◌, ◌++◌, length, Option, Ok}
+use Rattle.std.proofs.Common.{◌≡◌, ℕ, ◌-◌, ◌≤◌, ◌<◌, ◌⊎◌, refl, sym, ap, ◌∙◌, subst, arith, inl, inr, List, [], ◌∷◌, ◌++◌, length, Option}
 use Rattle.msp_isa.specs.declared.instructions.Instr.{Instr}
 use Rattle.msp_cycles.specs.Cycles.{cycles_of}
 use Rattle.msp_step.specs.Registers.{Registers}
 use Rattle.msp_step.specs.Access.{Access, Completed, Faulted}
 use Rattle.msp_step.specs.Effect.{Written}
-use Rattle.msp_step.specs.Step.{effect, outcome_of}
+use Rattle.msp_step.specs.Step.{effect}
 use Rattle.fram_board.specs.declared.board.NextStep.TheVariants as next_step
-use Rattle.fram_board.specs.declared.board.Stepped.{Stepped}
-use Rattle.fram_board.specs.Bus.{BusState, board_bus}
-use Rattle.fram_board.specs.Board.{BoardValue, powered, opened, board_outcome, executed, at_boundary, IsNextInstruction}
+use Rattle.fram_board.specs.Board.{BoardValue, powered, executed, at_boundary, IsNextInstruction}
 use Rattle.fram_board.specs.Steps.{IsPowerState}
 use Rattle.fram_board.specs.Run.{Cycles, Moment, moment_of, Charges, RunOutcome, run_outcome, BoardCharge}
 use Rattle.fram_board.specs.Run.{ChargeRun, Spent, NoInstruction, TooDear, Refused, Executed}
 use Rattle.machine_effects.specs.Going.{Goes, Stops, At, stretch, going}
 use Rattle.machine_effects.specs.Machine.{MachineBus, MachineBoard, MachineOutcome, machine_outcome, machine_bus, machine_opened, machine_executed}
+use Rattle.machine_effects.proofs.Interface.{told_cycles}
 use Rattle.machine_effects.specs.Runs.{action_cycles, moments_effects, moments_cycles, last_board}
 use Rattle.crash_rules.specs.History.{History, observe, behind_boot}
 use Rattle.crash_rules.specs.Runs.{Charge, Charged, IsSpent, Spends}
@@ -37,15 +36,6 @@ outcome_priced pc n (Faulted e a t) = refl
 -- an instruction takes its cycles
 executed_priced : (s : MachineBoard) (i : Instr) → IsPriced (cycles_of i) (machine_executed s i)
 executed_priced s i = outcome_priced (s.registers 0) (cycles_of i) (effect machine_bus i s.registers (machine_opened s))
-
-answer_cycles : (b : BoardValue) (i : Instr) (m : Access BusState (Registers × Option Written)) (done : Stepped)
-    → (board_outcome b (outcome_of i (registers_of b.cpu) m)).answer ≡ Ok done → done.cycles ≡ cycles_of i
-answer_cycles b i (Completed x s) done e = cc
-answer_cycles b i (Faulted f a s) done e = cc
-
--- the cycles that an instruction took
-told_cycles : (b : BoardValue) (i : Instr) (done : Stepped) → (executed b i).answer ≡ Ok done → done.cycles ≡ cycles_of i
-told_cycles b i done e = answer_cycles b i (effect board_bus i (registers_of b.cpu) (opened b)) done e
 
 -- a charge is spent where nothing is left, or less than the next step takes
 none_left : (left : ℕ) (o : MachineOutcome) → left ≡ 0 → IsSpent left o
@@ -74,10 +64,10 @@ uses_more left c m ms end e fits more =
 
 module _ (on : PlacedProgram) where
   charge_used : (left : ℕ) (b : BoardValue) (r : RunOutcome) → Running on b → ChargeRun Cycles left b r → r.ending ≡ Charges → Uses left r.moments r.board
-  charge_used left b r run (Spent _ _ none) e = record { within = omega arith; used = inl none }
+  charge_used left b r run (Spent _ _ none) e = record { within = omega arith; used = inl (omega (arith, none)) }
   charge_used left b r run (NoInstruction _ _ x pos h) e = absurd cc
   charge_used left b r run (TooDear _ _ next_step.Acceptance pos c dear) e = absurd (none_accepted on b run c)
-  charge_used left b r run (TooDear _ _ (next_step.Instruction i) pos c dear) e = record { within = omega arith; used = inr (i, c.1, dear) }
+  charge_used left b r run (TooDear _ _ (next_step.Instruction i) pos c dear) e = record { within = omega arith; used = inr (i, c.1, omega (arith, dear)) }
   charge_used left b r run (Refused _ _ n x pos c paid a) e = absurd cc
   charge_used left b r run (Executed _ _ next_step.Acceptance done rest pos c paid a h) e = absurd (none_accepted on b run c)
   charge_used left b r run (Executed _ _ (next_step.Instruction i) done rest pos c paid a h) e =

@@ -1,27 +1,20 @@
 -- The charge in which a run stops.
-use Rattle.std.proofs.Common.{◌≡◌, ℕ, ◌+◌, ◌-◌, suc, refl, sym, ap, ◌∙◌, subst, List, [], ◌∷◌, ◌++◌, append_assoc, append-nil, length, map, slice_range, Option, None, Err}
+use Rattle.std.proofs.Common.{◌≡◌, ℕ, ◌+◌, ◌-◌, suc, refl, sym, ap, ◌∙◌, subst, List, [], ◌∷◌, ◌++◌, append_assoc, length, map, Err}
 use Rattle.msp_isa.specs.declared.instructions.Instr.{Instr}
 use Rattle.msp_cycles.specs.Cycles.{cycles_of}
 use Rattle.msp_step.specs.declared.machine.Stop.{Stop}
-use Rattle.msp_step.specs.Registers.{Registers, registers_of}
-use Rattle.msp_step.specs.Access.{Access, Completed, Faulted}
-use Rattle.msp_step.specs.Effect.{Written}
-use Rattle.msp_step.specs.Step.{effect, outcome_of}
-use Rattle.fram_board.proofs.msp_step.Interface.{Ends, effect_ends}
 use Rattle.fram_board.specs.declared.board.NextStep.TheVariants as next_step
-use Rattle.fram_board.specs.Bus.{BusState, board_bus}
-use Rattle.fram_board.specs.Board.{BoardValue, BoardOutcome, powered, opened, board_outcome, executed, at_boundary, IsStoppedBy, IsNextInstruction}
-use Rattle.fram_board.proofs.Interface.{only_takes}
+use Rattle.fram_board.specs.Board.{BoardValue, powered, executed, at_boundary, IsStoppedBy, IsNextInstruction}
 use Rattle.fram_board.specs.Steps.{IsPowerState}
-use Rattle.fram_board.specs.Effects.{Effect, Take, sends_of, effects_of}
-use Rattle.fram_board.specs.Run.{Measure, price, Moment, moment_of, Stopped, RunOutcome, run_outcome, BoardCharge, Run, Over, Next, Last, power_up_of}
+use Rattle.fram_board.specs.Effects.{Effect, Take, effects_of}
+use Rattle.fram_board.specs.Run.{Measure, price, Moment, Stopped, RunOutcome, run_outcome, BoardCharge, Run, Over, Next, Last, power_up_of}
 use Rattle.fram_board.specs.Run.{ChargeRun, Spent, NoInstruction, TooDear, Refused, Executed}
 use Rattle.machine_effects.specs.World.{EachStore}
 use Rattle.machine_effects.specs.Going.{Stops, Halted, stretch, after_effects, continued, going}
 use Rattle.machine_effects.specs.Machine.{MachineBoard, MachineOutcome}
 use Rattle.machine_effects.specs.View.{machine_of, outcome_of_answer}
 use Rattle.machine_effects.specs.Runs.{moments_effects, moments_cycles}
-use Rattle.machine_effects.proofs.Interface.{takes, stopped_to_machine}
+use Rattle.machine_effects.proofs.Interface.{takes, left_of, stopped_to_machine}
 use Rattle.crash_rules.specs.Model.{IsElsewhere, Marks}
 use Rattle.crash_rules.specs.History.{History, observe, behind_boot}
 use Rattle.crash_rules.proofs.Interface.{observe-append, observe_quiet, with_effects}
@@ -48,26 +41,6 @@ taken_more marks es ws h =
     let all : observe marks (es ++ fs) h ≡ with_effects fs (observe marks es h) =
     observe-append marks es fs h ∙ observe_quiet marks fs (observe marks es h) (takes_elsewhere marks.gate ws) in
     record { completed = ap (λ k. k.completed) all; since = ap (λ k. k.since) all }
-
--- what a stopped instruction leaves
-record Left (b : BoardValue) (x : BoardOutcome) : Type 0 where
-  pub words : List ℕ
-  pub effects : effects_of b x ≡ takes words
-
-stopped_left : (b : BoardValue) (i : Instr) (m : Access BusState (Registers × Option Written)) (e : Stop) → Ends board_bus 2 (opened b) m
-    → (board_outcome b (outcome_of i (registers_of b.cpu) m)).answer ≡ Err e → Left b (board_outcome b (outcome_of i (registers_of b.cpu) m))
-stopped_left b i (Completed x s) e h a = absurd cc
-stopped_left b i (Faulted f c s) e h a =
-    let g = only_takes 2 (opened b) s h in
-    let off : s.offered ≡ None = ap (λ y. y.offered) g.same in
-    let ws = slice_range b.readings b.taken s.taken in
-    record {
-      words = ws;
-      effects = ap (λ o. takes ws ++ sends_of b.outnum o) off ∙ append-nil (takes ws);
-    }
-
-left_of : (b : BoardValue) (i : Instr) (e : Stop) → (executed b i).answer ≡ Err e → Left b (executed b i)
-left_of b i e a = stopped_left b i (effect board_bus i (registers_of b.cpu) (opened b)) e (effect_ends board_bus i (registers_of b.cpu) (opened b)) a
 
 module _ (on : PlacedProgram) where
   abbrev step : MachineBoard → MachineOutcome

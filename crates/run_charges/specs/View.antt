@@ -3,15 +3,15 @@
 -- instructions leave them alone. What is to run on a board beside its program, or to reach it between two steps, is said here.
 use Rattle.std.specs.Prelude.{◌≡◌, List, [], ◌∷◌, Ok}
 use Rattle.msp_isa.specs.declared.instructions.Instr.{Instr}
-use Rattle.msp_cycles.specs.Cycles.{cycles_of}
 use Rattle.fram_board.specs.declared.board.NextStep.TheVariants as next_step
 use Rattle.fram_board.specs.declared.board.Stepped.{Stepped}
 use Rattle.fram_board.specs.Board.{BoardValue, PowerState, executed, IsNextInstruction}
 use Rattle.fram_board.specs.Steps.{IsPowerState}
 use Rattle.fram_board.specs.Effects.{Effect}
 use Rattle.fram_board.specs.Run.{PowerUp, Moment, moment_of, power_up_of}
-use Rattle.machine_effects.specs.Machine.{MachineBoard, machine_executed}
-use Rattle.machine_effects.specs.View.{machine_of, machine_outcome_of, IsWhole, IsOfWords}
+use Rattle.machine_effects.specs.Machine.{MachineBoard}
+use Rattle.machine_effects.specs.View.{machine_of, IsWhole, IsOfWords}
+pub use Rattle.machine_effects.specs.View.{IsMachines}
 use Rattle.machine_effects.specs.Runs.{action_effects}
 
 -- the machine that a board is to its program
@@ -25,11 +25,6 @@ outside_effects m = action_effects m.action m.before m.after
 -- the next moment begins on the board that the last one left, but for what came from outside in between: nothing
 pub record Follows (left next : BoardValue) : Type 0 where
   pub same : next ≡ left
-
--- an instruction of a board does as the machine's, which has no port EVENT, and leaves the events as they are
-pub record IsMachines (b : BoardValue) (i : Instr) : Type 0 where
-  pub step : machine_executed (machine_of b) i ≡ machine_outcome_of b (executed b i) (cycles_of i)
-  pub line : (executed b i).board.line ≡ b.line
 
 -- a moment that may begin on this board, of a program that leaves the port EVENT alone and accepts no interrupt
 pub data IsMomentFrom (b : BoardValue) (m : Moment) : Type 0 where

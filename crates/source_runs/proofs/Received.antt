@@ -94,7 +94,7 @@ told_counted b s (Err x) done e = cc
 moment_counted : (b : BoardValue) (m : Moment) → IsMomentFrom b m → m.after.receiver.accepted ≡ b.receiver.accepted + length (accepted_by m.action)
 moment_counted b m (PowersUp p ok e) =
     let P : Moment → Type 0 = λ y. y.after.receiver.accepted ≡ b.receiver.accepted + length (accepted_by y.action) in subst P (sym e) (omega arith)
-moment_counted b m (Instructs i done c a same e) =
+moment_counted b m (Instructs i done c a own e) =
     let P : Moment → Type 0 = λ y. y.after.receiver.accepted ≡ b.receiver.accepted + length (accepted_by y.action) in
     let o = execution board_bus i (registers_of b.cpu) (opened b) in
     subst P (sym e) (told_counted b o.bus o.answer done a)

@@ -14,6 +14,7 @@ use Rattle.board_run.specs.History.{noted, is_done, word_in}
 use Rattle.board_run.specs.History as board
 use Rattle.board_run.specs.Report.{after_all}
 use Rattle.machine_effects.specs.World.{World}
+use Rattle.machine_effects.specs.View.{IsMachines}
 use Rattle.machine_effects.specs.Runs.{last_board}
 use Rattle.crash_rules.specs.Model.{Marks}
 use Rattle.crash_rules.specs.History.{History, is_decide, behind_decide, behind_done, behind_gate, first_history}
@@ -61,14 +62,14 @@ module _ (m : MapValue) (x : World) (ok : IsMap m) where
   Adds h k o = committed_by (behind_moment marks o k).completed ≡ committed_by k.completed ++ spans_by m h o.action o.after
 
   instruction_adds : (b : BoardValue) (h : board.History) (k : History) → Together m x b h k → (i : Instr) (done : Stepped) → IsNextInstruction b i
-      → (executed b i).answer ≡ Ok done → Adds h k (moment_of b (next_step.Instruction i) done)
-  instruction_adds b h k t i done current answer =
+      → (executed b i).answer ≡ Ok done → IsMachines b i → Adds h k (moment_of b (next_step.Instruction i) done)
+  instruction_adds b h k t i done current answer own =
       let after = at_boundary (executed b i).board in
       let moved = with_effects (outside_effects (moment_of b (next_step.Instruction i) done)) k in
       let before : ℕ = k.world.fram gate in
       let now : ℕ = word_in after.fram gate in
       let a = t.same.alike in
-      ap (λ y. committed_by y.completed) (observed_so m x ok b h k t i done current answer)
+      ap (λ y. committed_by y.completed) (observed_so m x ok b h k t i done current answer own)
       ∙ event_adds before now moved
       ∙ ap₂ (λ p q. committed_by k.completed ++ span_if (is_done before now) p q) (sym a.span_from) (sym a.span_to)
       ∙ ap (λ g. committed_by k.completed ++ span_if (is_done g now) h.span_from h.span_to) (sym t.same.gate)
@@ -76,8 +77,8 @@ module _ (m : MapValue) (x : World) (ok : IsMap m) where
   moment_adds : (b : BoardValue) (h : board.History) (k : History) → Together m x b h k → (o : Moment) → IsMomentFrom b o → Adds h k o
   moment_adds b h k t o (PowersUp p start e) =
       let P : Moment → Type 0 = λ y. Adds h k y in subst P (sym e) (sym (append-nil (committed_by k.completed)))
-  moment_adds b h k t o (Instructs i done c a same e) =
-      let P : Moment → Type 0 = λ y. Adds h k y in subst P (sym e) (instruction_adds b h k t i done c a)
+  moment_adds b h k t o (Instructs i done c a own e) =
+      let P : Moment → Type 0 = λ y. Adds h k y in subst P (sym e) (instruction_adds b h k t i done c a own)
 
   -- and behind all of them
   moments_add : (b : BoardValue) (h : board.History) (k : History) (ms : List Moment) → Together m x b h k → AreMoments b ms
