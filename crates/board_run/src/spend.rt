@@ -123,7 +123,7 @@ fn accept<S: Sink>(
     ensures cause { HasCause (S.faults report.old.sink.now) (S.faults report.new.sink.now) result }
 {
     let price = acceptance_price(kind);
-    if price > left {
+    if left < price {
         return Ok(Turn::Spent);
     }
     let (to, below) = board.cpu().return_places();

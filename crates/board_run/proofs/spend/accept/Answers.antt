@@ -11,15 +11,15 @@ use Rattle.board_run.proofs.Tallies.{step_tallied}
 use Rattle.board_run.proofs.Turns.{too_dear, refused, turned, turned_partly, IsMade, IsNoted}
 use Rattle.board_run.proofs.spend.accept.Goals as goal
 
-pub returns-then-price-left-clause-turn : goal.returns-then-price-left-clause-turn
-returns-then-price-left-clause-turn g c = too_dear (measure_of c.args.kind) c.args.left c.args.board.now Acceptance _ _ c.requires.some c.requires.next
-    (omega (arith, c.if-price-left.true, c.acceptance_price-price.ensures))
+pub returns-then-left-price-clause-turn : goal.returns-then-left-price-clause-turn
+returns-then-left-price-clause-turn g c = too_dear (measure_of c.args.kind) c.args.left c.args.board.now Acceptance _ _ c.requires.some c.requires.next
+    (omega (arith, c.if-left-price.true, c.acceptance_price-price.ensures))
 
 pub returns-in-Err-clause-turn : goal.returns-in-Err-clause-turn
 returns-in-Err-clause-turn g c =
     refused (measure_of c.args.kind) c.args.left c.args.board.now c.perform.new.self Acceptance c.in-Err.stop _ _
     c.requires.some c.requires.next
-    (omega (arith, c.if-price-left.false, c.acceptance_price-price.ensures)) (sym c.perform.ensures.answer ∙ c.in-Err.is)
+    (omega (arith, c.if-left-price.false, c.acceptance_price-price.ensures)) (sym c.perform.ensures.answer ∙ c.in-Err.is)
     (c.perform.ensures.board ∙ ap (λ r. board_behind r (acceptance c.args.board.now).board) c.in-Err.is) c.in-Err.ensures.stopped
 
 pub returns-in_err-note-clause-turn : goal.returns-in_err-note-clause-turn
@@ -28,7 +28,7 @@ returns-in_err-note-clause-turn g c =
     let made : IsMade (measure_of c.args.kind) c.args.left b c.perform.new.self Acceptance c.in-Ok.done = record {
       some = c.requires.some;
       next = c.requires.next;
-      paid = omega (arith, c.if-price-left.false, c.acceptance_price-price.ensures);
+      paid = omega (arith, c.if-left-price.false, c.acceptance_price-price.ensures);
       answer = sym c.perform.ensures.answer ∙ c.in-Ok.is;
       board = c.perform.ensures.board ∙ ap (λ r. board_behind r (acceptance b).board) c.in-Ok.is;
     } in
@@ -43,7 +43,7 @@ returns-clause-turn g c =
     let made : IsMade (measure_of c.args.kind) c.args.left b after Acceptance c.in-Ok.done = record {
       some = c.requires.some;
       next = c.requires.next;
-      paid = omega (arith, c.if-price-left.false, c.acceptance_price-price.ensures);
+      paid = omega (arith, c.if-left-price.false, c.acceptance_price-price.ensures);
       answer = sym c.perform.ensures.answer ∙ c.in-Ok.is;
       board = c.perform.ensures.board ∙ ap (λ r. board_behind r (acceptance b).board) c.in-Ok.is;
     } in
