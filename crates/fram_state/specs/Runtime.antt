@@ -1,8 +1,10 @@
 -- What the words of a FRAM hold.
 use Rattle.std.specs.Prelude.{ℕ, List, take, drop, slice_index}
 use Rattle.image_text.specs.image_map.declared.parts.RuntimeWords.{RuntimeWords}
+use Rattle.image_text.specs.image_map.declared.parts.RingPlaces.{RingPlaces}
 use Rattle.image_text.specs.ImageValue.{place_of}
 use Rattle.fram_state.specs.declared.runtime.Runtime.{Runtime}
+use Rattle.fram_state.specs.declared.runtime.Ring.{Ring}
 
 -- the word at an address
 abbrev pub word_in : List ℕ → ℕ → ℕ
@@ -24,3 +26,8 @@ runtime_of w words = record {
   sent_base = word_in words w.sent_base;
   version = word_in words w.version;
 }
+
+-- what the indexes of a ring hold
+abbrev pub ring_of : RingPlaces → List ℕ → Ring
+ring_of places words =
+    record { head = word_in words places.head; tail = word_in words places.tail; sent_tail = word_in words places.sent_tail }

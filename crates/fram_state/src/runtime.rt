@@ -1,10 +1,10 @@
 //! What the words of a FRAM hold.
 ghost use Rattle.std.specs.Prelude.{◌≡◌, ◌≤◌, ◌*◌, ◌/◌, ◌-◌, length};
 ghost use Rattle.image_text.specs.address_space.Limits.{IsFramWord, fram_words};
-ghost use Rattle.image_text.specs.image_map.MapValue.{AreFramWords};
-ghost use Rattle.fram_state.specs.Runtime.{word_in, words_from, runtime_of};
+ghost use Rattle.image_text.specs.image_map.MapValue.{AreFramWords, IsRing};
+ghost use Rattle.fram_state.specs.Runtime.{word_in, words_from, runtime_of, ring_of};
 
-use image_text::RuntimeWords;
+use image_text::{RingPlaces, RuntimeWords};
 use image_text::address_space::fram_index;
 
 /// What the words of the runtime hold.
@@ -18,6 +18,14 @@ pub struct Runtime {
     pub base: u16,
     pub sent_base: u16,
     pub version: u16,
+}
+
+/// What the indexes of a ring of events hold.
+#[derive(Clone, Copy)]
+pub struct Ring {
+    pub head: u16,
+    pub tail: u16,
+    pub sent_tail: u16,
 }
 
 /// The word at an address.
@@ -55,5 +63,18 @@ pub fn runtime_of(places: RuntimeWords, words: &[u16]) -> Runtime
         base: word_in(words, places.base),
         sent_base: word_in(words, places.sent_base),
         version: word_in(words, places.version),
+    }
+}
+
+/// What the indexes of a ring hold.
+pub fn ring_of(places: RingPlaces, words: &[u16]) -> Ring
+    requires all { length words.now ≡ fram_words }
+    requires places { IsRing places }
+    ensures { result ≡ ring_of places words.now }
+{
+    Ring {
+        head: word_in(words, places.head),
+        tail: word_in(words, places.tail),
+        sent_tail: word_in(words, places.sent_tail),
     }
 }
