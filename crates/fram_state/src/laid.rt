@@ -116,6 +116,7 @@ fn put_variables<'a>(
 }
 
 // Writes the slots, TAIL and HEAD of an old ring over those of a new one.
+#[tactic(auto, using(crate::proofs::Ring::slots_fit))]
 fn put_ring(new: RingPlaces, old: RingPlaces, from: &[u16], words: &mut [u16])
     requires new { IsRing new }
     requires old { IsRing old }

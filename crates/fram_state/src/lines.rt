@@ -155,9 +155,10 @@ fn are_planned(
 }
 
 // Whether a source has a ring: where it uses events, which none does yet.
-fn has_ring(_: &CheckedSource) -> bool
-    ensures { (p : CheckedProgram) → result ≡ has_ring p }
+fn has_ring(source: &CheckedSource) -> bool
+    ensures { result ≡ has_ring (program_of source.now) }
 {
+    let _ = source;
     false
 }
 
