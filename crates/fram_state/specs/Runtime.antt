@@ -1,5 +1,5 @@
 -- What the words of a FRAM hold.
-use Rattle.std.specs.Prelude.{ℕ, List, take, drop, slice_index}
+use Rattle.std.specs.Prelude.{ℕ, ◌+◌, ◌-◌, ◌%◌, List, take, drop, slice_index}
 use Rattle.image_text.specs.image_map.declared.parts.RuntimeWords.{RuntimeWords}
 use Rattle.image_text.specs.image_map.declared.parts.RingPlaces.{RingPlaces}
 use Rattle.image_text.specs.ImageValue.{place_of}
@@ -27,7 +27,9 @@ runtime_of w words = record {
   version = word_in words w.version;
 }
 
--- what the indexes of a ring hold
+-- what waits in a ring, from TAIL up to HEAD, and what of that a commit takes, up to SE: the indexes count on modulo 65536
 abbrev pub ring_of : RingPlaces → List ℕ → Ring
-ring_of places words =
-    record { head = word_in words places.head; tail = word_in words places.tail; sent_tail = word_in words places.sent_tail }
+ring_of places words = record {
+  waiting = (word_in words places.head + 65536 - word_in words places.tail) % 65536;
+  taken = (word_in words places.sent_tail + 65536 - word_in words places.tail) % 65536;
+}

@@ -47,14 +47,9 @@ are_entries m es room = list_all (is_entry m) es && nat_le (words_of es) room
 
 -- ---- the ring of events
 
--- how many words of a ring stand from one index up to another; indexes count on modulo 65536
-abbrev pub words_between : ℕ → ℕ → ℕ
-words_between from to = (to + 65536 - from) % 65536
-
--- whether no more words wait from TAIL to HEAD than there are slots, and a pending commit, which sets TAIL to SE, takes none but such words
+-- whether no more words wait than there are slots, and a pending commit takes none but these
 abbrev pub is_ring : Ring → (pending : Bool) → Bool
-is_ring r pending =
-    nat_le (words_between r.tail r.head) ring_words && (not pending || nat_le (words_between r.tail r.sent_tail) (words_between r.tail r.head))
+is_ring r pending = nat_le r.waiting ring_words && (not pending || nat_le r.taken r.waiting)
 
 -- the same of a map that may have no ring: then nothing is asked
 abbrev pub is_ring_at : Option RingPlaces → List ℕ → (pending : Bool) → Bool

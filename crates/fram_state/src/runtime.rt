@@ -20,12 +20,11 @@ pub struct Runtime {
     pub version: u16,
 }
 
-/// What the indexes of a ring of events hold.
+/// How many words of a ring of events wait, from TAIL up to HEAD, and how many a commit takes, up to SE.
 #[derive(Clone, Copy)]
 pub struct Ring {
-    pub head: u16,
-    pub tail: u16,
-    pub sent_tail: u16,
+    pub waiting: u16,
+    pub taken: u16,
 }
 
 /// The word at an address.
@@ -66,15 +65,15 @@ pub fn runtime_of(places: RuntimeWords, words: &[u16]) -> Runtime
     }
 }
 
-/// What the indexes of a ring hold.
+/// What waits in a ring.
 pub fn ring_of(places: RingPlaces, words: &[u16]) -> Ring
     requires all { length words.now ≡ fram_words }
     requires places { IsRing places }
     ensures { result ≡ ring_of places words.now }
 {
+    let tail = word_in(words, places.tail);
     Ring {
-        head: word_in(words, places.head),
-        tail: word_in(words, places.tail),
-        sent_tail: word_in(words, places.sent_tail),
+        waiting: word_in(words, places.head).wrapping_sub(tail),
+        taken: word_in(words, places.sent_tail).wrapping_sub(tail),
     }
 }

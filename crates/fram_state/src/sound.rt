@@ -126,19 +126,11 @@ fn is_list(map: &Map, words: &[u16], list_length: u16) -> bool
         )
 }
 
-// How many words of a ring stand from one index up to another.
-fn words_between(from: u16, to: u16) -> u16
-    ensures { result ≡ sound.words_between from to }
-{
-    to.wrapping_sub(from)
-}
-
 // Whether no more words wait in a ring than it has slots, and a pending commit takes none but these.
 fn is_ring(ring: Ring, pending: bool) -> bool
     ensures { result ≡ sound.is_ring ring pending }
 {
-    let waiting = words_between(ring.tail, ring.head);
-    waiting <= RING_WORDS && (!pending || words_between(ring.tail, ring.sent_tail) <= waiting)
+    ring.waiting <= RING_WORDS && (!pending || ring.taken <= ring.waiting)
 }
 
 // The same of the ring that a map may have.
