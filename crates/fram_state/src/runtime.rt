@@ -4,8 +4,8 @@ ghost use Rattle.image_text.specs.address_space.Limits.{IsFramWord, fram_words};
 ghost use Rattle.image_text.specs.image_map.MapValue.{AreFramWords, IsRing};
 ghost use Rattle.fram_state.specs.Runtime.{word_in, words_from, runtime_of, ring_of};
 
-use image_text::{RingPlaces, RuntimeWords};
 use image_text::address_space::fram_index;
+use image_text::{RingPlaces, RuntimeWords};
 
 /// What the words of the runtime hold.
 #[derive(Clone, Copy)]
