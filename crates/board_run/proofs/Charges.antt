@@ -23,21 +23,34 @@ use Rattle.fram_board.specs.Run.{Moment, Charges, Stopped, End, RunOutcome, run_
 use Rattle.fram_board.specs.Run.{Last}
 use Rattle.fram_board.proofs.Interface.{has_run}
 use Rattle.board_run.specs.History.{History, bound_lines, moment_lines, noted, behind_power_up}
-use Rattle.board_run.specs.Report.{lines_from, after_all, last_line, rest_of, BreaksOff, IsCutInMoment, IsCutAt, InText, InMoment, InLastLine, IsCut, IsRestOf}
-use Rattle.board_run.specs.Report.{IsRunOf, IsEndOf}
-use Rattle.board_run.specs.Parts.{FewMore, Wrote, ended, IsSpent, WentThrough, Went, SpentCharges, AreSpent}
+use Rattle.board_run.specs.Report.{lines_from, after_all, last_line, last_lines, events_lines, rest_of, BreaksOff, IsCutInMoment, IsCutAt, InText, InMoment}
+use Rattle.board_run.specs.Report.{InLastLines, IsCut, IsRestOf, IsRunOf, IsEndOf}
+use Rattle.energy_trace.specs.TraceValue.{Event}
+use Rattle.board_run.specs.Events.{PowersUp, head_of, event_counts}
+use Rattle.board_run.specs.Tally.{no_tally, tallied, tally_behind, tally_after, words_of}
+use Rattle.board_run.specs.Parts.{Known, known_head, known_lines, FewMore, Wrote, ended, IsSpent, WentThrough, Went, SpentCharges, AreSpent}
+use Rattle.board_run.proofs.Tallies.{counts_are, power_map}
 use Rattle.board_run.proofs.Spends.{lines_append, after_append, wrote_more, wrote_none, outcome_append, breaks_behind, breaks_first}
 use Rattle.board_run.specs.declared.trace_run.RunFault.TheVariants as fault
 
+-- what is known behind a power-up
+pub record IsPowered (h mid : Known) (b : BoardValue) : Type 0 where
+  pub history : mid.history ≡ behind_power_up h.history.map h.history b
+  pub tally : mid.tally ≡ tallied PowersUp h.tally
+
 -- the power-up of a charge writes nothing
-power_up_wrote : (h mid now : History) (b : BoardValue) (p : PowerState) (ms : List Moment) (old new : Option (List ℕ))
-    → mid ≡ behind_power_up h.map h (powered b p) → Wrote mid ms old new now
+power_up_wrote : (h mid now : Known) (b : BoardValue) (p : PowerState) (ms : List Moment) (old new : Option (List ℕ))
+    → IsPowered h mid (powered b p) → Wrote mid ms old new now
     → Wrote h (power_up_of b p ∷ ms) old new now
-unfolding moment_lines noted
+unfolding moment_lines noted tally_behind
 power_up_wrote h mid now b p ms old new e w =
-    let P : History → Type 0 = λ x. Wrote x ms old new now in
-    let v = subst P e w in
-    record { written = v.written; history = v.history }
+    let P : History → Type 0 = λ x. Appends old new (lines_from x ms) in
+    let head : known_head mid ≡ known_head h = ap (λ k. head_of k.map) e.history ∙ ap head_of (power_map h.history.map h.history (powered b p)) in
+    record {
+      written = subst P e.history w.written;
+      history = w.history ∙ ap (λ x. after_all x ms) e.history;
+      tally = w.tally ∙ ap (λ a. tally_after a ms mid.tally) head ∙ ap (tally_after (known_head h) ms) e.tally;
+    }
 
 -- a charge from its power-up on
 one_went : (c : BoardCharge) (b after : BoardValue) (ms : List Moment) (stop : Option Stop)
@@ -56,15 +69,17 @@ run_with c more b ms (Stopped stop) end h =
     ([], Stopped stop, end, subst P (sym (append-nil ms)) (Last c more b ms stop end h))
 
 -- lines that are cut in some moments are cut in more
-cut_more : (h mid : History) (front ms rest whole : List Moment) (old between new : Option (List ℕ)) (after : BoardValue) → whole ≡ front ++ (ms ++ rest)
+cut_more : (h mid : Known) (front ms rest whole : List Moment) (old between new : Option (List ℕ)) (after : BoardValue) → whole ≡ front ++ (ms ++ rest)
     → Wrote h front old between mid
-    → IsCutInMoment mid [] ms between new after → IsCutInMoment h [] whole old new after
+    → IsCutInMoment mid.history [] ms between new after → IsCutInMoment h.history [] whole old new after
 cut_more h mid front ms rest whole old between new after e w c =
-    let P : List ℕ → Type 0 = λ t. BreaksOff old new t (moment_lines (after_all h (front ++ c.before)) c.moment) in
-    let Q : History → Type 0 = λ x. BreaksOff old new (lines_from h front ++ lines_from mid c.before) (moment_lines x c.moment) in
-    let later : after_all mid c.before ≡ after_all h (front ++ c.before) = ap (λ x. after_all x c.before) w.history ∙ sym (after_append h front c.before) in
-    let lines : lines_from h front ++ lines_from mid c.before ≡ lines_from h (front ++ c.before) =
-    ap (λ x. lines_from h front ++ lines_from x c.before) w.history ∙ sym (lines_append h front c.before) in
+    let k = h.history in
+    let P : List ℕ → Type 0 = λ t. BreaksOff old new t (moment_lines (after_all k (front ++ c.before)) c.moment) in
+    let Q : History → Type 0 = λ x. BreaksOff old new (lines_from k front ++ lines_from mid.history c.before) (moment_lines x c.moment) in
+    let later : after_all mid.history c.before ≡ after_all k (front ++ c.before) =
+    ap (λ x. after_all x c.before) w.history ∙ sym (after_append k front c.before) in
+    let lines : lines_from k front ++ lines_from mid.history c.before ≡ lines_from k (front ++ c.before) =
+    ap (λ x. lines_from k front ++ lines_from x c.before) w.history ∙ sym (lines_append k front c.before) in
     record {
       before = front ++ c.before;
       moment = c.moment;
@@ -73,20 +88,20 @@ cut_more h mid front ms rest whole old between new after e w c =
           ∙ sym (append_assoc front c.before (c.moment ∷ (c.later ++ rest)));
       board = c.board;
       written =
-          subst P lines (subst Q later (breaks_behind old between new (lines_from h front) (lines_from mid c.before)
-          (moment_lines (after_all mid c.before) c.moment) w.written c.written));
+          subst P lines (subst Q later (breaks_behind old between new (lines_from k front) (lines_from mid.history c.before)
+          (moment_lines (after_all mid.history c.before) c.moment) w.written c.written));
     }
 
 -- the power-up alone
-power_up_alone : (h mid : History) (b : BoardValue) (p : PowerState) (old : Option (List ℕ)) → mid ≡ behind_power_up h.map h (powered b p)
+power_up_alone : (h mid : Known) (b : BoardValue) (p : PowerState) (old : Option (List ℕ)) → IsPowered h mid (powered b p)
     → Wrote h (power_up_of b p ∷ []) old old mid
 power_up_alone h mid b p old e = power_up_wrote h mid mid b p [] old old e (wrote_none mid mid old old (Appends-nil old) refl)
 
 -- a cut in a charge is a cut in a run that begins with it
-one_cut : (h mid : History) (c : BoardCharge) (more : List BoardCharge) (b after : BoardValue) (r : RunOutcome) (old new : Option (List ℕ))
-    → mid ≡ behind_power_up h.map h (powered b c.start)
-    → ChargeRun c.measure c.amount (powered b c.start) r → IsCutInMoment mid [] r.moments old new after
-    → (s : RunOutcome) × Run (c ∷ more) b s × IsCutInMoment h [] s.moments old new after
+one_cut : (h mid : Known) (c : BoardCharge) (more : List BoardCharge) (b after : BoardValue) (r : RunOutcome) (old new : Option (List ℕ))
+    → IsPowered h mid (powered b c.start)
+    → ChargeRun c.measure c.amount (powered b c.start) r → IsCutInMoment mid.history [] r.moments old new after
+    → (s : RunOutcome) × Run (c ∷ more) b s × IsCutInMoment h.history [] s.moments old new after
 one_cut h mid c more b after r old new e run cut =
     let w = run_with c more b r.moments r.ending r.board run in
     let ms : List Moment = power_up_of b c.start ∷ (r.moments ++ w.0) in (
@@ -95,6 +110,10 @@ one_cut h mid c more b after r old new e run cut =
       cut_more h mid (power_up_of b c.start ∷ []) r.moments w.0 ms old old new after refl
           (power_up_alone h mid b c.start old e) cut,
     )
+
+-- a power-up takes no word
+words_powered : (h mid : Known) (b : BoardValue) → IsPowered h mid b → words_of mid.tally ≡ words_of h.tally
+words_powered h mid b e = let same = ap words_of e.tally in omega (arith, same)
 
 few_of_one : (b p after : BoardValue) (n k : ℕ) → p.receiver ≡ b.receiver → FewMore p after n → n ≤ k → FewMore b after k
 few_of_one b p after n k e f le =
@@ -105,38 +124,42 @@ few_of_one b p after n k e f le =
     record { accepted = omega arith; repeats = omega arith }
 
 -- one charge, from its power-up on
-pub one_spent : (h mid now : History) (c : BoardCharge) (b p after : BoardValue) (old new : Option (List ℕ)) (result : Result (Option Stop) Failed) (k : ℕ)
-    → p ≡ powered b c.start → mid ≡ behind_power_up h.map h p
+pub one_spent : (h mid now : Known) (c : BoardCharge) (b p after : BoardValue) (old new : Option (List ℕ)) (result : Result (Option Stop) Failed) (k : ℕ)
+    → p ≡ powered b c.start → IsPowered h mid p
     → c.amount ≤ k → IsSpent mid c.measure c.amount p old new result after now → AreSpent h (c ∷ []) b old new result after now k
 one_spent h mid now c b p after old new (Ok stop) k is e le s =
     let P : BoardValue → Type 0 = λ p. ChargeRun c.measure c.amount p (run_outcome s.moments (ended stop) after) in
-    let mid_is : mid ≡ behind_power_up h.map h (powered b c.start) = e ∙ ap (λ p. behind_power_up h.map h p) is in
+    let words = s.words in
+    let kept = words_powered h mid p e in
     record {
       moments = power_up_of b c.start ∷ s.moments;
       went = one_went c b after s.moments stop (subst P is s.run);
-      wrote = power_up_wrote h mid now b c.start s.moments old new mid_is s.wrote;
+      wrote = power_up_wrote h mid now b c.start s.moments old new (subst (IsPowered h mid) is e) s.wrote;
       few = few_of_one b p after c.amount k (ap (λ (x : BoardValue). x.receiver) is) s.few le;
+      words = omega (arith, words, kept, le);
     }
 one_spent h mid now c b p after old new (Err f) k is e le (r, run, cut) = λ more.
     let P : BoardValue → Type 0 = λ p. ChargeRun c.measure c.amount p r in
-    one_cut h mid c more b after r old new (e ∙ ap (λ p. behind_power_up h.map h p) is) (subst P is run) cut
+    one_cut h mid c more b after r old new (subst (IsPowered h mid) is e) (subst P is run) cut
 
 -- some charges are behind, and these are left
-pub record SpendsFor (h : History) (cs : List BoardCharge) (b : BoardValue) (old : Option (List ℕ)) (n : ℕ) (left : List BoardCharge) (now : BoardValue)
-    (new : Option (List ℕ)) (watch : History) (spare : ℕ) : Type 0 where
+pub record SpendsFor (h : Known) (cs : List BoardCharge) (b : BoardValue) (old : Option (List ℕ)) (n : ℕ) (left : List BoardCharge) (now : BoardValue)
+    (new : Option (List ℕ)) (watch : Known) (spare : ℕ) : Type 0 where
   pub moments : List Moment
   pub run : (more : List BoardCharge) (r : RunOutcome) → Run (left ++ more) now r → Run (cs ++ more) b (after_moments moments r)
   pub wrote : Wrote h moments old new watch
   pub accepted : now.receiver.accepted + spare ≤ b.receiver.accepted + n
   pub repeats : now.receiver.repeats + spare ≤ b.receiver.repeats + n
+  pub words : words_of watch.tally + spare ≤ words_of h.tally + n
 
-pub spends_for_first : (h : History) (cs : List BoardCharge) (b : BoardValue) (old : Option (List ℕ)) (n : ℕ) → SpendsFor h cs b old n cs b old h n
+pub spends_for_first : (h : Known) (cs : List BoardCharge) (b : BoardValue) (old : Option (List ℕ)) (n : ℕ) → SpendsFor h cs b old n cs b old h n
 spends_for_first h cs b old n = record {
   moments = [];
   run = λ more r k. k;
-  wrote = record { written = Appends-nil old; history = refl };
+  wrote = record { written = Appends-nil old; history = refl; tally = refl };
   accepted = omega arith;
   repeats = omega arith;
+  words = omega arith;
 }
 
 no_stop : (o : Option Stop) → is_some o ≡ false → o ≡ None
@@ -144,8 +167,8 @@ no_stop None e = refl
 no_stop (Some x) e = cc
 
 -- more of them
-pub spends_for_more : (h : History) (cs : List BoardCharge) (b : BoardValue) (old : Option (List ℕ)) (n : ℕ) (left front rest : List BoardCharge)
-    (now next : BoardValue) (between new : Option (List ℕ)) (mid watch : History) (spare less k : ℕ) (stop : Option Stop)
+pub spends_for_more : (h : Known) (cs : List BoardCharge) (b : BoardValue) (old : Option (List ℕ)) (n : ℕ) (left front rest : List BoardCharge)
+    (now next : BoardValue) (between new : Option (List ℕ)) (mid watch : Known) (spare less k : ℕ) (stop : Option Stop)
     → left ≡ front ++ rest → less + k ≤ spare → is_some stop ≡ false → SpendsFor h cs b old n left now between mid spare
     → SpentCharges mid front now between new stop next watch k
     → SpendsFor h cs b old n rest next new watch less
@@ -157,6 +180,8 @@ spends_for_more h cs b old n left front rest now next between new mid watch spar
     let r = s.repeats in
     let fa = few.accepted in
     let fr = few.repeats in
+    let words = s.words in
+    let more_words = w.words in
     record {
       moments = s.moments ++ w.moments;
       run = λ more r h.
@@ -167,11 +192,12 @@ spends_for_more h cs b old n left front rest now next between new mid watch spar
       wrote = wrote_more h mid watch s.moments w.moments old between new s.wrote w.wrote;
       accepted = omega arith;
       repeats = omega arith;
+      words = omega arith;
     }
 
 -- a stop in them
-pub spends_for_stop : (h : History) (cs : List BoardCharge) (b : BoardValue) (old : Option (List ℕ)) (n : ℕ) (left front rest : List BoardCharge)
-    (now next : BoardValue) (between new : Option (List ℕ)) (mid watch : History) (spare k : ℕ) (stop : Option Stop)
+pub spends_for_stop : (h : Known) (cs : List BoardCharge) (b : BoardValue) (old : Option (List ℕ)) (n : ℕ) (left front rest : List BoardCharge)
+    (now next : BoardValue) (between new : Option (List ℕ)) (mid watch : Known) (spare k : ℕ) (stop : Option Stop)
     → left ≡ front ++ rest → k ≤ spare → is_some stop ≡ true → SpendsFor h cs b old n left now between mid spare
     → SpentCharges mid front now between new stop next watch k
     → SpentCharges h cs b old new stop next watch n
@@ -182,6 +208,8 @@ spends_for_stop h cs b old n left front rest now next between new mid watch spar
     let r = s.repeats in
     let fa = few.accepted in
     let fr = few.repeats in
+    let words = s.words in
+    let more_words = w.words in
     record {
       moments = s.moments ++ w.moments;
       went = λ more.
@@ -189,32 +217,35 @@ spends_for_stop h cs b old n left front rest now next between new mid watch spar
           s.run more (run_outcome w.moments (Stopped stop) next) (subst Q (sym (ap (λ x. x ++ more) e ∙ append_assoc front rest more)) (w.went (rest ++ more)));
       wrote = wrote_more h mid watch s.moments w.moments old between new s.wrote w.wrote;
       few = record { accepted = omega arith; repeats = omega arith };
+      words = omega arith;
     }
 
 -- all of them
-pub spends_for_end : (h : History) (cs : List BoardCharge) (b : BoardValue) (old : Option (List ℕ)) (n : ℕ) (left : List BoardCharge) (now : BoardValue)
-    (new : Option (List ℕ)) (watch : History) (spare : ℕ) → left ≡ []
+pub spends_for_end : (h : Known) (cs : List BoardCharge) (b : BoardValue) (old : Option (List ℕ)) (n : ℕ) (left : List BoardCharge) (now : BoardValue)
+    (new : Option (List ℕ)) (watch : Known) (spare : ℕ) → left ≡ []
     → SpendsFor h cs b old n left now new watch spare → SpentCharges h cs b old new None now watch n
 spends_for_end h cs b old n left now new watch spare e s =
     let a = s.accepted in
     let r = s.repeats in
+    let words = s.words in
     record {
       moments = s.moments;
       went = λ more r h. let Q : List BoardCharge → Type 0 = λ x. Run (x ++ more) now r in s.run more r (subst Q (sym e) h);
       wrote = s.wrote;
       few = record { accepted = omega arith; repeats = omega arith };
+      words = omega arith;
     }
 
-are_err : (h now : History) (cs : List BoardCharge) (b after : BoardValue) (old new : Option (List ℕ)) (n : ℕ) (result : Result (Option Stop) Failed)
+are_err : (h now : Known) (cs : List BoardCharge) (b after : BoardValue) (old new : Option (List ℕ)) (n : ℕ) (result : Result (Option Stop) Failed)
     → IsErr result
-    → ((more : List BoardCharge) → (r : RunOutcome) × Run (cs ++ more) b r × IsCutInMoment h [] r.moments old new after)
+    → ((more : List BoardCharge) → (r : RunOutcome) × Run (cs ++ more) b r × IsCutInMoment h.history [] r.moments old new after)
     → AreSpent h cs b old new result after now n
 are_err h now cs b after old new n (Ok o) e p = cc
 are_err h now cs b after old new n (Err f) e p = p
 
 -- a line of one of them isn't written whole
-pub spends_for_err : (h : History) (cs : List BoardCharge) (b : BoardValue) (old : Option (List ℕ)) (n : ℕ) (left front rest : List BoardCharge)
-    (now next : BoardValue) (between new : Option (List ℕ)) (mid watch watch' : History) (spare k : ℕ)
+pub spends_for_err : (h : Known) (cs : List BoardCharge) (b : BoardValue) (old : Option (List ℕ)) (n : ℕ) (left front rest : List BoardCharge)
+    (now next : BoardValue) (between new : Option (List ℕ)) (mid watch watch' : Known) (spare k : ℕ)
     (f : Failed) (result : Result (Option Stop) Failed) → IsErr result → left ≡ front ++ rest → SpendsFor h cs b old n left now between mid spare
     → AreSpent mid front now between new (Err f) next watch' k
     → AreSpent h cs b old new result next watch n
@@ -266,36 +297,37 @@ front_of_both old new text next behind p =
     }
 
 -- what is cut in a moment is a front of the report
-front_of_report : (h : History) (r : RunOutcome) (old new : Option (List ℕ)) (after : BoardValue) → IsCutInMoment h [] r.moments old new after
-    → AppendsProperPrefix old new (rest_of h r)
-front_of_report h r old new after c =
-    let line : List ℕ = last_line (after_all h r.moments) r.ending r.board in
+front_of_report : (h : History) (events : List Event) (r : RunOutcome) (old new : Option (List ℕ)) (after : BoardValue)
+    → IsCutInMoment h [] r.moments old new after → AppendsProperPrefix old new (rest_of h events r)
+front_of_report h events r old new after c =
+    let last : List ℕ = last_lines h events r in
     let own : List ℕ = moment_lines (after_all h c.before) c.moment in
     let later : List ℕ = lines_from (noted (after_all h c.before) c.moment) c.later in
     let P : List ℕ → Type 0 = λ t. AppendsProperPrefix old new t in
     let lines : lines_from h r.moments ≡ lines_from h c.before ++ (own ++ later) = ap (lines_from h) c.split ∙ lines_append h c.before (c.moment ∷ c.later) in
-    subst P (sym (ap (λ x. x ++ line) lines))
-    (part_of_first old new (lines_from h c.before ++ (own ++ later)) line (front_of_both old new (lines_from h c.before) own later c.written))
+    subst P (sym (ap (λ x. x ++ last) lines))
+    (part_of_first old new (lines_from h c.before ++ (own ++ later)) last (front_of_both old new (lines_from h c.before) own later c.written))
 
 -- a run that was cut, or that is whole
-run_err : (h now : History) (cs : List BoardCharge) (b after : BoardValue) (old new : Option (List ℕ)) (result : Result RunEnd RunFault)
-    → result ≡ Err fault.Write → (r : RunOutcome) × Run cs b r × IsCut h [] b r old new after
-    → IsRestOf h cs b old new result after now
-run_err h now cs b after old new result e p = let P : Result RunEnd RunFault → Type 0 = λ x. IsRestOf h cs b old new x after now in subst P (sym e) p
+run_err : (h now : History) (cs : List BoardCharge) (events : List Event) (b after : BoardValue) (old new : Option (List ℕ)) (result : Result RunEnd RunFault)
+    → result ≡ Err fault.Write → (r : RunOutcome) × Run cs b r × IsCut h [] events b r old new after
+    → IsRestOf h cs events b old new result after now
+run_err h now cs events b after old new result e p =
+    let P : Result RunEnd RunFault → Type 0 = λ x. IsRestOf h cs events b old new x after now in subst P (sym e) p
 
 nil_charges : (cs : List BoardCharge) → cs ++ [] ≡ cs
 nil_charges cs = append-nil cs
 
-pub run_cut : (h watch now : History) (cs : List BoardCharge) (b after : BoardValue) (old new : Option (List ℕ)) (n : ℕ) (f : Failed)
-    (result : Result RunEnd RunFault) → result ≡ Err fault.Write
-    → AreSpent h cs b old new (Err f) after watch n → IsRestOf h cs b old new result after now
-run_cut h watch now cs b after old new n f result e w =
+pub run_cut : (h watch : Known) (now : History) (cs : List BoardCharge) (events : List Event) (b after : BoardValue) (old new : Option (List ℕ)) (n : ℕ)
+    (f : Failed) (result : Result RunEnd RunFault) → result ≡ Err fault.Write
+    → AreSpent h cs b old new (Err f) after watch n → IsRestOf h.history cs events b old new result after now
+run_cut h watch now cs events b after old new n f result e w =
     let cut = w [] in
     let P : List BoardCharge → Type 0 = λ x. Run x b cut.0 in
-    run_err h now cs b after old new result e (
+    run_err h.history now cs events b after old new result e (
       cut.0,
       subst P (nil_charges cs) cut.1,
-      record { written = front_of_report h cut.0 old new after cut.2; place = InMoment cut.2 },
+      record { written = front_of_report h.history events cut.0 old new after cut.2; place = InMoment cut.2 },
     )
 
 -- the run of charges that were spent or in which the board stopped
@@ -308,55 +340,75 @@ whole_run cs b after ms None w =
 whole_run cs b after ms (Some stop) w = let P : List BoardCharge → Type 0 = λ x. Run x b (run_outcome ms (Stopped stop) after) in
     subst P (nil_charges cs) (w [])
 
--- and its last line
-pub run_end : (h now : History) (cs : List BoardCharge) (b after : BoardValue) (old between new : Option (List ℕ)) (n : ℕ) (stop : Option Stop)
-    (result : Result RunEnd RunFault)
-    → SpentCharges h cs b old between stop after now n → IsEndOf now (ended stop) after between new result → IsRestOf h cs b old new result after now
-run_end h now cs b after old between new n stop result w e = by_result result e
-  where
-    r : RunOutcome
-    r = run_outcome w.moments (ended stop) after
+-- and its last lines
+module _ (h now : Known) (cs : List BoardCharge) (events : List Event) (b after : BoardValue) (old between new : Option (List ℕ)) (n : ℕ) (stop : Option Stop)
+    (none : h.tally ≡ no_tally) (w : SpentCharges h cs b old between stop after now n) where
+  abbrev pub r : RunOutcome
+  r = run_outcome w.moments (ended stop) after
 
-    run : Run cs b r
-    run = whole_run cs b after w.moments stop w.went
+  run : Run cs b r
+  run = whole_run cs b after w.moments stop w.went
 
-    line : List ℕ
-    line = last_line now (ended stop) after
+  abbrev pub line : List ℕ
+  line = known_lines now events (ended stop) after
 
-    text : lines_from h w.moments ++ line ≡ rest_of h r
-    text = ap (λ x. lines_from h w.moments ++ last_line x (ended stop) after) w.wrote.history
+  line_is : line ≡ last_lines h.history events r
+  line_is =
+      ap (λ c. events_lines events c ++ last_line now.history (ended stop) after) (counts_are h.history.map r now.tally
+      (w.wrote.tally ∙ ap (tally_after (known_head h) w.moments) none))
+      ∙ ap (λ x. events_lines events (event_counts h.history.map r) ++ last_line x (ended stop) after) w.wrote.history
 
-    written : Appends between new line → Appends old new (rest_of h r)
-    written a = let P : List ℕ → Type 0 = λ t. Appends old new t in subst P text (Appends-trans old between new (lines_from h w.moments) line w.wrote.written a)
+  text : lines_from h.history w.moments ++ line ≡ rest_of h.history events r
+  text = ap (λ x. lines_from h.history w.moments ++ x) line_is
 
-    by_result : (result : Result RunEnd RunFault) → IsEndOf now (ended stop) after between new result → IsRestOf h cs b old new result after now
-    by_result (Ok end) e = (r, run, record { answer = e.0; board = refl; history = w.wrote.history; written = written e.1 })
-    by_result (Err (fault.Illegal pc word)) e = (r, run, record { answer = e.0; board = refl; history = w.wrote.history; written = written e.1 })
-    by_result (Err (fault.Bus pc address)) e = (r, run, record { answer = e.0; board = refl; history = w.wrote.history; written = written e.1 })
-    by_result (Err fault.Write) e =
-        let P : List ℕ → Type 0 = λ t. AppendsProperPrefix old new t in
-        let Q : History → Type 0 = λ x. BreaksOff old new (lines_from h w.moments) (last_line x (ended stop) after) in
-        let R : List ℕ → Type 0 = λ t. BreaksOff old new t line in
-        let cut =
-        subst R (append-nil (lines_from h w.moments))
-        (breaks_behind old between new (lines_from h w.moments) [] line w.wrote.written (breaks_first between new line e)) in (
-          r,
-          run,
-          record {
-            written = subst P text (part_of_second old between new (lines_from h w.moments) line w.wrote.written e);
-            place = InLastLine refl (subst Q w.wrote.history cut);
-          },
-        )
+  written : Appends between new line → Appends old new (rest_of h.history events r)
+  written a = let P : List ℕ → Type 0 = λ t. Appends old new t in
+      subst P text (Appends-trans old between new (lines_from h.history w.moments) line w.wrote.written a)
+
+  pub run_end : (result : Result RunEnd RunFault) → IsEndOf (ended stop) line between new result
+      → IsRestOf h.history cs events b old new result after now.history
+  run_end (Ok end) e = (r, run, record { answer = e.0; board = refl; history = w.wrote.history; written = written e.1 })
+  run_end (Err (fault.Illegal pc word)) e = (r, run, record { answer = e.0; board = refl; history = w.wrote.history; written = written e.1 })
+  run_end (Err (fault.Bus pc address)) e = (r, run, record { answer = e.0; board = refl; history = w.wrote.history; written = written e.1 })
+  run_end (Err fault.Write) e =
+      let lines = lines_from h.history w.moments in
+      let P : List ℕ → Type 0 = λ t. AppendsProperPrefix old new t in
+      let Q : List ℕ → Type 0 = λ x. BreaksOff old new lines x in
+      let R : List ℕ → Type 0 = λ t. BreaksOff old new t line in
+      let cut =
+      subst R (append-nil lines) (breaks_behind old between new lines [] line w.wrote.written (breaks_first between new line e)) in (
+        r,
+        run,
+        record {
+          written = subst P text (part_of_second old between new lines line w.wrote.written e);
+          place = InLastLines refl (subst Q line_is cut);
+        },
+      )
+
+-- the last line behind that of the events
+pub end_behind : (end : End) (a b : List ℕ) (old mid new : Option (List ℕ)) (result : Result RunEnd RunFault) → Appends old mid a
+    → IsEndOf end b mid new result → IsEndOf end (a ++ b) old new result
+end_behind end a b old mid new (Ok e) first p = (p.0, Appends-trans old mid new a b first p.1)
+end_behind end a b old mid new (Err (fault.Illegal pc word)) first p = (p.0, Appends-trans old mid new a b first p.1)
+end_behind end a b old mid new (Err (fault.Bus pc address)) first p = (p.0, Appends-trans old mid new a b first p.1)
+end_behind end a b old mid new (Err fault.Write) first p = part_of_second old mid new a b first p
+
+-- the line of the events isn't written whole
+pub end_cut : (end : End) (a b : List ℕ) (old new : Option (List ℕ)) (result : Result RunEnd RunFault) → result ≡ Err fault.Write
+    → AppendsProperPrefix old new a → IsEndOf end (a ++ b) old new result
+end_cut end a b old new result e cut =
+    let P : Result RunEnd RunFault → Type 0 = λ x. IsEndOf end (a ++ b) old new x in
+    subst P (sym e) (part_of_first old new a b cut)
 
 -- a charge that stands where there is none
 abbrev pub no_charge : Charge
 no_charge = record { kind = kind.Cycles; n = 0; fill = 0; times = 0 }
 
 -- where writing broke off, behind a text
-place_behind : (h : History) (b after : BoardValue) (r : RunOutcome) (old mid new : Option (List ℕ)) (text : List ℕ) → Appends old mid text
-    → IsCutAt h [] b r mid new after → IsCutAt h text b r old new after
-place_behind h b after r old mid new text first (InText is p) = absurd (let h = p.proper in omega arith)
-place_behind h b after r old mid new text first (InMoment c) = InMoment (record {
+place_behind : (h : History) (events : List Event) (b after : BoardValue) (r : RunOutcome) (old mid new : Option (List ℕ)) (text : List ℕ)
+    → Appends old mid text → IsCutAt h [] events b r mid new after → IsCutAt h text events b r old new after
+place_behind h events b after r old mid new text first (InText is p) = absurd (let h = p.proper in omega arith)
+place_behind h events b after r old mid new text first (InMoment c) = InMoment (record {
   before = c.before;
   moment = c.moment;
   later = c.later;
@@ -364,57 +416,57 @@ place_behind h b after r old mid new text first (InMoment c) = InMoment (record 
   board = c.board;
   written = breaks_behind old mid new text (lines_from h c.before) (moment_lines (after_all h c.before) c.moment) first c.written;
 })
-place_behind h b after r old mid new text first (InLastLine is p) =
-    InLastLine is (breaks_behind old mid new text (lines_from h r.moments) (last_line (after_all h r.moments) r.ending r.board) first p)
+place_behind h events b after r old mid new text first (InLastLines is p) =
+    InLastLines is (breaks_behind old mid new text (lines_from h r.moments) (last_lines h events r) first p)
 
 -- behind the line of the bound
-pub bound_first : (h now : History) (cs : List BoardCharge) (b after : BoardValue) (old mid new : Option (List ℕ)) (result : Result RunEnd RunFault)
+pub bound_first : (h now : History) (cs : List BoardCharge) (events : List Event) (b after : BoardValue) (old mid new : Option (List ℕ)) (result : Result RunEnd RunFault)
     → Appends old mid (bound_lines h.map)
-    → IsRestOf h cs b mid new result after now → IsRunOf h cs b old new result after now
-bound_first h now cs b after old mid new (Ok end) first (r, run, w) = (
+    → IsRestOf h cs events b mid new result after now → IsRunOf h cs events b old new result after now
+bound_first h now cs events b after old mid new (Ok end) first (r, run, w) = (
   r,
   run,
   record {
     answer = w.answer;
     board = w.board;
     history = w.history;
-    written = Appends-trans old mid new (bound_lines h.map) (rest_of h r) first w.written;
+    written = Appends-trans old mid new (bound_lines h.map) (rest_of h events r) first w.written;
   },
 )
-bound_first h now cs b after old mid new (Err (fault.Illegal pc word)) first (r, run, w) = (
+bound_first h now cs events b after old mid new (Err (fault.Illegal pc word)) first (r, run, w) = (
   r,
   run,
   record {
     answer = w.answer;
     board = w.board;
     history = w.history;
-    written = Appends-trans old mid new (bound_lines h.map) (rest_of h r) first w.written;
+    written = Appends-trans old mid new (bound_lines h.map) (rest_of h events r) first w.written;
   },
 )
-bound_first h now cs b after old mid new (Err (fault.Bus pc address)) first (r, run, w) = (
+bound_first h now cs events b after old mid new (Err (fault.Bus pc address)) first (r, run, w) = (
   r,
   run,
   record {
     answer = w.answer;
     board = w.board;
     history = w.history;
-    written = Appends-trans old mid new (bound_lines h.map) (rest_of h r) first w.written;
+    written = Appends-trans old mid new (bound_lines h.map) (rest_of h events r) first w.written;
   },
 )
-bound_first h now cs b after old mid new (Err fault.Write) first (r, run, w) = (
+bound_first h now cs events b after old mid new (Err fault.Write) first (r, run, w) = (
   r,
   run,
   record {
-    written = part_of_second old mid new (bound_lines h.map) (rest_of h r) first w.written;
-    place = place_behind h b after r old mid new (bound_lines h.map) first w.place;
+    written = part_of_second old mid new (bound_lines h.map) (rest_of h events r) first w.written;
+    place = place_behind h events b after r old mid new (bound_lines h.map) first w.place;
   },
 )
 
 -- the line of the bound itself isn't written whole
-pub bound_cut : (h now : History) (cs : List BoardCharge) (b : BoardValue) (old new : Option (List ℕ)) (result : Result RunEnd RunFault)
+pub bound_cut : (h now : History) (cs : List BoardCharge) (events : List Event) (b : BoardValue) (old new : Option (List ℕ)) (result : Result RunEnd RunFault)
     → result ≡ Err fault.Write → AppendsProperPrefix old new (bound_lines h.map)
-    → IsRunOf h cs b old new result b now
-bound_cut h now cs b old new result e cut =
+    → IsRunOf h cs events b old new result b now
+bound_cut h now cs events b old new result e cut =
     let run = has_run cs b in
-    let P : Result RunEnd RunFault → Type 0 = λ x. IsRunOf h cs b old new x b now in
-    subst P (sym e) (run.0, run.1, record { written = part_of_first old new (bound_lines h.map) (rest_of h run.0) cut; place = InText refl cut })
+    let P : Result RunEnd RunFault → Type 0 = λ x. IsRunOf h cs events b old new x b now in
+    subst P (sym e) (run.0, run.1, record { written = part_of_first old new (bound_lines h.map) (rest_of h events run.0) cut; place = InText refl cut })

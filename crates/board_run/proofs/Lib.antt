@@ -7,4 +7,5 @@ pub mod Written
 pub mod Marks
 pub mod Transitions
 pub mod Hands
+pub mod Tallies
 pub mod Interface

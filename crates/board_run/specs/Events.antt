@@ -2,16 +2,13 @@
 -- A word that a read of EVENT took is in hand until the next of these: a step leaves another word in HEAD, a RETI, a read of EVENT, a power-up. It is
 -- accepted where HEAD changes, and lost at the others. An event is lost too where it arose at a full port, or where the power-up found it in the port:
 -- these the board counts. Any other event waits, in the port or in hand. Without a ring no step changes HEAD.
-use Rattle.std.specs.Prelude.{◌≡◌, ℕ, ◌+◌, ◌==◌, Bool, true, false, if◌then◌else◌, List, [], ◌∷◌, ◌++◌, length, All, Option, Some, None}
+use Rattle.std.specs.Prelude.{◌≡◌, ℕ, ◌+◌, ◌==◌, Bool, true, false, if◌then◌else◌, List, [], ◌∷◌, ◌++◌, length, All, Option, Some, None, option_map}
+use Rattle.image_text.specs.image_map.MapValue.{MapValue}
+use Rattle.fram_board.specs.declared.events.Heard.{Heard}
+use Rattle.fram_board.specs.declared.events.Heard.TheVariants as heard
 use Rattle.fram_board.specs.Board.{BoardValue}
-use Rattle.fram_board.specs.Run.{Moment, Action, PowerUp, Execute, End, Charges, Stopped, RunOutcome, word_list}
+use Rattle.fram_board.specs.Run.{Moment, Action, PowerUp, Execute, StepKind, Accepting, Returning, Plain, End, Charges, Stopped, RunOutcome, word_list}
 use Rattle.board_run.specs.History.{word_in}
-
--- what a step read of EVENT: nothing, once, or twice, and the word that its first read took. A second read finds the port empty
-pub data Heard : Type 0 where
-  Nothing : Heard
-  Once : (took : Option ℕ) → Heard
-  Again : (took : Option ℕ) → Heard
 
 -- what ends the time of a word in hand
 pub data HandEnd : Type 0 where
@@ -50,54 +47,62 @@ abbrev pub handed_all : List HandEnd → Hand → Hand
 handed_all [] h = h
 handed_all (e ∷ es) h = handed_all es (handed e h)
 
--- the reads of a step
+-- the address of HEAD, where a map has a ring
+abbrev pub head_of : Option MapValue → Option ℕ
+head_of None = None
+head_of (Some m) = option_map (λ r. r.head) m.ring
+
+-- the reads of a step. A second one finds the port empty
 abbrev pub reads_of : Heard → List HandEnd
-reads_of Nothing = []
-reads_of (Once took) = Reads took ∷ []
-reads_of (Again took) = Reads took ∷ Reads None ∷ []
+reads_of heard.Nothing = []
+reads_of (heard.Once took) = Reads took ∷ []
+reads_of (heard.Again took) = Reads took ∷ Reads None ∷ []
+
+-- whether HEAD, which was this word, is another now
+abbrev pub change_ends : ℕ → ℕ → List HandEnd
+change_ends was now = if now == was then [] else ChangesHead ∷ []
 
 -- whether HEAD, which stands at this address, changed between two states of the FRAM
 abbrev pub head_ends : Option ℕ → List ℕ → List ℕ → List HandEnd
 head_ends None before after = []
-head_ends (Some head) before after = if word_in after head == word_in before head then [] else ChangesHead ∷ []
+head_ends (Some head) before after = change_ends (word_in before head) (word_in after head)
 
--- whether a step was a RETI
+-- whether a step is a RETI
+abbrev pub is_return : StepKind → Bool
+is_return Accepting = false
+is_return Returning = true
+is_return Plain = false
+
 abbrev pub return_ends : Bool → List HandEnd
 return_ends true = Returns ∷ []
 return_ends false = []
 
--- what becomes of the word in hand, where `head` is the address of HEAD, if there is a ring, `heard` what the step of a moment read, `left` what was
--- read before the stop that left a board, and `returns` whether a moment is a RETI
-module _ (head : Option ℕ) (heard : Moment → Heard) (left : BoardValue → Heard) (returns : Moment → Bool) where
-  -- the ends that a step brings, in this order: its reads, then its change of HEAD, then its return
-  abbrev pub step_ends : Moment → List HandEnd
-  step_ends m = reads_of (heard m) ++ (head_ends head m.before.fram m.after.fram ++ return_ends (returns m))
+-- the ends that an action brings between two states of the FRAM; of a step in this order: its reads, then its change of HEAD, then its return
+abbrev pub action_ends : Option ℕ → Action → List ℕ → List ℕ → List HandEnd
+action_ends head PowerUp before after = PowersUp ∷ []
+action_ends head (Execute kind done offered) before after = reads_of done.heard ++ (head_ends head before after ++ return_ends (is_return kind))
 
-  abbrev pub action_ends : Action → Moment → List HandEnd
-  action_ends PowerUp m = PowersUp ∷ []
-  action_ends (Execute done offered) m = step_ends m
+-- the hand behind a moment
+unfoldable pub hand_behind : Option ℕ → Moment → Hand → Hand
+hand_behind head m h = handed_all (action_ends head m.action m.before.fram m.after.fram) h
 
-  -- the hand behind a moment
-  unfoldable pub hand_behind : Moment → Hand → Hand
-  hand_behind m h = handed_all (action_ends m.action m) h
+-- the hand behind moments
+abbrev pub hand_after : Option ℕ → List Moment → Hand → Hand
+hand_after head [] h = h
+hand_after head (m ∷ ms) h = hand_after head ms (hand_behind head m h)
 
-  -- the hand behind moments
-  abbrev pub hand_after : List Moment → Hand → Hand
-  hand_after [] h = h
-  hand_after (m ∷ ms) h = hand_after ms (hand_behind m h)
+-- the hand at the end of a run. Of a step that stopped, what it read before counts, and nothing else
+abbrev pub hand_at : End → BoardValue → Hand → Hand
+hand_at Charges b h = h
+hand_at (Stopped stop) b h = handed_all (reads_of b.line.heard) h
 
-  -- the hand at the end of a run. Of a step that stopped, what it read before counts, and nothing else
-  abbrev pub hand_at : End → BoardValue → Hand → Hand
-  hand_at Charges b h = h
-  hand_at (Stopped stop) b h = handed_all (reads_of (left b)) h
+-- the hand behind a run of an image with this map
+abbrev pub run_hand : Option MapValue → RunOutcome → Hand
+run_hand m r = hand_at r.ending r.board (hand_after (head_of m) r.moments no_hand)
 
-  -- the hand behind a run
-  abbrev pub run_hand : RunOutcome → Hand
-  run_hand r = hand_at r.ending r.board (hand_after r.moments no_hand)
-
-  -- the words of the events that were accepted in moments, in order
-  abbrev pub accepted_events : List Moment → List ℕ
-  accepted_events ms = (hand_after ms no_hand).accepted
+-- the words of the events that were accepted in moments, in order
+abbrev pub accepted_events : Option MapValue → List Moment → List ℕ
+accepted_events m ms = (hand_after (head_of m) ms no_hand).accepted
 
 -- how many words were taken from the port
 abbrev pub taken_by : HandEnd → ℕ
@@ -128,6 +133,10 @@ pub record EventCounts : Type 0 where
 abbrev pub counts_of : ℕ → ℕ → Hand → EventCounts
 counts_of arisen missed h = record { arisen = arisen; accepted = length h.accepted; lost = missed + h.lost }
 
+-- the counts of a run of an image with this map
+abbrev pub event_counts : Option MapValue → RunOutcome → EventCounts
+event_counts m r = counts_of r.board.line.arisen r.board.line.missed (run_hand m r)
+
 -- Where each event that arose was lost at the port, is in it, or was taken from it, each is accepted, lost, or waits: in the port or in hand
 abbrev pub EventsAreAccounted : Type 0
 EventsAreAccounted = (arisen missed port : ℕ) (es : List HandEnd) → arisen ≡ missed + port + words_taken es
@@ -135,13 +144,24 @@ EventsAreAccounted = (arisen missed port : ℕ) (es : List HandEnd) → arisen �
     let c = counts_of arisen missed h in
     c.arisen ≡ c.accepted + c.lost + (port + length (word_list h.word))
 
--- a run whose steps never read EVENT accepts nothing and loses nothing in hand, with or without a ring
+-- what an action read of EVENT
+abbrev pub heard_by : Action → Heard
+heard_by PowerUp = heard.Nothing
+heard_by (Execute kind done offered) = done.heard
+
+-- a run that never reads EVENT, nor does the step that stopped it
+pub record NeverReads (r : RunOutcome) : Type 0 where
+  pub moments : All (λ m. heard_by m.action ≡ heard.Nothing) r.moments
+  pub stop : r.board.line.heard ≡ heard.Nothing
+
+-- what became of the events of such a run, by the board behind it: how many arose, and how many of them were lost at the port
+abbrev pub none_accepted : BoardValue → EventCounts
+none_accepted b = record { arisen = b.line.arisen; accepted = 0; lost = b.line.missed }
+
+-- a run that never reads EVENT accepts nothing and loses nothing in hand, with or without a ring
 abbrev pub SilentRunsAcceptNothing : Type 0
-SilentRunsAcceptNothing = (head : Option ℕ) (heard : Moment → Heard) (left : BoardValue → Heard) (returns : Moment → Bool) (ms : List Moment)
-    → All (λ m. heard m ≡ Nothing) ms
-    → hand_after head heard left returns ms no_hand ≡ no_hand
+SilentRunsAcceptNothing = (m : Option MapValue) (r : RunOutcome) → NeverReads r → event_counts m r ≡ none_accepted r.board
 
 -- where there is no ring nothing is accepted
 abbrev pub RinglessRunsAcceptNothing : Type 0
-RinglessRunsAcceptNothing = (heard : Moment → Heard) (left : BoardValue → Heard) (returns : Moment → Bool) (ms : List Moment)
-    → accepted_events None heard left returns ms ≡ []
+RinglessRunsAcceptNothing = (m : Option MapValue) (r : RunOutcome) → head_of m ≡ None → (event_counts m r).accepted ≡ 0

@@ -139,12 +139,12 @@ behind_power_up (Some m) h b = record h { since = b.taken }
 -- the lines that a report has of what a step did
 abbrev pub action_lines : Action → History → BoardValue → List ℕ
 action_lines PowerUp h b = []
-action_lines (Execute done offered) h b = instruction_lines h.map h (word_list done.accepted) b
+action_lines (Execute kind done offered) h b = instruction_lines h.map h (word_list done.accepted) b
 
 -- what is known of the run behind it
 abbrev pub behind_action : Action → History → BoardValue → History
 behind_action PowerUp h b = behind_power_up h.map h b
-behind_action (Execute done offered) h b = behind_instruction h.map h (word_list done.accepted) b
+behind_action (Execute kind done offered) h b = behind_instruction h.map h (word_list done.accepted) b
 
 -- the lines of a moment
 unfoldable pub moment_lines : History → Moment → List ℕ

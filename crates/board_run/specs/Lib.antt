@@ -1,6 +1,7 @@
 pub mod Charges
 pub mod History
 pub mod Events
+pub mod Tally
 pub mod Report
 pub mod Shadow
 pub mod Parts

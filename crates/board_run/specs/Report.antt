@@ -3,7 +3,7 @@ use Rattle.std.specs.Prelude.{◌≡◌, ℕ, List, [], ◌∷◌, ◌++◌, len
 use Rattle.std.specs.Io.KnownBytes.{Appends}
 use Rattle.alp_io.specs.Count.{Rose}
 use Rattle.alp_io.specs.Sink.{AppendsProperPrefix}
-use Rattle.alp_io.specs.Report.{illegal_line, bus_line, end_line}
+use Rattle.alp_io.specs.Report.{illegal_line, bus_line, end_line, events_line}
 use Rattle.alp_io.specs.declared.report.Reason.TheVariants as reason
 use Rattle.msp_step.specs.declared.machine.Stop.TheVariants as stop
 use Rattle.fram_board.specs.Board.{BoardValue}
@@ -12,6 +12,8 @@ use Rattle.board_run.specs.declared.trace_run.RunEnd.{RunEnd}
 use Rattle.board_run.specs.declared.trace_run.RunEnd.TheVariants as run_end
 use Rattle.board_run.specs.declared.trace_run.RunFault.{RunFault}
 use Rattle.board_run.specs.declared.trace_run.RunFault.TheVariants as fault
+use Rattle.energy_trace.specs.TraceValue.{Event}
+use Rattle.board_run.specs.Events.{EventCounts, event_counts}
 use Rattle.board_run.specs.History.{History, bound_lines, moment_lines, noted}
 
 -- the lines of moments behind a history
@@ -32,13 +34,22 @@ last_line h (Stopped stop.NoReading) b = end_line reason.Readings h.completed b.
 last_line h (Stopped (stop.Illegal pc word)) b = illegal_line pc word
 last_line h (Stopped (stop.Bus pc address)) b = bus_line pc address
 
--- the report of a run but for the bound: the lines of its moments, then how it ended
-abbrev pub rest_of : History → RunOutcome → List ℕ
-rest_of h r = lines_from h r.moments ++ last_line (after_all h r.moments) r.ending r.board
+-- the line of what became of these events, if there were any
+abbrev pub events_lines : List Event → EventCounts → List ℕ
+events_lines [] c = []
+events_lines (e ∷ es) c = events_line c.arisen c.accepted c.lost
 
--- the report of a run: with a map its bound first
-abbrev pub report_of : History → RunOutcome → List ℕ
-report_of h r = bound_lines h.map ++ rest_of h r
+-- the last lines: what became of these events, then how the run ended
+abbrev pub last_lines : History → List Event → RunOutcome → List ℕ
+last_lines h events r = events_lines events (event_counts h.map r) ++ last_line (after_all h r.moments) r.ending r.board
+
+-- the report of a run under these events but for the bound: the lines of its moments, then the last lines
+abbrev pub rest_of : History → List Event → RunOutcome → List ℕ
+rest_of h events r = lines_from h r.moments ++ last_lines h events r
+
+-- the report of a run under these events, which are those of its trace: with a map its bound first
+abbrev pub report_of : History → List Event → RunOutcome → List ℕ
+report_of h events r = bound_lines h.map ++ rest_of h events r
 
 -- what is answered of the end of a run
 abbrev pub answer_of : End → Result RunEnd RunFault
@@ -73,44 +84,48 @@ pub record IsCutInMoment (h : History) (text : List ℕ) (ms : List Moment) (old
   pub written : BreaksOff old new (text ++ lines_from h before) (moment_lines (after_all h before) moment)
 
 -- where writing broke off in the report of a run that begins with a text, and the board that stands then
-pub data IsCutAt (h : History) (text : List ℕ) (b : BoardValue) (r : RunOutcome) (old new : Option (List ℕ)) (after : BoardValue) : Type 0 where
-  -- in the text: nothing was done, and the board is as it was
-  InText : after ≡ b → AppendsProperPrefix old new text → IsCutAt h text b r old new after
-  -- in the lines of a moment
-  InMoment : IsCutInMoment h text r.moments old new after → IsCutAt h text b r old new after
-  -- in the last line: the board is the one at the run's end
-  InLastLine : after ≡ r.board → BreaksOff old new (text ++ lines_from h r.moments) (last_line (after_all h r.moments) r.ending r.board)
-      → IsCutAt h text b r old new after
+pub data IsCutAt (h : History) (text : List ℕ) (events : List Event) (b : BoardValue) (r : RunOutcome) (old new : Option (List ℕ)) (after : BoardValue) : Type 0
+  where
+    -- in the text: nothing was done, and the board is as it was
+    InText : after ≡ b → AppendsProperPrefix old new text → IsCutAt h text events b r old new after
+    -- in the lines of a moment
+    InMoment : IsCutInMoment h text r.moments old new after → IsCutAt h text events b r old new after
+    -- in the last lines: the board is the one at the run's end
+    InLastLines : after ≡ r.board → BreaksOff old new (text ++ lines_from h r.moments) (last_lines h events r)
+        → IsCutAt h text events b r old new after
 
--- the report of a run wasn't written whole: a proper prefix of it is, up to this place
-pub record IsCut (h : History) (text : List ℕ) (b : BoardValue) (r : RunOutcome) (old new : Option (List ℕ)) (after : BoardValue) : Type 0 where
-  pub written : AppendsProperPrefix old new (text ++ rest_of h r)
-  pub place : IsCutAt h text b r old new after
+-- the report of a run under these events wasn't written whole: a proper prefix of it is, up to this place
+pub record IsCut (h : History) (text : List ℕ) (events : List Event) (b : BoardValue) (r : RunOutcome) (old new : Option (List ℕ)) (after : BoardValue) : Type 0
+  where
+    pub written : AppendsProperPrefix old new (text ++ rest_of h events r)
+    pub place : IsCutAt h text events b r old new after
 
--- what is answered of the run of a board under charges, of which a text and then the report but for the bound are written
-abbrev pub IsTold : List ℕ → History → List BoardCharge → BoardValue → Option (List ℕ) → Option (List ℕ) → Result RunEnd RunFault → BoardValue → History
-    → Type 0
-IsTold text h cs b old new (Ok end) after now = (r : RunOutcome) × Run cs b r × IsWhole h r (text ++ rest_of h r) old new (Ok end) after now
-IsTold text h cs b old new (Err (fault.Illegal pc word)) after now = (r : RunOutcome) × Run cs b r
-    × IsWhole h r (text ++ rest_of h r) old new (Err (fault.Illegal pc word)) after now
-IsTold text h cs b old new (Err (fault.Bus pc address)) after now = (r : RunOutcome) × Run cs b r
-    × IsWhole h r (text ++ rest_of h r) old new (Err (fault.Bus pc address)) after now
-IsTold text h cs b old new (Err fault.Write) after now = (r : RunOutcome) × Run cs b r × IsCut h text b r old new after
+-- what is answered of the run of a board under charges and events, of which a text and then the report but for the bound are written
+abbrev pub IsTold : List ℕ → History → List BoardCharge → List Event → BoardValue → Option (List ℕ) → Option (List ℕ) → Result RunEnd RunFault → BoardValue
+    → History → Type 0
+IsTold text h cs events b old new (Ok end) after now = (r : RunOutcome) × Run cs b r × IsWhole h r (text ++ rest_of h events r) old new (Ok end) after now
+IsTold text h cs events b old new (Err (fault.Illegal pc word)) after now = (r : RunOutcome) × Run cs b r
+    × IsWhole h r (text ++ rest_of h events r) old new (Err (fault.Illegal pc word)) after now
+IsTold text h cs events b old new (Err (fault.Bus pc address)) after now = (r : RunOutcome) × Run cs b r
+    × IsWhole h r (text ++ rest_of h events r) old new (Err (fault.Bus pc address)) after now
+IsTold text h cs events b old new (Err fault.Write) after now = (r : RunOutcome) × Run cs b r × IsCut h text events b r old new after
 
 -- the same of the report
-abbrev pub IsRunOf : History → List BoardCharge → BoardValue → Option (List ℕ) → Option (List ℕ) → Result RunEnd RunFault → BoardValue → History → Type 0
+abbrev pub IsRunOf : History → List BoardCharge → List Event → BoardValue → Option (List ℕ) → Option (List ℕ) → Result RunEnd RunFault → BoardValue → History
+    → Type 0
 IsRunOf h = IsTold (bound_lines h.map) h
 
 -- and of the report but for the bound
-abbrev pub IsRestOf : History → List BoardCharge → BoardValue → Option (List ℕ) → Option (List ℕ) → Result RunEnd RunFault → BoardValue → History → Type 0
+abbrev pub IsRestOf : History → List BoardCharge → List Event → BoardValue → Option (List ℕ) → Option (List ℕ) → Result RunEnd RunFault → BoardValue → History
+    → Type 0
 IsRestOf = IsTold []
 
--- the last line is written, whole or not
-abbrev pub IsEndOf : History → End → BoardValue → Option (List ℕ) → Option (List ℕ) → Result RunEnd RunFault → Type 0
-IsEndOf h end b old new (Ok e) = (Ok e ≡ answer_of end) × Appends old new (last_line h end b)
-IsEndOf h end b old new (Err (fault.Illegal pc word)) = (Err (fault.Illegal pc word) ≡ answer_of end) × Appends old new (last_line h end b)
-IsEndOf h end b old new (Err (fault.Bus pc address)) = (Err (fault.Bus pc address) ≡ answer_of end) × Appends old new (last_line h end b)
-IsEndOf h end b old new (Err fault.Write) = AppendsProperPrefix old new (last_line h end b)
+-- these last lines, which tell how a run ended, are written, whole or not
+abbrev pub IsEndOf : End → List ℕ → Option (List ℕ) → Option (List ℕ) → Result RunEnd RunFault → Type 0
+IsEndOf end text old new (Ok e) = (Ok e ≡ answer_of end) × Appends old new text
+IsEndOf end text old new (Err (fault.Illegal pc word)) = (Err (fault.Illegal pc word) ≡ answer_of end) × Appends old new text
+IsEndOf end text old new (Err (fault.Bus pc address)) = (Err (fault.Bus pc address) ≡ answer_of end) × Appends old new text
+IsEndOf end text old new (Err fault.Write) = AppendsProperPrefix old new text
 
 -- the count of faults has not fallen, and rose where the report can't be written
 pub record HasWriteCause (before now : ℕ) (result : Result RunEnd RunFault) : Type 0 where

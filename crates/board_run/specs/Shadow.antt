@@ -1,5 +1,5 @@
 -- The words of the FRAM as they were at the last done, and marks on those that were written since.
-use Rattle.std.specs.Prelude.{◌≡◌, ℕ, ◌/◌, ◌<◌, ◌≤◌, Bool, true, false, List, All, Contains, length, slice_index, slice_index_or, Option, Some, None}
+use Rattle.std.specs.Prelude.{◌≡◌, ℕ, ◌/◌, ◌<◌, ◌≤◌, ◌⊎◌, Bool, true, false, List, All, Contains, length, slice_index, slice_index_or, Option, Some, None}
 use Rattle.image_text.specs.address_space.Limits.{fram_first, fram_words, place_of}
 
 -- a shadow of the FRAM
@@ -40,11 +40,19 @@ pub record AreRest (words : List ℕ) (marks : List Bool) (fram places : List �
 abbrev pub Covers : ShadowValue → List ℕ → Type 0
 Covers s fram = (i : ℕ) → i < fram_words → (IsMarked s i → ⊥) → slice_index s.words i ≡ slice_index fram i
 
--- an instruction wrote the word at a place of the FRAM
+-- a write at this address, if there was one, wrote the word at a place of the FRAM
 abbrev pub IsWritten : Option ℕ → ℕ → Type 0
 IsWritten None i = ⊥
 IsWritten (Some a) i = (fram_first ≤ a) × (i ≡ place_of a)
 
--- the same but for the word that an instruction wrote
-abbrev pub CoversBut : Option ℕ → ShadowValue → List ℕ → Type 0
-CoversBut wrote s fram = (i : ℕ) → i < fram_words → (IsWritten wrote i → ⊥) → (IsMarked s i → ⊥) → slice_index s.words i ≡ slice_index fram i
+-- the addresses that a step wrote: two at most
+abbrev pub Stores : Type 0
+Stores = Option ℕ × Option ℕ
+
+-- one of them is that of the word at a place
+abbrev pub IsStored : Stores → ℕ → Type 0
+IsStored stores i = IsWritten stores.0 i ⊎ IsWritten stores.1 i
+
+-- the same but for the words that a step wrote
+abbrev pub CoversBut : Stores → ShadowValue → List ℕ → Type 0
+CoversBut stores s fram = (i : ℕ) → i < fram_words → (IsStored stores i → ⊥) → (IsMarked s i → ⊥) → slice_index s.words i ≡ slice_index fram i

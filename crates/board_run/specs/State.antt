@@ -1,5 +1,5 @@
 -- What a watch keeps.
-use Rattle.std.specs.Prelude.{◌≡◌, ℕ, ◌+◌, ◌*◌, ◌-◌, ◌<◌, Bool, true, List, [], ◌∷◌, ◌++◌, Option, Some, None, option_map}
+use Rattle.std.specs.Prelude.{◌≡◌, ℕ, ◌+◌, ◌*◌, ◌-◌, ◌<◌, Bool, true, List, [], ◌∷◌, ◌++◌, Option, Some, None, IfSome, option_map}
 use Rattle.image_text.specs.image_map.declared.parts.ValueType.{ValueType}
 use Rattle.image_text.specs.image_map.declared.parts.Variable.{Variable}
 use Rattle.image_text.specs.image_map.MapValue.{MapValue, IsFramWord}
@@ -8,7 +8,10 @@ use Rattle.board_run.specs.declared.seen.Seen.{Seen}
 use Rattle.board_run.specs.declared.numbers.PlacedNumber.{PlacedNumber}
 use Rattle.image_text.specs.address_space.Limits.{place_of}
 use Rattle.board_run.specs.History.{History, SharedNumber, word_in, array_words, scalar_number, shared_numbers, values_in, changed_lines}
-use Rattle.board_run.specs.Shadow.{ShadowValue, IsWritten, Covers, CoversBut}
+use Rattle.board_run.specs.Shadow.{ShadowValue, Stores, IsStored, Covers, CoversBut}
+use Rattle.board_run.specs.Events.{head_of}
+use Rattle.board_run.specs.Tally.{WatchesHead, counted}
+use Rattle.board_run.specs.Parts.{Known}
 
 -- the shared numbers of a map in the words of a shadow
 abbrev pub shared_in : Option MapValue → List ℕ → List ℕ
@@ -62,30 +65,42 @@ HasIndex (v ∷ vs) i = i < number_count v.length
 abbrev pub seen_so : Seen → History
 seen_so s = history_of (option_map (λ m. m.now) s.map) s.state
 
+-- the same with the counts of events
+abbrev pub known_so : Seen → Known
+known_so s = record { history = seen_so s; tally = counted s.tally }
+
 -- a word is GATE of a FRAM, if GATE is known
 abbrev pub IsGateIfKnown : MapValue → Bool → ℕ → List ℕ → Type 0
 IsGateIfKnown m is_known gate fram = is_known ≡ true → gate ≡ word_in fram m.words.gate
 
--- the same where an instruction didn't write it
-abbrev pub IsGateUnlessWritten : MapValue → Option ℕ → Bool → ℕ → List ℕ → Type 0
-IsGateUnlessWritten m wrote is_known gate fram = (IsWritten wrote (place_of m.words.gate) → ⊥) → IsGateIfKnown m is_known gate fram
+-- the same where a step didn't write it
+abbrev pub IsGateUnlessWritten : MapValue → Stores → Bool → ℕ → List ℕ → Type 0
+IsGateUnlessWritten m stores is_known gate fram = (IsStored stores (place_of m.words.gate) → ⊥) → IsGateIfKnown m is_known gate fram
 
 -- with a map, the shadow covers a FRAM, and GATE is known or to be looked at
 abbrev pub FollowsBy : Option MapValue → ShadowValue → Bool → ℕ → List ℕ → Type 0
 FollowsBy None s is_known gate fram = Unit {0}
 FollowsBy (Some m) s is_known gate fram = Covers s fram × IsGateIfKnown m is_known gate fram
 
--- the same but for the word that an instruction wrote
-abbrev pub FollowsButBy : Option MapValue → Option ℕ → ShadowValue → Bool → ℕ → List ℕ → Type 0
-FollowsButBy None wrote s is_known gate fram = Unit {0}
-FollowsButBy (Some m) wrote s is_known gate fram = CoversBut wrote s fram × IsGateUnlessWritten m wrote is_known gate fram
+-- the same but for the words that a step wrote
+abbrev pub FollowsButBy : Option MapValue → Stores → ShadowValue → Bool → ℕ → List ℕ → Type 0
+FollowsButBy None stores s is_known gate fram = Unit {0}
+FollowsButBy (Some m) stores s is_known gate fram = CoversBut stores s fram × IsGateUnlessWritten m stores is_known gate fram
+
+-- the map of what is seen, if there is one
+abbrev pub map_seen : Seen → Option MapValue
+map_seen s = option_map (λ m. m.now) s.map
 
 -- what is seen follows a FRAM
-abbrev pub Follows : Seen → List ℕ → Type 0
-Follows s fram = FollowsBy (option_map (λ m. m.now) s.map) s.state.shadow s.state.is_gate_known s.state.gate fram
+pub record Follows (s : Seen) (fram : List ℕ) : Type 0 where
+  pub state : FollowsBy (map_seen s) s.state.shadow s.state.is_gate_known s.state.gate fram
+  pub head : WatchesHead (map_seen s) s.head.place s.head.word fram
 
-abbrev pub FollowsBut : Option ℕ → Seen → List ℕ → Type 0
-FollowsBut wrote s fram = FollowsButBy (option_map (λ m. m.now) s.map) wrote s.state.shadow s.state.is_gate_known s.state.gate fram
+-- the same behind a step: but for the words that it wrote, and HEAD is to be looked at
+pub record FollowsBut (stores : Stores) (s : Seen) (fram : List ℕ) : Type 0 where
+  pub state : FollowsButBy (map_seen s) stores s.state.shadow s.state.is_gate_known s.state.gate fram
+  pub place : s.head.place ≡ head_of (map_seen s)
+  pub fits : IfSome s.head.place IsFramWord
 
 -- the lines of shared numbers whose words were otherwise before
 abbrev pub told_lines : List ℕ → List ℕ → List SharedNumber → List ℕ

@@ -1,12 +1,14 @@
 //! Runs of a board under a trace, and their reports.
 #![tactic(auto)]
 
+mod head;
 mod laws;
 mod numbers;
 mod seen;
 mod shadow;
 mod spend;
 mod state;
+mod tally;
 mod trace_run;
 mod watch;
 

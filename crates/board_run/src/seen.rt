@@ -1,15 +1,19 @@
 //! What is seen of a run while it is made.
-ghost use Rattle.std.specs.Prelude.{◌≡◌, ◌%◌, ◌+◌, Some, None, List, ℕ, OnOk, IfOk, flat_map, option_map};
+ghost use Rattle.std.specs.Prelude.{◌≡◌, ◌%◌, ◌+◌, ◌-◌, ◌^◌, ◌<◌, ◌≤◌, Some, None, List, ℕ, OnOk, IfOk, flat_map, option_map};
 ghost use Rattle.alp_io.specs.Count.{HasCause};
 ghost use Rattle.alp_io.specs.Sink.{Writes};
 ghost use Rattle.alp_io.specs.Report.{accepted_line};
 ghost use Rattle.fram_board.specs.Run.{word_list};
 ghost use Rattle.board_run.specs.History.{start_of, bound_lines, total, values_in, shared_numbers, instruction_lines, behind_instruction, behind_power_up};
 ghost use Rattle.board_run.specs.State.{seen_so, Follows, FollowsBut};
+ghost use Rattle.board_run.specs.Events.{PowersUp};
+ghost use Rattle.board_run.specs.Tally.{no_tally, counted, words_of, tallied, tallied_all, step_ends};
 
+use crate::head::Head;
 use crate::numbers::cut_number;
 use crate::shadow::Shadow;
 use crate::state::State;
+use crate::tally::Tally;
 use alp_io::{Failed, Report, Sink};
 use fram_board::{Board, Stepped};
 use image_text::{Image, Map};
@@ -20,6 +24,9 @@ use std::alloc::{AllocError, Global};
 pub struct Seen<'a> {
     pub map: Option<&'a Map>,
     pub state: State,
+    /// What became of events since the run began, and HEAD as it was behind the last step.
+    pub tally: Tally,
+    pub head: Head,
 }
 
 impl<'a> Seen<'a> {
@@ -31,16 +38,21 @@ impl<'a> Seen<'a> {
         Ok(Seen {
             map,
             state: State::of(alloc, image, map)?,
+            tally: Tally::new(),
+            head: Head::none(),
         })
     }
 
-    /// From here on it follows whatever FRAM there is.
-    pub fn begin(&mut self)
+    /// A run begins: from here on it follows this board, and no event was taken yet.
+    pub fn begin(&mut self, board: &Board)
         ensures history { seen_so self.new ≡ seen_so self.old }
-        ensures follows { (fram : List ℕ) → Follows self.new fram }
+        ensures tally { counted self.new.tally ≡ no_tally }
+        ensures follows { Follows self.new board.now.fram }
     {
         self.state.shadow.mark_all();
         self.state.is_gate_known = false;
+        self.tally = Tally::new();
+        self.head = Head::of(self.map, board);
     }
 
     /// The sum of all shared numbers at the last done, modulo 65536; 0 without a map.
@@ -67,32 +79,43 @@ impl<'a> Seen<'a> {
 
     /// Power came up.
     pub fn note_power_up(&mut self, board: &Board)
+        requires { words_of (counted self.old.tally) < 2 ^ 64 }
         ensures history { seen_so self.new ≡ behind_power_up (seen_so self.old).map (seen_so self.old) board.now }
+        ensures tally { counted self.new.tally ≡ tallied PowersUp (counted self.old.tally) }
         ensures follows { (fram : List ℕ) → Follows self.old fram → Follows self.new fram }
     {
+        self.tally.lose();
         if self.map.is_some() {
             self.state.since = board.taken();
         }
     }
 
-    /// An instruction was executed, which left this board: its lines are written.
+    /// A step was made, which wrote at these addresses, may be a RETI, and left this board: its lines are written.
     #[inline(always)]
     pub fn note<S: Sink>(
         &mut self,
         done: &Stepped,
+        stores: (Option<u16>, Option<u16>),
+        is_return: bool,
         board: &Board,
         report: &mut Report<'_, S>,
     ) -> Result<(), Failed>
-        requires { FollowsBut done.now.wrote self.old board.now.fram }
+        requires follows { FollowsBut stores self.old board.now.fram }
+        requires words { words_of (counted self.old.tally) < 2 ^ 64 - 1 }
         ensures same_sink { report.new.sink.ghost_name ≡ report.old.sink.ghost_name }
         ensures history { OnOk result (seen_so self.new ≡ behind_instruction (seen_so self.old).map (seen_so self.old) (word_list done.now.accepted) board.now) }
+        ensures tally { counted self.new.tally ≡ tallied_all
+            (step_ends done.now.heard self.old.head.place self.old.head.word board.now.fram is_return) (counted self.old.tally) }
+        ensures few { words_of (counted self.new.tally) ≤ words_of (counted self.old.tally) + 1 }
         ensures follows { OnOk result (Follows self.new board.now.fram) }
         ensures bytes { Writes (S.contents report.old.sink.now) (S.contents report.new.sink.now) result
             (instruction_lines (seen_so self.old).map (seen_so self.old) (word_list done.now.accepted) board.now) }
         ensures cause { HasCause (S.faults report.old.sink.now) (S.faults report.new.sink.now) result }
     {
+        let has_changed = self.head.look(board);
+        self.tally.note(done.heard, has_changed, is_return);
         match self.map {
-            Some(map) => self.state.note(map, done, board, report),
+            Some(map) => self.state.note(map, done, stores, board, report),
             None => write_accepted(done, report),
         }
     }

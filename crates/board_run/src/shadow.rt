@@ -2,7 +2,7 @@
 ghost use Rattle.std.specs.Prelude.{◌≡◌, ℕ, ◌+◌, ◌*◌, ◌<◌, ◌≤◌, true, false, List, [], All, IfOk, length, replicate, slice_index_or, slice_set};
 ghost use Rattle.image_text.specs.address_space.Limits.{IsFramWord, fram_first, fram_words, place_of};
 ghost use Rattle.board_run.specs.History.{word_in, number_at};
-ghost use Rattle.board_run.specs.Shadow.{HasLengths, IsMarked, IsShadow, IsWritten, AreRest, Covers, CoversBut};
+ghost use Rattle.board_run.specs.Shadow.{HasLengths, IsMarked, IsShadow, IsWritten, IsStored, AreRest, Covers, CoversBut};
 
 use crate::numbers::long_of;
 use arrayvec::ArrayVec;
@@ -188,11 +188,24 @@ impl Shadow {
         }
     }
 
-    /// Marks the word that an instruction wrote, if it stands in the FRAM; answers whether it does.
+    /// Marks the words that a step wrote at two addresses, if they stand in the FRAM; answers whether one does.
     #[inline(always)]
-    pub fn note_write(&mut self, wrote: Option<u16>) -> bool
+    pub fn note_writes(&mut self, stores: (Option<u16>, Option<u16>)) -> bool
         ensures words { self.new.words ≡ self.old.words }
-        ensures covers { (fram : List ℕ) → CoversBut wrote self.old fram → Covers self.new fram }
+        ensures covers { (fram : List ℕ) → CoversBut stores self.old fram → Covers self.new fram }
+        ensures elsewhere { result ≡ false → (i : ℕ) → IsStored stores i → ⊥ }
+    {
+        let first = self.note_write(stores.0);
+        let second = self.note_write(stores.1);
+        first || second
+    }
+
+    // Marks the word at an address that a step wrote, if it stands in the FRAM; answers whether it does.
+    #[inline(always)]
+    fn note_write(&mut self, wrote: Option<u16>) -> bool
+        ensures words { self.new.words ≡ self.old.words }
+        ensures marked { (i : ℕ) → IsWritten wrote i → IsMarked self.new i }
+        ensures others { (i : ℕ) → IsMarked self.old i → IsMarked self.new i }
         ensures in_fram { result ≡ true → (i : ℕ) × IsWritten wrote i }
         ensures elsewhere { result ≡ false → (i : ℕ) → IsWritten wrote i → ⊥ }
     {

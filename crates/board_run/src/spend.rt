@@ -1,17 +1,20 @@
 //! One charge of a run.
 ghost use Rattle.std.specs.Prelude.{◌≡◌, ◌+◌, ◌-◌, ◌^◌, ◌<◌, ◌≤◌, OnOk};
 ghost use Rattle.alp_io.specs.Count.{HasCause};
-ghost use Rattle.fram_board.specs.Board.{IsNextInstruction};
-ghost use Rattle.fram_board.specs.Steps.{AreNextWords};
-ghost use Rattle.fram_board.specs.Run.{price};
+ghost use Rattle.fram_board.specs.Board.{IsNextStep};
+ghost use Rattle.fram_board.specs.declared.board.NextStep.TheVariants.{Acceptance, Instruction};
+ghost use Rattle.fram_board.specs.Steps.{AreWordsOfStep};
+ghost use Rattle.fram_board.specs.Run.{kind_of, price};
 ghost use Rattle.board_run.specs.Charges.{measure_of};
-ghost use Rattle.board_run.specs.State.{seen_so, Follows};
+ghost use Rattle.board_run.specs.Events.{is_return};
+ghost use Rattle.board_run.specs.State.{known_so, Follows};
+ghost use Rattle.board_run.specs.Tally.{counted, words_of};
 ghost use Rattle.board_run.specs.Parts.{IsTurn, IsSpent};
 
 use crate::seen::Seen;
 use alp_io::{Failed, Report, Sink};
 use energy_trace::ChargeKind;
-use fram_board::Board;
+use fram_board::{Board, NextStep, acceptance_makes_its_stores};
 use msp_cycles::cycles;
 use msp_decode::{jump_instruction, one_operand_instruction, two_operand_instruction};
 use msp_isa::Instr;
@@ -19,7 +22,7 @@ use msp_step::{Stop, Words};
 
 /// What a turn of a charge came to.
 pub enum Turn {
-    /// An instruction was executed, and so much is left of the charge.
+    /// A step was made, and so much is left of the charge.
     Left(u32),
     /// The charge is spent.
     Spent,
@@ -30,7 +33,7 @@ pub enum Turn {
 // What an instruction takes off a charge.
 #[inline(always)]
 fn price(kind: ChargeKind, instruction: &Instr) -> u32
-    ensures { result ≡ price (measure_of kind) instruction.now }
+    ensures { result ≡ price (measure_of kind) (Instruction instruction.now) }
 {
     match kind {
         ChargeKind::Cycles => cycles(instruction),
@@ -38,7 +41,30 @@ fn price(kind: ChargeKind, instruction: &Instr) -> u32
     }
 }
 
-// The board's next instruction is executed, if what is left of the charge pays for it.
+// What an acceptance takes off a charge.
+fn acceptance_price(kind: ChargeKind) -> u32
+    ensures { result ≡ price (measure_of kind) Acceptance }
+{
+    match kind {
+        ChargeKind::Cycles => 6,
+        ChargeKind::Steps => 1,
+    }
+}
+
+// Whether an instruction is a RETI.
+#[inline(always)]
+fn is_return(instruction: &Instr) -> bool
+    ensures { result ≡ is_return (kind_of (Instruction instruction.now)) }
+{
+    match instruction {
+        Instr::Reti => true,
+        Instr::Two { .. } => false,
+        Instr::One(_) => false,
+        Instr::Jump { .. } => false,
+    }
+}
+
+// The board's next step is this instruction: it is executed, if what is left of the charge pays for it.
 #[inline(always)]
 fn execute<S: Sink>(
     board: &mut Board,
@@ -48,15 +74,16 @@ fn execute<S: Sink>(
     watch: &mut Seen<'_>,
     report: &mut Report<'_, S>,
 ) -> Result<Turn, Failed>
-    requires next { IsNextInstruction board.old instruction.now }
+    requires next { IsNextStep board.old (Instruction instruction.now) }
     requires some { 0 < left }
     requires follows { Follows watch.old board.old.fram }
     requires accepted { board.old.receiver.accepted < 2 ^ 64 - 1 }
     requires repeats { board.old.receiver.repeats < 2 ^ 64 - 1 }
+    requires words { words_of (counted watch.old.tally) < 2 ^ 64 - 1 }
     ensures same_sink { report.new.sink.ghost_name ≡ report.old.sink.ghost_name }
     ensures follows { OnOk result (Follows watch.new board.new.fram) }
-    ensures turn { IsTurn (seen_so watch.old) (measure_of kind) left board.old
-        (S.contents report.old.sink.now) (S.contents report.new.sink.now) result board.new (seen_so watch.new) }
+    ensures turn { IsTurn (known_so watch.old) (measure_of kind) left board.old
+        (S.contents report.old.sink.now) (S.contents report.new.sink.now) result board.new (known_so watch.new) }
     ensures cause { HasCause (S.faults report.old.sink.now) (S.faults report.new.sink.now) result }
 {
     let price = price(kind, instruction);
@@ -69,7 +96,44 @@ fn execute<S: Sink>(
         Ok(done) => done,
         Err(stop) => return Ok(Turn::Stopped(stop)),
     };
-    watch.note(&done, board, report)?;
+    let stores = (done.wrote, None);
+    watch.note(&done, stores, is_return(instruction), board, report)?;
+    Ok(Turn::Left(left - price))
+}
+
+// The board's next step is an acceptance: it is made, if what is left of the charge pays for it.
+#[inline(never)]
+fn accept<S: Sink>(
+    board: &mut Board,
+    kind: ChargeKind,
+    left: u32,
+    watch: &mut Seen<'_>,
+    report: &mut Report<'_, S>,
+) -> Result<Turn, Failed>
+    requires next { IsNextStep board.old Acceptance }
+    requires some { 0 < left }
+    requires follows { Follows watch.old board.old.fram }
+    requires accepted { board.old.receiver.accepted < 2 ^ 64 - 1 }
+    requires repeats { board.old.receiver.repeats < 2 ^ 64 - 1 }
+    requires words { words_of (counted watch.old.tally) < 2 ^ 64 - 1 }
+    ensures same_sink { report.new.sink.ghost_name ≡ report.old.sink.ghost_name }
+    ensures follows { OnOk result (Follows watch.new board.new.fram) }
+    ensures turn { IsTurn (known_so watch.old) (measure_of kind) left board.old
+        (S.contents report.old.sink.now) (S.contents report.new.sink.now) result board.new (known_so watch.new) }
+    ensures cause { HasCause (S.faults report.old.sink.now) (S.faults report.new.sink.now) result }
+{
+    let price = acceptance_price(kind);
+    if price > left {
+        return Ok(Turn::Spent);
+    }
+    let (to, below) = board.cpu().return_places();
+    acceptance_makes_its_stores();
+    let done = match board.perform(&NextStep::Acceptance) {
+        Ok(done) => done,
+        Err(stop) => return Ok(Turn::Stopped(stop)),
+    };
+    let stores = (Some(to), Some(below));
+    watch.note(&done, stores, false, board, report)?;
     Ok(Turn::Left(left - price))
 }
 
@@ -83,15 +147,16 @@ fn execute_words<S: Sink>(
     watch: &mut Seen<'_>,
     report: &mut Report<'_, S>,
 ) -> Result<Turn, Failed>
-    requires next { AreNextWords board.old words }
+    requires next { AreWordsOfStep board.old words }
     requires some { 0 < left }
     requires follows { Follows watch.old board.old.fram }
     requires accepted { board.old.receiver.accepted < 2 ^ 64 - 1 }
     requires repeats { board.old.receiver.repeats < 2 ^ 64 - 1 }
+    requires words { words_of (counted watch.old.tally) < 2 ^ 64 - 1 }
     ensures same_sink { report.new.sink.ghost_name ≡ report.old.sink.ghost_name }
     ensures follows { OnOk result (Follows watch.new board.new.fram) }
-    ensures turn { IsTurn (seen_so watch.old) (measure_of kind) left board.old
-        (S.contents report.old.sink.now) (S.contents report.new.sink.now) result board.new (seen_so watch.new) }
+    ensures turn { IsTurn (known_so watch.old) (measure_of kind) left board.old
+        (S.contents report.old.sink.now) (S.contents report.new.sink.now) result board.new (known_so watch.new) }
     ensures cause { HasCause (S.faults report.old.sink.now) (S.faults report.new.sink.now) result }
 {
     let Words {
@@ -123,17 +188,19 @@ fn take_turn<S: Sink>(
     requires follows { Follows watch.old board.old.fram }
     requires accepted { board.old.receiver.accepted < 2 ^ 64 - 1 }
     requires repeats { board.old.receiver.repeats < 2 ^ 64 - 1 }
+    requires words { words_of (counted watch.old.tally) < 2 ^ 64 - 1 }
     ensures same_sink { report.new.sink.ghost_name ≡ report.old.sink.ghost_name }
     ensures follows { OnOk result (Follows watch.new board.new.fram) }
-    ensures turn { IsTurn (seen_so watch.old) (measure_of kind) left board.old
-        (S.contents report.old.sink.now) (S.contents report.new.sink.now) result board.new (seen_so watch.new) }
+    ensures turn { IsTurn (known_so watch.old) (measure_of kind) left board.old
+        (S.contents report.old.sink.now) (S.contents report.new.sink.now) result board.new (known_so watch.new) }
     ensures cause { HasCause (S.faults report.old.sink.now) (S.faults report.new.sink.now) result }
 {
     if left == 0 {
         return Ok(Turn::Spent);
     }
     match board.current_words() {
-        Ok(words) => execute_words(board, words, kind, left, watch, report),
+        Ok(Some(words)) => execute_words(board, words, kind, left, watch, report),
+        Ok(None) => accept(board, kind, left, watch, report),
         Err(stop) => Ok(Turn::Stopped(stop)),
     }
 }
@@ -149,10 +216,11 @@ pub fn spend<S: Sink>(
     requires follows { Follows watch.old board.old.fram }
     requires accepted { board.old.receiver.accepted < 2 ^ 63 + 2 ^ 62 }
     requires repeats { board.old.receiver.repeats < 2 ^ 63 + 2 ^ 62 }
+    requires words { words_of (counted watch.old.tally) < 2 ^ 63 + 2 ^ 62 }
     ensures same_sink { report.new.sink.ghost_name ≡ report.old.sink.ghost_name }
     ensures follows { OnOk result (Follows watch.new board.new.fram) }
-    ensures spent { IsSpent (seen_so watch.old) (measure_of kind) amount board.old
-        (S.contents report.old.sink.now) (S.contents report.new.sink.now) result board.new (seen_so watch.new) }
+    ensures spent { IsSpent (known_so watch.old) (measure_of kind) amount board.old
+        (S.contents report.old.sink.now) (S.contents report.new.sink.now) result board.new (known_so watch.new) }
     ensures cause { HasCause (S.faults report.old.sink.now) (S.faults report.new.sink.now) result }
 {
     let mut left = amount;

@@ -308,17 +308,18 @@ impl State {
         }
     }
 
-    /// An instruction was executed, which left this board: its lines are written.
+    /// A step was made, which wrote at these addresses and left this board: its lines are written.
     #[inline(always)]
     pub fn note<S: Sink>(
         &mut self,
         map: &Map,
         done: &Stepped,
+        stores: (Option<u16>, Option<u16>),
         board: &Board,
         report: &mut Report<'_, S>,
     ) -> Result<(), Failed>
-        requires covers { CoversBut done.now.wrote self.old.shadow board.now.fram }
-        requires gate { IsGateUnlessWritten map.now done.now.wrote self.old.is_gate_known self.old.gate board.now.fram }
+        requires covers { CoversBut stores self.old.shadow board.now.fram }
+        requires gate { IsGateUnlessWritten map.now stores self.old.is_gate_known self.old.gate board.now.fram }
         ensures same_sink { report.new.sink.ghost_name ≡ report.old.sink.ghost_name }
         ensures history { OnOk result (history_of (Some map.now) self.new ≡
             behind_instruction (Some map.now) (history_of (Some map.now) self.old) (word_list done.now.accepted) board.now) }
@@ -328,7 +329,7 @@ impl State {
             (instruction_lines (Some map.now) (history_of (Some map.now) self.old) (word_list done.now.accepted) board.now) }
         ensures cause { HasCause (S.faults report.old.sink.now) (S.faults report.new.sink.now) result }
     {
-        let in_fram = self.shadow.note_write(done.wrote);
+        let in_fram = self.shadow.note_writes(stores);
         self.keep_accepted(done);
         if self.is_gate_known && !in_fram {
             return Ok(());

@@ -1,16 +1,18 @@
 //! The run of a board under a trace.
-ghost use Rattle.std.specs.Prelude.{◌≡◌, ◌+◌, ◌*◌, ◌^◌, ◌<◌, ◌≤◌, ◌∷◌, [], None, OnOk, All, replicate};
+ghost use Rattle.std.specs.Prelude.{◌≡◌, ◌+◌, ◌-◌, ◌*◌, ◌^◌, ◌<◌, ◌≤◌, ◌∷◌, [], None, OnOk, All, replicate};
 ghost use Rattle.alp_io.specs.Count.{HasCause};
 ghost use Rattle.alp_io.specs.Sink.{Writes};
-ghost use Rattle.alp_io.specs.Report.{end_line};
+ghost use Rattle.alp_io.specs.Report.{end_line, events_line};
 ghost use Rattle.energy_trace.specs.TraceValue.{charge_count};
 ghost use Rattle.board_run.specs.Charges.{charge_of, charges_of};
-ghost use Rattle.board_run.specs.State.{seen_so, Follows};
-ghost use Rattle.board_run.specs.Parts.{AreSpent, ended};
-ghost use Rattle.board_run.specs.Report.{IsEndOf, IsRestOf, IsRunOf, HasWriteCause};
+ghost use Rattle.board_run.specs.State.{seen_so, known_so, Follows};
+ghost use Rattle.board_run.specs.Tally.{no_tally, counted, counts_at, tally_at, words_of};
+ghost use Rattle.board_run.specs.Parts.{AreSpent, ended, known_lines};
+ghost use Rattle.board_run.specs.Report.{IsEndOf, IsRestOf, IsRunOf, HasWriteCause, events_lines, last_line};
 
 use crate::seen::Seen;
 use crate::spend::spend;
+use crate::tally::Tally;
 use crate::watch::Watch;
 use alp_io::{Failed, Reason, Report, Sink};
 use energy_trace::{Charge, Trace};
@@ -64,10 +66,11 @@ fn spend_one<S: Sink>(
     requires follows { Follows watch.old board.old.fram }
     requires accepted { board.old.receiver.accepted < 2 ^ 63 + 2 ^ 62 }
     requires repeats { board.old.receiver.repeats < 2 ^ 63 + 2 ^ 62 }
+    requires words { words_of (counted watch.old.tally) < 2 ^ 63 + 2 ^ 62 }
     ensures same_sink { report.new.sink.ghost_name ≡ report.old.sink.ghost_name }
     ensures follows { OnOk result (Follows watch.new board.new.fram) }
-    ensures spent { AreSpent (seen_so watch.old) (charge_of charge.now ∷ []) board.old
-        (S.contents report.old.sink.now) (S.contents report.new.sink.now) result board.new (seen_so watch.new) 4294967295 }
+    ensures spent { AreSpent (known_so watch.old) (charge_of charge.now ∷ []) board.old
+        (S.contents report.old.sink.now) (S.contents report.new.sink.now) result board.new (known_so watch.new) 4294967295 }
     ensures cause { HasCause (S.faults report.old.sink.now) (S.faults report.new.sink.now) result }
 {
     board.power_up(charge.fill);
@@ -85,10 +88,11 @@ fn spend_repeated<S: Sink>(
     requires follows { Follows watch.old board.old.fram }
     requires accepted { board.old.receiver.accepted + 4294967295 * charge.now.times < 2 ^ 63 + 2 ^ 62 }
     requires repeats { board.old.receiver.repeats + 4294967295 * charge.now.times < 2 ^ 63 + 2 ^ 62 }
+    requires words { words_of (counted watch.old.tally) + 4294967295 * charge.now.times < 2 ^ 63 + 2 ^ 62 }
     ensures same_sink { report.new.sink.ghost_name ≡ report.old.sink.ghost_name }
     ensures follows { OnOk result (Follows watch.new board.new.fram) }
-    ensures spent { AreSpent (seen_so watch.old) (replicate charge.now.times (charge_of charge.now)) board.old
-        (S.contents report.old.sink.now) (S.contents report.new.sink.now) result board.new (seen_so watch.new) (4294967295 * charge.now.times) }
+    ensures spent { AreSpent (known_so watch.old) (replicate charge.now.times (charge_of charge.now)) board.old
+        (S.contents report.old.sink.now) (S.contents report.new.sink.now) result board.new (known_so watch.new) (4294967295 * charge.now.times) }
     ensures cause { HasCause (S.faults report.old.sink.now) (S.faults report.new.sink.now) result }
 {
     let mut left = charge.times;
@@ -113,10 +117,11 @@ fn spend_all<S: Sink>(
     requires follows { Follows watch.old board.old.fram }
     requires accepted { board.old.receiver.accepted < 2 ^ 63 }
     requires repeats { board.old.receiver.repeats < 2 ^ 63 }
+    requires words { words_of (counted watch.old.tally) < 2 ^ 63 }
     ensures same_sink { report.new.sink.ghost_name ≡ report.old.sink.ghost_name }
     ensures follows { OnOk result (Follows watch.new board.new.fram) }
-    ensures spent { AreSpent (seen_so watch.old) (charges_of charges.now) board.old
-        (S.contents report.old.sink.now) (S.contents report.new.sink.now) result board.new (seen_so watch.new) (4294967295 * charge_count charges.now) }
+    ensures spent { AreSpent (known_so watch.old) (charges_of charges.now) board.old
+        (S.contents report.old.sink.now) (S.contents report.new.sink.now) result board.new (known_so watch.new) (4294967295 * charge_count charges.now) }
     ensures cause { HasCause (S.faults report.old.sink.now) (S.faults report.new.sink.now) result }
 {
     for charge in charges {
@@ -147,15 +152,53 @@ fn write_end<S: Sink>(
     )
 }
 
+// What became of events, where a run ended so.
+fn last_tally(stop: Option<Stop>, board: &Board, watch: &Seen<'_>) -> Tally
+    requires { words_of (counted watch.now.tally) < 2 ^ 64 - 1 }
+    ensures { counted result ≡ tally_at (ended stop) board.now (counted watch.now.tally) }
+{
+    let mut tally = watch.tally;
+    if stop.is_some() {
+        tally.read(board.heard());
+    }
+    tally
+}
+
+// The line of what became of events, where there are any.
+fn write_events<S: Sink>(
+    events: &[(u32, u16)],
+    stop: Option<Stop>,
+    board: &Board,
+    watch: &Seen<'_>,
+    report: &mut Report<'_, S>,
+) -> Result<(), Failed>
+    requires { words_of (counted watch.now.tally) < 2 ^ 63 + 2 ^ 62 }
+    ensures same_sink { report.new.sink.ghost_name ≡ report.old.sink.ghost_name }
+    ensures bytes { Writes (S.contents report.old.sink.now) (S.contents report.new.sink.now) result
+        (events_lines events.now (counts_at (ended stop) board.now (counted watch.now.tally))) }
+    ensures cause { HasCause (S.faults report.old.sink.now) (S.faults report.new.sink.now) result }
+{
+    if events.is_empty() {
+        return Ok(());
+    }
+    let tally = last_tally(stop, board, watch);
+    report.events(
+        board.arisen(),
+        tally.accepted,
+        board.missed() as u64 + tally.lost,
+    )
+}
+
 // The last line of the report of a run that ended so.
-fn finish<S: Sink>(
+fn write_last<S: Sink>(
     stop: Option<Stop>,
     board: &Board,
     watch: &Seen<'_>,
     report: &mut Report<'_, S>,
 ) -> Result<RunEnd, RunFault>
     ensures same_sink { report.new.sink.ghost_name ≡ report.old.sink.ghost_name }
-    ensures end { IsEndOf (seen_so watch.now) (ended stop) board.now (S.contents report.old.sink.now) (S.contents report.new.sink.now) result }
+    ensures end { IsEndOf (ended stop) (last_line (seen_so watch.now) (ended stop) board.now)
+        (S.contents report.old.sink.now) (S.contents report.new.sink.now) result }
     ensures cause { HasWriteCause (S.faults report.old.sink.now) (S.faults report.new.sink.now) result }
 {
     match stop {
@@ -182,6 +225,24 @@ fn finish<S: Sink>(
     }
 }
 
+// The last lines of the report of a run under these events that ended so.
+fn finish<S: Sink>(
+    stop: Option<Stop>,
+    events: &[(u32, u16)],
+    board: &Board,
+    watch: &Seen<'_>,
+    report: &mut Report<'_, S>,
+) -> Result<RunEnd, RunFault>
+    requires { words_of (counted watch.now.tally) < 2 ^ 63 + 2 ^ 62 }
+    ensures same_sink { report.new.sink.ghost_name ≡ report.old.sink.ghost_name }
+    ensures end { IsEndOf (ended stop) (known_lines (known_so watch.now) events.now (ended stop) board.now)
+        (S.contents report.old.sink.now) (S.contents report.new.sink.now) result }
+    ensures cause { HasWriteCause (S.faults report.old.sink.now) (S.faults report.new.sink.now) result }
+{
+    write_events(events, stop, board, watch, report)?;
+    write_last(stop, board, watch, report)
+}
+
 /// The run behind the line of the bound.
 pub fn run_charges<S: Sink>(
     board: &mut Board,
@@ -192,22 +253,24 @@ pub fn run_charges<S: Sink>(
     requires follows { Follows watch.old board.old.fram }
     requires accepted { board.old.receiver.accepted < 2 ^ 63 }
     requires repeats { board.old.receiver.repeats < 2 ^ 63 }
+    requires tally { counted watch.old.tally ≡ no_tally }
     ensures same_sink { report.new.sink.ghost_name ≡ report.old.sink.ghost_name }
-    ensures run { IsRestOf (seen_so watch.old) (charges_of trace.now.charges) board.old
+    ensures run { IsRestOf (seen_so watch.old) (charges_of trace.now.charges) trace.now.events board.old
         (S.contents report.old.sink.now) (S.contents report.new.sink.now) result board.new (seen_so watch.new) }
     ensures cause { HasWriteCause (S.faults report.old.sink.now) (S.faults report.new.sink.now) result }
 {
     let stop = spend_all(board, trace.charges(), watch, report)?;
-    finish(stop, board, watch, report)
+    finish(stop, trace.events(), board, watch, report)
 }
 
-/// The run of a board under the charges of a trace, which needs a board and a watch that are new from one image. Its report is
-/// written line by line, and last how the run ended, which is answered too. Without a map each accepted word has its line at
+/// The run of a board under a trace, which needs a board and a watch that are new from one image, and the board the trace's
+/// readings and events. Its report is written line by line, and last how the run ended, which is answered too. Where the trace
+/// has events, a line in front of the last says how many arose, were accepted and were lost. Without a map each accepted word has its line at
 /// once. With a map the bound comes first, and each completed transition has its line, then one for each word accepted since
 /// the last (the first 256, then how many more), and one for each shared word that has changed since.
 ///
-/// For each charge in order power comes up with its fill word; then the board executes instructions while the charge pays for
-/// the next one, in cycles or in instructions; a charge that can't pay is spent. The run ends with `Charges` where all are
+/// For each charge in order power comes up with its fill word; then the board makes steps while the charge pays for the next
+/// one, in cycles or in steps; a charge that can't pay is spent. A step is an instruction or the acceptance of an event. The run ends with `Charges` where all are
 /// spent, `Off` where CPUOFF is set, and `Readings` where a reading is wanted and none is left. `Illegal` and `Bus` are the
 /// board's faults, which the report's last line says. No memory is taken.
 ///
@@ -223,7 +286,7 @@ pub fn run<S: Sink>(
     requires accepted { board.old.receiver.accepted < 2 ^ 63 }
     requires repeats { board.old.receiver.repeats < 2 ^ 63 }
     ensures same_sink { report.new.sink.ghost_name ≡ report.old.sink.ghost_name }
-    ensures run { IsRunOf watch.old (charges_of trace.now.charges) board.old
+    ensures run { IsRunOf watch.old (charges_of trace.now.charges) trace.now.events board.old
         (S.contents report.old.sink.now) (S.contents report.new.sink.now) result board.new watch.new }
     ensures cause { HasWriteCause (S.faults report.old.sink.now) (S.faults report.new.sink.now) result }
 {

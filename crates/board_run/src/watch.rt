@@ -73,11 +73,11 @@ impl<'a> Watch<'a> {
         requires accepted { board.old.receiver.accepted < 2 ^ 63 }
         requires repeats { board.old.receiver.repeats < 2 ^ 63 }
         ensures same_sink { report.new.sink.ghost_name ≡ report.old.sink.ghost_name }
-        ensures run { IsRestOf self.old (charges_of trace.now.charges) board.old
+        ensures run { IsRestOf self.old (charges_of trace.now.charges) trace.now.events board.old
             (S.contents report.old.sink.now) (S.contents report.new.sink.now) result board.new self.new }
         ensures cause { HasWriteCause (S.faults report.old.sink.now) (S.faults report.new.sink.now) result }
     {
-        self.seen.begin();
+        self.seen.begin(board);
         run_charges(board, trace, &mut self.seen, report)
     }
 }

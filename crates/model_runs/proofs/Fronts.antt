@@ -13,7 +13,7 @@ use Rattle.crash_rules.specs.Laws.{Origin, IsLawful, Matches, HasRun, PowersUpBe
 use Rattle.crash_rules.proofs.Interface.{crash_theorem}
 use Rattle.run_charges.specs.View.{outside_of, IsFront}
 use Rattle.run_charges.specs.Laws.{IsRunOfWords, IsPlainRun}
-use Rattle.run_charges.proofs.Interface.{PlacedProgram, Ready, Reached, front_reached, programs_run_plainly, run_front}
+use Rattle.run_charges.proofs.Interface.{PlacedProgram, Ready, Reached, front_reached, plain_run, run_front}
 use Rattle.model_runs.specs.Runs.{BearsModel, history_behind}
 use Rattle.model_runs.specs.Laws.{FrontsAreLawful}
 
@@ -38,7 +38,7 @@ module _ {St : Type 0} (m : Model St) (c : Program) (readings : List ℕ) (origi
 
   -- its run is a plain one: no interrupt is accepted, and nothing is read of EVENT
   pub runs_plainly : (cs : List BoardCharge) (r : RunOutcome) → IsRunOfWords cs b r → IsPlainRun cs b r
-  runs_plainly cs r run = programs_run_plainly c cs b r run m.marks first bears.stands
+  runs_plainly cs r run = plain_run stood b first (ready_at_first run.whole run.words) cs r run
 
   -- what is known at a front: charges lead there, and the code stands
   abbrev pub AtFront : BoardValue → History → Type 0

@@ -1,19 +1,12 @@
 -- The charge in which a run stops.
-use Rattle.std.proofs.Common.{◌≡◌, ℕ, ◌+◌, ◌-◌, suc, refl, sym, ap, ◌∙◌, subst, List, [], ◌∷◌, ◌++◌, append_assoc, append-nil, length, map, slice_range, Option, None, Err}
+use Rattle.std.proofs.Common.{◌≡◌, ℕ, ◌+◌, ◌-◌, suc, refl, sym, ap, ◌∙◌, subst, List, [], ◌∷◌, ◌++◌, append_assoc, length, map, Err}
 use Rattle.msp_isa.specs.declared.instructions.Instr.{Instr}
 use Rattle.msp_cycles.specs.Cycles.{cycles_of}
 use Rattle.msp_step.specs.declared.machine.Stop.{Stop}
-use Rattle.msp_step.specs.Registers.{Registers, registers_of}
-use Rattle.msp_step.specs.Access.{Access, Completed, Faulted}
-use Rattle.msp_step.specs.Effect.{Written}
-use Rattle.msp_step.specs.Step.{effect, outcome_of}
-use Rattle.fram_board.proofs.msp_step.Interface.{Ends, effect_ends}
 use Rattle.fram_board.specs.declared.board.NextStep.TheVariants as next_step
-use Rattle.fram_board.specs.Bus.{BusState, board_bus}
-use Rattle.fram_board.specs.Board.{BoardValue, BoardOutcome, powered, opened, board_outcome, executed, at_boundary, IsStoppedBy, IsNextInstruction}
-use Rattle.fram_board.proofs.Interface.{only_takes}
+use Rattle.fram_board.specs.Board.{BoardValue, powered, executed, at_boundary, IsStoppedBy, IsNextInstruction}
 use Rattle.fram_board.specs.Steps.{IsPowerState}
-use Rattle.fram_board.specs.Effects.{Effect, Take, sends_of, effects_of}
+use Rattle.fram_board.specs.Effects.{Effect, Take, effects_of}
 use Rattle.fram_board.specs.Run.{Measure, price, Moment, Stopped, RunOutcome, run_outcome, BoardCharge, Run, Over, Next, Last, power_up_of}
 use Rattle.fram_board.specs.Run.{ChargeRun, Spent, NoInstruction, TooDear, Refused, Executed}
 use Rattle.machine_effects.specs.World.{EachStore}

@@ -170,6 +170,7 @@ maps_are_of_sources text p allow plans l h =
       emits = placed.emits;
       versions = placed.versions;
       copies = placed.copies;
+      ring = tt;
       variables = variables_are text l.homes.address (end_of l.homes) p.shared l.variables places rules.homes placed.low placed.high h.names.words;
       few_variables = omega (arith, few_shared, shared_length);
       few_tasks = omega (arith, few_tasks, task_length);

@@ -1,7 +1,7 @@
 use Rattle.std.proofs.Common.{arith, ◌∙◌, refl, sym, replicate, get_or, drop, ◌+◌, ◌*◌}
 use Rattle.energy_trace.specs.TraceValue.{charge_count}
 use Rattle.board_run.specs.Charges.{charge_of, charges_of}
-use Rattle.board_run.specs.State.{seen_so}
+use Rattle.board_run.specs.State.{known_so}
 use Rattle.board_run.proofs.Charges.{spends_for_first, spends_for_more, spends_for_stop, spends_for_end, spends_for_err, all_split, count_split, all_end}
 use Rattle.board_run.proofs.Charges.{no_charge}
 use Rattle.board_run.proofs.trace_run.spend_all.Goals as goal
@@ -15,7 +15,7 @@ returns-in_err-stop-clause-spent g c =
     let charge = get_or c.args.charges.now i no_charge in
     spends_for_err _ _ _ _ _ _ (replicate charge.times (charge_of charge)) (charges_of (drop (i + 1) c.args.charges.now)) c.loop-charge.board _
     (g.S.Sink.contents c.loop-charge.report.sink.now) _
-    (seen_so c.loop-charge.watch) _ (seen_so c.spend_repeated.new.watch) (4294967295 * charge_count (drop i c.args.charges.now)) (4294967295 * charge.times)
+    (known_so c.loop-charge.watch) _ (known_so c.spend_repeated.new.watch) (4294967295 * charge_count (drop i c.args.charges.now)) (4294967295 * charge.times)
     c.in_err-stop.field-0.0 _ c.from_residual.ensures.0
     (all_split c.args.charges.now no_charge i c.loop-charge-test.true) c.loop-charge.invariant.on c.in_err-stop.ensures.spent
 

@@ -1,6 +1,6 @@
 use Rattle.std.proofs.Common.{arith, ◌∙◌, refl, sym, ◌∷◌, [], replicate, ◌-◌, ◌*◌}
 use Rattle.board_run.specs.Charges.{charge_of}
-use Rattle.board_run.specs.State.{seen_so}
+use Rattle.board_run.specs.State.{known_so}
 use Rattle.board_run.proofs.Charges.{spends_for_first, spends_for_more, spends_for_stop, spends_for_end, spends_for_err, repeated_split, repeated_end}
 use Rattle.board_run.proofs.trace_run.spend_repeated.Goals as goal
 
@@ -10,7 +10,7 @@ loop-left-init g c = record { same = refl; count = omega arith; follows = c.requ
 pub returns-in_err-stop-clause-spent : goal.returns-in_err-stop-clause-spent
 returns-in_err-stop-clause-spent g c = spends_for_err _ _ _ _ _ _ (charge_of c.args.charge.now ∷ [])
     (replicate (c.loop-left.left - 1) (charge_of c.args.charge.now)) c.loop-left.board _ (g.S.Sink.contents c.loop-left.report.sink.now) _
-    (seen_so c.loop-left.watch) _ (seen_so c.spend_one.new.watch) (4294967295 * c.loop-left.left) 4294967295 c.in_err-stop.field-0.0 _ c.from_residual.ensures.0
+    (known_so c.loop-left.watch) _ (known_so c.spend_one.new.watch) (4294967295 * c.loop-left.left) 4294967295 c.in_err-stop.field-0.0 _ c.from_residual.ensures.0
     (repeated_split c.loop-left.left (charge_of c.args.charge.now) c.loop-left-test.true) c.loop-left.invariant.on c.in_err-stop.ensures.spent
 
 pub returns-then-is_some-clause-spent : goal.returns-then-is_some-clause-spent

@@ -14,11 +14,11 @@ returns-then-not-in_fram-clause-history g c =
     let m = c.args.map.now in
     let before = history_of (Some m) c.args.self.now in
     let ws = word_list c.args.done.now.accepted in
-    let elsewhere = c.note_write-in_fram.ensures.elsewhere c.if-not-in_fram.true (place_of m.words.gate) in
+    let elsewhere = c.note_writes-in_fram.ensures.elsewhere c.if-not-in_fram.true (place_of m.words.gate) in
     let known = sym c.keep_accepted.ensures.known ∙ c.if-self.true in
     still_gated m (history_of (Some m) c.keep_accepted.new.self) (with_words before ws) c.args.board.now (word_in c.args.board.now.fram m.words.gate)
     (c.keep_accepted.ensures.gate ∙ c.requires.gate elsewhere known)
-    (c.keep_accepted.ensures.history (Some m) ∙ ap (λ x. with_words (record before { shared = shared_in (Some m) x }) ws) c.note_write-in_fram.ensures.words)
+    (c.keep_accepted.ensures.history (Some m) ∙ ap (λ x. with_words (record before { shared = shared_in (Some m) x }) ws) c.note_writes-in_fram.ensures.words)
 
 pub returns-clause-history : goal.returns-clause-history
 returns-clause-history g c =
@@ -29,7 +29,7 @@ returns-clause-history g c =
     subst Q (c.word-now.ensures ∙ ap (λ (w : RuntimeWords). word_in c.args.board.now.fram w.gate) c.words.ensures)
     (subst P (c.keep_accepted.ensures.history (Some m)
     ∙ ap (λ ws. with_words (record (history_of (Some m) c.args.self.now) { shared = shared_in (Some m) ws }) (word_list c.args.done.now.accepted))
-    c.note_write-in_fram.ensures.words) c.note_gate.ensures.history)
+    c.note_writes-in_fram.ensures.words) c.note_gate.ensures.history)
 
 pub returns-clause-bytes : goal.returns-clause-bytes
 returns-clause-bytes g c =
@@ -44,7 +44,7 @@ returns-clause-bytes g c =
     (subst (λ gate. Q gate c.word-now.result) c.keep_accepted.ensures.gate
     (subst P (c.keep_accepted.ensures.history (Some m)
     ∙ ap (λ ws. with_words (record (history_of (Some m) c.args.self.now) { shared = shared_in (Some m) ws }) (word_list c.args.done.now.accepted))
-    c.note_write-in_fram.ensures.words) c.note_gate.ensures.bytes))
+    c.note_writes-in_fram.ensures.words) c.note_gate.ensures.bytes))
 
 pub returns-clause-gate : goal.returns-clause-gate
 returns-clause-gate g c =
