@@ -1,8 +1,8 @@
 //! The words that a map names.
 ghost use Rattle.std.specs.Prelude.{◌≡◌, IfSome, IfNone, false};
 ghost use Rattle.fram_state.specs.Stretch.{held_until, AllUpTo};
-ghost use Rattle.fram_state.specs.Named.{list_words, place_words, copies_words, variable_words, runtime_words, buffers, ring_parts, ring_until, is_shared, shared_until};
-ghost use Rattle.fram_state.specs.Named.{is_named};
+ghost use Rattle.fram_state.specs.Named.{list_words, place_words, copies_words, variable_words, runtime_words, buffers, is_shared, shared_until};
+ghost use Rattle.fram_state.specs.Named.{ring_parts, ring_until, is_named};
 
 use crate::stretch::Stretch;
 use image_map::RING_WORDS;
