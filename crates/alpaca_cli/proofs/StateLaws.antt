@@ -51,10 +51,10 @@ saves_more fresh stay (x ∷ y ∷ z ∷ more) p m = m
 -- ---- `resume`
 
 of_its_source : StatesAreTold → StatesStay → (image : ImageValue) (s : State) → IsOfWords s → Belongs image s → (t : TraceValue) → IsTraceOfWords t
-    → (r : RunOutcome) → Run (charges_of t.charges) (from_state s t) r → (output : List ℕ) → output ≡ report_of (start_of s.image) r
+    → (r : RunOutcome) → Run (charges_of t.charges) (from_state s t) r → (output : List ℕ) → output ≡ report_of (start_of s.image) t.events r
     → IsOfItsSource image s t r output
 of_its_source told stay image s whole b t words r run output lines =
-    let of_report : IsOfItsSource image s t r (report_of (start_of s.image) r) = record {
+    let of_report : IsOfItsSource image s t r (report_of (start_of s.image) t.events r) = record {
       told = told image s (has_words s whole) b t words r run;
       stays = λ source of. stay source image of s (has_words s whole) b t words r run;
     } in subst (IsOfItsSource image s t r) (sym lines) of_report

@@ -1,13 +1,16 @@
 -- What `try` prints is a report that its source could have told.
-use Rattle.std.proofs.Common.{◌≡◌, ◌∙◌, ◌++◌, length, arith, refl, ap, inr}
+use Rattle.std.proofs.Common.{◌≡◌, ◌∙◌, ℕ, List, ◌++◌, length, arith, refl, ap₂, inr}
 use Rattle.plain_commands.specs.alp_io.declared.report.Reason.{Reason}
 use Rattle.plain_commands.specs.alp_io.declared.report.Reason.TheVariants as reason
 use Rattle.plain_commands.specs.alp_io.Report.{bound_line, end_line}
 use Rattle.plain_commands.specs.fram_board.msp_step.declared.machine.Stop.TheVariants as stop
+use Rattle.plain_commands.specs.energy_trace.TraceValue.{Event}
 use Rattle.plain_commands.specs.fram_board.Run.{End, Charges, Stopped}
+use Rattle.plain_commands.specs.board_run.Report.{events_lines}
 use Rattle.plain_commands.specs.source_values.Statements.{Outcome}
 use Rattle.plain_commands.specs.source_report.SourceReport.{source_report}
 use Rattle.source_runs.specs.Tells.{IsEndOf}
+use Rattle.source_runs.specs.model_runs.Events.{none_accepted}
 use Rattle.compiler_commands.specs.Audited.{TriedReportsAreGood, TriedReportsAreAnsweredYes}
 use Rattle.plain_commands.proofs.Interface.{of_same}
 
@@ -20,9 +23,12 @@ never_off (Stopped (stop.Illegal pc word)) next why ends off = ends
 never_off (Stopped (stop.Bus pc address)) next why ends off = ends
 
 pub tried_reports_are_good : TriedReportsAreGood
-tried_reports_are_good source trace file output t =
+tried_reports_are_good source trace file output t none =
     let r = t.report.outcome in
-    let heard = t.told.heard in (
+    let heard = t.told.heard in
+    let end = end_line t.told.why (length t.told.spans) r.board.receiver.accepted r.board.receiver.repeats in
+    let lines_of : List Event → ℕ → List ℕ = λ events bound. bound_line bound ++ (source_report source t.program 1 t.told.spans t.told.transitions
+        ++ (events_lines events (none_accepted r.board) ++ end)) in (
       length t.told.spans,
       record {
         head = bound_line t.allow.cycles;
@@ -39,12 +45,11 @@ tried_reports_are_good source trace file output t =
         words = t.told.words;
         few_accepted = omega (arith, heard);
         few_repeats = omega (arith, heard);
-        lines = t.told.lines ∙ ap (λ n. bound_line n ++ (source_report source t.program 1 t.told.spans t.told.transitions
-            ++ end_line t.told.why (length t.told.spans) r.board.receiver.accepted r.board.receiver.repeats)) t.built.bound;
+        lines = t.told.lines ∙ ap₂ lines_of none t.built.bound;
       },
     )
 
 pub tried_reports_are_answered_yes : TriedReportsAreAnsweredYes
-tried_reports_are_answered_yes source trace file output t ending line a =
-    let good = tried_reports_are_good source trace file output t in
+tried_reports_are_answered_yes source trace file output t none ending line a =
+    let good = tried_reports_are_good source trace file output t none in
     of_same source trace output t.program t.allow t.charges good.0 good.1 t.trace_said ending line a (a.only t.program t.allow t.accepted)

@@ -71,17 +71,17 @@ generated_words number bound trace low is = subst IsTraceOfWords (sym is) (gener
 
 -- its end is no fault, and a sink that never fails gives no other
 pub no_fault : (image : ImageValue) (trace : TraceValue) (old new : Option (List ℕ)) (x : RunFault) (board after : BoardValue) (watch now : History)
-    → board ≡ fresh image.words trace.readings → watch ≡ start_of image
+    → board ≡ fresh image.words trace.readings trace.events → watch ≡ start_of image
     → ((ending : Ending) (output : List ℕ) → IsRunReport image trace ending output → ending ≡ well)
     → IsRunOf watch (charges_of trace.charges) board old new (Err x) after now → HasWriteCause 0 0 (Err x) → ⊥
 no_fault image trace old new x board after watch now is_board is_watch ends r cause =
-    go x (subst (λ h. IsRunOf h (charges_of trace.charges) (fresh image.words trace.readings) old new (Err x) after now) is_watch
+    go x (subst (λ h. IsRunOf h (charges_of trace.charges) (fresh image.words trace.readings trace.events) old new (Err x) after now) is_watch
     (subst (λ b. IsRunOf watch (charges_of trace.charges) b old new (Err x) after now) is_board r)) cause
   where
     faulty : at_fault ≡ well → ⊥
     faulty e = cc
 
-    go : (y : RunFault) → IsRunOf (start_of image) (charges_of trace.charges) (fresh image.words trace.readings) old new (Err y) after now
+    go : (y : RunFault) → IsRunOf (start_of image) (charges_of trace.charges) (fresh image.words trace.readings trace.events) old new (Err y) after now
         → HasWriteCause 0 0 (Err y) → ⊥
     go (fault.Illegal pc word) q w = let f = is_written _ _ trace old new (Err (fault.Illegal pc word)) after now q in faulty (ends at_fault f.0 f.1)
     go (fault.Bus pc address) q w = let f = is_written _ _ trace old new (Err (fault.Bus pc address)) after now q in faulty (ends at_fault f.0 f.1)
@@ -111,10 +111,10 @@ generates_run : (number : ℕ) (file output : List ℕ) (p : CheckedProgram) (al
     → IsAcceptedText (generated_text number) p allow → (built : IsBuilt (generated_text number) p allow image file)
     → IsTold (generated_text number) p built.map image (generated_trace number allow.cycles)
     → (r : (o : RunOutcome) × Run (charges_of (generated_trace number allow.cycles).charges)
-    (fresh image.words (generated_trace number allow.cycles).readings) o)
+    (fresh image.words (generated_trace number allow.cycles).readings (generated_trace number allow.cycles).events) o)
     → output ≡ generated_lines number allow.cycles (start_of image) r.0 → Generates number file output
 generates_run number file output p allow image accepted built told r lines =
-    let text = report_of (start_of image) r.0 in
+    let text = report_of (start_of image) (generated_trace number allow.cycles).events r.0 in
     let ends = told.ends_well (ending_of r.0.ending) text (record { outcome = r.0; run = r.1; ends = refl; lines = refl }) in
     record {
       program = p;
@@ -132,7 +132,7 @@ generates_run number file output p allow image accepted built told r lines =
 pub generates : (number bound : ℕ) (source text file : List ℕ) (p : CheckedProgram) (allow : Allow) (image : ImageValue) (trace : TraceValue)
     → text ≡ source → source ≡ generated_text number → bound ≡ allow.cycles → trace ≡ generated_trace number bound
     → IsAcceptedText source p allow → IsBuilt text p allow image file → IsToldOnTraces text p image → IsTraceOfWords trace
-    → (r : (o : RunOutcome) × Run (charges_of trace.charges) (fresh image.words trace.readings) o)
+    → (r : (o : RunOutcome) × Run (charges_of trace.charges) (fresh image.words trace.readings trace.events) o)
     → (output : List ℕ) → output ≡ generated_lines number bound (start_of image) r.0 → Generates number file output
 generates number bound source text file p allow image trace kept is is_bound made accepted built told words r output lines =
     let own : text ≡ generated_text number = kept ∙ is in
@@ -140,5 +140,5 @@ generates number bound source text file p allow image trace kept is is_bound mad
     let new = subst (λ y. IsBuilt y p allow image file) own built in
     generates_run number file output p allow image (subst (λ y. IsAcceptedText y p allow) is accepted) new
     (subst (λ y. IsToldOnTraces y p image) own told new.map new.mapped (generated_trace number allow.cycles) (subst IsTraceOfWords drawn words))
-    (r.0, subst (λ y. Run (charges_of y.charges) (fresh image.words y.readings) r.0) drawn r.1)
+    (r.0, subst (λ y. Run (charges_of y.charges) (fresh image.words y.readings y.events) r.0) drawn r.1)
     (lines ∙ ap (λ b. generated_lines number b (start_of image) r.0) is_bound)

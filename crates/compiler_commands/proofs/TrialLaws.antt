@@ -44,12 +44,12 @@ module _ (law : ImagesAreTold) (runs : HasRun) (text : List ℕ) (p : CheckedPro
     (accepted : IsAcceptedText text p allow) (compiled : IsCompiled text p allow image) where
   on_trace : (trace : TraceValue) → IsTraceOfWords trace → IsTold text p (map_of text p compiled.layout allow) image trace
   on_trace trace words =
-      let run = runs (charges_of trace.charges) (fresh image.words trace.readings) in
+      let run = runs (charges_of trace.charges) (fresh image.words trace.readings trace.events) in
       let told = law text p allow image accepted compiled trace words in
       let m = map_of text p compiled.layout allow in
-      let Told : RunOutcome → List ℕ → Type 0 = IsToldBySource text p m (charges_of trace.charges) (fresh image.words trace.readings) in
+      let Told : RunOutcome → List ℕ → Type 0 = IsToldBySource text p m (charges_of trace.charges) (fresh image.words trace.readings trace.events) in
       record {
-        output = report_of (start_of image) run.0;
+        output = report_of (start_of image) trace.events run.0;
         report = record { outcome = run.0; run = run.1; ends = ends_well _ _ _ (told run.0 run.1).ending; lines = refl };
         ends_well = λ ending output r. r.ends ∙ sym (ends_well _ _ _ (told r.outcome r.run).ending);
         told = λ output r. subst (Told r.outcome) (sym r.lines) (told r.outcome r.run);

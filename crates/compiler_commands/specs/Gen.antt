@@ -27,9 +27,9 @@ pub record Generates (number : ℕ) (file output : List ℕ) : Type 0 where
   pub outcome : RunOutcome
   pub accepted : IsAcceptedText (generated_text number) program allow
   pub built : IsBuilt (generated_text number) program allow image file
-  pub run : let trace = generated_trace number allow.cycles in Run (charges_of trace.charges) (fresh image.words trace.readings) outcome
+  pub run : let trace = generated_trace number allow.cycles in Run (charges_of trace.charges) (fresh image.words trace.readings trace.events) outcome
   pub told : let trace = generated_trace number allow.cycles in IsToldBySource (generated_text number) program built.map (charges_of trace.charges)
-      (fresh image.words trace.readings) outcome (report_of (start_of image) outcome)
+      (fresh image.words trace.readings trace.events) outcome (report_of (start_of image) trace.events outcome)
   pub lines : output ≡ generated_lines number allow.cycles (start_of image) outcome
 
 -- What it promises. The text of the generated source, which stands in no file, is told of as `gen`.

@@ -34,7 +34,7 @@ ended_line end b now = end_line (reason_of end) now.completed b.receiver.accepte
 -- the run of the image's fresh board on a trace, which answers so, and the board and the history at its end
 pub record RanSo (image : ImageValue) (trace : TraceValue) (end : RunEnd) (board : BoardValue) (now : History) : Type 0 where
   pub outcome : RunOutcome
-  pub run : Run (charges_of trace.charges) (fresh image.words trace.readings) outcome
+  pub run : Run (charges_of trace.charges) (fresh image.words trace.readings trace.events) outcome
   pub answer : Ok end ≡ answer_of outcome.ending
   pub at_end : board ≡ outcome.board
   pub history : now ≡ after_all (start_of image) outcome.moments

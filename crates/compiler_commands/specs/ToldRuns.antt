@@ -17,7 +17,7 @@ pub record IsTold (source : List ℕ) (program : CheckedProgram) (m : MapValue) 
   pub report : IsRunReport image trace well output
   pub ends_well : (ending : Ending) (text : List ℕ) → IsRunReport image trace ending text → ending ≡ well
   pub told : (text : List ℕ) (r : IsRunReport image trace well text)
-      → IsToldBySource source program m (charges_of trace.charges) (fresh image.words trace.readings) r.outcome text
+      → IsToldBySource source program m (charges_of trace.charges) (fresh image.words trace.readings trace.events) r.outcome text
 
 -- the same on any trace, by the map that the image has
 abbrev pub IsToldOnTraces : List ℕ → CheckedProgram → ImageValue → Type 0

@@ -28,7 +28,7 @@ pub record Tries (source trace file output : List ℕ) : Type 0 where
   pub trace_said : trace_of trace ≡ Ok charges
   pub built : IsBuilt source program allow image file
   pub report : IsRunReport image charges well output
-  pub told : IsToldBySource source program built.map (charges_of charges.charges) (fresh image.words charges.readings) report.outcome output
+  pub told : IsToldBySource source program built.map (charges_of charges.charges) (fresh image.words charges.readings charges.events) report.outcome output
 
 -- what it promises
 abbrev pub try_promise : (source trace image : List ℕ) → Promise

@@ -49,7 +49,7 @@ fn trace_of_number<'t>(alloc: Global, number: u32, bound: u32) -> Result<Trace, 
 
 // Runs a board that is new from the image, whose run ends well; nothing is written. Takes no memory.
 fn run_alone(image: &Image, trace: &Trace, board: &mut Board, watch: &mut Watch<'_>) -> RunEnd
-    requires board { board.old ≡ fresh image.now.words trace.now.readings }
+    requires board { board.old ≡ fresh image.now.words trace.now.readings trace.now.events }
     requires watch { watch.old ≡ start_of image.now }
     requires ends_well { (ending : Ending) (output : List ℕ) → IsRunReport image.now trace.now ending output → ending ≡ well }
     ensures { RanSo image.now trace.now result board.new watch.new }
@@ -89,7 +89,7 @@ fn put_generated<'t, H: Shelf, O: Sink>(
         (record { old = H.files shelf.old; new = H.files shelf.new; counts_old = H.counts shelf.old; counts_new = H.counts shelf.new })
         (record { old = O.contents out.old; new = O.contents out.new; faults_old = O.faults out.old; faults_new = O.faults out.new })) }
 {
-    let mut board = Board::new(alloc, &built.image, trace.readings())?;
+    let mut board = Board::new(alloc, &built.image, trace.readings(), trace.events())?;
     let mut watch = Watch::new(alloc, &built.image)?;
     put_file(alloc, shelf, words.image, built.text.as_slice())?;
     let end = run_alone(&built.image, trace, &mut board, &mut watch);

@@ -91,7 +91,7 @@ pub fn try_texts<'t, H: Shelf, O: Sink>(
     let source = source_of(alloc, names.source, texts.source)?;
     let trace = trace_of(alloc, names.trace, texts.trace)?;
     let built = built_of(alloc, &source)?;
-    let mut board = Board::new(alloc, &built.image, trace.readings())?;
+    let mut board = Board::new(alloc, &built.image, trace.readings(), trace.events())?;
     let mut watch = Watch::new(alloc, &built.image)?;
     put_file(alloc, shelf, names.image, built.text.as_slice())?;
     write_trial(out, &trace, &mut board, &mut watch)?;

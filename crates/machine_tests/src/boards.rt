@@ -298,6 +298,37 @@ fn an_event_is_accepted(rt: HostRuntime) -> Result<(), Fail> {
     Ok(())
 }
 
+// Of two reads in one instruction the first takes the word, and a read of an empty port takes none.
+#[test]
+fn the_port_is_read(rt: HostRuntime) -> Result<(), Fail> {
+    // cmp &0x0206,&0x0206; mov &0x0206,r4; mov #0x2402,sp; bis #8,sr
+    let code = [
+        0x9292, 0x0206, 0x0206, 0x4214, 0x0206, 0x4031, 0x2402, 0xd232,
+    ];
+    let mut board = board_with(rt.alloc(), &code, &[(0, 7), (4, 8)])?;
+    board.power_up(0);
+    let twice = Stepped {
+        cycles: 6,
+        wrote: None,
+        took: 0,
+        accepted: None,
+        heard: Heard::Again(Some(7)),
+    };
+    assert_eq!(rt; step(&rt, &mut board), Ok(twice));
+    assert_eq!(rt; step(&rt, &mut board), heard(3, None));
+    assert_eq!(rt; board.cpu().reg(R4), 0);
+    assert_eq!(rt; step(&rt, &mut board), plain(2, None));
+    assert_eq!(rt; step(&rt, &mut board), plain(1, None));
+    // PC's place is behind the RAM
+    let fault = Stop::Bus {
+        pc: 0x4410,
+        address: 0x2400,
+    };
+    assert_eq!(rt; step(&rt, &mut board), Err(fault));
+    assert_eq!(rt; (board.arisen(), board.missed()), (2, 0));
+    Ok(())
+}
+
 // A power-up loses what waits; an acceptance whose stores aren't to memory is a fault, of PC's place first.
 #[test]
 fn an_event_is_lost_or_refused(rt: HostRuntime) -> Result<(), Fail> {

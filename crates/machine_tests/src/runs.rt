@@ -35,7 +35,7 @@ fn heard_until_failure(
     let mut failing = Vec::new(rt.alloc());
     failing.push(failing_call)?;
     let mut sink = MemSink::new(rt.alloc(), 100000, failing)?;
-    let mut board = Board::new(rt.alloc(), &image, trace.readings())?;
+    let mut board = Board::new(rt.alloc(), &image, trace.readings(), trace.events())?;
     let mut watch = Watch::new(rt.alloc(), &image)?;
     let answer = run_into(&mut board, &trace, &mut watch, &mut sink);
     Ok((answer, board.accepted(), board.repeats()))
@@ -69,7 +69,7 @@ fn summed(
     let image = parse_image(rt.alloc(), image.as_bytes())?;
     let trace = parse_trace(rt.alloc(), trace.as_bytes())?;
     let mut sink = MemSink::new(rt.alloc(), 1000, Vec::new(rt.alloc()))?;
-    let mut board = Board::new(rt.alloc(), &image, trace.readings())?;
+    let mut board = Board::new(rt.alloc(), &image, trace.readings(), trace.events())?;
     let mut watch = Watch::new(rt.alloc(), &image)?;
     let answer = run_into(&mut board, &trace, &mut watch, &mut sink);
     Ok((answer, board.word(0x5014), watch.sum(), watch.completed()))

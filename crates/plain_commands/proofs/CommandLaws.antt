@@ -75,11 +75,11 @@ report_fails (Err Write) b h t promise texts out none is fails = λ shelf stands
 report_fails (Err Memory) b h t promise texts out none is fails = λ shelf stands. (stands, fails)
 
 pub run_product : (a b image trace : List ℕ) (i : ImageValue) (t : TraceValue) (board : BoardValue)
-    → image_of image ≡ Ok i → trace_of trace ≡ Ok t → board ≡ fresh i.words t.readings
+    → image_of image ≡ Ok i → trace_of trace ≡ Ok t → board ≡ fresh i.words t.readings t.events
     → (ending : Ending) (output : List ℕ) → IsReportFrom board (start_of i) t ending output
     → (run_promise a b).makes (image ∷ trace ∷ []) (output_alone output ending)
 run_product a b image trace i t board image_said trace_said is_board ending output r =
-    let report = told_from board (fresh i.words t.readings) (start_of i) (start_of i) t is_board refl ending output r in
+    let report = told_from board (fresh i.words t.readings t.events) (start_of i) (start_of i) t is_board refl ending output r in
     (record { value = i; charges = t; image_said = image_said; trace_said = trace_said; report = report }, refl)
 
 pub whole_as : (promise : Promise) (texts : List (List ℕ)) (shelf : Shelved) (out : Written) (e f : RunEnding) → e ≡ f

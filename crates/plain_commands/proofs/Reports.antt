@@ -10,7 +10,8 @@ use Rattle.fram_board.specs.msp_step.declared.machine.Stop.TheVariants as stop
 use Rattle.fram_board.specs.Board.{BoardValue}
 use Rattle.fram_board.specs.Run.{End, Charges, Stopped, RunOutcome}
 use Rattle.board_run.specs.History.{History, bound_lines}
-use Rattle.board_run.specs.Report.{last_line, after_all, lines_from}
+use Rattle.board_run.specs.Events.{event_counts}
+use Rattle.board_run.specs.Report.{events_lines, last_line, after_all, lines_from}
 use Rattle.source_values.specs.Runs.{CheckedProgram, Completion, completion_of, attempt_of}
 use Rattle.command_texts.specs.source_report.MeanReport.{report_from, if_whole, mean_report}
 use Rattle.plain_commands.specs.declared.run.RunEnding.{RunEnding}
@@ -70,7 +71,7 @@ run_nonempty : (b : BoardValue) (h : History) (trace : TraceValue) (ending : End
     → 0 < length output
 run_nonempty b h trace ending output report =
     let r : RunOutcome = report.outcome in
-    let last = last_nonempty (after_all h r.moments) r.ending r.board in
+    let last = behind_nonempty (events_lines b.line.coming (event_counts h.map r)) _ (last_nonempty (after_all h r.moments) r.ending r.board) in
     let P : List ℕ → Type 0 = λ t. 0 < length t in
     subst P (sym report.lines) (behind_nonempty (bound_lines h.map) _ (behind_nonempty (lines_from h r.moments) _ last))
 

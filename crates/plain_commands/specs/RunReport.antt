@@ -23,8 +23,8 @@ pub record IsReportFrom (board : BoardValue) (known : History) (trace : TraceVal
   pub outcome : RunOutcome
   pub run : Run (charges_of trace.charges) board outcome
   pub ends : ending ≡ ending_of outcome.ending
-  pub lines : output ≡ report_of known outcome
+  pub lines : output ≡ report_of known board.line.coming outcome
 
--- the same of the image's fresh board, on the trace's readings
+-- the same of the image's fresh board, on the trace's readings and events
 abbrev pub IsRunReport : ImageValue → TraceValue → Ending → List ℕ → Type 0
-IsRunReport image trace = IsReportFrom (fresh image.words trace.readings) (start_of image) trace
+IsRunReport image trace = IsReportFrom (fresh image.words trace.readings trace.events) (start_of image) trace

@@ -176,7 +176,7 @@ pub fn run_texts<'t, O: Sink>(
 {
     let image = image_of(alloc, names.image, image)?;
     let trace = trace_of(alloc, names.trace, trace)?;
-    let mut board = Board::new(alloc, &image, trace.readings())?;
+    let mut board = Board::new(alloc, &image, trace.readings(), trace.events())?;
     write_run(alloc, out, &mut board, &image, &trace)
 }
 

@@ -74,7 +74,7 @@ fn word_decided(alloc: Global, source: &[u8], address: u16) -> Result<Option<u16
         return Ok(None);
     }
     let image = compile(alloc, source)?;
-    let mut board = Board::new(alloc, &image, &[])?;
+    let mut board = Board::new(alloc, &image, &[], &[])?;
     for _ in 0..1_000_000u32 {
         if board.word(GATE) == Some(1) {
             return Ok(board.word(address));

@@ -26,7 +26,7 @@ use Rattle.plain_commands.specs.command_answers.Promises.{Promise, OfTwoTexts}
 
 -- the board that goes on from a state, on the readings of a trace
 abbrev pub from_state : State → TraceValue → BoardValue
-from_state s trace = started s.image.words s.receiver trace.readings
+from_state s trace = started s.image.words s.receiver trace.readings trace.events
 
 -- the last line of the report of a run that began with this state
 abbrev pub line_at_end : State → RunOutcome → List ℕ

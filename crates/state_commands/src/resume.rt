@@ -134,7 +134,8 @@ pub fn resume_texts<'t, O: Sink>(
     let said = resumption_of(alloc, names, image, state, trace)?;
     check_belongs(names.state, &said.image, &said.state)?;
     is_of_words(&said.state);
-    let mut board = Board::from_state(alloc, &said.state, said.trace.readings())?;
+    let readings = said.trace.readings();
+    let mut board = Board::from_state(alloc, &said.state, readings, said.trace.events())?;
     write_run(alloc, out, &mut board, &said.state.image, &said.trace)
 }
 

@@ -68,7 +68,7 @@ fn run_from<'t>(alloc: Global, state: &State, trace: &Trace) -> Result<SilentRun
     ensures ran { IfOk result (λ r. RanFrom state.now trace.now r.end r.board r.completed) }
     ensures failure { IfErr result (λ e. e ≡ Memory) }
 {
-    let mut board = Board::from_state(alloc, state, trace.readings())?;
+    let mut board = Board::from_state(alloc, state, trace.readings(), trace.events())?;
     let mut watch = Watch::new(alloc, &state.image)?;
     let mut sink = NullSink;
     let mut report = Report::new(&mut sink);

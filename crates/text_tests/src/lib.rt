@@ -10,14 +10,10 @@ mod gathered;
 #[cfg(test)]
 mod images;
 #[cfg(test)]
-mod maps;
-#[cfg(test)]
 mod numbers;
 #[cfg(test)]
 mod parts;
 #[cfg(test)]
 mod schedules;
-#[cfg(test)]
-mod traces;
 #[cfg(test)]
 mod words;

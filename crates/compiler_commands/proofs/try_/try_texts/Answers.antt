@@ -1,4 +1,4 @@
-use Rattle.std.proofs.Common.{◌∙◌, ap, refl}
+use Rattle.std.proofs.Common.{◌∙◌, ap₂, refl}
 use Rattle.plain_commands.specs.fram_board.Board.{fresh}
 use Rattle.plain_commands.specs.Mean.{the_source, its_trace}
 use Rattle.plain_commands.proofs.command_answers.Interface.{refusal_fails, memory_fails, put_whole, put_breaks, put_fails, handed_on}
@@ -37,7 +37,7 @@ pub write_trial-requires-clause-ends_well : goal.write_trial-requires-clause-end
 write_trial-requires-clause-ends_well g c =
     let built = c.in_ok-built.ensures.built in
     let told = c.in_ok-built.ensures.told built.map built.mapped _ c.in_ok-trace.ensures.words in
-    let is_board = c.in_ok-board.ensures ∙ ap (fresh c.in_ok-built.built.image.words) c.readings.ensures.value in
+    let is_board = c.in_ok-board.ensures ∙ ap₂ (fresh c.in_ok-built.built.image.words) c.readings.ensures.value c.events.ensures.value in
     λ ending output report. told.ends_well ending output (told_from _ _ _ _ _ is_board c.in_ok-watch.ensures ending output report)
 
 pub returns-in_err-write_trial-clause-failure : goal.returns-in_err-write_trial-clause-failure
@@ -45,7 +45,7 @@ returns-in_err-write_trial-clause-failure g c =
     let built = c.in_ok-built.ensures.built in
     let told = c.in_ok-built.ensures.told built.map built.mapped _ c.in_ok-trace.ensures.words in
     let tried = tries _ _ _ _ _ _ _ _ c.in_ok-source.ensures.text c.in_ok-source.ensures.accepted c.in_ok-trace.ensures.said built told in
-    let is_board = c.in_ok-board.ensures ∙ ap (fresh c.in_ok-built.built.image.words) c.readings.ensures.value in
+    let is_board = c.in_ok-board.ensures ∙ ap₂ (fresh c.in_ok-built.built.image.words) c.readings.ensures.value c.events.ensures.value in
     handed_on _ _ _ c.from_residual-in_err-write_trial.ensures
     (put_breaks _ _ _ _ _ _ _ _ refl (λ output report. (tried output (told_from _ _ _ _ _ is_board c.in_ok-watch.ensures _ _ report), refl))
     c.as_slice.ensures.value c.in_ok-put_file.ensures.put c.in_err-write_trial.ensures.failure)
@@ -55,6 +55,6 @@ returns-clause-whole g c =
     let built = c.in_ok-built.ensures.built in
     let told = c.in_ok-built.ensures.told built.map built.mapped _ c.in_ok-trace.ensures.words in
     let tried = tries _ _ _ _ _ _ _ _ c.in_ok-source.ensures.text c.in_ok-source.ensures.accepted c.in_ok-trace.ensures.said built told in
-    let is_board = c.in_ok-board.ensures ∙ ap (fresh c.in_ok-built.built.image.words) c.readings.ensures.value in
+    let is_board = c.in_ok-board.ensures ∙ ap₂ (fresh c.in_ok-built.built.image.words) c.readings.ensures.value c.events.ensures.value in
     put_whole _ _ _ _ _ _ _ _ refl (λ output report. (tried output (told_from _ _ _ _ _ is_board c.in_ok-watch.ensures _ _ report), refl))
     c.as_slice.ensures.value c.in_ok-put_file.ensures.put c.in_ok-write_trial.ensures.whole

@@ -1,4 +1,4 @@
-use Rattle.std.proofs.Common.{◌∙◌, ap, refl}
+use Rattle.std.proofs.Common.{◌∙◌, ap₂, refl}
 use Rattle.fram_board.specs.Board.{fresh}
 use Rattle.plain_commands.specs.Run.{the_image, the_trace}
 use Rattle.command_texts.proofs.command_answers.Interface.{handed_on, refusal_fails}
@@ -20,14 +20,14 @@ returns-in_err-board-clause-failure g c = handed_on _ _ _ c.from_residual-in_err
 
 pub returns-clause-whole : goal.returns-clause-whole
 returns-clause-whole g c =
-    let is_board = c.in_ok-board.ensures ∙ ap (fresh c.in_ok-image.image.words) c.readings.ensures.value in
+    let is_board = c.in_ok-board.ensures ∙ ap₂ (fresh c.in_ok-image.image.words) c.readings.ensures.value c.events.ensures.value in
     report_whole _ _ _ _ _ _ _ refl
     (run_product c.args.names.image.now c.args.names.trace.now _ _ _ _ _ c.in_ok-image.ensures.said c.in_ok-trace.ensures.said is_board)
     c.write_run.ensures.whole
 
 pub returns-clause-failure : goal.returns-clause-failure
 returns-clause-failure g c =
-    let is_board = c.in_ok-board.ensures ∙ ap (fresh c.in_ok-image.image.words) c.readings.ensures.value in
+    let is_board = c.in_ok-board.ensures ∙ ap₂ (fresh c.in_ok-image.image.words) c.readings.ensures.value c.events.ensures.value in
     report_fails _ _ _ _ _ _ _ refl
     (run_product c.args.names.image.now c.args.names.trace.now _ _ _ _ _ c.in_ok-image.ensures.said c.in_ok-trace.ensures.said is_board)
     c.write_run.ensures.failure

@@ -1,4 +1,4 @@
-use Rattle.std.proofs.Common.{◌∙◌, ap, refl}
+use Rattle.std.proofs.Common.{◌∙◌, ap₂, refl}
 use Rattle.plain_commands.specs.fram_board.Board.{started}
 use Rattle.state_commands.proofs.SaveLaws.{ran_from}
 use Rattle.plain_commands.proofs.command_answers.Interface.{handed_on}
@@ -13,5 +13,5 @@ returns-in_err-watch-clause-failure c = handed_on _ _ _ c.from_residual-in_err-w
 pub returns-clause-ran : goal.returns-clause-ran
 returns-clause-ran c =
     let s = c.args.state.now in
-    let is_board = c.in_ok-board.ensures ∙ ap (started s.image.words s.receiver) c.readings.ensures.value in
+    let is_board = c.in_ok-board.ensures ∙ ap₂ (started s.image.words s.receiver) c.readings.ensures.value c.events.ensures.value in
     ran_from s c.args.trace.now _ _ _ _ _ _ _ is_board c.in_ok-watch.ensures c.run-end.ensures.run c.run-end.ensures.cause _ c.completed-completed.ensures
