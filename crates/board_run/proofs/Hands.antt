@@ -8,7 +8,8 @@ use Rattle.fram_board.specs.declared.events.Heard.TheVariants as heard
 use Rattle.fram_board.specs.Board.{BoardValue}
 use Rattle.fram_board.specs.Run.{Moment, Action, PowerUp, Execute, End, Charges, Stopped, word_list}
 use Rattle.board_run.specs.History.{word_in}
-use Rattle.board_run.specs.Events.{HandEnd, Reads, ChangesHead, Returns, PowersUp, Hand, no_hand, handed, handed_all, head_ends, is_return, return_ends, reads_of}
+use Rattle.board_run.specs.Events.{HandEnd, Reads, ChangesHead, Returns, PowersUp, Hand, no_hand, handed, handed_all, head_ends, is_return, return_ends}
+use Rattle.board_run.specs.Events.{reads_of}
 use Rattle.board_run.specs.Events.{head_of, action_ends, hand_behind, hand_after, hand_at, run_hand, taken_by, words_known, AllWordsAreKnown}
 use Rattle.board_run.specs.Events.{EventsAreAccounted, counts_of, heard_by, SilentRunsAcceptNothing, RinglessRunsAcceptNothing}
 

@@ -6,8 +6,10 @@ use Rattle.fram_board.specs.declared.board.NextStep.{NextStep}
 use Rattle.fram_board.specs.declared.board.Stepped.{Stepped}
 use Rattle.fram_board.specs.Board.{BoardValue}
 use Rattle.fram_board.specs.Run.{Moment, Action, PowerUp, Execute, End, Charges, Stopped, RunOutcome, word_list, kind_of, moment_of}
-use Rattle.board_run.specs.History.{History, noted, behind_action, behind_instruction, behind_power_up, gated, with_word, with_words, completed, decided, is_done, is_decide, word_in}
-use Rattle.board_run.specs.Events.{HandEnd, Reads, ChangesHead, Returns, PowersUp, Hand, no_hand, handed, handed_all, head_of, head_ends, change_ends, is_return}
+use Rattle.board_run.specs.History.{History, noted, behind_action, behind_instruction, behind_power_up, gated, with_word, with_words, completed, decided}
+use Rattle.board_run.specs.History.{is_done, is_decide, word_in}
+use Rattle.board_run.specs.Events.{HandEnd, Reads, ChangesHead, Returns, PowersUp, Hand, no_hand, handed, handed_all, head_of, head_ends, change_ends}
+use Rattle.board_run.specs.Events.{is_return}
 use Rattle.board_run.specs.Events.{return_ends, reads_of, action_ends, hand_behind, hand_after, hand_at, run_hand, event_counts}
 use Rattle.board_run.specs.Report.{after_all}
 use Rattle.board_run.specs.Tally.{TallyValue, no_tally, one_if, tallied, tallied_all, tally_behind, tally_after, tally_at, counts_at, tally_of}

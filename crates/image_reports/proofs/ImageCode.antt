@@ -1,7 +1,8 @@
 -- At each front of a run the board's next instruction is one of the code, whose words are those of the image.
 use Rattle.image_reports.proofs.Names.{◌≡◌, ℕ, zero, suc, ◌+◌, ◌*◌, ◌%◌, ◌<◌, ◌≤◌, ◌==◌, Bool, true, false, cond, refl, sym, ap, ◌∙◌, subst, arith, eqb-true}
 use Rattle.image_reports.proofs.Names.{List, [], ◌∷◌, length, length-append, Option, Some, None, slice_index, nat_tests, encoding, IsInstruction, place_of}
-use Rattle.image_reports.proofs.Names.{BoardValue, opened, Effect, StepOutcome, Goes, Stops, At, Halted, going, continued, MachineBoard, Code, standing, undisturbed, exec}
+use Rattle.image_reports.proofs.Names.{BoardValue, opened, Effect, StepOutcome, Goes, Stops, At, Halted, going, continued, MachineBoard, Code, standing}
+use Rattle.image_reports.proofs.Names.{undisturbed, exec}
 use Rattle.image_reports.proofs.Names.{fram_of, is_fram_address, placed, words_of, Holds, AreInstructions, Marks, History, observe, behind_boot, Program}
 use Rattle.image_reports.proofs.Names.{Charge, Charged}
 use Rattle.msp_step.specs.declared.machine.Stop.TheVariants as stop

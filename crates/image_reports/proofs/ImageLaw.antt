@@ -1,6 +1,7 @@
 -- Each run of an image of an accepted text keeps the laws.
 use Rattle.image_reports.proofs.Names.{ℕ, refl, subst, arith, List, ImageValue, BoardValue, fresh, Moment, last_board, CheckedProgram, State, first_state}
-use Rattle.image_reports.proofs.Names.{MemoryMap, Model, History, Resting, trace_inputs, traces_are_few, stops_where_short, SoundAtRest, compiled_model, is_redo}
+use Rattle.image_reports.proofs.Names.{MemoryMap, Model, History, Resting, trace_inputs, traces_are_few, stops_where_short, SoundAtRest, compiled_model}
+use Rattle.image_reports.proofs.Names.{is_redo}
 use Rattle.image_reports.proofs.Names.{KeepsCapacities, compiled_program, sources_are_ready, fresh_world, laid_out, images_are_fresh, known_behind, KeepsCode}
 use Rattle.image_reports.proofs.Names.{HoldsAt, ImagesKeepTheLaws, ImagesAreTold, ImagesKeepCapacities, HoldsFrom, ImagesBelong}
 use Rattle.board_run.specs.Charges.{charges_of}
