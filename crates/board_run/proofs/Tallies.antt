@@ -1,7 +1,8 @@
 -- What becomes of events, as it is counted while a run is made.
 use Rattle.std.proofs.Common.{◌≡◌, ℕ, ◌+◌, Bool, true, false, if◌then◌else◌, List, [], ◌∷◌, ◌++◌, length, length-append, is_some, Option, Some, None}
-use Rattle.std.proofs.Common.{refl, ap, sym, ◌∙◌, nat_lt}
+use Rattle.std.proofs.Common.{refl, ap, sym, ◌∙◌, arith, nat_lt}
 use Rattle.image_text.specs.image_map.MapValue.{MapValue}
+use Rattle.fram_board.specs.declared.events.Heard.TheVariants as heard
 use Rattle.fram_board.specs.declared.board.NextStep.{NextStep}
 use Rattle.fram_board.specs.declared.board.Stepped.{Stepped}
 use Rattle.fram_board.specs.Board.{BoardValue}
@@ -50,6 +51,17 @@ counts_are m r t is =
     ap (tally_at r.ending r.board) (is ∙ sym (tally_of_moments (head_of m) r.moments no_hand))
     ∙ sym (tally_of_end r.ending r.board (hand_after (head_of m) r.moments no_hand)) in
     ap (λ u. record { arisen = line.arisen; accepted = u.accepted; lost = line.missed + u.lost }) at
+
+-- where nothing is in hand, nothing was read and no HEAD is looked at, a tally stays
+pub nothing_ends : (place : Option ℕ) (was : ℕ) (fram : List ℕ) (returns : Bool) (t : TallyValue) → place ≡ None → t.in_hand ≡ false
+    → tallied_all (step_ends heard.Nothing place was fram returns) t ≡ t
+nothing_ends None was fram false t none empty = refl
+nothing_ends None was fram true t none empty =
+    let none_more : t.lost + one_if false ≡ t.lost = omega arith in
+    ap (λ h. record { in_hand = false; accepted = t.accepted; lost = t.lost + one_if h }) empty
+    ∙ (ap {B = TallyValue} (λ n. record { in_hand = false; accepted = t.accepted; lost = n }) none_more
+    ∙ ap {B = TallyValue} (λ h. record t { in_hand = h }) (sym empty))
+nothing_ends (Some place) was fram returns t none empty = cc
 
 -- a history keeps its map
 if_map : (t : Bool) (x y : History) (m : Option MapValue) → x.map ≡ m → y.map ≡ m → (if t then x else y).map ≡ m

@@ -1,5 +1,5 @@
 //! What is seen of a run while it is made.
-ghost use Rattle.std.specs.Prelude.{◌≡◌, ◌%◌, ◌+◌, ◌-◌, ◌^◌, ◌<◌, ◌≤◌, Some, None, List, ℕ, OnOk, IfOk, flat_map, option_map};
+ghost use Rattle.std.specs.Prelude.{◌≡◌, ◌%◌, ◌+◌, ◌-◌, ◌^◌, ◌<◌, ◌≤◌, Some, None, List, ℕ, OnOk, IfOk, IfSome, flat_map, option_map};
 ghost use Rattle.alp_io.specs.Count.{HasCause};
 ghost use Rattle.alp_io.specs.Sink.{Writes};
 ghost use Rattle.alp_io.specs.Report.{accepted_line};
@@ -7,7 +7,8 @@ ghost use Rattle.fram_board.specs.Run.{word_list};
 ghost use Rattle.board_run.specs.History.{start_of, bound_lines, total, values_in, shared_numbers, instruction_lines, behind_instruction, behind_power_up};
 ghost use Rattle.board_run.specs.State.{seen_so, Follows, FollowsBut};
 ghost use Rattle.board_run.specs.Events.{PowersUp};
-ghost use Rattle.board_run.specs.Tally.{no_tally, counted, words_of, tallied, tallied_all, step_ends};
+ghost use Rattle.image_text.specs.image_map.MapValue.{IsFramWord};
+ghost use Rattle.board_run.specs.Tally.{IsHead, no_tally, counted, words_of, tallied, tallied_all, step_ends};
 
 use crate::head::Head;
 use crate::numbers::cut_number;
@@ -15,7 +16,7 @@ use crate::shadow::Shadow;
 use crate::state::State;
 use crate::tally::Tally;
 use alp_io::{Failed, Report, Sink};
-use fram_board::{Board, Stepped};
+use fram_board::{Board, Heard, Stepped};
 use image_text::{Image, Map};
 use std::alloc::{AllocError, Global};
 
@@ -112,12 +113,67 @@ impl<'a> Seen<'a> {
             (instruction_lines (seen_so self.old).map (seen_so self.old) (word_list done.now.accepted) board.now) }
         ensures cause { HasCause (S.faults report.old.sink.now) (S.faults report.new.sink.now) result }
     {
-        let has_changed = self.head.look(board);
-        self.tally.note(done.heard, has_changed, is_return);
+        note_events(
+            &mut self.head,
+            &mut self.tally,
+            done.heard,
+            is_return,
+            board,
+        );
         match self.map {
             Some(map) => self.state.note(map, done, stores, board, report),
             None => write_accepted(done, report),
         }
+    }
+}
+
+// What ended the time of a word in hand, in a step that this board is left by, and HEAD is looked at.
+#[inline(never)]
+fn note_ends(
+    head: &mut Head,
+    tally: &mut Tally,
+    heard: Heard,
+    is_return: bool,
+    board: &Board,
+)
+    requires fits { IfSome head.old.place IsFramWord }
+    requires words { words_of (counted tally.old) < 2 ^ 64 - 1 }
+    ensures tally { counted tally.new ≡ tallied_all
+        (step_ends heard head.old.place head.old.word board.now.fram is_return) (counted tally.old) }
+    ensures few { words_of (counted tally.new) ≤ words_of (counted tally.old) + 1 }
+    ensures place { head.new.place ≡ head.old.place }
+    ensures word { IsHead head.new.place head.new.word board.now.fram }
+{
+    let has_changed = head.look(board);
+    tally.note(heard, has_changed, is_return);
+}
+
+// The same, where a word may be in hand: in most steps nothing is read, nothing is in hand, and no HEAD is looked at.
+#[inline(always)]
+#[tactic(auto, using(crate::proofs::Tallies::nothing_ends))]
+fn note_events(
+    head: &mut Head,
+    tally: &mut Tally,
+    heard: Heard,
+    is_return: bool,
+    board: &Board,
+)
+    requires fits { IfSome head.old.place IsFramWord }
+    requires words { words_of (counted tally.old) < 2 ^ 64 - 1 }
+    ensures tally { counted tally.new ≡ tallied_all
+        (step_ends heard head.old.place head.old.word board.now.fram is_return) (counted tally.old) }
+    ensures few { words_of (counted tally.new) ≤ words_of (counted tally.old) + 1 }
+    ensures place { head.new.place ≡ head.old.place }
+    ensures word { IsHead head.new.place head.new.word board.now.fram }
+{
+    match heard {
+        Heard::Nothing => {
+            if head.place.is_some() || tally.in_hand {
+                note_ends(head, tally, Heard::Nothing, is_return, board);
+            }
+        }
+        Heard::Once(_) => note_ends(head, tally, heard, is_return, board),
+        Heard::Again(_) => note_ends(head, tally, heard, is_return, board),
     }
 }
 

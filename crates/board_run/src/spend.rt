@@ -102,7 +102,7 @@ fn execute<S: Sink>(
 }
 
 // The board's next step is an acceptance: it is made, if what is left of the charge pays for it.
-#[inline(never)]
+#[inline(always)]
 fn accept<S: Sink>(
     board: &mut Board,
     kind: ChargeKind,

@@ -1,5 +1,5 @@
 -- A line on which nothing is to come, and the count of steps.
-use Rattle.std.proofs.Common.{◌≡◌, ◌+◌, ◌<◌, arith, ℕ, refl, ◌∙◌, ap, List, [], ◌∷◌, length}
+use Rattle.std.proofs.Common.{◌≡◌, ◌+◌, ◌<◌, arith, ℕ, refl, ◌∙◌, sym, ap, List, [], ◌∷◌, length}
 use Rattle.fram_board.specs.declared.events.Heard.TheVariants as heard
 use Rattle.fram_board.specs.Events.{EventLine, arising_due, arrived, step_counted, line_behind_step}
 
@@ -20,6 +20,10 @@ pub quiet_step : (q : EventLine) → length q.coming ≡ 0 → line_behind_step 
 quiet_step q none =
     none_arises q.coming (record q { heard = heard.Nothing; made = step_counted q.coming q.made }) none
     ∙ ap {B = EventLine} (λ n. record q { heard = heard.Nothing; made = n }) (none_counts q.coming q.made none)
+
+-- so where nothing was read either it is as before
+pub quiet_line : (q : EventLine) → q.heard ≡ heard.Nothing → length q.coming ≡ 0 → line_behind_step q ≡ q
+quiet_line q unheard none = quiet_step q none ∙ ap {B = EventLine} (λ h. record q { heard = h }) (sym unheard)
 
 -- where one is to come each step is counted
 pub one_counted : (es : List (ℕ × ℕ)) (n : ℕ) → 0 < length es → n < 0xFFFFFFFF → step_counted es n ≡ n + 1

@@ -1,6 +1,8 @@
 //! The board.
 
 ghost use Rattle.std.specs.Prelude.{◌≡◌, ℕ, ◌+◌, ◌-◌, ◌^◌, ◌<◌, ◌≤◌, length, None, IfOk, IfErr, IfSome, IfNone, OnErr};
+ghost use Rattle.msp_step.specs.Registers.{registers_of};
+ghost use Rattle.msp_step.specs.Step.{is_interruptible};
 ghost use Rattle.state_text.specs.address_space.Limits.{fram_words};
 ghost use Rattle.state_text.specs.image_text.ImageValue.{word_at};
 ghost use Rattle.fram_board.specs.Board.{accepted_word, receiver_after, started, fresh, powered, filled, executed, IsNextInstruction, IsStoppedBy};
@@ -171,7 +173,15 @@ impl Board {
     fn is_accepting(&self) -> bool
         ensures { result ≡ is_accepting self.now }
     {
-        self.devices.events().is_full() && self.cpu.is_interruptible()
+        self.devices.events().is_full() && self.is_interruptible()
+    }
+
+    // Whether the CPU accepts an interrupt. Out of line, so that a step looks at the registers only where an event waits.
+    #[inline(never)]
+    fn is_interruptible(&self) -> bool
+        ensures { result ≡ is_interruptible (registers_of self.now.cpu) }
+    {
+        self.cpu.is_interruptible()
     }
 
     /// The words of the instruction at PC, where that is the next step, or why none is made. Nothing where the next step is an

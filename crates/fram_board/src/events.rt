@@ -26,10 +26,13 @@ pub struct Events {
     arisen: usize,
     missed: u32,
     made: u32,
+    // Since the last boundary nothing was read, and no event is to come.
+    is_quiet: bool,
 }
 
 impl Model for Events {
-    ghost use Rattle.std.specs.Prelude.{◌≤◌, ◌+◌, drop, length};
+    ghost use Rattle.std.specs.Prelude.{◌≡◌, ◌≤◌, ◌+◌, true, drop, length};
+    ghost use Rattle.fram_board.specs.declared.events.Heard.TheVariants.{Nothing};
     ghost use Rattle.fram_board.specs.Events.{EventLine, words_in};
 
     ghost Value = { EventLine };
@@ -44,7 +47,8 @@ impl Model for Events {
     } };
 
     // No more events are lost than arose, without the one that waits.
-    ghost invariant = { λ e. (e.arisen ≤ length e.events.items) × (length e.events.items ≤ 65536) × (e.missed + words_in e.port ≤ e.arisen) };
+    ghost invariant = { λ e. (e.arisen ≤ length e.events.items) × (length e.events.items ≤ 65536) × (e.missed + words_in e.port ≤ e.arisen)
+        × (e.is_quiet ≡ true → (e.heard ≡ Nothing) × (length (drop e.arisen e.events.items) ≡ 0)) };
 }
 
 impl Events {
@@ -61,6 +65,7 @@ impl Events {
             arisen: 0,
             missed: 0,
             made: 0,
+            is_quiet: false,
         })
     }
 
@@ -73,9 +78,13 @@ impl Events {
     }
 
     /// What was read of the port since the last boundary.
+    #[inline(always)]
     pub fn heard(&self) -> Heard
         ensures { result ≡ self.now.heard }
     {
+        if self.is_quiet {
+            return Heard::Nothing;
+        }
         self.heard
     }
 
@@ -100,6 +109,7 @@ impl Events {
         ensures value { result ≡ port_word self.old.port }
         ensures taken { self.new ≡ port_read self.old }
     {
+        self.is_quiet = false;
         self.heard = match self.heard {
             Heard::Nothing => Heard::Once(self.port),
             Heard::Once(taken) => Heard::Again(taken),
@@ -135,6 +145,7 @@ impl Events {
         if steps > self.made {
             return false;
         }
+        self.is_quiet = false;
         self.arisen += 1;
         if self.port.is_some() {
             self.missed += 1;
@@ -169,15 +180,38 @@ impl Events {
         self.arise_due();
     }
 
-    /// Behind a step: it is counted, and the events that are due behind it arise.
-    #[inline(always)]
+    // Whether all is quiet is looked at anew.
+    fn settle(&mut self)
+        ensures { self.new ≡ self.old }
+    {
+        self.is_quiet = match self.heard {
+            Heard::Nothing => self.coming() == 0,
+            Heard::Once(_) => false,
+            Heard::Again(_) => false,
+        };
+    }
+
+    // Behind a step that read EVENT, or as long as an event is to come.
+    #[inline(never)]
     #[tactic(auto, using(crate::proofs::Arrivals::quiet_step))]
-    pub fn step(&mut self)
+    fn step_on(&mut self)
         ensures { self.new ≡ line_behind_step self.old }
     {
         self.heard = Heard::Nothing;
         if self.coming() > 0 {
             self.count_step();
+        }
+        self.settle();
+    }
+
+    /// Behind a step: it is counted, and the events that are due behind it arise.
+    #[inline(always)]
+    #[tactic(auto, using(crate::proofs::Arrivals::quiet_line))]
+    pub fn step(&mut self)
+        ensures { self.new ≡ line_behind_step self.old }
+    {
+        if !self.is_quiet {
+            self.step_on();
         }
     }
 
@@ -191,5 +225,6 @@ impl Events {
         self.port = None;
         self.heard = Heard::Nothing;
         self.arise_due();
+        self.settle();
     }
 }
