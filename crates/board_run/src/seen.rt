@@ -129,13 +129,7 @@ impl<'a> Seen<'a> {
 
 // What ended the time of a word in hand, in a step that this board is left by, and HEAD is looked at.
 #[inline(never)]
-fn note_ends(
-    head: &mut Head,
-    tally: &mut Tally,
-    heard: Heard,
-    is_return: bool,
-    board: &Board,
-)
+fn note_ends(head: &mut Head, tally: &mut Tally, heard: Heard, is_return: bool, board: &Board)
     requires fits { IfSome head.old.place IsFramWord }
     requires words { words_of (counted tally.old) < 2 ^ 64 - 1 }
     ensures tally { counted tally.new ≡ tallied_all
@@ -151,13 +145,7 @@ fn note_ends(
 // The same, where a word may be in hand: in most steps nothing is read, nothing is in hand, and no HEAD is looked at.
 #[inline(always)]
 #[tactic(auto, using(crate::proofs::Tallies::nothing_ends))]
-fn note_events(
-    head: &mut Head,
-    tally: &mut Tally,
-    heard: Heard,
-    is_return: bool,
-    board: &Board,
-)
+fn note_events(head: &mut Head, tally: &mut Tally, heard: Heard, is_return: bool, board: &Board)
     requires fits { IfSome head.old.place IsFramWord }
     requires words { words_of (counted tally.old) < 2 ^ 64 - 1 }
     ensures tally { counted tally.new ≡ tallied_all

@@ -28,7 +28,7 @@ tried_reports_are_good source trace file output t none =
     let heard = t.told.heard in
     let end = end_line t.told.why (length t.told.spans) r.board.receiver.accepted r.board.receiver.repeats in
     let lines_of : List Event → ℕ → List ℕ = λ events bound. bound_line bound ++ (source_report source t.program 1 t.told.spans t.told.transitions
-        ++ (events_lines events (none_accepted r.board) ++ end)) in (
+    ++ (events_lines events (none_accepted r.board) ++ end)) in (
       length t.told.spans,
       record {
         head = bound_line t.allow.cycles;
