@@ -51,7 +51,7 @@ pub use Rattle.fram_state.specs.Migrated.{EditionValue, IsMigrated, IsPendingAt,
 pub use Rattle.fram_state.specs.Named.{buffers, copies_words, is_named, is_shared, list_words, place_words, runtime_words, variable_words}
 pub use Rattle.fram_state.specs.Runtime.{runtime_of, word_in, words_from}
 pub use Rattle.fram_state.specs.Sound.{are_at_most, are_entries, are_shared, are_versions, entries_of, is_base, is_entry, is_even, is_list, is_pending}
-pub use Rattle.fram_state.specs.Sound.{words_of}
+pub use Rattle.fram_state.specs.Sound.{is_ring_at, words_of}
 pub use Rattle.fram_state.specs.Stretch.{fits_fram, holds, is_held, lies_in}
 pub use Rattle.fram_state.specs.declared.entry.Entry.{Entry}
 -- compiled sources

@@ -1,6 +1,7 @@
 -- A state that keeps the rules is a sound world; and a sound world within its capacities, as a state of the map, keeps the rules.
 use Rattle.compiled_states.proofs.Names.{place_words, list_words, copies_words, word_in, words_from, runtime_of, entries_of, is_entry, words_of, are_entries}
-use Rattle.compiled_states.proofs.Names.{is_pending, is_base, are_at_most, are_versions, is_list, fits_fram, Entry, parts_in_fram, words_stand, MapValue}
+use Rattle.compiled_states.proofs.Names.{is_pending, is_base, are_at_most, are_versions, is_list, is_ring_at, fits_fram, Entry, parts_in_fram, words_stand}
+use Rattle.compiled_states.proofs.Names.{MapValue}
 use Rattle.compiled_states.proofs.Names.{fram_of, World, program_places, PartsInFram, word_place, end_of, CurrentTask, NextTask, Gate, ListLength, EmitCount}
 use Rattle.compiled_states.proofs.Names.{Base, SentBase, Version, RuntimeWord, CopyPair, listed, ProgramPlaces, IsSharedWord, IsCopyWord, IsAmong, IsAtRest}
 use Rattle.compiled_states.proofs.Names.{IsPendingCommit, IsSound, SoundAtRest, SoundPending, VersionsWithin, ap, length, refl, sym, ◌∙◌, subst, arith, All}
@@ -28,6 +29,7 @@ pub record Rules (m : MapValue) (words : List ℕ) (r : Runtime) (number : ℕ) 
   pub next_task : (not (is_pending r) || nat_lt r.next_task (length m.tasks)) ≡ true
   pub sent_base : (not (is_pending r) || nat_le ((number + 65536 - r.sent_base) % 65536) r.emit_count) ≡ true
   pub list : (not (is_pending r) || is_list m words r.list_length) ≡ true
+  pub ring : is_ring_at m.ring words (is_pending r) ≡ true
 
 pub rules_of : (m : MapValue) (words : List ℕ) (number : ℕ) → state.IsSound m words number → Rules m words (runtime_of m.words words) number
 unfolding keeps
@@ -41,6 +43,7 @@ rules_of m words number s = record {
   next_task = s.each rule.NextTask;
   sent_base = s.each rule.SentBase;
   list = s.each rule.List;
+  ring = s.each rule.Ring;
 }
 
 rule_kept : (m : MapValue) (words : List ℕ) (r : Runtime) (number : ℕ) → Rules m words r number → (k : Rule) → keeps m words r number k ≡ true
@@ -54,6 +57,7 @@ rule_kept m words r number rs rule.EmitCount = rs.emit_count
 rule_kept m words r number rs rule.NextTask = rs.next_task
 rule_kept m words r number rs rule.SentBase = rs.sent_base
 rule_kept m words r number rs rule.List = rs.list
+rule_kept m words r number rs rule.Ring = rs.ring
 
 -- BASE as the rules ask for it, by whether a commit is pending
 abbrev base_by : Runtime → ℕ → Bool → Bool
@@ -327,6 +331,7 @@ module _ (own : Mapped) (saved : Saved) where
             next_task = not_asked (nat_lt r.next_task (length m.tasks));
             sent_base = not_asked (nat_le ((number + 65536 - r.sent_base) % 65536) r.emit_count);
             list = not_asked (is_list m words r.list_length);
+            ring = refl;
           }
 
     -- and where one is
@@ -391,6 +396,7 @@ module _ (own : Mapped) (saved : Saved) where
             sent_base = kept (nat_le ((number + 65536 - r.sent_base) % 65536) r.emit_count)
                 (le-leb ((number + 65536 - r.sent_base) % 65536) r.emit_count sent_most);
             list = kept (is_list m words r.list_length) pending_list;
+            ring = refl;
           }
 
     pub keeps_rules : IsSound places x → state.IsSound m words number

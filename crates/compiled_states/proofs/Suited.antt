@@ -49,5 +49,6 @@ images_suit_their_sources text p allow image ok c = record {
   lines = record {
     variables = lines_are text p.shared c.layout.variables (source_map text image (image_of text p allow image ok c)).places;
     tasks = tasks_are text p.shared p.tasks c.plans c.layout.tasks c.is_plan.count c.is_layout.tasks.count c.is_layout.tasks.each;
+    ring = refl;
   };
 }

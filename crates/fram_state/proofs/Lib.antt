@@ -8,6 +8,7 @@ mod Taken
 mod Declared
 mod Numbers
 mod Rows
+mod Ring
 mod Places
 mod Answered
 pub mod Interface

@@ -3,8 +3,7 @@ use Rattle.std.proofs.Common.{◌≡◌, ◌<◌, ◌≤◌, ◌+◌, ◌⊎◌,
 use Rattle.std.proofs.Common.{sym, ap}
 use Rattle.std.proofs.Common.{arith, true≢false}
 use Rattle.std.specs.Prelude.{◌-◌, ◌*◌, ◌/◌, ◌==◌, slice_index, unwrap_or, All, nat_le, nat_lt}
-use Rattle.std.proofs.lemmas.Bool.{cases_lt, leb-true, ltb-true, le-leb, lt-ltb, eqb-true, eqb-false, and_parts, and_from}
-use Rattle.std.proofs.lemmas.List.{length-set, get_or-set_same, get_or-set_other}
+use Rattle.std.proofs.lemmas.Bool.{cases_lt, leb-true, ltb-true, le-leb, lt-ltb, and_parts, and_from}
 use Rattle.image_text.specs.image_map.declared.parts.Variable.{Variable}
 use Rattle.image_text.specs.image_map.MapValue.{IsFramWord, IsVariable, word_count}
 use Rattle.image_text.specs.ImageValue.{place_of}
@@ -13,26 +12,11 @@ use Rattle.fram_state.specs.Stretch.{holds}
 use Rattle.fram_state.specs.Named.{variable_words}
 use Rattle.fram_state.specs.Runtime.{word_in}
 use Rattle.fram_state.specs.Suits.{line_of, declared_line}
-use Rattle.fram_state.specs.Migrated.{EditionValue, row_of, rows_of, shared_word, AreMigrated}
-use Rattle.fram_state.specs.Laid.{with_row, with_rows, with_word, migrated_words}
+use Rattle.fram_state.specs.Migrated.{EditionValue, row_of, rows_of, shared_word, kept_ring_word, AreMigrated}
+use Rattle.fram_state.specs.Laid.{with_row, with_rows, with_word, words_kept, migrated_words}
 use Rattle.fram_state.specs.Editions.{IsEdition}
+use Rattle.fram_state.proofs.Ring.{word_put, word_long, kept_ring_long, kept_ring_put}
 use Rattle.fram_state.proofs.Rows.{row_long, row_out, row_in, variable_fits, line_words, row_length}
-
--- ---- a word at an address
-
-place_apart : (a b : ℕ) → IsFramWord a → IsFramWord b → (a ≡ b → ⊥) → place_of a ≡ place_of b → ⊥
-place_apart a b x y differ e = differ (omega (arith, x.low, x.even, y.low, y.even, e))
-
-word_put : (words : List ℕ) (x w a : ℕ) → length words ≡ 24064 → IsFramWord x → IsFramWord a
-    → word_in (with_word words x w) a ≡ cond (a == x) w (word_in words a)
-word_put words x w a all is_x is_a = by_same (a == x) refl
-  where
-    by_same : (b : Bool) → (a == x) ≡ b → word_in (with_word words x w) a ≡ cond b w (word_in words a)
-    by_same true e =
-        let same : a ≡ x = eqb-true a x e in
-        let inside : place_of x < length words = omega (arith, is_x.low, is_x.high, is_x.even) in
-        ap (λ k. slice_index (with_word words x w) (place_of k)) same ∙ get_or-set_same words (place_of x) w 0 inside
-    by_same false e = get_or-set_other words (place_of x) (place_of a) w 0 (place_apart a x is_a is_x (eqb-false a x e))
 
 -- ---- the rows of variables
 
@@ -111,19 +95,34 @@ module _ (old new : EditionValue) (is_old : IsEdition old) (is_new : IsEdition n
   laid_long : length laid ≡ 24064
   laid_long = rows_long new.named.variables (rows_of old new) new.words ∙ is_new.words
 
+  -- with the ring that goes on
+  abbrev kept : List ℕ
+  kept = words_kept old new
+
+  kept_long : length kept ≡ 24064
+  kept_long = kept_ring_long new.named.ring old.named.ring old.words laid is_new.rules.ring is_old.rules.ring is_old.words laid_long
+
+  kept_word : (a : ℕ) → IsFramWord a → word_in kept a
+      ≡ unwrap_or (kept_ring_word new.named.ring old.named.ring old.words a)
+      (unwrap_or (shared_word new.named.variables (rows_of old new) a) (word_in new.words a))
+  kept_word a is =
+      kept_ring_put new.named.ring old.named.ring old.words laid a is_new.rules.ring is_old.rules.ring is_old.words laid_long is
+      ∙ ap (unwrap_or (kept_ring_word new.named.ring old.named.ring old.words a))
+      (rows_word new.named.variables (rows_of old new) new.words a
+      (rows_fit old is_old new.text new.named.variables new.program.shared is_new.rules.variables is_new.variables) is_new.words is)
+
   abbrev based : List ℕ
-  based = with_word laid new.named.words.base (word_in old.words old.named.words.base)
+  based = with_word kept new.named.words.base (word_in old.words old.named.words.base)
 
   based_long : length based ≡ 24064
-  based_long = length-set laid (place_of new.named.words.base) (word_in old.words old.named.words.base) ∙ laid_long
+  based_long = word_long kept new.named.words.base (word_in old.words old.named.words.base) kept_long
 
   pub migrated_long : length (migrated_words old new task) ≡ 24064
-  migrated_long = length-set based (place_of new.named.words.current_task) task ∙ based_long
+  migrated_long = word_long based new.named.words.current_task task based_long
 
   pub are_migrated : AreMigrated old new task (migrated_words old new task)
   are_migrated a is =
       let base = word_in old.words old.named.words.base in
       word_put based new.named.words.current_task task a based_long is_new.rules.words.current_task is
-      ∙ ap (λ w. cond (a == new.named.words.current_task) task w) (word_put laid new.named.words.base base a laid_long is_new.rules.words.base is
-      ∙ ap (λ w. cond (a == new.named.words.base) base w) (rows_word new.named.variables (rows_of old new) new.words a
-      (rows_fit old is_old new.text new.named.variables new.program.shared is_new.rules.variables is_new.variables) is_new.words is))
+      ∙ ap (λ w. cond (a == new.named.words.current_task) task w) (word_put kept new.named.words.base base a kept_long is_new.rules.words.base is
+      ∙ ap (λ w. cond (a == new.named.words.base) base w) (kept_word a is))

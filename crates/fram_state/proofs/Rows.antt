@@ -68,7 +68,7 @@ row_in (w ∷ row) words place k ends low high =
 
 -- ---- how long the rows of variables are
 
-words_end : (a n : ℕ) → 17408 ≤ a → a % 2 ≡ 0 → fits a n ≡ true → place_of a + n ≤ 24064
+pub words_end : (a n : ℕ) → 17408 ≤ a → a % 2 ≡ 0 → fits a n ≡ true → place_of a + n ≤ 24064
 words_end a n low even fit =
     let high : a + 2 * n ≤ 65536 = leb-true (a + 2 * n) 65536 (and_parts (nat_lt 0 n) (nat_le (a + 2 * n) 65536) fit).1 in
     omega arith

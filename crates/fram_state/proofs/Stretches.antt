@@ -4,10 +4,11 @@ use Rattle.std.specs.Prelude.{find, option_map, nat_le, nat_lt, IfSome, IfNone}
 use Rattle.std.proofs.lemmas.Bool.{ltb-true, lt-ltb, leb-true, le-leb, and_parts, and_from}
 use Rattle.std.proofs.Math.Bool.{or-true}
 use Rattle.std.specs.List.{list_any}
+use Rattle.image_text.specs.image_map.declared.parts.RingPlaces.{RingPlaces}
 use Rattle.image_text.specs.image_map.MapValue.{MapValue}
 use Rattle.fram_state.specs.declared.stretch.Stretch.{Stretch}
 use Rattle.fram_state.specs.Stretch.{holds, is_held, held_until, AllUpTo}
-use Rattle.fram_state.specs.Named.{variable_words, runtime_words, buffers, is_shared, shared_until, is_named}
+use Rattle.fram_state.specs.Named.{variable_words, runtime_words, buffers, ring_parts, is_in_ring, ring_until, is_shared, shared_until, is_named}
 
 -- a stretch that has an address has all behind it, up to its end
 pub held_on : (s : Stretch) (a : ℕ) → holds s a ≡ true → AllUpTo (holds s) a s.to
@@ -56,25 +57,51 @@ module _ {X : Type 0} (stretch : X → Stretch) where
       by_first more true e g = cc
       by_first more false e g = ap (λ b. b || list_any (λ x. holds (stretch x) a) xs) e ∙ more g
 
+-- ---- a ring that may be there
+ring_held : (o : Option RingPlaces) (a end : ℕ) → ring_until o a ≡ Some end → AllUpTo (is_in_ring o) a end
+ring_held None a end h = cc
+ring_held (Some r) a end h = held_some (λ s. s) (ring_parts r) a end h
+
+not_in_ring : (o : Option RingPlaces) (a : ℕ) → ring_until o a ≡ None → is_in_ring o a ≡ false
+not_in_ring None a h = refl
+not_in_ring (Some r) a h = held_none (λ s. s) (ring_parts r) a h
+
 -- ---- what a map names
+
+-- behind the words of the runtime and the buffers
+abbrev in_ring_or_shared : MapValue → ℕ → Bool
+in_ring_or_shared m a = is_in_ring m.ring a || is_shared m.variables a
+
+-- and all behind those of the runtime
+abbrev behind_runtime : MapValue → ℕ → Bool
+behind_runtime m a = is_held (buffers m) a || in_ring_or_shared m a
+
+last_named : (m : MapValue) (a end : ℕ) → AllUpTo (in_ring_or_shared m) a end → AllUpTo (is_named m) a end
+last_named m a end h =
+    or_second (is_held (runtime_words m.words)) (behind_runtime m) a end (or_second (is_held (buffers m)) (in_ring_or_shared m) a end h)
+
 pub runtime_named : (m : MapValue) (a end : ℕ) → held_until (runtime_words m.words) a ≡ Some end → AllUpTo (is_named m) a end
-runtime_named m a end h = or_first (is_held (runtime_words m.words)) (λ b. is_held (buffers m) b || is_shared m.variables b) a end
-    (held_some (λ s. s) (runtime_words m.words) a end h)
+runtime_named m a end h =
+    or_first (is_held (runtime_words m.words)) (behind_runtime m) a end (held_some (λ s. s) (runtime_words m.words) a end h)
 
 pub buffers_named : (m : MapValue) (a end : ℕ) → held_until (buffers m) a ≡ Some end → AllUpTo (is_named m) a end
-buffers_named m a end h = or_second (is_held (runtime_words m.words)) (λ b. is_held (buffers m) b || is_shared m.variables b) a end
-    (or_first (is_held (buffers m)) (is_shared m.variables) a end (held_some (λ s. s) (buffers m) a end h))
+buffers_named m a end h =
+    or_second (is_held (runtime_words m.words)) (behind_runtime m) a end
+    (or_first (is_held (buffers m)) (in_ring_or_shared m) a end (held_some (λ s. s) (buffers m) a end h))
+
+pub ring_named : (m : MapValue) (a end : ℕ) → ring_until m.ring a ≡ Some end → AllUpTo (is_named m) a end
+ring_named m a end h = last_named m a end (or_first (is_in_ring m.ring) (is_shared m.variables) a end (ring_held m.ring a end h))
 
 pub shared_named : (m : MapValue) (a end : ℕ) → shared_until m.variables a ≡ Some end → AllUpTo (is_named m) a end
-shared_named m a end h = or_second (is_held (runtime_words m.words)) (λ b. is_held (buffers m) b || is_shared m.variables b) a end
-    (or_second (is_held (buffers m)) (is_shared m.variables) a end (held_some variable_words m.variables a end h))
+shared_named m a end h =
+    last_named m a end (or_second (is_in_ring m.ring) (is_shared m.variables) a end (held_some variable_words m.variables a end h))
 
-pub none_named : (m : MapValue) (a : ℕ) → held_until (runtime_words m.words) a ≡ None → held_until (buffers m) a ≡ None → shared_until m.variables a ≡ None
-    → is_named m a ≡ false
-none_named m a runtime lists variables =
-    ap (λ b. b || (is_held (buffers m) a || is_shared m.variables a)) (held_none (λ s. s) (runtime_words m.words) a runtime)
-    ∙ ap (λ b. b || is_shared m.variables a) (held_none (λ s. s) (buffers m) a lists)
-    ∙ held_none variable_words m.variables a variables
+pub none_named : (m : MapValue) (a : ℕ) → held_until (runtime_words m.words) a ≡ None → held_until (buffers m) a ≡ None → ring_until m.ring a ≡ None
+    → shared_until m.variables a ≡ None → is_named m a ≡ false
+none_named m a runtime lists ring variables =
+    ap (λ b. b || behind_runtime m a) (held_none (λ s. s) (runtime_words m.words) a runtime)
+    ∙ ap (λ b. b || in_ring_or_shared m a) (held_none (λ s. s) (buffers m) a lists)
+    ∙ ap (λ b. b || is_shared m.variables a) (not_in_ring m.ring a ring) ∙ held_none variable_words m.variables a variables
 
 -- what is answered where only a variable may have the address
 pub last_some : (m : MapValue) (a : ℕ) (r : Option ℕ) → r ≡ shared_until m.variables a → IfSome r (AllUpTo (is_named m) a)
@@ -82,9 +109,9 @@ last_some m a None e = tt
 last_some m a (Some end) e = shared_named m a end (sym e)
 
 pub last_none : (m : MapValue) (a : ℕ) (r : Option ℕ) → held_until (runtime_words m.words) a ≡ None → held_until (buffers m) a ≡ None
-    → r ≡ shared_until m.variables a → IfNone r (is_named m a ≡ false)
-last_none m a None runtime lists e = none_named m a runtime lists (sym e)
-last_none m a (Some end) runtime lists e = tt
+    → ring_until m.ring a ≡ None → r ≡ shared_until m.variables a → IfNone r (is_named m a ≡ false)
+last_none m a None runtime lists ring e = none_named m a runtime lists ring (sym e)
+last_none m a (Some end) runtime lists ring e = tt
 
 -- place by place
-pub ruleset named_by_places = (runtime_named, buffers_named, last_some, last_none)
+pub ruleset named_by_places = (runtime_named, buffers_named, ring_named, last_some, last_none)

@@ -50,6 +50,7 @@ is_sound m words number h = record { each = by_rule (find_none (λ r. not (kept 
     by_rule (a, (b, (c, (d, (e, (f, (g, h))))))) rule.NextTask = not-false (kept rule.NextTask) g
     by_rule (a, (b, (c, (d, (e, (f, (g, (h, i)))))))) rule.SentBase = not-false (kept rule.SentBase) h
     by_rule (a, (b, (c, (d, (e, (f, (g, (h, (i, j))))))))) rule.List = not-false (kept rule.List) i
+    by_rule (a, (b, (c, (d, (e, (f, (g, (h, (i, (j, k)))))))))) rule.Ring = not-false (kept rule.Ring) j
 
 -- a state that is taken belongs to the image
 pub taken_belongs : (image : ImageValue) (s : State) (m : MapValue) → HaveMap image s m → length image.words ≡ length s.image.words
@@ -84,7 +85,7 @@ none_broken m words number s = none_found (λ r. not (keeps m words (runtime_of 
             kept rule.EmitCount,
             (
               kept rule.NextTask,
-              (kept rule.SentBase, (kept rule.List, tt)),
+              (kept rule.SentBase, (kept rule.List, (kept rule.Ring, tt))),
             ),
           ),
         ),

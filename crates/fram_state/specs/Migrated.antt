@@ -1,10 +1,11 @@
 -- What a migration makes of an old state: the state of a new version of its program, which goes on where the old one stopped.
-use Rattle.std.specs.Prelude.{◌≡◌, ℕ, ◌-◌, ◌/◌, ◌<◌, ◌==◌, true, if◌then◌else◌, List, [], ◌∷◌, map, Option, Some, None, unwrap_or, slice_get, slice_index}
+use Rattle.std.specs.Prelude.{◌≡◌, ℕ, ◌+◌, ◌-◌, ◌/◌, ◌<◌, ◌==◌, true, if◌then◌else◌, List, [], ◌∷◌, map, Option, Some, None, unwrap_or, slice_get, slice_index}
 use Rattle.std.specs.Prelude.{Result, Ok, Err}
 use Rattle.std.specs.Option.{option_map_or}
 use Rattle.state_text.specs.alp_text.declared.lines.Span.{Span}
+use Rattle.image_text.specs.image_map.declared.parts.RingPlaces.{RingPlaces}
 use Rattle.image_text.specs.image_map.declared.parts.Variable.{Variable}
-use Rattle.image_text.specs.image_map.MapValue.{MapValue, IsFramWord, word_count}
+use Rattle.image_text.specs.image_map.MapValue.{MapValue, IsFramWord, ring_words, word_count}
 use Rattle.image_text.specs.ImageValue.{ImageValue}
 use Rattle.state_text.specs.declared.state.State.{State}
 use Rattle.task_ast.specs.declared.SharedDeclaration.{SharedDeclaration}
@@ -14,7 +15,7 @@ use Rattle.source_report.specs.source_values.Runs.{CheckedProgram, initial_words
 use Rattle.source_report.specs.SourceReport.{spelled}
 use Rattle.fram_state.specs.declared.migration.MigrateFault.{MigrateFault}
 use Rattle.fram_state.specs.declared.migration.MigrateFault.TheVariants.{Pending, NoTask, Unsettled, Memory}
-use Rattle.fram_state.specs.Stretch.{holds}
+use Rattle.fram_state.specs.Stretch.{words_at, holds}
 use Rattle.fram_state.specs.Named.{variable_words}
 use Rattle.fram_state.specs.Runtime.{word_in, words_from}
 use Rattle.fram_state.specs.Belongs.{Belongs}
@@ -75,14 +76,30 @@ abbrev pub shared_word : List Variable → List (List ℕ) → ℕ → Option �
 shared_word (v ∷ vs) (row ∷ rows) a = if holds (variable_words v) a then Some (slice_index row ((a - v.address) / 2)) else shared_word vs rows a
 shared_word _ _ a = None
 
+-- ---- its ring of events
+
+-- the word at an address of a ring that goes on with an old one, by the old words: HEAD, TAIL and the slots, the rest of it begins anew
+abbrev pub ring_word : (new old : RingPlaces) → List ℕ → ℕ → Option ℕ
+ring_word new old words a =
+    if a == new.head then Some (word_in words old.head)
+    else (if a == new.tail then Some (word_in words old.tail)
+    else (if holds (words_at new.slots ring_words) a then Some (word_in words (old.slots + (a - new.slots))) else None))
+
+-- a ring goes on where both maps have one
+abbrev pub kept_ring_word : (new old : Option RingPlaces) → List ℕ → ℕ → Option ℕ
+kept_ring_word None old words a = None
+kept_ring_word (Some n) None words a = None
+kept_ring_word (Some n) (Some o) words a = ring_word n o words a
+
 -- ---- its FRAM
 
--- the word at an address: CUR names the new task, BASE is the old one's, a variable has its words, and all others are the new image's
+-- the word at an address: CUR names the new task, BASE is the old one's, a ring goes on, a variable has its words, and all others are the new image's
 abbrev pub migrated_word : EditionValue → EditionValue → (task : ℕ) → ℕ → ℕ
 migrated_word old new task a =
     if a == new.named.words.current_task then task
     else (if a == new.named.words.base then word_in old.words old.named.words.base
-    else unwrap_or (shared_word new.named.variables (rows_of old new) a) (word_in new.words a))
+    else unwrap_or (kept_ring_word new.named.ring old.named.ring old.words a)
+    (unwrap_or (shared_word new.named.variables (rows_of old new) a) (word_in new.words a)))
 
 -- each word of the FRAM is so
 abbrev pub AreMigrated : EditionValue → EditionValue → (task : ℕ) → List ℕ → Type 0

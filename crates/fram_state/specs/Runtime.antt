@@ -1,8 +1,10 @@
 -- What the words of a FRAM hold.
-use Rattle.std.specs.Prelude.{ℕ, List, take, drop, slice_index}
+use Rattle.std.specs.Prelude.{ℕ, ◌+◌, ◌-◌, ◌%◌, List, take, drop, slice_index}
 use Rattle.image_text.specs.image_map.declared.parts.RuntimeWords.{RuntimeWords}
+use Rattle.image_text.specs.image_map.declared.parts.RingPlaces.{RingPlaces}
 use Rattle.image_text.specs.ImageValue.{place_of}
 use Rattle.fram_state.specs.declared.runtime.Runtime.{Runtime}
+use Rattle.fram_state.specs.declared.runtime.Ring.{Ring}
 
 -- the word at an address
 abbrev pub word_in : List ℕ → ℕ → ℕ
@@ -23,4 +25,11 @@ runtime_of w words = record {
   base = word_in words w.base;
   sent_base = word_in words w.sent_base;
   version = word_in words w.version;
+}
+
+-- what waits in a ring, from TAIL up to HEAD, and what of that a commit takes, up to SE: the indexes count on modulo 65536
+abbrev pub ring_of : RingPlaces → List ℕ → Ring
+ring_of places words = record {
+  waiting = (word_in words places.head + 65536 - word_in words places.tail) % 65536;
+  taken = (word_in words places.sent_tail + 65536 - word_in words places.tail) % 65536;
 }

@@ -1,16 +1,18 @@
 -- When a state is sound: rule by rule, what a board that goes on from it has to find in the FRAM.
 use Rattle.std.specs.Prelude.{◌≡◌, ℕ, zero, suc, ◌+◌, ◌-◌, ◌*◌, ◌%◌, ◌==◌, ◌&&◌, ◌||◌, Bool, true, not, nat_le, nat_lt, if◌then◌else◌, List, [], ◌∷◌, length}
-use Rattle.std.specs.Prelude.{Option, sum_by, find}
+use Rattle.std.specs.Prelude.{Option, Some, None, sum_by, find}
 use Rattle.std.specs.List.{list_all}
-use Rattle.image_text.specs.image_map.MapValue.{MapValue}
+use Rattle.image_text.specs.image_map.MapValue.{MapValue, ring_words}
+use Rattle.image_text.specs.image_map.declared.parts.RingPlaces.{RingPlaces}
 use Rattle.image_text.specs.image_map.declared.parts.Variable.{Variable}
 use Rattle.fram_state.specs.declared.entry.Entry.{Entry}
 use Rattle.fram_state.specs.declared.fault.Rule.{Rule}
 use Rattle.fram_state.specs.declared.fault.Rule.TheVariants as rule
 use Rattle.fram_state.specs.declared.runtime.Runtime.{Runtime}
+use Rattle.fram_state.specs.declared.runtime.Ring.{Ring}
 use Rattle.fram_state.specs.Stretch.{words_at, lies_in, fits_fram}
 use Rattle.fram_state.specs.Named.{place_words, list_words, copies_words, is_shared}
-use Rattle.fram_state.specs.Runtime.{words_from, runtime_of}
+use Rattle.fram_state.specs.Runtime.{words_from, runtime_of, ring_of}
 
 -- ---- the commit list
 
@@ -42,6 +44,17 @@ words_of es = sum_by (λ e. e.words) es
 -- whether all entries are so, and have no more words together than there is room for entries
 abbrev pub are_entries : MapValue → List Entry → ℕ → Bool
 are_entries m es room = list_all (is_entry m) es && nat_le (words_of es) room
+
+-- ---- the ring of events
+
+-- whether no more words wait than there are slots, and a pending commit takes none but these
+abbrev pub is_ring : Ring → (pending : Bool) → Bool
+is_ring r pending = nat_le r.waiting ring_words && (not pending || nat_le r.taken r.waiting)
+
+-- the same of a map that may have no ring: then nothing is asked
+abbrev pub is_ring_at : Option RingPlaces → List ℕ → (pending : Bool) → Bool
+is_ring_at None words pending = true
+is_ring_at (Some places) words pending = is_ring (ring_of places words) pending
 
 -- ---- the rules
 
@@ -78,10 +91,12 @@ keeps m words r number rule.EmitCount = fits_fram (place_words m.emits) && nat_l
 keeps m words r number rule.NextTask = not (is_pending r) || nat_lt r.next_task (length m.tasks)
 keeps m words r number rule.SentBase = not (is_pending r) || nat_le ((number + 65536 - r.sent_base) % 65536) r.emit_count
 keeps m words r number rule.List = not (is_pending r) || is_list m words r.list_length
+keeps m words r number rule.Ring = is_ring_at m.ring words (is_pending r)
 
 -- the rules, in the order in which they are looked at
 abbrev pub rules : List Rule
-rules = rule.Gate ∷ rule.CurrentTask ∷ rule.Versions ∷ rule.Base ∷ rule.ListLength ∷ rule.EmitCount ∷ rule.NextTask ∷ rule.SentBase ∷ rule.List ∷ []
+rules = rule.Gate ∷ rule.CurrentTask ∷ rule.Versions ∷ rule.Base ∷ rule.ListLength ∷ rule.EmitCount ∷ rule.NextTask ∷ rule.SentBase ∷ rule.List ∷
+    rule.Ring ∷ []
 
 -- the first rule that a state breaks
 abbrev pub first_broken : MapValue → List ℕ → ℕ → Option Rule

@@ -25,6 +25,8 @@ pub enum Rule {
     SentBase,
     /// The runs of the commit list go from copies to shared words, in a pending commit, and have at most the capacity of words.
     List,
+    /// The ring of events, where the map has one, has at most 64 words from TAIL to HEAD; in a pending commit SE is none behind HEAD.
+    Ring,
 }
 
 impl Rule {
@@ -42,6 +44,7 @@ impl Rule {
             Rule::NextTask => b"NEXT",
             Rule::SentBase => b"SB",
             Rule::List => b"list",
+            Rule::Ring => b"ring",
         }
     }
 }

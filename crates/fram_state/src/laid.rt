@@ -1,20 +1,21 @@
 //! The words of a new edition's FRAM, which are written over those of its image.
 ghost use Rattle.std.specs.Prelude.{◌≡◌, ◌≤◌, ◌+◌, ◌<◌, ◌^◌, IfOk, OnOk, length};
 ghost use Rattle.image_text.specs.address_space.Limits.{IsFramWord, fram_words};
-ghost use Rattle.image_text.specs.image_map.MapValue.{IsVariable};
+ghost use Rattle.image_text.specs.image_map.MapValue.{IsRing, IsVariable};
 ghost use Rattle.image_text.specs.ImageValue.{place_of};
 ghost use Rattle.fram_state.specs.Suits.{line_of, declared_line};
 ghost use Rattle.fram_state.specs.Kept.{shared_names};
 ghost use Rattle.fram_state.specs.Migrated as spec;
 ghost use Rattle.fram_state.specs.Migrated.{rows_of, row_of};
-ghost use Rattle.fram_state.specs.Laid.{with_row, with_rows, with_word, migrated_words};
+ghost use Rattle.fram_state.specs.Laid.{with_row, with_rows, with_word, with_ring, with_kept_ring, migrated_words};
 ghost use Rattle.fram_state.specs.Editions.{edition_of, HasNumbers, IsEdition};
 
 use crate::edition::Edition;
 use crate::kept::{Numbers, kept_from};
 use crate::runtime::{word_in, words_from};
-use image_text::Variable;
+use image_map::RING_WORDS;
 use image_text::address_space::fram_index;
+use image_text::{RingPlaces, Variable};
 use source_meaning::initial_words;
 use source_report::spelled;
 use std::alloc::{AllocError, Global};
@@ -114,8 +115,38 @@ fn put_variables<'a>(
     Ok(())
 }
 
-/// The words of the new FRAM: those of the new image, with the words that the new variables go on with, BASE as the old state has it, and CUR
-/// as the number of this task.
+// Writes the slots, TAIL and HEAD of an old ring over those of a new one.
+#[tactic(auto, using(crate::proofs::Ring::slots_fit))]
+fn put_ring(new: RingPlaces, old: RingPlaces, from: &[u16], words: &mut [u16])
+    requires new { IsRing new }
+    requires old { IsRing old }
+    requires from { length from.now ≡ fram_words }
+    requires all { length words.old ≡ fram_words }
+    ensures ring { words.new ≡ with_ring new old from.now words.old }
+    ensures len { length words.new ≡ fram_words }
+{
+    let slots = words_from(from, old.slots, RING_WORDS as usize);
+    put_row(words, fram_index(new.slots), slots);
+    put_word(words, new.tail, word_in(from, old.tail));
+    put_word(words, new.head, word_in(from, old.head));
+}
+
+// The same where both editions have a ring.
+fn put_kept_ring<'a>(old: &Edition<'a>, new: &Edition<'a>, words: &mut [u16])
+    requires old { IsEdition (edition_of old.now) }
+    requires all { length words.old ≡ fram_words }
+    ensures ring { words.new ≡ with_kept_ring new.now.map.now.ring old.now.map.now.ring old.now.words.now words.old }
+    ensures len { length words.new ≡ fram_words }
+{
+    old.map.rules();
+    new.map.rules();
+    if let (Some(places), Some(old_places)) = (new.map.ring(), old.map.ring()) {
+        put_ring(places, old_places, old.words, words);
+    }
+}
+
+/// The words of the new FRAM: those of the new image, with the words that the new variables go on with, the ring that goes on where
+/// both have one, BASE as the old state has it, and CUR as the number of this task.
 pub fn migrated_words<'a>(
     alloc: Global,
     old: &Edition<'a>,
@@ -135,6 +166,7 @@ pub fn migrated_words<'a>(
     let base = word_in(old.words, old.map.words().base);
     let mut words = new.words.to_vec(alloc)?;
     put_variables(alloc, old, numbers, new, &mut words)?;
+    put_kept_ring(old, new, &mut words);
     put_word(&mut words, places.base, base);
     put_word(&mut words, places.current_task, task as u16);
     Ok(words)

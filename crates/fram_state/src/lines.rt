@@ -6,7 +6,7 @@ ghost use Rattle.source_maps.specs.source_runs.Naming.{length_of};
 ghost use Rattle.source_maps.specs.Maps as maps;
 ghost use Rattle.source_maps.specs.Maps.{word_value_type, value_type_of};
 ghost use Rattle.war_analysis.specs.Plans.{IsPlan};
-ghost use Rattle.fram_state.specs.Suits.{line_of, declared_line, planned_task, planned_tasks, HasLinesOf, Suits};
+ghost use Rattle.fram_state.specs.Suits.{line_of, declared_line, planned_task, planned_tasks, has_ring, HasLinesOf, Suits};
 
 use image_map::ValueType;
 use image_text::{Image, Map, Name, Task, Variable};
@@ -22,7 +22,7 @@ use war_analysis::{Plan, TaskPlan, analyse, one_plan};
 /// What keeps an image from being one of a source.
 #[derive(Clone, Copy, Debug, Error)]
 pub enum SuitFault {
-    /// The image has no map, or its map has other variables, tasks or private scalars than the source.
+    /// The image has no map, or its map has other variables, tasks or private scalars than the source, or just one of both has a ring.
     #[error("the map isn't one of the source")]
     OtherSource,
     #[error("out of memory")]
@@ -154,6 +154,14 @@ fn are_planned(
     true
 }
 
+// Whether a source has a ring: where it uses events, which none does yet.
+fn has_ring(source: &CheckedSource) -> bool
+    ensures { result ≡ has_ring (program_of source.now) }
+{
+    let _ = source;
+    false
+}
+
 // Whether a map has the lines that a source with this plan gives.
 fn has_lines_of(text: &[u8], source: &CheckedSource, plan: &Plan, map: &Map) -> bool
     requires { length plan.now ≡ length source.now.tasks.items }
@@ -167,10 +175,11 @@ fn has_lines_of(text: &[u8], source: &CheckedSource, plan: &Plan, map: &Map) -> 
             plan.tasks(),
             map.tasks(),
         )
+        && map.ring().is_some() == has_ring(source)
 }
 
 /// Whether an image is one of a source: it has a map, and the `scalar`, `array`, `task` and `private` lines of this are those that the source
-/// gives, addresses aside.
+/// gives, addresses aside, and it has a ring exactly where the source has one.
 ///
 /// # Errors
 /// `OtherSource` exactly where it isn't; `Memory` where memory was refused.

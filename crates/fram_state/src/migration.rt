@@ -160,8 +160,8 @@ fn words_behind<'a>(
 }
 
 /// The state of a new edition of a program that goes on in place of an old state: each shared variable of the new source has the words of the old
-/// one of its name, kind, type and length, if there is one, or else those that it begins with; CUR is the task of the same name; BASE and the
-/// receiver's number are kept; and the rest is the new image's.
+/// one of its name, kind, type and length, if there is one, or else those that it begins with; CUR is the task of the same name; BASE, the
+/// receiver's number and, where both maps have a ring, its HEAD, TAIL and slots are kept; and the rest is the new image's.
 ///
 /// # Errors
 /// `Pending` where the commit of the state is pending; then `NoTask` with the name of the current task, where the new source has none of this

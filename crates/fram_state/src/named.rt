@@ -1,10 +1,12 @@
 //! The words that a map names.
 ghost use Rattle.std.specs.Prelude.{◌≡◌, IfSome, IfNone, false};
 ghost use Rattle.fram_state.specs.Stretch.{held_until, AllUpTo};
-ghost use Rattle.fram_state.specs.Named.{list_words, place_words, copies_words, variable_words, runtime_words, buffers, is_shared, shared_until, is_named};
+ghost use Rattle.fram_state.specs.Named.{list_words, place_words, copies_words, variable_words, runtime_words, buffers, is_shared, shared_until};
+ghost use Rattle.fram_state.specs.Named.{ring_parts, ring_until, is_named};
 
 use crate::stretch::Stretch;
-use image_text::{Map, Place, RuntimeWords, Variable};
+use image_map::RING_WORDS;
+use image_text::{Map, Place, RingPlaces, RuntimeWords, Variable};
 
 /// The words of the commit list, three for an entry.
 pub fn list_words(place: Place) -> Stretch
@@ -62,6 +64,19 @@ fn buffers(map: &Map) -> [Stretch; 4]
     ]
 }
 
+fn ring_parts(ring: RingPlaces) -> [Stretch; 6]
+    ensures { result ≡ ring_parts ring }
+{
+    [
+        Stretch::of_words(ring.head, 1),
+        Stretch::of_words(ring.tail, 1),
+        Stretch::of_words(ring.event_count, 1),
+        Stretch::of_words(ring.sent_tail, 1),
+        Stretch::of_words(ring.answer, 1),
+        Stretch::of_words(ring.slots, RING_WORDS as u64),
+    ]
+}
+
 /// Whether one of these variables has the word at an address.
 pub fn is_shared(variables: &[Variable], address: u64) -> bool
     ensures { result ≡ is_shared variables.now address }
@@ -77,6 +92,16 @@ fn held_until(stretches: &[Stretch], address: u64) -> Option<u64>
         .iter()
         .find(|stretch| stretch.holds(address))
         .map(|stretch| stretch.to)
+}
+
+// The end of the first part of a ring that has an address, if there is a ring.
+fn ring_until(ring: Option<RingPlaces>, address: u64) -> Option<u64>
+    ensures { result ≡ ring_until ring address }
+{
+    match ring {
+        None => None,
+        Some(places) => held_until(&ring_parts(places), address),
+    }
 }
 
 // The end of the first of these variables that has the word at an address.
@@ -99,6 +124,9 @@ pub fn named_until(map: &Map, address: u64) -> Option<u64>
         return Some(end);
     }
     if let Some(end) = held_until(&buffers(map), address) {
+        return Some(end);
+    }
+    if let Some(end) = ring_until(map.ring(), address) {
         return Some(end);
     }
     shared_until(map.variables(), address)

@@ -1,11 +1,11 @@
 //! What the words of a FRAM hold.
 ghost use Rattle.std.specs.Prelude.{◌≡◌, ◌≤◌, ◌*◌, ◌/◌, ◌-◌, length};
 ghost use Rattle.image_text.specs.address_space.Limits.{IsFramWord, fram_words};
-ghost use Rattle.image_text.specs.image_map.MapValue.{AreFramWords};
-ghost use Rattle.fram_state.specs.Runtime.{word_in, words_from, runtime_of};
+ghost use Rattle.image_text.specs.image_map.MapValue.{AreFramWords, IsRing};
+ghost use Rattle.fram_state.specs.Runtime.{word_in, words_from, runtime_of, ring_of};
 
-use image_text::RuntimeWords;
 use image_text::address_space::fram_index;
+use image_text::{RingPlaces, RuntimeWords};
 
 /// What the words of the runtime hold.
 #[derive(Clone, Copy)]
@@ -18,6 +18,13 @@ pub struct Runtime {
     pub base: u16,
     pub sent_base: u16,
     pub version: u16,
+}
+
+/// How many words of a ring of events wait, from TAIL up to HEAD, and how many a commit takes, up to SE.
+#[derive(Clone, Copy)]
+pub struct Ring {
+    pub waiting: u16,
+    pub taken: u16,
 }
 
 /// The word at an address.
@@ -55,5 +62,18 @@ pub fn runtime_of(places: RuntimeWords, words: &[u16]) -> Runtime
         base: word_in(words, places.base),
         sent_base: word_in(words, places.sent_base),
         version: word_in(words, places.version),
+    }
+}
+
+/// What waits in a ring.
+pub fn ring_of(places: RingPlaces, words: &[u16]) -> Ring
+    requires all { length words.now ≡ fram_words }
+    requires places { IsRing places }
+    ensures { result ≡ ring_of places words.now }
+{
+    let tail = word_in(words, places.tail);
+    Ring {
+        waiting: word_in(words, places.head).wrapping_sub(tail),
+        taken: word_in(words, places.sent_tail).wrapping_sub(tail),
     }
 }

@@ -1,18 +1,20 @@
 //! The rules of sound states.
-ghost use Rattle.std.specs.Prelude.{◌≡◌, length, find, not};
+ghost use Rattle.std.specs.Prelude.{◌≡◌, IfSome, length, find, not};
 ghost use Rattle.image_text.specs.address_space.Limits.{fram_words};
+ghost use Rattle.image_text.specs.image_map.MapValue.{IsRing};
 ghost use Rattle.fram_state.specs.Sound as sound;
 ghost use Rattle.fram_state.specs.Sound.{entries_of, is_pending, is_base, first_broken};
 
 use crate::entry::Entry;
 use crate::fault::Rule;
 use crate::named::{copies_words, is_shared, list_words, place_words};
-use crate::runtime::{Runtime, runtime_of, words_from};
+use crate::runtime::{Ring, Runtime, ring_of, runtime_of, words_from};
 use crate::stretch::Stretch;
-use image_text::{Map, Variable};
+use image_map::RING_WORDS;
+use image_text::{Map, RingPlaces, Variable};
 
 /// The rules, in the order in which they are looked at.
-const RULES: [Rule; 9] = [
+const RULES: [Rule; 10] = [
     Rule::Gate,
     Rule::CurrentTask,
     Rule::Versions,
@@ -22,6 +24,7 @@ const RULES: [Rule; 9] = [
     Rule::NextTask,
     Rule::SentBase,
     Rule::List,
+    Rule::Ring,
 ];
 
 // Whether so many words from an address on are all shared ones.
@@ -123,11 +126,32 @@ fn is_list(map: &Map, words: &[u16], list_length: u16) -> bool
         )
 }
 
+// Whether no more words wait in a ring than it has slots, and a pending commit takes none but these.
+fn is_ring(ring: Ring, pending: bool) -> bool
+    ensures { result ≡ sound.is_ring ring pending }
+{
+    ring.waiting <= RING_WORDS && (!pending || ring.taken <= ring.waiting)
+}
+
+// The same of the ring that a map may have.
+fn is_ring_at(ring: Option<RingPlaces>, words: &[u16], pending: bool) -> bool
+    requires all { length words.now ≡ fram_words }
+    requires places { IfSome ring IsRing }
+    ensures { result ≡ sound.is_ring_at ring words.now pending }
+{
+    match ring {
+        None => true,
+        Some(places) => is_ring(ring_of(places, words), pending),
+    }
+}
+
 // Whether a state keeps a rule: one with this map, these words of the FRAM, of which the runtime's hold this, and this number.
 #[tactic(auto, unfolding(crate::specs::Sound::keeps))]
 fn keeps(map: &Map, words: &[u16], runtime: Runtime, number: u16, rule: Rule) -> bool
+    requires { length words.now ≡ fram_words }
     ensures { result ≡ sound.keeps map.now words.now runtime number rule }
 {
+    map.rules();
     let pending = is_pending(runtime);
     match rule {
         Rule::Gate => runtime.gate <= 1,
@@ -144,6 +168,7 @@ fn keeps(map: &Map, words: &[u16], runtime: Runtime, number: u16, rule: Rule) ->
         Rule::NextTask => !pending || (runtime.next_task as usize) < map.tasks().len(),
         Rule::SentBase => !pending || number.wrapping_sub(runtime.sent_base) <= runtime.emit_count,
         Rule::List => !pending || is_list(map, words, runtime.list_length),
+        Rule::Ring => is_ring_at(map.ring(), words, pending),
     }
 }
 
@@ -155,6 +180,7 @@ fn first_failed(
     runtime: Runtime,
     number: u16,
 ) -> Option<Rule>
+    requires { length words.now ≡ fram_words }
     ensures { result ≡ find (λ r. not (sound.keeps map.now words.now runtime number r)) rules.now }
 {
     for rule in rules {
