@@ -71,7 +71,7 @@ run_nonempty : (b : BoardValue) (h : History) (trace : TraceValue) (ending : End
     → 0 < length output
 run_nonempty b h trace ending output report =
     let r : RunOutcome = report.outcome in
-    let last = behind_nonempty (events_lines b.line.coming (event_counts h.map r)) _ (last_nonempty (after_all h r.moments) r.ending r.board) in
+    let last = behind_nonempty (events_lines trace.events (event_counts h.map r)) _ (last_nonempty (after_all h r.moments) r.ending r.board) in
     let P : List ℕ → Type 0 = λ t. 0 < length t in
     subst P (sym report.lines) (behind_nonempty (bound_lines h.map) _ (behind_nonempty (lines_from h r.moments) _ last))
 

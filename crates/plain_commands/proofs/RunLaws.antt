@@ -40,21 +40,21 @@ IsWrittenOf b h t old new (Err fault.Write) =
 
 pub is_written : (b : BoardValue) (h : History) (t : TraceValue) (old new : Option (List ℕ)) (result : Result RunEnd RunFault) (after : BoardValue)
     (now : History)
-    → IsRunOf h (charges_of t.charges) b old new result after now → IsWrittenOf b h t old new result
+    → IsRunOf h (charges_of t.charges) t.events b old new result after now → IsWrittenOf b h t old new result
 is_written b h t old new (Ok x) after now r =
-    (report_of h b.line.coming r.0, record { outcome = r.0; run = r.1; ends = ends_well r.0.ending x r.2.answer; lines = refl }, r.2.written)
+    (report_of h t.events r.0, record { outcome = r.0; run = r.1; ends = ends_well r.0.ending x r.2.answer; lines = refl }, r.2.written)
 is_written b h t old new (Err (fault.Illegal pc word)) after now r =
-    (report_of h b.line.coming r.0, record { outcome = r.0; run = r.1; ends = ends_at_fault r.0.ending (fault.Illegal pc word) r.2.answer; lines = refl }, r.2.written)
+    (report_of h t.events r.0, record { outcome = r.0; run = r.1; ends = ends_at_fault r.0.ending (fault.Illegal pc word) r.2.answer; lines = refl }, r.2.written)
 is_written b h t old new (Err (fault.Bus pc address)) after now r =
-    (report_of h b.line.coming r.0, record { outcome = r.0; run = r.1; ends = ends_at_fault r.0.ending (fault.Bus pc address) r.2.answer; lines = refl }, r.2.written)
+    (report_of h t.events r.0, record { outcome = r.0; run = r.1; ends = ends_at_fault r.0.ending (fault.Bus pc address) r.2.answer; lines = refl }, r.2.written)
 is_written b h t old new (Err fault.Write) after now r =
-    (ending_of r.0.ending, report_of h b.line.coming r.0, record { outcome = r.0; run = r.1; ends = refl; lines = refl }, r.2.written)
+    (ending_of r.0.ending, report_of h t.events r.0, record { outcome = r.0; run = r.1; ends = refl; lines = refl }, r.2.written)
 
 -- the same of a fault that is known
 pub is_written_at : (b : BoardValue) (h : History) (t : TraceValue) (old new : Option (List ℕ)) (x y : RunFault) (after : BoardValue) (now : History)
-    → x ≡ y → IsRunOf h (charges_of t.charges) b old new (Err x) after now → IsWrittenOf b h t old new (Err y)
+    → x ≡ y → IsRunOf h (charges_of t.charges) t.events b old new (Err x) after now → IsWrittenOf b h t old new (Err y)
 is_written_at b h t old new x y after now same r =
-    is_written b h t old new (Err y) after now (subst (λ z. IsRunOf h (charges_of t.charges) b old new (Err z) after now) same r)
+    is_written b h t old new (Err y) after now (subst (λ z. IsRunOf h (charges_of t.charges) t.events b old new (Err z) after now) same r)
 
 -- the report of a run is that of the same board's, told from the same history
 pub told_from : (b c : BoardValue) (h k : History) (t : TraceValue) → b ≡ c → h ≡ k → (ending : Ending) (output : List ℕ)

@@ -23,7 +23,7 @@ pub record IsReportFrom (board : BoardValue) (known : History) (trace : TraceVal
   pub outcome : RunOutcome
   pub run : Run (charges_of trace.charges) board outcome
   pub ends : ending ≡ ending_of outcome.ending
-  pub lines : output ≡ report_of known board.line.coming outcome
+  pub lines : output ≡ report_of known trace.events outcome
 
 -- the same of the image's fresh board, on the trace's readings and events
 abbrev pub IsRunReport : ImageValue → TraceValue → Ending → List ℕ → Type 0
