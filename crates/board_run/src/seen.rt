@@ -128,6 +128,7 @@ impl<'a> Seen<'a> {
 }
 
 // What ended the time of a word in hand, in a step that this board is left by, and HEAD is looked at.
+#[cold]
 #[inline(never)]
 fn note_ends(head: &mut Head, tally: &mut Tally, heard: Heard, is_return: bool, board: &Board)
     requires fits { IfSome head.old.place IsFramWord }
