@@ -6,11 +6,11 @@ use Rattle.plain_commands.specs.alp_io.Report.{bound_line, end_line}
 use Rattle.plain_commands.specs.fram_board.msp_step.declared.machine.Stop.TheVariants as stop
 use Rattle.plain_commands.specs.energy_trace.TraceValue.{Event}
 use Rattle.plain_commands.specs.fram_board.Run.{End, Charges, Stopped}
+use Rattle.plain_commands.specs.board_run.Events.{none_accepted}
 use Rattle.plain_commands.specs.board_run.Report.{events_lines}
 use Rattle.plain_commands.specs.source_values.Statements.{Outcome}
 use Rattle.plain_commands.specs.source_report.SourceReport.{source_report}
 use Rattle.source_runs.specs.Tells.{IsEndOf}
-use Rattle.source_runs.specs.model_runs.Events.{none_accepted}
 use Rattle.compiler_commands.specs.Audited.{TriedReportsAreGood, TriedReportsAreAnsweredYes}
 use Rattle.plain_commands.proofs.Interface.{of_same}
 

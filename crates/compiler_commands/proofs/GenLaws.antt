@@ -73,15 +73,15 @@ generated_words number bound trace low is = subst IsTraceOfWords (sym is) (gener
 pub no_fault : (image : ImageValue) (trace : TraceValue) (old new : Option (List ℕ)) (x : RunFault) (board after : BoardValue) (watch now : History)
     → board ≡ fresh image.words trace.readings trace.events → watch ≡ start_of image
     → ((ending : Ending) (output : List ℕ) → IsRunReport image trace ending output → ending ≡ well)
-    → IsRunOf watch (charges_of trace.charges) board old new (Err x) after now → HasWriteCause 0 0 (Err x) → ⊥
+    → IsRunOf watch (charges_of trace.charges) trace.events board old new (Err x) after now → HasWriteCause 0 0 (Err x) → ⊥
 no_fault image trace old new x board after watch now is_board is_watch ends r cause =
-    go x (subst (λ h. IsRunOf h (charges_of trace.charges) (fresh image.words trace.readings trace.events) old new (Err x) after now) is_watch
-    (subst (λ b. IsRunOf watch (charges_of trace.charges) b old new (Err x) after now) is_board r)) cause
+    go x (subst (λ h. IsRunOf h (charges_of trace.charges) trace.events (fresh image.words trace.readings trace.events) old new (Err x) after now) is_watch
+    (subst (λ b. IsRunOf watch (charges_of trace.charges) trace.events b old new (Err x) after now) is_board r)) cause
   where
     faulty : at_fault ≡ well → ⊥
     faulty e = cc
 
-    go : (y : RunFault) → IsRunOf (start_of image) (charges_of trace.charges) (fresh image.words trace.readings trace.events) old new (Err y) after now
+    go : (y : RunFault) → IsRunOf (start_of image) (charges_of trace.charges) trace.events (fresh image.words trace.readings trace.events) old new (Err y) after now
         → HasWriteCause 0 0 (Err y) → ⊥
     go (fault.Illegal pc word) q w = let f = is_written _ _ trace old new (Err (fault.Illegal pc word)) after now q in faulty (ends at_fault f.0 f.1)
     go (fault.Bus pc address) q w = let f = is_written _ _ trace old new (Err (fault.Bus pc address)) after now q in faulty (ends at_fault f.0 f.1)

@@ -30,7 +30,7 @@ use Rattle.plain_commands.proofs.Interface.{ends_well, ends_at_fault}
 -- ---- the run, to a sink that never fails
 
 ran_by : (s : State) (t : TraceValue) (old new : Option (List ℕ)) (end : Result RunEnd RunFault) (after : BoardValue) (now : History)
-    → IsRunOf (start_of s.image) (charges_of t.charges) (from_state s t) old new end after now → HasWriteCause 0 0 end → RanFrom s t end after now.completed
+    → IsRunOf (start_of s.image) (charges_of t.charges) t.events (from_state s t) old new end after now → HasWriteCause 0 0 end → RanFrom s t end after now.completed
 ran_by s t old new (Ok e) after now r cause =
     record { outcome = r.0; run = r.1; answer = r.2.answer; at_end = r.2.board; count = ap (λ h. h.completed) r.2.history }
 ran_by s t old new (Err (fault.Illegal pc word)) after now r cause =
@@ -40,11 +40,11 @@ ran_by s t old new (Err (fault.Bus pc address)) after now r cause =
 ran_by s t old new (Err fault.Write) after now r cause = absurd (never_rises (cause.failed refl))
 
 pub ran_from : (s : State) (t : TraceValue) (old new : Option (List ℕ)) (end : Result RunEnd RunFault) (board after : BoardValue) (watch now : History)
-    → board ≡ from_state s t → watch ≡ start_of s.image → IsRunOf watch (charges_of t.charges) board old new end after now → HasWriteCause 0 0 end
+    → board ≡ from_state s t → watch ≡ start_of s.image → IsRunOf watch (charges_of t.charges) t.events board old new end after now → HasWriteCause 0 0 end
     → (completed : ℕ) → completed ≡ now.completed → RanFrom s t end after completed
 ran_from s t old new end board after watch now is_board is_watch r cause completed count =
-    let of_state = subst (λ b. IsRunOf watch (charges_of t.charges) b old new end after now) is_board r in
-    let of_image = subst (λ h. IsRunOf h (charges_of t.charges) (from_state s t) old new end after now) is_watch of_state in
+    let of_state = subst (λ b. IsRunOf watch (charges_of t.charges) t.events b old new end after now) is_board r in
+    let of_image = subst (λ h. IsRunOf h (charges_of t.charges) t.events (from_state s t) old new end after now) is_watch of_state in
     subst (λ k. RanFrom s t end after k) (sym count) (ran_by s t old new end after now of_image cause)
 
 no_write : (e : End) → Err fault.Write ≡ answer_of e → ⊥

@@ -24,7 +24,7 @@ pub returns-clause-whole : goal.returns-clause-whole
 returns-clause-whole g c =
     let said = c.in_ok-said.ensures.said in
     let state = c.in_ok-said.said.state in
-    let is_board = c.in_ok-board.ensures ∙ ap₂ (started state.image.words state.receiver) c.readings.ensures.value c.events.ensures.value in
+    let is_board = c.in_ok-board.ensures ∙ ap₂ (started state.image.words state.receiver) c.readings-readings.ensures.value c.events.ensures.value in
     report_whole _ _ _ _ _ _ _ refl
     (resume_product c.args.names.image.now c.args.names.state.now c.args.names.trace.now _ _ _ _ _ _ _ said.image_said said.state_said said.trace_said
     c.in_ok-check_belongs.ensures.belongs c.is_of_words.ensures said.words is_board)
@@ -34,7 +34,7 @@ pub returns-clause-failure : goal.returns-clause-failure
 returns-clause-failure g c =
     let said = c.in_ok-said.ensures.said in
     let state = c.in_ok-said.said.state in
-    let is_board = c.in_ok-board.ensures ∙ ap₂ (started state.image.words state.receiver) c.readings.ensures.value c.events.ensures.value in
+    let is_board = c.in_ok-board.ensures ∙ ap₂ (started state.image.words state.receiver) c.readings-readings.ensures.value c.events.ensures.value in
     report_fails _ _ _ _ _ _ _ refl
     (resume_product c.args.names.image.now c.args.names.state.now c.args.names.trace.now _ _ _ _ _ _ _ said.image_said said.state_said said.trace_said
     c.in_ok-check_belongs.ensures.belongs c.is_of_words.ensures said.words is_board)
