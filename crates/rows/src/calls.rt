@@ -79,8 +79,13 @@ fn word_decided(alloc: Global, source: &[u8], address: u16) -> Result<Option<u16
         if board.word(GATE) == Some(1) {
             return Ok(board.word(address));
         }
-        let is_full = board.accepted() == u64::MAX || board.repeats() == u64::MAX;
-        if is_full || board.step().is_err() {
+        if board.accepted() == u64::MAX {
+            return Ok(None);
+        }
+        if board.repeats() == u64::MAX {
+            return Ok(None);
+        }
+        if board.step().is_err() {
             return Ok(None);
         }
     }
