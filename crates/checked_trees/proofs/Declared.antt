@@ -85,6 +85,7 @@ expression_none types (t.long_number n) behind h = h
 expression_none types (t.name s) behind h = in_front behind s role.Scalar h tt
 expression_none types (t.element s index) behind h = element_none types s index (expression_names types index behind) (expression_none types index behind h)
 expression_none types t.sense behind h = h
+expression_none types t.next_event behind h = h
 expression_none types (t.unary op a) behind h = expression_none types a behind h
 expression_none types (t.binary op a b) behind h =
     expression_none types a _ (in_front (expression_names types b behind) op.span _ (expression_none types b behind h) tt)

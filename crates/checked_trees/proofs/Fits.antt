@@ -13,6 +13,7 @@ IsOfWords (t.long_number w) = w < 2 ^ 32
 IsOfWords (t.name x) = Unit {0}
 IsOfWords (t.element x index) = IsOfWords index
 IsOfWords t.sense = Unit {0}
+IsOfWords t.next_event = Unit {0}
 IsOfWords (t.unary op e) = IsOfWords e
 IsOfWords (t.binary op a b) = IsOfWords a × IsOfWords b
 IsOfWords (t.shift op e count) = IsOfWords e × IsWord count.value

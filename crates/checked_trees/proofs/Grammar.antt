@@ -127,6 +127,13 @@ expression_fits j ts e (grammar.sense s o c is_s is_o is_c) w beneath rest l h =
       (tt, token_room w beneath l (in_row w s (o ∷ c ∷ rest) plain h)),
       left_since (w + 1) (w + 1 + 1 + 1) rest (omega arith) (left (w + 1 + 1 + 1) rest (past (w + 1 + 1) c rest (ap is_end is_c) b)),
     )
+expression_fits j ts e (grammar.next_event n o c is_n is_o is_c) w beneath rest l h =
+    let plain : InRow n.kind = ap is_end is_n in
+    let a = past w n (o ∷ c ∷ rest) plain h in
+    let b = past (w + 1) o (c ∷ rest) (ap is_end is_o) a in (
+      (tt, token_room w beneath l (in_row w n (o ∷ c ∷ rest) plain h)),
+      left_since (w + 1) (w + 1 + 1 + 1) rest (omega arith) (left (w + 1 + 1 + 1) rest (past (w + 1 + 1) c rest (ap is_end is_c) b)),
+    )
 expression_fits j ts e (grammar.brackets o c xs inner is_o is_inner is_c) w beneath rest l h =
     let b = apart (w + 1) xs (c ∷ []) rest (past w o ((xs ++ c ∷ []) ++ rest) (ap is_end is_o) h) in
     let i = expression_fits weakest xs inner is_inner (w + 1) beneath (c ∷ rest) (omega (arith, l)) b in

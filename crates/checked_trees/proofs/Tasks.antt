@@ -50,6 +50,7 @@ same_words (t.long_number w) = refl
 same_words (t.name x) = refl
 same_words (t.element x index) = same_words index
 same_words t.sense = refl
+same_words t.next_event = refl
 same_words (t.unary op e) = ap (λ n. n + 2) (same_words e)
 same_words (t.binary op a b) = ap₂ (λ m n. max m (n + 2)) (same_words a) (same_words b)
 same_words (t.shift op e count) = same_words e
@@ -92,6 +93,7 @@ module _ (shared : List SharedDeclaration) (types : Span → WordType) where
       let word = one_word_of (type_of index) (expression_type types inner) b.1 a.1.0 in
       ((a.0.0, b.0, a.0.1, word), a.0.2, b.2)
   expression_split t.sense behind vs w h = (tt, λ e. e, h)
+  expression_split t.next_event behind vs w h = (tt, λ e. e, h)
   expression_split (t.unary op a) behind vs w h =
       let x = expression_split a behind vs w h in
       (x.0, unary_as_wide op (type_of a) (expression_type types (expression_back a)) x.1, x.2)

@@ -76,6 +76,7 @@ expression_writes_nothing x (t.name n) = read_writes (is_same x n.variable)
 expression_writes_nothing x (t.element n index) =
     none_late (expression_sum (summary x) index).writes _ _ (expression_writes_nothing x index) (read_writes (is_same x n.variable))
 expression_writes_nothing x t.sense = refl
+expression_writes_nothing x t.next_event = refl
 expression_writes_nothing x (t.unary _ a) = expression_writes_nothing x a
 expression_writes_nothing x (t.binary _ a b) =
     none_late (expression_sum (summary x) a).writes _ _ (expression_writes_nothing x a) (expression_writes_nothing x b)
@@ -92,6 +93,7 @@ expression_goes_on x (t.name n) = read_goes_on (is_same x n.variable)
 expression_goes_on x (t.element n index) =
     and_from (expression_sum (summary x) index).falls_through _ (expression_goes_on x index) (read_goes_on (is_same x n.variable))
 expression_goes_on x t.sense = refl
+expression_goes_on x t.next_event = refl
 expression_goes_on x (t.unary _ a) = expression_goes_on x a
 expression_goes_on x (t.binary _ a b) = and_from (expression_sum (summary x) a).falls_through _ (expression_goes_on x a) (expression_goes_on x b)
 expression_goes_on x (t.shift _ a _) = expression_goes_on x a

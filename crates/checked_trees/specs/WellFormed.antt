@@ -57,6 +57,7 @@ stack_words (t.long_number w) = 2
 stack_words (t.name x) = 2
 stack_words (t.element x index) = stack_words index
 stack_words t.sense = 2
+stack_words t.next_event = 2
 stack_words (t.unary op e) = stack_words e + 2
 stack_words (t.binary op a b) = max (stack_words a) (stack_words b + 2)
 stack_words (t.shift op e count) = stack_words e
@@ -80,6 +81,7 @@ WellFormedExpression shared (t.name x) = IsWordName shared x.variable × IsOfTyp
 WellFormedExpression shared (t.element x index) =
     IsArrayName shared x.variable × WellFormedExpression shared index × IsOfType shared x.word_type x.variable × IsOneWord (type_of index)
 WellFormedExpression shared t.sense = Unit {0}
+WellFormedExpression shared t.next_event = Unit {0}
 WellFormedExpression shared (t.unary op e) = WellFormedExpression shared e
 WellFormedExpression shared (t.binary op a b) =
     WellFormedExpression shared a × WellFormedExpression shared b × (is_refused op.operator (joined_type (type_of a) (type_of b)) ≡ false)

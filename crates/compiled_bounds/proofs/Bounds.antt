@@ -4,7 +4,7 @@ use Rattle.std.proofs.Common.{◌≡◌, ℕ, zero, suc, ◌<◌, ◌≤◌, max
 use Rattle.std.proofs.lemmas.Bool.Decides.{nat_tests}
 use Rattle.std.specs.Prelude.{slice_get}
 use Rattle.cost_bound.specs.Counts.{CheckedBlock}
-use Rattle.cost_bound.specs.Allowance.{CheckedTask, task_bound, versions_of}
+use Rattle.cost_bound.specs.Allowance.{CheckedTask, task_bound, uses_events, versions_of}
 use Rattle.source_values.specs.Runs.{body_of}
 use Rattle.crash_rules.specs.Model.{greatest}
 use Rattle.compiled_bounds.specs.Laws.{BoundIsTheSources}
@@ -32,4 +32,4 @@ same_greatest price (t ∷ ts) =
     first_apart (λ i. price (body_of (slice_get (t ∷ ts) i))) (length ts) ∙ ap (max (price t.body)) (same_greatest price ts)
 
 pub bound_is_the_sources : BoundIsTheSources
-bound_is_the_sources p l = same_greatest (task_bound (versions_of p) p.shared) p.tasks
+bound_is_the_sources p l = same_greatest (task_bound (uses_events p) (versions_of p) p.shared) p.tasks

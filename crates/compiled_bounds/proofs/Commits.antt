@@ -7,7 +7,7 @@ use Rattle.task_ast.specs.declared.names.VariableName.{VariableName}
 use Rattle.task_ast.specs.declared.names.TaskName.{TaskName}
 use Rattle.cost_bound.specs.Table.{cycles_column, statement_price, blocks_price, block_price}
 use Rattle.cost_bound.specs.Counts.{CheckedBlock, is_emit, statement_count, choice_count, block_count, emits_of}
-use Rattle.cost_bound.specs.Allowance.{CheckedProgram, CheckedTask, bound_of, list_of, task_bound, versions_of, greatest}
+use Rattle.cost_bound.specs.Allowance.{CheckedProgram, CheckedTask, bound_of, list_of, task_bound, uses_events, versions_of, greatest}
 use Rattle.commit_runtime.specs.Listing.{commit_cycles}
 use Rattle.runtime_code.proofs.Interface.{if_any_most}
 
@@ -61,7 +61,7 @@ has_greatest f g (t ∷ u ∷ ts) h =
 pub commit_within_bound : (p : CheckedProgram) (entries emits : ℕ) → 0 < length p.tasks → entries ≡ greatest (list_of p.shared) p.tasks
     → emits ≡ greatest emits_of p.tasks → 9 + commit_cycles entries entries emits ≤ bound_of p
 commit_within_bound p entries emits some list_is emits_are =
-    let price = task_bound (versions_of p) p.shared in
+    let price = task_bound (uses_events p) (versions_of p) p.shared in
     let a = has_greatest (list_of p.shared) price p.tasks some in
     let b = has_greatest emits_of price p.tasks some in
     let a_is = a.is in let a_within = a.within in let b_is = b.is in let b_within = b.within in

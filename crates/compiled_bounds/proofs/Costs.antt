@@ -6,7 +6,7 @@ use Rattle.std.specs.Prelude.{slice_get}
 use Rattle.machine_effects.specs.Inputs.{Inputs}
 use Rattle.cost_bound.specs.Table.{cycles_column, block_price}
 use Rattle.cost_bound.specs.Counts.{emits_of}
-use Rattle.cost_bound.specs.Allowance.{CheckedProgram, CheckedTask, IsAllowed, list_of, scalars_of, task_bound, versions_of}
+use Rattle.cost_bound.specs.Allowance.{CheckedProgram, CheckedTask, IsAllowed, list_of, scalars_of, task_bound, uses_events, versions_of}
 use Rattle.cost_bound.specs.declared.allowance.Allow.{Allow}
 use Rattle.war_analysis.proofs.Interface.{element}
 use Rattle.source_values.specs.Runs.{body_of, task_body}
@@ -88,11 +88,12 @@ module _ (p : CheckedProgram) (allow : Allow) (plans : List TaskPlanValue) (l : 
       let f = privates_few own.privates in
       omega (arith, a, b, c, d, e, f)
 
-  within : whole_cycles p l t fram inputs ≤ task_bound (versions_of p) p.shared (task_body p t)
+  within : whole_cycles p l t fram inputs ≤ task_bound (uses_events p) (versions_of p) p.shared (task_body p t)
   within =
-      all_within l.versions.words (versions_of p) (length (privates_in (task_entries l) t)) (scalars_of p.shared (task_body p t))
+      let most = all_within l.versions.words (versions_of p) (length (privates_in (task_entries l) t)) (scalars_of p.shared (task_body p t))
       (spent (task_program p l t) (started fram inputs)) (block_price cycles_column (task_body p t))
-      (list_of p.shared (task_body p t)) (emits_of (task_body p t)) (layout.versions ∙ allowed.versions) privates_are body_costs
+      (list_of p.shared (task_body p t)) (emits_of (task_body p t)) (layout.versions ∙ allowed.versions) privates_are body_costs in
+      omega (arith, most)
 
 pub tasks_keep_to_the_bound : TasksKeepToTheBound
 tasks_keep_to_the_bound p allow plans l allowed few layout = record {

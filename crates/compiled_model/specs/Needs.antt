@@ -2,7 +2,7 @@
 use Rattle.std.specs.Prelude.{◌≡◌, ℕ, ◌+◌, ◌<◌, ◌≤◌, true, length}
 use Rattle.machine_effects.specs.World.{World, EachStore}
 use Rattle.machine_effects.specs.Inputs.{Inputs, InputsAreWords}
-use Rattle.cost_bound.specs.Allowance.{task_bound, versions_of, list_of}
+use Rattle.cost_bound.specs.Allowance.{task_bound, uses_events, versions_of, list_of}
 use Rattle.cost_bound.specs.Counts.{emits_of}
 use Rattle.source_values.specs.Runs.{CheckedProgram, State, task_body}
 use Rattle.array_versions.specs.Behaviour.{End, GoesOn, Jumps, Short, Strays, Broken, behaviour, started}
@@ -27,7 +27,7 @@ whole_cycles p l t fram inputs =
 -- full list and full buffer keeps to the greatest
 pub record CostsAreWithin (p : CheckedProgram) (l : MemoryMap) : Type 0 where
   pub within : (t : ℕ) (fram : ℕ → ℕ) (inputs : Inputs) → t < length p.tasks → HoldsWords fram → InputsAreWords inputs
-      → whole_cycles p l t fram inputs ≤ task_bound (versions_of p) p.shared (task_body p t)
+      → whole_cycles p l t fram inputs ≤ task_bound (uses_events p) (versions_of p) p.shared (task_body p t)
   pub commits : (t : ℕ) → t < length p.tasks → 9 + commit_cycles l.entries l.entries l.emits.words ≤ bound (compiled_model p l)
 
 -- a program's end: it leaves for an address, or is short of readings

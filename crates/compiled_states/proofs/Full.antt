@@ -4,7 +4,7 @@ use Rattle.compiled_states.proofs.Names.{CheckedTask, IsAllowed, shared_sum_from
 use Rattle.compiled_states.proofs.Names.{versions_of, TaskPlanValue, MemoryMap, end_of, AreApart, apart_of, IsLayout}
 use Rattle.task_ast.specs.declared.Extent.TheVariants.{Scalar, Long, Array}
 use Rattle.cost_bound.specs.Counts.{CheckedBlock, emits_of}
-use Rattle.cost_bound.specs.Allowance.{words_of}
+use Rattle.cost_bound.specs.Allowance.{plain_words_of}
 use Rattle.privatise.specs.Sizes.{home_part, home_words, copy_part, copy_words, body_words, entry_words}
 
 -- each part in front of the code begins where the one before ends
@@ -71,7 +71,7 @@ layout_is_full p allow plans l h laid =
     let code : total (task_words p.shared) p.tasks ≤ starts + bodies =
     total_within (task_words p.shared) (entry_words p.shared) (body_words p.shared) p.tasks (λ c. omega arith) in
     let places = places_within (is_written p.tasks) 0 p.shared in
-    let all : words_of p ≤ 600 + (starts + bodies) + (homes + copies + versions) + 3 * list + emits = omega (arith, code, places) in
+    let all : plain_words_of p ≤ 600 + (starts + bodies) + (homes + copies + versions) + 3 * list + emits = omega (arith, code, places) in
     let commit = a.commit in let begin = a.code in let size = laid.size in
     let boot_has = laid.boot in let commit_has = laid.commit in let code_has = laid.code in
     let front : l.boot.address ≤ 17424 + 2 * (3 * list + emits + versions + homes + copies) =

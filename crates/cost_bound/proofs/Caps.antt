@@ -1,6 +1,7 @@
 -- Numbers that stop at the end of 64 bits.
-use Rattle.std.proofs.Common.{◌≡◌, ℕ, zero, suc, ◌+◌, ◌-◌, ◌*◌, ◌^◌, ◌≤◌, min, ap, ◌∙◌, ◌⊎◌, inl, inr, arith}
-use Rattle.std.specs.Prelude.{Bool, true, false, if◌then◌else◌}
+use Rattle.std.proofs.Common.{◌≡◌, ℕ, zero, suc, ◌+◌, ◌-◌, ◌*◌, ◌^◌, ◌<◌, ◌≤◌, min, ap, sym, ◌∙◌, ◌⊎◌, inl, inr, refl, arith}
+use Rattle.std.specs.Prelude.{Bool, true, false, nat_lt, if◌then◌else◌}
+use Rattle.std.proofs.lemmas.Bool.Decides.{nat_tests}
 use Rattle.cost_bound.specs.Table.{capped, turns_together}
 use Rattle.cost_bound.specs.declared.prices.Column.{Column}
 
@@ -37,3 +38,11 @@ pub loop_price : (c : Column) (n body cut turn turns all : ℕ) → cut ≡ capp
 loop_price p n body cut turn turns all a b c d =
     let e : turn ≡ capped (p.turn + body) = omega arith in
     let f : turns ≡ capped (turns_together p n (p.turn + body)) = c ∙ capped_turns p.each_turn n (p.turn + body) turn e in omega (arith, f)
+
+-- a number that was cut off is above 0 where it was
+pub some_capped : (n : ℕ) → nat_lt 0 (capped n) ≡ nat_lt 0 n
+some_capped zero = refl
+some_capped (suc n) =
+    let cut : nat_lt 0 (capped (suc n)) ≡ true = (let some : 0 < capped (suc n) = omega arith in grind (arith, nat_tests)) in
+    let whole : nat_lt 0 (suc n) ≡ true = (let some : 0 < suc n = omega arith in grind (arith, nat_tests)) in
+    cut ∙ sym whole

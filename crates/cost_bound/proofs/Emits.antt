@@ -1,7 +1,7 @@
 -- The column that counts emits.
 use Rattle.std.proofs.Common.{◌≡◌, ℕ, ◌-◌, ◌*◌, true, false, Some, None, ap, refl, arith}
-use Rattle.task_ast.specs.Tree.{Expression, number, long_number, name, element, sense, unary, binary, shift, short_circuit, Statement, declare, assign, store}
-use Rattle.task_ast.specs.Tree.{choose}
+use Rattle.task_ast.specs.Tree.{Expression, number, long_number, name, element, sense, next_event, unary, binary, shift, short_circuit}
+use Rattle.task_ast.specs.Tree.{Statement, declare, assign, store, choose}
 use Rattle.task_ast.specs.Tree.{loop, emit, transition, Choice, nothing, otherwise, test, Block, end, step}
 use Rattle.task_ast.specs.declared.BinaryOperator.{BinaryOperator}
 use Rattle.task_ast.specs.declared.BinaryOperator.TheVariants.{Multiply, Divide, Remainder}
@@ -17,6 +17,7 @@ use Rattle.cost_bound.specs.declared.prices.Column.{Column}
 abbrev pub emits_column : Column
 emits_column = record {
   leaf = 0;
+  next_event = 0;
   operator = 0;
   long = 0;
   shift = 0;
@@ -56,6 +57,7 @@ free (number _) = refl
 free (long_number _) = refl
 free (name x) = free_width x.word_type
 free sense = refl
+free next_event = refl
 free (unary _ e) = let x = free_width (type_of e) in let a = free e in omega arith
 free (binary op a b) =
     let x = free_operator op.operator (joined_type (type_of a) (type_of b)) in let y = free a in let z = free b in omega arith

@@ -1,13 +1,13 @@
 -- The allowance of a source with its names looked up: the bound of a charge in cycles, the size of its image in words, and the room
 -- that its tasks need at most. All are numbers without an end.
-use Rattle.std.specs.Prelude.{◌≡◌, ℕ, ◌+◌, ◌*◌, ◌^◌, ◌<◌, ◌≤◌, ◌||◌, Bool, false, min, max, if◌then◌else◌, List, [], ◌∷◌, Some, slice_get, slice_index, take}
-use Rattle.std.specs.Prelude.{All}
+use Rattle.std.specs.Prelude.{◌≡◌, ℕ, ◌+◌, ◌*◌, ◌^◌, ◌<◌, ◌≤◌, ◌||◌, Bool, false, nat_lt, min, max, if◌then◌else◌}
+use Rattle.std.specs.Prelude.{List, [], ◌∷◌, All, Some, slice_get, slice_index, take}
 use Rattle.alp_text.specs.declared.lines.Span.{Span}
 pub use Rattle.task_ast.specs.Paths.{CheckedTask, CheckedProgram}
 use Rattle.task_ast.specs.declared.Extent.{Extent}
 use Rattle.task_ast.specs.declared.Extent.TheVariants.{Scalar, Long, Array}
 use Rattle.task_ast.specs.declared.SharedDeclaration.{SharedDeclaration}
-use Rattle.cost_bound.specs.Table.{capped, cycles_column, words_column, block_price}
+use Rattle.cost_bound.specs.Table.{capped, cycles_column, words_column, events_column, block_price}
 use Rattle.cost_bound.specs.Counts.{CheckedBlock, emits_of, stores_of, block_assigns}
 use Rattle.cost_bound.specs.declared.fault.Over.{Over}
 use Rattle.cost_bound.specs.declared.fault.Over.TheVariants.{TooManyEmits, BoundTooLarge, TooLarge}
@@ -70,22 +70,38 @@ abbrev pub total : (CheckedBlock → ℕ) → List CheckedTask → ℕ
 total f [] = 0
 total f (t ∷ ts) = f t.body + total f ts
 
--- the cycles of a boot, the clearing of the versions, an attempt of a task and its commit
-abbrev pub task_bound : ℕ → List SharedDeclaration → CheckedBlock → ℕ
-task_bound versions shared code = 400 + 12 * versions + 72 * scalars_of shared code + block_price cycles_column code + 40 * list_of shared code + 40 *
-    emits_of code
+-- whether `next_event()` stands in some task, be it never reached
+abbrev pub use_events : List CheckedTask → Bool
+use_events [] = false
+use_events (t ∷ ts) = nat_lt 0 (block_price events_column t.body) || use_events ts
 
--- the bound, in cycles
+abbrev pub uses_events : CheckedProgram → Bool
+uses_events p = use_events p.tasks
+
+-- what a source costs more where it uses events
+abbrev pub for_events : Bool → ℕ → ℕ
+for_events used price = if used then price else 0
+
+-- the cycles of a boot, the clearing of the versions, an attempt of a task and its commit
+abbrev pub task_bound : Bool → ℕ → List SharedDeclaration → CheckedBlock → ℕ
+task_bound events versions shared code = for_events events 60 + 400 + 12 * versions + 72 * scalars_of shared code + block_price cycles_column code
+    + 40 * list_of shared code + 40 * emits_of code
+
+-- the bound, in cycles: events add their 60 to the greatest of the tasks' once, as they add them to each
 abbrev pub bound_of : CheckedProgram → ℕ
-bound_of p = greatest (task_bound (versions_of p) p.shared) p.tasks
+bound_of p = greatest (task_bound (uses_events p) (versions_of p) p.shared) p.tasks
 
 -- the words of a task's code
 abbrev pub task_words : List SharedDeclaration → CheckedBlock → ℕ
 task_words shared code = 200 + 16 * scalars_of shared code + block_price (words_column (scalars_of shared code)) code
 
+-- the size without what events need, in words
+abbrev pub plain_words_of : CheckedProgram → ℕ
+plain_words_of p = 600 + total (task_words p.shared) p.tasks + places_of p + 3 * greatest (list_of p.shared) p.tasks + greatest emits_of p.tasks
+
 -- the size, in words
 abbrev pub words_of : CheckedProgram → ℕ
-words_of p = 600 + total (task_words p.shared) p.tasks + places_of p + 3 * greatest (list_of p.shared) p.tasks + greatest emits_of p.tasks
+words_of p = plain_words_of p + for_events (uses_events p) 200
 
 abbrev pub FewEmits : CheckedTask → Type 0
 FewEmits t = emits_of t.body ≤ 256

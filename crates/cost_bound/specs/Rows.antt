@@ -116,6 +116,7 @@ pub record PriceRows : Type 0 where
   pub number : emits (t.number 7) ≡ (100, 40)
   pub scalar : emits (t.name x) ≡ (100, 40)
   pub reading : emits t.sense ≡ (100, 40)
+  pub event : emits t.next_event ≡ (140, 64)
   pub unary : emits (t.unary Negate (t.name x)) ≡ (140, 56)
   pub sum : emits (sums Add) ≡ (180, 72)
   pub comparison : emits (sums Greater) ≡ (180, 72)
@@ -168,6 +169,16 @@ several = source (declared (Scalar 0) ∷ declared (Array 4) ∷ declared (Array
     (t.step (t.assign x (t.number 1)) (t.step (t.assign x (t.number 2)) (goes_to 1)))))
     ∷ t.step (t.assign x (t.number 3)) (t.step (t.loop i 5 i 5 i (t.step (t.store z (t.number 0) (t.number 1)) t.end)) (goes_to 0)) ∷ [])
 
+-- `y = sense(); x = x + next_event(); transition_to(..);`, where y is a local
+abbrev pub event_sum : CheckedProgram
+event_sum = source (declared (Scalar 0) ∷ [])
+    (t.step (t.declare Unsigned i (Some t.sense)) (t.step (t.assign x (t.binary (here Add) (t.name x) t.next_event)) (goes_to 0)) ∷ [])
+
+-- the same twice over, where the first has its event in the block of a loop without a turn
+abbrev pub two_events : CheckedProgram
+two_events = source (declared (Scalar 0) ∷ [])
+    (t.step (t.loop i 5 i 5 i (t.step (t.assign x t.next_event) t.end)) (goes_to 1) ∷ t.step (t.assign x t.next_event) (goes_to 0) ∷ [])
+
 pub record AllowanceRows : Type 0 where
   -- 400, one scalar 72, its code 360, one entry 40, one emit 40
   pub running_sum_bound : bound_of running_sum ≡ 912
@@ -178,6 +189,13 @@ pub record AllowanceRows : Type 0 where
   pub one_store_words : (length : ℕ) → 1 ≤ length → words_of (one_store length) ≡ 935 + 3 * length
   pub two_loops_bound : bound_of two_loops ≡ 515385590452
   pub running_sum_words : words_of running_sum ≡ 990
+  -- 60, 400, one scalar 72, its code 80 + 200 + 100, and one entry 40
+  pub event_sum_bound : bound_of event_sum ≡ 952
+  -- 200 more, once
+  pub event_sum_words : words_of event_sum ≡ 1197
+  -- 60, 400, one scalar 72, the code 120 + 100 of the second task, and one entry 40
+  pub two_events_bound : bound_of two_events ≡ 792
+  pub two_events_words : words_of two_events ≡ 1543
   -- 12 versions; one scalar, the 4 elements of y and two stores to z
   pub several_versions : versions_of several ≡ 12
   pub several_list : greatest (list_of several.shared) several.tasks ≡ 7

@@ -1,8 +1,8 @@
 -- The table of prices: what a tree comes to in one of its columns, in numbers without an end.
 use Rattle.std.specs.Prelude.{ℕ, ◌+◌, ◌-◌, ◌*◌, ◌^◌, true, false, min, max, if◌then◌else◌, Some, None}
 use Rattle.task_ast.specs.Types.{by_width, joined_type, type_of}
-use Rattle.task_ast.specs.Tree.{Expression, number, long_number, name, element, sense, unary, binary, shift, short_circuit, Statement, declare, assign, store}
-use Rattle.task_ast.specs.Tree.{choose}
+use Rattle.task_ast.specs.Tree.{Expression, number, long_number, name, element, sense, next_event, unary, binary, shift, short_circuit}
+use Rattle.task_ast.specs.Tree.{Statement, declare, assign, store, choose}
 use Rattle.task_ast.specs.Tree.{loop, emit, transition, Choice, nothing, otherwise, test, Block, end, step}
 use Rattle.task_ast.specs.declared.WordType.{WordType}
 use Rattle.task_ast.specs.declared.BinaryOperator.{BinaryOperator}
@@ -20,6 +20,8 @@ abbrev pub cycles_column : Column
 cycles_column = record {
   -- a number, a scalar, `sense()`
   leaf = 40;
+  -- `next_event()`
+  next_event = 80;
   -- `-`, `~`, `!`, and the operators between two parts but those below
   operator = 40;
   -- what of these is long or has a long part
@@ -54,6 +56,7 @@ cycles_column = record {
 abbrev pub words_column : ℕ → Column
 words_column scalars = record {
   leaf = 16;
+  next_event = 40;
   operator = 16;
   long = 32;
   shift = 16;
@@ -75,6 +78,32 @@ words_column scalars = record {
   each_turn = false;
 }
 
+-- how often `next_event()` stands in a text
+abbrev pub events_column : Column
+events_column = record {
+  leaf = 0;
+  next_event = 1;
+  operator = 0;
+  long = 0;
+  shift = 0;
+  long_shift = 0;
+  multiply = 0;
+  divide = 0;
+  element = 0;
+  assign = 0;
+  long_assign = 0;
+  store = 0;
+  emit = 0;
+  transition = 0;
+  choose = 0;
+  condition = 0;
+  long_condition = 0;
+  all_blocks = true;
+  repeat = 0;
+  turn = 0;
+  each_turn = false;
+}
+
 -- an operator between two parts of a joined type
 abbrev pub operator_price : Column → BinaryOperator → WordType → ℕ
 operator_price c Multiply t = c.multiply
@@ -87,6 +116,7 @@ expression_price c (number _) = c.leaf
 expression_price c (long_number _) = c.long
 expression_price c (name x) = by_width x.word_type c.leaf c.long
 expression_price c sense = c.leaf
+expression_price c next_event = c.next_event
 expression_price c (unary _ e) = by_width (type_of e) c.operator c.long + expression_price c e
 expression_price c (binary op a b) =
     operator_price c op.operator (joined_type (type_of a) (type_of b)) + expression_price c a + expression_price c b

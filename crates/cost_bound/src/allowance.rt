@@ -1,16 +1,17 @@
 //! The allowance of a source.
-ghost use Rattle.std.specs.Prelude.{◌≡◌, ◌≤◌, ◌+◌, ◌*◌, ◌<◌, ◌^◌, length, map, max, ℕ, false, slice_index_or, All, IfSome, IfNone, IfOk, IfErr};
+ghost use Rattle.std.specs.Prelude.{◌≡◌, ◌≤◌, ◌+◌, ◌*◌, ◌<◌, ◌^◌, length, map, max, nat_lt, ℕ, false, slice_index_or, All, IfSome, IfNone, IfOk, IfErr};
 ghost use Rattle.task_ast.specs.View.{block_view, task_of, program_of};
-ghost use Rattle.cost_bound.specs.Table.{capped, words_column, cycles_column, block_price};
+ghost use Rattle.cost_bound.specs.Table.{capped, words_column, cycles_column, events_column, block_price};
 ghost use Rattle.cost_bound.specs.Counts.{block_assigns, emits_of};
 ghost use Rattle.cost_bound.specs.Allowance.{scalars_of, list_of, task_bound, task_words, greatest, is_written, versions_of, places_of, bound_of, words_of};
+ghost use Rattle.cost_bound.specs.Allowance.{use_events, for_events};
 ghost use Rattle.cost_bound.specs.Allowance.{FewEmits, IsFirstOver, IsAllowed, IsOver};
 ghost use Rattle.cost_bound.specs.Needs.{AreNeeds};
 
 use crate::SHARED;
 use crate::assigned::mark_assigned;
 use crate::fault::Over;
-use crate::prices::{CYCLES, EMITS, block_price, plus, times, words_column};
+use crate::prices::{CYCLES, EMITS, EVENTS, block_price, plus, times, words_column};
 use crate::shared::{array_entries, places, scalars, versions};
 use crate::stores::store_counts;
 use task_ast::{CheckedSource, SharedDeclaration, Stmt, TaskDeclaration, TaskName, VariableName};
@@ -19,6 +20,10 @@ use task_ast::{CheckedSource, SharedDeclaration, Stmt, TaskDeclaration, TaskName
 const MAX_EMITS: u64 = 256;
 /// The greatest bound, in cycles.
 const MAX_CYCLES: u64 = 4_294_967_295;
+/// The cycles that a source has more where it uses events: in some task, or in each.
+const EVENT_CYCLES: u64 = 60;
+/// The words that such a source has more.
+const EVENT_WORDS: u64 = 200;
 /// The greatest size, in words.
 const MAX_WORDS: u64 = 22_000;
 
@@ -42,6 +47,32 @@ fn emits(body: &[Stmt<VariableName, TaskName>]) -> u64
     ensures { result ≡ capped (emits_of (block_view body.now)) }
 {
     block_price(&EMITS, body)
+}
+
+// Whether `next_event()` stands in the task.
+fn has_event(body: &[Stmt<VariableName, TaskName>]) -> bool
+    ensures { result ≡ nat_lt 0 (block_price events_column (block_view body.now)) }
+{
+    block_price(&EVENTS, body) > 0
+}
+
+/// Whether `next_event()` stands in some task, be it never reached.
+pub fn uses_events(tasks: &[TaskDeclaration<VariableName, TaskName>]) -> bool
+    ensures { result ≡ use_events (map task_of tasks.now) }
+{
+    let mut used = false;
+    for i in (0..tasks.len()).rev() {
+        used = has_event(&tasks[i].body) || used;
+    }
+    used
+}
+
+// What a source costs more where it uses events.
+fn for_events(used: bool, price: u64) -> u64
+    ensures value { result ≡ for_events used price }
+    ensures low { result ≤ price }
+{
+    if used { price } else { 0 }
 }
 
 /// The marks of the shared variables that stand on the left of an assignment in the task.
@@ -87,12 +118,13 @@ struct Needs {
 
 fn task_needs(
     shared: &[SharedDeclaration],
+    events: bool,
     versions: u64,
     body: &[Stmt<VariableName, TaskName>],
 ) -> Needs
     requires few { length shared.now ≤ 256 }
     requires low { versions < 2 ^ 32 }
-    ensures bound { result.bound ≡ capped (task_bound versions shared.now (block_view body.now)) }
+    ensures bound { result.bound ≡ capped (task_bound events versions shared.now (block_view body.now)) }
     ensures words { result.words ≡ capped (task_words shared.now (block_view body.now)) }
     ensures list { result.list ≡ capped (list_of shared.now (block_view body.now)) }
     ensures emits { result.emits ≡ capped (emits_of (block_view body.now)) }
@@ -101,7 +133,7 @@ fn task_needs(
     let list = list_entries(shared, scalars, body);
     let emits = emits(body);
     let cycles = plus(
-        400 + 12 * versions + 72 * scalars,
+        for_events(events, EVENT_CYCLES) + 400 + 12 * versions + 72 * scalars,
         block_price(&CYCLES, body),
     );
     Needs {
@@ -129,12 +161,13 @@ fn together(a: Needs, b: Needs) -> Needs
 
 fn all_needs(
     shared: &[SharedDeclaration],
+    events: bool,
     versions: u64,
     tasks: &[TaskDeclaration<VariableName, TaskName>],
 ) -> Needs
     requires few { length shared.now ≤ 256 }
     requires low { versions < 2 ^ 32 }
-    ensures { AreNeeds versions shared.now (map task_of tasks.now) result }
+    ensures { AreNeeds events versions shared.now (map task_of tasks.now) result }
 {
     let mut all = Needs {
         bound: 0,
@@ -143,7 +176,7 @@ fn all_needs(
         emits: 0,
     };
     for i in (0..tasks.len()).rev() {
-        all = together(task_needs(shared, versions, &tasks[i].body), all);
+        all = together(task_needs(shared, events, versions, &tasks[i].body), all);
     }
     all
 }
@@ -181,12 +214,12 @@ fn first_over(tasks: &[TaskDeclaration<VariableName, TaskName>]) -> Option<usize
 }
 
 // The words of an image.
-fn size(needs: Needs, places: u64) -> u64
+fn size(needs: Needs, events: bool, places: u64) -> u64
     requires low { places < 2 ^ 32 }
-    ensures { result ≡ capped (600 + needs.words + places + 3 * needs.list + needs.emits) }
+    ensures { result ≡ capped (600 + needs.words + places + 3 * needs.list + needs.emits + for_events events 200) }
 {
     plus(
-        plus(600 + places, needs.words),
+        plus(600 + places + for_events(events, EVENT_WORDS), needs.words),
         plus(times(3, needs.list), needs.emits),
     )
 }
@@ -225,12 +258,12 @@ fn place_words(source: &CheckedSource, written: &[bool; SHARED]) -> u64
     places(&source.shared, written)
 }
 
-fn source_needs(source: &CheckedSource, versions: u64) -> Needs
+fn source_needs(source: &CheckedSource, events: bool, versions: u64) -> Needs
     requires few { length source.now.shared.items ≤ 256 }
     requires low { versions < 2 ^ 32 }
-    ensures { AreNeeds versions source.now.shared.items (map task_of source.now.tasks.items) result }
+    ensures { AreNeeds events versions source.now.shared.items (map task_of source.now.tasks.items) result }
 {
-    all_needs(&source.shared, versions, &source.tasks)
+    all_needs(&source.shared, events, versions, &source.tasks)
 }
 
 // What a source comes to; 2^64 - 1 where it is more.
@@ -255,10 +288,11 @@ fn totals_of(source: &CheckedSource) -> Totals
 {
     let written = written_variables(&source.tasks);
     let versions = version_words(source, &written);
-    let needs = source_needs(source, versions);
+    let events = uses_events(&source.tasks);
+    let needs = source_needs(source, events, versions);
     Totals {
         cycles: needs.bound,
-        words: size(needs, place_words(source, &written)),
+        words: size(needs, events, place_words(source, &written)),
         list: needs.list,
         emits: needs.emits,
         versions,

@@ -16,6 +16,8 @@ use task_ast::{Arm, BinaryOperator, Expr, Stmt, TaskName, VariableName, WordType
 pub struct Column {
     /// A number, a scalar, a reading.
     pub leaf: u64,
+    /// `next_event()`.
+    pub next_event: u64,
     /// An operator without a row of its own.
     pub operator: u64,
     /// What of these is long or has a long part.
@@ -129,6 +131,7 @@ fn priced(column: &Column, e: &Expr<VariableName>) -> (u64, WordType)
             (plus(column.element, index), x.word_type)
         }
         Expr::Sense => (plus(column.leaf, 0), WordType::Unsigned),
+        Expr::NextEvent => (plus(column.next_event, 0), WordType::Unsigned),
         Expr::Unary(op, inner) => {
             let (price, of) = priced(column, inner);
             let own = by_width(of, column.operator, column.long);
@@ -259,6 +262,7 @@ pub fn block_price(column: &Column, body: &[Stmt<VariableName, TaskName>]) -> u6
 /// The column of cycles.
 pub const CYCLES: Column = Column {
     leaf: 40,
+    next_event: 80,
     operator: 40,
     long: 80,
     shift: 100,
@@ -283,6 +287,7 @@ pub const CYCLES: Column = Column {
 /// The column that counts emits.
 pub const EMITS: Column = Column {
     leaf: 0,
+    next_event: 0,
     operator: 0,
     long: 0,
     shift: 0,
@@ -304,6 +309,31 @@ pub const EMITS: Column = Column {
     each_turn: true,
 };
 
+/// The column that counts how often `next_event()` stands in a text.
+pub const EVENTS: Column = Column {
+    leaf: 0,
+    next_event: 1,
+    operator: 0,
+    long: 0,
+    shift: 0,
+    long_shift: 0,
+    multiply: 0,
+    divide: 0,
+    element: 0,
+    assign: 0,
+    long_assign: 0,
+    store: 0,
+    emit: 0,
+    transition: 0,
+    choose: 0,
+    condition: 0,
+    long_condition: 0,
+    all_blocks: true,
+    repeat: 0,
+    turn: 0,
+    each_turn: false,
+};
+
 /// The column of words, for a task that assigns so many shared scalars.
 pub fn words_column(scalars: u64) -> Column
     requires few { scalars ≤ 512 }
@@ -311,6 +341,7 @@ pub fn words_column(scalars: u64) -> Column
 {
     Column {
         leaf: 16,
+        next_event: 40,
         operator: 16,
         long: 32,
         shift: 16,

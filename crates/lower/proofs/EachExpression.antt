@@ -219,6 +219,7 @@ module _ (k : Keeping) where
       (λ i. gives (word_at i.behind.variables x.variable i.value) i.behind) agrees.word
       (λ i s kept. element_agrees k w.stack i.behind s kept x.variable i.value (array_known k.shared k.p k.declared x.variable fits.0))))
   lowering_agrees t.sense m w kept fits = by_word k w (one sense) _ (sense_agrees k m w kept)
+  lowering_agrees t.next_event m w kept fits = by_word k w (one (number 0)) _ (tt, record { stack = refl; kept = kept })
   lowering_agrees (t.unary op e) m w kept fits =
       operand_agrees op (type_of e) w (lowering k.p e) (value_of e m) (lowering_agrees e m w kept fits)
       (lowering_agrees e m (pushed 0 (pushed 0 w)) kept fits)

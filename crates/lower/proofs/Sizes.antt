@@ -329,6 +329,7 @@ lowering_has p s (t.element x index) =
     last_has x.word_type (lowered_expression p index) (element_step p x.variable) 24 60 (price s index) (omega (arith, few), omega (arith, few))
     (lowering_has p s index).word
 lowering_has p s t.sense = word_has Unsigned _ _ (omega arith, omega arith)
+lowering_has p s t.next_event = word_has Unsigned _ _ (omega arith, omega arith)
 lowering_has p s (t.unary op e) = operand_has (type_of e) op (lowering p e) (price s e) (lowering_has p s e)
 lowering_has p s (t.binary op a b) =
     let both : BothHave (type_of a) (type_of b) (widened_type a) (widened_type b) (lowering p a) (lowering p b) (price s a) (price s b) = record {

@@ -205,6 +205,7 @@ lowering p (t.long_number w) = as_long (step (number (w % 65536)) (one (number (
 lowering p (t.name x) = name_lowering p x.word_type x.variable
 lowering p (t.element x index) = as_word (behind (word_program (lowering p index)) (element_step p x.variable))
 lowering p t.sense = as_word (one sense)
+lowering p t.next_event = as_word (one (number 0))
 lowering p (t.unary op e) = operand_lowering (type_of e) op (lowering p e)
 lowering p (t.binary op a b) =
     sides_lowering (operand_type op.operator (joined_type (type_of a) (type_of b))) op.operator (widened_type a) (widened_type b)

@@ -446,6 +446,7 @@ fn widened_type(e: &Expr<VariableName>, word_type: WordType) -> WordType
         | Expr::Name(_)
         | Expr::Element(..)
         | Expr::Sense
+        | Expr::NextEvent
         | Expr::Unary(..)
         | Expr::Binary(..)
         | Expr::Shift(..)
@@ -572,6 +573,7 @@ fn lower(
             with_type(element(x.variable, index, places), x.word_type)
         }
         Expr::Sense => with_type(reading(alloc), WordType::Unsigned),
+        Expr::NextEvent => with_type(number(alloc, 0), WordType::Unsigned),
         Expr::Unary(op, operand) => {
             let (operand, word_type) = lower(alloc, operand, places)?;
             let program = of_operand(alloc, word_type, *op, operand)?;

@@ -18,6 +18,7 @@ fn is_name(variable: Variable, e: &Expr<VariableName>) -> bool
         | Expr::LongNumber(_)
         | Expr::Element(..)
         | Expr::Sense
+        | Expr::NextEvent
         | Expr::Unary(..)
         | Expr::Binary(..)
         | Expr::Shift(..)
@@ -60,6 +61,7 @@ fn is_number(n: u16, e: &Expr<VariableName>) -> bool
         | Expr::Name(_)
         | Expr::Element(..)
         | Expr::Sense
+        | Expr::NextEvent
         | Expr::Unary(..)
         | Expr::Binary(..)
         | Expr::Shift(..)
@@ -77,6 +79,7 @@ fn are_alike(first: &Expr<VariableName>, second: &Expr<VariableName>) -> bool
         Expr::LongNumber(_)
         | Expr::Element(..)
         | Expr::Sense
+        | Expr::NextEvent
         | Expr::Unary(..)
         | Expr::Binary(..)
         | Expr::Shift(..)
@@ -94,6 +97,7 @@ fn is_element(variable: Variable, index: &Expr<VariableName>, e: &Expr<VariableN
         | Expr::LongNumber(_)
         | Expr::Name(_)
         | Expr::Sense
+        | Expr::NextEvent
         | Expr::Unary(..)
         | Expr::Binary(..)
         | Expr::Shift(..)

@@ -148,6 +148,7 @@ fn assign(
         | Expr::Name(_)
         | Expr::Element(..)
         | Expr::Sense
+        | Expr::NextEvent
         | Expr::Unary(..)
         | Expr::Shift(..)
         | Expr::ShortCircuit(..) => set(alloc, variable, e, places, program),
@@ -255,6 +256,7 @@ fn store(
         | Expr::Name(_)
         | Expr::Element(..)
         | Expr::Sense
+        | Expr::NextEvent
         | Expr::Unary(..)
         | Expr::Shift(..)
         | Expr::ShortCircuit(..) => set_element(alloc, variable, index, e, places, program),

@@ -246,6 +246,7 @@ is_read x p (t.long_number _) = read_unit
 is_read x p (t.name n) = read_one x p n
 is_read x p (t.element n index) = read_both _ _ (is_read x p index) (read_one x p n)
 is_read x p t.sense = read_unit
+is_read x p t.next_event = read_unit
 is_read x p (t.unary _ a) = is_read x p a
 is_read x p (t.binary _ a b) = read_both _ _ (is_read x p a) (is_read x p b)
 is_read x p (t.shift _ a _) = is_read x p a

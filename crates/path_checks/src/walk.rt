@@ -171,7 +171,7 @@ fn first_in(walk: &Walk, e: &Expr<VariableName>) -> Option<Span>
     ensures { IsFirst result (SomeLocal (λ x p. not (is_assigned walk.now x) && (expression_sum (assignment x p) (expression_of e.now)).exposed)) }
 {
     match e {
-        Expr::Number(_) | Expr::LongNumber(_) | Expr::Sense => None,
+        Expr::Number(_) | Expr::LongNumber(_) | Expr::Sense | Expr::NextEvent => None,
         Expr::Name(name) => first_read(walk, name),
         Expr::Element(name, index) => first_of(first_in(walk, index), first_read(walk, name)),
         Expr::Unary(_, a) => first_in(walk, a),

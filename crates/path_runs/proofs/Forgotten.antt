@@ -235,6 +235,7 @@ module _ (v n at word : ℕ) (inside : at < n) where
       let first = expression_untouched index parts.0 in
       both_hold i.untouched _ first (read_untouched (is_same (Shared v) n.variable) (second_none i.untouched _ parts.1 first))
   expression_untouched t.sense h = refl
+  expression_untouched t.next_event h = refl
   expression_untouched (t.unary _ a) h = expression_untouched a h
   expression_untouched (t.binary _ a b) h =
       let parts = or_none (of_expression a).exposed _ h in
@@ -263,6 +264,7 @@ module _ (v n at word : ℕ) (inside : at < n) where
   value_same : (e : CheckedExpression) (s : Attempt) → (of_expression e).exposed ≡ false → value_of e (other_in s) ≡ in_other (value_of e s)
   unfolding summary
   value_same (t.number _) s h = refl
+  value_same t.next_event s h = refl
   value_same (t.long_number _) s h = refl
   value_same (t.name n) s h = ap (λ w. gives w (other_in s)) (scalar_same s.variables n (unread (is_same (Shared v) n.variable) h))
   value_same (t.element n index) s h =

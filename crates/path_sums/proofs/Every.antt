@@ -18,6 +18,7 @@ module _ {S : Type 0} (A : Algebra S) (P : S → Type 0) (kept : Kept A P) where
   expression_is (t.name n) = kept.one (read n)
   expression_is (t.element n index) = kept.seq _ _ (expression_is index) (kept.one (read n))
   expression_is t.sense = kept.unit
+  expression_is t.next_event = kept.unit
   expression_is (t.unary _ a) = expression_is a
   expression_is (t.binary _ a b) = kept.seq _ _ (expression_is a) (expression_is b)
   expression_is (t.shift _ a _) = expression_is a

@@ -34,6 +34,7 @@ expression_goes (t.long_number _) = refl
 expression_goes (t.name _) = refl
 expression_goes (t.element _ index) = ap (λ a. a && true) (expression_goes index)
 expression_goes t.sense = refl
+expression_goes t.next_event = refl
 expression_goes (t.unary _ a) = expression_goes a
 expression_goes (t.binary _ a b) = ap₂ (λ a b. a && b) (expression_goes a) (expression_goes b)
 expression_goes (t.shift _ a _) = expression_goes a

@@ -207,6 +207,13 @@ module _ {S : Type 0} (A : Algebra S) (law : Lawful A) where
 
       back : (zs : List Access) (end : End) → Going (ExpressionPath t.sense) zs end → Only [] zs end
       back _ _ (going _ p.sense) = only
+  joins_expression t.next_event = joins_same (Only []) (Going (ExpressionPath t.next_event)) A.unit there back (joins_only [])
+    where
+      there : (zs : List Access) (end : End) → Only [] zs end → Going (ExpressionPath t.next_event) zs end
+      there _ _ only = going [] p.next_event
+
+      back : (zs : List Access) (end : End) → Going (ExpressionPath t.next_event) zs end → Only [] zs end
+      back _ _ (going _ p.next_event) = only
   joins_expression (t.unary op a) = joins_same (Going (ExpressionPath a)) (Going (ExpressionPath (t.unary op a))) _ there back (joins_expression a)
     where
       there : (zs : List Access) (end : End) → Going (ExpressionPath a) zs end → Going (ExpressionPath (t.unary op a)) zs end

@@ -17,6 +17,7 @@ expression_sum A (t.long_number _) = A.unit
 expression_sum A (t.name n) = A.one (read n)
 expression_sum A (t.element n index) = A.seq (expression_sum A index) (A.one (read n))
 expression_sum A t.sense = A.unit
+expression_sum A t.next_event = A.unit
 expression_sum A (t.unary _ a) = expression_sum A a
 expression_sum A (t.binary _ a b) = A.seq (expression_sum A a) (expression_sum A b)
 expression_sum A (t.shift _ a _) = expression_sum A a

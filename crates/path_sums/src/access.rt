@@ -143,7 +143,7 @@ fn of_expression(v: Variable, e: &Expr<VariableName>) -> AccessSummary
     ensures { result ≡ expression_sum (summary v) (expression_of e.now) }
 {
     match e {
-        Expr::Number(_) | Expr::LongNumber(_) | Expr::Sense => unit(v),
+        Expr::Number(_) | Expr::LongNumber(_) | Expr::Sense | Expr::NextEvent => unit(v),
         Expr::Name(name) => read_of(v, name),
         Expr::Element(name, index) => seq(v, of_expression(v, index), read_of(v, name)),
         Expr::Unary(_, a) | Expr::Shift(_, a, _) => of_expression(v, a),

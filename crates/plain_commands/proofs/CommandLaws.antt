@@ -14,6 +14,7 @@ use Rattle.plain_commands.specs.declared.run.RunEnding.{RunEnding}
 use Rattle.command_texts.specs.command_answers.CommandAnswers.{IsWhole}
 use Rattle.command_texts.specs.cost_bound.declared.allowance.Allow.{Allow}
 use Rattle.command_texts.specs.source_meaning.Acceptance.{IsAcceptedText}
+use Rattle.command_texts.specs.source_meaning.Events.{HasNoEvent}
 use Rattle.report_audit.specs.declared.verdict.Verdict.{Verdict}
 use Rattle.report_audit.specs.Good.{IsVerdict}
 use Rattle.plain_commands.specs.Verdicts.{verdict_line, verdict_ending}
@@ -130,9 +131,9 @@ dis_fails result a image i out said fails =
 
 pub audit_product : (a b c source report trace text : List ℕ) (p : CheckedProgram) (w : Allow) (t : TraceValue) (v : Verdict) → text ≡ source
     → IsAcceptedText source p w → ((other : CheckedProgram) (price : Allow) → IsAcceptedText source other price → (other ≡ p) × (price ≡ w))
-    → trace_of trace ≡ Ok t → IsVerdict text p w.cycles t.readings report v
+    → HasNoEvent text → trace_of trace ≡ Ok t → IsVerdict text p w.cycles t.readings report v
     → (audit_promise a b c).makes (source ∷ report ∷ trace ∷ []) (output_alone (verdict_line v) (verdict_ending v))
-audit_product a b c source report trace text p w t v kept accepted only trace_said says =
+audit_product a b c source report trace text p w t v kept accepted only none trace_said says =
     let P : List ℕ → Type 0 = λ x. IsVerdict x p w.cycles t.readings report v in (
       record {
         program = p;
@@ -141,6 +142,7 @@ audit_product a b c source report trace text p w t v kept accepted only trace_sa
         verdict = v;
         accepted = accepted;
         only = only;
+        no_event = subst HasNoEvent kept none;
         trace_said = trace_said;
         says = subst P kept says;
         ends = refl;

@@ -5,16 +5,16 @@ ghost use Rattle.command_texts.specs.alp_io.Shelf.{NeverFall};
 ghost use Rattle.command_texts.specs.alp_io.Sink.{Writes};
 ghost use Rattle.command_texts.specs.source_report.task_ast.View.{program_of};
 ghost use Rattle.command_texts.specs.source_meaning.Acceptance.{IsAcceptedText};
+ghost use Rattle.command_texts.specs.source_meaning.Events.{HasNoEvent};
 ghost use Rattle.report_audit.specs.Good.{IsVerdict};
-ghost use Rattle.command_texts.specs.command_answers.declared.failure.Failure.TheVariants.{Memory};
 ghost use Rattle.plain_commands.specs.Verdicts.{verdict_line, verdict_ending};
 ghost use Rattle.command_texts.specs.command_answers.Outside.{WhereStands};
 ghost use Rattle.command_texts.specs.command_answers.CommandAnswers.{CommandAnswers, IsWhole, TextAnswers};
-ghost use Rattle.command_texts.specs.command_answers.Outcomes.{FailsBy};
-ghost use Rattle.plain_commands.specs.Audit.{audit_promise};
+ghost use Rattle.command_texts.specs.command_answers.Outcomes.{FailsBy, FailsRefused};
+ghost use Rattle.plain_commands.specs.Audit.{HasEventAt, audit_promise};
 
 use command_texts::answers::{
-    Failure, Status, ThreeTexts, answer_failure, answer_unread, messages, read_three_texts,
+    Failure, Status, ThreeTexts, answer_failure, answer_unread, messages, plain, read_three_texts,
 };
 use command_texts::outside::{Failed, Shelf, Sink, write_pieces};
 use command_texts::{Accepted, Trace, print_u64, source_of, trace_of};
@@ -34,6 +34,7 @@ pub struct AuditNames<'n> {
 
 fn verdict_of<'t>(
     alloc: Global,
+    file: &'t str,
     source: &Accepted,
     report: &[u8],
     trace: &Trace,
@@ -41,10 +42,15 @@ fn verdict_of<'t>(
     requires accepted { IsAcceptedText source.now.text.items (program_of source.now.checked.source) source.now.allow }
     requires few { length report.now ≤ 1048576 }
     ensures says { IfOk result (IsVerdict source.now.text.items (program_of source.now.checked.source) source.now.allow.cycles trace.now.readings report.now) }
-    ensures memory { IfErr result (λ e. e ≡ Memory) }
+    ensures no_event { IfOk result (λ _. HasNoEvent source.now.text.items) }
+    ensures failure { IfErr result (FailsRefused file.now (HasEventAt source.now.text.items)) }
 {
     match audit(alloc, source, trace, report) {
         Ok(verdict) => Ok(verdict),
+        Err(AuditFault::Events { line }) => Err(Failure::Refused {
+            file,
+            refusal: plain(line, "Events"),
+        }),
         Err(AuditFault::Memory) => Err(Failure::Memory),
     }
 }
@@ -70,8 +76,8 @@ fn write_verdict<O: Sink>(out: &mut O, verdict: Verdict) -> Result<(), Failed>
 /// Writes the verdict on the report, by the source and the trace that the other two texts are, and answers it.
 ///
 /// # Errors
-/// `Refused` for the first text that is refused, `Memory` where memory was refused; nothing is written then. `Write` where a
-/// write failed, and the output gained a proper prefix of the line.
+/// `Refused` for the first text that is refused, or behind all else as `Events` for the source's first `next_event`; `Memory` where
+/// memory was refused; nothing is written then. `Write` where a write failed, and the output gained a proper prefix of the line.
 pub fn audit_texts<'t, O: Sink>(
     alloc: Global,
     names: AuditNames<'t>,
@@ -94,7 +100,7 @@ pub fn audit_texts<'t, O: Sink>(
 {
     let source = source_of(alloc, names.source, source)?;
     let trace = trace_of(alloc, names.trace, trace)?;
-    let verdict = verdict_of(alloc, &source, report, &trace)?;
+    let verdict = verdict_of(alloc, names.source, &source, report, &trace)?;
     write_verdict(out, verdict)?;
     Ok(verdict)
 }

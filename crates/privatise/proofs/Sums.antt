@@ -10,7 +10,7 @@ use Rattle.task_ast.specs.declared.names.VariableName.{VariableName}
 use Rattle.task_ast.specs.declared.names.TaskName.{TaskName}
 use Rattle.cost_bound.specs.Counts.{CheckedBlock, emits_of}
 use Rattle.cost_bound.specs.Allowance.{CheckedTask, CheckedProgram, shared_sum_from, version_part, place_part, is_written, total, greatest, task_words}
-use Rattle.cost_bound.specs.Allowance.{list_of, words_of, versions_of}
+use Rattle.cost_bound.specs.Allowance.{list_of, plain_words_of, words_of, versions_of}
 use Rattle.memory_map.specs.Words.{row_words}
 use Rattle.privatise.specs.Sizes.{home_part, home_words, copy_part, copy_words, body_words, entry_words, boot_words, commit_words, own_boot_words}
 
@@ -48,7 +48,7 @@ together t e b p h c v l m x y = omega (arith, x, y)
 pub words_split : (p : CheckedProgram) → row_words + commit_words + 3 * greatest
     (list_of p.shared) p.tasks + greatest emits_of p.tasks + versions_of p + home_words p.shared + copy_words p + boot_words p.shared p.tasks + total
     (body_words p.shared) p.tasks + 1
-    ≡ words_of p
+    ≡ plain_words_of p
 words_split p = together (total (task_words p.shared) p.tasks) (total (entry_words p.shared) p.tasks) (total (body_words p.shared) p.tasks) _
     (home_words p.shared) (copy_words p) (versions_of p) (greatest (list_of p.shared) p.tasks) (greatest emits_of p.tasks)
     (total_split (task_words p.shared) (entry_words p.shared) (body_words p.shared) p.tasks (λ c. refl)) (places_split (is_written p.tasks) 0 p.shared)
@@ -56,9 +56,13 @@ words_split p = together (total (task_words p.shared) p.tasks) (total (entry_wor
 part_small : (rest t w : ℕ) → rest + t + 1 ≡ w → w ≤ 22000 → t ≤ 22000
 part_small rest t w e h = omega (arith, e, h)
 
+-- what is there without events is among what is there with them
+pub plain_small : (p : CheckedProgram) → words_of p ≤ 22000 → plain_words_of p ≤ 22000
+plain_small p h = omega (arith, h)
+
 -- the words of all tasks' code are among those of the source
-pub bodies_small : (p : CheckedProgram) → words_of p ≤ 22000 → total (body_words p.shared) p.tasks ≤ 22000
-bodies_small p h = part_small _ (total (body_words p.shared) p.tasks) (words_of p) (words_split p) h
+pub bodies_small : (p : CheckedProgram) → plain_words_of p ≤ 22000 → total (body_words p.shared) p.tasks ≤ 22000
+bodies_small p h = part_small _ (total (body_words p.shared) p.tasks) (plain_words_of p) (words_split p) h
 
 -- the first of the variables that are left, and those behind it
 pub sum_step : (part : ℕ → Extent → ℕ) (shared : List SharedDeclaration) (i : ℕ) (extent : Extent) → i < length shared

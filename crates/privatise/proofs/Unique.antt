@@ -7,7 +7,7 @@ use Rattle.memory_map.specs.Words.{row_words}
 use Rattle.task_ast.specs.declared.SharedDeclaration.{SharedDeclaration}
 use Rattle.cost_bound.specs.declared.allowance.Allow.{Allow}
 use Rattle.cost_bound.specs.Counts.{emits_of}
-use Rattle.cost_bound.specs.Allowance.{CheckedTask, CheckedProgram, is_written, total, greatest, list_of, words_of, versions_of, IsAllowed}
+use Rattle.cost_bound.specs.Allowance.{CheckedTask, CheckedProgram, is_written, total, greatest, list_of, plain_words_of, versions_of, IsAllowed}
 use Rattle.war_analysis.specs.PlanValue.{TaskPlanValue}
 use Rattle.memory_map.specs.declared.place.Region.{Region}
 use Rattle.memory_map.specs.declared.place.VariablePlace.{VariablePlace}
@@ -137,7 +137,7 @@ last : (a w n p : ℕ) → a + 2 * w + 2 ≤ fram_first + 2 * p → w ≡ n → 
 last a w n p h e = omega (arith, h, e)
 
 chain_of : (p : CheckedProgram) (allow : Allow) (plans : List TaskPlanValue) (l : MemoryMap) → IsLayout p allow plans l
-    → IsChain fram_first (addresses l) (sizes p allow) (fram_first - 2 + 2 * words_of p)
+    → IsChain fram_first (addresses l) (sizes p allow) (fram_first - 2 + 2 * plain_words_of p)
 chain_of p allow plans l h =
     let a = apart_of l h.rules in
     let emits = times l.list.address (list_entry_room * l.entries) l.emits.address 2 (list_entry_room * allow.list) a.emits
@@ -148,7 +148,7 @@ chain_of p allow plans l h =
     let boot = times l.copies.address l.copies.words l.boot.address 2 (copy_words p) a.boot h.copies in
     let commit = times l.boot.address l.boot.words l.commit.address 2 (boot_words p.shared p.tasks) a.commit h.boot in
     let code = times l.commit.address l.commit.words l.code.address 2 commit_words a.code h.commit in
-    let end = last l.code.address l.code.words (total (body_words p.shared) p.tasks) (words_of p) h.size h.code in
+    let end = last l.code.address l.code.words (total (body_words p.shared) p.tasks) (plain_words_of p) h.size h.code in
     (a.row, (a.list, (emits, (versions, (homes, (copies, (boot, (commit, (code, end)))))))))
 
 full : (l m v h c b t w : ℕ) → (row_words + commit_words + 3 * l + m + v + h + c + b + t) + 1 ≡ w
@@ -156,16 +156,16 @@ full : (l m v h c b t w : ℕ) → (row_words + commit_words + 3 * l + m + v + h
     ≤ fram_first + (2 * row_words + (2 * (3 * l) + (2 * m + (2 * v + (2 * h + (2 * c + (2 * b + (2 * commit_words + (2 * t + 0)))))))))
 full l m v h c b t w e = omega (arith, e)
 
-all_full : (p : CheckedProgram) (allow : Allow) → IsAllowed p allow → fram_first - 2 + 2 * words_of p ≤ fram_first + bytes (sizes p allow)
+all_full : (p : CheckedProgram) (allow : Allow) → IsAllowed p allow → fram_first - 2 + 2 * plain_words_of p ≤ fram_first + bytes (sizes p allow)
 all_full p allow a =
     let n = needed p in
     let given : Amounts = record n { list = allow.list; emits = allow.emits; versions = allow.versions } in
-    full allow.list allow.emits allow.versions n.homes n.copies n.boot n.code (words_of p)
+    full allow.list allow.emits allow.versions n.homes n.copies n.boot n.code (plain_words_of p)
     (adds_up p given (λ j. record n { list = a.list j; emits = a.emits j; versions = a.versions j }))
 
 same_addresses : (p : CheckedProgram) (allow : Allow) (plans : List TaskPlanValue) (a b : MemoryMap) → IsAllowed p allow → IsLayout p allow plans a
     → IsLayout p allow plans b → addresses a ≡ addresses b
-same_addresses p allow plans a b h x y = same_chain fram_first (addresses a) (addresses b) (sizes p allow) (fram_first - 2 + 2 * words_of p)
+same_addresses p allow plans a b h x y = same_chain fram_first (addresses a) (addresses b) (sizes p allow) (fram_first - 2 + 2 * plain_words_of p)
     (all_full p allow h) (chain_of p allow plans a x) (chain_of p allow plans b y)
 
 same_region : (r q : Region) → r.address ≡ q.address → r.words ≡ q.words → r ≡ q

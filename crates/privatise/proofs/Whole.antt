@@ -13,7 +13,7 @@ use Rattle.task_ast.specs.declared.Extent.TheVariants as extent
 use Rattle.task_ast.specs.declared.SharedDeclaration.{SharedDeclaration}
 use Rattle.cost_bound.specs.declared.allowance.Allow.{Allow}
 use Rattle.cost_bound.specs.Counts.{CheckedBlock, emits_of}
-use Rattle.cost_bound.specs.Allowance.{CheckedProgram, version_part, is_written, total, greatest, list_of, words_of, versions_of, IsAllowed}
+use Rattle.cost_bound.specs.Allowance.{CheckedProgram, version_part, is_written, total, greatest, list_of, plain_words_of, versions_of, IsAllowed}
 use Rattle.cost_bound.proofs.Interface.{written_sum}
 use Rattle.war_analysis.specs.PlanValue.{TaskPlanValue}
 use Rattle.war_analysis.specs.Plans.{is_scalar, IsPrivateIn, IsPlan}
@@ -31,7 +31,7 @@ use Rattle.memory_map.specs.Places.{end_of, list_entry_room, home_region, copy_r
 use Rattle.privatise.specs.Sizes.{home_words, copy_part, copy_words, body_words, boot_words, commit_words}
 use Rattle.privatise.specs.Layouts.{IsPlaceOf, AreVariables, IsLayout}
 use Rattle.privatise.specs.Placing.{place_at, copy_sum, version_sum, IsRoom, ArePlaced, is_scalar_place, IsScalarPlaceAt, ArePlacedTasks, AreSizes, AreRegions}
-use Rattle.privatise.proofs.Sums.{words_split}
+use Rattle.privatise.proofs.Sums.{words_split, plain_small}
 use Rattle.privatise.proofs.VariablesPlaced.{kind_at}
 
 -- the marks of the variables that some task writes
@@ -66,11 +66,11 @@ needed p = record {
 }
 
 -- all but the vector, whose word is the last
-pub adds_up : (p : CheckedProgram) (n : Amounts) → n ≡ needed p → words_with n + 1 ≡ words_of p
+pub adds_up : (p : CheckedProgram) (n : Amounts) → n ≡ needed p → words_with n + 1 ≡ plain_words_of p
 adds_up p n e = ap (λ m. words_with m + 1) e ∙ words_split p
 
 pub sizes_add : (p : CheckedProgram) (allow : Allow) (s : Sizes) → IsAllowed p allow → AreSizes p s
-    → (row_words + commit_words + 3 * allow.list + allow.emits + allow.versions + s.homes + s.copies + s.boot + s.code) + 1 ≡ words_of p
+    → (row_words + commit_words + 3 * allow.list + allow.emits + allow.versions + s.homes + s.copies + s.boot + s.code) + 1 ≡ plain_words_of p
 sizes_add p allow s a k =
     let given : Amounts = record {
       list = allow.list;
@@ -96,7 +96,7 @@ below_top n w e h = omega (arith, e, h)
 
 pub sizes_fit : (p : CheckedProgram) (allow : Allow) (s : Sizes) → IsAllowed p allow → AreSizes p s
     → fram_first + 2 * (row_words + commit_words + 3 * allow.list + allow.emits + allow.versions + s.homes + s.copies + s.boot + s.code) ≤ program_end
-sizes_fit p allow s a k = below_top _ (words_of p) (sizes_add p allow s a k) a.within_size
+sizes_fit p allow s a k = below_top _ (plain_words_of p) (sizes_add p allow s a k) (plain_small p a.within_size)
 
 -- ---- the regions
 
@@ -286,7 +286,7 @@ small : (t n rest w : ℕ) → t ≡ n → (rest + n) + 1 ≡ w → w ≤ 22000 
 small t n rest w e h k = omega (arith, e, h, k)
 
 pub code_small : (p : CheckedProgram) (allow : Allow) (s : Sizes) → IsAllowed p allow → AreSizes p s → total (body_words p.shared) p.tasks ≤ 22000
-code_small p allow s a k = small _ s.code _ (words_of p) (sym k.code) (sizes_add p allow s a k) a.within_size
+code_small p allow s a k = small _ s.code _ (plain_words_of p) (sym k.code) (sizes_add p allow s a k) (plain_small p a.within_size)
 
 code_room_by : (a t n rest : ℕ) → a ≡ fram_first + 2 * rest → t ≡ n → fram_first + 2 * (rest + n) ≤ program_end → a + 2 * t ≤ program_end
 code_room_by a t n rest e f h = omega (arith, e, f, h)
@@ -369,5 +369,5 @@ whole p allow plans s r written places layouts made =
       commit = g.commit_words;
       code = g.code_words ∙ k.code;
       tasks = record { count = made.tasks.count; each = made.tasks.each };
-      size = size_is (end_of r.code) _ (words_of p) (starts allow s r g).end (sizes_add p allow s made.allowed k);
+      size = size_is (end_of r.code) _ (plain_words_of p) (starts allow s r g).end (sizes_add p allow s made.allowed k);
     }

@@ -5,7 +5,7 @@ use Rattle.task_ast.specs.declared.Extent.TheVariants as extent
 use Rattle.task_ast.specs.declared.SharedDeclaration.{SharedDeclaration}
 use Rattle.cost_bound.specs.declared.allowance.Allow.{Allow}
 use Rattle.cost_bound.specs.Counts.{CheckedBlock}
-use Rattle.cost_bound.specs.Allowance.{CheckedProgram, CheckedTask, is_written, total, words_of}
+use Rattle.cost_bound.specs.Allowance.{CheckedProgram, CheckedTask, is_written, total, plain_words_of}
 use Rattle.war_analysis.specs.PlanValue.{TaskPlanValue}
 use Rattle.memory_map.specs.address_space.Limits.{fram_first}
 use Rattle.memory_map.specs.declared.place.ScalarWidth.TheVariants.{OneWord, TwoWords}
@@ -42,8 +42,8 @@ pub record AreTasks (p : CheckedProgram) (plans : List TaskPlanValue) (tasks : L
   pub each : (k : ℕ) (task : CheckedTask) (plan : TaskPlanValue) (t : TaskPlace) → slice_get p.tasks k ≡ Some task → slice_get plans k ≡ Some plan
       → slice_get tasks k ≡ Some t → IsTaskLayout p.shared task.body plan t
 
--- The layout of a source for a board that is alone: it keeps the rules of layouts, its buffers have room for what the source's allowance says, its variables and
--- tasks are those of the source, and the whole takes no more words than the source has, of which the last is the one at FFFE.
+-- The layout of a source for a board that is alone: it keeps the rules of layouts, its buffers have room for what the source's allowance says, its variables
+-- and tasks are those of the source, and the whole takes no more words than the source has without what events need, of which the last is the one at FFFE.
 pub record IsLayout (p : CheckedProgram) (allow : Allow) (plans : List TaskPlanValue) (l : MemoryMap) : Type 0 where
   pub runtime : l.runtime ≡ lone_redo
   pub rules : IsLaidOut l
@@ -57,4 +57,4 @@ pub record IsLayout (p : CheckedProgram) (allow : Allow) (plans : List TaskPlanV
   pub commit : l.commit.words ≡ commit_words
   pub code : l.code.words ≡ total (body_words p.shared) p.tasks
   pub tasks : AreTasks p plans l.tasks
-  pub size : end_of l.code + 2 ≤ fram_first + 2 * words_of p
+  pub size : end_of l.code + 2 ≤ fram_first + 2 * plain_words_of p

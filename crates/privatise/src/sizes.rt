@@ -1,7 +1,7 @@
 //! The words that data and code are given.
 ghost use Rattle.std.specs.Prelude.{◌≡◌, ◌+◌, ◌≤◌, ◌<◌, ℕ, length, map, false, slice_index_or};
 ghost use Rattle.task_ast.specs.View.{task_of, program_of};
-ghost use Rattle.cost_bound.specs.Allowance.{shared_sum, is_written, version_part, total, words_of};
+ghost use Rattle.cost_bound.specs.Allowance.{shared_sum, is_written, version_part, total, plain_words_of};
 ghost use Rattle.privatise.specs.Sizes.{home_part, home_words, copy_part, body_words, boot_words};
 ghost use Rattle.privatise.specs.Placing.{AreSizes};
 
@@ -134,7 +134,7 @@ pub fn sizes_of(source: &CheckedSource, written: &[bool; SHARED]) -> Sizes
     requires few_tasks { length source.now.tasks.items ≤ 64 }
     requires written { (i : ℕ) → i < 256
         → slice_index_or written.now i false ≡ is_written (map task_of source.now.tasks.items) i }
-    requires small { words_of (program_of source.now) ≤ 22000 }
+    requires small { plain_words_of (program_of source.now) ≤ 22000 }
     ensures { AreSizes (program_of source.now) result }
 {
     Sizes {

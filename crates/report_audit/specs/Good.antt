@@ -6,6 +6,9 @@ use Rattle.alp_io.specs.Report.{bound_line, end_line}
 use Rattle.source_values.specs.Runs.{CheckedProgram, Transition, first_state, source_run}
 use Rattle.source_report.specs.SourceReport.{Committed, readings_of, source_report}
 use Rattle.source_report.specs.Apart.{AreApart}
+use Rattle.source_meaning.specs.Events.{HasEvent}
+use Rattle.report_audit.specs.declared.verdict.AuditFault.{AuditFault}
+use Rattle.report_audit.specs.declared.verdict.AuditFault.TheVariants.{Events, Memory}
 use Rattle.report_audit.specs.declared.verdict.Verdict.{Verdict}
 use Rattle.report_audit.specs.declared.verdict.Verdict.TheVariants.{Yes, No}
 
@@ -60,3 +63,8 @@ pub record IsFirstFault (source : List ℕ) (program : CheckedProgram) (bound : 
 abbrev pub IsVerdict : List ℕ → CheckedProgram → ℕ → List ℕ → List ℕ → Verdict → Type 0
 IsVerdict source program bound readings report (Yes t) = IsGoodReport source program bound readings report t
 IsVerdict source program bound readings report (No line) = IsFirstFault source program bound readings report line
+
+-- why there is no verdict: the first `next_event` of the source is on this line
+abbrev pub IsUnaudited : List ℕ → AuditFault → Type 0
+IsUnaudited source (Events line) = HasEvent source line
+IsUnaudited source Memory = Unit {0}

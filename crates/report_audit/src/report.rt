@@ -4,7 +4,8 @@ ghost use Rattle.source_report.specs.task_ast.View.{program_of};
 ghost use Rattle.source_values.specs.Running.{fresh_run};
 ghost use Rattle.source_maps.specs.Names.{HasNames};
 ghost use Rattle.source_meaning.specs.Acceptance.{IsAcceptedText};
-ghost use Rattle.report_audit.specs.Good.{IsVerdict};
+ghost use Rattle.source_meaning.specs.Events.{HasNoEvent};
+ghost use Rattle.report_audit.specs.Good.{IsVerdict, IsUnaudited};
 ghost use Rattle.report_audit.specs.Fronts.{inputs_of, IsGood};
 ghost use Rattle.report_audit.specs.Stops.{StopsBy};
 
@@ -16,7 +17,7 @@ use crate::verdict::{AuditFault, Verdict};
 use alp_text::next_line;
 use energy_trace::Trace;
 use source_maps::names_are_names;
-use source_meaning::Accepted;
+use source_meaning::{Accepted, first_event};
 use source_values::SourceRun;
 use std::alloc::Global;
 
@@ -62,7 +63,7 @@ fn read_report(
 /// and apart. The report is one of `mean` or `try`, whose first line may be the bound. The source is one that was accepted.
 ///
 /// # Errors
-/// `Memory` where memory was refused.
+/// `Events` at the line of the source's first `next_event`: a report doesn't carry its answers. `Memory` where memory was refused.
 pub fn audit(
     alloc: Global,
     source: &Accepted,
@@ -71,9 +72,14 @@ pub fn audit(
 ) -> Result<Verdict, AuditFault>
     requires accepted { IsAcceptedText source.now.text.items (program_of source.now.checked.source) source.now.allow }
     requires few { length report.now < 4294967295 }
+    ensures no_event { IfOk result (λ _. HasNoEvent source.now.text.items) }
+    ensures fault { IfErr result (IsUnaudited source.now.text.items) }
     ensures verdict { IfOk result (IsVerdict source.now.text.items (program_of source.now.checked.source) source.now.allow.cycles
         trace.now.readings report.now) }
 {
+    if let Some(line) = first_event(alloc, source)? {
+        return Err(AuditFault::Events { line });
+    }
     // The law, that the names of tasks are words of a line.
     names_are_names();
     let mut run = SourceRun::new(alloc, source.checked().source())?;

@@ -15,6 +15,9 @@ pub enum Verdict {
 /// Why there is no verdict.
 #[derive(Clone, Copy, Debug, Error)]
 pub enum AuditFault {
+    /// The source has a `next_event()`, whose answers no report carries; the line of the first, counted from 1.
+    #[error("line {line}: a report doesn't carry the answers of `next_event()`")]
+    Events { line: u32 },
     /// Memory was refused.
     #[error("out of memory")]
     Memory,

@@ -52,6 +52,7 @@ module _ (source : List ℕ) where
   expression_silent types (t.name s) behind = in_front behind s role.Scalar
   expression_silent types (t.element s index) behind = element_silent types s index (expression_names types index behind) ∙ expression_silent types index behind
   expression_silent types t.sense behind = refl
+  expression_silent types t.next_event behind = refl
   expression_silent types (t.unary op a) behind = expression_silent types a behind
   expression_silent types (t.binary op a b) behind =
       let here = operator_role op.operator (joined_type (expression_type types a) (expression_type types b)) in

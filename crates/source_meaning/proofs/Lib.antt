@@ -6,4 +6,5 @@ mod Lines
 mod Refusals
 mod Unique
 mod OneAnswer
+mod FirstEvent
 pub mod Interface

@@ -31,6 +31,7 @@ pub struct Accepted {
     checked: Checked,
     allow: Allow,
     pub ghost runnable: { IsRunnable (program_of checked.source) } by { IsRunnable-prop (program_of checked.source) },
+    pub ghost short: { length text.items < 2 ^ 32 - 1 },
 }
 
 impl Accepted {

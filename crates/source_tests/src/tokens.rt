@@ -34,6 +34,7 @@ fn takes_the_longest_of_the_marks(rt: HostRuntime) {
         ("task tasks", [Kind::Task, Kind::Name]),
         ("0x1F sense//x", [Kind::Number, Kind::Sense]),
         ("_if if", [Kind::Name, Kind::If]),
+        ("next_event next_events", [Kind::NextEvent, Kind::Name]),
     ] {
         let kinds = kinds_of(rt.alloc(), source.as_bytes());
         assert!(rt;

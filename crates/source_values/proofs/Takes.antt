@@ -1,6 +1,6 @@
 -- The value of an expression depends on the readings that it takes, and on no others; all else stays as it was.
 use Rattle.std.proofs.Common.{◌≡◌, ℕ, List, [], ◌∷◌, ◌++◌, Bool, true, false, refl, ap, sym, ◌∙◌, subst, Option, Some, None, append_assoc, if◌then◌else◌}
-use Rattle.task_ast.specs.Tree.{Expression, number, long_number, name, element, sense, unary, binary, shift, short_circuit}
+use Rattle.task_ast.specs.Tree.{Expression, number, long_number, name, element, sense, next_event, unary, binary, shift, short_circuit}
 use Rattle.task_ast.specs.declared.names.VariableName.{VariableName}
 use Rattle.source_values.specs.Values.{◌>>?◌, Variables, Attempt, Evaluated, word_at, scalar_value, type_of, unary_result, binary_result, shift_result}
 use Rattle.source_values.specs.Values.{gives, made_of, reading_of, next_reading, truth_word, is_settled, value_of}
@@ -74,6 +74,7 @@ value_takes (name x) = takes_none (λ m. scalar_value m x)
 value_takes (element x index) = takes_then (value_of index) (λ i s. gives (word_at s.variables x.variable i) s) (value_takes index)
     (λ i. takes_none (λ m. word_at m x.variable i))
 value_takes sense = takes_one
+value_takes next_event = takes_none (λ m. 0)
 value_takes (unary op e) = takes_made (unary_result op (type_of e)) (value_of e) (value_takes e)
 value_takes (binary op a b) =
     let value : ℕ → ℕ → ℕ = binary_result op.operator (type_of a) (type_of b) in

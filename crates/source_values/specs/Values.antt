@@ -7,7 +7,7 @@ pub use Rattle.task_ast.specs.alp_text.Sequence.{◌>>?◌}
 use Rattle.alp_words.specs.Words.{word_sum, word_difference, word_product, quotient, remainder, arithmetic_shift, biased, bit}
 pub use Rattle.alp_words.specs.Words.{two_words, sign_word}
 pub use Rattle.task_ast.specs.Types.{by_width, is_long, joined_type, binary_type, unary_type, literal_type, type_of}
-use Rattle.task_ast.specs.Tree.{Expression, number, long_number, name, element, sense, unary, binary, shift, short_circuit}
+use Rattle.task_ast.specs.Tree.{Expression, number, long_number, name, element, sense, next_event, unary, binary, shift, short_circuit}
 use Rattle.task_ast.specs.declared.WordType.{WordType}
 use Rattle.task_ast.specs.declared.WordType.TheVariants.{Unsigned, Int, Long}
 use Rattle.task_ast.specs.declared.UnaryOperator.{UnaryOperator}
@@ -206,6 +206,8 @@ value_of (long_number n) s = gives n s
 value_of (name x) s = gives (scalar_value s.variables x) s
 value_of (element x index) s = value_of index s >>? λ i. gives (word_at i.behind.variables x.variable i.value) i.behind
 value_of sense s = next_reading s
+-- 0 always: events come with a handler, which there is none of yet
+value_of next_event s = gives 0 s
 value_of (unary op e) s = made_of (λ w. unary_result op (type_of e) w) (value_of e s)
 value_of (binary op a b) s =
     value_of a s >>? λ x. made_of (λ w. binary_result op.operator (type_of a) (type_of b) x.value w) (value_of b x.behind)

@@ -70,6 +70,10 @@ pub fn evaluate<'r>(
             })
         }
         Expr::Sense => sense(readings),
+        Expr::NextEvent => Some(Value {
+            number: Number::Unsigned(0),
+            left: readings,
+        }),
         Expr::Unary(op, operand) => {
             let x = evaluate(operand, scratch, readings)?;
             Some(Value {

@@ -53,6 +53,7 @@ pub data ExpressionPath : CheckedExpression → List Access → Type 0 where
   element : (n : VariableName) (index : CheckedExpression) (xs : List Access) →
       ExpressionPath index xs → ExpressionPath (t.element n index) (xs ++ read n ∷ [])
   sense : ExpressionPath t.sense []
+  next_event : ExpressionPath t.next_event []
   unary : (op : UnaryOperator) (a : CheckedExpression) (xs : List Access) → ExpressionPath a xs → ExpressionPath (t.unary op a) xs
   binary : (op : PlacedOperator) (a b : CheckedExpression) (xs ys : List Access) →
       ExpressionPath a xs → ExpressionPath b ys → ExpressionPath (t.binary op a b) (xs ++ ys)

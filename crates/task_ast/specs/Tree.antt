@@ -19,6 +19,8 @@ pub data Expression (V : Type 0) : Type 0 where
   element : V → Expression V → Expression V
   -- the next reading
   sense : Expression V
+  -- the next event
+  next_event : Expression V
   unary : UnaryOperator → Expression V → Expression V
   binary : PlacedOperator → Expression V → Expression V → Expression V
   shift : ShiftOperator → Expression V → Literal → Expression V

@@ -1,6 +1,6 @@
 -- The types of expressions: C's, where an int has one word and a long two.
 use Rattle.std.specs.Prelude.{ℕ, Bool, true, false, nat_le, if◌then◌else◌}
-use Rattle.task_ast.specs.Tree.{Expression, number, long_number, name, element, sense, unary, binary, shift, short_circuit}
+use Rattle.task_ast.specs.Tree.{Expression, number, long_number, name, element, sense, next_event, unary, binary, shift, short_circuit}
 use Rattle.task_ast.specs.declared.WordType.{WordType}
 use Rattle.task_ast.specs.declared.WordType.TheVariants.{Unsigned, Int, Long}
 use Rattle.task_ast.specs.declared.UnaryOperator.{UnaryOperator}
@@ -76,6 +76,7 @@ expression_type of (long_number n) = Long
 expression_type of (name x) = of x
 expression_type of (element x index) = of x
 expression_type of sense = Unsigned
+expression_type of next_event = Unsigned
 expression_type of (unary op e) = unary_type op (expression_type of e)
 expression_type of (binary op a b) = binary_type op.operator (expression_type of a) (expression_type of b)
 expression_type of (shift op e count) = expression_type of e

@@ -2,11 +2,11 @@
 use Rattle.std.specs.Prelude.{List, map, Option, Some, None, Vec}
 use Rattle.std.specs.Global.{Global}
 use Rattle.std.specs.Option.{option_map}
-use Rattle.task_ast.specs.Tree.{Expression, number, long_number, name, element, sense, unary, binary, shift, short_circuit, Statement, declare, assign, store}
-use Rattle.task_ast.specs.Tree.{choose}
+use Rattle.task_ast.specs.Tree.{Expression, number, long_number, name, element, sense, next_event, unary, binary, shift, short_circuit}
+use Rattle.task_ast.specs.Tree.{Statement, declare, assign, store, choose}
 use Rattle.task_ast.specs.Tree.{loop, emit, transition, Block, block_of, Choice, Tested, choice_of, Task, Program}
 use Rattle.task_ast.specs.declared.Expr.{Expr}
-use Rattle.task_ast.specs.declared.Expr.TheVariants.{Number, LongNumber, Name, Element', Sense, Unary', Binary', Shift', ShortCircuit'}
+use Rattle.task_ast.specs.declared.Expr.TheVariants.{Number, LongNumber, Name, Element', Sense, NextEvent, Unary', Binary', Shift', ShortCircuit'}
 use Rattle.task_ast.specs.declared.Stmt.{Stmt, fold-Stmt}
 use Rattle.task_ast.specs.declared.Arm.{Arm, fold-Arm}
 use Rattle.task_ast.specs.declared.Stmt.TheOpen.{Stmt-F, Arm-F}
@@ -20,6 +20,7 @@ expression_of (LongNumber n) = long_number n
 expression_of (Name s) = name s
 expression_of (Element' s p index) = element s (expression_of index)
 expression_of Sense = sense
+expression_of NextEvent = next_event
 expression_of (Unary' op p inner) = unary op (expression_of inner)
 expression_of (Binary' op p a q b) = binary op (expression_of a) (expression_of b)
 expression_of (Shift' op p a count) = shift op (expression_of a) count

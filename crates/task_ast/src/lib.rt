@@ -82,6 +82,8 @@ pub enum Expr<V> {
     Element(V, Box<Expr<V>>),
     /// The next reading.
     Sense,
+    /// The next event.
+    NextEvent,
     Unary(UnaryOperator, Box<Expr<V>>),
     Binary(PlacedOperator, Box<Expr<V>>, Box<Expr<V>>),
     /// A shift by a literal count.

@@ -87,6 +87,7 @@ pub fn type_of(e: &Expr<VariableName>) -> WordType
         Expr::LongNumber(_) => WordType::Long,
         Expr::Name(x) | Expr::Element(x, _) => x.word_type,
         Expr::Sense => WordType::Unsigned,
+        Expr::NextEvent => WordType::Unsigned,
         Expr::Unary(op, operand) => unary_type(*op, type_of(operand)),
         Expr::Binary(op, a, b) => binary_type(op.operator, type_of(a), type_of(b)),
         Expr::Shift(_, operand, _) => type_of(operand),

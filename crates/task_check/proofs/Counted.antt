@@ -70,6 +70,7 @@ module _ (f : Role → ℕ) (v w k d : ℕ → ℕ)
     v_more 1 (expression_count index),
   )
   count_expression t.sense names = omega (arith, v_none)
+  count_expression t.next_event names = omega (arith, v_none)
   count_expression (t.unary op a) names = count_expression a names
   count_expression (t.binary op a b) names =
       let refused = is_refused op.operator (joined_type (expression_type types a) (expression_type types b)) in

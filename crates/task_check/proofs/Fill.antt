@@ -30,6 +30,7 @@ fill_expression (t.name s) vs ts = name_from s vs ts (λ v vs ts. record { part 
 fill_expression (t.element s index) vs ts = name_from s vs ts (λ v vs ts. let r = fill_expression index vs ts in
     record { part = t.element v r.part; vs = r.vs; ts = r.ts })
 fill_expression t.sense vs ts = record { part = t.sense; vs = vs; ts = ts }
+fill_expression t.next_event vs ts = record { part = t.next_event; vs = vs; ts = ts }
 fill_expression (t.unary op a) vs ts = let r = fill_expression a vs ts in record { part = t.unary op r.part; vs = r.vs; ts = r.ts }
 fill_expression (t.binary op a b) vs ts = let r = fill_expression a vs ts in let q = fill_expression b r.vs r.ts in
     record { part = t.binary op r.part q.part; vs = q.vs; ts = q.ts }
@@ -44,6 +45,7 @@ filled_expression (t.long_number n) vs ts = refl
 filled_expression (t.name v) vs ts = refl
 filled_expression (t.element v index) vs ts = ap (λ r. record { part = t.element v r.part; vs = r.vs; ts = r.ts }) (filled_expression index vs ts)
 filled_expression t.sense vs ts = refl
+filled_expression t.next_event vs ts = refl
 filled_expression (t.unary op a) vs ts = ap (λ r. record { part = t.unary op r.part; vs = r.vs; ts = r.ts }) (filled_expression a vs ts)
 filled_expression (t.binary op a b) vs ts =
     ap (λ r. let q = fill_expression (expression_back b) r.vs r.ts in record { part = t.binary op r.part q.part; vs = q.vs; ts = q.ts })

@@ -31,6 +31,7 @@ module _ (types : Span → WordType) where
       ap (element_of of s) (names_front index xs)
       ∙ push_two xs (expression_names types index []) (occurrence s (role.Operand (is_long of) (kept.Name s))) (occurrence s role.Element)
   names_front t.sense xs = sym (append-nil xs)
+  names_front t.next_event xs = sym (append-nil xs)
   names_front (t.unary op a) xs = names_front a xs
   names_front (t.binary op a b) xs =
       let o = occurrence op.span (operator_role op.operator (joined_type (expression_type types a) (expression_type types b))) in

@@ -11,6 +11,7 @@ expression_count (t.long_number n) = 0
 expression_count (t.name s) = 1
 expression_count (t.element s index) = 1 + expression_count index
 expression_count t.sense = 0
+expression_count t.next_event = 0
 expression_count (t.unary op a) = expression_count a
 expression_count (t.binary op a b) = expression_count a + expression_count b
 expression_count (t.shift op a count) = expression_count a

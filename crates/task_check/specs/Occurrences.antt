@@ -59,6 +59,7 @@ expression_names types (t.long_number n) behind = behind
 expression_names types (t.name s) behind = and_front behind s role.Scalar
 expression_names types (t.element s index) behind = element_front types s index (expression_names types index behind)
 expression_names types t.sense behind = behind
+expression_names types t.next_event behind = behind
 expression_names types (t.unary op a) behind = expression_names types a behind
 expression_names types (t.binary op a b) behind =
     expression_names types a (and_front (expression_names types b behind) op.span

@@ -62,6 +62,7 @@ fn expression<'a>(
             Ok((Expr::Element(name, Box::new(alloc, index)?), rest))
         }
         Expr::Sense => Ok((Expr::Sense, names)),
+        Expr::NextEvent => Ok((Expr::NextEvent, names)),
         Expr::Unary(op, inner) => {
             let (inner, rest) = expression(alloc, inner, names)?;
             Ok((Expr::Unary(*op, Box::new(alloc, inner)?), rest))

@@ -112,6 +112,7 @@ fn expression_names(
         Expr::Number(n) => Ok(literal_type(*n)),
         Expr::LongNumber(_) => Ok(WordType::Long),
         Expr::Sense => Ok(WordType::Unsigned),
+        Expr::NextEvent => Ok(WordType::Unsigned),
         Expr::Name(name) => {
             add(names, *name, Role::Scalar)?;
             Ok(name_type(types, *name))

@@ -11,7 +11,7 @@ use Rattle.task_grammar.specs.declared.operators.Infix.TheVariants.{Binary, Shif
 use Rattle.task_grammar.specs.Parsed.{Expression}
 use Rattle.task_ast.specs.Tree as node
 use Rattle.task_grammar.specs.Grammar.{prefix_of, infix_of, weakest, placed, long_worth, literal_of, IsExpression, number, long_number, name, element, sense}
-use Rattle.task_grammar.specs.Grammar.{brackets, prefixed, tighter}
+use Rattle.task_grammar.specs.Grammar.{next_event, brackets, prefixed, tighter}
 use Rattle.task_grammar.specs.Grammar.{joined, short_circuited, shifted}
 use Rattle.task_grammar.specs.Expressions as reading
 use Rattle.task_grammar.specs.Reading.{done, fault, Parser, ◌>>=◌, and_then, pure, kind_of, place_of, same_kind, token, chosen, meaning, again, over, turned}
@@ -115,6 +115,12 @@ module _ (x p : Parser Expression) where
   reads_sense s o c rest is is_o is_c = primary_is k.Sense (s ∷ o ∷ c ∷ rest) (ap Some is) refl ∙ takes k.Sense s (o ∷ c ∷ rest) _ is
       ∙ takes k.Open o (c ∷ rest) _ is_o ∙ takes k.Close c rest _ is_c
 
+  reads_next_event : (e o c : Token) (rest : List Token) → e.kind ≡ k.NextEvent → o.kind ≡ k.Open → c.kind ≡ k.Close
+      → reading.prefixed x p (e ∷ o ∷ c ∷ rest) ≡ done node.next_event rest
+  unfolding reading.next_event
+  reads_next_event e o c rest is is_o is_c = primary_is k.NextEvent (e ∷ o ∷ c ∷ rest) (ap Some is) refl ∙ takes k.NextEvent e (o ∷ c ∷ rest) _ is
+      ∙ takes k.Open o (c ∷ rest) _ is_o ∙ takes k.Close c rest _ is_c
+
   reads_brackets : (o c : Token) (ts rest : List Token) (inner : Expression) → o.kind ≡ k.Open → x ts ≡ done inner (c ∷ rest) → c.kind ≡ k.Close
       → reading.prefixed x p (o ∷ ts) ≡ done inner rest
   unfolding bracketed
@@ -168,6 +174,7 @@ reads (name t is) = λ rest end. unary_is (t ∷ rest) ∙ reads_name expression
 reads (element t o c ts index is is_o r is_c) = λ rest end. ap (λ x. unary (t ∷ o ∷ x)) (append_assoc ts (c ∷ []) rest) ∙ unary_is (t ∷ o ∷ ts ++ c ∷ rest)
     ∙ reads_element expression unary t o c (ts ++ c ∷ rest) rest index is is_o (inside ts index c k.CloseSquare (reads r) is_c refl rest) is_c
 reads (sense s o c is is_o is_c) = λ rest end. unary_is (s ∷ o ∷ c ∷ rest) ∙ reads_sense expression unary s o c rest is is_o is_c
+reads (next_event e o c is is_o is_c) = λ rest end. unary_is (e ∷ o ∷ c ∷ rest) ∙ reads_next_event expression unary e o c rest is is_o is_c
 reads (brackets o c ts inner is_o r is_c) = λ rest end. ap (λ x. unary (o ∷ x)) (append_assoc ts (c ∷ []) rest) ∙ unary_is (o ∷ ts ++ c ∷ rest)
     ∙ reads_brackets expression unary o c (ts ++ c ∷ rest) rest inner is_o (inside ts inner c k.Close (reads r) is_c refl rest) is_c
 reads (prefixed t op ts inner is r) = λ rest end. unary_is (t ∷ ts ++ rest) ∙ reads_prefixed expression unary t op (ts ++ rest) rest inner is (reads r rest end)

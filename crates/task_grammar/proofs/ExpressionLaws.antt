@@ -9,7 +9,7 @@ use Rattle.task_grammar.specs.declared.operators.Infix.TheVariants.{Binary, Shif
 use Rattle.task_grammar.specs.Parsed.{Expression}
 use Rattle.task_ast.specs.Tree as node
 use Rattle.task_grammar.specs.Grammar.{prefix_of, infix_of, weakest, placed, long_worth, literal_of, IsExpression, number, long_number, name, element, sense}
-use Rattle.task_grammar.specs.Grammar.{brackets, prefixed, tighter}
+use Rattle.task_grammar.specs.Grammar.{next_event, brackets, prefixed, tighter}
 use Rattle.task_grammar.specs.Grammar.{joined, short_circuited, shifted}
 use Rattle.task_grammar.specs.Expressions as reading
 use Rattle.task_grammar.specs.Reading.{Parser, pure, again, over}
@@ -99,6 +99,11 @@ unfolding reading.sense
 law_sense = law_take k.Sense _ (IsExpression 0) (λ s is. law_take k.Open _ _
     (λ o is_o. law_take k.Close _ _ (λ c is_c. law_pure node.sense _ (sense s o c is is_o is_c))))
 
+law_next_event : Law reading.next_event (IsExpression 0)
+unfolding reading.next_event
+law_next_event = law_take k.NextEvent _ (IsExpression 0) (λ e is. law_take k.Open _ _
+    (λ o is_o. law_take k.Close _ _ (λ c is_c. law_pure node.next_event _ (next_event e o c is is_o is_c))))
+
 module _ (p : Parser Expression) (law : Law p (IsExpression weakest)) where
   law_element_by : (t : Token) → t.kind ≡ k.Name → (kind : Option Kind) → Law (element_by p t kind) (λ ys a. IsExpression 0 (t ∷ ys) a)
   law_element_by t is (Some k.OpenSquare) = law_take k.OpenSquare _ _
@@ -120,6 +125,7 @@ module _ (p : Parser Expression) (law : Law p (IsExpression weakest)) where
   law_primary_by (Some k.LongNumber) = law_long_number
   law_primary_by (Some k.Name) = law_named
   law_primary_by (Some k.Sense) = law_sense
+  law_primary_by (Some k.NextEvent) = law_next_event
   law_primary_by (Some k.Open) = law_bracketed
   law_primary_by _ = law_refuse (IsExpression 0) (some_expr 0)
 

@@ -50,6 +50,10 @@ long_number = token k.LongNumber >>= λ t. pure (node.long_number (long_worth t)
 unfoldable pub sense : Parser Expression
 sense = token k.Sense >>= λ s. token k.Open >>= λ o. token k.Close >>= λ c. pure node.sense
 
+-- `next_event()`
+unfoldable pub next_event : Parser Expression
+next_event = token k.NextEvent >>= λ e. token k.Open >>= λ o. token k.Close >>= λ c. pure node.next_event
+
 -- an expression with operators up to the precedence
 unfoldable pub up_to : Parser Expression → ℕ → Parser Expression
 up_to unary zero = unary
@@ -76,6 +80,7 @@ module _ (expression : Parser Expression) where
   primary_by (Some k.LongNumber) = long_number
   primary_by (Some k.Name) = named
   primary_by (Some k.Sense) = sense
+  primary_by (Some k.NextEvent) = next_event
   primary_by (Some k.Open) = bracketed
   primary_by _ = refuse
 

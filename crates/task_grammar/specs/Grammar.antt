@@ -88,6 +88,9 @@ pub data IsExpression : ℕ → List Token → Expression → Type 0 where
   -- `sense ( )`
   sense : (s o c : Token) → s.kind ≡ k.Sense → o.kind ≡ k.Open → c.kind ≡ k.Close
       → IsExpression 0 (s ∷ o ∷ c ∷ []) node.sense
+  -- `next_event ( )`
+  next_event : (e o c : Token) → e.kind ≡ k.NextEvent → o.kind ≡ k.Open → c.kind ≡ k.Close
+      → IsExpression 0 (e ∷ o ∷ c ∷ []) node.next_event
   -- `( inner )`
   brackets : (o c : Token) (ts : List Token) (inner : Expression) → o.kind ≡ k.Open → IsExpression weakest ts inner
       → c.kind ≡ k.Close → IsExpression 0 (o ∷ ts ++ c ∷ []) inner

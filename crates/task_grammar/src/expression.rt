@@ -133,7 +133,21 @@ fn sensed<'a>(tokens: &'a [Token]) -> Result<(Expr<Span>, &'a [Token]), Stop<'a>
     Ok((Expr::Sense, rest))
 }
 
-// A number, a name with or without an index, `sense()`, or an expression in brackets.
+// `next_event()`
+#[tactic(auto, unfolding(crate::specs::Expressions::next_event))]
+fn next_event<'a>(tokens: &'a [Token]) -> Result<(Expr<Span>, &'a [Token]), Stop<'a>>
+    ensures value { Gives (λ x. reading.done (expression_of x.0) x.1.now) (spec.next_event tokens.now) result }
+    ensures shorter { IfOk result (λ x. length x.1.now < length tokens.now) }
+    ensures nests { IfOk result (λ x. nesting x.1.now ≤ nesting tokens.now) }
+    ensures row { IfOk result (λ x. row_length x.1.now ≤ row_length tokens.now) }
+{
+    let (_, rest) = take(Kind::NextEvent, tokens)?;
+    let (_, rest) = take(Kind::Open, rest)?;
+    let (_, rest) = take(Kind::Close, rest)?;
+    Ok((Expr::NextEvent, rest))
+}
+
+// A number, a name with or without an index, `sense()`, `next_event()`, or an expression in brackets.
 #[cycle(expression)]
 #[tactic(auto, unfolding(crate::specs::Expressions::primary, crate::specs::Expressions::bracketed))]
 fn primary<'a>(alloc: Global, tokens: &'a [Token]) -> Result<(Expr<Span>, &'a [Token]), Stop<'a>>
@@ -148,6 +162,7 @@ fn primary<'a>(alloc: Global, tokens: &'a [Token]) -> Result<(Expr<Span>, &'a [T
         Some(Kind::LongNumber) => long_number(tokens),
         Some(Kind::Name) => named(alloc, tokens),
         Some(Kind::Sense) => sensed(tokens),
+        Some(Kind::NextEvent) => next_event(tokens),
         Some(Kind::Open) => {
             let (_, rest) = take(Kind::Open, tokens)?;
             let (inner, rest) = up_to(alloc, WEAKEST, rest)?;

@@ -21,6 +21,7 @@ pub enum Kind {
     Sense,
     Emit,
     TransitionTo,
+    NextEvent,
     Open,
     Close,
     OpenSquare,

@@ -101,6 +101,7 @@ Reads F (t.long_number w) = Unit {0}
 Reads F (t.name x) = ReadOf F x.variable
 Reads F (t.element x index) = Reads F index
 Reads F t.sense = Unit {0}
+Reads F t.next_event = Unit {0}
 Reads F (t.unary op e) = Reads F e
 Reads F (t.binary op a b) = Reads F a × Reads F b
 Reads F (t.shift op e count) = Reads F e
@@ -113,6 +114,7 @@ two_needed (t.long_number w) = omega arith
 two_needed (t.name x) = omega arith
 two_needed (t.element x index) = two_needed index
 two_needed t.sense = omega arith
+two_needed t.next_event = omega arith
 two_needed (t.unary op e) = omega arith
 two_needed (t.binary op a b) = let few = two_needed a in omega (arith, few)
 two_needed (t.shift op e count) = two_needed e
@@ -350,6 +352,8 @@ module _ {ℓ} {room : ℕ} (F : Fact {ℓ} room) where
         word_built d _ two
         (F.chain d (suc d) (suc d) (lowered_expression p index) (one (element_step p x.variable)) (lowering_has d index is.1 few r).word
         (element_has d x.variable (omega (arith, two))))
+    lowering_has d t.next_event is few r =
+        let two = two_fit room d t.next_event few in word_built d _ two (single d (suc d) (number 0) (a_number 0) (omega arith) (omega (arith, two)))
     lowering_has d t.sense is few r = let two = two_fit room d t.sense few in word_built d _ two (single d (suc d) sense a_reading tt (omega (arith, two)))
     lowering_has d (t.unary op e) is few r =
         let own : stack_words e + d ≤ room = omega (arith, few) in
@@ -444,6 +448,7 @@ reads_low shared (t.name x) is = by_variable x.variable is.0
     by_variable (Local n) h = h
 reads_low shared (t.element x index) is = reads_low shared index is.1
 reads_low shared t.sense is = tt
+reads_low shared t.next_event is = tt
 reads_low shared (t.unary op e) is = reads_low shared e is
 reads_low shared (t.binary op a b) is = (reads_low shared a is.0, reads_low shared b is.1)
 reads_low shared (t.shift op e count) is = reads_low shared e is.0

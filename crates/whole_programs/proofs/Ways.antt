@@ -199,6 +199,7 @@ reads_assigned shared u a (t.name x) c n s = by_variable x.variable n.0 s.0
     by_variable (Local k) n s = subst (λ m. a m ≡ true) (sym (small_modulo k n)) (c k n s)
 reads_assigned shared u a (t.element x index) c n s = reads_assigned shared u a index c n.1 (safe_both u (names_read index) (read x ∷ []) s).0
 reads_assigned shared u a t.sense c n s = tt
+reads_assigned shared u a t.next_event c n s = tt
 reads_assigned shared u a (t.unary op e) c n s = reads_assigned shared u a e c n s
 reads_assigned shared u a (t.binary op x y) c n s =
     let r = safe_expression u x (names_read y) s in (reads_assigned shared u a x c n.0 r.0, reads_assigned shared u a y c n.1 r.1)

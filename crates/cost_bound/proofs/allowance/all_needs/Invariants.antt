@@ -4,4 +4,4 @@ use Rattle.cost_bound.specs.Needs.{AreNeeds}
 use Rattle.cost_bound.proofs.allowance.all_needs.Given as goal
 
 abbrev pub invariant-loop-i : goal.invariant-loop-i
-invariant-loop-i l = AreNeeds l.versions l.shared (map task_of (drop l.i l.tasks)) l.all
+invariant-loop-i l = AreNeeds l.events l.versions l.shared (map task_of (drop l.i l.tasks)) l.all

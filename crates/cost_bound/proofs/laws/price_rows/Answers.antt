@@ -6,6 +6,7 @@ returns c = record {
   number = refl;
   scalar = refl;
   reading = refl;
+  event = refl;
   unary = refl;
   sum = refl;
   comparison = refl;

@@ -3,6 +3,7 @@ use Rattle.std.proofs.lemmas.List.{length-map}
 use Rattle.task_ast.specs.View.{task_of, program_of}
 use Rattle.cost_bound.specs.Allowance.{is_written}
 use Rattle.privatise.specs.Layouts.{IsLayout}
+use Rattle.privatise.proofs.Sums.{plain_small}
 use Rattle.privatise.proofs.Whole.{AreWritten, even_starts, sizes_fit, room, code_small, code_room, scalars_placed, tasks_moved, laid_out, whole}
 use Rattle.privatise.proofs.placing.layout_of.Goals as goal
 
@@ -10,7 +11,7 @@ pub sizes_of-requires-clause-written : goal.sizes_of-requires-clause-written
 sizes_of-requires-clause-written c = λ i l. c.written_variables-written.ensures i l ∙ ap (λ ts. is_written (map task_of ts) i) c.as_slice-tasks.ensures.value
 
 pub sizes_of-requires-clause-small : goal.sizes_of-requires-clause-small
-sizes_of-requires-clause-small c = c.requires.allowed.within_size
+sizes_of-requires-clause-small c = plain_small (program_of c.args.source.now) c.requires.allowed.within_size
 
 pub regions_of-regions-requires : goal.regions_of-regions-requires
 regions_of-regions-requires c = sizes_fit (program_of c.args.source.now) c.args.allow.now c.sizes_of.result c.requires.allowed c.sizes_of.ensures

@@ -11,7 +11,7 @@ pub line_number-requires-clause-within : goal.line_number-requires-clause-within
 line_number-requires-clause-within c =
     let stop = subst (StopsBy _) c.in-Err-At.field-0-is c.in-Err-At.ensures.stop in stop.inside
 
-pub returns-in-Err-At : goal.returns-in-Err-At
-returns-in-Err-At c =
+pub returns-in-Err-At-clause-verdict : goal.returns-in-Err-At-clause-verdict
+returns-in-Err-At-clause-verdict c =
     let stop = subst (StopsBy _) c.in-Err-At.field-0-is c.in-Err-At.ensures.stop in
-    record { verdict = rw c.readings.ensures.value at (subst (IsFirstFault _ _ _ _ _) (sym c.line_number.ensures) (stops_on_line _ _ stop)) }
+    rw c.readings.ensures.value at (subst (IsFirstFault _ _ _ _ _) (sym c.line_number.ensures) (stops_on_line _ _ stop))

@@ -1,11 +1,11 @@
-use Rattle.std.proofs.Common.{[]}
+use Rattle.std.proofs.Common.{[], rules}
 use Rattle.task_ast.specs.View.{program_of}
 use Rattle.source_meaning.proofs.Runnable.{checked_runnable}
 use Rattle.source_meaning.proofs.Unique.{one_program}
 use Rattle.source_meaning.proofs.passes.accept.Goals as goal
 
 pub invariant_of-result : goal.invariant_of-result
-invariant_of-result c = record { runnable = checked_runnable c.in_ok-checked.checked c.in-Ok.ensures.ok.few_emits }
+invariant_of-result c = record { runnable = checked_runnable c.in_ok-checked.checked c.in-Ok.ensures.ok.few_emits; short = search rules }
 
 pub returns-in_ok-to_vec-in-Ok-clause-only : goal.returns-in_ok-to_vec-in-Ok-clause-only
 returns-in_ok-to_vec-in-Ok-clause-only c =
