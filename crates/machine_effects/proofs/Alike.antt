@@ -151,8 +151,8 @@ put_ram xs a v len h =
 seen_stored : (o : Option Look) (xs : List ℕ) (a v : ℕ) → length xs ≡ 24064 → is_fram a ≡ true → a < handler_place → SeesFram o xs
     → SeesFram o (slice_set xs (place_of a) v)
 seen_stored None xs a v len h low sees = tt
-seen_stored (Some look) xs a v len h low sees x r =
-    sees x r ∙ sym (put_other (fram_of xs) (word_address a) v x (behind_handler a x low r)) ∙ ap (λ f. f x) (put_fram xs a v len h)
+seen_stored (Some look) xs a v len h low sees =
+    λ x r. sees x r ∙ sym (put_other (fram_of xs) (word_address a) v x (behind_handler a x low r)) ∙ ap (λ f. f x) (put_fram xs a v len h)
 
 module _ (readings : List ℕ) (begun : EventLine) where
   word_on : (b : Bool) (s : BusState) (a : ℕ) → is_ram a ≡ b → is_memory a ≡ true

@@ -23,9 +23,9 @@ use Rattle.fram_board.specs.Effects.{Effect, Store, Take, Outside, Offered, send
 use Rattle.fram_board.proofs.Interface.{data_not_fram, other_is_fram, ram_not_fram}
 use Rattle.machine_effects.specs.World.{put, fram_after, readings_taken}
 use Rattle.machine_effects.specs.Going.{Goes, Stops}
-use Rattle.machine_effects.specs.Inputs.{Look}
 use Rattle.machine_effects.specs.Machine.{MachineBus, machine_bus, machine_word, word_address, reading_taken, machine_after_read, machine_stored}
-use Rattle.machine_effects.specs.Machine.{is_readable, word_written, machine_port_written, machine_written, MachineBoard, machine_opened, MachineOutcome, machine_outcome}
+use Rattle.machine_effects.specs.Machine.{is_readable, word_written}
+use Rattle.machine_effects.specs.Machine.{machine_port_written, machine_written, MachineBoard, machine_opened, MachineOutcome, machine_outcome}
 use Rattle.machine_effects.specs.Machine.{machine_executed, NoInstruction, Executes, standing, step_with, astray, undisturbed}
 use Rattle.machine_effects.specs.Laws.{ChangesByEffects, CodeChangesByEffects, MachineChangesByEffects}
 use Rattle.machine_effects.proofs.Worlds.{fram_after-append, readings_taken-append, taking_keeps_fram, taking_takes}

@@ -168,7 +168,8 @@ written_words t a Word v h q =
     (stored_words (is_ram a) t (t.log ++ Store (word_address a) v ∷ []) (word_address a) v h q) tt) (port_words t a v h q)
 written_words t a Byte v h q =
     let x = with_byte (machine_word t a) a v in
-    if_some (is_memory a && is_readable t.floor a) (Some (machine_stored t a x)) None (stored_words (is_ram a) t (t.log ++ Store (word_address a) x ∷ []) (word_address a) x
+    if_some (is_memory a && is_readable t.floor a) (Some (machine_stored t a x)) None
+    (stored_words (is_ram a) t (t.log ++ Store (word_address a) x ∷ []) (word_address a) x
     (bytes_small (machine_word t a) a v (word_small t a q)) q) tt
 
 machine_write_words : (t : MachineBus) (a : ℕ) (w : Width) (v : ℕ) (u : MachineBus) → OfWords t → IsWord v → machine_written t a w v ≡ Some u → OfWords u

@@ -134,7 +134,7 @@ pub record MachineBoard : Type 0 where
 -- its bus as an instruction begins that sees this of the ring: the log is empty
 abbrev pub machine_opened_seeing : Option Look → MachineBoard → MachineBus
 machine_opened_seeing ring s = record
-  { fram = s.fram; ram = s.ram; inputs = s.inputs; outnum = s.outnum; log = []; floor = s.registers 1; ring = ring }
+    { fram = s.fram; ram = s.ram; inputs = s.inputs; outnum = s.outnum; log = []; floor = s.registers 1; ring = ring }
 
 -- as one begins that may not look there
 abbrev pub machine_opened : MachineBoard → MachineBus
