@@ -84,7 +84,7 @@ BootIsShort = (m : MemoryMap) (commit : ℕ) (tasks : List TaskEntry) (at : ℕ)
 abbrev pub BootIsCode : Type 0
 BootIsCode = (m : MemoryMap) (commit : ℕ) (tasks : List TaskEntry) (at : ℕ) → AreInstructions (instructions (boot_forms m commit tasks at))
 
--- the start of an attempt stores at words of FRAM in front of where programs end alone
+-- the start of an attempt stores at words of FRAM in front of the handler alone
 abbrev pub StartStoresInFram : Type 0
 StartStoresInFram = (m : MemoryMap) (privates : ℕ → List CopyPair) (f : ℕ → ℕ) → AreInFram m → All ArePairWords (privates (f (word_place m CurrentTask)))
     → EachStore (λ a w. IsPlace a) (start_effects m privates f)

@@ -1,6 +1,6 @@
 -- Each form does what its instruction does.
 use Rattle.std.proofs.Common.{◌≡◌, ◌/◌, ◌==◌, if◌then◌else◌, ◌+◌, ◌-◌, ◌*◌, ◌%◌, ◌≤◌, ℕ, refl, sym, ◌∙◌, ap, Bool, true, false, arith, List, [], ◌∷◌, Option}
-use Rattle.std.proofs.Common.{Some, None, length}
+use Rattle.std.proofs.Common.{Some, None, length, nat_le, nat_lt}
 use Rattle.std.proofs.lemmas.Bool.Decides.{nat_tests}
 use Rattle.machine_effects.specs.alp_words.declared.Flags.{Flags}
 use Rattle.machine_effects.specs.alp_words.declared.Width.{Width}
@@ -26,11 +26,12 @@ use Rattle.machine_effects.specs.msp_step.Effect.{written_back, store, read_modi
 use Rattle.machine_effects.specs.msp_step.Effect.{push_effect, pushed, reads_destination, writes_destination, with_flags, Operated, finish, word_sum, source}
 use Rattle.machine_effects.specs.msp_step.Effect.{after_source, two_operand_effect, destination_location, Written, distance, is_met, operated}
 use Rattle.machine_effects.specs.msp_step.Step.{effect}
+use Rattle.machine_effects.specs.event_places.Places.{handler_place}
 use Rattle.machine_effects.specs.fram_board.Bus.{is_word, is_ram}
 use Rattle.machine_effects.specs.fram_board.Effects.{Store}
 use Rattle.machine_effects.specs.World.{put}
 use Rattle.machine_effects.specs.Going.{Goes}
-use Rattle.machine_effects.specs.Machine.{MachineOutcome, MachineBus, machine_bus, machine_outcome, step_with, word_address, IsPlace, IsRam}
+use Rattle.machine_effects.specs.Machine.{MachineOutcome, MachineBus, machine_bus, machine_outcome, step_with, word_address, is_readable, IsPlace, IsRam}
 use Rattle.code_forms.specs.Forms.{WorkRegister, work_number, index_of, Core, register_file, board_of, outcome_of_core, Source, Register, Number, Constant}
 use Rattle.code_forms.specs.Forms.{Fram, Ram, Pointed, PointedNext, Indexed, Popped, source_operand, source_bytes, source_value, source_read, SourceNeeds}
 use Rattle.code_forms.specs.Forms.{Target, ToRegister, ToFram, ToRam, ToIndexed, ToPointed, ToOutnum, ToOutdata, target_operand, target_bytes, target_written}
@@ -41,8 +42,9 @@ use Rattle.instruction_forms.specs.declared.kinds.Modification.TheVariants as ch
 use Rattle.code_forms.specs.Laws.{FormsDoAsInstructions}
 use Rattle.code_forms.proofs.Registers.{set_pc, set_sp, set_work, get_work, high, number, set_flags, flags_back, is_on, no_port}
 
-abbrev inside : Core → MachineBus
-inside u = record { fram = u.fram; ram = u.ram; inputs = u.inputs; outnum = u.outnum; log = [] }
+-- the bus of an instruction that began with SP here
+abbrev inside : ℕ → Core → MachineBus
+inside floor u = record { fram = u.fram; ram = u.ram; inputs = u.inputs; outnum = u.outnum; log = []; floor = floor; ring = None }
 
 abbrev regs_in : Core → ℕ → Registers
 regs_in u p = register_file p u.sp u.flags u.work
@@ -67,12 +69,37 @@ is_word_ram a h = grind (arith, nat_tests)
 is_ram_ram : (a : ℕ) → IsRam a → is_ram a ≡ true
 is_ram_ram a h = grind (arith, nat_tests)
 
+-- it stands in front of the handler
+low_fram : (a : ℕ) → IsPlace a → nat_lt a handler_place ≡ true
+low_fram a h = let l = h.high in grind (arith, nat_tests)
+
+low_ram : (a : ℕ) → IsRam a → nat_lt a handler_place ≡ true
+low_ram a h = let l = h.high in grind (arith, nat_tests)
+
+-- and may be read, in RAM from the floor on
+readable_fram : (floor a : ℕ) → IsPlace a → is_readable floor a ≡ true
+readable_fram floor a h = ap (λ b. if b then nat_le floor (word_address a) else nat_lt a handler_place) (no_ram_fram a h) ∙ low_fram a h
+
+not_below : (floor a : ℕ) → floor ≤ a → nat_le floor a ≡ true
+not_below floor a l = grind (arith, nat_tests)
+
+readable_ram : (floor a : ℕ) → IsRam a → floor ≤ a → is_readable floor a ≡ true
+readable_ram floor a h l =
+    ap (λ b. if b then nat_le floor (word_address a) else nat_lt a handler_place) (is_ram_ram a h)
+    ∙ ap (nat_le floor) (even_ram a h)
+    ∙ not_below floor a l
+
 pub read_fram : (s : MachineBus) (a : ℕ) → IsPlace a → read_at machine_bus a Word s ≡ Completed (s.fram a) s
 read_fram s a h =
-    let w = is_word_fram a h in let e = no_port a 0x200 w (omega arith) in let f = no_ram_fram a h in let g = even_fram a h in rw (w, e, f, g) refl
+    let w = is_word_fram a h in let r = readable_fram s.floor a h in let e = no_port a 0x200 w (omega arith) in let f = no_ram_fram a h in
+    let g = even_fram a h in
+    rw (w, r, e, f, g) refl
 
-pub read_ram : (s : MachineBus) (a : ℕ) → IsRam a → read_at machine_bus a Word s ≡ Completed (s.ram a) s
-read_ram s a h = let w = is_word_ram a h in let e = no_port a 0x200 w (omega arith) in let f = is_ram_ram a h in let g = even_ram a h in rw (w, e, f, g) refl
+pub read_ram : (s : MachineBus) (a : ℕ) → IsRam a → s.floor ≤ a → read_at machine_bus a Word s ≡ Completed (s.ram a) s
+read_ram s a h l =
+    let w = is_word_ram a h in let r = readable_ram s.floor a h l in let e = no_port a 0x200 w (omega arith) in let f = is_ram_ram a h in
+    let g = even_ram a h in
+    rw (w, r, e, f, g) refl
 
 -- the source operand, with PC behind the operation word
 module _ (u : Core) (p : ℕ) where
@@ -83,23 +110,23 @@ module _ (u : Core) (p : ℕ) where
   up b v = ap (λ n. with_register (regs_in u p) n v) (number b) ∙ set_work p u.sp (work_number b) v u.flags u.work (high b)
 
   pub from_source : (x : Source) → SourceNeeds x u
-      → source machine_bus (regs_in u p) Word (source_operand x) (inside u) ≡ Completed (source_value x u, regs_in (source_read x u) p) (inside u)
+      → source machine_bus (regs_in u p) Word (source_operand x) (inside u.sp u) ≡ Completed (source_value x u, regs_in (source_read x u) p) (inside u.sp u)
   from_source (Register b) h = rw (got b) refl
   from_source (Number n) h = refl
   from_source (Constant k) h = refl
-  from_source (Fram a) h = rw (read_fram (inside u) a h) refl
-  from_source (Ram a) h = rw (read_ram (inside u) a h.0) refl
-  from_source (Pointed b) h = rw (got b, read_fram (inside u) (u.work (work_number b)) h) refl
+  from_source (Fram a) h = rw (read_fram (inside u.sp u) a h) refl
+  from_source (Ram a) h = rw (read_ram (inside u.sp u) a h.0 h.1) refl
+  from_source (Pointed b) h = rw (got b, read_fram (inside u.sp u) (u.work (work_number b)) h) refl
   from_source (PointedNext b) h =
       let e : word_sum (u.work (work_number b)) 2 ≡ u.work (work_number b) + 2 = let hi = h.high in omega arith in
-      rw (up b (word_sum (regs_in u p (index_number (index_of b))) 2), got b, read_fram (inside u) (u.work (work_number b)) h, e) refl
+      rw (up b (word_sum (regs_in u p (index_number (index_of b))) 2), got b, read_fram (inside u.sp u) (u.work (work_number b)) h, e) refl
   from_source (Indexed b x) h =
       let e : word_sum (u.work (work_number b)) x ≡ u.work (work_number b) + x = let hi = h.high in omega arith in
-      rw (got b, e, read_fram (inside u) (u.work (work_number b) + x) h) refl
+      rw (got b, e, read_fram (inside u.sp u) (u.work (work_number b) + x) h) refl
   from_source Popped h =
       let v = h.even in let l = h.high in
       let e : word_sum u.sp 2 / 2 * 2 ≡ u.sp + 2 = omega arith in
-      rw (read_ram (inside u) u.sp h, set_sp p u.sp (word_sum u.sp 2) (u.sp + 2) u.flags u.work e) refl
+      rw (read_ram (inside u.sp u) u.sp h (omega arith), set_sp p u.sp (word_sum u.sp 2) (u.sp + 2) u.flags u.work e) refl
 
 pub from_length : (x : Source) → 2 * length (source_row (source_operand x)).extension ≡ source_bytes x
 from_length (Register b) = refl
@@ -131,7 +158,7 @@ from_small Popped = (omega arith, refl)
 dest_small : (d : Dst) → length (destination_row d).extension ≤ 1
 dest_small d = grind arith
 
-read_same : (x : Source) (u : Core) → inside (source_read x u) ≡ inside u
+read_same : (x : Source) (u : Core) → inside u.sp (source_read x u) ≡ inside u.sp u
 read_same (Register b) u = refl
 read_same (Number n) u = refl
 read_same (Constant k) u = refl
@@ -147,10 +174,10 @@ ext_of x u = word_sum (word_sum u.pc 2) (2 * length (source_row (source_operand 
 
 -- an instruction with two operands, up to its destination
 pub two : (op : TwoOp) (x : Source) (d : Dst) (u : Core) → IsCodeAddress u.pc → SourceNeeds x u →
-    two_operand_effect machine_bus op Word (source_operand x) d (regs_in u u.pc) (inside u) ≡
+    two_operand_effect machine_bus op Word (source_operand x) d (regs_in u u.pc) (inside u.sp u) ≡
     after_source machine_bus op Word (destination_location (regs_in (source_read x u)
     (u.pc + (2 + source_bytes x + 2 * length (destination_row d).extension))) (ext_of x u) d) (source_value x u)
-    (regs_in (source_read x u) (u.pc + (2 + source_bytes x + 2 * length (destination_row d).extension))) (inside u)
+    (regs_in (source_read x u) (u.pc + (2 + source_bytes x + 2 * length (destination_row d).extension))) (inside u.sp u)
 two op x d u c h =
     let even = c.even in let high = c.high in
     let s = from_small x in let l = from_length x in let m = dest_small d in
@@ -176,25 +203,28 @@ to_length ToOutnum = refl
 to_length ToOutdata = refl
 
 -- MOV's write
-written : (y : Target) (v ext pc c : ℕ) (t : Core) → TargetNeeds y t
+written : (y : Target) (v ext pc c floor : ℕ) (t : Core) → TargetNeeds y t
     → machine_outcome pc c (after_source machine_bus Mov Word (destination_location (regs_in t t.pc) ext (target_operand y)) v (regs_in t t.pc)
-    (inside t)) ≡ outcome_of_core (target_written y c v t)
-written (ToRegister b) v ext pc c t h = rw (up t t.pc b v) refl
-written (ToFram a) v ext pc c t h = let w = is_word_fram a h in let f = no_ram_fram a h in let g = even_fram a h in rw (w, f, g) refl
-written (ToRam a) v ext pc c t h = let w = is_word_ram a h in let f = is_ram_ram a h in let g = even_ram a h in rw (w, f, g) refl
-written (ToIndexed b x) v ext pc c t h =
+    (inside floor t)) ≡ outcome_of_core (target_written y c v t)
+written (ToRegister b) v ext pc c floor t h = rw (up t t.pc b v) refl
+written (ToFram a) v ext pc c floor t h =
+    let w = is_word_fram a h in let l = low_fram a h in let f = no_ram_fram a h in let g = even_fram a h in rw (w, l, f, g) refl
+written (ToRam a) v ext pc c floor t h =
+    let w = is_word_ram a h in let l = low_ram a h in let f = is_ram_ram a h in let g = even_ram a h in rw (w, l, f, g) refl
+written (ToIndexed b x) v ext pc c floor t h =
     let hi = h.high in
     let e : word_sum (t.work (work_number b)) x ≡ t.work (work_number b) + x = omega arith in
-    let w =
-    is_word_fram (t.work (work_number b) + x) h in let f = no_ram_fram (t.work (work_number b) + x) h in let g = even_fram (t.work (work_number b) + x) h in
-    rw (got t t.pc b, e, w, f, g) refl
-written (ToPointed b) v ext pc c t h =
+    let a = t.work (work_number b) + x in
+    let w = is_word_fram a h in let l = low_fram a h in let f = no_ram_fram a h in let g = even_fram a h in
+    rw (got t t.pc b, e, w, l, f, g) refl
+written (ToPointed b) v ext pc c floor t h =
     let hi = h.high in
     let e : word_sum (t.work (work_number b)) 0 ≡ t.work (work_number b) = omega arith in
-    let w = is_word_fram (t.work (work_number b)) h in let f = no_ram_fram (t.work (work_number b)) h in let g = even_fram (t.work (work_number b)) h in
-    rw (got t t.pc b, e, w, f, g) refl
-written ToOutnum v ext pc c t h = refl
-written ToOutdata v ext pc c t h = refl
+    let a = t.work (work_number b) in
+    let w = is_word_fram a h in let l = low_fram a h in let f = no_ram_fram a h in let g = even_fram a h in
+    rw (got t t.pc b, e, w, l, f, g) refl
+written ToOutnum v ext pc c floor t h = refl
+written ToOutdata v ext pc c floor t h = refl
 
 ok_pc : (y : Target) (t : Core) (p : ℕ) → TargetNeeds y t → TargetNeeds y (record t { pc = p })
 ok_pc (ToRegister b) t p h = h
@@ -210,7 +240,7 @@ on_two : (op : TwoOp) (x : Source) (d : Dst) (u : Core) → IsCodeAddress u.pc �
     step_with (Some (instr.Two op Word (source_operand x) d)) (board_of u) ≡
     machine_outcome u.pc (cycles_of (instr.Two op Word (source_operand x) d)) (after_source machine_bus op Word
     (destination_location (regs_in (source_read x u) (u.pc + (2 + source_bytes x + 2 * length (destination_row d).extension))) (ext_of x u) d)
-    (source_value x u) (regs_in (source_read x u) (u.pc + (2 + source_bytes x + 2 * length (destination_row d).extension))) (inside (source_read x u)))
+    (source_value x u) (regs_in (source_read x u) (u.pc + (2 + source_bytes x + 2 * length (destination_row d).extension))) (inside u.sp (source_read x u)))
 unfolding effect
 on_two op x d u c h =
     let e = is_on u.pc u.sp u.flags u.work in
@@ -221,7 +251,7 @@ moves : (x : Source) (y : Target) (u : Core) → IsCodeAddress u.pc → SourceNe
 moves x y u c h k =
     let n : Core = record (source_read x u) { pc = u.pc + (2 + source_bytes x + 2 * length (destination_row (target_operand y)).extension) } in
     on_two Mov x (target_operand y) u c h
-    ∙ written y (source_value x u) (ext_of x u) u.pc (cycles_of (instruction_of (Move x y))) n (ok_pc y (source_read x u) n.pc k)
+    ∙ written y (source_value x u) (ext_of x u) u.pc (cycles_of (instruction_of (Move x y))) u.sp n (ok_pc y (source_read x u) n.pc k)
     ∙ ap (λ m. outcome_of_core (target_written y (cycles_of (instruction_of (Move x y))) (source_value x u)
     (record (source_read x u) { pc = u.pc + (2 + source_bytes x + m) }))) (to_length y)
 
@@ -244,19 +274,19 @@ with_new : (o : Option Flags) (t : Core) (p : ℕ) → with_flags (regs_in t p) 
 with_new None t p = refl
 with_new (Some g) t p = set_flags p t.sp t.flags g t.work
 
-ends : (w : Bool) (b : WorkRegister) (o : Operated) (pc c : ℕ) (t : Core) →
+ends : (w : Bool) (b : WorkRegister) (o : Operated) (pc c floor : ℕ) (t : Core) →
     machine_outcome pc c (finish w machine_bus (register_file t.pc t.sp (flags_after o.flags t.flags) t.work) Word
-    (destination_location (regs_in t t.pc) 0 (target_operand (ToRegister b))) o.value (inside t))
+    (destination_location (regs_in t t.pc) 0 (target_operand (ToRegister b))) o.value (inside floor t))
     ≡ Goes [] c (board_of (record t { flags = flags_after o.flags t.flags; work = if w then put t.work (work_number b) o.value else t.work }))
-ends true b o pc c t = rw (up (record t { flags = flags_after o.flags t.flags }) t.pc b o.value) refl
-ends false b o pc c t = refl
+ends true b o pc c floor t = rw (up (record t { flags = flags_after o.flags t.flags }) t.pc b o.value) refl
+ends false b o pc c floor t = refl
 
-calculated_half : (op : TwoOp) (v ext pc c : ℕ) (b : WorkRegister) (t : Core) → reads_destination op ≡ true
+calculated_half : (op : TwoOp) (v ext pc c floor : ℕ) (b : WorkRegister) (t : Core) → reads_destination op ≡ true
     → machine_outcome pc c (after_source machine_bus op Word (destination_location (regs_in t t.pc) ext (target_operand (ToRegister b))) v
-    (regs_in t t.pc) (inside t)) ≡ outcome_of_core (Goes [] c (calculated op b (operated op Word (t.work (work_number b)) v t.flags) t))
-calculated_half op v ext pc c b t n =
+    (regs_in t t.pc) (inside floor t)) ≡ outcome_of_core (Goes [] c (calculated op b (operated op Word (t.work (work_number b)) v t.flags) t))
+calculated_half op v ext pc c floor b t n =
     let o = operated op Word (t.work (work_number b)) v t.flags in
-    rw (n, got t t.pc b, flags_back t.flags, with_new o.flags t t.pc) (ends (writes_destination op) b o pc c t)
+    rw (n, got t t.pc b, flags_back t.flags, with_new o.flags t t.pc) (ends (writes_destination op) b o pc c floor t)
 
 read_flags : (x : Source) (u : Core) → (source_read x u).flags ≡ u.flags
 read_flags (Register b) u = refl
@@ -276,16 +306,17 @@ calculates op x b u c n h =
     on_two op x (target_operand (ToRegister b)) u c h
     ∙ ap (λ p. machine_outcome u.pc (cycles_of (instruction_of (Calculate op x b)))
     (after_source machine_bus op Word (destination_location (regs_in (source_read x u) p) (ext_of x u) (target_operand (ToRegister b)))
-    (source_value x u) (regs_in (source_read x u) p) (inside (source_read x u))))
+    (source_value x u) (regs_in (source_read x u) p) (inside u.sp (source_read x u))))
     (let e : u.pc + (2 + source_bytes x + 2 * 0) ≡ u.pc + (2 + source_bytes x) = omega arith in e)
-    ∙ calculated_half op (source_value x u) (ext_of x u) u.pc (cycles_of (instruction_of (Calculate op x b))) b t (reads op n)
+    ∙ calculated_half op (source_value x u) (ext_of x u) u.pc (cycles_of (instruction_of (Calculate op x b))) u.sp b t (reads op n)
     ∙ ap (λ f. outcome_of_core (Goes [] (cycles_of (instruction_of (Calculate op x b)))
     (calculated op b (operated op Word (t.work (work_number b)) (source_value x u) f) t))) (read_flags x u)
 
-compared_half : (v a ext pc c : ℕ) (t : Core) → IsPlace a
+compared_half : (v a ext pc c floor : ℕ) (t : Core) → IsPlace a
     → machine_outcome pc c (after_source machine_bus Cmp Word (destination_location (regs_in t t.pc) ext (dst.Absolute a)) v (regs_in t t.pc)
-    (inside t)) ≡ outcome_of_core (Goes [] c (record t { flags = flags_after (operated Cmp Word (t.fram a) v t.flags).flags t.flags }))
-compared_half v a ext pc c t h = rw (read_fram (inside t) a h, set_flags t.pc t.sp t.flags (difference_of Word (t.fram a) v true).1 t.work) refl
+    (inside floor t)) ≡ outcome_of_core (Goes [] c (record t { flags = flags_after (operated Cmp Word (t.fram a) v t.flags).flags t.flags }))
+compared_half v a ext pc c floor t h =
+    rw (read_fram (inside floor t) a h, set_flags t.pc t.sp t.flags (difference_of Word (t.fram a) v true).1 t.work) refl
 
 read_memory : (x : Source) (u : Core) → (source_read x u).fram ≡ u.fram
 read_memory x u = ap (λ l. l.fram) (read_same x u)
@@ -295,17 +326,17 @@ compares : (x : Source) (a : ℕ) (u : Core) → IsCodeAddress u.pc → SourceNe
 compares x a u c h k =
     let t : Core = record (source_read x u) { pc = u.pc + (2 + source_bytes x + 2) } in
     on_two Cmp x (dst.Absolute a) u c h
-    ∙ compared_half (source_value x u) a (ext_of x u) u.pc (cycles_of (instruction_of (Compare x a))) t k
+    ∙ compared_half (source_value x u) a (ext_of x u) u.pc (cycles_of (instruction_of (Compare x a))) u.sp t k
     ∙ ap (λ f. outcome_of_core (Goes [] (cycles_of (instruction_of (Compare x a))) (record t { flags = f }))) (rw (read_memory x u) refl)
 
-updated_half : (op : TwoOp) (v a ext pc c : ℕ) (t : Core) → reads_destination op ≡ true → writes_destination op ≡ true → IsPlace a
-    → machine_outcome pc c (after_source machine_bus op Word (destination_location (regs_in t t.pc) ext (dst.Absolute a)) v (regs_in t t.pc) (inside t)) ≡
+updated_half : (op : TwoOp) (v a ext pc c floor : ℕ) (t : Core) → reads_destination op ≡ true → writes_destination op ≡ true → IsPlace a
+    → machine_outcome pc c (after_source machine_bus op Word (destination_location (regs_in t t.pc) ext (dst.Absolute a)) v (regs_in t t.pc) (inside floor t)) ≡
     outcome_of_core (let o = operated op Word (t.fram a) v t.flags in Goes (Store a o.value ∷ []) c
     (record t { flags = flags_after o.flags t.flags; fram = put t.fram a o.value }))
-updated_half op v a ext pc c t n m h =
-    let w = is_word_fram a h in let f = no_ram_fram a h in let g = even_fram a h in
+updated_half op v a ext pc c floor t n m h =
+    let w = is_word_fram a h in let l = low_fram a h in let f = no_ram_fram a h in let g = even_fram a h in
     let o = operated op Word (t.fram a) v t.flags in
-    rw (n, read_fram (inside t) a h, flags_back t.flags, with_new o.flags t t.pc, m, w, f, g) refl
+    rw (n, read_fram (inside floor t) a h, flags_back t.flags, with_new o.flags t t.pc, m, w, l, f, g) refl
 
 updates : (op : TwoOp) (x : Source) (a : ℕ) (u : Core) → IsCodeAddress u.pc → FormNeeds (Update op x a) u
     → step_with (Some (instruction_of (Update op x a))) (board_of u) ≡ outcome_of_core (form_step (Update op x a) u)
@@ -314,13 +345,13 @@ updates op x a u c h =
     let out : (ℕ → ℕ) → Flags → MachineOutcome = λ f g. outcome_of_core (let o = operated op Word (f a) (source_value x u) g in Goes
     (Store a o.value ∷ []) (cycles_of (instruction_of (Update op x a))) (record t { flags = flags_after o.flags g; fram = put f a o.value })) in
     on_two op x (dst.Absolute a) u c h.2
-    ∙ updated_half op (source_value x u) a (ext_of x u) u.pc (cycles_of (instruction_of (Update op x a))) t (reads op h.0) h.1 h.3
+    ∙ updated_half op (source_value x u) a (ext_of x u) u.pc (cycles_of (instruction_of (Update op x a))) u.sp t (reads op h.0) h.1 h.3
     ∙ ap (λ f. out f t.flags) (read_memory x u) ∙ ap (λ g. out u.fram g) (read_flags x u)
 
 -- no operand that is written
 push_half : (x : Source) (u : Core) → IsCodeAddress u.pc → SourceNeeds x u
-    → push_effect machine_bus Word (source_operand x) (regs_in u u.pc) (inside u) ≡ pushed machine_bus Word (source_value x u)
-    (regs_in (source_read x u) (u.pc + (2 + source_bytes x))) (inside (source_read x u))
+    → push_effect machine_bus Word (source_operand x) (regs_in u u.pc) (inside u.sp u) ≡ pushed machine_bus Word (source_value x u)
+    (regs_in (source_read x u) (u.pc + (2 + source_bytes x))) (inside u.sp (source_read x u))
 push_half x u c h =
     let even = c.even in let high = c.high in
     let s = from_small x in let l = from_length x in
@@ -329,21 +360,22 @@ push_half x u c h =
     let t = source_read x u in
     let next : ℕ × Registers → MachineBus → Access MachineBus (Registers × Option Written) =
     λ y l. pushed machine_bus Word y.0 (with_register y.1 0 (ext_of x u)) l in
-    ap (λ q. then_do (source machine_bus q Word (source_operand x) (inside u)) next) (set_pc u.pc u.sp (word_sum u.pc 2) (u.pc + 2) u.flags u.work a)
+    ap (λ q. then_do (source machine_bus q Word (source_operand x) (inside u.sp u)) next) (set_pc u.pc u.sp (word_sum u.pc 2) (u.pc + 2) u.flags u.work a)
     ∙ ap (λ y. then_do y next) (from_source u (u.pc + 2) x h)
-    ∙ ap (λ r. pushed machine_bus Word (source_value x u) r (inside u)) (set_pc (u.pc + 2) t.sp (ext_of x u) (u.pc + (2 + source_bytes x)) t.flags t.work p)
+    ∙ ap (λ r. pushed machine_bus Word (source_value x u) r (inside u.sp u))
+    (set_pc (u.pc + 2) t.sp (ext_of x u) (u.pc + (2 + source_bytes x)) t.flags t.work p)
     ∙ ap (λ l. pushed machine_bus Word (source_value x u) (regs_in t (u.pc + (2 + source_bytes x))) l) (sym (read_same x u))
 
-pushed_at : (v pc c : ℕ) (t : Core) → HasPushRoom t.sp
-    → machine_outcome pc c (pushed machine_bus Word v (regs_in t t.pc) (inside t)) ≡ Goes [] c
+pushed_at : (v pc c floor : ℕ) (t : Core) → HasPushRoom t.sp
+    → machine_outcome pc c (pushed machine_bus Word v (regs_in t t.pc) (inside floor t)) ≡ Goes [] c
     (board_of (record t { sp = t.sp - 2; ram = put t.ram (t.sp - 2) v }))
-pushed_at v pc c t h =
+pushed_at v pc c floor t h =
     let even = h.even in let room = h.room.fits in let high = h.high in
     let k : IsRam (t.sp - 2) = record { even = omega arith; low = omega arith; high = omega arith } in
-    let word = is_word_ram (t.sp - 2) k in let ram = is_ram_ram (t.sp - 2) k in let g = even_ram (t.sp - 2) k in
+    let word = is_word_ram (t.sp - 2) k in let below = low_ram (t.sp - 2) k in let ram = is_ram_ram (t.sp - 2) k in let g = even_ram (t.sp - 2) k in
     let l : word_sum t.sp 0xFFFE ≡ t.sp - 2 = omega arith in
     let m : (t.sp - 2) / 2 * 2 ≡ t.sp - 2 = omega arith in
-    rw (l, set_sp t.pc t.sp (t.sp - 2) (t.sp - 2) t.flags t.work m, word, ram, g) refl
+    rw (l, set_sp t.pc t.sp (t.sp - 2) (t.sp - 2) t.flags t.work m, word, below, ram, g) refl
 
 pushes : (x : Source) (u : Core) → IsCodeAddress u.pc → FormNeeds (Push x) u
     → step_with (Some (instruction_of (Push x))) (board_of u) ≡ outcome_of_core (form_step (Push x) u)
@@ -351,7 +383,7 @@ unfolding effect
 pushes x u c h =
     let on = is_on u.pc u.sp u.flags u.work in
     let t : Core = record (source_read x u) { pc = u.pc + (2 + source_bytes x) } in
-    rw (on, push_half x u c h.0) (pushed_at (source_value x u) u.pc (cycles_of (instruction_of (Push x))) t h.1)
+    rw (on, push_half x u c h.0) (pushed_at (source_value x u) u.pc (cycles_of (instruction_of (Push x))) u.sp t h.1)
 
 sets_stack : (n : ℕ) (u : Core) → IsCodeAddress u.pc → n % 2 ≡ 0
     → step_with (Some (instruction_of (SetStack n))) (board_of u) ≡ outcome_of_core (form_step (SetStack n) u)
@@ -444,12 +476,12 @@ skips_by b u c h =
 
 -- an operation on one register
 modified_half : (f : Width → ℕ → Flags → Operated) (b : WorkRegister) (u : Core) → IsCodeAddress u.pc
-    → read_modify_write machine_bus f Word (mode.Reg (source_register.Index (index_of b))) (regs_in u u.pc) (inside u) ≡
+    → read_modify_write machine_bus f Word (mode.Reg (source_register.Index (index_of b))) (regs_in u u.pc) (inside u.sp u) ≡
     (let o = f Word (u.work (work_number b)) u.flags in Completed (
       register_file (u.pc + 2) u.sp (flags_after o.flags u.flags)
           (put u.work (work_number b) o.value),
       None,
-    ) (inside u))
+    ) (inside u.sp u))
 modified_half f b u c =
     let even = c.even in let high = c.high in
     let a : word_sum u.pc 2 / 2 * 2 ≡ u.pc + 2 = omega arith in
@@ -457,21 +489,21 @@ modified_half f b u c =
     let o = f Word (u.work (work_number b)) u.flags in
     let l = location.Register (reg.Index (index_of b)) in
     let next : Registers → Access MachineBus (Registers × Option Written) =
-    λ r. written_back machine_bus f Word l (r (index_number (index_of b))) (with_register r 0 (word_sum (word_sum u.pc 2) 0)) (inside u) in
-    let last : Registers → ℕ → Access MachineBus (Registers × Option Written) = λ r v. written_back machine_bus f Word l v r (inside u) in
+    λ r. written_back machine_bus f Word l (r (index_number (index_of b))) (with_register r 0 (word_sum (word_sum u.pc 2) 0)) (inside u.sp u) in
+    let last : Registers → ℕ → Access MachineBus (Registers × Option Written) = λ r v. written_back machine_bus f Word l v r (inside u.sp u) in
     let ends : Flags → Access MachineBus (Registers × Option Written) = λ g. store machine_bus
-    (with_flags (regs_in u (u.pc + 2)) (f Word (u.work (work_number b)) g).flags) Word l (f Word (u.work (work_number b)) g).value (inside u) in
+    (with_flags (regs_in u (u.pc + 2)) (f Word (u.work (work_number b)) g).flags) Word l (f Word (u.work (work_number b)) g).value (inside u.sp u) in
     ap next (set_pc u.pc u.sp (word_sum u.pc 2) (u.pc + 2) u.flags u.work a)
     ∙ ap (λ v. last (with_register (regs_in u (u.pc + 2)) 0 (word_sum (word_sum u.pc 2) 0)) v) (got u (u.pc + 2) b)
     ∙ ap (λ r. last r (u.work (work_number b))) (set_pc (u.pc + 2) u.sp (word_sum (word_sum u.pc 2) 0) (u.pc + 2) u.flags u.work d)
     ∙ ap ends (flags_back u.flags)
-    ∙ ap (λ r. store machine_bus r Word l o.value (inside u)) (with_new o.flags u (u.pc + 2))
-    ∙ ap (λ r. Completed (r, None) (inside u)) (up (record u { flags = flags_after o.flags u.flags }) (u.pc + 2) b o.value)
+    ∙ ap (λ r. store machine_bus r Word l o.value (inside u.sp u)) (with_new o.flags u (u.pc + 2))
+    ∙ ap (λ r. Completed (r, None) (inside u.sp u)) (up (record u { flags = flags_after o.flags u.flags }) (u.pc + 2) b o.value)
 
 modified_effect : (m : Modification) (b : WorkRegister) (u : Core) → IsCodeAddress u.pc
-    → effect machine_bus (instruction_of (Modify m b)) (regs_in u u.pc) (inside u) ≡
+    → effect machine_bus (instruction_of (Modify m b)) (regs_in u u.pc) (inside u.sp u) ≡
     (let o = modified m (u.work (work_number b)) u.flags in Completed
-    (register_file (u.pc + 2) u.sp (flags_after o.flags u.flags) (put u.work (work_number b) o.value), None) (inside u))
+    (register_file (u.pc + 2) u.sp (flags_after o.flags u.flags) (put u.work (work_number b) o.value), None) (inside u.sp u))
 unfolding effect
 modified_effect change.Rra b u c = modified_half shifted b u c
 modified_effect change.Rrc b u c = modified_half rotated b u c

@@ -1,6 +1,5 @@
 -- Instructions one after another in FRAM.
 use Rattle.std.specs.Prelude.{◌≡◌, ◌≢◌, ℕ, ◌+◌, ◌*◌, ◌<◌, ◌≤◌, ◌==◌, ◌⊎◌, if◌then◌else◌, List, [], ◌∷◌, ◌++◌, length, Some, None}
-use Rattle.machine_effects.specs.address_space.Limits.{event_port}
 use Rattle.machine_effects.specs.msp_isa.declared.instructions.Instr.{Instr}
 use Rattle.machine_effects.specs.msp_isa.Encoding.{encoding, IsInstruction}
 use Rattle.machine_effects.specs.msp_step.declared.machine.Stop.TheVariants as stop
@@ -39,8 +38,8 @@ abbrev pub IsOutside : ℕ → ℕ → ℕ → ℕ → Type 0
 IsOutside p n a w = (a < p) ⊎ (p + 2 * n ≤ a)
 
 -- no store falls on so many words from p on; it never goes astray, to where no instruction stands or to where an interrupt would be
--- accepted; and it is never at EVENT
+-- accepted; and each access is served
 pub record LeavesCode (p n : ℕ) (r : MachineStretch) : Type 0 where
   pub stores : EachStore (IsOutside p n) r.effects
   pub stands : (price pc word : ℕ) → r.status ≢ Halted price (stop.Illegal pc word)
-  pub unheard : (price pc : ℕ) → r.status ≢ Halted price (stop.Bus pc event_port)
+  pub served : (price pc a : ℕ) → r.status ≢ Halted price (stop.Bus pc a)

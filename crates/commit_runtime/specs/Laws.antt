@@ -32,6 +32,6 @@ CommitIsShort = (m : MemoryMap) (start : ℕ) → 2 * length (words_of (instruct
 abbrev pub CommitIsCode : Type 0
 CommitIsCode = (m : MemoryMap) (start : ℕ) → AreInstructions (instructions (commit_forms m start))
 
--- it stores at words of FRAM in front of where programs end alone
+-- it stores at words of FRAM in front of the handler alone
 abbrev pub CommitStoresInFram : Type 0
 CommitStoresInFram = (m : MemoryMap) (f : ℕ → ℕ) → AreInFram m → CanCommit m f → EachStore (λ a w. IsPlace a) (commit_effects m f)

@@ -2,7 +2,6 @@
 use Rattle.msp_step.specs.declared.machine.Stop.TheVariants as stop
 use Rattle.std.proofs.Common.{◌≡◌, ◌<◌, ◌*◌, ◌/◌, ℕ, length, refl, inl, sym, subst, arith}
 use Rattle.memory_map.proofs.Interface.{apart_of, even_of}
-use Rattle.address_space.specs.Limits.{event_port}
 use Rattle.machine_effects.specs.Machine.{machine_powered}
 use Rattle.code_forms.specs.Forms.{core_of}
 use Rattle.code_forms.specs.Placed.{words_of, IsOutside}
@@ -81,8 +80,8 @@ runs_leave_the_code p l r laws below readings origin x s begins charges t k char
         stands = λ price pc word e.
             let d = stops_short m c laws own readings origin q up n price (stop.Illegal pc word) e in
             let no = d.0 in absurd (cc (no));
-        unheard = λ price pc e.
-            let d = stops_short m c laws own readings origin q up n price (stop.Bus pc event_port) e in
+        served = λ price pc a e.
+            let d = stops_short m c laws own readings origin q up n price (stop.Bus pc a) e in
             let no = d.0 in absurd (cc (no));
       };
       vector = each_weaker P (IsElsewhere 0xFFFE) (λ a w h e. omega (arith, h, e, end, high)) _ stores;

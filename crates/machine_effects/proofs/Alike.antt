@@ -1,4 +1,5 @@
--- The board's bus and the machine's answer alike, unless EVENT is read.
+-- The board's bus and the machine's answer alike, but for what the machine refuses.
+use Rattle.std.proofs.Common.{ltb-true, nat_le}
 use Rattle.std.proofs.Common.{◌≡◌, ◌==◌, ◌&&◌, if◌then◌else◌, cond, nat_lt, ◌≤◌, ◌<◌, ◌+◌, ◌-◌, ◌/◌, ◌%◌, arith, ℕ, zero, suc, refl, sym, ◌∙◌, ap, ap₂, subst}
 use Rattle.std.proofs.Common.{Bool, true, false, List, [], ◌∷◌, ◌++◌, length, drop, slice_index, slice_set, get_or-set_same, get_or-set_other, length-set}
 use Rattle.std.proofs.Common.{inl, inr, eqb-true, eq-eqb, Option, Some, None, Result, Ok, Err}
@@ -11,23 +12,31 @@ use Rattle.fram_board.specs.msp_step.declared.bus.Refused.{Refused}
 use Rattle.fram_board.specs.msp_step.declared.bus.Refused.TheVariants as refused
 use Rattle.fram_board.specs.image_text.ImageValue.{place_of}
 use Rattle.fram_board.specs.Bus.{BusState, IsBusState, board_bus, is_ram, is_fram, is_memory, is_word, ram_place, memory_word, with_word, byte_of, with_byte}
+use Rattle.event_places.specs.Places.{handler_place, is_ring}
 use Rattle.fram_board.specs.Bus.{next_reading, read_of, after_read, written, port_written, sensor_port, number_port, data_port, event_port}
 use Rattle.fram_board.specs.Events.{EventLine, port_word, port_read}
 use Rattle.fram_board.specs.Effects.{Effect, Store, Outside, Offered}
 use Rattle.step_laws.specs.Alike.{ReadAlike, AnswerAlikeUnless, WrittenAlike}
 use Rattle.fram_board.proofs.Interface.{other_is_fram, fram_low}
+use Rattle.machine_effects.proofs.Worlds.{put_other}
 use Rattle.machine_effects.specs.World.{put}
-use Rattle.machine_effects.specs.Inputs.{Inputs}
+use Rattle.machine_effects.specs.Inputs.{Inputs, Look}
 use Rattle.machine_effects.specs.Machine.{MachineBus, machine_bus, machine_word, word_in, word_address, fram_of, ram_of, first_reading, machine_read}
+use Rattle.machine_effects.specs.Machine.{is_readable, ring_read, word_read, word_written}
 use Rattle.machine_effects.specs.Machine.{reading_taken, machine_after_read, machine_stored, machine_port_written, machine_written}
 
 -- what is ready on the board's bus
 abbrev ready_on : BusState → Inputs
 ready_on s = record { readings = drop s.taken s.readings }
 
--- an access that the machine refuses at EVENT
-abbrev pub AtEvent : Refused → ℕ → Type 0
-AtEvent e a = (e ≡ refused.Bus) × (a ≡ event_port)
+-- an access that the machine refuses
+abbrev pub IsRefused : Refused → ℕ → Type 0
+IsRefused e a = e ≡ refused.Bus
+
+-- what the machine sees of the ring is what stands there
+abbrev pub SeesFram : Option Look → List ℕ → Type 0
+SeesFram None words = Unit {0}
+SeesFram (Some look) words = (a : ℕ) → is_ring a ≡ true → look a ≡ fram_of words a
 
 -- the same memory, ports and inputs, with these readings in all, and the port EVENT as it was at first
 pub record SameBus (readings : List ℕ) (begun : EventLine) (s : BusState) (t : MachineBus) : Type 0 where
@@ -38,6 +47,7 @@ pub record SameBus (readings : List ℕ) (begun : EventLine) (s : BusState) (t :
   pub outnum : t.outnum ≡ s.outnum
   pub all : s.readings ≡ readings
   pub line : s.line ≡ begun
+  pub seen : SeesFram t.ring s.fram
 
 -- memory by addresses, from the list of its words; a word written to the list is one written to the function
 abbrev view : (ℕ → Bool) → ℕ → List ℕ → ℕ → ℕ
@@ -109,6 +119,17 @@ fram_at xs a h = ap (λ b. cond b (slice_index xs (place_of (word_address a))) 0
 pub ram_at : (xs : List ℕ) (a : ℕ) → is_ram a ≡ true → ram_of xs (word_address a) ≡ slice_index xs (ram_place a)
 ram_at xs a h = ap (λ b. cond b (slice_index xs (ram_place (word_address a))) 0) (ram_there a h) ∙ ap (λ p. slice_index xs p) (ram_place_same a h)
 
+-- a word of the ring
+is_ring_word : (a : ℕ) → is_ring a ≡ true → (is_ram a ≡ false) × (is_fram a ≡ true)
+is_ring_word a h = (grind (arith, nat_tests), grind (arith, nat_tests))
+
+-- stands behind what a program writes
+behind_handler : (a x : ℕ) → a < handler_place → is_ring x ≡ true → x ≡ word_address a → ⊥
+behind_handler a x low r e = let h : 0xFF6E ≤ x = grind (arith, nat_tests) in let k = (aligned a).high in absurd (omega arith)
+
+even_word : (a : ℕ) → (a % 2 == 0) ≡ true → word_address a ≡ a
+even_word a h = let e : a % 2 ≡ 0 = eqb-true (a % 2) 0 h in omega arith
+
 -- a word written
 put_fram : (xs : List ℕ) (a v : ℕ) → length xs ≡ 24064 → is_fram a ≡ true → put (fram_of xs) (word_address a) v ≡ fram_of (slice_set xs (place_of a) v)
 put_fram xs a v len h =
@@ -125,6 +146,13 @@ put_ram xs a v len h =
     let k = (aligned a).high in
     let within : ram_place (word_address a) < length xs = omega arith in
     put_view is_ram 0x1C00 in_ram xs (word_address a) v (ram_there a h) within ∙ ap (λ p. ram_of (slice_set xs p v)) (ram_place_same a h)
+
+-- a word that a program writes leaves the ring as it was seen
+seen_stored : (o : Option Look) (xs : List ℕ) (a v : ℕ) → length xs ≡ 24064 → is_fram a ≡ true → a < handler_place → SeesFram o xs
+    → SeesFram o (slice_set xs (place_of a) v)
+seen_stored None xs a v len h low sees = tt
+seen_stored (Some look) xs a v len h low sees =
+    λ x r. sees x r ∙ sym (put_other (fram_of xs) (word_address a) v x (behind_handler a x low r)) ∙ ap (λ f. f x) (put_fram xs a v len h)
 
 module _ (readings : List ℕ) (begun : EventLine) where
   word_on : (b : Bool) (s : BusState) (a : ℕ) → is_ram a ≡ b → is_memory a ≡ true
@@ -155,23 +183,51 @@ module _ (readings : List ℕ) (begun : EventLine) where
   next_same : (s : BusState) (t : MachineBus) → SameBus readings begun s t → next_reading s ≡ first_reading t.inputs.readings
   next_same s t h = next_on s.readings s.taken ∙ ap (λ i. first_reading i.readings) (sym h.left)
 
-  read_on : (b c d : Bool) (a x y z : ℕ) (p q : Result ℕ Refused) → (d ≡ true → a ≡ event_port) → (b ≡ true → x ≡ y) → p ≡ q
-      → ReadAlike AtEvent a (if b then Ok x else if c then p else if d then Ok z else Err refused.Bus) (if b then Ok y else if c then q else Err refused.Bus)
-  read_on true c d a x y z p q event h e = inl (ap (λ v. Ok v) (h refl))
-  read_on false true d a x y z p q event h e = inl e
-  read_on false false true a x y z p q event h e = inr (refused.Bus, refl, (refl, event refl))
-  read_on false false false a x y z p q event h e = inl refl
+  -- a word of the ring, which the machine sees or refuses
+  ring_same : (s : BusState) (look : Look) (a : ℕ) → SeesFram (Some look) s.fram → (a % 2 == 0) ≡ true → is_ring a ≡ true → memory_word s a ≡ look a
+  ring_same s look a sees even r =
+      let at = is_ring_word a r in
+      ap (λ b. cond b (slice_index s.ram (ram_place a)) (slice_index s.fram (place_of a))) at.0
+      ∙ sym (fram_at s.fram a at.1)
+      ∙ ap (fram_of s.fram) (even_word a even)
+      ∙ sym (sees a r)
 
-  byte_on : (b : Bool) (a x y : ℕ) → (b ≡ true → x ≡ y)
-      → ◌≡◌ {A = Result ℕ Refused} (if b then Ok (byte_of x a) else Err refused.Bus) (if b then Ok (byte_of y a) else Err refused.Bus)
-  byte_on true a x y h = ap (λ z. Ok (byte_of z a)) (h refl)
-  byte_on false a x y h = refl
+  seen_on : (b : Bool) (a x y : ℕ) → (b ≡ true → x ≡ y) → ReadAlike IsRefused a (Ok x) (if b then Ok y else Err refused.Bus)
+  seen_on true a x y h = inl (ap (λ v. Ok v) (h refl))
+  seen_on false a x y h = inr (refused.Bus, refl, refl)
 
-  reads_same : (s : BusState) (t : MachineBus) (a : ℕ) (w : Width) → SameBus readings begun s t → ReadAlike AtEvent a (read_of s a w) (machine_read t a w)
+  ring_on : (o : Option Look) (s : BusState) (a : ℕ) → SeesFram o s.fram → (a % 2 == 0) ≡ true → ReadAlike IsRefused a (Ok (memory_word s a)) (ring_read o a)
+  ring_on None s a sees even = inr (refused.Bus, refl, refl)
+  ring_on (Some look) s a sees even = seen_on (is_ring a) a (memory_word s a) (look a) (λ r. ring_same s look a sees even r)
+
+  word_by : (b : Bool) (a x y : ℕ) (m : Result ℕ Refused) → x ≡ y → ReadAlike IsRefused a (Ok x) m → ReadAlike IsRefused a (Ok x) (if b then Ok y else m)
+  word_by true a x y m e h = inl (ap (λ v. Ok v) e)
+  word_by false a x y m e h = h
+
+  words_same : (s : BusState) (t : MachineBus) (a : ℕ) → SameBus readings begun s t → is_word a ≡ true
+      → ReadAlike IsRefused a (Ok (memory_word s a)) (word_read t a)
+  words_same s t a h e =
+      let at = and_parts (a % 2 == 0) (is_memory a) e in
+      word_by (is_readable t.floor a) a (memory_word s a) (machine_word t a) (ring_read t.ring a) (word_same s t a h at.1) (ring_on t.ring s a h.seen at.0)
+
+  read_on : (b c d : Bool) (a x z : ℕ) (m p q : Result ℕ Refused) → (b ≡ true → ReadAlike IsRefused a (Ok x) m) → p ≡ q
+      → ReadAlike IsRefused a (if b then Ok x else if c then p else if d then Ok z else Err refused.Bus) (if b then m else if c then q else Err refused.Bus)
+  read_on true c d a x z m p q h e = h refl
+  read_on false true d a x z m p q h e = inl e
+  read_on false false true a x z m p q h e = inr (refused.Bus, refl, refl)
+  read_on false false false a x z m p q h e = inl refl
+
+  byte_on : (b c : Bool) (a x y : ℕ) → (b ≡ true → x ≡ y)
+      → ReadAlike IsRefused a (if b then Ok (byte_of x a) else Err refused.Bus) (if b && c then Ok (byte_of y a) else Err refused.Bus)
+  byte_on true true a x y h = inl (ap (λ z. Ok (byte_of z a)) (h refl))
+  byte_on true false a x y h = inr (refused.Bus, refl, refl)
+  byte_on false c a x y h = inl refl
+
+  reads_same : (s : BusState) (t : MachineBus) (a : ℕ) (w : Width) → SameBus readings begun s t → ReadAlike IsRefused a (read_of s a w) (machine_read t a w)
   reads_same s t a Word h =
-      read_on (is_word a) (a == sensor_port) (a == event_port) a (memory_word s a) (machine_word t a) (port_word s.line.port) (next_reading s)
-      (first_reading t.inputs.readings) (λ e. eqb-true a event_port e) (λ e. word_same s t a h (and_parts (a % 2 == 0) (is_memory a) e).1) (next_same s t h)
-  reads_same s t a Byte h = inl (byte_on (is_memory a) a (memory_word s a) (machine_word t a) (λ e. word_same s t a h e))
+      read_on (is_word a) (a == sensor_port) (a == event_port) a (memory_word s a) (port_word s.line.port) (word_read t a) (next_reading s)
+      (first_reading t.inputs.readings) (λ e. words_same s t a h e) (next_same s t h)
+  reads_same s t a Byte h = byte_on (is_memory a) (is_readable t.floor a) a (memory_word s a) (machine_word t a) (λ e. word_same s t a h e)
 
   -- a reading taken
   drop_next : (xs : List ℕ) (n w : ℕ) (ws : List ℕ) → drop n xs ≡ w ∷ ws → (drop (n + 1) xs ≡ ws) × (n + 1 ≤ length xs)
@@ -198,6 +254,7 @@ module _ (readings : List ℕ) (begun : EventLine) where
         outnum = h.outnum;
         all = h.all;
         line = h.line;
+        seen = h.seen;
       }
 
   at_sensor : (t : MachineBus) (a v : ℕ) → a ≡ sensor_port → machine_read t a Word ≡ Ok v → first_reading t.inputs.readings ≡ Ok v
@@ -221,10 +278,11 @@ module _ (readings : List ℕ) (begun : EventLine) where
   after_same s t a Byte v h r = h
 
   -- writes
-  stored_same : (b : Bool) (s : BusState) (t : MachineBus) (a v : ℕ) (log : List Effect) → is_ram a ≡ b → is_memory a ≡ true → SameBus readings begun s t
+  stored_same : (b : Bool) (s : BusState) (t : MachineBus) (a v : ℕ) (log : List Effect) → is_ram a ≡ b → is_memory a ≡ true
+      → (b ≡ false → a < handler_place) → SameBus readings begun s t
       → SameBus readings begun (if b then record s { ram = slice_set s.ram (ram_place a) v } else record s { fram = slice_set s.fram (place_of a) v })
       (if b then record t { ram = put t.ram (word_address a) v } else record t { fram = put t.fram (word_address a) v; log = log })
-  stored_same true s t a v log e m h =
+  stored_same true s t a v log e m low h =
       let g = h.whole in
       record {
         whole = record { fram = g.fram; ram = length-set s.ram (ram_place a) v ∙ g.ram; taken = g.taken; few = g.few };
@@ -234,8 +292,9 @@ module _ (readings : List ℕ) (begun : EventLine) where
         outnum = h.outnum;
         all = h.all;
         line = h.line;
+        seen = h.seen;
       }
-  stored_same false s t a v log e m h =
+  stored_same false s t a v log e m low h =
       let g = h.whole in
       record {
         whole = record { fram = length-set s.fram (place_of a) v ∙ g.fram; ram = g.ram; taken = g.taken; few = g.few };
@@ -245,14 +304,18 @@ module _ (readings : List ℕ) (begun : EventLine) where
         outnum = h.outnum;
         all = h.all;
         line = h.line;
+        seen = seen_stored t.ring s.fram a v g.fram (other_is_fram a e m) (low refl) h.seen;
       }
 
-  word_stored : (s : BusState) (t : MachineBus) (a v : ℕ) → is_memory a ≡ true → SameBus readings begun s t
+  word_stored : (s : BusState) (t : MachineBus) (a v : ℕ) → is_memory a ≡ true → (is_ram a ≡ false → a < handler_place) → SameBus readings begun s t
       → SameBus readings begun (with_word s a v) (machine_stored t a v)
-  word_stored s t a v m h = stored_same (is_ram a) s t a v (t.log ++ Store (word_address a) v ∷ []) refl m h
+  word_stored s t a v m low h = stored_same (is_ram a) s t a v (t.log ++ Store (word_address a) v ∷ []) refl m low h
+
+  abbrev Alike : Option BusState → Option MachineBus → Type 0
+  Alike x y = WrittenAlike (refused.Bus ≡ refused.Bus) (SameBus readings begun) x y
 
   port_same : (b c : Bool) (s : BusState) (t : MachineBus) (v : ℕ) (log : List Effect) → SameBus readings begun s t
-      → WrittenAlike (SameBus readings begun) (if b then Some (record s { outnum = v }) else if c then Some (record s { offered = Some v }) else None)
+      → Alike (if b then Some (record s { outnum = v }) else if c then Some (record s { offered = Some v }) else None)
       (if b then Some (record t { outnum = v }) else if c then Some (record t { log = log }) else None)
   port_same true c s t v log h =
       let g = h.whole in
@@ -264,6 +327,7 @@ module _ (readings : List ℕ) (begun : EventLine) where
         outnum = refl;
         all = h.all;
         line = h.line;
+        seen = h.seen;
       }
   port_same false true s t v log h =
       let g = h.whole in
@@ -272,35 +336,50 @@ module _ (readings : List ℕ) (begun : EventLine) where
         fram = h.fram;
         ram = h.ram;
         left = h.left;
-        outnum =
-            h.outnum;
+        outnum = h.outnum;
         all = h.all;
         line = h.line;
+        seen = h.seen;
       }
   port_same false false s t v log h = tt
 
-  either : (b : Bool) (x y : Option BusState) (z u : Option MachineBus) → (b ≡ true → WrittenAlike (SameBus readings begun) x z)
-      → WrittenAlike (SameBus readings begun) y u → WrittenAlike (SameBus readings begun) (if b then x else y) (if b then z else u)
+  either : (b : Bool) (x y : Option BusState) (z u : Option MachineBus) → (b ≡ true → Alike x z) → Alike y u
+      → Alike (if b then x else y) (if b then z else u)
   either true x y z u h k = h refl
   either false x y z u h k = k
 
-  byte_stored : (s : BusState) (t : MachineBus) (a v : ℕ) → is_memory a ≡ true → SameBus readings begun s t
+  -- the machine serves a write only where this test holds, too
+  served_if : (b : Bool) (x : BusState) (z : MachineBus) → (b ≡ true → SameBus readings begun x z) → Alike (Some x) (if b then Some z else None)
+  served_if true x z h = h refl
+  served_if false x z h = refl
+
+  either_if : (b c : Bool) (x : BusState) (z : MachineBus) → (b ≡ true → c ≡ true → SameBus readings begun x z)
+      → Alike (if b then Some x else None) (if b && c then Some z else None)
+  either_if true c x z h = served_if c x z (h refl)
+  either_if false c x z h = tt
+
+  -- the word of a byte that is written stands in front of the handler
+  readable_low : (floor a : ℕ) → is_readable floor a ≡ true → is_ram a ≡ false → a < handler_place
+  readable_low floor a h e = ltb-true a handler_place (ap (λ b. cond b (nat_le floor (word_address a)) (nat_lt a handler_place)) (sym e) ∙ h)
+
+  byte_stored : (s : BusState) (t : MachineBus) (a v : ℕ) → is_memory a ≡ true → (is_ram a ≡ false → a < handler_place) → SameBus readings begun s t
       → SameBus readings begun (with_word s a (with_byte (memory_word s a) a v)) (machine_stored t a (with_byte (machine_word t a) a v))
-  byte_stored s t a v m h =
+  byte_stored s t a v m low h =
       subst (λ x. SameBus readings begun (with_word s a (with_byte (memory_word s a) a v)) (machine_stored t a (with_byte x a v))) (word_same s t a h m)
-      (word_stored s t a (with_byte (memory_word s a) a v) m h)
+      (word_stored s t a (with_byte (memory_word s a) a v) m low h)
 
   writes_same : (s : BusState) (t : MachineBus) (a : ℕ) (w : Width) (v : ℕ) → SameBus readings begun s t
-      → WrittenAlike (SameBus readings begun) (written s a w v) (machine_written t a w v)
+      → Alike (written s a w v) (machine_written t a w v)
   writes_same s t a Word v h =
-      either (is_word a) (Some (with_word s a v)) (port_written s a v) (Some (machine_stored t a v)) (machine_port_written t a v)
-      (λ e. word_stored s t a v (and_parts (a % 2 == 0) (is_memory a) e).1 h) (port_same (a == number_port) (a == data_port) s t v
-      (t.log ++ Outside (Offered t.outnum v) ∷ []) h)
+      either (is_word a) (Some (with_word s a v)) (port_written s a v) (word_written t a v) (machine_port_written t a v)
+      (λ e. served_if (nat_lt a handler_place) (with_word s a v) (machine_stored t a v)
+      (λ l. word_stored s t a v (and_parts (a % 2 == 0) (is_memory a) e).1 (λ f. ltb-true a handler_place l) h))
+      (port_same (a == number_port) (a == data_port) s t v (t.log ++ Outside (Offered t.outnum v) ∷ []) h)
   writes_same s t a Byte v h =
-      either (is_memory a) (Some (with_word s a (with_byte (memory_word s a) a v))) None
-      (Some (machine_stored t a (with_byte (machine_word t a) a v))) None (λ e. byte_stored s t a v e h) tt
+      either_if (is_memory a) (is_readable t.floor a) (with_word s a (with_byte (memory_word s a) a v))
+      (machine_stored t a (with_byte (machine_word t a) a v)) (λ e r. byte_stored s t a v e (readable_low t.floor a r) h)
 
-  pub buses_alike : AnswerAlikeUnless AtEvent board_bus machine_bus (SameBus readings begun)
+  pub buses_alike : AnswerAlikeUnless IsRefused board_bus machine_bus (SameBus readings begun)
   buses_alike = record {
     reads = λ s t a w h. reads_same s t a w h;
     after = λ s t a w v h e. after_same s t a w v h e;

@@ -1,9 +1,11 @@
 -- What the machine's bus logs of an instruction: the readings that it takes, and then its one store or its one send.
+use Rattle.std.proofs.Common.{nat_lt, ◌&&◌}
 use Rattle.std.proofs.Common.{◌≡◌, ◌==◌, if◌then◌else◌, ◌%◌, arith, ℕ, refl, sym, ◌∙◌, ap, subst, Bool, true, false, List, [], ◌∷◌, ◌++◌, map, append_assoc}
 use Rattle.std.proofs.Common.{append-nil, eq-eqb, Option, Some, None}
 use Rattle.std.proofs.lemmas.List.{map-append}
 use Rattle.std.proofs.lemmas.Bool.Decides.{nat_tests}
 use Rattle.std.proofs.lemmas.Bool.{and_parts}
+use Rattle.event_places.specs.Places.{handler_place}
 use Rattle.fram_board.specs.alp_words.declared.Width.{Width}
 use Rattle.fram_board.specs.alp_words.declared.Width.TheVariants.{Word, Byte}
 use Rattle.fram_board.specs.msp_isa.declared.instructions.Instr.{Instr}
@@ -22,6 +24,7 @@ use Rattle.fram_board.proofs.Interface.{data_not_fram, other_is_fram, ram_not_fr
 use Rattle.machine_effects.specs.World.{put, fram_after, readings_taken}
 use Rattle.machine_effects.specs.Going.{Goes, Stops}
 use Rattle.machine_effects.specs.Machine.{MachineBus, machine_bus, machine_word, word_address, reading_taken, machine_after_read, machine_stored}
+use Rattle.machine_effects.specs.Machine.{is_readable, word_written}
 use Rattle.machine_effects.specs.Machine.{machine_port_written, machine_written, MachineBoard, machine_opened, MachineOutcome, machine_outcome}
 use Rattle.machine_effects.specs.Machine.{machine_executed, NoInstruction, Executes, standing, step_with, astray, undisturbed}
 use Rattle.machine_effects.specs.Laws.{ChangesByEffects, CodeChangesByEffects, MachineChangesByEffects}
@@ -139,11 +142,12 @@ served false u a v x y g h = h
 
 written_wrote : (u : MachineBus) (a : ℕ) (w : Width) (v : ℕ) → WroteIf u a v (machine_written u a w v)
 written_wrote u a Word v =
-    served (is_word a) u a v (Some (machine_stored u a v)) (machine_port_written u a v)
-    (λ e. stored_wrote (is_ram a) u a v v refl (and_parts (a % 2 == 0) (is_memory a) e).1) (port_wrote (a == number_port) (a == data_port) u a v refl refl)
+    served (is_word a) u a v (word_written u a v) (machine_port_written u a v)
+    (λ e. served (nat_lt a handler_place) u a v (Some (machine_stored u a v)) None
+    (λ l. stored_wrote (is_ram a) u a v v refl (and_parts (a % 2 == 0) (is_memory a) e).1) tt) (port_wrote (a == number_port) (a == data_port) u a v refl refl)
 written_wrote u a Byte v =
-    served (is_memory a) u a v (Some (machine_stored u a (with_byte (machine_word u a) a v))) None
-    (λ e. stored_wrote (is_ram a) u a v (with_byte (machine_word u a) a v) refl e) tt
+    served (is_memory a && is_readable u.floor a) u a v (Some (machine_stored u a (with_byte (machine_word u a) a v))) None
+    (λ e. stored_wrote (is_ram a) u a v (with_byte (machine_word u a) a v) refl (and_parts (is_memory a) (is_readable u.floor a) e).0) tt
 
 -- the effects of the one write of an instruction, if it makes one
 abbrev pub written_effects : Option Written → (ℕ → ℕ) → ℕ → List Effect

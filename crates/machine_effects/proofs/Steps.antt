@@ -1,4 +1,4 @@
--- Each step of a board is a step of the machine that it is, and each step of that is one of the board, unless EVENT is read.
+-- Each step of a board is a step of the machine that it is, and each step of that is one of the board, but for its bus faults.
 use Rattle.std.proofs.Common.{◌≡◌, ◌==◌, if◌then◌else◌, cond, ◌≤◌, ◌<◌, ◌-◌, ◌%◌, arith, ℕ, zero, suc, refl, sym, ◌∙◌, ap, ap₂, subst, Bool, true}
 use Rattle.std.proofs.Common.{◌⊎◌, inl, inr}
 use Rattle.std.proofs.Common.{false, List, [], ◌∷◌, ◌++◌, length, drop, take, slice_index, slice_range, append-nil, Option, Some, None, Err}
@@ -37,12 +37,13 @@ use Rattle.fram_board.specs.Board.{BoardValue, BoardOutcome, IsStep, opened, clo
 use Rattle.fram_board.specs.Effects.{Effect, Store, store_at, sends_of, effects_of}
 use Rattle.fram_board.proofs.Interface.{only_takes, execution_takes}
 use Rattle.machine_effects.specs.Going.{Goes, Stops}
-use Rattle.machine_effects.specs.Machine.{MachineBus, MachineOutcome, machine_bus, machine_opened, machine_closed}
-use Rattle.machine_effects.specs.Machine.{machine_outcome, machine_executed, IsMachineStep, NoInstruction, Executes}
+use Rattle.machine_effects.specs.Inputs.{Look}
+use Rattle.machine_effects.specs.Machine.{MachineBus, MachineOutcome, machine_bus, machine_opened_seeing, machine_opened, machine_closed}
+use Rattle.machine_effects.specs.Machine.{machine_outcome, machine_executed_seeing, machine_executed, IsMachineStep, NoInstruction, Executes}
 use Rattle.machine_effects.specs.Machine.{word_address, fram_of}
-use Rattle.machine_effects.specs.View.{machine_of, IsWhole, IsNextPrice, machine_outcome_of, IsEventFault, IsAtEvent, IsMachines}
-use Rattle.machine_effects.specs.Laws.{BoardStepsAsMachine, MachineStepsAsBoard, MachineStepsInOneWay, StepsAsMachine, StepsToEvent}
-use Rattle.machine_effects.proofs.Alike.{AtEvent, SameBus, buses_alike, fetches_same, fram_at}
+use Rattle.machine_effects.specs.View.{machine_of, IsWhole, IsNextPrice, machine_outcome_of, IsFault, IsBusFault, IsMachines}
+use Rattle.machine_effects.specs.Laws.{BoardStepsAsMachine, MachineStepsAsBoard, LooksAsTheBoard, MachineStepsInOneWay, StepsAsMachine, StepsToFault}
+use Rattle.machine_effects.proofs.Alike.{IsRefused, SeesFram, SameBus, buses_alike, fetches_same, fram_at}
 use Rattle.machine_effects.proofs.Along.{IsClosed, SourceHas, InstructionHas, Gives, effect_gives}
 use Rattle.machine_effects.proofs.Logs.{Took, takes, LoggedBy, effect_logged, offered_by, written_effects, number_no_fram}
 
@@ -67,9 +68,10 @@ module _ {S T : Type 0} (b : BusModel S) (c : BusModel T) (s : S) (t : T) (same 
   current_alike : (r : Registers) (i : Instr) → IsCurrentInstruction b r s i → IsCurrentInstruction c r t i
   current_alike r i h = record { on = h.on; is = h.is; fetched = fetched_alike (encoding i) (r 0) h.fetched }
 
--- the board's bus and the machine's as an instruction begins
-pub begins : (b : BoardValue) → IsWhole b → SameBus b.readings b.line (opened b) (machine_opened (machine_of b))
-begins b h =
+-- the board's bus and the machine's as an instruction begins that sees this of the ring
+begins_seeing : (ring : Option Look) (b : BoardValue) → SeesFram ring b.fram → IsWhole b
+    → SameBus b.readings b.line (opened b) (machine_opened_seeing ring (machine_of b))
+begins_seeing ring b sees h =
     let g = h.board in
     record {
       whole = record { fram = g.fram; ram = g.ram; taken = g.taken; few = g.few };
@@ -79,7 +81,12 @@ begins b h =
       outnum = refl;
       all = refl;
       line = refl;
+      seen = sees;
     }
+
+-- that may not look there
+pub begins : (b : BoardValue) → IsWhole b → SameBus b.readings b.line (opened b) (machine_opened (machine_of b))
+begins b h = begins_seeing None b tt h
 
 fetches : (b : BoardValue) → IsWhole b → (a : ℕ) → board_bus.fetches (opened b) a ≡ machine_bus.fetches (machine_opened (machine_of b)) a
 fetches b h a = fetches_same b.readings b.line (opened b) (machine_opened (machine_of b)) a (begins b h)
@@ -241,20 +248,16 @@ left_same : (b : BoardValue) (t : MachineBus) (s : BusState) → SameBus b.readi
 left_same b t s h = ap (λ i. i.readings) h.left ∙ ap (λ l. drop s.taken l) h.all
 
 -- of the two accesses of an instruction
-module _ (b : BoardValue) (i : Instr) where
+module _ (b : BoardValue) (i : Instr) (ring : Option Look) where
   abbrev outcome : Access BusState (Registers × Option Written) → BoardOutcome
   outcome m = board_outcome b (outcome_of i (registers_of b.cpu) m)
 
   -- what the machine made of the instruction, of the board's outcome
   abbrev SameOutcome : BoardOutcome → MachineOutcome → Type 0
-  SameOutcome x o = IsAtEvent o ⊎ ((o ≡ machine_outcome_of b x (cycles_of i)) × (x.board.line ≡ b.line))
-
-  as_machines : SameOutcome (executed b i) (machine_executed (machine_of b) i) → IsAtEvent (machine_executed (machine_of b) i) ⊎ IsMachines b i
-  as_machines (inl at) = inl at
-  as_machines (inr h) = inr (record { step = h.0; line = h.1 })
+  SameOutcome x o = IsBusFault o ⊎ ((o ≡ machine_outcome_of b x (cycles_of i)) × (x.board.line ≡ b.line))
 
   refused_same : (e f : Refused) (a c : ℕ) (s : BusState) (t : MachineBus) → (e ≡ f) × (a ≡ c) × SameBus b.readings b.line s t → s.offered ≡ None
-      → Took (machine_opened (machine_of b)) t → b.taken ≤ s.taken
+      → Took (machine_opened_seeing ring (machine_of b)) t → b.taken ≤ s.taken
       → machine_outcome (registers_of b.cpu 0) (cycles_of i) (Faulted f c t) ≡ machine_outcome_of b (outcome (Faulted e a s)) (cycles_of i)
   refused_same e f a c s t same off log le =
       let h = same.2 in
@@ -266,11 +269,11 @@ module _ (b : BoardValue) (i : Instr) where
       ap₂ (λ r x. stop_of (registers_of b.cpu 0) r x) (sym same.0) (sym same.1) in
       ap₂ (λ es x. Stops es (cycles_of i) x) effects same_stop_of
 
-  event_stop : (pc a : ℕ) (f : Refused) → AtEvent f a → IsEventFault (stop_of pc f a)
-  event_stop pc a f at = subst (λ r. IsEventFault (stop_of pc r a)) (sym at.0) at.1
+  refused_stop : (pc a : ℕ) (f : Refused) → IsRefused f a → IsFault (stop_of pc f a)
+  refused_stop pc a f at = subst (λ r. IsFault (stop_of pc r a)) (sym at) tt
 
   same_outcome : (m : Access BusState (Registers × Option Written)) (n : Access MachineBus (Registers × Option Written))
-      → AlikeUnless AtEvent (SameBus b.readings b.line) m n → OfferedBy m → LoggedBy (machine_opened (machine_of b)) n
+      → AlikeUnless IsRefused (SameBus b.readings b.line) m n → OfferedBy m → LoggedBy (machine_opened_seeing ring (machine_of b)) n
       → Gives (λ s. Unit {0}) (λ y. IsFile y.0) m → b.taken ≤ (outcome m).board.taken
       → SameOutcome (outcome m) (machine_outcome (registers_of b.cpu 0) (cycles_of i) n)
   same_outcome (Completed x s) (Completed y t) same off log file le =
@@ -284,24 +287,38 @@ module _ (b : BoardValue) (i : Instr) where
       let effects : t.log ≡ effects_of b (outcome (Completed x s)) = log.log ∙ ap₂ (λ k l. takes k ++ l) words wrote in
       let next = same_machine x.0 y.0 t s b (ap (λ z. z.0) same.0) file.0 h in
       inr (ap₂ (λ es u. Goes es (cycles_of i) u) effects next, h.line)
-  same_outcome (Faulted e a s) (Faulted f c t) (inl at) off log file le = inl (event_stop (registers_of b.cpu 0) c f at)
+  same_outcome (Faulted e a s) (Faulted f c t) (inl at) off log file le = inl (refused_stop (registers_of b.cpu 0) c f at)
   same_outcome (Faulted e a s) (Faulted f c t) (inr same) off log file le = inr (refused_same e f a c s t same off log le, same.2.line)
-  same_outcome (Completed x s) (Faulted f c t) at off log file le = inl (event_stop (registers_of b.cpu 0) c f at)
+  same_outcome (Completed x s) (Faulted f c t) at off log file le = inl (refused_stop (registers_of b.cpu 0) c f at)
   same_outcome (Faulted e a s) (Completed y t) same off log file le = elim same [ ]
 
--- an instruction at PC does the same on both, and leaves the port EVENT, or the machine ends there
-pub executed_same : (b : BoardValue) (i : Instr) → IsWhole b → IsAtEvent (machine_executed (machine_of b) i) ⊎ IsMachines b i
-executed_same b i h =
-    let r = registers_of b.cpu in
-    let m = effect board_bus i r (opened b) in
-    let n = effect machine_bus i r (machine_opened (machine_of b)) in
-    as_machines b i (same_outcome b i m n
-    (effect_alike BusState MachineBus board_bus machine_bus AtEvent (SameBus b.readings b.line) (buses_alike b.readings b.line) i r (opened b)
-    (machine_opened (machine_of b)) (begins b h))
-    (ends_offered (opened b) m refl (effect_ends board_bus i r (opened b)))
-    (effect_logged i r (machine_opened (machine_of b)))
-    (effect_gives board_bus (λ v. Unit {0}) IsFile (λ s. Unit {0}) file_closed i r (opened b) (instruction_free i) (whole_file b h) tt)
-    (execution_takes i r (opened b)).from)
+  -- an instruction at PC does the same on both, where what it sees of the ring is the board's, and leaves the port EVENT, or the
+  -- machine ends by a bus fault
+  same_seeing : SeesFram ring b.fram → IsWhole b → SameOutcome (executed b i) (machine_executed_seeing ring (machine_of b) i)
+  same_seeing sees h =
+      let r = registers_of b.cpu in
+      let t = machine_opened_seeing ring (machine_of b) in
+      let m = effect board_bus i r (opened b) in
+      same_outcome m (effect machine_bus i r t)
+      (effect_alike BusState MachineBus board_bus machine_bus IsRefused (SameBus b.readings b.line) (buses_alike b.readings b.line) i r (opened b) t
+      (begins_seeing ring b sees h))
+      (ends_offered (opened b) m refl (effect_ends board_bus i r (opened b)))
+      (effect_logged i r t)
+      (effect_gives board_bus (λ v. Unit {0}) IsFile (λ s. Unit {0}) file_closed i r (opened b) (instruction_free i) (whole_file b h) tt)
+      (execution_takes i r (opened b)).from
+
+-- an instruction that sees the board's ring
+pub looks_as_the_board : LooksAsTheBoard
+looks_as_the_board b i h = same_seeing b i (Some (fram_of b.fram)) (λ a r. refl) h
+
+as_machines : (b : BoardValue) (i : Instr) → SameOutcome b i None (executed b i) (machine_executed (machine_of b) i)
+    → IsBusFault (machine_executed (machine_of b) i) ⊎ IsMachines b i
+as_machines b i (inl at) = inl at
+as_machines b i (inr h) = inr (record { step = h.0; line = h.1 })
+
+-- and one that may not look there
+pub executed_same : (b : BoardValue) (i : Instr) → IsWhole b → IsBusFault (machine_executed (machine_of b) i) ⊎ IsMachines b i
+executed_same b i h = as_machines b i (same_seeing b i None tt h)
 
 -- a step that is stopped takes nothing
 none_taken : (xs : List ℕ) (n : ℕ) → slice_range xs n n ≡ []
@@ -323,9 +340,9 @@ pub current_to_machine : (b : BoardValue) (i : Instr) → IsWhole b → IsNextIn
 current_to_machine b i h g = Executes i (current_alike board_bus machine_bus (opened b) (machine_opened (machine_of b)) (fetches b h) (registers_of b.cpu) i g)
 
 abbrev AsMachine : BoardValue → BoardOutcome → Type 0
-AsMachine b x = StepsAsMachine b x ⊎ StepsToEvent b
+AsMachine b x = StepsAsMachine b x ⊎ StepsToFault b
 
-executed_as_machine : (b : BoardValue) (i : Instr) → IsWhole b → IsNextInstruction b i → IsAtEvent (machine_executed (machine_of b) i) ⊎ IsMachines b i
+executed_as_machine : (b : BoardValue) (i : Instr) → IsWhole b → IsNextInstruction b i → IsBusFault (machine_executed (machine_of b) i) ⊎ IsMachines b i
     → AsMachine b (executed b i)
 executed_as_machine b i h g (inl at) = inr (machine_executed (machine_of b) i, current_to_machine b i h g, at)
 executed_as_machine b i h g (inr same) = inl (record {
@@ -349,10 +366,10 @@ board_steps_as_machine b x h is = subst (λ y. AsMachine b y) (sym is.2) (step_a
 
 -- what MachineStepsAsBoard says of one outcome
 abbrev AsBoard : BoardValue → MachineOutcome → Type 0
-AsBoard b o = IsAtEvent o
+AsBoard b o = IsBusFault o
     ⊎ ((x : BoardOutcome) × (price : ℕ) × IsStep b x × IsNextPrice b price × (o ≡ machine_outcome_of b x price) × (x.board.line ≡ b.line))
 
-back_to_board : (b : BoardValue) (i : Instr) → IsNextInstruction b i → IsAtEvent (machine_executed (machine_of b) i) ⊎ IsMachines b i
+back_to_board : (b : BoardValue) (i : Instr) → IsNextInstruction b i → IsBusFault (machine_executed (machine_of b) i) ⊎ IsMachines b i
     → AsBoard b (machine_executed (machine_of b) i)
 back_to_board b i g (inl at) = inl at
 back_to_board b i g (inr same) = inr (executed b i, cycles_of i, (_, Executed i g, refl), inl (i, g, refl), same.step, same.line)

@@ -29,6 +29,7 @@ use Rattle.step_laws.specs.Effects.{IsValid}
 use Rattle.step_laws.specs.Effects as laws
 use Rattle.step_laws.proofs.Interface.{stays_valid}
 use Rattle.fram_board.specs.address_space.Limits.{event_vector}
+use Rattle.event_places.specs.Places.{handler_place, is_ring}
 use Rattle.fram_board.specs.image_text.ImageValue.{place_of}
 use Rattle.fram_board.specs.Bus.{BusState, IsBusState, board_bus, is_ram, is_fram, is_memory, is_word, ram_place, memory_word, with_word, with_byte, byte_of}
 use Rattle.fram_board.specs.Bus.{next_reading, read_of, after_read, written, port_written, sensor_port, number_port, data_port, event_port}
@@ -42,9 +43,10 @@ use Rattle.fram_board.specs.Run.{Measure, price, RunOutcome, ChargeRun}
 use Rattle.fram_board.specs.Run as run
 use Rattle.fram_board.proofs.Interface.{power_up_leaves_a_board}
 use Rattle.machine_effects.specs.World.{put}
-use Rattle.machine_effects.specs.Inputs.{InputsAreWords}
+use Rattle.machine_effects.specs.Inputs.{Look, InputsAreWords}
 use Rattle.machine_effects.specs.Going.{Goes, Stops}
 use Rattle.machine_effects.specs.Machine.{MachineBus, MachineBoard, MachineOutcome, machine_bus, machine_word, word_address, first_reading, machine_read}
+use Rattle.machine_effects.specs.Machine.{is_readable, ring_read, word_read, word_written}
 use Rattle.machine_effects.specs.Machine.{reading_taken, machine_after_read, machine_stored, machine_port_written, machine_written, machine_opened}
 use Rattle.machine_effects.specs.Machine.{machine_outcome, machine_executed, NoInstruction, Executes, standing, step_with, astray, undisturbed}
 use Rattle.machine_effects.specs.View.{IsWhole, IsLineOfWords, IsOfWords, IsMachineOfWords}
@@ -57,12 +59,18 @@ use Rattle.machine_effects.proofs.Steps.{instruction_free}
 use Rattle.machine_effects.proofs.Values.{AreSmall, narrow_small, sum_small, constant_small, status_small, two_small, rotate_small, shift_small}
 use Rattle.machine_effects.proofs.Values.{exchange_small, extend_small, byte_small, bytes_small, kept_small, with_small}
 
+-- what is seen of the ring are words
+abbrev SeesWords : Option Look → Type 0
+SeesWords None = Unit {0}
+SeesWords (Some look) = (a : ℕ) → IsWord (look a)
+
 -- what the machine's bus holds are words
 record OfWords (t : MachineBus) : Type 0 where
   pub fram : (a : ℕ) → IsWord (t.fram a)
   pub ram : (a : ℕ) → IsWord (t.ram a)
   pub inputs : InputsAreWords t.inputs
   pub outnum : IsWord t.outnum
+  pub ring : SeesWords t.ring
 
 either_small : (b : Bool) (x y : ℕ) → IsWord x → IsWord y → IsWord (if b then x else y)
 either_small true x y h k = h
@@ -96,16 +104,33 @@ sensed_on false v o k e = absurd cc
 no_word : (v : ℕ) → ◌≡◌ {A = Result ℕ Refused} (Err refused.Bus) (Ok v) → IsWord v
 no_word v e = absurd cc
 
+ring_on : (b : Bool) (x v : ℕ) → IsWord x → ◌≡◌ {A = Result ℕ Refused} (if b then Ok x else Err refused.Bus) (Ok v) → IsWord v
+ring_on true x v h e = let same : x ≡ v = cc in subst IsWord same h
+ring_on false x v h e = absurd cc
+
+ring_small : (o : Option Look) (a v : ℕ) → SeesWords o → ring_read o a ≡ Ok v → IsWord v
+ring_small None a v h e = absurd cc
+ring_small (Some look) a v h e = ring_on (is_ring a) (look a) v (h a) e
+
+read_on : (b : Bool) (v : ℕ) (m o : Result ℕ Refused) → (m ≡ Ok v → IsWord v) → (o ≡ Ok v → IsWord v) → (if b then m else o) ≡ Ok v → IsWord v
+read_on true v m o h k e = h e
+read_on false v m o h k e = k e
+
+word_read_small : (t : MachineBus) (a v : ℕ) → OfWords t → word_read t a ≡ Ok v → IsWord v
+word_read_small t a v q e =
+    ok_on (is_readable t.floor a) (machine_word t a) v (ring_read t.ring a) (word_small t a q) (λ g. ring_small t.ring a v q.ring g) e
+
 machine_read_small : (t : MachineBus) (a : ℕ) (w : Width) (v : ℕ) → OfWords t → machine_read t a w ≡ Ok v → IsWord v
 machine_read_small t a Word v q e =
-    ok_on (is_word a) (machine_word t a) v _ (word_small t a q) (λ g. sensed_on (a == sensor_port) v (first_reading t.inputs.readings)
+    read_on (is_word a) v (word_read t a) _ (λ g. word_read_small t a v q g) (λ g. sensed_on (a == sensor_port) v (first_reading t.inputs.readings)
     (λ r. first_small t.inputs.readings v q.inputs.readings r) g) e
 machine_read_small t a Byte v q e =
-    ok_on (is_memory a) (byte_of (machine_word t a) a) v _ (byte_small (machine_word t a) a (word_small t a q)) (λ g. no_word v g) e
+    ok_on (is_memory a && is_readable t.floor a) (byte_of (machine_word t a) a) v _ (byte_small (machine_word t a) a (word_small t a q)) (λ g. no_word v g) e
 
 taken_words : (ws : List ℕ) (t : MachineBus) → All (λ x. x < 0x10000) ws → OfWords t → OfWords (reading_taken ws t)
 taken_words [] t h q = q
-taken_words (w ∷ ws) t h q = record { fram = q.fram; ram = q.ram; inputs = record { readings = all_tail w ws h }; outnum = q.outnum }
+taken_words (w ∷ ws) t h q =
+    record { fram = q.fram; ram = q.ram; inputs = record { readings = all_tail w ws h }; outnum = q.outnum; ring = q.ring }
 
 after_words : (b : Bool) (t : MachineBus) → OfWords t → OfWords (if b then reading_taken t.inputs.readings t else t)
 after_words true t q = taken_words t.inputs.readings t q.inputs.readings q
@@ -117,8 +142,10 @@ machine_after_words t a Byte q = q
 
 stored_words : (b : Bool) (t : MachineBus) (log : List Effect) (a v : ℕ) → IsWord v → OfWords t
     → OfWords (if b then record t { ram = put t.ram a v } else record t { fram = put t.fram a v; log = log })
-stored_words true t log a v h q = record { fram = q.fram; ram = put_small t.ram a v h q.ram; inputs = q.inputs; outnum = q.outnum }
-stored_words false t log a v h q = record { fram = put_small t.fram a v h q.fram; ram = q.ram; inputs = q.inputs; outnum = q.outnum }
+stored_words true t log a v h q =
+    record { fram = q.fram; ram = put_small t.ram a v h q.ram; inputs = q.inputs; outnum = q.outnum; ring = q.ring }
+stored_words false t log a v h q =
+    record { fram = put_small t.fram a v h q.fram; ram = q.ram; inputs = q.inputs; outnum = q.outnum; ring = q.ring }
 
 abbrev WordsIf : Option MachineBus → Type 0
 WordsIf None = Unit {0}
@@ -130,16 +157,19 @@ if_some false x y h k = k
 
 port_words : (t : MachineBus) (a v : ℕ) → IsWord v → OfWords t → WordsIf (machine_port_written t a v)
 port_words t a v h q =
-    if_some (a == number_port) (Some (record t { outnum = v })) _ (record { fram = q.fram; ram = q.ram; inputs = q.inputs; outnum = h })
-    (if_some (a == data_port) (Some _) None (record { fram = q.fram; ram = q.ram; inputs = q.inputs; outnum = q.outnum }) tt)
+    if_some (a == number_port) (Some (record t { outnum = v })) _
+    (record { fram = q.fram; ram = q.ram; inputs = q.inputs; outnum = h; ring = q.ring })
+    (if_some (a == data_port) (Some _) None (record { fram = q.fram; ram = q.ram; inputs = q.inputs; outnum = q.outnum; ring = q.ring }) tt)
 
 written_words : (t : MachineBus) (a : ℕ) (w : Width) (v : ℕ) → IsWord v → OfWords t → WordsIf (machine_written t a w v)
 written_words t a Word v h q =
-    if_some (is_word a) (Some (machine_stored t a v)) (machine_port_written t a v)
-    (stored_words (is_ram a) t (t.log ++ Store (word_address a) v ∷ []) (word_address a) v h q) (port_words t a v h q)
+    if_some (is_word a) (word_written t a v) (machine_port_written t a v)
+    (if_some (nat_lt a handler_place) (Some (machine_stored t a v)) None
+    (stored_words (is_ram a) t (t.log ++ Store (word_address a) v ∷ []) (word_address a) v h q) tt) (port_words t a v h q)
 written_words t a Byte v h q =
     let x = with_byte (machine_word t a) a v in
-    if_some (is_memory a) (Some (machine_stored t a x)) None (stored_words (is_ram a) t (t.log ++ Store (word_address a) x ∷ []) (word_address a) x
+    if_some (is_memory a && is_readable t.floor a) (Some (machine_stored t a x)) None
+    (stored_words (is_ram a) t (t.log ++ Store (word_address a) x ∷ []) (word_address a) x
     (bytes_small (machine_word t a) a v (word_small t a q)) q) tt
 
 machine_write_words : (t : MachineBus) (a : ℕ) (w : Width) (v : ℕ) (u : MachineBus) → OfWords t → IsWord v → machine_written t a w v ≡ Some u → OfWords u
@@ -210,7 +240,7 @@ outcome_words pc c (Completed x t) h = let q = h.1 in record { registers = h.0; 
 outcome_words pc c (Faulted e a t) h = tt
 
 opened_words : (s : MachineBoard) → IsMachineOfWords s → OfWords (machine_opened s)
-opened_words s h = record { fram = h.fram; ram = h.ram; inputs = h.inputs; outnum = h.outnum }
+opened_words s h = record { fram = h.fram; ram = h.ram; inputs = h.inputs; outnum = h.outnum; ring = tt }
 
 executed_words : (s : MachineBoard) (i : Instr) → IsMachineOfWords s → InstructionHas IsWord i → LeavesWords (machine_executed s i)
 executed_words s i h k =

@@ -3,6 +3,10 @@ use Rattle.std.specs.Prelude.{ℕ, ◌≡◌, ◌<◌, List, [], ◌++◌, All, 
 use Rattle.fram_board.specs.Effects.{Effect}
 use Rattle.machine_effects.specs.World.{readings_taken}
 
+-- what an instruction that looks at HEAD and the ring sees there, by address
+abbrev pub Look : Type 0
+Look = ℕ → ℕ
+
 -- what is ready for the ports whose reads take something
 pub record Inputs : Type 0 where
   pub readings : List ℕ  -- the readings that are left

@@ -3,10 +3,11 @@ use Rattle.std.specs.Prelude.{ℕ, ◌≡◌, ◌<◌, ◌≤◌, ◌⊎◌, Lis
 use Rattle.fram_board.specs.address_space.Limits.{fram_words}
 use Rattle.fram_board.specs.msp_isa.declared.instructions.Instr.{Instr}
 use Rattle.fram_board.specs.msp_isa.Encoding.{encoding}
+use Rattle.fram_board.specs.msp_cycles.Cycles.{cycles_of}
 use Rattle.fram_board.specs.msp_step.Registers.{registers_of, powered_up}
 use Rattle.fram_board.specs.declared.board.NextStep.{NextStep}
 use Rattle.fram_board.specs.declared.board.Stepped.{Stepped}
-use Rattle.fram_board.specs.Board.{BoardValue, BoardOutcome, IsStep, PowerState, powered, fresh, vector_of, acceptance, performed, at_boundary}
+use Rattle.fram_board.specs.Board.{BoardValue, BoardOutcome, IsStep, PowerState, powered, fresh, vector_of, executed, acceptance, performed, at_boundary}
 use Rattle.fram_board.specs.Saved.{TakesNextBehind}
 use Rattle.fram_board.specs.Steps.{IsPowerState}
 use Rattle.fram_board.specs.Effects.{Effect}
@@ -14,8 +15,8 @@ use Rattle.fram_board.specs.Run.{Measure, moment_of, RunOutcome, ChargeRun, acce
 use Rattle.machine_effects.specs.World.{World, fram_after, accepted_after, world_after}
 use Rattle.machine_effects.specs.Inputs.{Inputs, TakesExactly}
 use Rattle.machine_effects.specs.Going.{Goes, Stops}
-use Rattle.machine_effects.specs.Machine.{MachineBoard, MachineOutcome, IsMachineStep, Code, exec, fram_of, machine_powered}
-use Rattle.machine_effects.specs.View.{machine_of, IsWhole, IsOfWords, IsMachineOfWords, IsNextPrice, machine_outcome_of, IsAtEvent}
+use Rattle.machine_effects.specs.Machine.{MachineBoard, MachineOutcome, machine_executed_seeing, IsMachineStep, Code, exec, fram_of, machine_powered}
+use Rattle.machine_effects.specs.View.{machine_of, IsWhole, IsOfWords, IsMachineOfWords, IsNextPrice, machine_outcome_of, IsBusFault}
 use Rattle.machine_effects.specs.Runs.{action_effects, moments_effects}
 
 -- a step of the board is the machine's step of its view, with the board's effects and cycles, and leaves the port EVENT; a stop
@@ -26,18 +27,23 @@ pub record StepsAsMachine (b : BoardValue) (x : BoardOutcome) : Type 0 where
   pub step : IsMachineStep (machine_of b) (machine_outcome_of b x price)
   pub line : x.board.line ≡ b.line
 
--- the view of a board steps to EVENT
-abbrev pub StepsToEvent : BoardValue → Type 0
-StepsToEvent b = (o : MachineOutcome) × IsMachineStep (machine_of b) o × IsAtEvent o
+-- the view of a board steps to a bus fault
+abbrev pub StepsToFault : BoardValue → Type 0
+StepsToFault b = (o : MachineOutcome) × IsMachineStep (machine_of b) o × IsBusFault o
 
--- where no acceptance is due, each step of a board is the machine's, or the machine's ends at EVENT
+-- where no acceptance is due, each step of a board is the machine's, or the machine's ends by a bus fault
 abbrev pub BoardStepsAsMachine : Type 0
-BoardStepsAsMachine = (b : BoardValue) (x : BoardOutcome) → IsWhole b → IsStep b x → StepsAsMachine b x ⊎ StepsToEvent b
+BoardStepsAsMachine = (b : BoardValue) (x : BoardOutcome) → IsWhole b → IsStep b x → StepsAsMachine b x ⊎ StepsToFault b
 
--- and each step of the view that doesn't end there is the board's
+-- and each step of the view that doesn't end so is the board's
 abbrev pub MachineStepsAsBoard : Type 0
-MachineStepsAsBoard = (b : BoardValue) (o : MachineOutcome) → IsWhole b → IsMachineStep (machine_of b) o → IsAtEvent o
+MachineStepsAsBoard = (b : BoardValue) (o : MachineOutcome) → IsWhole b → IsMachineStep (machine_of b) o → IsBusFault o
     ⊎ ((x : BoardOutcome) × (price : ℕ) × IsStep b x × IsNextPrice b price × (o ≡ machine_outcome_of b x price) × (x.board.line ≡ b.line))
+
+-- an instruction that sees what the board holds in the ring does as on the board, or ends by a bus fault
+abbrev pub LooksAsTheBoard : Type 0
+LooksAsTheBoard = (b : BoardValue) (i : Instr) → IsWhole b → let o = machine_executed_seeing (Some (fram_of b.fram)) (machine_of b) i in
+    IsBusFault o ⊎ ((o ≡ machine_outcome_of b (executed b i) (cycles_of i)) × ((executed b i).board.line ≡ b.line))
 
 -- the machine steps in one way
 abbrev pub MachineStepsInOneWay : Type 0

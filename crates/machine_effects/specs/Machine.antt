@@ -1,10 +1,13 @@
 -- The machine: the board with memory as functions of addresses, without its receiver, whose words are read off the effects,
 -- and without the port EVENT, so that it accepts no interrupt. Its bus keeps a log of what an instruction does to FRAM, the
 -- sensor and the receiver. Its instructions, their effects and cycles are those of every bus (SLAU049 and SLAU144, CPU chapter).
-use Rattle.std.specs.Prelude.{ℕ, ◌-◌, ◌%◌, ◌≡◌, ◌<◌, ◌≤◌, ◌==◌, ◌&&◌, if◌then◌else◌, slice_index, List, [], ◌∷◌, ◌++◌, Result, Ok, Err, Option}
-use Rattle.std.specs.Prelude.{Some, None}
-use Rattle.fram_board.specs.address_space.Limits.{ram_first, ram_end, fram_first, program_end, reset_vector}
+-- What a handler may change between any two instructions of a program, the machine can't depend on: its bus refuses reads of RAM
+-- below SP and of FRAM from the handler on, and writes of a byte in that RAM and of anything in that FRAM.
+use Rattle.std.specs.Prelude.{ℕ, ◌-◌, ◌%◌, ◌≡◌, ◌<◌, ◌≤◌, Bool, nat_le, nat_lt, ◌==◌, ◌&&◌, if◌then◌else◌, slice_index, List, [], ◌∷◌, ◌++◌}
+use Rattle.std.specs.Prelude.{Result, Ok, Err, Option, Some, None}
+use Rattle.fram_board.specs.address_space.Limits.{ram_first, ram_end, fram_first, reset_vector}
 pub use Rattle.fram_board.specs.address_space.Limits.{IsFramWord as IsFram}
+use Rattle.event_places.specs.Places.{handler_place, is_ring}
 use Rattle.fram_board.specs.alp_words.declared.Width.{Width}
 use Rattle.fram_board.specs.alp_words.declared.Width.TheVariants.{Word, Byte}
 use Rattle.fram_board.specs.msp_isa.declared.instructions.Instr.{Instr}
@@ -22,7 +25,7 @@ use Rattle.fram_board.specs.Bus.{ram_place, is_ram, is_fram, is_memory, is_word,
 use Rattle.fram_board.specs.Board.{PowerState}
 use Rattle.fram_board.specs.Effects.{Effect, Store, Take, Outside, Offered}
 use Rattle.machine_effects.specs.World.{put}
-use Rattle.machine_effects.specs.Inputs.{Inputs}
+use Rattle.machine_effects.specs.Inputs.{Inputs, Look}
 use Rattle.machine_effects.specs.Going.{StepOutcome, Goes, Stops, Stretch}
 
 -- memory and ports during one instruction, and what it did so far
@@ -32,6 +35,8 @@ pub record MachineBus : Type 0 where
   pub inputs : Inputs
   pub outnum : ℕ  -- the word last written to OUTNUM
   pub log : List Effect
+  pub floor : ℕ  -- SP as the instruction began: no word of RAM below it is read
+  pub ring : Option Look  -- what the instruction sees of HEAD and the ring, where it may look there
 
 -- the address of the word to which a byte belongs
 abbrev pub word_address : ℕ → ℕ
@@ -54,13 +59,26 @@ abbrev pub first_reading : List ℕ → Result ℕ Refused
 first_reading [] = Err refused.NoReading
 first_reading (w ∷ ws) = Ok w
 
--- a read is served in memory, of a word at an even address; and a word read at SENSOR
+-- the addresses of memory that a program may read: those of RAM from the floor on, and of FRAM in front of the handler
+abbrev pub is_readable : ℕ → ℕ → Bool
+is_readable floor a = if is_ram a then nat_le floor (word_address a) else nat_lt a handler_place
+
+-- what is seen at an address of HEAD and the ring
+abbrev pub ring_read : Option Look → ℕ → Result ℕ Refused
+ring_read None a = Err refused.Bus
+ring_read (Some look) a = if is_ring a then Ok (look a) else Err refused.Bus
+
+-- what a word of memory is read as
+abbrev pub word_read : MachineBus → ℕ → Result ℕ Refused
+word_read s a = if is_readable s.floor a then Ok (machine_word s a) else ring_read s.ring a
+
+-- a read is served where memory is readable, of a word at an even address; and a word read at SENSOR
 abbrev pub machine_read : MachineBus → ℕ → Width → Result ℕ Refused
 machine_read s a Word =
-    if is_word a then Ok (machine_word s a)
+    if is_word a then word_read s a
     else if a == sensor_port then first_reading s.inputs.readings
     else Err refused.Bus
-machine_read s a Byte = if is_memory a then Ok (byte_of (machine_word s a) a) else Err refused.Bus
+machine_read s a Byte = if is_memory a && is_readable s.floor a then Ok (byte_of (machine_word s a) a) else Err refused.Bus
 
 -- the first of the readings left is taken
 abbrev pub reading_taken : List ℕ → MachineBus → MachineBus
@@ -85,10 +103,15 @@ machine_port_written s a v =
     else if a == data_port then Some (record s { log = s.log ++ Outside (Offered s.outnum v) ∷ [] })
     else None
 
--- a write is served in memory, of a word at an even address; and a word written to OUTNUM or OUTDATA
+-- a word of memory is written in front of the handler alone
+abbrev pub word_written : MachineBus → ℕ → ℕ → Option MachineBus
+word_written s a v = if nat_lt a handler_place then Some (machine_stored s a v) else None
+
+-- a write is served in memory in front of the handler, of a word at an even address, of a byte where its word may be read, since
+-- half of that stays; and a word written to OUTNUM or OUTDATA
 abbrev pub machine_written : MachineBus → ℕ → Width → ℕ → Option MachineBus
-machine_written s a Word v = if is_word a then Some (machine_stored s a v) else machine_port_written s a v
-machine_written s a Byte v = if is_memory a then Some (machine_stored s a (with_byte (machine_word s a) a v)) else None
+machine_written s a Word v = if is_word a then word_written s a v else machine_port_written s a v
+machine_written s a Byte v = if is_memory a && is_readable s.floor a then Some (machine_stored s a (with_byte (machine_word s a) a v)) else None
 
 -- the machine's bus
 abbrev pub machine_bus : BusModel MachineBus
@@ -108,9 +131,14 @@ pub record MachineBoard : Type 0 where
   pub inputs : Inputs
   pub outnum : ℕ
 
--- its bus as an instruction begins: the log is empty
+-- its bus as an instruction begins that sees this of the ring: the log is empty
+abbrev pub machine_opened_seeing : Option Look → MachineBoard → MachineBus
+machine_opened_seeing ring s = record
+    { fram = s.fram; ram = s.ram; inputs = s.inputs; outnum = s.outnum; log = []; floor = s.registers 1; ring = ring }
+
+-- as one begins that may not look there
 abbrev pub machine_opened : MachineBoard → MachineBus
-machine_opened s = record { fram = s.fram; ram = s.ram; inputs = s.inputs; outnum = s.outnum; log = [] }
+machine_opened s = machine_opened_seeing None s
 
 -- the machine with these registers after this bus
 abbrev pub machine_closed : Registers → MachineBus → MachineBoard
@@ -129,9 +157,13 @@ abbrev pub machine_outcome : ℕ → ℕ → Access MachineBus (Registers × Opt
 machine_outcome pc c (Completed x t) = Goes t.log c (machine_closed x.0 t)
 machine_outcome pc c (Faulted e a t) = Stops t.log c (stop_of pc e a)
 
--- an instruction, executed as the one at PC
+-- an instruction that sees this of the ring, executed as the one at PC
+abbrev pub machine_executed_seeing : Option Look → MachineBoard → Instr → MachineOutcome
+machine_executed_seeing ring s i = machine_outcome (s.registers 0) (cycles_of i) (effect machine_bus i s.registers (machine_opened_seeing ring s))
+
+-- one that may not look there
 abbrev pub machine_executed : MachineBoard → Instr → MachineOutcome
-machine_executed s i = machine_outcome (s.registers 0) (cycles_of i) (effect machine_bus i s.registers (machine_opened s))
+machine_executed s i = machine_executed_seeing None s i
 
 -- one step of the machine: it is stopped with no instruction, or the instruction at PC is executed. A stop that needs no
 -- instruction costs nothing; CPUOFF comes first
@@ -171,11 +203,11 @@ pub record IsRam (a : ℕ) : Type 0 where
   pub low : ram_first ≤ a
   pub high : a < ram_end
 
--- the address of a word of FRAM in front of where a program ends
+-- the address of a word of FRAM in front of the handler
 pub record IsPlace (a : ℕ) : Type 0 where
   pub even : a % 2 ≡ 0
   pub low : fram_first ≤ a
-  pub high : a < program_end
+  pub high : a < handler_place
 
 -- FRAM by addresses, from the list of its words
 abbrev pub fram_of : List ℕ → ℕ → ℕ

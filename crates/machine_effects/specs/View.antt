@@ -7,7 +7,6 @@ use Rattle.fram_board.specs.msp_step.declared.machine.Stop.TheVariants as stop
 use Rattle.fram_board.specs.msp_step.Registers.{registers_of}
 use Rattle.fram_board.specs.msp_step.Kept.{IsRegisters}
 use Rattle.fram_board.specs.declared.board.Stepped.{Stepped}
-use Rattle.fram_board.specs.Bus.{event_port}
 use Rattle.fram_board.specs.Events.{EventLine}
 use Rattle.fram_board.specs.Board.{BoardValue, BoardOutcome, executed}
 use Rattle.fram_board.specs.Steps.{BoardCosts, IsBoard}
@@ -70,19 +69,19 @@ outcome_of_answer es price (Err e) next = Stops es price e
 abbrev pub machine_outcome_of : BoardValue → BoardOutcome → ℕ → MachineOutcome
 machine_outcome_of b x price = outcome_of_answer (effects_of b x) price x.answer (machine_of x.board)
 
--- a bus fault at the address of EVENT
-abbrev pub IsEventFault : Stop → Type 0
-IsEventFault (stop.Bus at a) = a ≡ event_port
-IsEventFault (stop.Illegal at w) = ⊥
-IsEventFault stop.Off = ⊥
-IsEventFault stop.NoReading = ⊥
+-- a bus fault
+abbrev pub IsFault : Stop → Type 0
+IsFault (stop.Bus at a) = Unit {0}
+IsFault (stop.Illegal at w) = ⊥
+IsFault stop.Off = ⊥
+IsFault stop.NoReading = ⊥
 
--- the machine ends at EVENT, which it doesn't have: there alone a board may do otherwise
-abbrev pub IsAtEvent : MachineOutcome → Type 0
-IsAtEvent (Goes es c t) = ⊥
-IsAtEvent (Stops es price e) = IsEventFault e
+-- the machine ends by a bus fault, since it refuses some addresses that a board serves: there alone a board may do otherwise
+abbrev pub IsBusFault : MachineOutcome → Type 0
+IsBusFault (Goes es c t) = ⊥
+IsBusFault (Stops es price e) = IsFault e
 
--- an instruction of a board does as the machine's, which has no port EVENT, and leaves the events as they are
+-- an instruction of a board does as the machine's, which serves fewer addresses, and leaves the events as they are
 pub record IsMachines (b : BoardValue) (i : Instr) : Type 0 where
   pub step : machine_executed (machine_of b) i ≡ machine_outcome_of b (executed b i) (cycles_of i)
   pub line : (executed b i).board.line ≡ b.line

@@ -1,17 +1,25 @@
 //! Laws of the machine. The functions do nothing: their contracts are the laws.
 
-ghost use Rattle.machine_effects.specs.Laws.{BoardStepsAsMachine, MachineStepsAsBoard, MachineStepsInOneWay, CodeChangesByEffects, MachineChangesByEffects};
+ghost use Rattle.machine_effects.specs.Laws.{BoardStepsAsMachine, MachineStepsAsBoard, LooksAsTheBoard, MachineStepsInOneWay, CodeChangesByEffects};
+ghost use Rattle.machine_effects.specs.Laws.{MachineChangesByEffects};
 ghost use Rattle.machine_effects.specs.Laws.{MachineWordsStayWords, CodeWordsStayWords, WordsStayWords, StepLeavesItWhole, BoundaryKeepsWords};
 ghost use Rattle.machine_effects.specs.Laws.{AcceptanceKeepsWords, MachineIsOfWords, PowerUpIsTheMachines, PowerUpKeepsWords, FreshMachine, FreshIsWhole};
 ghost use Rattle.machine_effects.specs.Laws.{ChargeKeepsWords, StepAcceptsBySends, ChargeAcceptsBySends, WorldByItsParts};
 
 /// Each step of a whole board at which no acceptance is due is the machine's step, with the same effects and cycles, or the
-/// same stop with the readings that were taken before it, and leaves the port EVENT; or the machine's step ends at EVENT. Each
-/// step of the machine that a board is, that doesn't end there, is a step of the board.
+/// same stop with the readings that were taken before it, and leaves the port EVENT; or the machine's step ends by a bus fault. Each
+/// step of the machine that a board is, that doesn't end so, is a step of the board.
 #[tactic(auto, using(crate::proofs::Steps::board_steps_as_machine, crate::proofs::Steps::machine_steps_as_board))]
 pub fn steps_are_the_machines()
     ensures forth { BoardStepsAsMachine }
     ensures back { MachineStepsAsBoard }
+{}
+
+/// An instruction that sees what a whole board holds in the ring does as on the board, and leaves the port EVENT, or ends by a bus
+/// fault.
+#[tactic(auto, using(crate::proofs::Steps::looks_as_the_board))]
+pub fn instructions_look_as_on_the_board()
+    ensures { LooksAsTheBoard }
 {}
 
 /// The machine steps in one way.

@@ -14,7 +14,7 @@ use Rattle.fram_board.specs.Run.{Measure, price, Moment, moment_of, RunOutcome, 
 use Rattle.machine_effects.specs.World.{fram_after, EachStore}
 use Rattle.machine_effects.specs.Going.{Goes, Stops, At, Halted, stretch, after_effects, continued, going}
 use Rattle.machine_effects.specs.Machine.{MachineBoard, MachineOutcome, MachineStretch, IsMachineStep, machine_executed, exec}
-use Rattle.machine_effects.specs.View.{IsWhole, IsOfWords, IsAtEvent, IsMachines}
+use Rattle.machine_effects.specs.View.{IsWhole, IsOfWords, IsBusFault, IsMachines}
 use Rattle.machine_effects.specs.Runs.{moments_effects, moments_cycles, last_board}
 use Rattle.machine_effects.proofs.Interface.{fram_after-append, each_store-front, each_store-back, executed_same, current_to_machine}
 use Rattle.code_forms.specs.Placed.{placed, words_of, Holds, LeavesCode, IsOutside}
@@ -54,18 +54,17 @@ module _ (on : PlacedProgram) where
     pub holds : Holds (outside_of b).fram on.place code_words
     pub leaves : (n : ℕ) → Leaves (going step n (outside_of b))
 
-  -- a step that leaves the code isn't astray, nor at EVENT
+  -- a step that leaves the code isn't astray, and each access is served
   no_hole : (s : MachineBoard) → Leaves (going step 1 s) → IsNoHole (exec (placed on.place on.instructions) s)
   no_hole s l es price pc word e =
       l.stands price pc word (ap (λ o. (continued o (going step 0)).status) (ap (λ f. f s) on.is.steps ∙ e))
 
-  unheard : (s : MachineBoard) (o : MachineOutcome) → Leaves (going step 1 s) → step s ≡ o → IsAtEvent o → ⊥
-  unheard s (Goes es c t) l e h = h
-  unheard s (Stops es price (stop.Bus pc a)) l e h =
-      l.unheard price pc (ap (λ o. (continued o (going step 0)).status) e ∙ ap (λ x. Halted price (stop.Bus pc x)) h)
-  unheard s (Stops es price (stop.Illegal pc w)) l e h = h
-  unheard s (Stops es price stop.Off) l e h = h
-  unheard s (Stops es price stop.NoReading) l e h = h
+  no_fault : (s : MachineBoard) (o : MachineOutcome) → Leaves (going step 1 s) → step s ≡ o → IsBusFault o → ⊥
+  no_fault s (Goes es c t) l e h = h
+  no_fault s (Stops es price (stop.Bus pc a)) l e h = l.served price pc a (ap (λ o. (continued o (going step 0)).status) e)
+  no_fault s (Stops es price (stop.Illegal pc w)) l e h = h
+  no_fault s (Stops es price stop.Off) l e h = h
+  no_fault s (Stops es price stop.NoReading) l e h = h
 
   -- the steps behind one
   leaves_behind : (s t : MachineBoard) (es : List Effect) (c n : ℕ) → step s ≡ Goes es c t → Leaves (going step (suc n) s) → Leaves (going step n t)
@@ -75,7 +74,7 @@ module _ (on : PlacedProgram) where
       record {
         stores = each_store-back (IsOutside on.place (length code_words)) es (going step n t).effects k.stores;
         stands = k.stands;
-        unheard = k.unheard;
+        served = k.served;
       }
 
   first_stores : (s t : MachineBoard) (es : List Effect) (c : ℕ) → step s ≡ Goes es c t → Leaves (going step 1 s)
@@ -105,7 +104,7 @@ module _ (on : PlacedProgram) where
 
       pub own : IsMachines b i
       own =
-          ⊎_elim {C = IsMachines b i} (λ at. absurd (unheard (outside_of b) (machine_executed (outside_of b) i) (run.leaves 1) (sym made) at))
+          ⊎_elim {C = IsMachines b i} (λ at. absurd (no_fault (outside_of b) (machine_executed (outside_of b) i) (run.leaves 1) (sym made) at))
           (λ o. o) (executed_same b i run.whole)
 
       module _ (done : Stepped) (answer : (executed b i).answer ≡ Ok done) where

@@ -96,7 +96,7 @@ pub record IsPlacedProgram (c : Program) (p : ℕ) (is : List Instr) (entry : �
   pub steps : c.step ≡ exec (placed p is)
   pub powers : (s : MachineBoard) (q : PowerState) → IsMachineOfWords s → IsPowerState q → s.fram reset_vector ≡ entry → c.IsPoweredUp (machine_powered s q)
 
--- steps that store on none of so many words from p on, nor on the reset vector, never go astray, and leave EVENT alone
+-- steps that store on none of so many words from p on, nor on the reset vector, never go astray, and whose accesses are served
 pub record LeavesProgram (p n : ℕ) (r : MachineStretch) : Type 0 where
   pub code : LeavesCode p n r
   pub vector : EachStore (IsElsewhere reset_vector) r.effects

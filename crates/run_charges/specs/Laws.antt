@@ -41,7 +41,7 @@ pub record IsChargedBy (c : Program) (marks : Marks) (b : BoardValue) (h : Histo
   pub charged : Charged c marks (outside_of b) h (charges_of front.charges) (outside_of (board_behind_all b front.charges)) (observed marks ms h)
 
 -- a program stands in FRAM, and wherever its charges lead a further one leaves it and the reset vector as they are, never goes astray, and
--- leaves EVENT alone
+-- has each access served
 pub record StandsIn (c : Program) (marks : Marks) (b : BoardValue) (h : History) : Type 0 where
   pub place : ℕ
   pub instructions : List Instr

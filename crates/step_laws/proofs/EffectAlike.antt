@@ -14,6 +14,7 @@ use Rattle.msp_step.specs.msp_isa.declared.instructions.OneOp.TheVariants as one
 use Rattle.msp_step.specs.msp_isa.declared.instructions.Instr.{Instr}
 use Rattle.msp_step.specs.msp_isa.declared.instructions.Instr.TheVariants as instr
 use Rattle.msp_step.specs.declared.bus.Refused.{Refused}
+use Rattle.msp_step.specs.declared.bus.Refused.TheVariants as refused
 use Rattle.msp_step.specs.declared.operand.Location.{Location}
 use Rattle.msp_step.specs.declared.operand.Location.TheVariants.{Register, Memory}
 use Rattle.msp_step.specs.Registers.{Registers, with_register}
@@ -58,11 +59,11 @@ module _ (S T : Type 0) (b : BusModel S) (c : BusModel T) (Odd : Refused → ℕ
   read_alike a w s t h = answer_alike (b.reads s a w) (c.reads t a w) a s (b.after_read s a w) t (c.after_read t a w) (alike.reads s t a w h) h
       (λ v e. alike.after s t a w v h e)
 
-  wrote_alike : {A : Type 0} (p : Option S) (q : Option T) (a : ℕ) (s : S) (t : T) (x : A) → R s t → WrittenAlike R p q
+  wrote_alike : {A : Type 0} (p : Option S) (q : Option T) (a : ℕ) (s : S) (t : T) (x : A) → R s t → WrittenAlike (Odd refused.Bus a) R p q
       → Like (write_answer p a s x) (write_answer q a t x)
   wrote_alike (Some s') (Some t') a s t x h k = (refl, k)
   wrote_alike None None a s t x h k = inr (refl, refl, h)
-  wrote_alike (Some s') None a s t x h k = elim k [ ]
+  wrote_alike (Some s') None a s t x h k = k
   wrote_alike None (Some t') a s t x h k = elim k [ ]
 
   write_alike : {A : Type 0} (a : ℕ) (w : Width) (v : ℕ) (x : A) (s : S) (t : T) → R s t → Like (write_at b a w v x s) (write_at c a w v x t)

@@ -3,6 +3,7 @@ use Rattle.std.specs.Prelude.{◌≡◌, ◌⊎◌, ℕ, Bool, true, Result, Ok,
 use Rattle.msp_step.specs.alp_words.declared.Width.{Width}
 use Rattle.msp_step.specs.msp_isa.declared.instructions.Instr.{Instr}
 use Rattle.msp_step.specs.declared.bus.Refused.{Refused}
+use Rattle.msp_step.specs.declared.bus.Refused.TheVariants as refused
 use Rattle.msp_step.specs.Registers.{Registers}
 use Rattle.msp_step.specs.Access.{BusModel, Access, Completed, Faulted}
 use Rattle.msp_step.specs.Step.{effect}
@@ -19,19 +20,19 @@ AlikeUnless Odd R (Faulted e a s) (Completed y t) = ⊥
 abbrev pub ReadAlike : (Refused → ℕ → Type 0) → ℕ → Result ℕ Refused → Result ℕ Refused → Type 0
 ReadAlike Odd a p q = (p ≡ q) ⊎ ((e : Refused) × (q ≡ Err e) × Odd e a)
 
--- both writes were served and left such buses, or both were refused
-abbrev pub WrittenAlike : {S T : Type 0} → (S → T → Type 0) → Option S → Option T → Type 0
-WrittenAlike R (Some s) (Some t) = R s t
-WrittenAlike R None None = Unit {0}
-WrittenAlike R (Some s) None = ⊥
-WrittenAlike R None (Some t) = ⊥
+-- both writes were served and left such buses, or both were refused, or the second alone was, which is odd
+abbrev pub WrittenAlike : {S T : Type 0} → Type 0 → (S → T → Type 0) → Option S → Option T → Type 0
+WrittenAlike odd R (Some s) (Some t) = R s t
+WrittenAlike odd R None None = Unit {0}
+WrittenAlike odd R (Some s) None = odd
+WrittenAlike odd R None (Some t) = ⊥
 
--- related buses answer each read alike, unless the second refuses it in an odd way, and stay related by reads that both
--- serve and by writes
+-- related buses answer each read and each write alike, unless the second refuses it in an odd way, and stay related by those
+-- that both serve
 pub record AnswerAlikeUnless {S T : Type 0} (Odd : Refused → ℕ → Type 0) (b : BusModel S) (c : BusModel T) (R : S → T → Type 0) : Type 0 where
   pub reads : (s : S) (t : T) (a : ℕ) (w : Width) → R s t → ReadAlike Odd a (b.reads s a w) (c.reads t a w)
   pub after : (s : S) (t : T) (a : ℕ) (w : Width) (v : ℕ) → R s t → c.reads t a w ≡ Ok v → R (b.after_read s a w) (c.after_read t a w)
-  pub writes : (s : S) (t : T) (a : ℕ) (w : Width) (v : ℕ) → R s t → WrittenAlike R (b.writes s a w v) (c.writes t a w v)
+  pub writes : (s : S) (t : T) (a : ℕ) (w : Width) (v : ℕ) → R s t → WrittenAlike (Odd refused.Bus a) R (b.writes s a w v) (c.writes t a w v)
 
 -- buses that look the same through two views
 abbrev pub SameView : {S T : Type 0} → (S → ℕ → ℕ) → (T → ℕ → ℕ) → S → T → Type 0
