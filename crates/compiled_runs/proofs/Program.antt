@@ -186,7 +186,8 @@ module _ (source : Source) where
   makes_decided s next x b k e d =
       let fits = fits_commit s next x d in
       let list = fits.list in let words = fits.words in let emits = fits.emits in
-      let most = r.costs.within s.task x.fram no_inputs d.decided.sends.is_task d.decided.sends.words (record { readings = All-nil (λ w. w < 0x10000) }) in
+      let most : whole_cycles p l s.task x.fram no_inputs ≤ cost s.task =
+      r.costs.within s.task x.fram no_inputs d.decided.sends.is_task d.decided.sends.words (record { readings = All-nil (λ w. w < 0x10000) }) in
       let dearest = commit_grows (x.fram (word_place l ListLength)) ((program_places p l).list_capacity s.task) (length (listed l x.fram))
       ((program_places p l).list_capacity s.task) (x.fram (word_place l EmitCount)) ((program_places p l).emit_capacity s.task) list words emits in
       commit_within next x b k e (laws.decided_committing s next x d) (cost s.task) (omega (arith, dearest, most))

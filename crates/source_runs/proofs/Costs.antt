@@ -10,7 +10,7 @@ use Rattle.image_map.specs.Kept.{IsMap}
 use Rattle.fram_board.specs.declared.board.NextStep.TheVariants as next_step
 use Rattle.fram_board.specs.declared.board.Stepped.{Stepped}
 use Rattle.fram_board.specs.Board.{BoardValue, executed, at_boundary, IsNextInstruction}
-use Rattle.fram_board.specs.Run.{Moment, moment_of, BoardCharge}
+use Rattle.fram_board.specs.Run.{Moment, moment_of}
 use Rattle.board_run.specs.History.{noted, is_done, word_in}
 use Rattle.board_run.specs.History as board
 use Rattle.machine_effects.specs.World.{World}
