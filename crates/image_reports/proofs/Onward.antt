@@ -6,7 +6,8 @@ use Rattle.image_reports.proofs.Names.{map_of, Gate, Version, MemoryMap, word_pl
 use Rattle.image_reports.proofs.Names.{Origin, Phase, UndecidedPhase, DecidedPhase, CommittingPhase, Begins, world_fram, never_lost}
 use Rattle.image_reports.proofs.Names.{sent_once, pending_sends, stops_short, stores_only, outside_of, IsMomentFrom, PowersUp, Instructs, AreMoments}
 use Rattle.image_reports.proofs.Names.{AreInstructionMoments, IsRunOfWords, BearsModel, stood, AtFront, at_front, powers_up, starts_hold}
-use Rattle.image_reports.proofs.Names.{IsFirstWithin, task_costs, cost_of, cost_due, charges_pay, Bool, fronts_are_lawful, HoldsWords, IsSound, SoundAtRest, SoundPending, each_weaker, program_places}
+use Rattle.image_reports.proofs.Names.{Bool, IsFirstWithin, task_costs, cost_of, cost_due, charges_pay}
+use Rattle.image_reports.proofs.Names.{fronts_are_lawful, HoldsWords, IsSound, SoundAtRest, SoundPending, each_weaker, program_places}
 use Rattle.image_reports.proofs.Names.{redo_model, compiled_model, start_under, is_redo, under_map, KeepsCapacities, KeepsVersions}
 use Rattle.image_reports.proofs.Names.{phase_keeps_versions, capacities_are_kept, source_code, placed_code, compiled_program, code_is_placed}
 use Rattle.image_reports.proofs.Names.{power_ups_raise_version, scripts_store_below, at_first, EachChargePays, runtime_marks, VersionsBelow, KeepsCode}

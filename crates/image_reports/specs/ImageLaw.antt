@@ -141,7 +141,8 @@ pub record IsLawfulRun (text : List ℕ) (p : CheckedProgram) (allow : Allow) (l
   pub raises : RaisesVersion l r.moments
   -- a charge of n bounds that is spent has n transitions; and one that is spent is less than the costs of the tasks that were completed in it, and
   -- of the one that was to come
-  pub progress : let m = map_of text p l allow in EachChargePays m (λ h. cost_of p h.task) cs (fresh image.words readings events) (at_first m (fresh image.words readings events)) r
+  pub progress : let m = map_of text p l allow in let b = fresh image.words readings events in
+      EachChargePays m (λ h. cost_of p h.task) cs b (at_first m b) r
   -- its report is told by the source, where the charges have fewer than 2^64 cycles and instructions in all
   pub told : all_amounts cs < 2 ^ 64
       → IsToldBySource text p (map_of text p l allow) cs (fresh image.words readings events) r (report_of (start_of image) events r)
