@@ -144,10 +144,10 @@ module _ (source : Source) where
       let n = u.fram (word_place l ListLength) in let ws = length (listed l u.fram) in let k = u.fram (word_place l EmitCount) in
       let list = q.list_length in let words = q.list_words in let emits = q.emit_count in
       let most = r.costs.commits to.task d.rests.is_open.is_task in
-      let dearest = commit_grows n l.entries ws l.entries k l.emits.words list words emits in
+      let dearest = commit_grows l.runtime.events n l.entries ws l.entries k l.emits.words list words emits in
       record {
-        steps = 3 + commit_steps n ws k;
-        cycles = 9 + commit_cycles n ws k;
+        steps = 3 + commit_steps l.runtime.events n ws k;
+        cycles = 9 + commit_cycles l.runtime.events n ws k;
         ends = λ t. record {
           end = board_of a.end;
           within = omega (arith, dearest, most);
@@ -260,14 +260,15 @@ module _ (source : Source) where
     clears = is_at_end l u.fram
 
     abbrev to_steps : ℕ
-    to_steps = steps + start_steps clears l.versions.words (length (privates k))
+    to_steps = steps + start_steps l.runtime.events clears l.versions.words (length (privates k))
 
     abbrev to_cycles : ℕ
-    to_cycles = cycles + start_cycles clears l.versions.words (length (privates k))
+    to_cycles = cycles + start_cycles l.runtime.events clears l.versions.words (length (privates k))
 
     -- the bound has room for the clearing in each attempt
-    at_most : start_cycles clears l.versions.words (length (privates k)) ≤ start_cycles true l.versions.words (length (privates k))
-    at_most = clearing_is_dearest clears l.versions.words (length (privates k))
+    at_most : start_cycles l.runtime.events clears l.versions.words (length (privates k))
+        ≤ start_cycles l.runtime.events true l.versions.words (length (privates k))
+    at_most = clearing_is_dearest l.runtime.events clears l.versions.words (length (privates k))
 
     there : Comes code es to_steps to_cycles u (Enters (entry_at tasks k).code stack_top g u.inputs)
     there = to_task l (lowered l p) r.fits are_whole u steps cycles comes program_named (und.is_open.words (word_place l Version))
@@ -287,17 +288,19 @@ module _ (source : Source) where
         let h = commit_there l (lowered l p) r.fits are_whole v f v.inputs arrived fits.can fits.base in
         let n = f (word_place l ListLength) in let ws = length (listed l f) in let o = f (word_place l EmitCount) in
         let one = join (exec code) to_steps q.steps es b.effects to_cycles q.cycles (board_of u) (board_of there.end) (board_of v) there.leads q.leads in
-        let all = join (exec code) (to_steps + q.steps) (commit_steps n ws o) (es ++ b.effects) (commit_effects l f)
-        (to_cycles + q.cycles) (commit_cycles n ws o) (board_of u) (board_of v) (board_of h.end) one h.leads in
+        let commit_count = commit_steps l.runtime.events n ws o in
+        let commit_time = commit_cycles l.runtime.events n ws o in
+        let all = join (exec code) (to_steps + q.steps) commit_count (es ++ b.effects) (commit_effects l f)
+        (to_cycles + q.cycles) commit_time (board_of u) (board_of v) (board_of h.end) one h.leads in
         let list : n ≤ (program_places p l).list_capacity k = subst (λ j. n ≤ (program_places p l).list_capacity j) (sym is_current) fits.list in
         let words : ws ≤ (program_places p l).list_capacity k = subst (λ j. ws ≤ (program_places p l).list_capacity j) (sym is_current) fits.words in
         let emits : o ≤ (program_places p l).emit_capacity k = subst (λ j. o ≤ (program_places p l).emit_capacity j) (sym is_current) fits.emits in
         let most = within in let start_most = at_most in let body_most = q.within in
-        let dearest = commit_grows n ((program_places p l).list_capacity k) ws ((program_places p l).list_capacity k) o
+        let dearest = commit_grows l.runtime.events n ((program_places p l).list_capacity k) ws ((program_places p l).list_capacity k) o
         ((program_places p l).emit_capacity k) list words emits in
         record {
-          steps = to_steps + q.steps + commit_steps n ws o;
-          cycles = to_cycles + q.cycles + commit_cycles n ws o;
+          steps = to_steps + q.steps + commit_count;
+          cycles = to_cycles + q.cycles + commit_time;
           ends = λ z. record {
             end = board_of h.end;
             within = omega (arith, few, most, start_most, body_most, dearest);
