@@ -135,7 +135,7 @@ module _ (source : Source) where
 
   -- what a commit takes behind a boot, at most
   abbrev CommitWithin : (ℕ → ℕ) → ℕ → Type 0
-  CommitWithin f most = 9 + commit_cycles (f (word_place l ListLength)) (length (listed l f)) (f (word_place l EmitCount)) ≤ most
+  CommitWithin f most = 9 + commit_cycles l.runtime.events (f (word_place l ListLength)) (length (listed l f)) (f (word_place l EmitCount)) ≤ most
 
   -- a pending commit, from a boot on
   commit_from_boot : (to : State) (accepted : List ℕ) (u : Core) → u.pc ≡ l.boot.address
@@ -148,8 +148,8 @@ module _ (source : Source) where
       (q.words (word_place l SentBase)) in
       let n = u.fram (word_place l ListLength) in let ws = length (listed l u.fram) in let k = u.fram (word_place l EmitCount) in
       record {
-        steps = 3 + commit_steps n ws k;
-        cycles = 9 + commit_cycles n ws k;
+        steps = 3 + commit_steps l.runtime.events n ws k;
+        cycles = 9 + commit_cycles l.runtime.events n ws k;
         ends = λ t. record {
           end = board_of a.end;
           within = omega (arith, within);
@@ -176,7 +176,7 @@ module _ (source : Source) where
       let q = d.pending in
       let list = q.list_length in let words = q.list_words in let emits = q.emit_count in
       let most = r.costs.commits to.task d.rests.is_open.is_task in
-      let dearest = commit_grows (x.fram (word_place l ListLength)) l.entries (length (listed l x.fram)) l.entries (x.fram (word_place l EmitCount))
+      let dearest = commit_grows l.runtime.events (x.fram (word_place l ListLength)) l.entries (length (listed l x.fram)) l.entries (x.fram (word_place l EmitCount))
       l.emits.words list words emits in
       commit_within to x b k e d (bound m) (omega (arith, dearest, most))
 
@@ -188,7 +188,7 @@ module _ (source : Source) where
       let list = fits.list in let words = fits.words in let emits = fits.emits in
       let most : whole_cycles p l s.task x.fram no_inputs ≤ cost s.task =
       r.costs.within s.task x.fram no_inputs d.decided.sends.is_task d.decided.sends.words (record { readings = All-nil (λ w. w < 0x10000) }) in
-      let dearest = commit_grows (x.fram (word_place l ListLength)) ((program_places p l).list_capacity s.task) (length (listed l x.fram))
+      let dearest = commit_grows l.runtime.events (x.fram (word_place l ListLength)) ((program_places p l).list_capacity s.task) (length (listed l x.fram))
       ((program_places p l).list_capacity s.task) (x.fram (word_place l EmitCount)) ((program_places p l).emit_capacity s.task) list words emits in
       commit_within next x b k e (laws.decided_committing s next x d) (cost s.task) (omega (arith, dearest, most))
 
@@ -286,14 +286,15 @@ module _ (source : Source) where
     clears = is_at_end l u.fram
 
     abbrev to_steps : ℕ
-    to_steps = steps + start_steps clears l.versions.words (length (privates k))
+    to_steps = steps + start_steps l.runtime.events clears l.versions.words (length (privates k))
 
     abbrev to_cycles : ℕ
-    to_cycles = cycles + start_cycles clears l.versions.words (length (privates k))
+    to_cycles = cycles + start_cycles l.runtime.events clears l.versions.words (length (privates k))
 
     -- the bound has room for the clearing in each attempt
-    at_most : start_cycles clears l.versions.words (length (privates k)) ≤ start_cycles true l.versions.words (length (privates k))
-    at_most = clearing_is_dearest clears l.versions.words (length (privates k))
+    at_most : start_cycles l.runtime.events clears l.versions.words (length (privates k))
+        ≤ start_cycles l.runtime.events true l.versions.words (length (privates k))
+    at_most = clearing_is_dearest l.runtime.events clears l.versions.words (length (privates k))
 
     there : Comes code es to_steps to_cycles u (Enters (entry_at tasks k).code stack_top g u.inputs)
     there = to_task l (lowered l p) r.fits are_whole u steps cycles comes program_named (und.is_open.words (word_place l Version))
@@ -313,17 +314,19 @@ module _ (source : Source) where
         let h = commit_there l (lowered l p) r.fits are_whole v f v.inputs arrived fits.can fits.base in
         let n = f (word_place l ListLength) in let ws = length (listed l f) in let o = f (word_place l EmitCount) in
         let one = join (exec code) to_steps q.steps es b.effects to_cycles q.cycles (board_of u) (board_of there.end) (board_of v) there.leads q.leads in
-        let all = join (exec code) (to_steps + q.steps) (commit_steps n ws o) (es ++ b.effects) (commit_effects l f)
-        (to_cycles + q.cycles) (commit_cycles n ws o) (board_of u) (board_of v) (board_of h.end) one h.leads in
+        let commit_count = commit_steps l.runtime.events n ws o in
+        let commit_time = commit_cycles l.runtime.events n ws o in
+        let all = join (exec code) (to_steps + q.steps) commit_count (es ++ b.effects) (commit_effects l f)
+        (to_cycles + q.cycles) commit_time (board_of u) (board_of v) (board_of h.end) one h.leads in
         let list : n ≤ (program_places p l).list_capacity k = subst (λ j. n ≤ (program_places p l).list_capacity j) (sym is_current) fits.list in
         let words : ws ≤ (program_places p l).list_capacity k = subst (λ j. ws ≤ (program_places p l).list_capacity j) (sym is_current) fits.words in
         let emits : o ≤ (program_places p l).emit_capacity k = subst (λ j. o ≤ (program_places p l).emit_capacity j) (sym is_current) fits.emits in
         let most = within in let start_most = at_most in let body_most = q.within in
-        let dearest = commit_grows n ((program_places p l).list_capacity k) ws ((program_places p l).list_capacity k) o
+        let dearest = commit_grows l.runtime.events n ((program_places p l).list_capacity k) ws ((program_places p l).list_capacity k) o
         ((program_places p l).emit_capacity k) list words emits in
         record {
-          steps = to_steps + q.steps + commit_steps n ws o;
-          cycles = to_cycles + q.cycles + commit_cycles n ws o;
+          steps = to_steps + q.steps + commit_count;
+          cycles = to_cycles + q.cycles + commit_time;
           ends = λ z. record {
             end = board_of h.end;
             within = omega (arith, few, most, start_most, body_most, dearest);

@@ -17,6 +17,9 @@ use Rattle.msp_step.specs.Registers.{registers_of}
 use Rattle.fram_board.specs.Saved.{TakesNextBehind}
 use Rattle.fram_board.specs.Steps.{IsPowerState}
 use Rattle.fram_board.proofs.Interface.{fill_is_a_power_state}
+use Rattle.std.proofs.Common.{⊎_elim}
+use Rattle.runtime_effects.specs.Needs.{IsEventWord}
+use Rattle.compiled_model.specs.Needs.{StoresBelow}
 use Rattle.boot_runtime.specs.Entries.{task_entries}
 use Rattle.boot_runtime.specs.Listing.{privates_in}
 use Rattle.run_charges.specs.Laws.{IsPlainRun}
@@ -116,12 +119,16 @@ module _ (onward : Onward) where
       let behind = powers_up model program readings origin x b bearing es t k charged q up fram left in
       (stops_short model program ready.model bearing.program readings origin q behind n price e halted).0
 
+  -- the source takes no events
+  no_event_word : (a : ℕ) → IsEventWord l a → ⊥
+  no_event_word a counter = let on = counter.events in let off = ap (λ r. r.events) c.is_layout.runtime in cc (on, off)
+
   -- no step stores on the code or behind it
   never_there : (a : ℕ) → l.boot.address ≤ a → NeverThere a program bearing.program.changes (runtime_marks l) (outside_of b) first
   never_there a from es t k charged q up fram left n =
-      let P : ℕ → ℕ → Type 0 = λ d w. d < l.boot.address in
+      let P : ℕ → ℕ → Type 0 = StoresBelow l l.boot.address in
       let scripts = scripts_store_below p l ready.code.apart ready.stores in
-      each_weaker P (IsElsewhere a) (λ d w low e. omega (arith, low, from, e)) _
+      each_weaker P (IsElsewhere a) (λ d w h e. ⊎_elim {C = ⊥} (λ low. omega (arith, low, from, e)) (no_event_word d) h) _
       (stores_only model program P ready.model bearing.program scripts readings origin q
       (powers_up model program readings origin x b bearing es t k charged q up fram left) n)
 
