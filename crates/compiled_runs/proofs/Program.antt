@@ -176,8 +176,8 @@ module _ (source : Source) where
       let q = d.pending in
       let list = q.list_length in let words = q.list_words in let emits = q.emit_count in
       let most = r.costs.commits to.task d.rests.is_open.is_task in
-      let dearest = commit_grows l.runtime.events (x.fram (word_place l ListLength)) l.entries (length (listed l x.fram)) l.entries (x.fram (word_place l EmitCount))
-      l.emits.words list words emits in
+      let n = x.fram (word_place l ListLength) in let ws = length (listed l x.fram) in let o = x.fram (word_place l EmitCount) in
+      let dearest = commit_grows l.runtime.events n l.entries ws l.entries o l.emits.words list words emits in
       commit_within to x b k e d (bound m) (omega (arith, dearest, most))
 
   -- one that a task decided: it lists no more words and has no more to send than the task may, for which the task's own cost has the cycles
@@ -188,8 +188,9 @@ module _ (source : Source) where
       let list = fits.list in let words = fits.words in let emits = fits.emits in
       let most : whole_cycles p l s.task x.fram no_inputs ≤ cost s.task =
       r.costs.within s.task x.fram no_inputs d.decided.sends.is_task d.decided.sends.words (record { readings = All-nil (λ w. w < 0x10000) }) in
-      let dearest = commit_grows l.runtime.events (x.fram (word_place l ListLength)) ((program_places p l).list_capacity s.task) (length (listed l x.fram))
-      ((program_places p l).list_capacity s.task) (x.fram (word_place l EmitCount)) ((program_places p l).emit_capacity s.task) list words emits in
+      let n = x.fram (word_place l ListLength) in let ws = length (listed l x.fram) in let o = x.fram (word_place l EmitCount) in
+      let entries = (program_places p l).list_capacity s.task in
+      let dearest = commit_grows l.runtime.events n entries ws entries o ((program_places p l).emit_capacity s.task) list words emits in
       commit_within next x b k e (laws.decided_committing s next x d) (cost s.task) (omega (arith, dearest, most))
 
   -- an attempt that comes to its end is decided
