@@ -110,7 +110,7 @@ pub ram_at : (xs : List ℕ) (a : ℕ) → is_ram a ≡ true → ram_of xs (word
 ram_at xs a h = ap (λ b. cond b (slice_index xs (ram_place (word_address a))) 0) (ram_there a h) ∙ ap (λ p. slice_index xs p) (ram_place_same a h)
 
 -- a word written
-put_fram : (xs : List ℕ) (a v : ℕ) → length xs ≡ 24064 → is_fram a ≡ true → put (fram_of xs) (word_address a) v ≡ fram_of (slice_set xs (place_of a) v)
+pub put_fram : (xs : List ℕ) (a v : ℕ) → length xs ≡ 24064 → is_fram a ≡ true → put (fram_of xs) (word_address a) v ≡ fram_of (slice_set xs (place_of a) v)
 put_fram xs a v len h =
     let r = fram_low a h in
     let l = r.0 in let u = r.1 in
@@ -118,7 +118,7 @@ put_fram xs a v len h =
     let within : place_of (word_address a) < length xs = omega arith in
     put_view is_fram 0x4400 in_fram xs (word_address a) v (fram_there a h) within ∙ ap (λ p. fram_of (slice_set xs p v)) (fram_place a h)
 
-put_ram : (xs : List ℕ) (a v : ℕ) → length xs ≡ 1024 → is_ram a ≡ true → put (ram_of xs) (word_address a) v ≡ ram_of (slice_set xs (ram_place a) v)
+pub put_ram : (xs : List ℕ) (a v : ℕ) → length xs ≡ 1024 → is_ram a ≡ true → put (ram_of xs) (word_address a) v ≡ ram_of (slice_set xs (ram_place a) v)
 put_ram xs a v len h =
     let r = ram_range a h in
     let l = r.0 in let u = r.1 in

@@ -304,7 +304,7 @@ executed_same b i h =
     (execution_takes i r (opened b)).from)
 
 -- a step that is stopped takes nothing
-none_taken : (xs : List ℕ) (n : ℕ) → slice_range xs n n ≡ []
+pub none_taken : (xs : List ℕ) (n : ℕ) → slice_range xs n n ≡ []
 none_taken xs n = let e : n - n ≡ 0 = omega arith in ap (λ k. take k (drop n xs)) e
 
 stopped_same : (b : BoardValue) (e : Stop)
