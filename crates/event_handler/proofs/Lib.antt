@@ -1,2 +1,5 @@
 mod Keeps
+mod Bus
+mod Instructions
+mod Step
 pub mod Interface

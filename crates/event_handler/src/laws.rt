@@ -3,7 +3,7 @@
 ghost use Rattle.event_handler.specs.Laws.{HandlerTakesItsCycles, HandlerKeepsTheRest};
 
 /// From the acceptance to behind the return it takes 48 cycles at most, in at most 15 instructions.
-#[tactic(auto, using(crate::proofs::Keeps::handler_takes_its_cycles))]
+#[tactic(auto, using(crate::proofs::Keeps::handler_takes_its_cycles, crate::proofs::Step::comes_back))]
 pub fn handler_takes_its_cycles()
     ensures { HandlerTakesItsCycles }
 {}
