@@ -11,7 +11,7 @@ use Rattle.msp_isa.specs.declared.registers.Reg.TheVariants as reg
 use Rattle.msp_isa.specs.declared.operands.Dst.TheVariants as dst
 use Rattle.fram_board.specs.msp_step.Registers.{Registers, with_register}
 use Rattle.fram_board.specs.msp_step.Access.{Access, Completed, then_do, read_at}
-use Rattle.fram_board.specs.msp_step.Effect.{Written, word_sum, flags_of, status_with, jump_effect, after_source, destination_location}
+use Rattle.fram_board.specs.msp_step.Effect.{Written, word_sum, below_stack, flags_of, status_with, jump_effect, after_source, destination_location}
 use Rattle.fram_board.specs.msp_step.Step.{effect}
 use Rattle.fram_board.specs.image_text.ImageValue.{place_of}
 use Rattle.fram_board.specs.Bus.{BusState, board_bus, with_word, is_word}
@@ -31,11 +31,8 @@ flagged r f = with_register r 2 (status_with (r 2) f)
 abbrev pub Effect : Type 0
 Effect = Access BusState (Registers × Option Written)
 
-abbrev pub below : Registers → ℕ
-below r = word_sum (r 1) 0xFFFE
-
 abbrev pub pushed : Registers → Registers
-pushed r = with_register (with_register (with_register r 0 (word_sum (r 0) 2)) 0 (word_sum (word_sum (r 0) 2) 0)) 1 (below r)
+pushed r = with_register (with_register (with_register r 0 (word_sum (r 0) 2)) 0 (word_sum (word_sum (r 0) 2) 0)) 1 (below_stack r)
 
 -- SP moved up behind a read of the word at it
 abbrev pub popped : Registers → Registers
@@ -53,13 +50,13 @@ popping r n m =
     after_source board_bus Mov Word (destination_location past (word_sum first 0) (dst.Reg (reg.Index n))) x.0 past t)
 
 module _ (r : Registers) (s : BusState) where
-  pub saves_r4 : IsStackWord (below r) → effect board_bus (instruction_at SaveR4) r s ≡ Completed (pushed r, Some (below r, r 4)) (with_ram s (below r) (r 4))
+  pub saves_r4 : IsStackWord (below_stack r) → effect board_bus (instruction_at SaveR4) r s ≡ Completed (pushed r, Some (below_stack r, r 4)) (with_ram s (below_stack r) (r 4))
   unfolding effect
-  saves_r4 h = stack_write s (below r) (r 4) (pushed r, Some (below r, r 4)) h
+  saves_r4 h = stack_write s (below_stack r) (r 4) (pushed r, Some (below_stack r, r 4)) h
 
-  pub saves_r5 : IsStackWord (below r) → effect board_bus (instruction_at SaveR5) r s ≡ Completed (pushed r, Some (below r, r 5)) (with_ram s (below r) (r 5))
+  pub saves_r5 : IsStackWord (below_stack r) → effect board_bus (instruction_at SaveR5) r s ≡ Completed (pushed r, Some (below_stack r, r 5)) (with_ram s (below_stack r) (r 5))
   unfolding effect
-  saves_r5 h = stack_write s (below r) (r 5) (pushed r, Some (below r, r 5)) h
+  saves_r5 h = stack_write s (below_stack r) (r 5) (pushed r, Some (below_stack r, r 5)) h
 
   pub takes_event : effect board_bus (instruction_at TakeEvent) r s ≡
       Completed (with_register (moved r 2 0) 4 (port_word s.line.port), None) (record s { line = port_read s.line })

@@ -1,9 +1,22 @@
 //! Laws of the handler. The functions do nothing: their contracts are the laws.
 
-ghost use Rattle.event_handler.specs.Laws.{HandlerTakesItsCycles, HandlerKeepsTheRest};
+ghost use Rattle.event_handler.specs.Laws.{HandlerBegins, HandlerGoesOn, HandlerTakesItsCycles, HandlerKeepsTheRest};
+
+/// A board that accepts an event, with the handler in FRAM and room for it on the stack, makes the acceptance, in six cycles, and
+/// then is at the handler's first instruction.
+pub fn handler_begins()
+    ensures { HandlerBegins }
+{}
+
+/// A board at an instruction of the handler executes it, whatever waits in the port EVENT, and then is at the next one or has
+/// returned: then all registers are as before the acceptance, and the word of the event stands in the ring, unless that was full.
+/// The word is stored before HEAD is raised.
+pub fn handler_goes_on()
+    ensures { HandlerGoesOn }
+{}
 
 /// From the acceptance to behind the return it takes 48 cycles at most, in at most 15 instructions.
-#[tactic(auto, using(crate::proofs::Keeps::handler_takes_its_cycles, crate::proofs::Step::comes_back))]
+#[tactic(auto, using(crate::proofs::Keeps::handler_takes_its_cycles))]
 pub fn handler_takes_its_cycles()
     ensures { HandlerTakesItsCycles }
 {}

@@ -7,7 +7,7 @@ mod laws;
 ghost use Rattle.std.specs.Prelude.{◌≡◌};
 ghost use Rattle.event_handler.specs.Handler.{handler_words};
 
-pub use laws::{handler_keeps_the_rest, handler_takes_its_cycles};
+pub use laws::{handler_begins, handler_goes_on, handler_keeps_the_rest, handler_takes_its_cycles};
 
 /// How many words the handler has.
 pub const HANDLER_LENGTH: usize = 23;
