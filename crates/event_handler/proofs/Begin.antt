@@ -14,7 +14,7 @@ use Rattle.fram_board.proofs.Interface.{ram_not_fram}
 use Rattle.machine_effects.specs.World.{put}
 use Rattle.machine_effects.specs.Machine.{ram_of}
 use Rattle.machine_effects.specs.View.{IsWhole, IsOfWords}
-use Rattle.machine_effects.proofs.Interface.{acceptance_keeps_words, boundary_whole, boundary_words}
+use Rattle.machine_effects.proofs.Interface.{acceptance_keeps_words, boundary_whole, boundary_words, boundary_heard}
 use Rattle.event_places.specs.Places.{handler_place}
 use Rattle.event_handler.specs.Handler.{SaveR4}
 use Rattle.event_handler.specs.Boundaries.{IsInterrupted, IsInHandler, KeepsTheRest, stack_of, with_return}
@@ -96,6 +96,7 @@ module _ (from : BoardValue) (g : IsInterrupted from) where
     fram = refl;
     ram = stacked;
     knows = event_waits from from.line g refl;
+    heard = boundary_heard behind;
     rest = record { readings = refl; taken = refl; outnum = refl; receiver = refl };
   }
 

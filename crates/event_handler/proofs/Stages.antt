@@ -15,7 +15,8 @@ use Rattle.fram_board.specs.msp_step.Kept.{IsRegisters}
 use Rattle.fram_board.specs.msp_step.Step.{effect}
 use Rattle.fram_board.specs.image_text.ImageValue.{place_of}
 use Rattle.fram_board.specs.Bus.{BusState, board_bus, is_ram, is_fram, is_word, ram_place, with_word}
-use Rattle.fram_board.specs.Events.{EventLine, is_full, port_word, port_read, port_behind, arising, arising_due, line_behind_step}
+use Rattle.fram_board.specs.declared.events.Heard.TheVariants.{Once}
+use Rattle.fram_board.specs.Events.{EventLine, heard_again, is_full, port_word, port_read, port_behind, arising, arising_due, line_behind_step}
 use Rattle.fram_board.specs.Board.{BoardValue, opened, closed, register_list, receiver_after, is_accepting, at_boundary}
 use Rattle.fram_board.specs.Effects.{Effect, Store, store_at}
 use Rattle.fram_board.proofs.Interface.{ram_not_fram}
@@ -26,7 +27,7 @@ use Rattle.event_places.specs.Places.{tail_place, head_place, ring_place, ring_s
 use Rattle.event_handler.specs.Handler.{Stage, SaveR4, SaveR5, TakeEvent, LoadHead, SubtractTail, CompareRoom, LeaveIfFull, LoadHeadAgain, CutToSlots}
 use Rattle.event_handler.specs.Handler.{DoubleIndex, StoreWord, RaiseHead, RestoreR5, RestoreR4, Return, place_at, instruction_at}
 use Rattle.event_handler.specs.Boundaries.{IsInterrupted, IsInHandler, KeepsTheRest, stack_of, event_of, head_of, tail_of, is_ring_full, with_event}
-use Rattle.event_handler.specs.Boundaries.{with_head_raised, fram_behind, with_return, with_r4, with_r5, other_registers, next_stage, effects_at}
+use Rattle.event_handler.specs.Boundaries.{with_head_raised, fram_behind, with_return, with_r4, with_r5, other_registers, next_stage, effects_at, heard_at}
 use Rattle.event_handler.specs.Laws.{GoesOn, HandlerGoesOn}
 use Rattle.event_handler.proofs.Bus.{IsStackWord, stack_ram, stack_read, with_ram, ram_put, even_address}
 use Rattle.event_handler.proofs.Instructions.{moved, flagged, pushed, popped, returned, saves_r4, saves_r5, takes_event, loads_head, subtracts_tail}
@@ -143,8 +144,9 @@ module _ (from b : BoardValue) (g : IsInterrupted from) where
 
   -- an instruction that leaves memory
   quiet : (at : Stage) → effects_at from at ≡ [] → (r : Registers) (t : BusState)
-      → effect board_bus (instruction_at at) file (opened b) ≡ Completed (r, None) t → t.taken ≡ b.taken → t.offered ≡ None → Served from b at r None t
-  quiet at none r t by taken off = record { by = by; effects = sym none; taken = taken; offered = off }
+      → effect board_bus (instruction_at at) file (opened b) ≡ Completed (r, None) t → t.taken ≡ b.taken → t.offered ≡ None
+      → t.line.heard ≡ heard_at from at → Served from b at r None t
+  quiet at none r t by taken off heard = record { by = by; effects = sym none; taken = taken; offered = off; heard = heard }
 
   plain_rest : (at : Stage) (r : Registers) → IsInHandler from at b → KeepsTheRest from (closed b r (opened b))
   plain_rest at r h = same_rest from b r (opened b) h.rest refl refl refl refl
@@ -169,7 +171,7 @@ module _ (from b : BoardValue) (g : IsInterrupted from) where
       let word = subst IsStackWord (sym is) (word_below (stack_of from) q 6 refl (omega arith) (omega arith)) in
       let t = with_ram (opened b) (below_stack file) (file 4) in
       goes_on from b SaveR4 SaveR5 g h refl (pushed file) (Some (below_stack file, file 4)) t
-      (record { by = saves_r4 file (opened b) word; effects = push_effects word b.fram; taken = refl; offered = refl })
+      (record { by = saves_r4 file (opened b) word; effects = push_effects word b.fram; taken = refl; offered = refl; heard = h.heard })
       (record {
         pc = ap (λ p. kept 0 (word_sum (word_sum p 2) 0)) h.pc;
         sp = kept_even (stack_of from) q (below_stack file) 6 is refl (omega arith);
@@ -190,7 +192,7 @@ module _ (from b : BoardValue) (g : IsInterrupted from) where
       let word = subst IsStackWord (sym is) (word_below (stack_of from) q 8 refl (omega arith) (omega arith)) in
       let t = with_ram (opened b) (below_stack file) (file 5) in
       goes_on from b SaveR5 TakeEvent g h refl (pushed file) (Some (below_stack file, file 5)) t
-      (record { by = saves_r5 file (opened b) word; effects = push_effects word b.fram; taken = refl; offered = refl })
+      (record { by = saves_r5 file (opened b) word; effects = push_effects word b.fram; taken = refl; offered = refl; heard = h.heard })
       (record {
         pc = ap (λ p. kept 0 (word_sum (word_sum p 2) 0)) h.pc;
         sp = kept_even (stack_of from) q (below_stack file) 8 is refl (omega arith);
@@ -208,7 +210,8 @@ module _ (from b : BoardValue) (g : IsInterrupted from) where
   take_event h =
       let r = with_register (moved file 2 0) 4 (port_word b.line.port) in
       let t : BusState = record (opened b) { line = port_read b.line } in
-      goes_on from b TakeEvent LoadHead g h refl r None t (quiet TakeEvent refl r t (takes_event file (opened b)) refl refl)
+      goes_on from b TakeEvent LoadHead g h refl r None t (quiet TakeEvent refl r t (takes_event file (opened b)) refl refl
+      (ap (heard_again b.line.port) h.heard ∙ ap Once h.knows))
       (record {
         pc = ap (λ p. kept 0 (word_sum (word_sum (word_sum p 2) 2) 0)) h.pc;
         sp = h.sp;
@@ -225,7 +228,7 @@ module _ (from b : BoardValue) (g : IsInterrupted from) where
   load_head : IsInHandler from LoadHead b → GoesOn from b LoadHead
   load_head h =
       let r = with_register (moved file 2 0) 5 (slice_index b.fram (place_of head_place)) in
-      goes_on from b LoadHead SubtractTail g h refl r None (opened b) (quiet LoadHead refl r (opened b) (loads_head file (opened b)) refl refl)
+      goes_on from b LoadHead SubtractTail g h refl r None (opened b) (quiet LoadHead refl r (opened b) (loads_head file (opened b)) refl refl h.heard)
       (record {
         pc = ap (λ p. kept 0 (word_sum (word_sum (word_sum p 2) 2) 0)) h.pc;
         sp = h.sp;
@@ -244,7 +247,7 @@ module _ (from b : BoardValue) (g : IsInterrupted from) where
       let d = difference_of Word (file 5) (slice_index b.fram (place_of tail_place)) true in
       let r = with_register (flagged (moved file 2 0) d.1) 5 d.0 in
       let low = index_small b.fram (place_of tail_place) h.words.fram in
-      goes_on from b SubtractTail CompareRoom g h refl r None (opened b) (quiet SubtractTail refl r (opened b) (subtracts_tail file (opened b)) refl refl)
+      goes_on from b SubtractTail CompareRoom g h refl r None (opened b) (quiet SubtractTail refl r (opened b) (subtracts_tail file (opened b)) refl refl h.heard)
       (record {
         pc = ap (λ p. kept 0 (word_sum (word_sum (word_sum p 2) 2) 0)) h.pc;
         sp = h.sp;
@@ -264,7 +267,7 @@ module _ (from b : BoardValue) (g : IsInterrupted from) where
   compare_room h =
       let f = (difference_of Word (file 5) ring_slots true).1 in
       let r = flagged (moved file 2 0) f in
-      goes_on from b CompareRoom LeaveIfFull g h refl r None (opened b) (quiet CompareRoom refl r (opened b) (compares_room file (opened b)) refl refl)
+      goes_on from b CompareRoom LeaveIfFull g h refl r None (opened b) (quiet CompareRoom refl r (opened b) (compares_room file (opened b)) refl refl h.heard)
       (record {
         pc = ap (λ p. kept 0 (word_sum (word_sum (word_sum p 2) 2) 0)) h.pc;
         sp = h.sp;
@@ -289,7 +292,7 @@ module _ (from b : BoardValue) (g : IsInterrupted from) where
   leave_if_full true e h =
       let r = jump_effect Equal 9 file in
       goes_on from b LeaveIfFull RestoreR5 g h (ap (λ x. Some (if x then RestoreR5 else LoadHeadAgain)) e) r None (opened b)
-      (quiet LeaveIfFull refl r (opened b) (leaves_if_full file (opened b)) refl refl)
+      (quiet LeaveIfFull refl r (opened b) (leaves_if_full file (opened b)) refl refl h.heard)
       (record {
         pc = jump_pc true (h.knows ∙ e) ∙ ap (λ p. kept 0 (word_sum (word_sum p 2) (distance 9))) h.pc;
         sp = h.sp;
@@ -305,7 +308,7 @@ module _ (from b : BoardValue) (g : IsInterrupted from) where
   leave_if_full false e h =
       let r = jump_effect Equal 9 file in
       goes_on from b LeaveIfFull LoadHeadAgain g h (ap (λ x. Some (if x then RestoreR5 else LoadHeadAgain)) e) r None (opened b)
-      (quiet LeaveIfFull refl r (opened b) (leaves_if_full file (opened b)) refl refl)
+      (quiet LeaveIfFull refl r (opened b) (leaves_if_full file (opened b)) refl refl h.heard)
       (record {
         pc = jump_pc false (h.knows ∙ e) ∙ ap (λ p. kept 0 (word_sum p 2)) h.pc;
         sp = h.sp;
@@ -322,7 +325,7 @@ module _ (from b : BoardValue) (g : IsInterrupted from) where
   load_head_again : IsInHandler from LoadHeadAgain b → GoesOn from b LoadHeadAgain
   load_head_again h =
       let r = with_register (moved file 2 0) 5 (slice_index b.fram (place_of head_place)) in
-      goes_on from b LoadHeadAgain CutToSlots g h refl r None (opened b) (quiet LoadHeadAgain refl r (opened b) (loads_head file (opened b)) refl refl)
+      goes_on from b LoadHeadAgain CutToSlots g h refl r None (opened b) (quiet LoadHeadAgain refl r (opened b) (loads_head file (opened b)) refl refl h.heard)
       (record {
         pc = ap (λ p. kept 0 (word_sum (word_sum (word_sum p 2) 2) 0)) h.pc;
         sp = h.sp;
@@ -340,7 +343,7 @@ module _ (from b : BoardValue) (g : IsInterrupted from) where
   cut_to_slots h =
       let d = and_of Word (file 5) 63 in
       let r = with_register (flagged (moved file 2 0) d.1) 5 d.0 in
-      goes_on from b CutToSlots DoubleIndex g h refl r None (opened b) (quiet CutToSlots refl r (opened b) (cuts_to_slots file (opened b)) refl refl)
+      goes_on from b CutToSlots DoubleIndex g h refl r None (opened b) (quiet CutToSlots refl r (opened b) (cuts_to_slots file (opened b)) refl refl h.heard)
       (record {
         pc = ap (λ p. kept 0 (word_sum (word_sum (word_sum p 2) 2) 0)) h.pc;
         sp = h.sp;
@@ -358,7 +361,7 @@ module _ (from b : BoardValue) (g : IsInterrupted from) where
   double_index h =
       let d = sum_of Word (file 5) (file 5) false in
       let r = with_register (flagged (moved file 0 0) d.1) 5 d.0 in
-      goes_on from b DoubleIndex StoreWord g h refl r None (opened b) (quiet DoubleIndex refl r (opened b) (doubles_index file (opened b)) refl refl)
+      goes_on from b DoubleIndex StoreWord g h refl r None (opened b) (quiet DoubleIndex refl r (opened b) (doubles_index file (opened b)) refl refl h.heard)
       (record {
         pc = ap (λ p. kept 0 (word_sum (word_sum (word_sum p 2) 0) 0)) h.pc;
         sp = h.sp;
@@ -418,6 +421,7 @@ module _ (from b : BoardValue) (g : IsInterrupted from) where
         effects = store_effects h;
         taken = refl;
         offered = refl;
+        heard = h.heard;
       })
       (record {
         pc = ap (λ p. kept 0 (word_sum (word_sum (word_sum p 2) 0) 2)) h.pc;
@@ -464,6 +468,7 @@ module _ (from b : BoardValue) (g : IsInterrupted from) where
             ∙ put_at (with_event from) head_place (word_sum (head_of from) 1) head_place refl);
         taken = refl;
         offered = refl;
+        heard = h.heard;
       })
       (record {
         pc = ap (λ p. kept 0 (word_sum (word_sum (word_sum p 2) 0) 2)) h.pc;
@@ -496,7 +501,7 @@ module _ (from b : BoardValue) (g : IsInterrupted from) where
       let r = with_register (popped file) 5 v in
       let word = stack_word 8 h.sp refl (omega arith) (omega arith) in
       goes_on from b RestoreR5 RestoreR4 g h refl r None (opened b)
-      (quiet RestoreR5 refl r (opened b) (restores_r5 file (opened b) v (stack_read (opened b) (file 1) word)) refl refl)
+      (quiet RestoreR5 refl r (opened b) (restores_r5 file (opened b) v (stack_read (opened b) (file 1) word)) refl refl h.heard)
       (record {
         pc = ap (λ p. kept 0 (word_sum (word_sum (word_sum p 2) 0) 0)) h.pc;
         sp = popped_sp 6 h.sp refl (omega arith);
@@ -521,7 +526,7 @@ module _ (from b : BoardValue) (g : IsInterrupted from) where
       let r = with_register (popped file) 4 v in
       let word = stack_word 6 h.sp refl (omega arith) (omega arith) in
       goes_on from b RestoreR4 Return g h refl r None (opened b)
-      (quiet RestoreR4 refl r (opened b) (restores_r4 file (opened b) v (stack_read (opened b) (file 1) word)) refl refl)
+      (quiet RestoreR4 refl r (opened b) (restores_r4 file (opened b) v (stack_read (opened b) (file 1) word)) refl refl h.heard)
       (record {
         pc = ap (λ p. kept 0 (word_sum (word_sum (word_sum p 2) 0) 0)) h.pc;
         sp = popped_sp 4 h.sp refl (omega arith);
@@ -611,7 +616,7 @@ come_back from b g h =
     } in
     comes_back from b g h r None (opened b)
     (quiet from b g Return refl r (opened b) (returns file (opened b) sr pc (stack_read (opened b) (file 1) low)
-    (stack_read (opened b) (word_sum (file 1) 2) high)) refl refl)
+    (stack_read (opened b) (word_sum (file 1) 2) high)) refl refl h.heard)
     (record {
       registers = same_list r (registers_of from.cpu) same ∙ listed from.cpu kept_file;
       fram = h.fram;

@@ -17,12 +17,12 @@ use Rattle.fram_board.specs.Board.{BoardValue, opened, closed, register_list, ac
 use Rattle.fram_board.specs.Effects.{store_at, effects_of}
 use Rattle.machine_effects.specs.Machine.{fram_of, ram_of}
 use Rattle.machine_effects.specs.View.{IsWhole, IsOfWords}
-use Rattle.machine_effects.proofs.Interface.{executed_is_step, step_leaves_it_whole, words_stay_words, boundary_whole, boundary_words}
+use Rattle.machine_effects.proofs.Interface.{executed_is_step, step_leaves_it_whole, words_stay_words, boundary_whole, boundary_words, boundary_heard}
 use Rattle.event_places.specs.Places.{handler_place, is_ring}
 use Rattle.event_handler.specs.Handler.{Stage, SaveR4, SaveR5, TakeEvent, LoadHead, SubtractTail, CompareRoom, LeaveIfFull, LoadHeadAgain, CutToSlots}
 use Rattle.event_handler.specs.Handler.{DoubleIndex, StoreWord, RaiseHead, RestoreR5, RestoreR4, Return, instruction_at, handler_words, place_at}
 use Rattle.event_handler.specs.Boundaries.{IsInterrupted, IsInHandler, HasReturned, KeepsTheRest, IsBehind, KnowsAt, HoldsR5, stack_of, depth_at, r4_at}
-use Rattle.event_handler.specs.Boundaries.{other_registers, fram_at, fram_behind, ram_at, with_r5, next_stage, effects_at}
+use Rattle.event_handler.specs.Boundaries.{other_registers, fram_at, fram_behind, ram_at, with_r5, next_stage, effects_at, heard_at}
 use Rattle.event_handler.specs.Laws.{GoesOn}
 use Rattle.event_handler.proofs.Keeps.{off_ring}
 use Rattle.event_handler.proofs.Bus.{effects_are, executed_as}
@@ -119,6 +119,7 @@ pub record Served (from b : BoardValue) (at : Stage) (r : Registers) (wrote : Op
   pub effects : store_at (option_map (λ p. p.0) wrote) t.fram ≡ effects_at from at
   pub taken : t.taken ≡ b.taken
   pub offered : t.offered ≡ None
+  pub heard : t.line.heard ≡ heard_at from at
 
 -- what the board answers of it
 answered : BoardValue → Instr → Option Written → BusState → Stepped
@@ -144,6 +145,7 @@ in_front from b next r t whole words l = record {
   fram = l.fram;
   ram = l.ram;
   knows = l.knows;
+  heard = boundary_heard (closed b r t);
   rest = record { readings = l.rest.readings; taken = l.rest.taken; outnum = l.rest.outnum; receiver = l.rest.receiver };
 }
 
@@ -167,6 +169,7 @@ served_step from b at g h r wrote t s behind =
       made = ap (λ x. x.answer) ran;
       cycles = refl;
       effects = ap (effects_of b) ran ∙ effects_are b i (r, wrote) t s.taken s.offered ∙ s.effects;
+      heard = s.heard;
       behind = subst (λ x. IsBehind from (next_stage from at) (at_boundary x.board)) (sym ran)
           (behind (subst (λ x. IsWhole (at_boundary x.board)) ran whole) (subst (λ x. IsOfWords (at_boundary x.board)) ran words));
     }

@@ -5,6 +5,8 @@ use Rattle.msp_step.specs.alp_words.Words.{word_sum, word_difference}
 use Rattle.fram_board.specs.address_space.Limits.{stack_top}
 use Rattle.fram_board.specs.msp_step.Registers.{Registers, registers_of}
 use Rattle.fram_board.specs.msp_step.Effect.{flags_of}
+use Rattle.fram_board.specs.declared.events.Heard.{Heard}
+use Rattle.fram_board.specs.declared.events.Heard.TheVariants.{Nothing, Once}
 use Rattle.fram_board.specs.Events.{port_word}
 use Rattle.fram_board.specs.Board.{BoardValue, is_accepting}
 use Rattle.fram_board.specs.Effects.{Effect, Store}
@@ -148,6 +150,7 @@ pub record IsInHandler (from : BoardValue) (at : Stage) (b : BoardValue) : Type 
   pub fram : fram_of b.fram ≡ fram_at from at
   pub ram : ram_of b.ram ≡ ram_at from at
   pub knows : KnowsAt from at b
+  pub heard : b.line.heard ≡ Nothing
   pub rest : KeepsTheRest from b
 
 -- the board is at the boundary behind the handler's return
@@ -187,6 +190,11 @@ abbrev pub effects_at : BoardValue → Stage → List Effect
 effects_at from StoreWord = Store (slot_place (head_of from)) (event_of from) ∷ []
 effects_at from RaiseHead = Store head_place (word_sum (head_of from) 1) ∷ []
 effects_at from _ = []
+
+-- what each instruction reads of EVENT: one reads it, once, and takes the event
+abbrev pub heard_at : BoardValue → Stage → Heard
+heard_at from TakeEvent = Once from.line.port
+heard_at from _ = Nothing
 
 -- the cycles from an instruction to behind the return, at most: exactly so many where the ring isn't full
 abbrev pub cycles_left : Stage → ℕ

@@ -5,7 +5,7 @@ use Rattle.fram_board.specs.declared.board.Stepped.{Stepped}
 use Rattle.fram_board.specs.Board.{BoardValue, is_accepting, IsNextInstruction, executed, acceptance, at_boundary}
 use Rattle.fram_board.specs.Effects.{effects_of, acceptance_effects}
 use Rattle.event_handler.specs.Handler.{Stage, SaveR4, instruction_at}
-use Rattle.event_handler.specs.Boundaries.{IsInterrupted, IsInHandler, HasReturned, IsBehind, next_stage, effects_at, cycles_left, instructions_left}
+use Rattle.event_handler.specs.Boundaries.{IsInterrupted, IsInHandler, HasReturned, IsBehind, next_stage, effects_at, heard_at, cycles_left, instructions_left}
 use Rattle.event_handler.specs.Boundaries.{left_behind, IsOutsideAs}
 
 -- the acceptance is made, in six cycles and with no effect, and the handler begins
@@ -27,6 +27,7 @@ pub record GoesOn (from b : BoardValue) (at : Stage) : Type 0 where
   pub made : (executed b (instruction_at at)).answer ≡ Ok done
   pub cycles : done.cycles ≡ cycles_of (instruction_at at)
   pub effects : effects_of b (executed b (instruction_at at)) ≡ effects_at from at
+  pub heard : done.heard ≡ heard_at from at
   pub behind : IsBehind from (next_stage from at) (at_boundary (executed b (instruction_at at)).board)
 
 -- and then it is at the next one, whatever events arise, or has returned
