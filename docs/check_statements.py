@@ -28,6 +28,8 @@ TWO_NOTIONS = {
     ('Holds', 'StackIs'): 'words that stand in code, and the words of a stack',
     ('is_true', 'holds'): 'the word on top of a stack, and the value of an expression, which may be a long',
     ('Event', 'Written'): 'an event of a trace, steps and word, and a write of an instruction, address and word',
+    ('Look', 'Registers'): 'what stands in the ring by address, and what stands in the registers by number',
+    ('ring_slots', 'ring_words'): 'the slots of the ring in a compiled image, and the words of a ring that any map may name',
     ('is_word',): 'the words of the FRAM board, and those of the board of tests, each by its own memory',
 }
 OTHER = ('use', 'mod', 'module', 'mutual', 'record', 'data', 'open', 'ruleset', 'syntax', 'infixl', 'infixr', 'infix', '--')
