@@ -135,7 +135,7 @@ module _ (W : Type 0) (spared : ℕ → Type 0) where
   reading_does [] s e i = (s, stays, e)
   reading_does (r ∷ rs) s e i =
       let left : Inputs = record s.inputs { readings = rs } in
-      let taken : TakesExactly (Take r ∷ []) s.inputs left = record { readings = sym e } in
+      let taken : TakesExactly (Take r ∷ []) s.inputs left = record { readings = sym e; seen = []; looks = refl } in
       takes r left taken (stacks (r ∷ s.stack) (λ x. (taken_is_word r s.inputs left taken (i x).inputs, (i x).stack)) stays)
 
   turns_do : (m n k : ℕ) (body : WordState → Behaviour) (s : WordState) → ((x : ℕ) → spared x → n ≢ x) → (W → k + m < 0x10000) → Leads body → Known W s
