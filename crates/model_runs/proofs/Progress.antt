@@ -11,7 +11,7 @@ use Rattle.crash_rules.specs.Laws.{Origin, PowersUpBehind}
 use Rattle.crash_rules.proofs.Interface.{progress_law}
 use Rattle.run_charges.specs.View.{outside_of}
 use Rattle.run_charges.specs.Charges.{ArePowerStates, observed}
-use Rattle.run_charges.proofs.Interface.{PlacedProgram, run_front, first_start, other_starts, is_powered, same_fram, same_readings, spent_seen}
+use Rattle.run_charges.proofs.Interface.{PlacedProgram, run_front, first_start, other_starts, is_powered, same_fram, same_inputs, spent_seen}
 use Rattle.run_charges.proofs.Interface.{spent_reached, is_spent}
 use Rattle.model_runs.specs.Runs.{BearsModel, PaysFor, Progresses, AllSpent, SpentOne, StoppedIn}
 use Rattle.model_runs.specs.Laws.{MakesProgress}
@@ -34,7 +34,7 @@ module _ {St : Type 0} (m : Model St) (c : Program) (readings : List ℕ) (origi
       record { steps = length ms; end = outside_of end; spends = is_spent on t h at.ready d ok ms end one e } in
       let up : PowersUpBehind m c readings origin (outside_of (powered t d.start)) =
       powers_up m c readings origin x b bears at.charges (outside_of t) h at.charged (outside_of (powered t d.start))
-      (is_powered on t h at.ready d.start ok) (same_fram on t h at.ready d.start ok) (same_readings on t h at.ready d.start ok) in
+      (is_powered on t h at.ready d.start ok) (same_fram on t h at.ready d.start ok) (same_inputs on t h at.ready d.start ok) in
       let more = progress_law m c bears.model bears.program readings origin (outside_of (powered t d.start)) up count d.amount enough spent in
       let P : History → Type 0 = λ z. count + length h.completed ≤ length z.completed in
       subst P (spent_seen on t h at.ready d ok ms end one) more
