@@ -86,9 +86,11 @@ module _ (z : Setting) where
     none_part small e =
         let equal = equal_is true small e in
         look_route z pc event_code h 0 (starts z i) (refl, refl, refl, refl) (on 7 ∷ jump false ∷ on 2 ∷ jump true ∷ []) (Store answer_place 0 ∷ [])
-        (put w.fram answer_place 0) left.inputs 25 _
-        (_, ((tail_fits, tt), ((tt, count_fits), ((tt, tt), ((tt, tt), ((tt, tt), ((tt, tt), (((tt, slot_seen), tt), tt))))))),
-        (refl, (refl, ap not equal, refl, (_, ((tt, tt), ((tt, answer_fits), tt)), (refl, (refl, equal, refl, tt)))))) refl refl refl refl refl
+        (put w.fram answer_place 0) left.inputs 25 _ (
+          _,
+          ((tail_fits, tt), ((tt, count_fits), ((tt, tt), ((tt, tt), ((tt, tt), ((tt, tt), (((tt, slot_seen), tt), tt))))))),
+          (refl, (refl, ap not equal, refl, (_, ((tt, tt), ((tt, answer_fits), tt)), (refl, (refl, equal, refl, tt))))),
+        ) refl refl refl refl refl
         (λ s. record { is = s; held = refl })
 
     -- a word does
@@ -101,9 +103,11 @@ module _ (z : Setting) where
         let same : second (offset (index w.fram) + ring_place) ≡ word = ap second slot in
         let up : (w.fram count_place + 1 + 0) % 0x10000 ≡ n = plus_none (w.fram count_place) 1 in
         look_route z pc event_code h 0 (starts z i) (refl, refl, refl, refl) (on 7 ∷ jump true ∷ on 1 ∷ jump false ∷ on 1 ∷ [])
-        (Store answer_place word ∷ Store count_place n ∷ []) (put (put w.fram answer_place word) count_place n) left.inputs 28 _
-        (_, ((tail_fits, tt), ((tt, count_fits), ((tt, tt), ((tt, tt), ((tt, tt), ((tt, tt), (((tt, slot_seen), tt), tt))))))),
-        (refl, (refl, ap not equal, refl, (_, ((tt, answer_fits), tt), (refl, (refl, equal, refl, (_, ((tt, refl, tt, count_fits), tt), (refl, tt)))))))) refl
+        (Store answer_place word ∷ Store count_place n ∷ []) (put (put w.fram answer_place word) count_place n) left.inputs 28 _ (
+          _,
+          ((tail_fits, tt), ((tt, count_fits), ((tt, tt), ((tt, tt), ((tt, tt), ((tt, tt), (((tt, slot_seen), tt), tt))))))),
+          (refl, (refl, ap not equal, refl, (_, ((tt, answer_fits), tt), (refl, (refl, equal, refl, (_, ((tt, refl, tt, count_fits), tt), (refl, tt))))))),
+        ) refl
         refl (λ k. Store answer_place (same k) ∷ Store count_place (up k) ∷ []) (λ k. put (put w.fram answer_place (same k)) count_place (up k)) refl
         (λ s. record { is = s; held = same })
 
