@@ -1,6 +1,6 @@
 -- The boot and the start of an attempt.
 use Rattle.std.proofs.Common.{◌≡◌, ◌≢◌, ℕ, ◌+◌, ◌*◌, ◌%◌, ◌<◌, ◌==◌, Bool, not, if◌then◌else◌, List, [], ◌∷◌, ◌++◌, length, map}
-use Rattle.std.proofs.Common.{refl, sym, ap, ◌∙◌, subst, arith, true, false}
+use Rattle.std.proofs.Common.{refl, sym, ap, ◌∙◌, subst, arith, true, false, append_assoc}
 use Rattle.std.proofs.lemmas.Bool.Decides.{nat_tests}
 use Rattle.std.proofs.lemmas.List.{length-map}
 use Rattle.std.proofs.lemmas.List.Elements.{All-get_or}
@@ -18,17 +18,23 @@ use Rattle.runtime_code.specs.Comes.{Comes, IsAt}
 use Rattle.runtime_code.specs.Counted.{if_any}
 use Rattle.runtime_code.specs.Ladder.{ladder, all_stubs}
 use Rattle.runtime_code.proofs.Interface.{last_flag, comes_on, form_comes, so_ends, recounted, moved_to, compares, rung_in, HasLadder, ladder_bytes, to_task}
-use Rattle.boot_runtime.specs.Listing.{TaskEntry, entry_at, rung_for, stubs_address, boot_forms}
+use Rattle.runtime_code.proofs.Interface.{behind_where}
+use Rattle.boot_runtime.specs.Listing.{TaskEntry, entry_at, rung_for, stubs_address, event_count_set, events_counted, opening, dispatch, boot_forms}
 use Rattle.boot_runtime.specs.Laws.{IsEntered, IsBoot, PendingCommitIsFound, AttemptIsFound, StartIsMade, VersionIsRaised}
 use Rattle.boot_runtime.proofs.Stores.{task_stays}
 use Rattle.boot_runtime.proofs.Opening.{looks_at_version, raises, opens}
 use Rattle.boot_runtime.proofs.Entering.{copies_count, are_rungs, rung_is, copying, copies_done}
 use Rattle.memory_map.specs.declared.words.RuntimeWord.TheVariants.{CurrentTask, Gate, Version}
-use Rattle.memory_map.specs.MemoryMap.{MemoryMap, word_place}
+use Rattle.memory_map.specs.MemoryMap.{MemoryMap, word_place, with_events}
 
 -- GATE isn't 1
 gate_is_not_one : (n : ℕ) → n < 0x10000 → n ≢ 1 → ((n + 65534 + 1) % 65536 == 0) ≡ false
 gate_is_not_one n l h = grind (arith, nat_tests, l, h)
+
+-- 4 bytes or none are an even number
+with_events_even : (events : Bool) → with_events events 4 % 2 ≡ 0
+with_events_even true = refl
+with_events_even false = refl
 
 -- a number below the end isn't the end
 not_at_end : (n : ℕ) → n < 0xFFFF → (n == 0xFFFF) ≡ false
@@ -63,23 +69,39 @@ module _ (code : Code) (m : MemoryMap) (commit : ℕ) (tasks : List TaskEntry) (
   attempts e word gate =
       looked (gate_is_not_one (fram (word_place m Gate)) word gate) (record { pc = e; fram = refl; inputs = refl })
 
+  -- the dispatch, behind the opening
+  abbrev dispatch_at : ℕ
+  dispatch_at = at + 54 + with_events m.runtime.events 4
+
+  -- the opening stands there, and the dispatch with the ladder and the stubs behind it
+  opening_there : Stands code (at + 10) (opening m)
+  opening_there =
+      let rest = ladder (stubs_address m tasks at) (map rung_for tasks) ++ all_stubs (map rung_for tasks) in
+      stands_front code (at + 10) (opening m) (dispatch m) (stands_front code (at + 10) (opening m ++ dispatch m) rest (forms_behind code at 3 all boot.stands))
+
+  dispatch_there : Stands code dispatch_at (dispatch m ++ (ladder (stubs_address m tasks at) (map rung_for tasks) ++ all_stubs (map rung_for tasks)))
+  dispatch_there =
+      let rest = ladder (stubs_address m tasks at) (map rung_for tasks) ++ all_stubs (map rung_for tasks) in
+      behind_where code m.runtime.events event_count_set (at + 54) (dispatch m ++ rest)
+      (subst (Stands code (at + 54)) (append_assoc (events_counted m) (dispatch m) rest) (forms_behind code at 17 all boot.stands))
+
   -- the dispatch has its ladder and the stubs
-  laddered : HasLadder code m (at + 54) (stubs_address tasks at) (map rung_for tasks)
+  laddered : HasLadder code m dispatch_at (stubs_address m tasks at) (map rung_for tasks)
   laddered =
       let ss = map rung_for tasks in
-      let q = stubs_address tasks at in
+      let q = stubs_address m tasks at in
       let room = boot.room in let even = boot.even in
       let count = length-map tasks rung_for in
-      let both = forms_behind code at 22 all boot.stands in
-      let there : at + 68 ≡ at + 54 + 14 = omega arith in
+      let both = forms_behind code dispatch_at 5 (dispatch m ++ (ladder q ss ++ all_stubs ss)) dispatch_there in
       let bytes = ladder_bytes q ss in
-      let first : at + 68 + forms_bytes (ladder q ss) ≡ q = omega (arith, bytes, count) in
+      let first : dispatch_at + 14 + forms_bytes (ladder q ss) ≡ q = omega (arith, bytes, count) in
+      let fours = with_events_even m.runtime.events in
       record {
-        dispatches = forms_at code at 17 5 all boot.stands;
-        rungs = subst (λ x. Stands code x (ladder q ss)) there (stands_front code (at + 68) (ladder q ss) (all_stubs ss) both);
-        stubs = subst (λ x. Stands code x (all_stubs ss)) first (stands_back code (at + 68) (ladder q ss) (all_stubs ss) both);
+        dispatches = stands_front code dispatch_at (dispatch m) (ladder q ss ++ all_stubs ss) dispatch_there;
+        rungs = stands_front code (dispatch_at + 14) (ladder q ss) (all_stubs ss) both;
+        stubs = subst (λ x. Stands code x (all_stubs ss)) first (stands_back code (dispatch_at + 14) (ladder q ss) (all_stubs ss) both);
         room = omega (arith, room, count);
-        even = omega (arith, even);
+        even = omega (arith, even, fours);
         each = are_rungs tasks boot.entered;
         current = boot.places.words CurrentTask;
       }
@@ -108,8 +130,8 @@ start_is_made code m commit tasks at u boot e named word =
     let once = ap (λ n. if_any n 1) copies in let dear = ap (λ n. if_any n 3) copies in
     recounted (omega (arith, once)) (omega (arith, dear)) (so_ends (comes_on
     (moved_to (omega arith) (opens code boot.tidy m boot.places (at + 10) f u.inputs u (omega (arith, room)) word
-    (forms_at code at 3 14 (boot_forms m commit tasks at) boot.stands) (record { pc = e; fram = refl; inputs = refl })))
-    (λ v j. to_task code boot.tidy m (at + 54) (stubs_address tasks at) (map rung_for tasks) (rung_for t) (copying t.privates g u.inputs) v
+    (opening_there code m commit tasks at boot u) (record { pc = e; fram = refl; inputs = refl })))
+    (λ v j. to_task code boot.tidy m (dispatch_at code m commit tasks at boot u) (stubs_address m tasks at) (map rung_for tasks) (rung_for t) (copying t.privates g u.inputs) v
     (laddered code m commit tasks at boot u) j
     (omega (arith, named, stays, count)) is (copies_done code boot.tidy t.privates g u.inputs entered.privates)))
     (λ v h. record { pc = h.pc; sp = h.sp; fram = h.fram ∙ sym (fram_after-append os cs f); inputs = h.inputs }))

@@ -1,4 +1,5 @@
--- An attempt's opening: the clearing where VER is at its end; then VER, CLN and EN. All but the last two is of any runtime with version words.
+-- An attempt's opening: the clearing where VER is at its end; then VER, CLN and EN, and EC, where there are events. All but the last three is of any
+-- runtime with version words.
 use Rattle.std.proofs.Common.{◌≡◌, ℕ, zero, suc, ◌+◌, ◌*◌, ◌%◌, ◌<◌, ◌==◌, not, List, [], ◌∷◌, ◌++◌, refl, ap, ◌∙◌, subst, arith}
 use Rattle.std.proofs.Common.{Bool, true, false, if◌then◌else◌}
 use Rattle.std.proofs.lemmas.Bool.Decides.{nat_tests}
@@ -10,17 +11,19 @@ use Rattle.runtime_code.specs.machine_effects.Inputs.{Inputs}
 use Rattle.runtime_code.specs.machine_effects.Machine.{Code}
 use Rattle.runtime_code.specs.code_forms.Forms.{Core, Form, Update, Constant}
 use Rattle.runtime_code.specs.code_forms.Code.{Stands, IsTidy}
-use Rattle.runtime_code.proofs.code_forms.Interface.{forms_at, forms_behind}
-use Rattle.runtime_code.specs.runtime_effects.Stages.{is_at_end, clearing_if, cleared, counting_effects, opening_effects}
+use Rattle.runtime_code.proofs.code_forms.Interface.{forms_at, forms_behind, stands_front}
+use Rattle.runtime_code.specs.runtime_effects.Stages.{is_at_end, clearing_if, cleared, count_cleared, counting_effects, opening_effects}
 use Rattle.runtime_code.specs.runtime_effects.Needs.{AreInFram}
 use Rattle.runtime_code.specs.Comes.{Comes, IsAt}
 use Rattle.runtime_code.specs.Counted.{if_any}
 use Rattle.runtime_code.proofs.Interface.{behind, core_at, from_there, ends, then_on, recounted, on_fram, moved_to, nothing, comes_on, straight, compares}
 use Rattle.runtime_code.proofs.Interface.{Loop, Turning, Point, Turn, Makes, loop_ends, in_front, turn_there, loops}
-use Rattle.runtime_code.proofs.Interface.{IsLeft, all_left, left_from, first_left}
+use Rattle.runtime_code.proofs.Interface.{IsLeft, all_left, left_from, first_left, count_is_place, where_comes}
 use Rattle.boot_runtime.specs.Listing.{end_tested, clearing_begins, clear_turn, clear_loop, version_cleared, clearing, counts_set, opening}
+use Rattle.boot_runtime.specs.Listing.{event_count_set, events_counted}
 use Rattle.memory_map.specs.declared.words.RuntimeWord.TheVariants.{ListLength, EmitCount, Version}
-use Rattle.memory_map.specs.MemoryMap.{MemoryMap, word_place}
+use Rattle.memory_map.specs.MemoryMap.{MemoryMap, word_place, with_events}
+use Rattle.memory_map.specs.event_places.Places.{count_place}
 
 -- whether VER is at its end, by the flag behind its comparison with 65535
 end_flag : (n : ℕ) → n < 0x10000 → ((n + 0 + 1) % 0x10000 == 0) ≡ (n == 0xFFFF)
@@ -112,17 +115,40 @@ module _ (code : Code) (tidy : IsTidy code) (m : MemoryMap) (places : AreInFram 
       (from_there u at (ends (straight code tidy ms (core_at p f l u) (tt, tt) (h.0, tt) ((tt, refl, tt, places.words Version), tt) refl)
       (record { pc = refl; fram = refl; inputs = refl })))
 
+  -- what VER, CLN and EN become
+  abbrev numbered : ℕ → List Effect
+  numbered w = Store (word_place m Version) w ∷ Store (word_place m ListLength) 0 ∷ Store (word_place m EmitCount) 0 ∷ []
+
   -- VER, CLN and EN, of 12 bytes
-  counts : (p : ℕ) (f : ℕ → ℕ) (l : Inputs) (u : Core) → Stands code p (counts_set m) → IsAt p f l u
-      → let es = counting_effects m f in Comes code es 3 12 u (IsAt (p + 12) (fram_after es f) l)
-  counts p f l u h at =
+  numbers : (p : ℕ) (f : ℕ → ℕ) (l : Inputs) (u : Core) → Stands code p (counts_set m) → IsAt p f l u
+      → let es = numbered ((f (word_place m Version) + 1) % 0x10000) in Comes code es 3 12 u (IsAt (p + 12) (fram_after es f) l)
+  numbers p f l u h at =
       let a = word_place m Version in
-      let set : ℕ → List Effect = λ w. Store a w ∷ Store (word_place m ListLength) 0 ∷ Store (word_place m EmitCount) 0 ∷ [] in
+      let set : ℕ → List Effect = numbered in
       let one : (f a + 1 + 0) % 0x10000 ≡ (f a + 1) % 0x10000 = omega arith in
       subst (λ w. Comes code (set w) 3 12 u (IsAt (p + 12) (fram_after (set w) f) l)) one
       (from_there u at (ends (straight code tidy (counts_set m) (core_at p f l u) (tt, (tt, (tt, tt))) h
       ((tt, refl, tt, places.words Version), ((tt, places.words ListLength), ((tt, places.words EmitCount), tt))) refl)
       (record { pc = omega arith; fram = refl; inputs = refl })))
+
+  -- EC, where there are events
+  counts_events : (p : ℕ) (f : ℕ → ℕ) (l : Inputs) (u : Core) → Stands code p (events_counted m) → IsAt p f l u
+      → let events = m.runtime.events in let es = count_cleared m in
+      Comes code es (with_events events 1) (with_events events 4) u (IsAt (p + with_events events 4) (fram_after es f) l)
+  counts_events p f l u h at =
+      where_comes code m.runtime.events event_count_set (Store count_place 0 ∷ []) 1 4 4 p (λ q es. IsAt q (fram_after es f) l) u
+      (λ k. from_there u at (ends (straight code tidy event_count_set (core_at p f l u) (tt, tt) k ((tt, count_is_place), tt) refl)
+      (record { pc = refl; fram = refl; inputs = refl })))
+      h at
+
+  -- all of them
+  counts : (p : ℕ) (f : ℕ → ℕ) (l : Inputs) (u : Core) → Stands code p (counts_set m ++ events_counted m) → IsAt p f l u
+      → let events = m.runtime.events in let es = counting_effects m f in
+      Comes code es (3 + with_events events 1) (12 + with_events events 4) u (IsAt (p + 12 + with_events events 4) (fram_after es f) l)
+  counts p f l u h at =
+      let g = fram_after (numbered ((f (word_place m Version) + 1) % 0x10000)) f in
+      on_fram f (numbers p f l u (stands_front code p (counts_set m) (events_counted m) h) at)
+      (λ v k. counts_events (p + 12) g l v (forms_behind code p 3 (counts_set m ++ events_counted m) h) k)
 
   -- the steps and cycles of the clearing, by whether it comes
   abbrev pub clearing_steps : Bool → ℕ
@@ -140,10 +166,11 @@ module _ (code : Code) (tidy : IsTidy code) (m : MemoryMap) (places : AreInFram 
       (λ v k. moved_to (omega arith) (clears (p + 6) f l v (omega (arith, high)) (forms_at code p 2 9 (opening m) h) k))
   clears_if false p f l u high word h z at = looks_at_version p false f l u (omega (arith, high)) (h.0, (h.1.0, tt)) word z at
 
-  -- the opening, of 44 bytes
+  -- the opening, of 44 bytes, and 4 more where there are events
   pub opens : (p : ℕ) (f : ℕ → ℕ) (l : Inputs) (u : Core) → p + 44 < 0x10000 → f (word_place m Version) < 0x10000 → Stands code p (opening m) → IsAt p f l u
-      → let es = opening_effects m f in let b = is_at_end m f in
-      Comes code es (5 + clearing_steps b) (18 + clearing_cycles b) u (IsAt (p + 44) (fram_after es f) l)
+      → let es = opening_effects m f in let b = is_at_end m f in let events = m.runtime.events in
+      Comes code es (5 + with_events events 1 + clearing_steps b) (18 + with_events events 4 + clearing_cycles b) u
+      (IsAt (p + 44 + with_events events 4) (fram_after es f) l)
   opens p f l u high word h at =
       let b = is_at_end m f in
       let g = fram_after (clearing_if m b) f in

@@ -7,9 +7,10 @@ use Rattle.runtime_code.specs.code_forms.Placed.{instructions, AreInstructions}
 use Rattle.runtime_code.proofs.code_forms.Interface.{forms_bytes-append}
 use Rattle.runtime_code.specs.runtime_effects.Places.{CopyPair}
 use Rattle.runtime_code.proofs.Interface.{if_any_most, code_bytes, are_instructions-append, ladder_bytes}
+use Rattle.runtime_code.proofs.Interface.{with_events_most, where_bytes, where_instructions}
 use Rattle.boot_runtime.specs.Listing.{TaskEntry, head, opening, dispatch, copies_in, stub_to, stub, stub_bytes, ladder_to, stubs}
-use Rattle.boot_runtime.specs.Listing.{rung_for, stubs_bytes, boot_forms}
-use Rattle.boot_runtime.specs.Listing.{ladder_offset, stubs_address}
+use Rattle.boot_runtime.specs.Listing.{rung_for, stubs_bytes, fixed_forms, boot_forms, ladder_offset, stubs_address}
+use Rattle.boot_runtime.specs.Listing.{end_tested, clearing, counts_set, event_count_set, events_counted}
 use Rattle.boot_runtime.specs.Laws.{StartsAreShort, ClearingIsDearest, BootIsShort, BootIsCode, BootFits, entry_room}
 use Rattle.boot_runtime.proofs.Entering.{stub_size}
 use Rattle.memory_map.specs.MemoryMap.{MemoryMap}
@@ -20,9 +21,13 @@ stubs_size (t ∷ ts) = let e = stubs_size ts in let d = stub_size t in forms_by
 
 pub boot_is_short : BootIsShort
 boot_is_short m commit tasks at =
-    let q = stubs_address tasks at in
+    let q = stubs_address m tasks at in
     let l = ladder_to q tasks in
-    let a : forms_bytes (boot_forms m commit tasks at) ≡ ladder_offset + forms_bytes (l ++ stubs tasks) = omega arith in
+    let fixed = forms_bytes-append (fixed_forms m commit) (l ++ stubs tasks) in
+    let one = forms_bytes-append (opening m) (dispatch m) in
+    let two = forms_bytes-append (end_tested m ++ (clearing m ++ counts_set m)) (events_counted m) in
+    let more = where_bytes m.runtime.events event_count_set in
+    let a : forms_bytes (boot_forms m commit tasks at) ≡ ladder_offset m + forms_bytes (l ++ stubs tasks) = omega (arith, fixed, one, two, more) in
     let b = forms_bytes-append l (stubs tasks) in
     let c = ladder_bytes q (map rung_for tasks) in
     let count = length-map tasks rung_for in
@@ -48,32 +53,38 @@ ladder_are q (t ∷ ts) = (tt, ladder_are (q + stub_bytes t) ts)
 head_are : (m : MemoryMap) (commit : ℕ) → AreInstructions (instructions (head m commit))
 head_are m commit = search arith
 
+-- an attempt's opening but for EC
+numbered_are : (m : MemoryMap) → AreInstructions (instructions (end_tested m ++ (clearing m ++ counts_set m)))
+numbered_are m = search arith
+
 opening_are : (m : MemoryMap) → AreInstructions (instructions (opening m))
-opening_are m = search arith
+opening_are m =
+    are_instructions-append (end_tested m ++ (clearing m ++ counts_set m)) (events_counted m) (numbered_are m)
+    (where_instructions m.runtime.events event_count_set (tt, tt))
 
 dispatch_are : (m : MemoryMap) → AreInstructions (instructions (dispatch m))
 dispatch_are m = search arith
 
 pub boot_is_code : BootIsCode
 boot_is_code m commit tasks at =
-    let q = stubs_address tasks at in
+    let q = stubs_address m tasks at in
     let l = ladder_to q tasks in
     let d = dispatch m in
-    are_instructions-append (head m commit) (opening m ++ (d ++ (l ++ stubs tasks))) (head_are m commit)
-    (are_instructions-append (opening m) (d ++ (l ++ stubs tasks)) (opening_are m)
-    (are_instructions-append d (l ++ stubs tasks) (dispatch_are m)
-    (are_instructions-append l (stubs tasks) (ladder_are q tasks) (stubs_are tasks))))
+    are_instructions-append (fixed_forms m commit) (l ++ stubs tasks)
+    (are_instructions-append (head m commit) (opening m ++ d) (head_are m commit)
+    (are_instructions-append (opening m) d (opening_are m) (dispatch_are m)))
+    (are_instructions-append l (stubs tasks) (ladder_are q tasks) (stubs_are tasks))
 
 entries_fit : (ts : List TaskEntry) → 4 * length ts + stubs_bytes ts ≤ 2 * entry_room ts
 entries_fit [] = omega arith
 entries_fit (t ∷ ts) = let e = entries_fit ts in let once = if_any_most (length t.privates) 4 in omega (arith, e, once)
 
 pub boot_fits : BootFits
-boot_fits tasks = let e = entries_fit tasks in omega (arith, e)
+boot_fits m tasks = let e = entries_fit tasks in let few = with_events_most m.runtime.events 4 in omega (arith, e, few)
 
 pub starts_are_short : StartsAreShort
-starts_are_short versions privates = let once = if_any_most privates 3 in omega (arith, once)
+starts_are_short events versions privates = let once = if_any_most privates 3 in omega (arith, once)
 
 pub clearing_is_dearest : ClearingIsDearest
-clearing_is_dearest true versions privates = omega arith
-clearing_is_dearest false versions privates = omega arith
+clearing_is_dearest events true versions privates = omega arith
+clearing_is_dearest events false versions privates = omega arith

@@ -22,12 +22,12 @@ stub_written is js ks (x ∷ xs) code some copied branched =
     branched ∙ ap (λ l. l ++ (Branch code ∷ [])) copied ∙ append_assoc is (copies_in (x ∷ xs)) (Branch code ∷ [])
 
 -- what stands before the ladder, the ladder, and the stubs
-pub boot_written : (m : MemoryMap) (commit at q : ℕ) (tasks us : List TaskEntry) (v w : List Form) → us ≡ tasks → q ≡ stubs_address us at
+pub boot_written : (m : MemoryMap) (commit at q : ℕ) (tasks us : List TaskEntry) (v w : List Form) → us ≡ tasks → q ≡ stubs_address m us at
     → v ≡ fixed_forms m commit ++ ladder_to q us → w ≡ v ++ stubs us → w ≡ boot_forms m commit tasks at
 boot_written m commit at q tasks us v w e there ladder rest =
     let f = fixed_forms m commit in
-    rest ∙ ap (λ x. x ++ stubs us) (ladder ∙ ap (λ n. f ++ ladder_to n us) there) ∙ ap (λ x. (f ++ ladder_to (stubs_address x at) x) ++ stubs x) e
-    ∙ append_assoc f (ladder_to (stubs_address tasks at) tasks) (stubs tasks)
+    rest ∙ ap (λ x. x ++ stubs us) (ladder ∙ ap (λ n. f ++ ladder_to n us) there) ∙ ap (λ x. (f ++ ladder_to (stubs_address m x at) x) ++ stubs x) e
+    ∙ append_assoc f (ladder_to (stubs_address m tasks at) tasks) (stubs tasks)
 
 -- the stub of the next task
 pub next_written : (is js all : List Form) (xs : List TaskPlace) (x : TaskPlace) (i : ℕ) → x ≡ get_or xs i x → i < length xs

@@ -7,7 +7,7 @@ use Rattle.runtime_code.specs.code_forms.Forms.{Core}
 use Rattle.runtime_code.specs.code_forms.Code.{Stands, IsTidy}
 use Rattle.runtime_code.specs.code_forms.Placed.{instructions, words_of, AreInstructions}
 use Rattle.memory_map.specs.declared.words.RuntimeWord.TheVariants.{CurrentTask, Gate, Version}
-use Rattle.memory_map.specs.MemoryMap.{MemoryMap, word_place}
+use Rattle.memory_map.specs.MemoryMap.{MemoryMap, word_place, with_events}
 use Rattle.runtime_code.specs.runtime_effects.Places.{CopyPair}
 use Rattle.runtime_code.specs.runtime_effects.Stages.{is_at_end, start_effects}
 use Rattle.runtime_code.specs.runtime_effects.Needs.{AreInFram, KeepsTask, ArePairWords}
@@ -32,7 +32,7 @@ pub record IsBoot (code : Code) (m : MemoryMap) (commit : ℕ) (tasks : List Tas
   pub even_commit : commit % 2 ≡ 0
   pub entered : All IsEntered tasks
   pub even : at % 2 ≡ 0
-  pub room : at + boot_bytes tasks < 0x10000
+  pub room : at + boot_bytes m tasks < 0x10000
   pub stands : Stands code at (boot_forms m commit tasks at)
 
 -- from the boot's address on, whatever the registers: with GATE 1 it comes to the commit, and does nothing else
@@ -55,7 +55,8 @@ StartIsMade = (code : Code) (m : MemoryMap) (commit : ℕ) (tasks : List TaskEnt
     → let t = entry_at tasks (u.fram (word_place m CurrentTask)) in
     let clears = is_at_end m u.fram in
     let es = start_effects m (privates_in tasks) u.fram in
-    Comes code es (start_steps clears m.versions.words (length t.privates)) (start_cycles clears m.versions.words (length t.privates)) u
+    let events = m.runtime.events in
+    Comes code es (start_steps events clears m.versions.words (length t.privates)) (start_cycles events clears m.versions.words (length t.privates)) u
     (Enters t.code stack_top (fram_after es u.fram) u.inputs)
 
 -- from the boot's address on, whatever the registers: where GATE isn't 1 and VER isn't at its end, the fifth instruction raises VER, and
@@ -67,18 +68,19 @@ VersionIsRaised = (code : Code) (m : MemoryMap) (commit : ℕ) (tasks : List Tas
     Comes code (Store (word_place m Version) raised ∷ []) 5 16 u
     (IsAt (start_address at + 36) (put u.fram (word_place m Version) raised) u.inputs)
 
--- a start without clearing takes 33 cycles at most, and 6 for each word of a private scalar, whatever the arrays
+-- a start without clearing takes 33 cycles at most, 4 more where there are events, and 6 for each word of a private scalar, whatever the arrays
 abbrev pub StartsAreShort : Type 0
-StartsAreShort = (versions privates : ℕ) → start_cycles false versions privates ≤ 33 + 6 * privates
+StartsAreShort = (events : Bool) (versions privates : ℕ) → start_cycles events false versions privates ≤ 33 + with_events events 4 + 6 * privates
 
 -- and never more than one with it
 abbrev pub ClearingIsDearest : Type 0
-ClearingIsDearest = (clears : Bool) (versions privates : ℕ) → start_cycles clears versions privates ≤ start_cycles true versions privates
+ClearingIsDearest = (events clears : Bool) (versions privates : ℕ)
+    → start_cycles events clears versions privates ≤ start_cycles events true versions privates
 
 -- the code's length
 abbrev pub BootIsShort : Type 0
 BootIsShort = (m : MemoryMap) (commit : ℕ) (tasks : List TaskEntry) (at : ℕ)
-    → 2 * length (words_of (instructions (boot_forms m commit tasks at))) ≡ boot_bytes tasks
+    → 2 * length (words_of (instructions (boot_forms m commit tasks at))) ≡ boot_bytes m tasks
 
 -- each of its instructions has its words
 abbrev pub BootIsCode : Type 0
@@ -96,7 +98,7 @@ entry_room (t ∷ ts) = 200 + 16 * length t.privates + entry_room ts
 
 -- the code has room in its own words and those of the entries
 abbrev pub BootFits : Type 0
-BootFits = (tasks : List TaskEntry) → boot_bytes tasks ≤ 2 * (own_boot_words + entry_room tasks)
+BootFits = (m : MemoryMap) (tasks : List TaskEntry) → boot_bytes m tasks ≤ 2 * (own_boot_words + entry_room tasks)
 
 -- the boot can come to each task of a layout
 abbrev pub TasksAreEntered : Type 0

@@ -6,7 +6,8 @@ use Rattle.runtime_code.specs.msp_isa.declared.operands.Konst.TheVariants.{Zero,
 use Rattle.runtime_code.specs.code_forms.Forms.{Form, Move, Calculate, Compare, Update, Branch, R4, R5}
 use Rattle.runtime_code.specs.code_forms.Forms.{Number, Constant, Fram, ToRegister, ToFram, ToPointed}
 use Rattle.memory_map.specs.declared.words.RuntimeWord.TheVariants.{Gate, ListLength, EmitCount, Version}
-use Rattle.memory_map.specs.MemoryMap.{MemoryMap, word_place}
+use Rattle.memory_map.specs.MemoryMap.{MemoryMap, word_place, where_events, with_events}
+use Rattle.memory_map.specs.event_places.Places.{count_place}
 use Rattle.runtime_code.specs.runtime_effects.Places.{CopyPair}
 use Rattle.runtime_code.specs.Counted.{over, counted, if_any}
 use Rattle.runtime_code.specs.Ladder.{Rung, stub_with, rung_with, ladder, all_stubs}
@@ -59,9 +60,17 @@ counts_set m =
     Update Add (Constant One) (word_place m Version) ∷ Move (Constant Zero) (ToFram (word_place m ListLength))
     ∷ Move (Constant Zero) (ToFram (word_place m EmitCount)) ∷ []
 
+-- EC := 0
+abbrev pub event_count_set : List Form
+event_count_set = Move (Constant Zero) (ToFram count_place) ∷ []
+
+-- the same where there are events
+abbrev pub events_counted : MemoryMap → List Form
+events_counted m = where_events m.runtime.events event_count_set
+
 -- an attempt's opening
 abbrev pub opening : MemoryMap → List Form
-opening m = end_tested m ++ (clearing m ++ counts_set m)
+opening m = end_tested m ++ (clearing m ++ (counts_set m ++ events_counted m))
 
 -- the private scalars are copied
 abbrev pub copies_in : List CopyPair → List Form
@@ -97,16 +106,16 @@ abbrev pub stubs : List TaskEntry → List Form
 stubs ts = all_stubs (map rung_for ts)
 
 -- the bytes before the ladder
-abbrev pub ladder_offset : ℕ
-ladder_offset = 68
+abbrev pub ladder_offset : MemoryMap → ℕ
+ladder_offset m = 68 + with_events m.runtime.events 4
 
 -- the ladder's place, by the place of the boot
-abbrev pub ladder_address : ℕ → ℕ
-ladder_address at = at + ladder_offset
+abbrev pub ladder_address : MemoryMap → ℕ → ℕ
+ladder_address m at = at + ladder_offset m
 
 -- the place of the first stub
-abbrev pub stubs_address : List TaskEntry → ℕ → ℕ
-stubs_address tasks at = ladder_address at + 4 * length tasks
+abbrev pub stubs_address : MemoryMap → List TaskEntry → ℕ → ℕ
+stubs_address m tasks at = ladder_address m at + 4 * length tasks
 
 -- what stands before the ladder: the look at GATE, an attempt's opening, and the way to the ladder
 abbrev pub fixed_forms : MemoryMap → ℕ → List Form
@@ -114,21 +123,25 @@ fixed_forms m commit = head m commit ++ (opening m ++ dispatch m)
 
 -- boot, attempt start, ladder and stubs, to stand at an address
 abbrev pub boot_forms : MemoryMap → ℕ → List TaskEntry → ℕ → List Form
-boot_forms m commit tasks at = fixed_forms m commit ++ (ladder_to (stubs_address tasks at) tasks ++ stubs tasks)
+boot_forms m commit tasks at = fixed_forms m commit ++ (ladder_to (stubs_address m tasks at) tasks ++ stubs tasks)
 
 -- the length of stubs in bytes
 abbrev pub stubs_bytes : List TaskEntry → ℕ
 stubs_bytes [] = 0
 stubs_bytes (t ∷ ts) = stub_bytes t + stubs_bytes ts
 
--- the length of it all: 34 words, and for each task 2, and where it has private scalars 2 more and 3 for each of their words
-abbrev pub boot_bytes : List TaskEntry → ℕ
-boot_bytes tasks = ladder_offset + 4 * length tasks + stubs_bytes tasks
+-- the length of it all: 34 words, 2 more where there are events, and for each task 2, and where it has private scalars 2 more and 3 for each of
+-- their words
+abbrev pub boot_bytes : MemoryMap → List TaskEntry → ℕ
+boot_bytes m tasks = ladder_offset m + 4 * length tasks + stubs_bytes tasks
 
--- the steps of an attempt's start, by whether the clearing comes first, by the version words and by the words of private scalars
-abbrev pub start_steps : Bool → ℕ → ℕ → ℕ
-start_steps clears versions privates = 11 + (if clears then 4 + (if_any versions 1 + 4 * versions) else 0) + (if_any privates 1 + privates)
+-- the steps of an attempt's start, by whether there are events and whether the clearing comes first, by the version words and by the words of private
+-- scalars
+abbrev pub start_steps : Bool → Bool → ℕ → ℕ → ℕ
+start_steps events clears versions privates =
+    11 + with_events events 1 + (if clears then 4 + (if_any versions 1 + 4 * versions) else 0) + (if_any privates 1 + privates)
 
 -- its cycles: the version words cost an attempt nothing but once in 65535, and a task without private scalars has no stub
-abbrev pub start_cycles : Bool → ℕ → ℕ → ℕ
-start_cycles clears versions privates = 30 + (if clears then 9 + (if_any versions 2 + 8 * versions) else 0) + (if_any privates 3 + 6 * privates)
+abbrev pub start_cycles : Bool → Bool → ℕ → ℕ → ℕ
+start_cycles events clears versions privates =
+    30 + with_events events 4 + (if clears then 9 + (if_any versions 2 + 8 * versions) else 0) + (if_any privates 3 + 6 * privates)

@@ -24,16 +24,16 @@ pub fn version_is_raised()
     ensures { VersionIsRaised }
 {}
 
-/// The start of an attempt takes 33 cycles at most and 6 for each word of its private scalars, whatever the arrays; but for the clearing,
-/// which comes once in 65535 attempts.
+/// The start of an attempt takes 33 cycles at most, 4 more where there are events, and 6 for each word of its private scalars, whatever the
+/// arrays; but for the clearing, which comes once in 65535 attempts.
 #[tactic(auto, using(crate::proofs::Words::starts_are_short, crate::proofs::Words::clearing_is_dearest))]
 pub fn starts_are_short()
     ensures short { StartsAreShort }
     ensures dearest { ClearingIsDearest }
 {}
 
-/// The code is 34 words long, and for each task 2, and where it has private scalars 2 more and 3 for each of their words, which is within
-/// the allowance; each of its instructions has its words.
+/// The code is 34 words long, 2 more where there are events, and for each task 2, and where it has private scalars 2 more and 3 for each of
+/// their words, which is within the allowance; each of its instructions has its words.
 pub fn boot_is_short()
     ensures short { BootIsShort }
     ensures code { BootIsCode }

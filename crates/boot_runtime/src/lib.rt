@@ -7,14 +7,14 @@ mod stubs;
 
 ghost use Rattle.std.specs.Prelude.{◌≡◌, ◌+◌, ◌<◌, ◌++◌, ℕ, IfOk, OnOk};
 ghost use Rattle.boot_runtime.specs.Entries.{task_entries};
-ghost use Rattle.boot_runtime.specs.Listing.{head, end_tested, clearing_begins, clear_turn, clear_loop, version_cleared, counts_set};
-ghost use Rattle.boot_runtime.specs.Listing.{dispatch, fixed_forms, boot_forms, boot_bytes};
+ghost use Rattle.boot_runtime.specs.Listing.{head, end_tested, clearing_begins, clear_turn, clear_loop, version_cleared, counts_set, events_counted};
+ghost use Rattle.boot_runtime.specs.Listing.{dispatch, fixed_forms, ladder_offset, boot_forms, boot_bytes};
 
 pub use laws::{
     boot_is_short, boot_obeys_the_gate, start_is_made, start_stores_in_fram, starts_are_short,
     tasks_are_entered, version_is_raised,
 };
-use memory_map::{Layout, RuntimeWord, STACK_TOP};
+use memory_map::{EVENT_COUNT, Layout, RuntimeWord, STACK_TOP};
 use runtime_code::forms::Form::{Branch, Calculate, Compare, Move, SetStack, SkipBy, Update};
 use runtime_code::forms::Source::{Constant, Fram, Number, Register};
 use runtime_code::forms::Target::{ToFram, ToPointed, ToRegister};
@@ -24,8 +24,12 @@ use runtime_code::{loop_begin, loop_end};
 use std::alloc::{AllocError, Global};
 use stubs::{push_ladder, push_stubs};
 
-/// The bytes of the code before the ladder.
-const LADDER: u16 = 68;
+// The bytes of the code before the ladder.
+fn ladder_offset(layout: &Layout) -> u16
+    ensures { result ≡ ladder_offset layout.now }
+{
+    if layout.runtime().events { 72 } else { 68 }
+}
 
 // Where GATE is 1 a branch to the commit, else over it.
 fn head(layout: &Layout) -> [Form; 3]
@@ -100,6 +104,16 @@ fn counts_set(layout: &Layout) -> [Form; 3]
     ]
 }
 
+// EC := 0, where there are events.
+fn push_events_counted(code: &mut Vec<Form>, layout: &Layout) -> Result<(), AllocError>
+    ensures { OnOk result (code.new.items ≡ code.old.items ++ events_counted layout.now) }
+{
+    if layout.runtime().events {
+        code.push(Move(Constant(Konst::Zero), ToFram(EVENT_COUNT)))?;
+    }
+    Ok(())
+}
+
 // SP := its top; to the branch of the task that CUR names, in a ladder of branches of four bytes that stands right behind.
 fn dispatch(layout: &Layout) -> [Form; 5]
     ensures { result ≡ dispatch layout.now }
@@ -125,6 +139,7 @@ fn fixed_code(alloc: Global, layout: &Layout) -> Result<Vec<Form>, AllocError>
     push_clear_loop(&mut code, layout)?;
     code.extend_from_slice(&version_cleared(layout))?;
     code.extend_from_slice(&counts_set(layout))?;
+    push_events_counted(&mut code, layout)?;
     code.extend_from_slice(&dispatch(layout))?;
     Ok(code)
 }
@@ -132,17 +147,21 @@ fn fixed_code(alloc: Global, layout: &Layout) -> Result<Vec<Form>, AllocError>
 /// The instructions of the boot for a layout, to stand at an address; or no memory is left.
 ///
 /// First GATE is looked at: where it is 1 a branch leads to the commit. Else, and after a commit from 10 bytes behind the address on, an
-/// attempt starts. Where VER is 65535, every version word := 0, then VER := 0. Then VER := VER + 1, CLN := 0, EN := 0; and SP is set, and by
-/// CUR the private scalars of the task are copied, and a branch leads to its code. They take 34 words, and for each task 2, and where it has
-/// private scalars 2 more and 3 for each of their words.
+/// attempt starts. Where VER is 65535, every version word := 0, then VER := 0. Then VER := VER + 1, CLN := 0, EN := 0, and EC := 0, where there
+/// are events; and SP is set, and by CUR the private scalars of the task are copied, and a branch leads to its code. They take 34 words, 2 more
+/// where there are events, and for each task 2, and where it has private scalars 2 more and 3 for each of their words.
 pub fn boot_code(alloc: Global, layout: &Layout, at: u16) -> Result<Vec<Form>, AllocError>
-    requires { at + boot_bytes (task_entries layout.now) < 65536 }
+    requires { at + boot_bytes layout.now (task_entries layout.now) < 65536 }
     ensures { IfOk result (λ code. code.items ≡ boot_forms layout.now layout.now.commit.address (task_entries layout.now) at) }
 {
     layout.rules();
     let tasks = layout.tasks();
     let mut code = fixed_code(alloc, layout)?;
-    push_ladder(&mut code, tasks, at + LADDER + 4 * tasks.len() as u16)?;
+    push_ladder(
+        &mut code,
+        tasks,
+        at + ladder_offset(layout) + 4 * tasks.len() as u16,
+    )?;
     push_stubs(&mut code, tasks)?;
     Ok(code)
 }

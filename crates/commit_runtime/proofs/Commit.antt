@@ -1,6 +1,6 @@
 -- The commit's code makes the commit.
 use Rattle.std.proofs.Common.{◌≡◌, ℕ, zero, suc, ◌+◌, ◌*◌, ◌/◌, ◌%◌, ◌<◌, ◌≤◌, List, [], ◌∷◌, ◌++◌, length, length-append}
-use Rattle.std.proofs.Common.{refl, sym, ap, ◌∙◌, subst, arith, true}
+use Rattle.std.proofs.Common.{refl, sym, ap, ◌∙◌, subst, arith, Bool, true}
 use Rattle.std.specs.List.{All}
 use Rattle.std.proofs.lemmas.List.Elements.{All-same}
 use Rattle.runtime_code.specs.msp_isa.declared.instructions.Condition.TheVariants.{Always}
@@ -13,21 +13,24 @@ use Rattle.runtime_code.specs.code_forms.Forms.{Core, Branch}
 use Rattle.runtime_code.specs.code_forms.Code.{Stands, IsTidy, forms_bytes}
 use Rattle.runtime_code.proofs.code_forms.Interface.{stands_front, forms_at, forms_behind}
 use Rattle.runtime_code.specs.runtime_effects.Places.{CopyPair, run_pairs, entries_from, listed}
-use Rattle.runtime_code.specs.runtime_effects.Stages.{copied_home, sends, emits_sent, commit_closed, commit_effects}
+use Rattle.runtime_code.specs.runtime_effects.Stages.{copied_home, sends, emits_sent, tail_moved, commit_closed, commit_effects}
 use Rattle.runtime_code.specs.runtime_effects.Needs.{AreInFram, CanCommit, IsCopied}
-use Rattle.runtime_code.proofs.runtime_effects.Interface.{run_length, entries_alike}
+use Rattle.runtime_code.proofs.runtime_effects.Interface.{run_length, entries_alike, where_leaves}
 use Rattle.runtime_code.specs.Comes.{Comes, IsAt}
 use Rattle.runtime_code.specs.Counted.{if_any}
 use Rattle.runtime_code.proofs.Interface.{behind, core_at, from_there, then_on, so_ends, recounted, nothing, comes_on, form_comes, straight, jumps}
 use Rattle.runtime_code.proofs.Interface.{if_any_grows, Loop, Turning, Point, Turn, Makes, loop_ends, in_front, turn_there, loops}
 use Rattle.runtime_code.proofs.Interface.{IsLeft, all_left, left_from, first_left, BehindSends, sends_are_made}
-use Rattle.commit_runtime.specs.Listing.{copies_begin, entry_begin, word_moved, word_loop, copy_loop, closing, commit_forms, commit_steps, commit_cycles}
+use Rattle.runtime_code.proofs.Interface.{tail_is_place, sent_is_place, behind_where, where_comes}
+use Rattle.commit_runtime.specs.Listing.{copies_begin, entry_begin, word_moved, word_loop, copy_loop, tail_set, events_taken, closing, commit_forms}
+use Rattle.commit_runtime.specs.Listing.{commit_bytes, commit_steps, commit_cycles}
 use Rattle.commit_runtime.specs.Laws.{CommitIsMade}
 use Rattle.commit_runtime.proofs.WordLoop.{words_home}
 use Rattle.commit_runtime.proofs.Copies.{all_front, all_back, copied_behind, list_stays, emits_stay, sends_alike, sends_keep, sent_base_stays, emit_count_stays}
-use Rattle.commit_runtime.proofs.Copies.{next_task_stays}
+use Rattle.commit_runtime.proofs.Copies.{next_task_stays, sent_tail_stays}
 use Rattle.memory_map.specs.declared.words.RuntimeWord.TheVariants.{CurrentTask, NextTask, Gate, ListLength, EmitCount, Base, SentBase}
-use Rattle.memory_map.specs.MemoryMap.{MemoryMap, word_place}
+use Rattle.memory_map.specs.MemoryMap.{MemoryMap, word_place, where_events, with_events}
+use Rattle.memory_map.specs.event_places.Places.{tail_place, sent_place}
 
 -- the words that so many entries from there on name, and the stores that bring them home
 abbrev named : ℕ → Point → List CopyPair
@@ -136,6 +139,16 @@ module _ (code : Code) (tidy : IsTidy code) (m : MemoryMap) (places : AreInFram 
       (omega (arith, few, last)) (record { pc = refl; fram = refl; inputs = refl }) refl refl
       (record { entries = all_left (6 * n) places.list (omega (arith, few)); few = omega (arith, words, last); copied = can.copies })))
 
+  -- TAIL, where there are events
+  tail_part : (p number : ℕ) (f : ℕ → ℕ) (l : Inputs) (u : Core) → Stands code p (events_taken m) → BehindSends p number f l u
+      → let events = m.runtime.events in let es = tail_moved m f in
+      Comes code es (with_events events 1) (with_events events 6) u (BehindSends (p + with_events events 6) number (fram_after es f) l)
+  tail_part p number f l u h at =
+      where_comes code m.runtime.events tail_set (Store tail_place (f sent_place) ∷ []) 1 6 6 p (λ q es. BehindSends q number (fram_after es f) l) u
+      (λ k. from_there u at.at (ends (straight code tidy tail_set (core_at p f l u) (tt, tt) k ((sent_is_place, tail_is_place), tt) refl)
+      (record { at = record { pc = refl; fram = refl; inputs = refl }; next_number = at.next_number })))
+      h at
+
   -- the last stores, with a number for BASE
   abbrev closed_with : ℕ → ℕ → List Effect
   closed_with next number = Store (word_place m CurrentTask) next ∷ Store (word_place m Base) number ∷ Store (word_place m Gate) 0 ∷ []
@@ -154,10 +167,34 @@ module _ (code : Code) (tidy : IsTidy code) (m : MemoryMap) (places : AreInFram 
       (form_comes code tidy (Branch start) closed (record closed { pc = start }) [] 3 (IsAt start (fram_after (es (u.work 7)) f) l) h.1.1.1.0 even refl
       (record { pc = refl; fram = refl; inputs = refl }))))
 
-  commits : (p start : ℕ) (f : ℕ → ℕ) (l : Inputs) (u : Core) → p + 82 < 0x10000 → start % 2 ≡ 0 → Stands code p (commit_forms m start) → CanCommit m f
+  -- all of them, with a word for TAIL
+  abbrev ended_with : ℕ → ℕ → ℕ → List Effect
+  ended_with tail next number = where_events m.runtime.events (Store tail_place tail ∷ []) ++ closed_with next number
+
+  end_part : (p start number : ℕ) (f : ℕ → ℕ) (l : Inputs) (u : Core) → start % 2 ≡ 0
+      → Stands code p (events_taken m ++ (closing m ++ (Branch start ∷ []))) → BehindSends p number f l u
+      → let events = m.runtime.events in let es = ended_with (f sent_place) (f (word_place m NextTask)) number in
+      Comes code es (with_events events 1 + 4) (with_events events 6 + 17) u (IsAt start (fram_after es f) l)
+  end_part p start number f l u even h at =
+      let events = m.runtime.events in
+      let last = closing m ++ (Branch start ∷ []) in
+      let ts = tail_moved m f in
+      let g = fram_after ts f in
+      let row = places.row in
+      let next : g (word_place m NextTask) ≡ f (word_place m NextTask) =
+      where_leaves events tail_place (f sent_place) (word_place m NextTask) f (λ on e. omega (arith, row, e)) in
+      let behind_tail = behind_where code events tail_set p last h in
+      let Closed : ℕ → Core → Type 0 = λ x v. let es = closed_with x number in Comes code es 4 17 v (IsAt start (fram_after es g) l) in
+      let es = closed_with (f (word_place m NextTask)) number in
+      so_ends (comes_on (tail_part p number f l u (stands_front code p (events_taken m) last h) at)
+      (λ v j. subst (λ x. Closed x v) next (close_part (p + with_events events 6) start number g l v even behind_tail j)))
+      (λ v j. record { pc = j.pc; fram = j.fram ∙ sym (fram_after-append ts es f); inputs = j.inputs })
+
+  commits : (p start : ℕ) (f : ℕ → ℕ) (l : Inputs) (u : Core) → p + commit_bytes m.runtime.events < 0x10000 → start % 2 ≡ 0 → Stands code p (commit_forms m start) → CanCommit m f
       → f (word_place m SentBase) < 0x10000 → IsAt p f l u
       → let n = f (word_place m ListLength) in let ws = length (listed m f) in let k = f (word_place m EmitCount) in let es = commit_effects m f in
-      Comes code es (commit_steps n ws k) (commit_cycles n ws k) u (IsAt start (fram_after es f) l)
+      let events = m.runtime.events in
+      Comes code es (commit_steps events n ws k) (commit_cycles events n ws k) u (IsAt start (fram_after es f) l)
   commits p start f l u high even h can word at =
       let xs = listed m f in
       let cs = copied_home xs f in
@@ -168,6 +205,7 @@ module _ (code : Code) (tidy : IsTidy code) (m : MemoryMap) (places : AreInFram 
       let sb : g (word_place m SentBase) ≡ base = sent_base_stays m xs f can.copies in
       let en : g (word_place m EmitCount) ≡ k = emit_count_stays m xs f can.copies in
       let nx : g (word_place m NextTask) ≡ f (word_place m NextTask) = next_task_stays m xs f can.copies in
+      let se : g sent_place ≡ f sent_place = sent_tail_stays m xs f can.copies in
       let same : emits_sent m g ≡ emits_sent m f =
       ap (λ x. sends x (g (word_place m SentBase)) m.emits.address g) en ∙ ap (λ x. sends k x m.emits.address g) sb
       ∙ sends_alike k base m.emits.address f g (λ a from end. emits_stay m xs f can.copies a from (omega (arith, end, few))) in
@@ -178,11 +216,15 @@ module _ (code : Code) (tidy : IsTidy code) (m : MemoryMap) (places : AreInFram 
       (subst (λ b. Sent (emits_sent m g) b (g (word_place m EmitCount)) v) sb (sends_are_made code tidy m places (p + 34) g l v (omega (arith, high)) (forms_at code p 14 10 (commit_forms m start) h) (omega (arith, en, few))
       (omega (arith, sb, word)) (record { pc = j.pc ∙ omega arith; fram = j.fram; inputs = j.inputs })))) in
       let ls = commit_closed m f in
-      let closed : (v : Core) → BehindSends (p + 34 + 30) ((base + k) % 0x10000) g l v → Comes code ls 4 17 v (IsAt start (fram_after ls g) l) = λ v j.
+      let events = m.runtime.events in
+      let Closed : List Effect → Core → Type 0 = λ es v.
+      Comes code es (with_events events 1 + 4) (with_events events 6 + 17) v (IsAt start (fram_after es g) l) in
+      let closed : (v : Core) → BehindSends (p + 34 + 30) ((base + k) % 0x10000) g l v → Closed ls v = λ v j.
       let there : p + 34 + 30 ≡ p + 64 = omega arith in
-      subst (λ x. let es = closed_with x ((base + k) % 0x10000) in Comes code es 4 17 v (IsAt start (fram_after es g) l)) nx
-      (close_part (p + 64) start ((base + k) % 0x10000) g l v even (forms_behind code p 24 (commit_forms m start) h)
-      (subst (λ x. BehindSends x ((base + k) % 0x10000) g l v) there j)) in
+      subst (λ t. Closed (ended_with t (f (word_place m NextTask)) ((base + k) % 0x10000)) v) se
+      (subst (λ x. Closed (ended_with (g sent_place) x ((base + k) % 0x10000)) v) nx
+      (end_part (p + 64) start ((base + k) % 0x10000) g l v even (forms_behind code p 24 (commit_forms m start) h)
+      (subst (λ x. BehindSends x ((base + k) % 0x10000) g l v) there j))) in
       let all : fram_after ls g ≡ fram_after (commit_effects m f) f =
       sym (fram_after-append cs (emits_sent m f ++ ls) f ∙ fram_after-append (emits_sent m f) ls g
       ∙ ap (fram_after ls) (sends_keep k base m.emits.address f g)) in
@@ -195,5 +237,5 @@ commit_is_made code m at start u tidy places high even h e can word =
     commits code tidy m places at start u.fram u.inputs u high even h can word (record { pc = e; fram = refl; inputs = refl })
 
 -- a commit of more takes no less
-pub commit_grows : (n n' ws ws' k k' : ℕ) → n ≤ n' → ws ≤ ws' → k ≤ k' → commit_cycles n ws k ≤ commit_cycles n' ws' k'
-commit_grows n n' ws ws' k k' a b c = let d = if_any_grows n n' 2 a in let e = if_any_grows k k' 2 c in omega (arith, a, b, c, d, e)
+pub commit_grows : (events : Bool) (n n' ws ws' k k' : ℕ) → n ≤ n' → ws ≤ ws' → k ≤ k' → commit_cycles events n ws k ≤ commit_cycles events n' ws' k'
+commit_grows events n n' ws ws' k k' a b c = let d = if_any_grows n n' 2 a in let e = if_any_grows k k' 2 c in omega (arith, a, b, c, d, e)

@@ -7,12 +7,14 @@ use Rattle.runtime_code.specs.machine_effects.World.{put, fram_after, EachStore}
 use Rattle.runtime_code.specs.machine_effects.Machine.{IsPlace}
 use Rattle.runtime_code.proofs.machine_effects.Interface.{each_store-append, fram_untouched}
 use Rattle.runtime_code.specs.runtime_effects.Places.{CopyPair, listed}
-use Rattle.runtime_code.specs.runtime_effects.Stages.{copied_home, sends, emits_sent, commit_closed, commit_effects}
+use Rattle.runtime_code.specs.runtime_effects.Stages.{copied_home, sends, emits_sent, tail_moved, commit_closed, commit_effects}
 use Rattle.runtime_code.specs.runtime_effects.Needs.{IsOutOf, IsCopied}
-use Rattle.runtime_code.proofs.runtime_effects.Interface.{sends_store}
+use Rattle.runtime_code.proofs.runtime_effects.Interface.{sends_store, where_stores}
 use Rattle.commit_runtime.specs.Laws.{CommitStoresInFram}
 use Rattle.memory_map.specs.declared.words.RuntimeWord.TheVariants.{CurrentTask, NextTask, Gate, EmitCount, Base, SentBase}
 use Rattle.memory_map.specs.MemoryMap.{MemoryMap, word_place}
+use Rattle.memory_map.specs.event_places.Places.{tail_place, sent_place}
+use Rattle.runtime_code.proofs.Interface.{tail_is_place}
 
 -- what holds at each home, whatever is stored there, holds of each store of the copies
 homes_stored : (P : ℕ → ℕ → Type 0) (xs : List CopyPair) (f : ℕ → ℕ) → All (λ x. (w : ℕ) → P x.home w) xs → EachStore P (copied_home xs f)
@@ -28,7 +30,8 @@ commit_stores_in_fram m f places can =
     let homes = homes_stored P (listed m f) f (All-weaker (IsCopied m) (λ x. (w : ℕ) → IsPlace x.home) (λ x h w. h.home) (listed m f) can.copies) in
     each_store-append P (copied_home (listed m f) f) (emits_sent m f ++ commit_closed m f) homes
     (each_store-append P (emits_sent m f) (commit_closed m f) (sends_store P (f (word_place m EmitCount)) (f (word_place m SentBase)) m.emits.address f)
-    (places.words CurrentTask, (places.words Base, (places.words Gate, tt))))
+    (each_store-append P (tail_moved m f) _ (where_stores P m.runtime.events tail_place (f sent_place) (λ on. tail_is_place))
+    (places.words CurrentTask, (places.words Base, (places.words Gate, tt)))))
 
 -- an address outside others
 out_of : (p n a x : ℕ) → IsOutOf p n a → p ≤ x → x < p + n → a ≢ x
@@ -72,6 +75,9 @@ module _ (m : MemoryMap) (xs : List CopyPair) (f : ℕ → ℕ) (copied : All (I
 
   pub sent_base_stays : after (word_place m SentBase) ≡ f (word_place m SentBase)
   sent_base_stays = stays (word_place m SentBase) (λ x h. h.leaves.sent_base)
+
+  pub sent_tail_stays : after sent_place ≡ f sent_place
+  sent_tail_stays = stays sent_place (λ x h. h.leaves.sent_tail)
 
   pub emit_count_stays : after (word_place m EmitCount) ≡ f (word_place m EmitCount)
   emit_count_stays = stays (word_place m EmitCount) (λ x h. h.leaves.emit_count)

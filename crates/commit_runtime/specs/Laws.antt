@@ -16,17 +16,18 @@ use Rattle.commit_runtime.specs.Listing.{commit_forms, commit_bytes, commit_step
 -- from where the listing stands, on FRAM on which a commit can be made and SB is a word, the code makes exactly the commit, whatever the registers,
 -- and comes to the attempt's start, in a number of steps and of cycles that depends on CLN, the listed words and EN alone
 abbrev pub CommitIsMade : Type 0
-CommitIsMade = (code : Code) (m : MemoryMap) (at start : ℕ) (u : Core) → IsTidy code → AreInFram m → at + commit_bytes < 0x10000 → start % 2 ≡ 0
+CommitIsMade = (code : Code) (m : MemoryMap) (at start : ℕ) (u : Core) → IsTidy code → AreInFram m → at + commit_bytes m.runtime.events < 0x10000 → start % 2 ≡ 0
     → Stands code at (commit_forms m start) → u.pc ≡ at → CanCommit m u.fram → u.fram (word_place m SentBase) < 0x10000
     → let entries = u.fram (word_place m ListLength) in
     let words = length (listed m u.fram) in
     let emits = u.fram (word_place m EmitCount) in
     let es = commit_effects m u.fram in
-    Comes code es (commit_steps entries words emits) (commit_cycles entries words emits) u (IsAt start (fram_after es u.fram) u.inputs)
+    let events = m.runtime.events in
+    Comes code es (commit_steps events entries words emits) (commit_cycles events entries words emits) u (IsAt start (fram_after es u.fram) u.inputs)
 
 -- the code's length
 abbrev pub CommitIsShort : Type 0
-CommitIsShort = (m : MemoryMap) (start : ℕ) → 2 * length (words_of (instructions (commit_forms m start))) ≡ commit_bytes
+CommitIsShort = (m : MemoryMap) (start : ℕ) → 2 * length (words_of (instructions (commit_forms m start))) ≡ commit_bytes m.runtime.events
 
 -- each of its instructions has its words
 abbrev pub CommitIsCode : Type 0

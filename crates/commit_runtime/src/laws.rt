@@ -8,7 +8,7 @@ pub fn commit_is_made()
     ensures { CommitIsMade }
 {}
 
-/// The code is 41 words long, and each of its instructions has its words.
+/// The code is 41 words long, 44 where there are events, and each of its instructions has its words.
 #[tactic(auto, using(crate::proofs::Words::commit_is_short, crate::proofs::Words::commit_is_code))]
 pub fn commit_is_short()
     ensures short { CommitIsShort }

@@ -6,11 +6,11 @@ mod laws;
 
 ghost use Rattle.std.specs.Prelude.{◌≡◌, ◌+◌, ◌<◌, ◌++◌, ℕ, IfOk, OnOk};
 ghost use Rattle.runtime_code.specs.Addresses.{start_address};
-ghost use Rattle.commit_runtime.specs.Listing.{copies_begin, entry_begin, word_loop, copy_loop, sends_begin, send_turn, send_loop, closing};
+ghost use Rattle.commit_runtime.specs.Listing.{copies_begin, entry_begin, word_loop, copy_loop, sends_begin, send_turn, send_loop, events_taken, closing};
 ghost use Rattle.commit_runtime.specs.Listing.{commit_forms};
 
 pub use laws::{commit_is_made, commit_is_short, commit_stores_in_fram};
-use memory_map::{Layout, RuntimeWord};
+use memory_map::{Layout, RuntimeWord, SENT_TAIL, TAIL};
 use runtime_code::forms::Form::{Branch, Calculate, Move};
 use runtime_code::forms::Source::{Constant, Fram, PointedNext, Register};
 use runtime_code::forms::Target::{ToFram, ToOutdata, ToOutnum, ToPointed, ToRegister};
@@ -96,6 +96,16 @@ fn push_sends(code: &mut Vec<Form>, layout: &Layout) -> Result<(), AllocError>
     code.extend_from_slice(&loop_end(0x400 - 7))
 }
 
+// TAIL := SE, where there are events.
+fn push_events_taken(code: &mut Vec<Form>, layout: &Layout) -> Result<(), AllocError>
+    ensures { OnOk result (code.new.items ≡ code.old.items ++ events_taken layout.now) }
+{
+    if layout.runtime().events {
+        code.push(Move(Fram(SENT_TAIL), ToFram(TAIL)))?;
+    }
+    Ok(())
+}
+
 // CUR := NEXT, BASE := the number behind the last word's, which is SB + EN, GATE := 0.
 fn closing(layout: &Layout) -> [Form; 3]
     ensures { result ≡ closing layout.now }
@@ -113,9 +123,9 @@ fn closing(layout: &Layout) -> [Form; 3]
 
 /// The instructions of the commit for a layout; or no memory is left.
 ///
-/// They copy the words of the entries of the commit list, from the first on, send the emitted words, numbered from SB on, and store CUR, BASE and
-/// GATE, in this order; the last one is a branch to the start of an attempt. GATE is 1 until all else is done, so that a boot in
-/// between finds it and begins the commit anew. They take 41 words, and may stand anywhere.
+/// They copy the words of the entries of the commit list, from the first on, send the emitted words, numbered from SB on, and store TAIL, where there
+/// are events, CUR, BASE and GATE, in this order; the last one is a branch to the start of an attempt. GATE is 1 until all else is done, so that
+/// a boot in between finds it and begins the commit anew. They take 41 words, 44 where there are events, and may stand anywhere.
 pub fn commit_code(alloc: Global, layout: &Layout) -> Result<Vec<Form>, AllocError>
     requires { layout.now.boot.address + 10 < 65536 }
     ensures { IfOk result (λ code. code.items ≡ commit_forms layout.now (start_address layout.now.boot.address)) }
@@ -125,6 +135,7 @@ pub fn commit_code(alloc: Global, layout: &Layout) -> Result<Vec<Form>, AllocErr
     push_copies(&mut code, layout)?;
     code.extend_from_slice(&sends_begin(layout))?;
     push_sends(&mut code, layout)?;
+    push_events_taken(&mut code, layout)?;
     code.extend_from_slice(&closing(layout))?;
     code.push(Branch(start_address(layout.boot().address)))?;
     Ok(code)

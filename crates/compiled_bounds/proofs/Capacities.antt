@@ -29,6 +29,7 @@ module _ (p : CheckedProgram) (l : MemoryMap) (apart : AreApart l) where
   commits_fit to x inputs d =
       commit_stores_all (program_places p l) apart x d.pending (CountsFit l)
       (λ a w h. record { list = λ e. absurd (omega (arith, apart, h, e)); emits = λ e. absurd (omega (arith, apart, h, e)) })
+      (λ w on. record { list = λ e. absurd (omega (arith, apart, e)); emits = λ e. absurd (omega (arith, apart, e)) })
       (λ w. record { list = λ e. absurd (omega (arith, apart, e)); emits = λ e. absurd (omega (arith, apart, e)) })
       (λ w. record { list = λ e. absurd (omega (arith, apart, e)); emits = λ e. absurd (omega (arith, apart, e)) })
       (λ w. record { list = λ e. absurd (omega (arith, apart, e)); emits = λ e. absurd (omega (arith, apart, e)) })

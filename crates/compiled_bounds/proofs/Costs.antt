@@ -1,5 +1,5 @@
 -- Each task keeps to its part of the bound.
-use Rattle.std.proofs.Common.{◌≡◌, ℕ, ◌+◌, ◌*◌, ◌≤◌, sym, ap, ◌∙◌, subst, arith, List, [], length, Some, true}
+use Rattle.std.proofs.Common.{◌≡◌, ℕ, ◌+◌, ◌*◌, ◌≤◌, sym, ap, ◌∙◌, subst, arith, Bool, List, [], length, Some, true}
 use Rattle.std.proofs.lemmas.Option.{slice_get-map, get_or_from_slice_get}
 use Rattle.std.specs.Option.{option_map}
 use Rattle.std.specs.Prelude.{slice_get}
@@ -26,7 +26,7 @@ use Rattle.lower.specs.Seen.{map_seen}
 use Rattle.lower.specs.Lowered.{lowered_task}
 use Rattle.lower.specs.Sizes.{entry_cycles}
 use Rattle.commit_runtime.specs.Listing.{commit_cycles}
-use Rattle.runtime_code.proofs.Interface.{if_any_most}
+use Rattle.runtime_code.proofs.Interface.{if_any_most, with_events_most}
 use Rattle.compiled_model.specs.Parts.{task_program}
 use Rattle.compiled_model.specs.Needs.{whole_cycles}
 use Rattle.compiled_bounds.specs.Laws.{TasksKeepToTheBound}
@@ -44,12 +44,13 @@ entries_cost l layout Strays = omega arith
 entries_cost l layout Broken = omega arith
 
 -- a boot, a start with the clearing of versions and the copies of private words, the place of the stack, the body, the entries, and the commit
-all_within : (v1 v2 privates scalars body price list emits : ℕ) → v1 ≡ v2 → privates ≤ scalars → body ≤ price + 26 * privates
-    → 9 + start_cycles true v1 privates + (stack_cycles + body) + commit_cycles list list emits
+all_within : (events : Bool) (v1 v2 privates scalars body price list emits : ℕ) → v1 ≡ v2 → privates ≤ scalars → body ≤ price + 26 * privates
+    → 9 + start_cycles events true v1 privates + (stack_cycles + body) + commit_cycles events list list emits
     ≤ 400 + 12 * v2 + 72 * scalars + price + 40 * list + 40 * emits
-all_within v1 v2 privates scalars body price list emits v e b =
+all_within events v1 v2 privates scalars body price list emits v e b =
+    let start = with_events_most events 4 in let commit = with_events_most events 6 in
     let clears = if_any_most v1 2 in let copies = if_any_most privates 3 in let lists = if_any_most list 2 in let sends = if_any_most emits 2 in
-    omega (arith, v, e, b, clears, copies, lists, sends)
+    omega (arith, v, e, b, clears, copies, lists, sends, start, commit)
 
 module _ (p : CheckedProgram) (allow : Allow) (plans : List TaskPlanValue) (l : MemoryMap) (allowed : IsAllowed p allow) (few : PrivatesAreCounted p l)
     (layout : IsLayout p allow plans l) (t : ℕ) (fram : ℕ → ℕ) (inputs : Inputs) (task : CheckedTask) (own : TaskPlace)
@@ -90,7 +91,7 @@ module _ (p : CheckedProgram) (allow : Allow) (plans : List TaskPlanValue) (l : 
 
   within : whole_cycles p l t fram inputs ≤ task_bound (uses_events p) (versions_of p) p.shared (task_body p t)
   within =
-      let most = all_within l.versions.words (versions_of p) (length (privates_in (task_entries l) t)) (scalars_of p.shared (task_body p t))
+      let most = all_within l.runtime.events l.versions.words (versions_of p) (length (privates_in (task_entries l) t)) (scalars_of p.shared (task_body p t))
       (spent (task_program p l t) (started fram inputs)) (block_price cycles_column (task_body p t))
       (list_of p.shared (task_body p t)) (emits_of (task_body p t)) (layout.versions ∙ allowed.versions) privates_are body_costs in
       omega (arith, most)
@@ -102,6 +103,6 @@ tasks_keep_to_the_bound p allow plans l allowed few layout = record {
       let count = layout.tasks.count in
       let own = element l.tasks t (omega (arith, below, count)) in
       within p allow plans l allowed few layout t fram inputs task.0 own.0 task.1 own.1;
-  commits = λ t below. subst (λ n. 9 + commit_cycles l.entries l.entries l.emits.words ≤ n) (sym (bound_is_the_sources p l))
-      (commit_within_bound p l.entries l.emits.words (omega (arith, below)) (layout.list ∙ allowed.list) (layout.emits ∙ allowed.emits));
+  commits = λ t below. subst (λ n. 9 + commit_cycles l.runtime.events l.entries l.entries l.emits.words ≤ n) (sym (bound_is_the_sources p l))
+      (commit_within_bound p l.runtime.events l.entries l.emits.words (omega (arith, below)) (layout.list ∙ allowed.list) (layout.emits ∙ allowed.emits));
 }

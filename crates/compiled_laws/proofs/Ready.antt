@@ -20,6 +20,7 @@ use Rattle.compiled_model.specs.Parts.{task_program}
 use Rattle.compiled_bounds.proofs.Interface.{tasks_keep_to_the_bound}
 use Rattle.compiled_runs.specs.Laws.{CanRun}
 use Rattle.compiled_runs.proofs.Interface.{sources_have_room}
+use Rattle.compiled_model.specs.Needs.{StoresBelow}
 use Rattle.compiled_laws.specs.Ready.{SourcesAreReady}
 
 module _ (text : List ℕ) (p : CheckedProgram) (allow : Allow) (plans : List TaskPlanValue) (l : MemoryMap) (t : IsLaidOutText text p allow plans l) where
@@ -55,6 +56,6 @@ pub sources_are_ready : SourcesAreReady
 sources_are_ready text p allow plans l t = record {
   model = compiled_laws text p allow plans l t (run text p allow plans l t);
   code = code text p allow plans l t;
-  stores = λ s x inputs words settled. each_weaker _ (λ a w. a < l.boot.address) (λ a w h. h.below) _
+  stores = λ s x inputs words settled. each_weaker _ (StoresBelow l l.boot.address) (λ a w h. h.below) _
       (stores_below_code text p allow plans l t (run text p allow plans l t) s x inputs words settled);
 }

@@ -1,5 +1,5 @@
 -- What the code of a compiled source needs of its tasks, beyond the laws of the model: their cycles, and where they leave for.
-use Rattle.std.specs.Prelude.{◌≡◌, ℕ, ◌+◌, ◌<◌, ◌≤◌, true, length}
+use Rattle.std.specs.Prelude.{◌≡◌, ℕ, ◌+◌, ◌<◌, ◌≤◌, ◌⊎◌, true, length}
 use Rattle.machine_effects.specs.World.{World, EachStore}
 use Rattle.machine_effects.specs.Inputs.{Inputs, InputsAreWords}
 use Rattle.cost_bound.specs.Allowance.{task_bound, uses_events, versions_of, list_of}
@@ -9,6 +9,7 @@ use Rattle.array_versions.specs.Behaviour.{End, GoesOn, Jumps, Short, Strays, Br
 use Rattle.array_versions.specs.Form.{IsWhole, OfWords}
 use Rattle.word_code.specs.Code.{code_spent}
 use Rattle.memory_map.specs.MemoryMap.{MemoryMap}
+use Rattle.runtime_effects.specs.Needs.{IsEventWord}
 use Rattle.boot_runtime.specs.Entries.{task_entries}
 use Rattle.boot_runtime.specs.Listing.{privates_in, start_cycles}
 use Rattle.commit_runtime.specs.Listing.{commit_cycles}
@@ -20,15 +21,15 @@ use Rattle.compiled_model.specs.Parts.{task_program, compiled_model, IsStarted}
 -- words, the body and the commit, of as many entries as words: each may be a run of its own
 abbrev pub whole_cycles : CheckedProgram → MemoryMap → ℕ → (ℕ → ℕ) → Inputs → ℕ
 whole_cycles p l t fram inputs =
-    9 + start_cycles true l.versions.words (length (privates_in (task_entries l) t)) + code_spent (task_program p l t) (started fram inputs)
-    + commit_cycles (list_of p.shared (task_body p t)) (list_of p.shared (task_body p t)) (emits_of (task_body p t))
+    9 + start_cycles l.runtime.events true l.versions.words (length (privates_in (task_entries l) t)) + code_spent (task_program p l t) (started fram inputs)
+    + commit_cycles l.runtime.events (list_of p.shared (task_body p t)) (list_of p.shared (task_body p t)) (emits_of (task_body p t))
 
 -- each task keeps to its bound, whatever FRAM holds and whatever the inputs are; and where there is a task, a boot with the commit of a
 -- full list and full buffer keeps to the greatest
 pub record CostsAreWithin (p : CheckedProgram) (l : MemoryMap) : Type 0 where
   pub within : (t : ℕ) (fram : ℕ → ℕ) (inputs : Inputs) → t < length p.tasks → HoldsWords fram → InputsAreWords inputs
       → whole_cycles p l t fram inputs ≤ task_bound (uses_events p) (versions_of p) p.shared (task_body p t)
-  pub commits : (t : ℕ) → t < length p.tasks → 9 + commit_cycles l.entries l.entries l.emits.words ≤ bound (compiled_model p l)
+  pub commits : (t : ℕ) → t < length p.tasks → 9 + commit_cycles l.runtime.events l.entries l.entries l.emits.words ≤ bound (compiled_model p l)
 
 -- a program's end: it leaves for an address, or is short of readings
 abbrev pub LeavesFor : ℕ → End → Type 0
@@ -52,6 +53,10 @@ pub record ProgramsAreWhole (p : CheckedProgram) (l : MemoryMap) : Type 0 where
 abbrev pub AttemptsStore : Model State → (ℕ → ℕ → Type 0) → Type 0
 AttemptsStore m P = (s : State) (x : World) (inputs : Inputs) → InputsAreWords inputs → m.Settled s x → EachStore P (m.attempt x.fram inputs).effects
 
--- each attempt of a source stores below an address alone
+-- a store below an address, or to a word that counts events
+abbrev pub StoresBelow : MemoryMap → ℕ → ℕ → ℕ → Type 0
+StoresBelow l end a w = (a < end) ⊎ IsEventWord l a
+
+-- each attempt of a source stores below an address alone, or to a word that counts events
 abbrev pub AttemptsStoreBelow : CheckedProgram → MemoryMap → ℕ → Type 0
-AttemptsStoreBelow p l end = AttemptsStore (compiled_model p l) (λ a w. a < end)
+AttemptsStoreBelow p l end = AttemptsStore (compiled_model p l) (StoresBelow l end)

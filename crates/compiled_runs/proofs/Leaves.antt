@@ -1,6 +1,6 @@
 -- A run leaves the code as it is, and stays in it.
 use Rattle.msp_step.specs.declared.machine.Stop.TheVariants as stop
-use Rattle.std.proofs.Common.{◌≡◌, ◌<◌, ◌*◌, ◌/◌, ℕ, length, refl, inl, sym, subst, arith}
+use Rattle.std.proofs.Common.{◌≡◌, ◌*◌, ◌/◌, ℕ, length, refl, inl, inr, ⊎_elim, sym, subst, arith}
 use Rattle.memory_map.proofs.Interface.{apart_of, even_of}
 use Rattle.machine_effects.specs.Machine.{machine_powered}
 use Rattle.code_forms.specs.Forms.{core_of}
@@ -18,7 +18,7 @@ use Rattle.stands_for.proofs.Interface.{each_weaker, commit_stores_there}
 use Rattle.linked_code.proofs.Interface.{linked_is_code}
 use Rattle.compiled_model.specs.Places.{program_places}
 use Rattle.compiled_model.specs.Parts.{compiled_model}
-use Rattle.compiled_model.specs.Needs.{AttemptsStore, AttemptsStoreBelow}
+use Rattle.compiled_model.specs.Needs.{AttemptsStore, StoresBelow, AttemptsStoreBelow}
 use Rattle.compiled_model.proofs.Interface.{is_redo}
 use Rattle.compiled_runs.specs.Program.{source_code, compiled_program}
 use Rattle.compiled_runs.specs.Laws.{CodeIsPlaced, RunsLeaveTheCode}
@@ -44,16 +44,17 @@ code_is_placed p l f =
       };
     }
 
--- all that a run does stores in front of the code
+-- all that a run does stores in front of the code, or at a word that counts events
 pub scripts_store_below : (p : CheckedProgram) (l : MemoryMap) → AreApart l → AttemptsStoreBelow p l l.boot.address
-    → ScriptsStore (compiled_model p l) (λ a w. a < l.boot.address)
+    → ScriptsStore (compiled_model p l) (StoresBelow l l.boot.address)
 scripts_store_below p l apart =
-    let Below : ℕ → ℕ → Type 0 = λ a w. a < l.boot.address in
+    let Below : ℕ → ℕ → Type 0 = StoresBelow l l.boot.address in
     let P : Model State → Type 0 = λ m. AttemptsStore m Below → ScriptsStore m Below in
     subst P (sym (is_redo p l)) (λ attempts. record {
       recoveries = λ s x u. tt;
       attempts = attempts;
-      commits = λ to x inputs d. each_weaker _ Below (λ a w h. let low = h.below in omega (arith, low, apart)) _
+      commits = λ to x inputs d. each_weaker _ Below
+          (λ a w h. ⊎_elim {C = Below a w} (λ low. inl (omega (arith, low, apart))) (λ counter. inr counter) h.below) _
           (commit_stores_there (program_places p l) x apart d.pending);
     })
 
@@ -70,13 +71,15 @@ runs_leave_the_code p l r laws below readings origin x s begins charges t k char
     let m = compiled_model p l in
     let c = compiled_program p l in
     let own : ProgramLaws m c = code_keeps_the_laws p l r laws in
-    let P : ℕ → ℕ → Type 0 = λ a w. a < l.boot.address in
+    let P : ℕ → ℕ → Type 0 = StoresBelow l l.boot.address in
     let end = (linked_is_code l (lowered l p) r.fits).end in
     let high = r.fits.high in
+    let last = r.apart.high in
     let stores = stores_only m c P laws own (scripts_store_below p l r.apart below) readings origin q up n in
     record {
       code = record {
-        stores = each_weaker P (IsOutside l.boot.address (length (words_of (source_code p l)))) (λ a w h. inl h) _ stores;
+        stores = each_weaker P (IsOutside l.boot.address (length (words_of (source_code p l))))
+            (λ a w h. ⊎_elim (λ low. inl low) (λ counter. let from = counter.from in inr (omega (arith, from, end, last))) h) _ stores;
         stands = λ price pc word e.
             let d = stops_short m c laws own readings origin q up n price (stop.Illegal pc word) e in
             let no = d.0 in absurd (cc (no));
@@ -84,5 +87,6 @@ runs_leave_the_code p l r laws below readings origin x s begins charges t k char
             let d = stops_short m c laws own readings origin q up n price (stop.Bus pc a) e in
             let no = d.0 in absurd (cc (no));
       };
-      vector = each_weaker P (IsElsewhere 0xFFFE) (λ a w h e. omega (arith, h, e, end, high)) _ stores;
+      vector = each_weaker P (IsElsewhere 0xFFFE) (λ a w h e. ⊎_elim {C = ⊥} (λ low. omega (arith, low, e, end, high))
+          (λ counter. let below = counter.below in omega (arith, below, e)) h) _ stores;
     }

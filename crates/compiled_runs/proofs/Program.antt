@@ -1,9 +1,10 @@
 -- The code makes each attempt and each commit within the task's bound.
 use Rattle.msp_step.specs.declared.machine.Stop.TheVariants as stop
 use Rattle.std.proofs.Common.{◌≡◌, ◌<◌, ◌≤◌, ◌+◌, ℕ, Bool, true, List, [], ◌∷◌, ◌++◌, length, refl, sym, ap, ◌∙◌, subst, arith, append-nil}
+use Rattle.std.proofs.lemmas.List.Elements.{All-nil}
 use Rattle.fram_board.specs.Effects.{Effect, Store}
 use Rattle.machine_effects.specs.World.{World, put, fram_after, world_after, world_after_one}
-use Rattle.machine_effects.specs.Inputs.{Inputs, InputsAreWords}
+use Rattle.machine_effects.specs.Inputs.{Look, Inputs, InputsAreWords, no_inputs}
 use Rattle.machine_effects.specs.Going.{Stalls}
 use Rattle.machine_effects.specs.Machine.{Code, MachineBoard, exec}
 use Rattle.machine_effects.proofs.Interface.{join, join_stall, code_changes_by_effects, fram_after-append}
@@ -132,39 +133,68 @@ module _ (source : Source) where
         base = d.decided.sends.words (word_place l SentBase);
       }
 
-  -- a pending commit, from a boot on: the list and the words to send have room, and the bound has the cycles for all that has
+  -- what a commit takes behind a boot, at most
+  abbrev CommitWithin : (ℕ → ℕ) → ℕ → Type 0
+  CommitWithin f most = 9 + commit_cycles l.runtime.events (f (word_place l ListLength)) (length (listed l f)) (f (word_place l EmitCount)) ≤ most
+
+  -- a pending commit, from a boot on
   commit_from_boot : (to : State) (accepted : List ℕ) (u : Core) → u.pc ≡ l.boot.address
-      → (d : m.Committing to (record { fram = u.fram; accepted = accepted }))
-      → Makes c m.delay (bound m) (program_effects (m.commit u.fram u.inputs) true) (board_of u)
-  commit_from_boot to accepted u e d =
+      → (d : m.Committing to (record { fram = u.fram; accepted = accepted })) → (most : ℕ) → CommitWithin u.fram most
+      → Makes c m.delay most (program_effects (m.commit u.fram u.inputs) true) (board_of u)
+  commit_from_boot to accepted u e d most within =
       let x : World = record { fram = u.fram; accepted = accepted } in
       let q = d.pending in
       let a = to_commit l (lowered l p) r.fits are_whole u e q.gate (pending_can_commit (program_places p l) x r.apart q)
       (q.words (word_place l SentBase)) in
       let n = u.fram (word_place l ListLength) in let ws = length (listed l u.fram) in let k = u.fram (word_place l EmitCount) in
-      let list = q.list_length in let words = q.list_words in let emits = q.emit_count in
-      let most = r.costs.commits to.task d.rests.is_open.is_task in
-      let dearest = commit_grows n l.entries ws l.entries k l.emits.words list words emits in
       record {
-        steps = 3 + commit_steps n ws k;
-        cycles = 9 + commit_cycles n ws k;
+        steps = 3 + commit_steps l.runtime.events n ws k;
+        cycles = 9 + commit_cycles l.runtime.events n ws k;
         ends = λ t. record {
           end = board_of a.end;
-          within = omega (arith, dearest, most);
+          within = omega (arith, within);
           leads = a.leads;
           at_start = record { core = a.end; is = refl; pc = a.holds.pc };
         };
         lacks = λ t. absurd (cc (t));
       }
 
-  makes_commit : (to : State) (x : World) (b : MachineBoard) → IsBooting l b → b.fram ≡ x.fram → m.Committing to x
-      → Makes c m.delay (bound m) (program_effects (m.commit b.fram b.inputs) true) b
-  makes_commit to x b k e d =
+  commit_within : (to : State) (x : World) (b : MachineBoard) → IsBooting l b → b.fram ≡ x.fram → m.Committing to x → (most : ℕ)
+      → CommitWithin x.fram most → Makes c m.delay most (program_effects (m.commit b.fram b.inputs) true) b
+  commit_within to x b k e d most within =
       let u = k.core in
       let f : x.fram ≡ u.fram = sym e ∙ ap (λ q. q.fram) k.is in
       let d' : m.Committing to (record { fram = u.fram; accepted = x.accepted }) =
       subst (λ g. m.Committing to (record { fram = g; accepted = x.accepted })) f d in
-      subst (λ q. Makes c m.delay (bound m) (program_effects (m.commit q.fram q.inputs) true) q) (sym k.is) (commit_from_boot to x.accepted u k.pc d')
+      subst (λ q. Makes c m.delay most (program_effects (m.commit q.fram q.inputs) true) q) (sym k.is)
+      (commit_from_boot to x.accepted u k.pc d' most (subst (λ g. CommitWithin g most) f within))
+
+  -- any commit: the list and the words to send have room, and the bound has the cycles for all that has
+  makes_commit : (to : State) (x : World) (b : MachineBoard) → IsBooting l b → b.fram ≡ x.fram → m.Committing to x
+      → Makes c m.delay (bound m) (program_effects (m.commit b.fram b.inputs) true) b
+  makes_commit to x b k e d =
+      let q = d.pending in
+      let list = q.list_length in let words = q.list_words in let emits = q.emit_count in
+      let most = r.costs.commits to.task d.rests.is_open.is_task in
+      let n = x.fram (word_place l ListLength) in let ws = length (listed l x.fram) in let o = x.fram (word_place l EmitCount) in
+      let dearest = commit_grows l.runtime.events n l.entries ws l.entries o l.emits.words list words emits in
+      commit_within to x b k e d (bound m) (omega (arith, dearest, most))
+
+  -- one that a task decided: it lists no more words and has no more to send than the task may, for which the task's own cost has the cycles
+  makes_decided : (s next : State) (x : World) (b : MachineBoard) → IsBooting l b → b.fram ≡ x.fram → m.Decided s next x
+      → Makes c m.delay (cost s.task) (program_effects (m.commit b.fram b.inputs) true) b
+  makes_decided s next x b k e d =
+      let fits = fits_commit s next x d in
+      let list = fits.list in let words = fits.words in let emits = fits.emits in
+      let most : whole_cycles p l s.task x.fram no_inputs ≤ cost s.task =
+      r.costs.within s.task x.fram no_inputs d.decided.sends.is_task d.decided.sends.words (record {
+        readings = All-nil (λ w. w < 0x10000);
+        looks = All-nil (λ (look : Look). (n : ℕ) → look n < 0x10000);
+      }) in
+      let n = x.fram (word_place l ListLength) in let ws = length (listed l x.fram) in let o = x.fram (word_place l EmitCount) in
+      let entries = (program_places p l).list_capacity s.task in
+      let dearest = commit_grows l.runtime.events n entries ws entries o ((program_places p l).emit_capacity s.task) list words emits in
+      commit_within next x b k e (laws.decided_committing s next x d) (cost s.task) (omega (arith, dearest, most))
 
   -- an attempt that comes to its end is decided
   record IsDecidedBehind (s : State) (f : ℕ → ℕ) (es : List Effect) : Type 0 where
@@ -260,14 +290,15 @@ module _ (source : Source) where
     clears = is_at_end l u.fram
 
     abbrev to_steps : ℕ
-    to_steps = steps + start_steps clears l.versions.words (length (privates k))
+    to_steps = steps + start_steps l.runtime.events clears l.versions.words (length (privates k))
 
     abbrev to_cycles : ℕ
-    to_cycles = cycles + start_cycles clears l.versions.words (length (privates k))
+    to_cycles = cycles + start_cycles l.runtime.events clears l.versions.words (length (privates k))
 
     -- the bound has room for the clearing in each attempt
-    at_most : start_cycles clears l.versions.words (length (privates k)) ≤ start_cycles true l.versions.words (length (privates k))
-    at_most = clearing_is_dearest clears l.versions.words (length (privates k))
+    at_most : start_cycles l.runtime.events clears l.versions.words (length (privates k))
+        ≤ start_cycles l.runtime.events true l.versions.words (length (privates k))
+    at_most = clearing_is_dearest l.runtime.events clears l.versions.words (length (privates k))
 
     there : Comes code es to_steps to_cycles u (Enters (entry_at tasks k).code stack_top g u.inputs)
     there = to_task l (lowered l p) r.fits are_whole u steps cycles comes program_named (und.is_open.words (word_place l Version))
@@ -287,17 +318,19 @@ module _ (source : Source) where
         let h = commit_there l (lowered l p) r.fits are_whole v f v.inputs arrived fits.can fits.base in
         let n = f (word_place l ListLength) in let ws = length (listed l f) in let o = f (word_place l EmitCount) in
         let one = join (exec code) to_steps q.steps es b.effects to_cycles q.cycles (board_of u) (board_of there.end) (board_of v) there.leads q.leads in
-        let all = join (exec code) (to_steps + q.steps) (commit_steps n ws o) (es ++ b.effects) (commit_effects l f)
-        (to_cycles + q.cycles) (commit_cycles n ws o) (board_of u) (board_of v) (board_of h.end) one h.leads in
+        let commit_count = commit_steps l.runtime.events n ws o in
+        let commit_time = commit_cycles l.runtime.events n ws o in
+        let all = join (exec code) (to_steps + q.steps) commit_count (es ++ b.effects) (commit_effects l f)
+        (to_cycles + q.cycles) commit_time (board_of u) (board_of v) (board_of h.end) one h.leads in
         let list : n ≤ (program_places p l).list_capacity k = subst (λ j. n ≤ (program_places p l).list_capacity j) (sym is_current) fits.list in
         let words : ws ≤ (program_places p l).list_capacity k = subst (λ j. ws ≤ (program_places p l).list_capacity j) (sym is_current) fits.words in
         let emits : o ≤ (program_places p l).emit_capacity k = subst (λ j. o ≤ (program_places p l).emit_capacity j) (sym is_current) fits.emits in
         let most = within in let start_most = at_most in let body_most = q.within in
-        let dearest = commit_grows n ((program_places p l).list_capacity k) ws ((program_places p l).list_capacity k) o
+        let dearest = commit_grows l.runtime.events n ((program_places p l).list_capacity k) ws ((program_places p l).list_capacity k) o
         ((program_places p l).emit_capacity k) list words emits in
         record {
-          steps = to_steps + q.steps + commit_steps n ws o;
-          cycles = to_cycles + q.cycles + commit_cycles n ws o;
+          steps = to_steps + q.steps + commit_count;
+          cycles = to_cycles + q.cycles + commit_time;
           ends = λ z. record {
             end = board_of h.end;
             within = omega (arith, few, most, start_most, body_most, dearest);
@@ -372,5 +405,6 @@ code_keeps_the_laws p l r laws =
       takes_cycles = λ s. code_takes (placed_code p l) s;
       makes_boot = makes_boot source;
       makes_attempt = λ s x b k. makes_from source s x b (from_start source b k);
+      makes_decided = makes_decided source;
       makes_commit = makes_commit source;
     })

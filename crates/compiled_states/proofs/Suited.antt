@@ -1,6 +1,7 @@
--- The image of an accepted source suits it.
-use Rattle.compiled_states.proofs.Names.{◌≡◌, ℕ, suc, List, [], ◌∷◌, length, map, Some, refl, ap, ap₂, ◌∙◌, arith, slice_get, SharedDeclaration, CheckedTask}
-use Rattle.compiled_states.proofs.Names.{TaskPlanValue, VariablePlace, TaskPlace, IsTaskLayout, TaskValue, variables_of, shared_name, task_value_of, tasks_of}
+-- The image of an accepted source without events suits it.
+use Rattle.compiled_states.proofs.Names.{◌≡◌, ℕ, suc, List, [], ◌∷◌, length, map, Some, refl, sym, ap, ap₂, ◌∙◌, arith, slice_get}
+use Rattle.compiled_states.proofs.Names.{SharedDeclaration, CheckedTask, TaskPlanValue, VariablePlace, TaskPlace}
+use Rattle.compiled_states.proofs.Names.{IsTaskLayout, TaskValue, variables_of, shared_name, task_value_of, tasks_of}
 use Rattle.compiled_states.proofs.Names.{map_of, ArePlacesOf, ImagesSuitTheirSources}
 use Rattle.fram_state.specs.Suits.{line_of, declared_line, planned_task, planned_tasks}
 use Rattle.memory_map.specs.declared.place.PrivateScalar.{PrivateScalar}
@@ -41,7 +42,7 @@ tasks_are text shared (t ∷ ts) (plan ∷ plans) (place ∷ places) e f h =
     (tasks_are text shared ts plans places (omega (arith, e)) (omega (arith, f)) (λ k task p q a b c. h (suc k) task p q a b c))
 
 pub images_suit_their_sources : ImagesSuitTheirSources
-images_suit_their_sources text p allow image ok c = record {
+images_suit_their_sources text p allow image ok c no_events = record {
   plans = c.plans;
   is_plan = c.is_plan;
   named = map_of text p c.layout allow;
@@ -49,6 +50,6 @@ images_suit_their_sources text p allow image ok c = record {
   lines = record {
     variables = lines_are text p.shared c.layout.variables (source_map text image (image_of text p allow image ok c)).places;
     tasks = tasks_are text p.shared p.tasks c.plans c.layout.tasks c.is_plan.count c.is_layout.tasks.count c.is_layout.tasks.each;
-    ring = refl;
+    ring = sym no_events;
   };
 }

@@ -1,5 +1,5 @@
 -- What holds of the states of images of accepted sources.
-use Rattle.std.specs.Prelude.{◌≡◌, ℕ, List, length, Some, IfSome}
+use Rattle.std.specs.Prelude.{◌≡◌, ℕ, false, List, length, Some, IfSome}
 use Rattle.address_space.specs.Limits.{fram_words}
 use Rattle.state_text.specs.declared.state.State.{State}
 use Rattle.fram_state.specs.Belongs.{Belongs}
@@ -16,6 +16,7 @@ use Rattle.board_run.specs.Report.{report_of}
 use Rattle.run_charges.specs.Charges.{ArePowerStates}
 use Rattle.source_runs.specs.Traces.{AreInputs, IsTraceOfWords}
 use Rattle.cost_bound.specs.declared.allowance.Allow.{Allow}
+use Rattle.cost_bound.specs.Allowance.{uses_events}
 use Rattle.source_values.specs.Runs.{CheckedProgram}
 use Rattle.source_meaning.specs.Acceptance.{IsAcceptedText}
 use Rattle.image_laws.specs.Compiled.{IsCompiled, IsImageOf}
@@ -63,9 +64,9 @@ StatesStay = (text : List ℕ) (image : ImageValue) → IsImageOf text image →
     → IsTraceOfWords trace → (r : RunOutcome) → Run (charges_of trace.charges) (board_of s trace.readings trace.events) r
     → LeavesItsStates image s (board_of s trace.readings trace.events) r
 
--- the image suits its source
+-- the image suits its source, where this uses no events: no image has a ring yet
 abbrev pub ImagesSuitTheirSources : Type 0
-ImagesSuitTheirSources = OfImages (λ text p allow image c. Suits text p image)
+ImagesSuitTheirSources = OfImages (λ text p allow image c. uses_events p ≡ false → Suits text p image)
 
 -- A state rests in place of an old one: whatever source the old one is of, and whatever accepted source's edition, with its image, it was migrated
 -- to, the new one belongs to that image, and rests at the state of that source whose shared words are those that are kept of the old state, or

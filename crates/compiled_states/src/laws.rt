@@ -36,7 +36,7 @@ pub fn states_stay()
     ensures { StatesStay }
 {}
 
-/// The image of an accepted source has the lines that the source gives, so that a migration takes the two together.
+/// The image of an accepted source that uses no events has the lines that the source gives, so that a migration takes the two together.
 pub fn images_suit_their_sources()
     ensures { ImagesSuitTheirSources }
 {}

@@ -191,11 +191,12 @@ pub record AllowanceRows : Type 0 where
   pub running_sum_words : words_of running_sum ≡ 990
   -- 60, 400, one scalar 72, its code 80 + 200 + 100, and one entry 40
   pub event_sum_bound : bound_of event_sum ≡ 952
-  -- 200 more, once
-  pub event_sum_words : words_of event_sum ≡ 1197
+  -- 800, the code 216 + 40 + 96 + 56, the places 2, and one entry of 3
+  pub event_sum_words : words_of event_sum ≡ 1213
   -- 60, 400, one scalar 72, the code 120 + 100 of the second task, and one entry 40
   pub two_events_bound : bound_of two_events ≡ 792
-  pub two_events_words : words_of two_events ≡ 1543
+  -- 800, the code 216 + 88 + 56 and 216 + 64 + 56, the places 2, and one entry of 3
+  pub two_events_words : words_of two_events ≡ 1501
   -- 12 versions; one scalar, the 4 elements of y and two stores to z
   pub several_versions : versions_of several ≡ 12
   pub several_list : greatest (list_of several.shared) several.tasks ≡ 7

@@ -13,7 +13,9 @@ mod prices;
 mod shared;
 mod stores;
 
-pub use allowance::{Allow, assigned_scalars, assigned_variables, code_words, written_variables};
+pub use allowance::{
+    Allow, assigned_scalars, assigned_variables, code_words, uses_events, written_variables,
+};
 pub use fault::Over;
 pub use laws::{allowance_rows, allowed_is_small, long_price_rows, one_answer, price_rows};
 use task_check::Checked;

@@ -1,11 +1,12 @@
 -- When an image is one of a source: its map has the lines that the source gives, wherever its variables stand, and a ring where the source has one.
-use Rattle.std.specs.Prelude.{◌≡◌, ℕ, Bool, false, List, [], ◌∷◌, map, Option, Some, is_some}
+use Rattle.std.specs.Prelude.{◌≡◌, ℕ, List, [], ◌∷◌, map, Option, Some, is_some}
 use Rattle.image_text.specs.image_map.declared.parts.ValueType.{ValueType}
 use Rattle.image_text.specs.image_map.declared.parts.Variable.{Variable}
 use Rattle.image_text.specs.image_map.MapValue.{MapValue, TaskValue}
 use Rattle.image_text.specs.ImageValue.{ImageValue}
 use Rattle.task_ast.specs.declared.SharedDeclaration.{SharedDeclaration}
 use Rattle.task_check.specs.path_checks.Firsts.{CheckedTask}
+use Rattle.cost_bound.specs.Allowance.{uses_events}
 use Rattle.war_analysis.specs.PlanValue.{TaskPlanValue}
 use Rattle.war_analysis.specs.Plans.{IsPlan}
 use Rattle.source_report.specs.source_values.Runs.{CheckedProgram}
@@ -36,15 +37,11 @@ abbrev pub planned_tasks : List ℕ → List SharedDeclaration → List CheckedT
 planned_tasks text shared (task ∷ tasks) (plan ∷ plans) = planned_task text shared task plan ∷ planned_tasks text shared tasks plans
 planned_tasks text shared _ _ = []
 
--- whether a source has a ring: where it uses events. No source does yet; where the language has them, it is said here
-abbrev pub has_ring : CheckedProgram → Bool
-has_ring p = false
-
--- a map has the lines that a source with this plan gives, addresses aside
+-- a map has the lines that a source with this plan gives, addresses aside; and a ring exactly where the source uses events
 pub record HasLinesOf (text : List ℕ) (p : CheckedProgram) (plans : List TaskPlanValue) (m : MapValue) : Type 0 where
   pub variables : map line_of m.variables ≡ map (declared_line text) p.shared
   pub tasks : m.tasks ≡ planned_tasks text p.shared p.tasks plans
-  pub ring : is_some m.ring ≡ has_ring p
+  pub ring : is_some m.ring ≡ uses_events p
 
 -- an image suits a source: it has a map, with the lines that the source gives
 pub record Suits (text : List ℕ) (p : CheckedProgram) (image : ImageValue) : Type 0 where

@@ -6,8 +6,10 @@ ghost use Rattle.source_maps.specs.source_runs.Naming.{length_of};
 ghost use Rattle.source_maps.specs.Maps as maps;
 ghost use Rattle.source_maps.specs.Maps.{word_value_type, value_type_of};
 ghost use Rattle.war_analysis.specs.Plans.{IsPlan};
-ghost use Rattle.fram_state.specs.Suits.{line_of, declared_line, planned_task, planned_tasks, has_ring, HasLinesOf, Suits};
+ghost use Rattle.cost_bound.specs.Allowance.{uses_events};
+ghost use Rattle.fram_state.specs.Suits.{line_of, declared_line, planned_task, planned_tasks, HasLinesOf, Suits};
 
+use cost_bound::uses_events;
 use image_map::ValueType;
 use image_text::{Image, Map, Name, Task, Variable};
 use source_meaning::Accepted;
@@ -154,12 +156,11 @@ fn are_planned(
     true
 }
 
-// Whether a source has a ring: where it uses events, which none does yet.
+// Whether a source has a ring: where it uses events.
 fn has_ring(source: &CheckedSource) -> bool
-    ensures { result ≡ has_ring (program_of source.now) }
+    ensures { result ≡ uses_events (program_of source.now) }
 {
-    let _ = source;
-    false
+    uses_events(source.tasks.as_slice())
 }
 
 // Whether a map has the lines that a source with this plan gives.

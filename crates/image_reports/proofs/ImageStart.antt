@@ -4,6 +4,9 @@ use Rattle.image_reports.proofs.Names.{Effect, Store, put, fram_after, EachStore
 use Rattle.image_reports.proofs.Names.{counting_effects, opening_effects, copied_in, start_effects, IsElsewhere, VersionsWithin, elsewhere_same, word_place}
 use Rattle.image_reports.proofs.Names.{CurrentTask, ListLength, EmitCount, Version}
 use Rattle.runtime_effects.specs.Places.{CopyPair}
+use Rattle.runtime_effects.proofs.Interface.{where_leaves}
+use Rattle.event_places.specs.Places.{count_place}
+use Rattle.address_space.specs.Limits.{program_end}
 use Rattle.stands_for.specs.Layout.{ProgramPlaces, ArePrivate}
 use Rattle.memory_map.specs.Laws.{AreApart}
 
@@ -36,7 +39,9 @@ module _ (l : ProgramPlaces) (apart : AreApart l.map) where
       → fram_after (counting_effects l.map g) g (word_place l.map Version) ≡ g (word_place l.map Version) + 1
   version_then g number =
       let w = (g (word_place l.map Version) + 1) % 0x10000 in
-      let stored = put_other (put (put g (word_place l.map Version) w) (word_place l.map ListLength) 0) (word_place l.map EmitCount) 0
+      let stored = where_leaves l.map.runtime.events count_place 0 (word_place l.map Version)
+      (put (put (put g (word_place l.map Version) w) (word_place l.map ListLength) 0) (word_place l.map EmitCount) 0) (λ on q. omega (arith, apart, q))
+      ∙ put_other (put (put g (word_place l.map Version) w) (word_place l.map ListLength) 0) (word_place l.map EmitCount) 0
       (word_place l.map Version)
       (λ q. omega (arith, apart, q))
       ∙ put_other (put g (word_place l.map Version) w) (word_place l.map ListLength) 0 (word_place l.map Version) (λ q. omega (arith, apart, q))
@@ -44,10 +49,12 @@ module _ (l : ProgramPlaces) (apart : AreApart l.map) where
       omega (arith, stored, number)
 
   -- the version words stay
-  others_then : (g : ℕ → ℕ) (a : ℕ) → l.map.versions.address ≤ a → fram_after (counting_effects l.map g) g a ≡ g a
-  others_then g a low =
+  others_then : (g : ℕ → ℕ) (a : ℕ) → l.map.versions.address ≤ a → a < program_end → fram_after (counting_effects l.map g) g a ≡ g a
+  others_then g a low high =
       let w = (g (word_place l.map Version) + 1) % 0x10000 in
-      put_other (put (put g (word_place l.map Version) w) (word_place l.map ListLength) 0) (word_place l.map EmitCount) 0 a (λ q. omega (arith, apart, q, low))
+      where_leaves l.map.runtime.events count_place 0 a
+      (put (put (put g (word_place l.map Version) w) (word_place l.map ListLength) 0) (word_place l.map EmitCount) 0) (λ on q. omega (arith, q, high))
+      ∙ put_other (put (put g (word_place l.map Version) w) (word_place l.map ListLength) 0) (word_place l.map EmitCount) 0 a (λ q. omega (arith, apart, q, low))
       ∙ put_other (put g (word_place l.map Version) w) (word_place l.map ListLength) 0 a (λ q. omega (arith, apart, q, low))
       ∙ put_other g (word_place l.map Version) w a (λ q. omega (arith, apart, q, low))
 
@@ -104,7 +111,7 @@ module _ (l : ProgramPlaces) (apart : AreApart l.map) where
         < fram_after (start_effects l.map privates f) f (word_place l.map Version)
     versions_below i below =
         let a = l.map.versions.address + 2 * i in
-        let word_then = as_opened a (omega (arith, apart, below)) ∙ others_then numbered a (omega arith) in
+        let word_then = as_opened a (omega (arith, apart, below)) ∙ others_then numbered a (omega arith) (omega (arith, apart, below)) in
         let version = as_opened (word_place l.map Version) (omega (arith, apart)) ∙ version_then numbered is_numbered.number in
         let most = is_numbered.versions i below in
         omega (arith, word_then, version, most)

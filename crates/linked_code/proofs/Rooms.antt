@@ -11,6 +11,7 @@ use Rattle.boot_runtime.specs.memory_map.Spots.{private_words}
 use Rattle.boot_runtime.proofs.runtime_effects.Interface.{scalar_pairs_count}
 use Rattle.boot_runtime.specs.Entries.{entry_of, task_entries}
 use Rattle.boot_runtime.specs.Laws.{entry_room}
+use Rattle.boot_runtime.proofs.runtime_code.Interface.{with_events_most}
 use Rattle.boot_runtime.proofs.Interface.{boot_fits}
 use Rattle.linked_code.specs.Linked.{ProgramsFit}
 use Rattle.linked_code.specs.Rooms.{ProgramsKeep, LayoutsHaveRoom}
@@ -69,14 +70,15 @@ layouts_have_room p allow plans l programs allowed is count privates keep =
       privates = privates k task t a b;
       words = (is.tasks.each k task (get_or plans k no_plan) t a (planned k task a) b).words;
     }) in
-    let boot = boot_fits (task_entries l) in
+    let boot = boot_fits l (task_entries l) in
+    let few = with_events_most l.runtime.events 6 in
     let room = entries_room p.shared p.tasks l.tasks are in
     let boot_words = is.boot in let commit_words = is.commit in
     let size = is.size in let within = allowed.within_size in
     record {
       rules = is.rules;
       boot = omega (arith, boot, room, boot_words);
-      commit = omega (arith, commit_words);
+      commit = omega (arith, commit_words, few);
       tasks = programs_fit p.shared p.tasks l.tasks programs are keep;
       high = omega (arith, size, within);
     }

@@ -101,9 +101,9 @@ module _ (l : MemoryMap) (programs : List Program) (fits : CodeFits l programs) 
   abbrev pub FromStart : Core → (ℕ → ℕ) → Inputs → Type 0
   FromStart v f inputs =
       let t = entry_at tasks (f (word_place l CurrentTask)) in
-      let clears = is_at_end l f in
+      let events = l.runtime.events in let clears = is_at_end l f in
       let es = start_effects l (privates_in tasks) f in
-      Comes code es (start_steps clears l.versions.words (length t.privates)) (start_cycles clears l.versions.words (length t.privates)) v
+      Comes code es (start_steps events clears l.versions.words (length t.privates)) (start_cycles events clears l.versions.words (length t.privates)) v
       (Enters t.code stack_top (fram_after es f) inputs)
 
   start_there : (v : Core) (f : ℕ → ℕ) (inputs : Inputs) → IsAt start_at f inputs v → f (word_place l CurrentTask) < length tasks
@@ -115,9 +115,10 @@ module _ (l : MemoryMap) (programs : List Program) (fits : CodeFits l programs) 
   pub to_task : (u : Core) (steps cycles : ℕ) → Comes code [] steps cycles u (IsAt start_at u.fram u.inputs)
       → u.fram (word_place l CurrentTask) < length programs → u.fram (word_place l Version) < 0x10000
       → let t = entry_at tasks (u.fram (word_place l CurrentTask)) in
-      let clears = is_at_end l u.fram in
+      let events = l.runtime.events in let clears = is_at_end l u.fram in
       let es = start_effects l (privates_in tasks) u.fram in
-      Comes code es (steps + start_steps clears l.versions.words (length t.privates)) (cycles + start_cycles clears l.versions.words (length t.privates)) u
+      Comes code es (steps + start_steps events clears l.versions.words (length t.privates))
+      (cycles + start_cycles events clears l.versions.words (length t.privates)) u
       (Enters t.code stack_top (fram_after es u.fram) u.inputs)
   to_task u steps cycles a named word =
       let count = programs_count l.tasks programs fits.tasks in
@@ -159,7 +160,8 @@ module _ (l : MemoryMap) (programs : List Program) (fits : CodeFits l programs) 
   DoesCommit v f inputs =
       let es = commit_effects l f in
       let n = f (word_place l ListLength) in let ws = length (listed l f) in let k = f (word_place l EmitCount) in
-      Comes code es (commit_steps n ws k) (commit_cycles n ws k) v
+      let events = l.runtime.events in
+      Comes code es (commit_steps events n ws k) (commit_cycles events n ws k) v
       (IsAt start_at (fram_after es f) inputs)
 
   -- where the commit is entered and can be made, its code makes it
@@ -176,7 +178,8 @@ module _ (l : MemoryMap) (programs : List Program) (fits : CodeFits l programs) 
       → u.fram (word_place l SentBase) < 0x10000
       → let es = commit_effects l u.fram in
       let n = u.fram (word_place l ListLength) in let ws = length (listed l u.fram) in let k = u.fram (word_place l EmitCount) in
-      Comes code es (3 + commit_steps n ws k) (9 + commit_cycles n ws k) u (IsAt start_at (fram_after es u.fram) u.inputs)
+      let events = l.runtime.events in
+      Comes code es (3 + commit_steps events n ws k) (9 + commit_cycles events n ws k) u (IsAt start_at (fram_after es u.fram) u.inputs)
   to_commit u e one can word =
       comes_on (pending_commit_is_found code l l.commit.address tasks l.boot.address u is_boot e one)
       (λ v h. commit_there v u.fram u.inputs h can word)

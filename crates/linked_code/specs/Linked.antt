@@ -58,8 +58,8 @@ ProgramsFit (t ∷ ts) (p ∷ ps) = (words_of p ≤ t.code.words) × ProgramsFit
 -- the code has its room in the layout, and behind it there is room for an instruction
 pub record CodeFits (l : MemoryMap) (programs : List Program) : Type 0 where
   pub rules : IsLaidOut l
-  pub boot : boot_bytes (task_entries l) ≤ 2 * l.boot.words
-  pub commit : commit_bytes ≤ 2 * l.commit.words
+  pub boot : boot_bytes l (task_entries l) ≤ 2 * l.boot.words
+  pub commit : commit_bytes l.runtime.events ≤ 2 * l.commit.words
   pub tasks : ProgramsFit l.tasks programs
   pub high : end_of l.code + 6 ≤ 0x10000
 

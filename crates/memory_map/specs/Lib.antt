@@ -5,3 +5,4 @@ pub mod View
 pub mod Spots
 pub mod Laws
 pub use Rattle.address_space.specs as address_space
+pub use Rattle.event_places.specs as event_places

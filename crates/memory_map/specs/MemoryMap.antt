@@ -1,5 +1,5 @@
 -- Where all that a compiled source keeps in the FRAM stands.
-use Rattle.std.specs.Prelude.{ℕ, ◌+◌, ◌*◌, List, [], ◌∷◌}
+use Rattle.std.specs.Prelude.{ℕ, ◌+◌, ◌*◌, Bool, false, if◌then◌else◌, List, [], ◌∷◌}
 use Rattle.memory_map.specs.declared.place.Region.{Region}
 use Rattle.memory_map.specs.declared.place.VariablePlace.{VariablePlace}
 use Rattle.memory_map.specs.declared.place.PrivateScalar.{PrivateScalar}
@@ -30,9 +30,17 @@ pub record MemoryMap : Type 0 where
   pub code : Region  -- of all tasks
   pub tasks : List TaskPlace
 
--- attempts that work in copies, on a board that is alone
+-- attempts that work in copies, on a board that is alone, without events
 abbrev pub lone_redo : Runtime
-lone_redo = record { logging = Redo; role = Alone }
+lone_redo = record { logging = Redo; role = Alone; events = false }
+
+-- what a list has more where a runtime takes events
+abbrev pub where_events : {A : Type 0} → Bool → List A → List A
+where_events events more = if events then more else []
+
+-- and a number
+abbrev pub with_events : Bool → ℕ → ℕ
+with_events events more = if events then more else 0
 
 -- the address of a word of the runtime
 abbrev pub word_place : MemoryMap → RuntimeWord → ℕ

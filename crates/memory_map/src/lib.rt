@@ -9,6 +9,7 @@ mod runtime;
 mod words;
 
 pub use address_space::{FRAM_FIRST, OUTDATA, OUTNUM, RESET_VECTOR, STACK_TOP};
+pub use event_places::{EVENT_COUNT, SENT_TAIL, TAIL};
 pub use laws::{
     copies_are_apart, homes_are_apart, parts_are_apart, spots_are_apart, versions_are_apart,
     words_are_fram_words, words_differ,

@@ -17,4 +17,6 @@ pub enum Role {
 pub struct Runtime {
     pub logging: Logging,
     pub role: Role,
+    /// Whether it takes events: it then counts those of the ring that an attempt takes.
+    pub events: bool,
 }

@@ -96,9 +96,11 @@ fn layout_of(
         plan.tasks(),
         regions.code.address,
     )?;
+    // No source that takes events is compiled so far.
     let runtime = Runtime {
         logging: Logging::Redo,
         role: Role::Alone,
+        events: false,
     };
     Ok(Layout::new(runtime, regions, variables, layouts))
 }

@@ -11,6 +11,9 @@ pub use Rattle.runtime_code.proofs.Regions.{IsLeft, all_left, left_from, first_l
 -- The way to the task that CUR names, whatever is done in its stub; the sends.
 pub use Rattle.runtime_code.proofs.Ladder.{rung_in, IsRung, Deed, Does, HasLadder, ladder_bytes, to_task}
 pub use Rattle.runtime_code.proofs.Sending.{BehindSends, sends_are_made}
+-- Code that a runtime has where it takes events.
+pub use Rattle.runtime_code.proofs.WhereEvents.{count_is_place, tail_is_place, sent_is_place, with_events_most, where_bytes, where_instructions}
+pub use Rattle.runtime_code.proofs.WhereEvents.{behind_where, where_comes}
 -- The length of code.
 pub use Rattle.runtime_code.proofs.Sizes.{code_bytes, are_instructions-append}
 -- The runtime's words and buffers in a memory map.

@@ -17,6 +17,7 @@ use Rattle.runtime_code.specs.Laws.{PlacesAreInFram, OpeningKeepsTask, HomesLeav
 
 pub places_are_in_fram : PlacesAreInFram
 places_are_in_fram l h =
+    let row = (apart_of l h).list in
     let list = (apart_of l h).emits in
     let r = parts_in_fram l h in
     let emits = r.emits.end in let first = r.list.end in
@@ -25,6 +26,7 @@ places_are_in_fram l h =
           let stands = words_stand l w h in
           let is = stands.is_fram in let below = stands.below in
           record { even = is.even; low = is.low; high = omega (arith, below, first) };
+      row = omega (arith, row, first);
       list = record { even = r.list.even; low = r.list.from; high = omega (arith, list, emits) };
       emits = record { even = r.emits.even; low = r.emits.from; high = emits };
       versions = record { even = r.versions.even; low = r.versions.from; high = r.versions.end };
@@ -35,7 +37,8 @@ pub opening_keeps_task : OpeningKeepsTask
 opening_keeps_task l h =
     let a = apart_of l h in
     let list = a.list in let emits = a.emits in let versions = a.versions in
-    record { versions = inl (omega (arith, list, emits, versions)) }
+    let end = (parts_in_fram l h).list.end in
+    record { event_count = λ e. omega (arith, e, list, end); versions = inl (omega (arith, list, emits, versions)) }
 
 -- shared words are behind all that a commit reads
 pub homes_leave_commit : HomesLeaveCommit
@@ -45,10 +48,12 @@ homes_leave_commit l a h low high =
     let v : l.versions.address ≤ a = omega (arith, versions, low) in
     let e : end_of l.emits ≤ a = omega (arith, emits, v) in
     let i : l.list.address + 6 * l.entries ≤ a = omega (arith, list, e) in
+    let end = (parts_in_fram l h).homes.end in
     record {
       next_task = λ q. let same : a ≡ word_place l NextTask = q in omega (arith, same, row, i);
       emit_count = λ q. let same : a ≡ word_place l EmitCount = q in omega (arith, same, row, i);
       sent_base = λ q. let same : a ≡ word_place l SentBase = q in omega (arith, same, row, i);
+      sent_tail = λ q. omega (arith, q, high, end);
       list = inr i;
       emits = inr e;
     }

@@ -2,6 +2,7 @@ mod Chains
 mod Loops
 mod Regions
 mod Sizes
+mod WhereEvents
 mod Ladder
 mod Sending
 mod Layouts

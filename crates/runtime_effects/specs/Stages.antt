@@ -3,7 +3,8 @@ use Rattle.std.specs.Prelude.{ℕ, zero, suc, ◌+◌, ◌%◌, ◌==◌, if◌t
 use Rattle.machine_effects.specs.fram_board.Effects.{Effect, Store, Outside, Offered}
 use Rattle.machine_effects.specs.World.{put, fram_after}
 use Rattle.memory_map.specs.declared.words.RuntimeWord.TheVariants.{CurrentTask, NextTask, Gate, ListLength, EmitCount, Base, SentBase, Version}
-use Rattle.memory_map.specs.MemoryMap.{MemoryMap, word_place}
+use Rattle.memory_map.specs.MemoryMap.{MemoryMap, word_place, where_events}
+use Rattle.memory_map.specs.event_places.Places.{tail_place, count_place, sent_place}
 use Rattle.runtime_effects.specs.Places.{CopyPair, listed}
 
 -- copies go home, the first one first, each as FRAM then is
@@ -20,11 +21,16 @@ sends (suc n) number p f = Outside (Offered number (f p)) ∷ sends n ((number +
 abbrev pub emits_sent : MemoryMap → (ℕ → ℕ) → List Effect
 emits_sent m f = sends (f (word_place m EmitCount)) (f (word_place m SentBase)) m.emits.address f
 
--- a commit's last stores: CUR := NEXT, BASE := SB + EN, GATE := 0
+-- where the program takes events: TAIL := SE
+abbrev pub tail_moved : MemoryMap → (ℕ → ℕ) → List Effect
+tail_moved m f = where_events m.runtime.events (Store tail_place (f sent_place) ∷ [])
+
+-- a commit's last stores: TAIL := SE, where there are events; CUR := NEXT, BASE := SB + EN, GATE := 0
 abbrev pub commit_closed : MemoryMap → (ℕ → ℕ) → List Effect
 commit_closed m f =
-    Store (word_place m CurrentTask) (f (word_place m NextTask))
-    ∷ Store (word_place m Base) ((f (word_place m SentBase) + f (word_place m EmitCount)) % 0x10000) ∷ Store (word_place m Gate) 0 ∷ []
+    tail_moved m f
+    ++ (Store (word_place m CurrentTask) (f (word_place m NextTask))
+    ∷ Store (word_place m Base) ((f (word_place m SentBase) + f (word_place m EmitCount)) % 0x10000) ∷ Store (word_place m Gate) 0 ∷ [])
 
 -- the commit: the listed words are copied home, the emitted words are sent, then the last stores
 abbrev pub commit_effects : MemoryMap → (ℕ → ℕ) → List Effect
@@ -43,12 +49,17 @@ is_at_end m f = f (word_place m Version) == 0xFFFF
 abbrev pub clearing_if : MemoryMap → Bool → List Effect
 clearing_if m comes = if comes then cleared m.versions.words m.versions.address ++ (Store (word_place m Version) 0 ∷ []) else []
 
--- VER := VER + 1, CLN := 0, EN := 0
+-- where the program takes events: EC := 0
+abbrev pub count_cleared : MemoryMap → List Effect
+count_cleared m = where_events m.runtime.events (Store count_place 0 ∷ [])
+
+-- VER := VER + 1, CLN := 0, EN := 0, and EC := 0, where there are events
 abbrev pub counting_effects : MemoryMap → (ℕ → ℕ) → List Effect
 counting_effects m f =
-    Store (word_place m Version) ((f (word_place m Version) + 1) % 0x10000) ∷ Store (word_place m ListLength) 0 ∷ Store (word_place m EmitCount) 0 ∷ []
+    Store (word_place m Version) ((f (word_place m Version) + 1) % 0x10000) ∷ Store (word_place m ListLength) 0 ∷ Store (word_place m EmitCount) 0
+    ∷ count_cleared m
 
--- an attempt's opening: the clearing where VER is at its end; then the attempt has its own number, and nothing listed or emitted
+-- an attempt's opening: the clearing where VER is at its end; then the attempt has its own number, and nothing listed, emitted or taken of the ring
 abbrev pub opening_effects : MemoryMap → (ℕ → ℕ) → List Effect
 opening_effects m f = let es = clearing_if m (is_at_end m f) in es ++ counting_effects m (fram_after es f)
 

@@ -4,7 +4,8 @@ use Rattle.stands_for.proofs.Names.{◌≡◌, ℕ, zero, suc, ◌+◌, ◌-◌,
 use Rattle.stands_for.proofs.Names.{arith, ne_eqb, eq-eqb, cond, length, drop, length-append, append_assoc, append-nil, cases_eq, slice_index, Store, Outside}
 use Rattle.stands_for.proofs.Names.{Offered, World, put, received, fram_after, accepted_after, world_after_one, world_after, world_after-append, put_same}
 use Rattle.stands_for.proofs.Names.{put_other, CopyPair, listed, copied_home, sends, emits_sent, commit_closed, commit_effects, IsAmong, words_at, MemoryMap}
-use Rattle.stands_for.proofs.Names.{word_place, CurrentTask, NextTask, Gate, EmitCount, Base, SentBase}
+use Rattle.stands_for.proofs.Names.{word_place, CurrentTask, NextTask, Gate, EmitCount, Base, SentBase, Bool, true, false, Effect}
+use Rattle.stands_for.proofs.Names.{where_events, where_leaves, tail_place, sent_place}
 use Rattle.std.proofs.Math.Seq.{drop-cons, drop-length}
 use Rattle.stands_for.proofs.Sends.{next_base, IsEmit, IsSending, sends_begin, next_emit, sends_on}
 use Rattle.stands_for.proofs.Keeps.{same_number}
@@ -58,9 +59,20 @@ module _ (R : ℕ → ℕ → ℕ → Type 0) where
       h)
       (cases_eq a q.home))
 
+-- FRAM behind the store of a word to TAIL, where there are events
+abbrev pub with_tail : Bool → ℕ → (ℕ → ℕ) → ℕ → ℕ
+with_tail events w g = fram_after (where_events events (Store tail_place w ∷ [])) g
+
+-- it is the address of TAIL, and there are events
+pub record IsTail (m : MemoryMap) (a : ℕ) : Type 0 where
+  pub events : m.runtime.events ≡ true
+  pub at : a ≡ tail_place
+
 -- FRAM behind a commit's last stores, whose words are as FRAM was at its start
 abbrev pub closed : MemoryMap → (ℕ → ℕ) → (ℕ → ℕ) → ℕ → ℕ
-closed m f g = put (put (put g (word_place m CurrentTask) (f (word_place m NextTask))) (word_place m Base) (next_base m f)) (word_place m Gate) 0
+closed m f g =
+    let moved = with_tail m.runtime.events (f sent_place) g in
+    put (put (put moved (word_place m CurrentTask) (f (word_place m NextTask))) (word_place m Base) (next_base m f)) (word_place m Gate) 0
 
 copies_world : (qs : List CopyPair) (x : World)
     → world_after (copied_home qs x.fram) x ≡ record { fram = copies_behind qs x.fram; accepted = x.accepted }
@@ -72,6 +84,11 @@ sends_world : (n k p : ℕ) (f : ℕ → ℕ) (x : World)
 sends_world zero k p f x = refl
 sends_world (suc n) k p f x = sends_world n ((k + 1) % 0x10000) (p + 2) f (world_after_one (Outside (Offered k (f p))) x)
 
+tail_world : (events : Bool) (w : ℕ) (es : List Effect) (y : World) → world_after (where_events events (Store tail_place w ∷ []) ++ es) y
+    ≡ world_after es (record { fram = with_tail events w y.fram; accepted = y.accepted })
+tail_world true w es y = refl
+tail_world false w es y = refl
+
 -- the world behind a commit
 pub behind_commit : (m : MemoryMap) (x : World) → world_after (commit_effects m x.fram) x
     ≡ record { fram = closed m x.fram (copies_behind (listed m x.fram) x.fram); accepted = accepted_after (emits_sent m x.fram) x.accepted }
@@ -81,15 +98,18 @@ behind_commit m x =
     let y : World = record { fram = copies_behind (listed m f) f; accepted = x.accepted } in
     world_after-append a (b ++ c) x ∙ ap (world_after (b ++ c)) (copies_world (listed m f) x) ∙ world_after-append b c y
     ∙ ap (world_after c) (sends_world (f (word_place m EmitCount)) (f (word_place m SentBase)) m.emits.address f y)
+    ∙ tail_world m.runtime.events (f sent_place) _ (record { fram = y.fram; accepted = accepted_after b x.accepted })
 
 -- a word that none of the last stores has stays as the copies leave it
-pub closed_other : (m : MemoryMap) (f g : ℕ → ℕ) (a : ℕ) → (a ≡ word_place m CurrentTask → ⊥) → (a ≡ word_place m Base → ⊥) → (a ≡ word_place m Gate → ⊥)
-    → closed m f g a ≡ g a
-closed_other m f g a c b z =
-    let g1 = put g (word_place m CurrentTask) (f (word_place m NextTask)) in
+pub closed_other : (m : MemoryMap) (f g : ℕ → ℕ) (a : ℕ) → (IsTail m a → ⊥) → (a ≡ word_place m CurrentTask → ⊥) → (a ≡ word_place m Base → ⊥)
+    → (a ≡ word_place m Gate → ⊥) → closed m f g a ≡ g a
+closed_other m f g a t c b z =
+    let g0 = with_tail m.runtime.events (f sent_place) g in
+    let g1 = put g0 (word_place m CurrentTask) (f (word_place m NextTask)) in
     let g2 = put g1 (word_place m Base) (next_base m f) in
     put_other g2 (word_place m Gate) 0 a z ∙ put_other g1 (word_place m Base) (next_base m f) a b
-    ∙ put_other g (word_place m CurrentTask) (f (word_place m NextTask)) a c
+    ∙ put_other g0 (word_place m CurrentTask) (f (word_place m NextTask)) a c
+    ∙ where_leaves m.runtime.events tail_place (f sent_place) a g (λ on e. t (record { events = on; at = e }))
 
 -- of the words to send at least the first i are accepted, and with those that aren't the accepted words come to these
 pub record IsSent (m : MemoryMap) (f : ℕ → ℕ) (all : List ℕ) (i : ℕ) (ws : List ℕ) : Type 0 where

@@ -2,9 +2,9 @@
 use Rattle.stands_for.proofs.Names.{◌≡◌, ℕ, ◌+◌, ◌-◌, ◌*◌, ◌%◌, ◌<◌, List, ◌++◌, sym, ap, ap₂, ◌∙◌, subst, ⊎_elim, inl, inr, arith, length, take, drop}
 use Rattle.stands_for.proofs.Names.{length-append, length-take-le, append_assoc, zero-le, take-append-drop, World, accepted_after, CopyPair, listed, emits_sent}
 use Rattle.stands_for.proofs.Names.{HoldsThroughout, ProgramPlaces, StateView, IsSharedWord, HaveRoom, RestsAt, SendsAndCloses, CopiesHome, DecidedFrom}
-use Rattle.stands_for.proofs.Names.{IsPendingCommit, CommittingTo, words_at, word_place, CurrentTask, NextTask, SentBase, AreApart}
+use Rattle.stands_for.proofs.Names.{IsPendingCommit, CommittingTo, words_at, word_place, CurrentTask, NextTask, SentBase, AreApart, sent_place}
 use Rattle.stands_for.proofs.Sends.{next_base}
-use Rattle.stands_for.proofs.Keeps.{Transition, So, few_emits, shared_sends, cur_keeps, base_keeps, weaken, send_keeps, few, few_words, bears_home, copy_home}
+use Rattle.stands_for.proofs.Keeps.{Transition, So, few_emits, shared_sends, tail_keeps, cur_keeps, base_keeps, weaken, send_keeps, few, few_words, bears_home, copy_home}
 use Rattle.stands_for.proofs.Walks.{commit_before, SendsKeep, through}
 use Rattle.stands_for.proofs.Behind.{any_among, copies_behind, copies_related, closed, closed_other, behind_commit, emits_received, words_are}
 use Rattle.stands_for.proofs.Pending.{copies_apart, current_behind, rest_behind}
@@ -30,7 +30,7 @@ module _ {St : Type 0} (l : ProgramPlaces) (apart : AreApart l.map) (room : Have
   abbrev t : Transition St
   t = record { places = l; apart = apart; room = room; view = v; from = s; to = next; emits = es; is_task = d.is_task }
 
-  -- the words that are copied home stay what they are to be behind stores to CUR and BASE
+  -- the words that are copied home stay what they are to be behind stores to CUR, BASE and TAIL
   abbrev Also : World → Type 0
   Also y = CopiesHome l v s next ps y
 
@@ -56,6 +56,7 @@ module _ {St : Type 0} (l : ProgramPlaces) (apart : AreApart l.map) (room : Have
             let lt = e.below in let num = e.number_is in
             let below : i < length es = omega (arith, lt, count) in
             send_keeps t Also (bears_home t ps) i n w y below (omega (arith, num, sent_base)) (e.word_is ∙ d.buffer i below) q;
+        tail = λ k y on w. tail_keeps t Also (bears_home t ps) k y (f sent_place) (d.words sent_place) w;
         current = λ k y w. cur_keeps t Also (bears_home t ps) k y (f (word_place l.map NextTask)) (d.words (word_place l.map NextTask)) d.next_task w;
         based = λ k y w. base_keeps t Also (bears_home t ps) k y (next_base l.map f) (omega arith) (number_there k y w) w;
       }
@@ -144,7 +145,8 @@ module _ {St : Type 0} (l : ProgramPlaces) (apart : AreApart l.map) (room : Have
           base = r.base ∙ ap (λ ws. length ws % 0x10000) accepted_behind;
           versions = r.versions;
         };
-        shared = λ a sh. closed_other m f g a (λ e. omega (arith, apart, sh, e)) (λ e. omega (arith, apart, sh, e)) (λ e. omega (arith, apart, sh, e))
+        shared = λ a sh. closed_other m f g a (λ t. let e = t.at in omega (arith, apart, sh, e)) (λ e. omega (arith, apart, sh, e))
+            (λ e. omega (arith, apart, sh, e)) (λ e. omega (arith, apart, sh, e))
             ∙ shared_behind a sh;
       }
 

@@ -3,6 +3,7 @@ use Rattle.stands_for.proofs.Names.{◌≡◌, ℕ, suc, ◌+◌, ◌*◌, ◌%�
 use Rattle.stands_for.proofs.Names.{ne_eqb, eq-eqb, cond, length, take, length-append, length-take-le, append_assoc, take-suc, cases_eq, slice_index, Store}
 use Rattle.stands_for.proofs.Names.{Outside, Offered, World, put, world_after_one, put_same, put_other, CopyPair, entry_bytes, entries_from, entries_alike}
 use Rattle.stands_for.proofs.Names.{ProgramPlaces, StateView, IsSharedWord, IsAmong, HaveRoom, HoldsWords, AcceptedFrom, SendsAndCloses, CopiesHome, word_place}
+use Rattle.stands_for.proofs.Names.{tail_place, sent_place}
 use Rattle.stands_for.proofs.Names.{CurrentTask, NextTask, Gate, ListLength, EmitCount, Base, SentBase, Version, AreApart, listed, IsCopyWord, EntriesHaveWords}
 use Rattle.memory_map.specs.Places.{end_of}
 use Rattle.stands_for.proofs.Sends.{next_base}
@@ -20,17 +21,19 @@ put_words f a w h k b =
 pub same_number : (a j i : ℕ) → j ≤ 256 → i ≤ 256 → (a + i) % 0x10000 ≡ (a + j) % 0x10000 → i ≡ j
 same_number a j i hj hi e = omega arith
 
--- a change of FRAM that leaves all words but shared ones, CUR and BASE
+-- a change of FRAM that leaves all words but shared ones, CUR, BASE and TAIL
 abbrev pub LeavesRuntime : ProgramPlaces → World → World → Type 0
-LeavesRuntime l x y = (a : ℕ) → (IsSharedWord l a → ⊥) → (a ≡ word_place l.map CurrentTask → ⊥) → (a ≡ word_place l.map Base → ⊥) → y.fram a ≡ x.fram a
+LeavesRuntime l x y = (a : ℕ) → (IsSharedWord l a → ⊥) → (a ≡ tail_place → ⊥) → (a ≡ word_place l.map CurrentTask → ⊥) → (a ≡ word_place l.map Base → ⊥)
+    → y.fram a ≡ x.fram a
 
--- What a commit reads of FRAM is the same in two: the runtime's words but CUR and BASE, the list, the words to send, copies and version words
+-- What a commit reads of FRAM is the same in two: the runtime's words but CUR and BASE, SE, the list, the words to send, copies and version words
 pub record ReadsAlike (l : ProgramPlaces) (f g : ℕ → ℕ) : Type 0 where
   pub gate : g (word_place l.map Gate) ≡ f (word_place l.map Gate)
   pub next_task : g (word_place l.map NextTask) ≡ f (word_place l.map NextTask)
   pub list_length : g (word_place l.map ListLength) ≡ f (word_place l.map ListLength)
   pub emit_count : g (word_place l.map EmitCount) ≡ f (word_place l.map EmitCount)
   pub sent_base : g (word_place l.map SentBase) ≡ f (word_place l.map SentBase)
+  pub sent_tail : g sent_place ≡ f sent_place
   pub version : g (word_place l.map Version) ≡ f (word_place l.map Version)
   pub entries : (a : ℕ) → l.map.list.address ≤ a → a < l.map.list.address + entry_bytes * l.map.entries → g a ≡ f a
   pub emits : (a : ℕ) → l.map.emits.address ≤ a → a < end_of l.map.emits → g a ≡ f a
@@ -41,16 +44,18 @@ pub reads_alike : (l : ProgramPlaces) (x y : World) → AreApart l.map → Leave
 reads_alike l x y apart same =
     let m = l.map in
     record {
-      gate = same (word_place m Gate) (λ h. omega (arith, apart, h)) (λ e. omega (arith, e)) (λ e. omega (arith, e));
-      next_task = same (word_place m NextTask) (λ h. omega (arith, apart, h)) (λ e. omega (arith, e)) (λ e. omega (arith, e));
-      list_length = same (word_place m ListLength) (λ h. omega (arith, apart, h)) (λ e. omega (arith, e)) (λ e. omega (arith, e));
-      emit_count = same (word_place m EmitCount) (λ h. omega (arith, apart, h)) (λ e. omega (arith, e)) (λ e. omega (arith, e));
-      sent_base = same (word_place m SentBase) (λ h. omega (arith, apart, h)) (λ e. omega (arith, e)) (λ e. omega (arith, e));
-      version = same (word_place m Version) (λ h. omega (arith, apart, h)) (λ e. omega (arith, e)) (λ e. omega (arith, e));
-      entries = λ a lo hi. same a (λ h. omega (arith, apart, h, hi)) (λ e. omega (arith, apart, e, lo)) (λ e. omega (arith, apart, e, lo));
-      emits = λ a lo hi. same a (λ h. omega (arith, apart, h, hi)) (λ e. omega (arith, apart, e, lo)) (λ e. omega (arith, apart, e, lo));
-      copies = λ a c. same a (λ h. omega (arith, apart, h, c)) (λ e. omega (arith, apart, e, c)) (λ e. omega (arith, apart, e, c));
-      versions = λ i h. same (m.versions.address + 2 * i) (λ s. omega (arith, apart, s, h)) (λ e. omega (arith, apart, e)) (λ e. omega (arith, apart, e));
+      gate = same (word_place m Gate) (λ h. omega (arith, apart, h)) (λ e. omega (arith, apart, e)) (λ e. omega (arith, e)) (λ e. omega (arith, e));
+      next_task = same (word_place m NextTask) (λ h. omega (arith, apart, h)) (λ e. omega (arith, apart, e)) (λ e. omega (arith, e)) (λ e. omega (arith, e));
+      list_length = same (word_place m ListLength) (λ h. omega (arith, apart, h)) (λ e. omega (arith, apart, e)) (λ e. omega (arith, e)) (λ e. omega (arith, e));
+      emit_count = same (word_place m EmitCount) (λ h. omega (arith, apart, h)) (λ e. omega (arith, apart, e)) (λ e. omega (arith, e)) (λ e. omega (arith, e));
+      sent_base = same (word_place m SentBase) (λ h. omega (arith, apart, h)) (λ e. omega (arith, apart, e)) (λ e. omega (arith, e)) (λ e. omega (arith, e));
+      sent_tail = same sent_place (λ h. omega (arith, apart, h)) (λ e. omega (arith, e)) (λ e. omega (arith, apart, e)) (λ e. omega (arith, apart, e));
+      version = same (word_place m Version) (λ h. omega (arith, apart, h)) (λ e. omega (arith, apart, e)) (λ e. omega (arith, e)) (λ e. omega (arith, e));
+      entries = λ a lo hi. same a (λ h. omega (arith, apart, h, hi)) (λ e. omega (arith, apart, e, hi)) (λ e. omega (arith, apart, e, lo)) (λ e. omega (arith, apart, e, lo));
+      emits = λ a lo hi. same a (λ h. omega (arith, apart, h, hi)) (λ e. omega (arith, apart, e, hi)) (λ e. omega (arith, apart, e, lo)) (λ e. omega (arith, apart, e, lo));
+      copies = λ a c. same a (λ h. omega (arith, apart, h, c)) (λ e. omega (arith, apart, e, c)) (λ e. omega (arith, apart, e, c)) (λ e. omega (arith, apart, e, c));
+      versions = λ i h. same (m.versions.address + 2 * i) (λ s. omega (arith, apart, s, h)) (λ e. omega (arith, apart, e, h)) (λ e. omega (arith, apart, e))
+          (λ e. omega (arith, apart, e));
     }
 
 -- so is what the list names, and each of its entries has a word in both
@@ -65,9 +70,9 @@ entries_stay l f g r few h i lt =
     let below : i < f (word_place l.map ListLength) = subst (λ n. i < n) r.list_length lt in
     subst (λ n. 0 < n) (sym (r.entries (l.map.list.address + entry_bytes * i + 4) (omega arith) (omega (arith, below, few)))) (h i below)
 
--- one that leaves all but CUR and BASE
+-- one that leaves all but CUR, BASE and TAIL
 abbrev pub LeavesAll : ProgramPlaces → World → World → Type 0
-LeavesAll l x y = (a : ℕ) → (a ≡ word_place l.map CurrentTask → ⊥) → (a ≡ word_place l.map Base → ⊥) → y.fram a ≡ x.fram a
+LeavesAll l x y = (a : ℕ) → (a ≡ tail_place → ⊥) → (a ≡ word_place l.map CurrentTask → ⊥) → (a ≡ word_place l.map Base → ⊥) → y.fram a ≡ x.fram a
 
 -- a transition from a state to the next one, with the words that it sends, where a program's places are
 pub record Transition (St : Type 0) : Type 0 where
@@ -138,7 +143,7 @@ module _ {St : Type 0} (t : Transition St) where
   shared_sends k x a w h small d =
       let f = x.fram in
       keeps_sends k k x (world_after_one (Store a w) x) (put_words f a w d.words small)
-      (λ b n c e. put_other f a w b (not_shared a b h n))
+      (λ b n t c e. put_other f a w b (not_shared a b h n))
       (inl (put_other f a w (word_place l.map CurrentTask) (not_shared a (word_place l.map CurrentTask) h cur_apart)))
       (inl (put_other f a w (word_place l.map Base) (not_shared a (word_place l.map Base) h base_apart)))
       (same_accepted k x (put f a w) d) d
@@ -147,7 +152,7 @@ module _ {St : Type 0} (t : Transition St) where
   weaken_sends : (k k' : ℕ) (x : World) → k' ≤ k → Sends k x → Sends k' x
   weaken_sends k k' x h d =
       let least = d.accepted.at_least in
-      keeps_sends k k' x x d.words (λ a n c e. refl) (inl refl) (inl refl)
+      keeps_sends k k' x x d.words (λ a n t c e. refl) (inl refl) (inl refl)
       (record { count = d.accepted.count; at_least = omega (arith, h, least); at_most = d.accepted.at_most; is = d.accepted.is }) d
 
   -- word i is accepted at the latest when it is sent
@@ -181,19 +186,30 @@ module _ {St : Type 0} (t : Transition St) where
       })
       (cases_eq i j)
 
-  -- what else is said of a decided world, of words that stores to CUR and BASE leave
+  -- what else is said of a decided world, of words that stores to CUR, BASE and TAIL leave
   module _ (Also : World → Type 0) (bears : (k : ℕ) (x y : World) → Sends k x → LeavesAll l x y → Also x → Also y) where
     abbrev pub So : ℕ → World → Type 0
     So k x = Sends k x × Also x
+
+    -- TAIL becomes any word
+    pub tail_keeps : (k : ℕ) (x : World) (w : ℕ) → w < 0x10000 → So k x → So k (world_after_one (Store tail_place w) x)
+    tail_keeps k x w small d =
+        let f = x.fram in let a = tail_place in (
+          keeps_sends k k x (world_after_one (Store a w) x) (put_words f a w d.0.words small) (λ b n t c e. put_other f a w b t)
+              (inl (put_other f a w (word_place l.map CurrentTask) (λ e. omega (arith, apart, e))))
+              (inl (put_other f a w (word_place l.map Base) (λ e. omega (arith, apart, e))))
+              (same_accepted k x (put f a w) d.0) d.0,
+          bears k x (world_after_one (Store a w) x) d.0 (λ b t c e. put_other f a w b t) d.1,
+        )
 
     -- CUR becomes the next task
     pub cur_keeps : (k : ℕ) (x : World) (w : ℕ) → w < 0x10000 → w ≡ v.task next → So k x → So k (world_after_one (Store (word_place l.map CurrentTask) w) x)
     cur_keeps k x w small e0 d =
         let f = x.fram in let a = word_place l.map CurrentTask in (
-          keeps_sends k k x (world_after_one (Store a w) x) (put_words f a w d.0.words small) (λ b n c e. put_other f a w b c)
+          keeps_sends k k x (world_after_one (Store a w) x) (put_words f a w d.0.words small) (λ b n t c e. put_other f a w b c)
               (inr (put_same f a w ∙ e0)) (inl (put_other f a w (word_place l.map Base) (λ e. omega (arith, apart, e))))
               (same_accepted k x (put f a w) d.0) d.0,
-          bears k x (world_after_one (Store a w) x) d.0 (λ b c e. put_other f a w b c) d.1,
+          bears k x (world_after_one (Store a w) x) d.0 (λ b t c e. put_other f a w b c) d.1,
         )
 
     -- BASE becomes SB and EN
@@ -201,10 +217,10 @@ module _ {St : Type 0} (t : Transition St) where
         → So k (world_after_one (Store (word_place l.map Base) w) x)
     base_keeps k x w small e0 d =
         let f = x.fram in let a = word_place l.map Base in (
-          keeps_sends k k x (world_after_one (Store a w) x) (put_words f a w d.0.words small) (λ b n c e. put_other f a w b e)
+          keeps_sends k k x (world_after_one (Store a w) x) (put_words f a w d.0.words small) (λ b n t c e. put_other f a w b e)
               (inl (put_other f a w (word_place l.map CurrentTask) (λ e. omega (arith, apart, e)))) (inr (put_same f a w ∙ e0))
               (same_accepted k x (put f a w) d.0) d.0,
-          bears k x (world_after_one (Store a w) x) d.0 (λ b c e. put_other f a w b e) d.1,
+          bears k x (world_after_one (Store a w) x) d.0 (λ b t c e. put_other f a w b e) d.1,
         )
 
     pub weaken : (k k' : ℕ) (x : World) → k' ≤ k → So k x → So k' x
@@ -215,8 +231,8 @@ module _ {St : Type 0} (t : Transition St) where
         → So (suc i) (world_after_one (Outside (Offered n w)) x)
     send_keeps i n w x h num ew d =
         let y = world_after_one (Outside (Offered n w)) x in (
-          keeps_sends i (suc i) x y d.0.words (λ a q c e. refl) (inl refl) (inl refl) (accepted_sent i n w x h num ew d.0) d.0,
-          bears i x y d.0 (λ a c e. refl) d.1,
+          keeps_sends i (suc i) x y d.0.words (λ a q t c e. refl) (inl refl) (inl refl) (accepted_sent i n w x h num ew d.0) d.0,
+          bears i x y d.0 (λ a t c e. refl) d.1,
         )
 
   -- the words that are copied home
@@ -247,15 +263,16 @@ module _ {St : Type 0} (t : Transition St) where
           others = λ a sh none. ⊎_elim (λ e. e ∙ d.others a sh none) (λ e. e) (moves a sh);
         }
 
-    -- stores to CUR and BASE leave them
+    -- stores to CUR, BASE and TAIL leave them
     pub bears_home : (k : ℕ) (x y : World) → Sends k x → LeavesAll l x y → Home x → Home y
     bears_home k x y sent same d =
-        keeps_home x y (λ a n c e. same a c e) (λ a sh. inl (same a (λ e. omega (arith, apart, sh, e)) (λ e. omega (arith, apart, sh, e)))) d
+        keeps_home x y (λ a n t c e. same a t c e)
+        (λ a sh. inl (same a (λ e. omega (arith, apart, sh, e)) (λ e. omega (arith, apart, sh, e)) (λ e. omega (arith, apart, sh, e)))) d
 
     -- a word is copied home
     pub copy_home : (x : World) (p : CopyPair) → IsAmong ps p → Home x → Home (world_after_one (Store p.home (x.fram p.copy)) x)
     copy_home x p h d =
         let f = x.fram in let a = p.home in let w = f p.copy in
         keeps_home x (world_after_one (Store a w) x)
-        (λ b n c e. put_other f a w b (λ q. n (subst (IsSharedWord l) (sym q) (d.homes p h))))
+        (λ b n t c e. put_other f a w b (λ q. n (subst (IsSharedWord l) (sym q) (d.homes p h))))
         (λ b sh. ⊎_elim (λ q. inr (q.1 ∙ d.copied p h ∙ ap (v.word next) (sym q.0))) (λ q. inl q.1) (put_either f a w b)) d

@@ -5,8 +5,9 @@ use Rattle.stands_for.proofs.Names.{readings_taken, EachStore, readings_taken-ap
 use Rattle.stands_for.proofs.Names.{is_at_end, clearing_if, cleared, counting_effects, opening_effects, copied_in, start_effects, HoldsThroughout, IsElsewhere}
 use Rattle.stands_for.proofs.Names.{world_fram, holds-append, ProgramPlaces, StateView, IsSharedWord, IsAmong, ArePrivate, VersionsWithin, UndecidedAt}
 use Rattle.stands_for.proofs.Names.{StartedAt, IsStartStore, StartContract, MemoryMap, word_place, CurrentTask, Gate, ListLength, EmitCount, Base, Version}
-use Rattle.stands_for.proofs.Names.{AreApart}
+use Rattle.stands_for.proofs.Names.{AreApart, where_events, where_stores, where_takes, count_place}
 use Rattle.std.proofs.lemmas.Bool.Decides.{nat_tests}
+use Rattle.memory_map.specs.Places.{end_of}
 use Rattle.stands_for.proofs.Keeps.{put_either, put_words}
 
 -- a weaker fact of each store
@@ -113,6 +114,30 @@ module _ {St : Type 0} (l : ProgramPlaces) (apart : AreApart l.map) (v : StateVi
       emit_count : x.fram (word_place l.map EmitCount) ≡ 0
       versions : (i : ℕ) → i < l.map.versions.words → x.fram (l.map.versions.address + 2 * i) < x.fram (word_place l.map Version)
 
+    -- a store elsewhere, behind all version words, leaves an attempt that has its number
+    opened_still : (x : World) (a w : ℕ) → w < 0x10000 → IsFree a → end_of l.map.versions ≤ a → Opened x → Opened (world_after_one (Store a w) x)
+    opened_still x a w small free behind o =
+        let m = l.map in
+        record {
+          undecided = scratch x a w small free (λ q. omega (arith, apart, q, behind)) (λ i h q. omega (arith, apart, q, h, behind)) o.undecided;
+          list_length = put_other x.fram a w (word_place m ListLength) (λ q. omega (arith, apart, q, behind)) ∙ o.list_length;
+          emit_count = put_other x.fram a w (word_place m EmitCount) (λ q. omega (arith, apart, q, behind)) ∙ o.emit_count;
+          versions = λ i h. let k = o.versions i h in
+              let e = put_other x.fram a w (m.versions.address + 2 * i) (λ q. omega (arith, apart, q, h, behind)) in
+              let f = put_other x.fram a w (word_place m Version) (λ q. omega (arith, apart, q, behind)) in
+              omega (arith, k, e, f);
+        }
+
+    -- so does EC := 0, where there are events
+    count_through : (events : Bool) (x : World) → Opened x
+        → let es = where_events events (Store count_place 0 ∷ []) in HoldsThroughout (UndecidedAt l v s) es x × Opened (world_after es x)
+    count_through true x o =
+        let o2 = opened_still x count_place 0 (omega arith)
+        (record { shared = λ h. omega (arith, apart, h); current = λ q. omega (arith, apart, q); gate = λ q. omega (arith, apart, q); base = λ q. omega (arith, apart, q) })
+        (omega (arith, apart)) o in
+        ((o.undecided, o2.undecided), o2)
+    count_through false x o = (o.undecided, o)
+
     -- VER := 0, once the version words are cleared
     reset_keeps : (x : World) → UndecidedAt l v s x → AreZero l.map.versions.words x
         → UndecidedAt l v s (world_after_one (Store (word_place l.map Version) 0) x)
@@ -146,7 +171,7 @@ module _ {St : Type 0} (l : ProgramPlaces) (apart : AreApart l.map) (v : StateVi
         (holds-append (UndecidedAt l v s) c last x a.0 (a.1, k), subst (UndecidedAt l v s) (sym same) k, subst HasNumber (sym same) (omega (arith, zero)))
     cleared_through false x e u = (u, u, below_end (x.fram (word_place l.map Version)) (u.is_open.words (word_place l.map Version)) e)
 
-    -- VER goes up by one, above all version words
+    -- VER goes up by one, above all version words, and what the attempt counts is 0
     counted_through : (x : World) → UndecidedAt l v s x → HasNumber x
         → HoldsThroughout (UndecidedAt l v s) (counting_effects l.map x.fram) x × Opened (world_after (counting_effects l.map x.fram) x)
     counted_through x u number =
@@ -172,17 +197,16 @@ module _ {St : Type 0} (l : ProgramPlaces) (apart : AreApart l.map) (v : StateVi
         let same : (a : ℕ) → (a ≡ word_place m ListLength → ⊥) → (a ≡ word_place m EmitCount → ⊥) → x3.fram a ≡ x1.fram a =
         λ a p q. put_other x2.fram (word_place m EmitCount) 0 a q
         ∙ put_other x1.fram (word_place m ListLength) 0 a p in
-        let v3 : x3.fram (word_place m Version) ≡ n + 1 = same (word_place m Version) (λ q. omega (arith, apart, q)) (λ q. omega (arith, apart, q)) ∙ v1 in (
-          (u, (u1, (u2, u3))),
-          record {
-            undecided = u3;
-            list_length = put_other x2.fram (word_place m EmitCount) 0 (word_place m ListLength) (λ q. omega (arith, apart, q))
-                ∙ put_same x1.fram (word_place m ListLength) 0;
-            emit_count = put_same x2.fram (word_place m EmitCount) 0;
-            versions = λ i h. let k = same (m.versions.address + 2 * i) (λ q. omega (arith, apart, q)) (λ q. omega (arith, apart, q)) in
-                let most = z1 i h in omega (arith, k, most, v3);
-          },
-        )
+        let v3 : x3.fram (word_place m Version) ≡ n + 1 = same (word_place m Version) (λ q. omega (arith, apart, q)) (λ q. omega (arith, apart, q)) ∙ v1 in
+        let counted = count_through m.runtime.events x3 (record {
+          undecided = u3;
+          list_length = put_other x2.fram (word_place m EmitCount) 0 (word_place m ListLength) (λ q. omega (arith, apart, q))
+              ∙ put_same x1.fram (word_place m ListLength) 0;
+          emit_count = put_same x2.fram (word_place m EmitCount) 0;
+          versions = λ i h. let k = same (m.versions.address + 2 * i) (λ q. omega (arith, apart, q)) (λ q. omega (arith, apart, q)) in
+              let most = z1 i h in omega (arith, k, most, v3);
+        }) in
+        ((u, (u1, (u2, counted.0))), counted.1)
 
     -- the opening
     record Opens (x : World) : Type 0 where
@@ -216,21 +240,9 @@ module _ {St : Type 0} (l : ProgramPlaces) (apart : AreApart l.map) (v : StateVi
         let home = laid.0 in let fixed = laid.1 in let place = laid.2 in
         let y = world_after_one (Store a w) x in
         let value : w ≡ v.word s p.home = ⊎_elim {C = w ≡ v.word s p.home} (λ f. absurd (cc (f, fixed))) (λ e. e) (o.undecided.shared p.home home) in
-        let u2 = scratch x a w (o.undecided.is_open.words p.home)
+        let o2 : Opened y = opened_still x a w (o.undecided.is_open.words p.home)
         (record { shared = λ h. omega (arith, apart, h, place); current = λ q. omega (arith, apart, q, place); gate = λ q. omega (arith, apart, q, place); base = λ q. omega (arith, apart, q, place) })
-        (λ q. omega (arith, apart, q, place)) (λ i h q. omega (arith, apart, q, h, place)) o.undecided in
-        let o2 : Opened y = record {
-          undecided = u2;
-          list_length = put_other x.fram a w (word_place m ListLength) (λ q. omega (arith, apart, q, place)) ∙ o.list_length;
-          emit_count = put_other x.fram a w (word_place m EmitCount) (λ q. omega (arith, apart, q, place)) ∙ o.emit_count;
-          versions = λ i h. let k = o.versions i h in let e = put_other x.fram a w (m.versions.address + 2 * i)
-              (λ q. omega (arith, apart, q, h, place)) in let f = put_other x.fram a w (word_place m Version) (λ q. omega (arith, apart, q, place)) in omega (
-                arith,
-                k,
-                e,
-                f,
-              );
-        } in
+        (omega (arith, apart, place)) o in
         let r = copied_through ps y laid.4 o2 in (
           (o.undecided, r.0),
           r.1,
@@ -270,19 +282,19 @@ module _ {St : Type 0} (l : ProgramPlaces) (apart : AreApart l.map) (v : StateVi
           });
         }
 
-  -- where a start stores: 0 to the version words, to VER, 0 to CLN and EN, and to copies
+  -- where a start stores: 0 to the version words, to VER, 0 to CLN, EN and EC, and to copies
   cleared_so : (n j : ℕ) → j + n ≡ l.map.versions.words → EachStore (IsStartStore l) (cleared n (l.map.versions.address + 2 * j))
   cleared_so zero j e = tt
   cleared_so (suc n) j e =
       let next : l.map.versions.address + 2 * suc j ≡ l.map.versions.address + 2 * j + 2 = omega arith in (
-        record { from = omega (arith, apart); below = omega (arith, apart, e); list_length = λ q. refl; emit_count = λ q. refl },
+        record { from = omega (arith, apart); below = inl (omega (arith, apart, e)); list_length = λ q. refl; emit_count = λ q. refl },
         subst (λ p. EachStore (IsStartStore l) (cleared n p)) next (cleared_so n (suc j) (omega (arith, e))),
       )
 
   version_so : (w : ℕ) → IsStartStore l (word_place l.map Version) w
   version_so w = record {
     from = omega (arith, apart);
-    below = omega (arith, apart);
+    below = inl (omega (arith, apart));
     list_length = λ e. omega (arith, e);
     emit_count = λ e. omega (arith, e);
   }
@@ -293,7 +305,7 @@ module _ {St : Type 0} (l : ProgramPlaces) (apart : AreApart l.map) (v : StateVi
       let c = h.2 in (
         record {
           from = omega (arith, apart, c);
-          below = omega (arith, c);
+          below = inl (omega (arith, c));
           list_length = λ e. omega (arith, apart, c, e);
           emit_count = λ e. omega (arith, apart, c, e);
         },
@@ -307,6 +319,14 @@ module _ {St : Type 0} (l : ProgramPlaces) (apart : AreApart l.map) (v : StateVi
       (subst (λ p. EachStore (IsStartStore l) (cleared l.map.versions.words p)) first (cleared_so l.map.versions.words 0 (omega arith))) (version_so 0, tt)
   clearing_so false = tt
 
+  count_so : l.map.runtime.events ≡ true → IsStartStore l count_place 0
+  count_so on = record {
+    from = omega (arith, apart);
+    below = inr (record { events = on; from = omega arith; below = omega arith });
+    list_length = λ e. refl;
+    emit_count = λ e. refl;
+  }
+
   opening_so : (f : ℕ → ℕ) → EachStore (IsStartStore l) (opening_effects l.map f)
   opening_so f =
       let b = is_at_end l.map f in
@@ -314,16 +334,20 @@ module _ {St : Type 0} (l : ProgramPlaces) (apart : AreApart l.map) (v : StateVi
       each_store-append (IsStartStore l) (clearing_if l.map b) (counting_effects l.map g) (clearing_so b) (
         version_so ((g (word_place l.map Version) + 1) % 0x10000),
         (
-          record { from = omega (arith, apart); below = omega (arith, apart); list_length = λ e. refl; emit_count = λ e. refl },
-          (record { from = omega (arith, apart); below = omega (arith, apart); list_length = λ e. refl; emit_count = λ e. refl }, tt),
+          record { from = omega (arith, apart); below = inl (omega (arith, apart)); list_length = λ e. refl; emit_count = λ e. refl },
+          (
+            record { from = omega (arith, apart); below = inl (omega (arith, apart)); list_length = λ e. refl; emit_count = λ e. refl },
+            where_stores (IsStartStore l) l.map.runtime.events count_place 0 count_so,
+          ),
         ),
       )
 
   pub start_elsewhere : (es : List Effect) → EachStore (IsStartStore l) es → EachStore (IsElsewhere (word_place l.map CurrentTask)) es
-  start_elsewhere es h = each_weaker (IsStartStore l) (IsElsewhere (word_place l.map CurrentTask)) (λ a w k e. omega (arith, apart, k, e)) es h
+  start_elsewhere es h =
+      each_weaker (IsStartStore l) (IsElsewhere (word_place l.map CurrentTask)) (λ a w k e. let from = k.from in omega (arith, from, e)) es h
 
   pub start_off_gate : (es : List Effect) → EachStore (IsStartStore l) es → EachStore (IsElsewhere (word_place l.map Gate)) es
-  start_off_gate es h = each_weaker (IsStartStore l) (IsElsewhere (word_place l.map Gate)) (λ a w k e. omega (arith, k, e)) es h
+  start_off_gate es h = each_weaker (IsStartStore l) (IsElsewhere (word_place l.map Gate)) (λ a w k e. let from = k.from in omega (arith, from, e)) es h
 
   module _ (privates : ℕ → List CopyPair) (laid : (t : ℕ) → ArePrivate l t (privates t)) where
     start_stores : (f : ℕ → ℕ) → EachStore (IsStartStore l) (start_effects l.map privates f)
@@ -340,7 +364,7 @@ module _ {St : Type 0} (l : ProgramPlaces) (apart : AreApart l.map) (v : StateVi
         let c = clearing_if l.map b in
         let more = counting_effects l.map (fram_after c f) in
         readings_taken-append op rest ∙ ap (λ z. z ++ readings_taken rest)
-        (readings_taken-append c more ∙ ap (λ z. z ++ []) (clearing_takes l.map b))
+        (readings_taken-append c more ∙ ap (λ z. z ++ readings_taken more) (clearing_takes l.map b) ∙ where_takes l.map.runtime.events count_place 0)
         ∙ copied_in_takes (privates (f (word_place l.map CurrentTask))) (fram_after op f)
 
     -- the start of the state's task is the one that CUR names

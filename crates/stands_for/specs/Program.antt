@@ -1,5 +1,5 @@
 -- A compiled program as the crash theorem takes it, and what its start and its tasks owe.
-use Rattle.std.specs.Prelude.{◌≡◌, ℕ, ◌<◌, ◌≤◌, List, []}
+use Rattle.std.specs.Prelude.{◌≡◌, ℕ, ◌<◌, ◌≤◌, ◌⊎◌, List, []}
 use Rattle.memory_map.specs.MemoryMap.{word_place}
 use Rattle.memory_map.specs.Places.{end_of}
 use Rattle.memory_map.specs.declared.words.RuntimeWord.TheVariants.{CurrentTask, Gate, ListLength, EmitCount}
@@ -7,7 +7,7 @@ use Rattle.fram_board.specs.Effects.{Effect}
 use Rattle.machine_effects.specs.World.{World, world_after, fram_after, readings_taken, EachStore}
 use Rattle.runtime_effects.specs.Places.{CopyPair}
 use Rattle.runtime_effects.specs.Stages.{commit_effects, start_effects}
-use Rattle.runtime_effects.specs.Needs.{CanCommit}
+use Rattle.runtime_effects.specs.Needs.{CanCommit, IsEventWord}
 use Rattle.crash_rules.specs.Model.{Outcome, ProgramEffects, behind_effects, HoldsThroughout, Inputs, InputsAreWords, Model, ModelLaws, AttemptContract}
 use Rattle.memory_map.specs.Laws.{AreApart}
 use Rattle.stands_for.specs.Layout.{ProgramPlaces, StateView, HaveRoom, ArePrivate}
@@ -44,10 +44,11 @@ program_model l v p = record {
   Committing = CommittingTo l v;
 }
 
--- a store of a start: to a word of the runtime behind GATE, where CLN and EN become 0, to a version word or to a copy
+-- a store of a start: to a word of the runtime behind GATE, where CLN and EN become 0, to a version word, to a copy, or to a
+-- word that counts events
 pub record IsStartStore (l : ProgramPlaces) (a w : ℕ) : Type 0 where
   pub from : word_place l.map Gate < a
-  pub below : a < end_of l.map.copies
+  pub below : (a < end_of l.map.copies) ⊎ IsEventWord l.map a
   pub list_length : a ≡ word_place l.map ListLength → w ≡ 0
   pub emit_count : a ≡ word_place l.map EmitCount → w ≡ 0
 
@@ -80,10 +81,10 @@ NumberedStarts St = (l : ProgramPlaces) (v : StateView St) (privates : ℕ → L
 abbrev pub PendingCanCommit : Type 0
 PendingCanCommit = (l : ProgramPlaces) (x : World) → AreApart l.map → IsPendingCommit l x → CanCommit l.map x.fram
 
--- the stores of a commit: to shared words, CUR, BASE and GATE
+-- the stores of a commit: to shared words, CUR, BASE and GATE, and to a word that counts events
 pub record IsCommitStore (l : ProgramPlaces) (a w : ℕ) : Type 0 where
   pub from : word_place l.map CurrentTask ≤ a
-  pub below : a < end_of l.map.homes
+  pub below : (a < end_of l.map.homes) ⊎ IsEventWord l.map a
 
 -- a pending commit stores nowhere else
 abbrev pub CommitStores : Type 0

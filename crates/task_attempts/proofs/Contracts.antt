@@ -45,7 +45,7 @@ module _ (run : Started) where
       let fits = emits_fit run in
       stores_each (Safe run) (IsBelowCode l) (λ a w q. record {
         from = q.from;
-        below = let b = q.below in omega (arith, b, c);
+        below = let b = q.below in inl (omega (arith, b, c));
         list = q.list_length;
         emits = λ e. let few = q.emit_count e in omega (arith, few, fits);
       }) es h
@@ -109,7 +109,7 @@ module _ (run : Started) where
         (below_code front (safe_before run t)) (
           record {
             from = omega (arith, apart);
-            below = omega (arith, apart, c);
+            below = inl (omega (arith, apart, c));
             list = λ e. absurd (omega (arith, apart, e));
             emits = λ e. absurd (omega (arith, apart, e));
           },

@@ -1,5 +1,5 @@
 -- The laws of compiled tasks.
-use Rattle.task_attempts.proofs.Names.{ℕ, List, sym, subst, arith, World, world_after, fram_after, EachStore, Inputs, InputsAreWords, CopyPair, behaviour}
+use Rattle.task_attempts.proofs.Names.{ℕ, List, sym, subst, inl, inr, ⊎_elim, arith, World, world_after, fram_after, EachStore, Inputs, InputsAreWords, CopyPair, behaviour}
 use Rattle.task_attempts.proofs.Names.{started, MemoryMap, CheckedProgram, AttemptContract, redo_model, model_by, started_under, whole_task, task_program}
 use Rattle.task_attempts.proofs.Names.{effects_of, AttemptsStore, each_store-append, State, task_entries, privates_in, world_fram, each_weaker, keeps_the_laws}
 use Rattle.task_attempts.proofs.Names.{numbered_starts, blocks_agree, program_places, state_view, Model, ModelLaws, program_parts, TasksKeepTheirContract}
@@ -8,6 +8,7 @@ use Rattle.runtime_effects.specs.Stages.{start_effects}
 use Rattle.memory_map.specs.declared.runtime.Logging.{Logging}
 use Rattle.memory_map.specs.declared.runtime.Role.{Role}
 use Rattle.stands_for.specs.Program.{StartContract, TasksContract, IsStartStore}
+use Rattle.compiled_model.specs.Needs.{StoresBelow}
 use Rattle.compiled_model.proofs.Interface.{is_redo, under_map, under_redo}
 use Rattle.task_attempts.proofs.Given.{IsGiven, given}
 use Rattle.task_attempts.proofs.Started.{attempt_at}
@@ -33,8 +34,8 @@ module _ (p : CheckedProgram) (l : MemoryMap) (g : IsGiven p l) where
       let task = program_stores (attempt_at p l g s (world_after es x) inputs (start.started s x u)) blocks_agree small in
       each_store-append (IsBelowCode l) es ((program_parts p l).body (x.fram (word_place l CurrentTask)) (fram_after es x.fram) inputs).effects
       (each_weaker (IsStartStore (program_places p l)) (IsBelowCode l) (λ a w k. record {
-        from = omega (arith, apart, k);
-        below = omega (arith, apart, k, code);
+        from = let low = k.from in omega (arith, apart, low);
+        below = ⊎_elim {C = StoresBelow l l.boot.address a w} (λ low. inl (omega (arith, apart, low, code))) (λ counter. inr counter) k.below;
         list = λ e. let none = k.list_length e in omega (arith, none);
         emits = λ e. let none = k.emit_count e in omega (arith, none);
       }) es (start.stores x.fram))

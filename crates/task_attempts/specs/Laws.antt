@@ -12,7 +12,7 @@ use Rattle.memory_map.specs.MemoryMap.{MemoryMap, word_place}
 use Rattle.array_versions.specs.Behaviour.{behaviour, started}
 use Rattle.crash_rules.specs.Model.{ModelLaws, AttemptContract}
 use Rattle.compiled_model.specs.Parts.{compiled_model, IsStarted, task_program, effects_of}
-use Rattle.compiled_model.specs.Needs.{TasksLeave, AttemptsStore}
+use Rattle.compiled_model.specs.Needs.{TasksLeave, AttemptsStore, StoresBelow}
 use Rattle.whole_programs.specs.Laws.{IsLaidOutText}
 
 -- what holds of each accepted text with a plan and a layout, whose runs go on
@@ -30,11 +30,11 @@ TasksKeepTheirContract = OfTexts (λ p l. (s : State) (x : World) (inputs : Inpu
 abbrev pub CompiledSourcesKeepTheLaws : Type 0
 CompiledSourcesKeepTheLaws = OfTexts (λ p l. ModelLaws (compiled_model p l))
 
--- a store to the runtime's words, to its lists, or to copies: behind the beginning of FRAM and before the code, to CLN and EN within the
--- capacities of the list and the buffer
+-- a store to the runtime's words, to its lists, or to copies: behind the beginning of FRAM and before the code, or at a word that counts events; to CLN
+-- and EN within the capacities of the list and the buffer
 pub record IsBelowCode (l : MemoryMap) (a w : ℕ) : Type 0 where
   pub from : fram_first ≤ a
-  pub below : a < l.boot.address
+  pub below : StoresBelow l l.boot.address a w
   pub list : a ≡ word_place l ListLength → w ≤ l.entries
   pub emits : a ≡ word_place l EmitCount → w ≤ l.emits.words
 

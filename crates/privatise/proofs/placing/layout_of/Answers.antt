@@ -78,7 +78,8 @@ pub returns : goal.returns
 returns c =
     let marks : AreWritten (program_of c.args.source.now) c.written_variables-written.result =
     λ i l. c.written_variables-written.ensures i l ∙ ap (λ ts. is_written (map task_of ts) i) c.as_slice-tasks.ensures.value in
-    let is = whole (program_of c.args.source.now) c.args.allow.now c.args.plan.now c.sizes_of.result c.regions_of-regions.result c.written_variables-written.result
+    let is = whole (program_of c.args.source.now) c.args.allow.now c.args.plan.now c.sizes_of.result c.regions_of-regions.result
+    c.written_variables-written.result
     c.in_ok-variables.variables.items c.in_ok-layouts.layouts.items
     (record {
       few = c.requires.few;
